@@ -1,35 +1,29 @@
 -- What a call for a key says, where it was made.
-use Rattle.std.proofs.Common.{◌≡◌, ◌↔◌, ℕ, List, length, ◌≤◌, Option, None, Some, Result, Ok, IsOk, IfOk, refl, sym, ◌∙◌, subst}
+use Rattle.std.proofs.Common.{◌≡◌, ◌≢◌, ◌↔◌, ℕ, List, length, ◌≤◌, Option, None, Some, Result, Ok, Err, IsOk, IfOk, IfErr, MatchResult, refl, sym, ap, ◌∙◌, subst, arith}
+use Rattle.std.specs.Prelude.{IsOkAnd}
 use Rattle.key_bits.specs.declared.KeyFault.{KeyFault}
 use Rattle.key_bits.specs.declared.TheConstants.{MAX_BYTES}
 use Rattle.finite_map.specs.declared.Call.{Call}
 use Rattle.finite_map.specs.declared.Reply.{Reply}
-use Rattle.rowex_table.specs.Seats.{TableView}
-use Rattle.rowex_writing.specs.Attempts.{asked_call}
+use Rattle.finite_map.specs.declared.Reply.TheVariants.{Inserted, Exists, New, Was, Exchanged, Differs, Value, Absent, Removed}
 use Rattle.rowex_writing.specs.declared.attempts.TryFault.{TryFault}
-use Rattle.rowex_writing.specs.declared.plan.Ask.{Ask}
-use Rattle.rowex_writing.specs.declared.plan.Ask.TheVariants as ask
-use Rattle.seat_calls.specs.Calls.{IsTried}
-use Rattle.hot_index.specs.Handles.{HandleView, Stays}
-use Rattle.seat_calls.specs.Passes.{PassView}
-use Rattle.seat_calls.specs.Traces.{HasMade, untold}
-use Rattle.hot_c.specs.Calls.{Answers, HasOutcome, FitsInKey, MakesSteps}
+use Rattle.rowex_writing.specs.declared.attempts.TryFault.TheVariants.{Busy, FullNodes, FullLeaves}
+use Rattle.seat_calls.specs.Answers.{MayRefuse}
+use Rattle.seat_calls.specs.Calls.{IsCallTried, MakesSteps}
+use Rattle.hot_index.specs.Handles.{Stays}
+use Rattle.hot_c.specs.Calls.{Answers, HasOutcome, FitsInKey, IsCallFor}
 use Rattle.hot_c.specs.Statuses.{reply_status, value_after}
 use Rattle.hot_c.specs.declared.opened.Opened.{Opened}
 
 some_is_none : (s : Opened) → Some s ≡ None → ⊥
 some_is_none s e = cc
 
--- the bytes of a key are fit for one
-pub of_key : (bytes k : List ℕ) (r : Result (List ℕ) KeyFault) → r ≡ Ok k → (IsOk r ↔ (length bytes ≤ MAX_BYTES)) → IfOk r (λ key. key ≡ bytes) → (k ≡ bytes) × FitsInKey bytes
-of_key bytes k r is fits same = (subst (λ (x : Result (List ℕ) KeyFault). IfOk x (λ key. key ≡ bytes)) is same, fits.0 (subst IsOk (sym is) refl))
-
-pub answered : (call : List ℕ → Call) (bytes k : List ℕ) (old new : Option Opened) (before after status : ℕ) (s u : Opened) (outcome : Result Reply TryFault)
-    → old ≡ Some s → new ≡ Some u → Stays (λ index a b. HasOutcome (call k) outcome index a b × MakesSteps (call k) outcome index a b) s.handle u.handle → (k ≡ bytes) × FitsInKey bytes
-    → status ≡ reply_status outcome → after ≡ value_after before outcome → Answers bytes (call bytes) old new before after status
-answered call bytes k old new before after status s u outcome was is stays fit told left = record {
+pub answered : (key : List ℕ) (call asked : Call) (old new : Option Opened) (before after status : ℕ) (s u : Opened) (outcome : Result Reply TryFault) → old ≡ Some s → new ≡ Some u →
+    Stays (IsCallTried call outcome) s.handle u.handle → call ≡ asked → FitsInKey key → status ≡ reply_status outcome → after ≡ value_after before outcome →
+    Answers key asked old new before after status
+answered key call asked old new before after status s u outcome was is stays same fits told left = record {
   closed = λ none. absurd (some_is_none s (sym was ∙ none));
-  long = λ some no. absurd (no fit.1);
+  long = λ some no. absurd (no fits);
   made = λ some short. (
     outcome,
     record {
@@ -37,21 +31,54 @@ answered call bytes k old new before after status s u outcome was is stays fit t
       after = u;
       was = was;
       is = is;
-      stays = subst (λ (x : List ℕ). Stays (λ index a b. HasOutcome (call x) outcome index a b × MakesSteps (call x) outcome index a b) s.handle u.handle) fit.0 stays;
+      stays = subst (λ (x : Call). Stays (λ index a b. HasOutcome x outcome index a b × MakesSteps x outcome index a b) s.handle u.handle) same
+          (record { index = stays.index; pass = (stays.pass.call, stays.pass.made) });
     },
     told,
     left,
   );
 }
 
--- a change makes attempts, whatever it asks for
-attempts : (what : Ask) (key : List ℕ) (value : ℕ) (outcome : Result Reply TryFault) (index : TableView) (k j : PassView) → HasMade index untold outcome (k, tt) (j, tt) → MakesSteps (asked_call what key value) outcome index k j
-attempts ask.Insert key value outcome index k j made = made
-attempts ask.Upsert key value outcome index k j made = made
-attempts (ask.Exchange expected) key value outcome index k j made = made
-attempts ask.Remove key value outcome index k j made = made
-attempts (ask.RemoveIf expected) key value outcome index k j made = made
+-- the status of a fault is no reply's, and one fault's alone
+of_fault : (n : ℕ) (fault : TryFault) → n ≡ reply_status (Err fault) → (8 ≤ n) × (n ≤ 10)
+of_fault n Busy e = (omega (arith, e), omega (arith, e))
+of_fault n FullNodes e = (omega (arith, e), omega (arith, e))
+of_fault n FullLeaves e = (omega (arith, e), omega (arith, e))
 
-pub tried : (what : Ask) (key : List ℕ) (value : ℕ) (outcome : Result Reply TryFault) (old new : HandleView) → Stays (IsTried (asked_call what key value) outcome) old new
-    → Stays (λ index k j. HasOutcome (asked_call what key value) outcome index k j × MakesSteps (asked_call what key value) outcome index k j) old new
-tried what key value outcome old new h = record { index = h.index; pass = (h.pass.call, attempts what key value outcome old.index old.pass new.pass h.pass.made) }
+same_fault : (outcome : Result Reply TryFault) (fault : TryFault) → reply_status outcome ≡ reply_status (Err fault) → outcome ≡ Err fault
+same_fault (Ok (Value v)) fault e = absurd (let z = of_fault 1 fault e in omega (arith, z.0))
+same_fault (Ok Absent) fault e = absurd (let z = of_fault 2 fault e in omega (arith, z.0))
+same_fault (Ok Inserted) fault e = absurd (let z = of_fault 3 fault e in omega (arith, z.0))
+same_fault (Ok (Exists v)) fault e = absurd (let z = of_fault 4 fault e in omega (arith, z.0))
+same_fault (Ok New) fault e = absurd (let z = of_fault 5 fault e in omega (arith, z.0))
+same_fault (Ok (Was v)) fault e = absurd (let z = of_fault 6 fault e in omega (arith, z.0))
+same_fault (Ok (Removed v)) fault e = absurd (let z = of_fault 7 fault e in omega (arith, z.0))
+same_fault (Ok Exchanged) fault e = absurd (let z = of_fault 16 fault e in omega (arith, z.1))
+same_fault (Ok (Differs v)) fault e = absurd (let z = of_fault 17 fault e in omega (arith, z.1))
+same_fault (Err Busy) Busy e = refl
+same_fault (Err Busy) FullNodes e = absurd (omega (arith, e))
+same_fault (Err Busy) FullLeaves e = absurd (omega (arith, e))
+same_fault (Err FullNodes) Busy e = absurd (omega (arith, e))
+same_fault (Err FullNodes) FullNodes e = refl
+same_fault (Err FullNodes) FullLeaves e = absurd (omega (arith, e))
+same_fault (Err FullLeaves) Busy e = absurd (omega (arith, e))
+same_fault (Err FullLeaves) FullNodes e = absurd (omega (arith, e))
+same_fault (Err FullLeaves) FullLeaves e = refl
+
+-- so a call that may not be refused so doesn't tell it
+pub unrefused : (call : Call) (outcome : Result Reply TryFault) (status : ℕ) (fault : TryFault) → IfErr outcome (MayRefuse call) → ¬ MayRefuse call fault → status ≡ reply_status outcome →
+    status ≢ reply_status (Err fault)
+unrefused call outcome status fault may never told e = never (subst (λ o. IfErr o (MayRefuse call)) (same_fault outcome fault (sym told ∙ e)) may)
+
+-- the bytes of a key are fit for one
+pub of_key : (bytes k : List ℕ) (r : Result (List ℕ) KeyFault) → r ≡ Ok k → (IsOk r ↔ (length bytes ≤ MAX_BYTES)) → IfOk r (λ key. key ≡ bytes) → (k ≡ bytes) × FitsInKey bytes
+of_key bytes k r is fits same = (subst (λ (x : Result (List ℕ) KeyFault). IfOk x (λ key. key ≡ bytes)) is same, fits.0 (subst IsOk (sym is) refl))
+
+-- the call for these bytes, made of the key that they are
+pub call_for : (Made : List ℕ → Call → Type 0) (for : List ℕ → Call) (bytes : List ℕ) (r : Result (List ℕ) KeyFault) (call : Result Call KeyFault) → (IsOk r ↔ (length bytes ≤ MAX_BYTES)) →
+    IfOk r (λ key. key ≡ bytes) → MatchResult r (λ key. IsOkAnd call (Made key)) (λ fault. call ≡ Err fault) → ((key : List ℕ) (call : Call) → Made key call → call ≡ for key) →
+    IsCallFor bytes (for bytes) call
+call_for Made for bytes (Ok key) (Ok call) fits same made is_for = (is_for key call made ∙ ap for same, fits.0 refl)
+call_for Made for bytes (Ok key) (Err fault) fits same made is_for = absurd (made)
+call_for Made for bytes (Err fault) (Ok call) fits same made is_for = absurd (cc)
+call_for Made for bytes (Err fault) (Err other) fits same made is_for = λ short. absurd (let z = fits.1 short in cc)

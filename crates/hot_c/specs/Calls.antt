@@ -1,8 +1,8 @@
 -- What the calls of a program in C say.
-use Rattle.std.specs.Prelude.{◌≡◌, ℕ, ◌≤◌, List, length, map, All, slice_get, Option, Some, None, IsSome, Result, MatchResult}
+use Rattle.std.specs.Prelude.{◌≡◌, ℕ, ◌≤◌, List, length, map, All, slice_get, Option, Some, None, IsSome, Result, Ok, Err, MatchResult}
+use Rattle.key_bits.specs.declared.KeyFault.{KeyFault}
 use Rattle.key_bits.specs.declared.TheConstants.{MAX_BYTES}
 use Rattle.finite_map.specs.declared.Call.{Call}
-use Rattle.finite_map.specs.declared.Call.TheVariants.{Get}
 use Rattle.finite_map.specs.declared.Reply.{Reply}
 use Rattle.record_words.specs.Limits.{IsPassCount, IsStockPassCount, IsNodeCount, IsLeafCount, IsRecordCount}
 use Rattle.record_words.specs.Layout.{HasStock, leaves_of}
@@ -11,10 +11,11 @@ use Rattle.record_words.specs.declared.layout.Stock.{Stock}
 use Rattle.rowex_table.specs.Seats.{TableView}
 use Rattle.rowex_writing.specs.declared.attempts.TryFault.{TryFault}
 use Rattle.seat_calls.specs.Answers.{IsNoted, IsRefused, IsUnnoted}
+use Rattle.seat_calls.specs.Calls.{MakesSteps}
 use Rattle.seat_calls.specs.Census.{HasCounted}
 use Rattle.hot_index.specs.Handles.{Stays}
 use Rattle.seat_calls.specs.Passes.{PassView, IsNewPass}
-use Rattle.seat_calls.specs.Traces.{HasCollected, HasGot, HasMade, untold}
+use Rattle.seat_calls.specs.Traces.{HasCollected, untold}
 use Rattle.seat_calls.specs.declared.census.RecordCounts.{RecordCounts}
 use Rattle.hot_c.specs.Statuses.{reply_status, value_after}
 use Rattle.hot_c.specs.declared.handle.Handle.{Handle}
@@ -37,10 +38,10 @@ pub record StaysOpen (Became : TableView → PassView → PassView → Type 0) (
 abbrev pub HasOutcome : Call → Result Reply TryFault → TableView → PassView → PassView → Type 0
 HasOutcome call outcome index k j = MatchResult outcome (IsNoted index.layout k j call) (IsRefused index.layout call k j)
 
--- The steps of a call for a key with this outcome, so many at most: those of a get, or of a change's attempts and rounds.
-abbrev pub MakesSteps : Call → Result Reply TryFault → TableView → PassView → PassView → Type 0
-MakesSteps (Get key) outcome index k j = HasGot index untold (k, tt) (j, tt)
-MakesSteps call outcome index k j = HasMade index untold outcome (k, tt) (j, tt)
+-- the call for a key, if that is short enough
+abbrev pub IsCallFor : List ℕ → Call → Result Call KeyFault → Type 0
+IsCallFor key asked (Ok call) = (call ≡ asked) × FitsInKey key
+IsCallFor key asked (Err fault) = ¬ FitsInKey key
 
 -- A call for a key through a handle, which finds `before` where C wants a value and leaves `after`. A closed handle and a key that
 -- is too long are told as such, and nothing has changed; else the call is made, by its steps, and its outcome told.

@@ -1,12 +1,14 @@
 //! The calls for programs in C. `c/hot.h` says how to use them.
 
-ghost use Rattle.std.specs.Prelude.{◌≡◌, ◌≢◌, ◌⊎◌, IsSome, None, Some, length};
+ghost use Rattle.std.specs.Prelude.{◌≡◌, ◌≢◌, ◌⊎◌, ℕ, List, Err, IsSome, None, Some, length};
 ghost use Rattle.finite_map.specs.declared.Call.TheVariants.{Exchange, Get, Insert, Remove, RemoveIf, Upsert};
-ghost use Rattle.rowex_writing.specs.Asking.{aim_of};
-ghost use Rattle.rowex_writing.specs.Attempts.{asked_call};
+ghost use Rattle.finite_map.specs.declared.Call.{Call as CallValue};
+ghost use Rattle.rowex_writing.specs.declared.attempts.TryFault.{TryFault};
+ghost use Rattle.seat_calls.specs.Answers.{MayRefuse};
 ghost use Rattle.hot_c.specs.declared.opened.Opened.{Opened};
-ghost use Rattle.hot_c.specs.Calls.{Answers, AreClosed, HasGivenBack, HasSeenRecords, HaveOpened, HaveOpenedStock, IsSize, IsStockSize, StaysOpen};
+ghost use Rattle.hot_c.specs.Calls.{Answers, AreClosed, HasGivenBack, HasSeenRecords, HaveOpened, HaveOpenedStock, IsCallFor, IsSize, IsStockSize, StaysOpen};
 ghost use Rattle.hot_c.specs.Lookups.{LooksUpAll};
+ghost use Rattle.hot_c.specs.Statuses.{reply_status};
 ghost use Rattle.hot_c.specs.Stocks.{TakesBytes, stock_in};
 ghost use Rattle.record_words.specs.Layout.{stock_for};
 
@@ -17,10 +19,9 @@ use crate::status::{
     BUSY, CLOSED, DONE, FULL_LEAVES, FULL_NODES, KEY_TOO_LONG, NO_MEMORY, OPEN, OUT_OF_RANGE, tell,
 };
 use crate::stock::HotStock;
-use hot_index::{IndexFault, RecordCounts};
-use key_bits::Key;
+use hot_index::{Call, IndexFault, RecordCounts};
+use key_bits::{Key, KeyFault};
 use record_words::{Layout, Stock};
-use rowex_writing::{Aim, Ask};
 use std::alloc::Global;
 
 /// Makes an empty index with this number of node and leaf records and a pass for each handle, and opens all handles, or none. All
@@ -119,13 +120,8 @@ pub extern "C" fn hot_get(handle: &mut Handle, key: &[u8], value: &mut u64) -> u
     ensures call { Answers key.now (Get key.now) handle.old.slot.opened handle.new.slot.opened value.old value.new result }
     ensures unrefused { (result ≢ BUSY) × (result ≢ FULL_NODES) × (result ≢ FULL_LEAVES) }
 {
-    if !handle.is_open() {
-        return CLOSED;
-    }
-    match &Key::from_bytes(key) {
-        Ok(key) => tell(Ok(handle.slot.lend().get(key)), value),
-        Err(_) => KEY_TOO_LONG,
-    }
+    let call = Key::from_bytes(key).map(|key| Call::Get(key));
+    make_call(handle, &call, value)
 }
 
 /// Looks up many keys, in turn, and writes what it found for each: `FOUND`, with its value, or `ABSENT`.
@@ -159,7 +155,8 @@ pub extern "C" fn hot_get_many(
 pub extern "C" fn hot_try_insert(handle: &mut Handle, key: &[u8], value: u64, had: &mut u64) -> u32
     ensures call { Answers key.now (Insert key.now value) handle.old.slot.opened handle.new.slot.opened had.old had.new result }
 {
-    change(handle, Ask::Insert, key, value, had)
+    let call = Key::from_bytes(key).map(|key| Call::Insert(key, value));
+    make_call(handle, &call, had)
 }
 
 /// Gives a key a value, whether it has one or not: `NEW`, or `WAS` with the value that it had.
@@ -167,7 +164,8 @@ pub extern "C" fn hot_try_insert(handle: &mut Handle, key: &[u8], value: u64, ha
 pub extern "C" fn hot_try_upsert(handle: &mut Handle, key: &[u8], value: u64, had: &mut u64) -> u32
     ensures call { Answers key.now (Upsert key.now value) handle.old.slot.opened handle.new.slot.opened had.old had.new result }
 {
-    change(handle, Ask::Upsert, key, value, had)
+    let call = Key::from_bytes(key).map(|key| Call::Upsert(key, value));
+    make_call(handle, &call, had)
 }
 
 /// Gives a key a new value if it has the expected one (`EXCHANGED`). Else it changes nothing: `DIFFERS` with the value that the key
@@ -182,7 +180,8 @@ pub extern "C" fn hot_try_exchange(
 ) -> u32
     ensures call { Answers key.now (Exchange key.now expected value) handle.old.slot.opened handle.new.slot.opened had.old had.new result }
 {
-    change(handle, Ask::Exchange(expected), key, value, had)
+    let call = Key::from_bytes(key).map(|key| Call::Exchange(key, expected, value));
+    make_call(handle, &call, had)
 }
 
 /// Removes a key: `REMOVED` with the value that it had, or `ABSENT`. It needs no leaf record, so it never answers `FULL_LEAVES`.
@@ -191,7 +190,8 @@ pub extern "C" fn hot_try_remove(handle: &mut Handle, key: &[u8], had: &mut u64)
     ensures call { Answers key.now (Remove key.now) handle.old.slot.opened handle.new.slot.opened had.old had.new result }
     ensures leafless { result ≢ FULL_LEAVES }
 {
-    change(handle, Ask::Remove, key, 0, had)
+    let call = Key::from_bytes(key).map(|key| Call::Remove(key));
+    make_call(handle, &call, had)
 }
 
 /// Removes a key if it has the expected value (`REMOVED` with that value). Else it changes nothing: `DIFFERS` with the value that
@@ -206,19 +206,21 @@ pub extern "C" fn hot_try_remove_if(
     ensures call { Answers key.now (RemoveIf key.now expected) handle.old.slot.opened handle.new.slot.opened had.old had.new result }
     ensures leafless { result ≢ FULL_LEAVES }
 {
-    change(handle, Ask::RemoveIf(expected), key, 0, had)
+    let call = Key::from_bytes(key).map(|key| Call::RemoveIf(key, expected));
+    make_call(handle, &call, had)
 }
 
-/// Tries to change a key's value.
-fn change(handle: &mut Handle, ask: Ask, key: &[u8], value: u64, had: &mut u64) -> u32
-    ensures call { Answers key.now (asked_call ask key.now value) handle.old.slot.opened handle.new.slot.opened had.old had.new result }
-    ensures leafless { aim_of ask ≡ Aim.Remove → result ≢ FULL_LEAVES }
+/// Makes a call, if the handle is open and the call's key is not too long.
+fn make_call(handle: &mut Handle, call: &Result<Call, KeyFault>, had: &mut u64) -> u32
+    ensures call { (key : List ℕ) (asked : CallValue) → IsCallFor key asked call.now →
+        Answers key asked handle.old.slot.opened handle.new.slot.opened had.old had.new result }
+    ensures may { (key : List ℕ) (asked : CallValue) → IsCallFor key asked call.now → (fault : TryFault) → ¬ MayRefuse asked fault → result ≢ reply_status (Err fault) }
 {
     if !handle.is_open() {
         return CLOSED;
     }
-    match &Key::from_bytes(key) {
-        Ok(key) => tell(handle.slot.lend().change(ask, key, value), had),
+    match call {
+        Ok(call) => tell(handle.slot.lend().handle.try_call(call), had),
         Err(_) => KEY_TOO_LONG,
     }
 }

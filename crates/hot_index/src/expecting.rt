@@ -5,10 +5,10 @@ ghost use Rattle.seat_calls.specs.Calls.{IsAwaited, IsTried, IsTriedWith};
 ghost use Rattle.seat_calls.specs.Passes.{Owns};
 
 use crate::index::{Index, Pass};
-use finite_map::Reply;
+use finite_map::{Call, Reply};
 use key_bits::Key;
 use rowex_core::{Gate, NoGate};
-use rowex_writing::{Ask, Full, TryFault};
+use rowex_writing::{Full, TryFault};
 use std::sync::Wait;
 
 impl Index {
@@ -41,7 +41,7 @@ impl Index {
         requires { Owns self.now pass.old }
         ensures { IsTriedWith (Exchange key.now expected value) result self.now G.becomes (pass.old, gate.old) (pass.new, gate.new) }
     {
-        self.try_change_with(pass, gate, Ask::Exchange(expected), key, value)
+        self.try_change_with(pass, gate, &Call::Exchange(key.copy(), expected, value))
     }
 
     /// Compare and exchange: gives a key a new value if it has the expected one (`Exchanged`). Else it changes nothing, and answers
@@ -59,7 +59,12 @@ impl Index {
         requires { Owns self.now pass.old }
         ensures { IsAwaited (Exchange key.now expected value) result self.now pass.old pass.new }
     {
-        self.change_with(rt, pass, &mut NoGate, Ask::Exchange(expected), key, value)
+        self.change_with(
+            rt,
+            pass,
+            &mut NoGate,
+            &Call::Exchange(key.copy(), expected, value),
+        )
     }
 
     /// Removes a key if it has the expected value (`Removed` with that value). Else it changes nothing, and answers `Differs` with
@@ -89,7 +94,7 @@ impl Index {
         requires { Owns self.now pass.old }
         ensures { IsTriedWith (RemoveIf key.now expected) result self.now G.becomes (pass.old, gate.old) (pass.new, gate.new) }
     {
-        self.try_change_with(pass, gate, Ask::RemoveIf(expected), key, 0)
+        self.try_change_with(pass, gate, &Call::RemoveIf(key.copy(), expected))
     }
 
     /// Removes a key if it has the expected value (`Removed` with that value). Else it changes nothing, and answers `Differs` with
@@ -106,6 +111,6 @@ impl Index {
         requires { Owns self.now pass.old }
         ensures { IsAwaited (RemoveIf key.now expected) result self.now pass.old pass.new }
     {
-        self.change_with(rt, pass, &mut NoGate, Ask::RemoveIf(expected), key, 0)
+        self.change_with(rt, pass, &mut NoGate, &Call::RemoveIf(key.copy(), expected))
     }
 }

@@ -4,7 +4,7 @@ ghost use Rattle.std.specs.Prelude.{◌≡◌, ◌≢◌, [], All, Err, IfOk, le
 ghost use Rattle.finite_map.specs.declared.Call.TheVariants.{Exchange, Get, Insert, Remove, RemoveIf, Upsert};
 ghost use Rattle.finite_map.specs.Reverse.{IsLawfulReverseScan};
 ghost use Rattle.seat_calls.specs.Answers.{HaveMet, IsNoted, IsUnnoted, got};
-ghost use Rattle.seat_calls.specs.Calls.{IsAwaited, IsListRead, IsListReadBy, IsRangeRead, IsScanRead, IsScanReadBy, IsTried};
+ghost use Rattle.seat_calls.specs.Calls.{IsAwaited, IsCallTried, IsListRead, IsListReadBy, IsRangeRead, IsScanRead, IsScanReadBy, IsTried};
 ghost use Rattle.seat_calls.specs.Census.{HasCounted};
 ghost use Rattle.hot_index.specs.Handles.{Stays, handle_at};
 ghost use Rattle.seat_calls.specs.Many.{AreNoted, HasGotMany, gets};
@@ -16,7 +16,7 @@ ghost use Rattle.key_ranges.specs.Ranges.{last_with};
 
 use crate::index::{Index, Pass};
 use epochs::Given;
-use finite_map::{Reply, Scan};
+use finite_map::{Call, Reply, Scan};
 use key_bits::Key;
 use packed_pairs::Pairs;
 use rowex_writing::{Full, TryFault};
@@ -201,6 +201,13 @@ impl<I: ShowsIndex> Handle<I> {
         self.index
             .show()
             .try_remove_if(&mut self.pass, key, expected)
+    }
+
+    /// As `Index::try_call`.
+    pub fn try_call(&mut self, call: &Call) -> Result<Reply, TryFault>
+        ensures { Stays (IsCallTried call.now result) self.old self.new }
+    {
+        self.index.show().try_call(&mut self.pass, call)
     }
 
     /// As `Index::scan`.

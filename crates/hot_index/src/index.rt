@@ -2,7 +2,6 @@
 
 ghost use Rattle.std.specs.Prelude.{◌≡◌, length};
 ghost use Rattle.finite_map.specs.declared.Call.TheVariants.{Get, Insert, Remove, Upsert};
-ghost use Rattle.rowex_writing.specs.Attempts.{asked_call};
 ghost use Rattle.seat_calls.specs.Passes.{Owns};
 ghost use Rattle.seat_calls.specs.Answers.{IsNoted, IsUnnoted, HaveMet, got};
 ghost use Rattle.seat_calls.specs.Calls.{IsAwaited, IsTried, IsTriedWith};
@@ -11,12 +10,12 @@ ghost use Rattle.seat_calls.specs.Many.{AreNoted, HasGotMany, gets};
 ghost use Rattle.seat_calls.specs.Traces.{HasCollected, HasGot, HasTold, untold};
 
 use epochs::{Given, collect_round, pin, unpin};
-use finite_map::Reply;
+use finite_map::{Call, Reply};
 use key_bits::Key;
 use rowex_core::{Gate, NoGate};
 use rowex_reading::look_up;
 use rowex_table::{HotTable, TableSeat};
-use rowex_writing::{Ask, Full, TryFault};
+use rowex_writing::{Full, TryFault};
 use seat_calls::{
     RecordCounts, Room, change, count_records, end_get, end_gets, look_up_each, try_change,
 };
@@ -177,7 +176,7 @@ impl Index {
         requires { Owns self.now pass.old }
         ensures { IsTriedWith (Remove key.now) result self.now G.becomes (pass.old, gate.old) (pass.new, gate.new) }
     {
-        self.try_change_with(pass, gate, Ask::Remove, key, 0)
+        self.try_change_with(pass, gate, &Call::Remove(key.copy()))
     }
 
     /// `try_insert`, with a gate that is told each of its steps.
@@ -191,7 +190,7 @@ impl Index {
         requires { Owns self.now pass.old }
         ensures { IsTriedWith (Insert key.now value) result self.now G.becomes (pass.old, gate.old) (pass.new, gate.new) }
     {
-        self.try_change_with(pass, gate, Ask::Insert, key, value)
+        self.try_change_with(pass, gate, &Call::Insert(key.copy(), value))
     }
 
     /// `try_upsert`, with a gate that is told each of its steps.
@@ -205,7 +204,7 @@ impl Index {
         requires { Owns self.now pass.old }
         ensures { IsTriedWith (Upsert key.now value) result self.now G.becomes (pass.old, gate.old) (pass.new, gate.new) }
     {
-        self.try_change_with(pass, gate, Ask::Upsert, key, value)
+        self.try_change_with(pass, gate, &Call::Upsert(key.copy(), value))
     }
 
     /// Tries to make a change.
@@ -213,22 +212,12 @@ impl Index {
         &self,
         pass: &mut Pass,
         gate: &mut G,
-        ask: Ask,
-        key: &Key,
-        value: u64,
+        call: &Call,
     ) -> Result<Reply, TryFault>
         requires { Owns self.now pass.old }
-        ensures { IsTriedWith (asked_call ask key.now value) result self.now G.becomes (pass.old, gate.old) (pass.new, gate.new) }
+        ensures { IsTriedWith call.now result self.now G.becomes (pass.old, gate.old) (pass.new, gate.new) }
     {
-        try_change(
-            &self.table,
-            &mut pass.seat,
-            gate,
-            &mut pass.room,
-            ask,
-            key,
-            value,
-        )
+        try_change(&self.table, &mut pass.seat, gate, &mut pass.room, call)
     }
 
     /// Makes a change, and begins again as long as another pass is in its way.
@@ -237,24 +226,13 @@ impl Index {
         rt: &R,
         pass: &mut Pass,
         gate: &mut G,
-        ask: Ask,
-        key: &Key,
-        value: u64,
+        call: &Call,
     ) -> Result<Reply, Full>
         requires { Owns self.now pass.old }
-        ensures call { IsAwaited (asked_call ask key.now value) result self.now pass.old pass.new }
+        ensures call { IsAwaited call.now result self.now pass.old pass.new }
         ensures told { HasTold self.now G.becomes (pass.old, gate.old) (pass.new, gate.new) }
     {
-        change(
-            rt,
-            &self.table,
-            &mut pass.seat,
-            gate,
-            &mut pass.room,
-            ask,
-            key,
-            value,
-        )
+        change(rt, &self.table, &mut pass.seat, gate, &mut pass.room, call)
     }
 
     /// Inserts a key with a value: `Inserted`; or `Exists` with the value that the key has already, and keeps.
@@ -274,7 +252,7 @@ impl Index {
         requires { Owns self.now pass.old }
         ensures { IsAwaited (Insert key.now value) result self.now pass.old pass.new }
     {
-        self.change_with(rt, pass, &mut NoGate, Ask::Insert, key, value)
+        self.change_with(rt, pass, &mut NoGate, &Call::Insert(key.copy(), value))
     }
 
     /// Gives a key a value, whether it has one or not: `New`, or `Was` with the value that it had.
@@ -290,7 +268,7 @@ impl Index {
         requires { Owns self.now pass.old }
         ensures { IsAwaited (Upsert key.now value) result self.now pass.old pass.new }
     {
-        self.change_with(rt, pass, &mut NoGate, Ask::Upsert, key, value)
+        self.change_with(rt, pass, &mut NoGate, &Call::Upsert(key.copy(), value))
     }
 
     /// Removes a key: `Removed` with the value that it had, or `Absent`.
@@ -301,7 +279,7 @@ impl Index {
         requires { Owns self.now pass.old }
         ensures { IsAwaited (Remove key.now) result self.now pass.old pass.new }
     {
-        self.change_with(rt, pass, &mut NoGate, Ask::Remove, key, 0)
+        self.change_with(rt, pass, &mut NoGate, &Call::Remove(key.copy()))
     }
 
     /// Lets two passes meet, and gives them back: each has then seen what the other had seen, and all that was published before. It

@@ -1,12 +1,17 @@
 -- How the parts of an attempt make its answer, or its refusal.
 use Rattle.std.specs.Prelude.{if◌then◌else◌, nat_eq}
-use Rattle.std.proofs.lemmas.Bool.{eq-eqb, eqb-true}
-use Rattle.std.proofs.Common.{◌≡◌, ◌≢◌, ◌⊎◌, inl, inr, ℕ, ◌≤◌, ◌<◌, List, [], ◌∷◌, length, refl, sym, ap, subst, ◌∙◌, arith, Option, Some, None, Bool, true, false}
+use Rattle.std.specs.Option.{option_map}
+use Rattle.std.proofs.Common.{◌≡◌, ◌≢◌, ◌⊎◌, inl, inr, ℕ, ◌≤◌, ◌<◌, List, [], ◌∷◌, length, refl, sym, ap, subst, ◌∙◌, arith, Option, Some, None, Bool, true, false, Ok, Err}
+use Rattle.finite_map.specs.declared.Call.{Call}
+use Rattle.finite_map.specs.declared.Call.TheVariants.{Insert, Upsert, Exchange, Get, Remove, RemoveIf}
 use Rattle.finite_map.specs.declared.Change.{Change}
+use Rattle.finite_map.specs.declared.Kind.{Kind}
+use Rattle.finite_map.specs.declared.Kind.TheVariants.{Added, Replaced, Removed as TakenAway}
 use Rattle.finite_map.specs.declared.Reply.{Reply}
-use Rattle.finite_map.specs.declared.Kind.TheVariants.{Removed as TakenAway}
-use Rattle.finite_map.specs.declared.Reply.TheVariants.{Exists, Differs, Absent}
+use Rattle.finite_map.specs.declared.Reply.TheVariants.{Exchanged, Exists, Absent, Removed}
+use Rattle.finite_map.specs.Calls.{effect_of}
 use Rattle.finite_map.specs.Fronts.{OthersGoOn}
+use Rattle.finite_map.specs.Maps.{Map, key_of, step_if, with_value, without}
 use Rattle.finite_map.proofs.Growth.{others_on}
 use Rattle.insert_cases.specs.declared.choice.Case.{Case}
 use Rattle.insert_cases.specs.declared.choice.Case.TheVariants.{LeafPushdown, NormalInsert, Overflow}
@@ -29,18 +34,17 @@ use Rattle.rowex_reading.specs.Lookups.{HasFound, HasSearched}
 use Rattle.rowex_core.specs.Knowing.{IsSince}
 use Rattle.rowex_reading.specs.Seen.{Sure, since}
 use Rattle.rowex_reading.proofs.Seeing.{later_trans, held_stable, missed_stable, shaped_stable, sure_later}
-use Rattle.rowex_writing.specs.Asking.{aim_of, answer_unless, declined}
-use Rattle.rowex_writing.specs.Attempts.{HasAnswered, HasDone, HasLoadedRoot, HasLooked, HasRefused, IsAttemptCause, IsChangeOf, refusal_of, reply_to}
+use Rattle.rowex_writing.specs.Asking.{aim_of, aim_where, reply_to, value_in}
+use Rattle.rowex_writing.specs.Attempts.{HasAnswered, HasDone, HasLoadedRoot, HasLooked, HasRefused, IsAttemptCause, IsChangeOf, IsLeafless, refusal_of}
 use Rattle.rowex_writing.specs.Changes.{AreAffected, HasChanged, HasNoRoom, HasRun, IsFull, IsPlanned}
 use Rattle.rowex_writing.specs.Locks.{HasMetLock}
 use Rattle.rowex_writing.specs.Plans.{change, IsCase, IsNewLeafPlan}
 use Rattle.rowex_reading.specs.Ways.{IsWayOf, value_of}
-use Rattle.rowex_writing.specs.declared.plan.Ask.{Ask}
-use Rattle.rowex_writing.specs.declared.plan.Ask.TheVariants.{Insert, Upsert, Exchange, Remove, RemoveIf}
 use Rattle.rowex_writing.specs.declared.plan.Aim.{Aim}
-use Rattle.rowex_writing.specs.declared.plan.Aim.TheVariants.{Remove as Removal}
+use Rattle.rowex_writing.specs.declared.plan.Aim.TheVariants.{Insert as ToInsert, Upsert as ToUpsert, Remove as ToRemove}
 use Rattle.rowex_writing.specs.declared.plan.Deed.{Deed}
 use Rattle.rowex_writing.specs.declared.plan.Deed.TheVariants.{Put, Pair, Grow, Take}
+use Rattle.rowex_writing.specs.declared.attempts.TryFault.{TryFault}
 use Rattle.rowex_writing.specs.declared.attempts.TryFault.TheVariants.{Busy, FullLeaves}
 use Rattle.rowex_reading.specs.declared.descent.Found.{Found}
 use Rattle.rowex_writing.specs.declared.plan.Full.{Full}
@@ -71,26 +75,14 @@ pub planned_later : (k j : Known) (m : ℕ) (key : Key) (way : List Step) (aim :
     IsPlanned j m key way aim found plan
 planned_later k j m key way aim found plan later (first, last, is, affected) = (first, last, is, affected_later k j m key way found first last later affected)
 
-planned_as : (k : Known) (m : ℕ) (key : Key) (way : List Step) (aim other : Aim) (found : Found) (plan : Plan) → aim ≡ other → IsPlanned k m key way aim found plan →
-    IsPlanned k m key way other found plan
-planned_as k m key way aim other found plan same planned = subst (λ a. IsPlanned k m key way a found plan) same planned
-
 -- the plan of a call, by a search on the way
-pub plan_made : (layout : Layout) (k j : Known) (m : ℕ) (key : Key) (way shown : List Step) (found : Found) (aim other : Aim) (plan : Plan) → shown ≡ way → aim ≡ other → IsWayOf layout k m key way found →
-    ((m : ℕ) (key : Key) → IsWayOf layout k m key shown found → IsPlanned j m key shown aim found plan) → IsPlanned j m key shown other found plan
-plan_made layout k j m key way shown found aim other plan same is w each = planned_as j m key shown aim other found plan is (each m key (subst (λ z. IsWayOf layout k m key z found) (sym same) w))
+pub plan_made : (layout : Layout) (k j : Known) (m : ℕ) (key : Key) (way shown : List Step) (found : Found) (aim : Aim) (plan : Plan) → shown ≡ way → IsWayOf layout k m key way found →
+    ((m : ℕ) (key : Key) → IsWayOf layout k m key shown found → IsPlanned j m key shown aim found plan) → IsPlanned j m key shown aim found plan
+plan_made layout k j m key way shown found aim plan same w each = each m key (subst (λ z. IsWayOf layout k m key z found) (sym same) w)
 
 -- ---- an answer
--- the reply of a plan that answers
-abbrev reply_in : Plan → Reply
-reply_in (Answer reply) = reply
-reply_in (a_change span deed) = Absent
-
-looked_exists : (j : Known) (key : Key) (v : ℕ) (reply : Reply) → Answer reply ≡ Answer (Exists v) → HasFound j key (Some v) → HasLooked j Insert key reply
-looked_exists j key v reply e sure = subst (HasLooked j Insert key) (sym (ap reply_in e)) sure
-
-looked_absent : (j : Known) (key : Key) (reply : Reply) → Answer reply ≡ Answer Absent → HasFound j key None → HasLooked j Remove key reply
-looked_absent j key reply e sure = subst (HasLooked j Remove key) (sym (ap reply_in e)) sure
+some_is : (a b : Aim) → Some a ≡ Some b → a ≡ b
+some_is a b e = cc
 
 -- a plan that changes the map is no answer
 abbrev is_answer : Plan → Bool
@@ -109,57 +101,94 @@ new_answer {A} (s ∷ way) p first last reply (level, at, (chosen, choice, case)
     go NormalInsert e = no_answer reply _ _ e
     go Overflow (end, upto, e) = no_answer reply _ _ e
 
--- ---- a call that expects a value
-no_answer_left : {A : Type 0} (reply : Reply) → Some reply ≡ None → A
-no_answer_left reply e = absurd (cc)
+-- the answer of a plan: for an aim, of a key with this value, or none
+abbrev Answers : Aim → Option ℕ → Reply → Type 0
+Answers ToInsert (Some held) reply = reply ≡ Exists held
+Answers ToRemove None reply = reply ≡ Absent
+Answers aim held reply = ⊥
 
--- where it is not answered at once, its key has the value that it expects
-met_value : (expected : ℕ) (held : Option ℕ) → answer_unless expected held ≡ None → held ≡ Some expected
-met_value expected None e = no_answer_left Absent e
-met_value expected (Some v) e = go (nat_eq v expected) refl e
+-- the reply of a plan that answers
+abbrev reply_in : Plan → Reply
+reply_in (Answer reply) = reply
+reply_in (a_change span deed) = Absent
+
+plan_answers : (k : Known) (m : ℕ) (key : Key) (way : List Step) (aim : Aim) (found : Found) (reply : Reply) → IsPlanned k m key way aim found (Answer reply) → Answers aim (value_of found) reply
+plan_answers k m key way ToInsert Nothing reply (first, last, is, affected) = no_answer reply _ _ is
+plan_answers k m key way ToUpsert Nothing reply (first, last, is, affected) = no_answer reply _ _ is
+plan_answers k m key way ToInsert (Leaf n v (Some p)) reply (first, last, is, affected) = new_answer way p first last reply is
+plan_answers k m key way ToUpsert (Leaf n v (Some p)) reply (first, last, is, affected) = new_answer way p first last reply is
+plan_answers k m key way ToInsert (Leaf n v None) reply (first, last, is, affected) = ap reply_in is
+plan_answers k m key way ToUpsert (Leaf n v None) reply (first, last, is, affected) = no_answer reply _ _ is
+plan_answers k m key way ToRemove Nothing reply (first, last, is, affected) = ap reply_in is
+plan_answers k m key way ToRemove (Leaf n v (Some p)) reply (first, last, is, affected) = ap reply_in is
+plan_answers k m key way ToRemove (Leaf n v None) reply (first, last, is, affected) = no_answer reply _ _ is
+
+-- ---- what is found that changes nothing
+-- a call that aims at nothing has no effect
+no_effect : (call : Call) (held : Option ℕ) → aim_of call held ≡ None → effect_of call (reply_to call held) ≡ None
+no_effect (Insert key value) held e = absurd (cc)
+no_effect (Upsert key value) held e = absurd (cc)
+no_effect (Exchange key expected value) None e = refl
+no_effect (Exchange key expected value) (Some held) e = go (nat_eq held expected) e
   where
-    go : (b : Bool) → nat_eq v expected ≡ b → (if b then None else Some (Differs v)) ≡ None → Some v ≡ Some expected
-    go true same e = ap Some (eqb-true v expected same)
-    go false same e = no_answer_left (Differs v) e
-
--- where it is, its key has another value or none
-unless_looked : (j : Known) (ask : Ask) (key : Key) (expected : ℕ) → (HasFound j key None → HasLooked j ask key Absent) →
-    ((v : ℕ) → HasFound j key (Some v) → v ≢ expected → HasLooked j ask key (Differs v)) → (held : Option ℕ) (reply : Reply) → answer_unless expected held ≡ Some reply → HasFound j key held →
-    HasLooked j ask key reply
-unless_looked j ask key expected missed differs None reply e found = subst (HasLooked j ask key) (let z : Absent ≡ reply = cc in z) (missed found)
-unless_looked j ask key expected missed differs (Some v) reply e found = go (nat_eq v expected) refl e
+    go : (b : Bool) → (if b then Some ToUpsert else None) ≡ None → effect_of (Exchange key expected value) (step_if b [] held (with_value [] key value, Exchanged)).1 ≡ None
+    go true e = absurd (cc)
+    go false e = refl
+no_effect (Get key) None e = refl
+no_effect (Get key) (Some held) e = refl
+no_effect (Remove key) held e = absurd (cc)
+no_effect (RemoveIf key expected) None e = refl
+no_effect (RemoveIf key expected) (Some held) e = go (nat_eq held expected) e
   where
-    go : (b : Bool) → nat_eq v expected ≡ b → (if b then None else Some (Differs v)) ≡ Some reply → HasLooked j ask key reply
-    go true same e = absurd (let z : None ≡ Some reply = e in cc)
-    go false same e = subst (HasLooked j ask key) (let z : Differs v ≡ reply = cc in z) (differs v found (λ is. absurd (let z : true ≡ false = sym (eq-eqb v expected is) ∙ same in cc)))
+    go : (b : Bool) → (if b then Some ToRemove else None) ≡ None → effect_of (RemoveIf key expected) (step_if b [] held (without [] key, Removed held)).1 ≡ None
+    go true e = absurd (cc)
+    go false e = refl
 
-pub declined_looked : (j : Known) (ask : Ask) (key : Key) (found : Found) (reply : Reply) → declined ask found ≡ Some reply → HasFound j key (value_of found) → HasLooked j ask key reply
-declined_looked j (Exchange expected) key found reply e sure = unless_looked j (Exchange expected) key expected (λ h. h) (λ v h apart. (h, apart)) (value_of found) reply e sure
-declined_looked j (RemoveIf expected) key found reply e sure = unless_looked j (RemoveIf expected) key expected (λ h. h) (λ v h apart. (h, apart)) (value_of found) reply e sure
-declined_looked j Insert key found reply e sure = absurd (let z : None ≡ Some reply = e in cc)
-declined_looked j Upsert key found reply e sure = absurd (let z : None ≡ Some reply = e in cc)
-declined_looked j Remove key found reply e sure = absurd (let z : None ≡ Some reply = e in cc)
+found_for : (j : Known) (key other : Key) (held value : Option ℕ) → key ≡ other → held ≡ value → HasFound j key value → HasFound j other held
+found_for j key other held value same is found = subst (HasFound j other) (sym is) (subst (λ z. HasFound j z value) same found)
 
--- ---- the answer of a plan
-pub looked : (k j : Known) (m : ℕ) (key : Key) (way : List Step) (ask : Ask) (found : Found) (reply : Reply) → declined ask found ≡ None → IsPlanned k m key way (aim_of ask) found (Answer reply) →
-    HasFound j key (value_of found) → HasLooked j ask key reply
-looked k j m key way Insert Nothing reply met (first, last, is, affected) sure = no_answer reply _ _ is
-looked k j m key way Upsert Nothing reply met (first, last, is, affected) sure = no_answer reply _ _ is
-looked k j m key way Insert (Leaf n v (Some p)) reply met (first, last, is, affected) sure = new_answer way p first last reply is
-looked k j m key way Upsert (Leaf n v (Some p)) reply met (first, last, is, affected) sure = new_answer way p first last reply is
-looked k j m key way Insert (Leaf n v None) reply met (first, last, is, affected) sure = looked_exists j key v reply is sure
-looked k j m key way Upsert (Leaf n v None) reply met (first, last, is, affected) sure = no_answer reply _ _ is
-looked k j m key way Remove Nothing reply met (first, last, is, affected) sure = looked_absent j key reply is sure
-looked k j m key way Remove (Leaf n v (Some p)) reply met (first, last, is, affected) sure = looked_absent j key reply is sure
-looked k j m key way Remove (Leaf n v None) reply met (first, last, is, affected) sure = no_answer reply _ _ is
-looked k j m key way (Exchange e) Nothing reply met planned sure = no_answer_left Absent met
-looked k j m key way (Exchange e) (Leaf n v (Some p)) reply met planned sure = no_answer_left Absent met
-looked k j m key way (Exchange e) (Leaf n v None) reply met (first, last, is, affected) sure = no_answer reply _ _ is
-looked k j m key way (RemoveIf e) Nothing reply met planned sure = no_answer_left Absent met
-looked k j m key way (RemoveIf e) (Leaf n v (Some p)) reply met planned sure = no_answer_left Absent met
-looked k j m key way (RemoveIf e) (Leaf n v None) reply met (first, last, is, affected) sure = no_answer reply _ _ is
+pub aimless_looked : (j : Known) (key : Key) (call : Call) (held value : Option ℕ) → key ≡ key_of call → held ≡ value → aim_of call held ≡ None → HasFound j key value → HasLooked j call (reply_to call held)
+aimless_looked j key call held value same is none found = (held, found_for j key (key_of call) held value same is found, refl, no_effect call held none)
+
+-- the aim of a call that expects a value
+aim_met : (P : Aim → Type 0) (expected : ℕ) (held : Option ℕ) (own aim : Aim) → aim_where expected held own ≡ Some aim → P aim → P own
+aim_met P expected None own aim e p = absurd (cc)
+aim_met P expected (Some held) own aim e p = go (nat_eq held expected) e
+  where
+    go : (b : Bool) → (if b then Some own else None) ≡ Some aim → P own
+    go true e = subst P (let z : aim ≡ own = cc in z) p
+    go false e = absurd (cc)
+
+pub answers_looked : (j : Known) (call : Call) (held : Option ℕ) (aim : Aim) (reply : Reply) → aim_of call held ≡ Some aim → Answers aim held reply → HasFound j (key_of call) held → HasLooked j call reply
+answers_looked j (Insert key value) None aim reply e answers found = absurd (subst (λ a. Answers a None reply) (some_is _ _ (sym e)) answers)
+answers_looked j (Insert key value) (Some held) aim reply e answers found =
+    let is : reply ≡ Exists held = subst (λ a. Answers a (Some held) reply) (some_is _ _ (sym e)) answers in (Some held, found, is, ap (effect_of (Insert key value)) is)
+answers_looked j (Upsert key value) held aim reply e answers found = absurd (subst (λ a. Answers a held reply) (some_is _ _ (sym e)) answers)
+answers_looked j (Exchange key expected value) held aim reply e answers found = absurd (aim_met (λ a. Answers a held reply) expected held ToUpsert aim e answers)
+answers_looked j (Get key) held aim reply e answers found = absurd (cc)
+answers_looked j (Remove key) None aim reply e answers found =
+    let is : reply ≡ Absent = subst (λ a. Answers a None reply) (some_is _ _ (sym e)) answers in (None, found, is, ap (effect_of (Remove key)) is)
+answers_looked j (Remove key) (Some held) aim reply e answers found = absurd (subst (λ a. Answers a (Some held) reply) (some_is _ _ (sym e)) answers)
+answers_looked j (RemoveIf key expected) None aim reply e answers found = absurd (cc)
+answers_looked j (RemoveIf key expected) (Some held) aim reply e answers found = absurd (aim_met (λ a. Answers a (Some held) reply) expected (Some held) ToRemove aim e answers)
+
+pub looked : (k j : Known) (m : ℕ) (key : Key) (way : List Step) (call : Call) (held : Option ℕ) (aim : Aim) (found : Found) (reply : Reply) → key ≡ key_of call → held ≡ value_of found →
+    aim_of call held ≡ Some aim → IsPlanned k m key way aim found (Answer reply) → HasFound j key (value_of found) → HasLooked j call reply
+looked k j m key way call held aim found reply same is e planned sure =
+    answers_looked j call held aim reply e (subst (λ h. Answers aim h reply) (sym is) (plan_answers k m key way aim found reply planned)) (found_for j key (key_of call) held (value_of found) same is sure)
 
 -- ---- a change
+-- the change that was made for an aim, of a key with this value, or none
+abbrev IsMade : ℕ → Key → ℕ → Aim → Option ℕ → Change → Option ℕ → Type 0
+IsMade q key value ToInsert None x was = (x ≡ record { pass = q; key = key; value = value; kind = Added }) × (was ≡ None)
+IsMade q key value ToUpsert None x was = (x ≡ record { pass = q; key = key; value = value; kind = Added }) × (was ≡ None)
+IsMade q key value ToUpsert (Some held) x was = (x ≡ record { pass = q; key = key; value = value; kind = Replaced }) × (was ≡ Some held)
+IsMade q key value ToRemove (Some held) x was = (x ≡ record { pass = q; key = key; value = held; kind = TakenAway }) × (was ≡ Some held)
+IsMade q key value aim held x was = ⊥
+
+abbrev HasMadeAim : Known → Known → Key → ℕ → Aim → Option ℕ → Type 0
+HasMadeAim i j key value aim held = (x : Change) × (was : Option ℕ) × IsMade i.pass key value aim held x was × HasChanged i j x was
+
 abbrev deed_in : Plan → Deed
 deed_in (Answer r) = Put
 deed_in (a_change span deed) = deed
@@ -178,40 +207,79 @@ module _ (i j : Known) (key : Key) (value : ℕ) (found : Found) where
       go NormalInsert e = done_by span deed (Grow p chosen.first chosen.last) _ _ e done
       go Overflow (end, upto, e) = done_by span deed (Grow p chosen.first chosen.last) _ _ e done
 
--- The change is the one that the call asked for.
-pub done_is : (i j k : Known) (m : ℕ) (key : Key) (value : ℕ) (way : List Step) (ask : Ask) (found : Found) (span : Span) (deed : Deed) →
-    declined ask found ≡ None → IsPlanned k m key way (aim_of ask) found (a_change span deed) → HasDone i j deed key value found →
-    (x : Change) × (was : Option ℕ) × IsChangeOf i.pass ask key value (reply_to ask found) x was × HasChanged i j x was
-done_is i j k m key value way Insert Nothing span deed met (first, last, is, affected) done = done_by i j key value Nothing span deed Put 0 0 is done
-done_is i j k m key value way Upsert Nothing span deed met (first, last, is, affected) done = done_by i j key value Nothing span deed Put 0 0 is done
-done_is i j k m key value way Insert (Leaf n v (Some p)) span deed met (first, last, is, affected) done = new_done i j key value (Leaf n v (Some p)) way p first last span deed is done
-done_is i j k m key value way Upsert (Leaf n v (Some p)) span deed met (first, last, is, affected) done = new_done i j key value (Leaf n v (Some p)) way p first last span deed is done
-done_is i j k m key value way Insert (Leaf n v None) span deed met (first, last, is, affected) done = no_answer _ span deed (sym is)
-done_is i j k m key value way Upsert (Leaf n v None) span deed met (first, last, is, affected) done = done_by i j key value (Leaf n v None) span deed Put _ _ is done
-done_is i j k m key value way Remove Nothing span deed met (first, last, is, affected) done = no_answer _ span deed (sym is)
-done_is i j k m key value way Remove (Leaf n v (Some p)) span deed met (first, last, is, affected) done = no_answer _ span deed (sym is)
-done_is i j k m key value way Remove (Leaf n v None) span deed met (first, last, is, affected) done = done_by i j key value (Leaf n v None) span deed Take _ _ is done
-done_is i j k m key value way (Exchange e) Nothing span deed met planned done = no_answer_left Absent met
-done_is i j k m key value way (Exchange e) (Leaf n v (Some p)) span deed met planned done = no_answer_left Absent met
-done_is i j k m key value way (Exchange e) (Leaf n v None) span deed met (first, last, is, affected) done =
-    let (x, was, (x_is, was_is), changed) = done_by i j key value (Leaf n v None) span deed Put _ _ is done in (x, was, (x_is, was_is ∙ met_value e (Some v) met), changed)
-done_is i j k m key value way (RemoveIf e) Nothing span deed met planned done = no_answer_left Absent met
-done_is i j k m key value way (RemoveIf e) (Leaf n v (Some p)) span deed met planned done = no_answer_left Absent met
-done_is i j k m key value way (RemoveIf e) (Leaf n v None) span deed met (first, last, is, affected) done =
-    let (x, was, (x_is, was_is), changed) = done_by i j key value (Leaf n v None) span deed Take _ _ is done in
-    let same : v ≡ e = (let z = met_value e (Some v) met in cc) in
-    (x, was, (x_is ∙ ap (λ (z : ℕ). record { pass = i.pass; key = key; value = z; kind = TakenAway }) same, was_is ∙ ap Some same, refl), changed)
+-- the change is the one that was aimed at
+plan_does : (i j k : Known) (m : ℕ) (key : Key) (value : ℕ) (way : List Step) (aim : Aim) (found : Found) (span : Span) (deed : Deed) →
+    IsPlanned k m key way aim found (a_change span deed) → HasDone i j deed key value found → HasMadeAim i j key value aim (value_of found)
+plan_does i j k m key value way ToInsert Nothing span deed (first, last, is, affected) done = done_by i j key value Nothing span deed Put 0 0 is done
+plan_does i j k m key value way ToUpsert Nothing span deed (first, last, is, affected) done = done_by i j key value Nothing span deed Put 0 0 is done
+plan_does i j k m key value way ToInsert (Leaf n v (Some p)) span deed (first, last, is, affected) done = new_done i j key value (Leaf n v (Some p)) way p first last span deed is done
+plan_does i j k m key value way ToUpsert (Leaf n v (Some p)) span deed (first, last, is, affected) done = new_done i j key value (Leaf n v (Some p)) way p first last span deed is done
+plan_does i j k m key value way ToInsert (Leaf n v None) span deed (first, last, is, affected) done = no_answer _ span deed (sym is)
+plan_does i j k m key value way ToUpsert (Leaf n v None) span deed (first, last, is, affected) done = done_by i j key value (Leaf n v None) span deed Put _ _ is done
+plan_does i j k m key value way ToRemove Nothing span deed (first, last, is, affected) done = no_answer _ span deed (sym is)
+plan_does i j k m key value way ToRemove (Leaf n v (Some p)) span deed (first, last, is, affected) done = no_answer _ span deed (sym is)
+plan_does i j k m key value way ToRemove (Leaf n v None) span deed (first, last, is, affected) done = done_by i j key value (Leaf n v None) span deed Take _ _ is done
 
-takes : (k : Known) (m : ℕ) (key : Key) (way : List Step) (found : Found) (span : Span) (deed : Deed) → IsPlanned k m key way Removal found (a_change span deed) → deed ≡ Take
+-- and so the one that the call asked for
+module _ (q : ℕ) (x : Change) (was : Option ℕ) where
+  -- a call that gives this reply to a key with this value, or none, and has this effect
+  is_change_of : (call : Call) (held : Option ℕ) (kind : Kind) (value : ℕ) → effect_of call (reply_to call held) ≡ Some (kind, value) →
+      x ≡ record { pass = q; key = key_of call; value = value; kind = kind } → was ≡ held → IsChangeOf q call (reply_to call held) x was
+  is_change_of call held kind value effect x_is was_is = (ap (reply_to call) (sym was_is), ap (option_map (λ (e : Kind × ℕ). record { pass = q; key = key_of call; value = e.1; kind = e.0 })) effect ∙ ap Some (sym x_is))
+
+  -- where a call expects a value, it has its effect if it has its aim
+  expected_effect : {A : Type 0} (P : Reply → A) (b : Bool) (own aim : Aim) (held : ℕ) (met : Map × Reply) → (if b then Some own else None) ≡ Some aim → P (step_if b [] held met).1 ≡ P met.1
+  expected_effect P true own aim held met e = refl
+  expected_effect P false own aim held met e = absurd (cc)
+
+  made_change : (call : Call) (held : Option ℕ) (aim : Aim) → aim_of call held ≡ Some aim → IsMade q (key_of call) (value_in call) aim held x was → IsChangeOf q call (reply_to call held) x was
+  made_change (Insert key value) None aim e made =
+      let (x_is, was_is) = subst (λ a. IsMade q key value a None x was) (some_is _ _ (sym e)) made in is_change_of (Insert key value) None Added value refl x_is was_is
+  made_change (Insert key value) (Some held) aim e made = absurd (subst (λ a. IsMade q key value a (Some held) x was) (some_is _ _ (sym e)) made)
+  made_change (Upsert key value) None aim e made =
+      let (x_is, was_is) = subst (λ a. IsMade q key value a None x was) (some_is _ _ (sym e)) made in is_change_of (Upsert key value) None Added value refl x_is was_is
+  made_change (Upsert key value) (Some held) aim e made =
+      let (x_is, was_is) = subst (λ a. IsMade q key value a (Some held) x was) (some_is _ _ (sym e)) made in is_change_of (Upsert key value) (Some held) Replaced value refl x_is was_is
+  made_change (Exchange key expected value) None aim e made = absurd (cc)
+  made_change (Exchange key expected value) (Some held) aim e made =
+      let (x_is, was_is) = aim_met (λ a. IsMade q key value a (Some held) x was) expected (Some held) ToUpsert aim e made in
+      is_change_of (Exchange key expected value) (Some held) Replaced value (expected_effect (effect_of (Exchange key expected value)) (nat_eq held expected) ToUpsert aim held _ e) x_is was_is
+  made_change (Get key) held aim e made = absurd (cc)
+  made_change (Remove key) None aim e made = absurd (subst (λ a. IsMade q key 0 a None x was) (some_is _ _ (sym e)) made)
+  made_change (Remove key) (Some held) aim e made =
+      let (x_is, was_is) = subst (λ a. IsMade q key 0 a (Some held) x was) (some_is _ _ (sym e)) made in is_change_of (Remove key) (Some held) TakenAway held refl x_is was_is
+  made_change (RemoveIf key expected) None aim e made = absurd (cc)
+  made_change (RemoveIf key expected) (Some held) aim e made =
+      let (x_is, was_is) = aim_met (λ a. IsMade q key 0 a (Some held) x was) expected (Some held) ToRemove aim e made in
+      is_change_of (RemoveIf key expected) (Some held) TakenAway held (expected_effect (effect_of (RemoveIf key expected)) (nat_eq held expected) ToRemove aim held _ e) x_is was_is
+
+takes : (k : Known) (m : ℕ) (key : Key) (way : List Step) (found : Found) (span : Span) (deed : Deed) → IsPlanned k m key way ToRemove found (a_change span deed) → deed ≡ Take
 takes k m key way Nothing span deed (first, last, is, affected) = no_answer _ span deed (sym is)
 takes k m key way (Leaf n v (Some p)) span deed (first, last, is, affected) = no_answer _ span deed (sym is)
 takes k m key way (Leaf n v None) span deed (first, last, is, affected) = ap deed_in is
 
 -- a removal that changes the map takes a leaf away
-pub removal_takes : (k : Known) (m : ℕ) (key : Key) (way : List Step) (aim : Aim) (found : Found) (plan : Plan) (span : Span) (deed : Deed) → aim ≡ Removal →
+pub removal_takes : (k : Known) (m : ℕ) (key : Key) (way : List Step) (aim : Aim) (found : Found) (plan : Plan) (span : Span) (deed : Deed) → aim ≡ ToRemove →
     plan ≡ a_change span deed → IsPlanned k m key way aim found plan → deed ≡ Take
 removal_takes k m key way aim found plan span deed e is planned =
     takes k m key way found span deed (subst (λ a. IsPlanned k m key way a found (a_change span deed)) e (subst (IsPlanned k m key way aim found) is planned))
+
+-- a removal is not full of leaves, if what aims at one is not; and no call that was answered is
+pub leafless : (call : Call) (held : Option ℕ) (aim : Aim) (fault : TryFault) → aim_of call held ≡ Some aim → (aim ≡ ToRemove → fault ≢ FullLeaves) → IsLeafless FullLeaves call (Err fault)
+leafless (Insert key value) held aim fault e h = tt
+leafless (Upsert key value) held aim fault e h = tt
+leafless (Exchange key expected value) held aim fault e h = tt
+leafless (Get key) held aim fault e h = tt
+leafless (Remove key) held aim fault e h = λ is. h (sym (some_is _ _ e)) (let z : fault ≡ FullLeaves = cc in z)
+leafless (RemoveIf key expected) held aim fault e h = λ is. aim_met (λ a. a ≡ ToRemove → ⊥) expected held ToRemove aim e (λ removes. h removes (let z : fault ≡ FullLeaves = cc in z)) refl
+
+pub answered_leafless : (call : Call) (reply : Reply) → IsLeafless FullLeaves call (Ok reply)
+answered_leafless (Insert key value) reply = tt
+answered_leafless (Upsert key value) reply = tt
+answered_leafless (Exchange key expected value) reply = tt
+answered_leafless (Get key) reply = tt
+answered_leafless (Remove key) reply = λ is. absurd (cc)
+answered_leafless (RemoveIf key expected) reply = λ is. absurd (cc)
 
 -- the change of a pass that went on before
 pub changed_on : (k i j : Known) (x : Change) (was : Option ℕ) → i.pass ≡ k.pass → OthersGoOn k.pass k.front i.front → HasChanged i j x was → HasChanged k j x was
@@ -303,11 +371,14 @@ leaves_refused Nodes e = absurd (cc)
 leaves_refused Leaves e = refl
 
 -- ---- answers
-pub answered_look : (k j : Known) (ask : Ask) (key : Key) (value : ℕ) (reply : Reply) → IsLater k j → HasLooked j ask key reply → HasAnswered k j ask key value reply
-answered_look k j ask key value reply later looked = inl (looked, later.front)
+pub answered_look : (k j : Known) (call : Call) (reply : Reply) → IsLater k j → HasLooked j call reply → HasAnswered k j call reply
+answered_look k j call reply later looked = inl (looked, later.front)
 
-pub answered_change : (k p i j : Known) (m : ℕ) (key : Key) (value : ℕ) (way : List Step) (ask : Ask) (found : Found) (span : Span) (deed : Deed) → IsLater k i →
-    declined ask found ≡ None → IsPlanned p m key way (aim_of ask) found (a_change span deed) → HasDone i j deed key value found → HasAnswered k j ask key value (reply_to ask found)
-answered_change k p i j m key value way ask found span deed later met planned done =
-    let (x, was, is, changed) = done_is i j p m key value way ask found span deed met planned done in
-    inr (x, was, subst (λ q. IsChangeOf q ask key value (reply_to ask found) x was) later.pass is, changed_on k i j x was later.pass later.front changed)
+pub answered_change : (k p i j : Known) (m : ℕ) (key : Key) (value : ℕ) (way : List Step) (call : Call) (held : Option ℕ) (aim : Aim) (found : Found) (span : Span) (deed : Deed) → IsLater k i →
+    key ≡ key_of call → value ≡ value_in call → held ≡ value_of found → aim_of call held ≡ Some aim → IsPlanned p m key way aim found (a_change span deed) → HasDone i j deed key value found →
+    HasAnswered k j call (reply_to call held)
+answered_change k p i j m key value way call held aim found span deed later key_is value_is held_is e planned done =
+    let (x, was, made, changed) = plan_does i j p m key value way aim found span deed planned done in
+    let asked = subst (λ h. IsMade i.pass (key_of call) (value_in call) aim h x was) (sym held_is)
+    (subst (λ v. IsMade i.pass (key_of call) v aim (value_of found) x was) value_is (subst (λ z. IsMade i.pass z value aim (value_of found) x was) key_is made)) in
+    inr (x, was, subst (λ q. IsChangeOf q call (reply_to call held) x was) later.pass (made_change i.pass x was call held aim e asked), changed_on k i j x was later.pass later.front changed)

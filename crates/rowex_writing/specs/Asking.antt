@@ -1,29 +1,33 @@
--- What a call asks for, where it expects its key to have a value.
-use Rattle.std.specs.Prelude.{ℕ, Option, Some, None, nat_eq, if◌then◌else◌}
+-- What a call asks for, by the value that its key was found to have.
+use Rattle.std.specs.Prelude.{ℕ, [], Option, Some, None, nat_eq, if◌then◌else◌}
+use Rattle.finite_map.specs.declared.Call.{Call}
+use Rattle.finite_map.specs.declared.Call.TheVariants.{Insert, Upsert, Exchange, Get, Remove, RemoveIf}
 use Rattle.finite_map.specs.declared.Reply.{Reply}
-use Rattle.finite_map.specs.declared.Reply.TheVariants.{Absent, Differs}
-use Rattle.rowex_reading.specs.Ways.{value_of}
-use Rattle.rowex_reading.specs.declared.descent.Found.{Found}
+use Rattle.finite_map.specs.Maps.{step_where}
 use Rattle.rowex_writing.specs.declared.plan.Aim.{Aim}
 use Rattle.rowex_writing.specs.declared.plan.Aim.TheVariants as aim
-use Rattle.rowex_writing.specs.declared.plan.Ask.{Ask}
-use Rattle.rowex_writing.specs.declared.plan.Ask.TheVariants.{Insert, Upsert, Exchange, Remove, RemoveIf}
 
--- what is planned for a call whose key has the value that it expects: an exchange is an upsert then
-abbrev pub aim_of : Ask → Aim
-aim_of Insert = aim.Insert
-aim_of Upsert = aim.Upsert
-aim_of (Exchange expected) = aim.Upsert
-aim_of Remove = aim.Remove
-aim_of (RemoveIf expected) = aim.Remove
+-- the value that a call gives its key; 0 if it gives none
+abbrev pub value_in : Call → ℕ
+value_in (Insert key value) = value
+value_in (Upsert key value) = value
+value_in (Exchange key expected value) = value
+value_in call = 0
 
--- the answer of a call that expects this value, where its key has that one, or none
-abbrev pub answer_unless : ℕ → Option ℕ → Option Reply
-answer_unless expected None = Some Absent
-answer_unless expected (Some held) = if nat_eq held expected then None else Some (Differs held)
+-- the aim of a call that expects a value, if its key has it
+abbrev pub aim_where : ℕ → Option ℕ → Aim → Option Aim
+aim_where expected None aim = None
+aim_where expected (Some held) aim = if nat_eq held expected then Some aim else None
 
--- the answer of a call whose search found that its key has not the value that it expects
-abbrev pub declined : Ask → Found → Option Reply
-declined (Exchange expected) found = answer_unless expected (value_of found)
-declined (RemoveIf expected) found = answer_unless expected (value_of found)
-declined ask found = None
+-- what a call aims at whose key has this value, or none: an exchange at what an upsert does; and one that only looks at nothing
+abbrev pub aim_of : Call → Option ℕ → Option Aim
+aim_of (Insert key value) held = Some aim.Insert
+aim_of (Upsert key value) held = Some aim.Upsert
+aim_of (Exchange key expected value) held = aim_where expected held aim.Upsert
+aim_of (Get key) held = None
+aim_of (Remove key) held = Some aim.Remove
+aim_of (RemoveIf key expected) held = aim_where expected held aim.Remove
+
+-- the reply to a call whose key has this value, or none, whatever else the map holds
+abbrev pub reply_to : Call → Option ℕ → Reply
+reply_to call held = (step_where held [] call).1

@@ -1,41 +1,91 @@
-//! What a call asks for, where it expects its key to have a value.
+//! What a call asks for, by the value that its key was found to have.
 
 ghost use Rattle.std.specs.Prelude.{◌≡◌};
-ghost use Rattle.rowex_writing.specs.Asking.{aim_of as the_aim, declined as the_answer};
+ghost use Rattle.finite_map.specs.Maps.{key_of as the_key};
+ghost use Rattle.rowex_reading.specs.Ways.{value_of as the_value};
+ghost use Rattle.rowex_writing.specs.Asking.{aim_of as the_aim, aim_where as the_aim_where, reply_to as the_reply, value_in as the_value_in};
 
-use crate::plan::{Aim, Ask};
-use finite_map::Reply;
+use crate::plan::Aim;
+use finite_map::{Call, Reply};
+use key_bits::Key;
 use rowex_reading::Found;
 
-/// What is planned for a call whose key has the value that it expects, if it expects one.
-pub(crate) fn aim_of(ask: Ask) -> Aim
-    ensures { result ≡ the_aim ask }
+/// The key of a call.
+pub(crate) fn key_of(call: &Call) -> &Key
+    ensures { result.now ≡ the_key call.now }
 {
-    match ask {
-        Ask::Insert => Aim::Insert,
-        Ask::Upsert | Ask::Exchange(_) => Aim::Upsert,
-        Ask::Remove | Ask::RemoveIf(_) => Aim::Remove,
+    match call {
+        Call::Insert(key, _) | Call::Upsert(key, _) | Call::Exchange(key, _, _) => key,
+        Call::Get(key) | Call::Remove(key) | Call::RemoveIf(key, _) => key,
     }
 }
 
-/// The answer of a call that expects a value, where its search found that the key has another or none.
-pub(crate) fn declined(ask: Ask, found: Found) -> Option<Reply>
-    ensures { result ≡ the_answer ask found }
+/// The value that a call gives its key; 0 if it gives none.
+pub(crate) fn value_in(call: &Call) -> u64
+    ensures { result ≡ the_value_in call.now }
 {
-    match ask {
-        Ask::Exchange(expected) | Ask::RemoveIf(expected) => match found {
-            Found::Leaf {
-                value,
-                mismatch: None,
-                ..
-            } if value == expected => None,
-            Found::Leaf {
-                value,
-                mismatch: None,
-                ..
-            } => Some(Reply::Differs(value)),
-            _ => Some(Reply::Absent),
-        },
+    match call {
+        Call::Insert(_, value) | Call::Upsert(_, value) | Call::Exchange(_, _, value) => *value,
+        Call::Get(_) | Call::Remove(_) | Call::RemoveIf(..) => 0,
+    }
+}
+
+/// The value that a search found for its key.
+pub(crate) fn value_of(found: Found) -> Option<u64>
+    ensures { result ≡ the_value found }
+{
+    match found {
+        Found::Leaf {
+            value,
+            mismatch: None,
+            ..
+        } => Some(value),
         _ => None,
+    }
+}
+
+/// What a call aims at whose key has this value, or none. A get, and a call that expects another value, aim at nothing.
+pub(crate) fn aim_of(call: &Call, held: Option<u64>) -> Option<Aim>
+    ensures { result ≡ the_aim call.now held }
+{
+    match call {
+        Call::Get(_) => None,
+        Call::Insert(..) => Some(Aim::Insert),
+        Call::Upsert(..) => Some(Aim::Upsert),
+        Call::Exchange(_, expected, _) => aim_where(*expected, held, Aim::Upsert),
+        Call::Remove(_) => Some(Aim::Remove),
+        Call::RemoveIf(_, expected) => aim_where(*expected, held, Aim::Remove),
+    }
+}
+
+/// The aim of a call that expects a value, if its key has it.
+fn aim_where(expected: u64, held: Option<u64>, aim: Aim) -> Option<Aim>
+    ensures { result ≡ the_aim_where expected held aim }
+{
+    match held {
+        Some(held) if held == expected => Some(aim),
+        _ => None,
+    }
+}
+
+/// The reply to a call whose key has this value, or none.
+pub(crate) fn reply_to(call: &Call, held: Option<u64>) -> Reply
+    ensures { result ≡ the_reply call.now held }
+{
+    match (call, held) {
+        (Call::Insert(..), None) => Reply::Inserted,
+        (Call::Insert(..), Some(held)) => Reply::Exists(held),
+        (Call::Upsert(..), None) => Reply::New,
+        (Call::Upsert(..), Some(held)) => Reply::Was(held),
+        (Call::Exchange(..), None) => Reply::Absent,
+        (Call::Exchange(_, expected, _), Some(held)) if held == *expected => Reply::Exchanged,
+        (Call::Exchange(..), Some(held)) => Reply::Differs(held),
+        (Call::Get(_), None) => Reply::Absent,
+        (Call::Get(_), Some(held)) => Reply::Value(held),
+        (Call::Remove(_), None) => Reply::Absent,
+        (Call::Remove(_), Some(held)) => Reply::Removed(held),
+        (Call::RemoveIf(..), None) => Reply::Absent,
+        (Call::RemoveIf(_, expected), Some(held)) if held == *expected => Reply::Removed(held),
+        (Call::RemoveIf(..), Some(held)) => Reply::Differs(held),
     }
 }

@@ -1,32 +1,31 @@
 //! One attempt of a call that may change the index, from a pinned pass that has nothing to one that has nothing.
 
-ghost use Rattle.std.specs.Prelude.{◌≡◌, ◌≢◌, ◌⊎◌, ◌<◌, ◌≤◌, ℕ, length, true, false, IfErr, IfOk, IsSome, Err, None, Ok, ◌+◌, ◌*◌};
+ghost use Rattle.std.specs.Prelude.{◌≡◌, ◌≢◌, ◌⊎◌, ◌<◌, ◌≤◌, ℕ, length, true, false, IfErr, IfOk, IsSome, Err, Ok, ◌+◌, ◌*◌};
+ghost use Rattle.finite_map.specs.Maps.{key_of as the_key};
 ghost use Rattle.rowex_core.specs.declared.known.Known.{Known};
 ghost use Rattle.rowex_reading.specs.Possible.{IsPossible};
 ghost use Rattle.rowex_rights.specs.Ending.{IsAtRest};
 ghost use Rattle.rowex_table.specs.Made.{IsLater};
 ghost use Rattle.rowex_table.specs.Seats.{IsSeatOf};
-ghost use Rattle.rowex_writing.specs.Asking.{aim_of as the_aim};
-ghost use Rattle.rowex_writing.specs.Attempts.{HasAnswered, HasAttempted, HasDone, HasLoadedRoot, HasRefused, refusal_of as the_refusal, reply_to as the_reply};
+ghost use Rattle.rowex_writing.specs.Attempts.{HasAnswered, HasAttempted, HasDone, HasLoadedRoot, HasRefused, IsLeafless, refusal_of as the_refusal};
 ghost use Rattle.rowex_writing.specs.Changes.{HasNoRoom, HasPlanned, HasRun, HasTakenPlan, HasTakenSpan, HasTriedOnce};
 ghost use Rattle.rowex_writing.specs.Jobs.{IsJobFrom, IsWithinWay};
 ghost use Rattle.rowex_writing.specs.Locks.{HasMadeNoChange, HasMetLock, locks_of};
 ghost use Rattle.rowex_writing.specs.Counts.{change_steps, most_locks, most_steps, span_steps};
 ghost use Rattle.record_words.specs.declared.TheConstants.{HEAD_WORDS};
 
-use crate::asking::{aim_of, declined};
+use crate::asking::{aim_of, key_of, reply_to, value_in, value_of};
 use crate::building::Build;
 use crate::checking::check_span;
 use crate::deeds::{Job, carry_out};
 use crate::ending::undo;
 use crate::finding::find_plan;
 use crate::locks::lock_span;
-use crate::plan::{Aim, Ask, Deed, Full, Plan};
+use crate::plan::{Deed, Full, Plan};
 use crate::publishing::publish_change;
 use arrayvec::ArrayVec;
-use finite_map::Reply;
+use finite_map::{Call, Reply};
 use insert_cases::Step;
-use key_bits::Key;
 use rowex_core::Gate;
 use rowex_reading::{Found, MOST_NODES, search_way};
 use rowex_table::{HotTable, TableSeat};
@@ -57,9 +56,7 @@ pub fn attempt<G: Gate>(
     gate: &mut G,
     way: &mut ArrayVec<Step, MOST_NODES>,
     build: &mut Build,
-    ask: Ask,
-    key: &Key,
-    value: u64,
+    call: &Call,
 ) -> Result<Reply, TryFault>
     requires own { IsSeatOf table.now seat.old }
     requires pinned { IsSome seat.old.known.pin }
@@ -68,28 +65,30 @@ pub fn attempt<G: Gate>(
     ensures run { HasAttempted table.now G.becomes (seat.old, gate.old) (seat.new, gate.new) }
     ensures loaded { HasLoadedRoot seat.old.known seat.new.known }
     ensures rest { IsAtRest seat.new.known }
-    ensures answered { IfOk result (HasAnswered seat.old.known seat.new.known ask key.now value) }
-    ensures refused { IfErr result (HasRefused table.now.layout key.now seat.old.known seat.new.known) }
-    ensures leafless { the_aim ask ≡ Aim.Remove → result ≢ Err TryFault.FullLeaves }
+    ensures answered { IfOk result (HasAnswered seat.old.known seat.new.known call.now) }
+    ensures refused { IfErr result (HasRefused table.now.layout (the_key call.now) seat.old.known seat.new.known) }
+    ensures leafless { IsLeafless TryFault.FullLeaves call.now result }
     ensures few { seat.new.known.steps ≤ seat.old.known.steps + most_steps table.now.layout }
 {
+    let key = key_of(call);
     let found = search_way(table, seat, gate, key, way);
-    if let Some(reply) = declined(ask, found) {
-        return Ok(reply);
-    }
+    let held = value_of(found);
+    let Some(aim) = aim_of(call, held) else {
+        return Ok(reply_to(call, held));
+    };
     let way = way.as_slice();
-    match find_plan(table, seat, gate, way, aim_of(ask), found) {
+    match find_plan(table, seat, gate, way, aim, found) {
         Plan::Answer(reply) => Ok(reply),
         Plan::Change { span, deed } => {
             let job = Job {
                 way,
                 key,
-                value,
+                value: value_in(call),
                 found,
                 span,
             };
             match try_change(table, seat, gate, build, &job, deed) {
-                Ok(()) => Ok(reply_to(ask, found)),
+                Ok(()) => Ok(reply_to(call, held)),
                 Err(fault) => Err(fault),
             }
         }
@@ -182,29 +181,6 @@ fn make_change<G: Gate>(
             undo(table, seat, gate, build.made.as_slice(), job.way, job.span);
             Err(full)
         }
-    }
-}
-
-/// The reply of a call that has made its change.
-fn reply_to(ask: Ask, found: Found) -> Reply
-    ensures { result ≡ the_reply ask found }
-{
-    match ask {
-        Ask::Insert => Reply::Inserted,
-        Ask::Upsert => match found {
-            Found::Leaf {
-                value,
-                mismatch: None,
-                ..
-            } => Reply::Was(value),
-            _ => Reply::New,
-        },
-        Ask::Exchange(_) => Reply::Exchanged,
-        Ask::Remove => match found {
-            Found::Leaf { value, .. } => Reply::Removed(value),
-            Found::Nothing => Reply::Absent,
-        },
-        Ask::RemoveIf(expected) => Reply::Removed(expected),
     }
 }
 

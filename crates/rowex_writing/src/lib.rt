@@ -23,5 +23,5 @@ mod walking;
 
 pub use attempts::{TryFault, attempt};
 pub use building::Build;
-pub use plan::{Aim, Ask, Full};
+pub use plan::Full;
 pub use supply::Supply;

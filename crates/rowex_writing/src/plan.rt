@@ -9,24 +9,9 @@ use insert_cases::{Case, Step, chain_end, choose, level_below};
 use rowex_reading::Found;
 use thiserror::Error;
 
-/// What a call asks for.
-#[derive(Clone, Copy)]
-pub enum Ask {
-    /// The key with the value, if it is absent.
-    Insert,
-    /// The key with the value, whatever it had.
-    Upsert,
-    /// The key with the value, if it has this one.
-    Exchange(u64),
-    /// The key's end.
-    Remove,
-    /// The key's end, if it has this value.
-    RemoveIf(u64),
-}
-
 /// What a call aims at, once its key is known to have the value that it expects, if it expects one.
 #[derive(Clone, Copy)]
-pub enum Aim {
+pub(crate) enum Aim {
     /// The key with the value, if it is absent.
     Insert,
     /// The key with the value, whatever it had.

@@ -1,17 +1,18 @@
 -- What an attempt to change the map leaves: it is noted where it was answered, and has changed nothing where it was refused.
-use Rattle.std.proofs.Common.{◌≡◌, ◌≢◌, ◌⊎◌, inl, inr, ⊎_elim, ℕ, ◌+◌, ◌-◌, ◌<◌, ◌≤◌, List, [], ◌∷◌, ◌++◌, length, take, true, false, Option, Some, None, IsSome, Result, Ok, Err, refl, sym, ap, subst, ◌∙◌, arith, le_trans, length-append}
-use Rattle.std.specs.Prelude.{All, IfOk, IfErr, MatchResult, is_some}
-use Rattle.std.proofs.lemmas.Bool.{eq-eqb, ne_eqb}
+use Rattle.std.proofs.Common.{◌≡◌, ◌≢◌, ◌⊎◌, inl, inr, ⊎_elim, ℕ, ◌+◌, ◌-◌, ◌<◌, ◌≤◌, List, [], ◌∷◌, ◌++◌, length, take, Bool, true, false, Option, Some, None, IsSome, Result, Ok, Err, refl, sym, ap, subst, ◌∙◌, arith, le_trans, length-append}
+use Rattle.std.specs.Prelude.{All, IfOk, IfErr, MatchResult, is_some, nat_eq}
+use Rattle.std.specs.Option.{option_map}
 use Rattle.std.proofs.lemmas.List.Elements.{All-head, All-tail}
 use Rattle.finite_map.specs.declared.Call.{Call}
-use Rattle.finite_map.specs.declared.Call.TheVariants.{Get, Insert as InsertCall, Upsert as UpsertCall, Exchange as ExchangeCall, Remove as RemoveCall, RemoveIf as RemoveIfCall}
+use Rattle.finite_map.specs.declared.Call.TheVariants.{Insert, Upsert, Exchange, Get, Remove, RemoveIf}
 use Rattle.finite_map.specs.declared.Change.{Change}
+use Rattle.finite_map.specs.declared.Kind.{Kind}
 use Rattle.finite_map.specs.declared.Note.{Note}
 use Rattle.finite_map.specs.declared.Reply.{Reply}
-use Rattle.finite_map.specs.declared.Reply.TheVariants.{Inserted, Exists, New, Was, Exchanged, Differs, Absent, Removed}
+use Rattle.finite_map.specs.declared.Reply.TheVariants.{Exchanged, Removed}
 use Rattle.finite_map.specs.Calls.{LegalCalls, change_of, effect_of}
 use Rattle.finite_map.specs.Fronts.{BeginsWith, LegalFront, OthersGoOn, map_of}
-use Rattle.finite_map.specs.Maps.{Map, key_of, reply_of, step_if, step_where, value_at, with_value, without}
+use Rattle.finite_map.specs.Maps.{Map, key_of, reply_of, step_if, step_where, value_at}
 use Rattle.finite_map.proofs.Growth.{begins_on, legal_front_part}
 use Rattle.finite_map.proofs.Legal.{legal_change, legal_longer}
 use Rattle.record_words.specs.declared.layout.Layout.{Layout}
@@ -34,22 +35,19 @@ use Rattle.rowex_table.proofs.Running.{runs_same}
 use Rattle.rowex_records.specs.Claims.{AllMissed, HasMissed}
 use Rattle.rowex_rights.specs.Ending.{IsAtRest}
 use Rattle.epochs.specs.Runs.{Pins}
-use Rattle.rowex_writing.specs.Asking.{aim_of}
+use Rattle.rowex_writing.specs.Asking.{reply_to}
 use Rattle.rowex_writing.specs.Attempts as tries
-use Rattle.rowex_writing.specs.Attempts.{HasAnswered, HasLoadedRoot, HasRefused, IsChangeOf, asked_call}
+use Rattle.rowex_writing.specs.Attempts.{HasAnswered, HasLoadedRoot, HasRefused, IsChangeOf, IsLeafless}
 use Rattle.rowex_writing.specs.Changes.{HasChanged, HasTried}
 use Rattle.rowex_writing.specs.Locks.{HasMetLock, HasMetTaken}
-use Rattle.rowex_writing.specs.declared.plan.Aim.TheVariants.{Remove as ToRemove}
-use Rattle.rowex_writing.specs.declared.plan.Ask.{Ask}
 use Rattle.rowex_writing.specs.declared.plan.Full.{Full}
-use Rattle.rowex_writing.specs.declared.plan.Full.TheVariants.{Leaves as OfLeaves}
-use Rattle.rowex_writing.specs.declared.plan.Ask.TheVariants.{Insert, Upsert, Exchange, Remove, RemoveIf}
+use Rattle.rowex_writing.specs.declared.plan.Full.TheVariants.{Nodes as OfNodes, Leaves as OfLeaves}
 use Rattle.rowex_writing.specs.declared.attempts.TryFault.{TryFault}
 use Rattle.rowex_writing.specs.declared.attempts.TryFault.TheVariants.{Busy, FullNodes, FullLeaves}
 use Rattle.epochs.specs.Rounds.{IsRound}
-use Rattle.seat_calls.specs.Answers.{IsCause, IsLeafless, IsNoted, IsRefused, IsUnnoted, fault_of}
+use Rattle.seat_calls.specs.Answers.{IsCause, IsNoted, IsRefused, IsUnnoted, MayLack, MayRefuse, fault_of}
 use Rattle.seat_calls.specs.Asked.{HasAsked, HasReplied, last_try}
-use Rattle.seat_calls.specs.Calls.{IsAwaited, IsTriedWith}
+use Rattle.seat_calls.specs.Calls.{IsAwaited, IsTriedWith, MakesSteps, MakesStepsWith}
 use Rattle.seat_calls.specs.Counts.{once_steps, try_steps, twice_steps}
 use Rattle.seat_calls.specs.Noting.{change_notes, place_by}
 use Rattle.seat_calls.specs.Passes.{IsSettled, Owns, PassView, pass_of}
@@ -58,40 +56,41 @@ use Rattle.seat_calls.proofs.Noting.{HasGoneOn, HasLooked, WasRight, event_maker
 use Rattle.seat_calls.proofs.Conflicts.{conflict_on, overtaken}
 use Rattle.seat_calls.proofs.Collected.{round_unnoted, small_few, small_later, small_unnoted}
 use Rattle.seat_calls.proofs.Scanned.{scan_refused, scan_settled}
-use Rattle.seat_calls.proofs.Tracing.{ended_once, ended_tidied, has_made, has_told, made_untold}
+use Rattle.seat_calls.proofs.Tracing.{ended_once, ended_tidied, got_untold, has_made, has_told, made_untold}
 
 -- Replies
 
+-- a call that expects a value replies so, whatever else the map holds
+either_reply : (b : Bool) (m n : Map) (held : ℕ) (p q : Map) (reply : Reply) → (step_if b m held (p, reply)).1 ≡ (step_if b n held (q, reply)).1
+either_reply true m n held p q reply = refl
+either_reply false m n held p q reply = refl
+
+any_map : (call : Call) (held : Option ℕ) (m : Map) → (step_where held m call).1 ≡ reply_to call held
+any_map (Insert key value) None m = refl
+any_map (Insert key value) (Some held) m = refl
+any_map (Upsert key value) None m = refl
+any_map (Upsert key value) (Some held) m = refl
+any_map (Exchange key expected value) None m = refl
+any_map (Exchange key expected value) (Some held) m = either_reply (nat_eq held expected) m [] held _ _ Exchanged
+any_map (Get key) None m = refl
+any_map (Get key) (Some held) m = refl
+any_map (Remove key) None m = refl
+any_map (Remove key) (Some held) m = refl
+any_map (RemoveIf key expected) None m = refl
+any_map (RemoveIf key expected) (Some held) m = either_reply (nat_eq held expected) m [] held _ _ (Removed held)
+
+-- the reply of a map that holds this for the call's key
+replies_so : (call : Call) (m : Map) (held : Option ℕ) → value_at m (key_of call) ≡ held → reply_of m call ≡ reply_to call held
+replies_so call m held e = ap (λ h. (step_where h m call).1) e ∙ any_map call held m
+
 -- what an attempt found that changed nothing was right
-looked_right : (j : Known) (ask : Ask) (key : Key) (value : ℕ) (reply : Reply) → tries.HasLooked j ask key reply → (c : Core) → IsLawful c → Recalls c j →
-    WasRight j (asked_call ask key value) reply
-looked_right j Insert key value (Exists held) h c l r =
-    let f = found_had j key (Some held) h c l r in (f.0, f.1, f.2, ap (λ z. (step_where z (map_of (take f.0 j.front)) (InsertCall key value)).1) f.3)
-looked_right j (Exchange e) key value (Differs held) h c l r =
-    let f = found_had j key (Some held) h.0 c l r in
-    let m = map_of (take f.0 j.front) in
-    (f.0, f.1, f.2, ap (λ z. (step_where z m (ExchangeCall key e value)).1) f.3 ∙ ap (λ b. (step_if b m held (with_value m key value, Exchanged)).1) (ne_eqb held e h.1))
-looked_right j (Exchange e) key value Absent h c l r =
-    let f = found_had j key None h c l r in (f.0, f.1, f.2, ap (λ z. (step_where z (map_of (take f.0 j.front)) (ExchangeCall key e value)).1) f.3)
-looked_right j (RemoveIf e) key value (Differs held) h c l r =
-    let f = found_had j key (Some held) h.0 c l r in
-    let m = map_of (take f.0 j.front) in
-    (f.0, f.1, f.2, ap (λ z. (step_where z m (RemoveIfCall key e)).1) f.3 ∙ ap (λ b. (step_if b m held (without m key, Removed held)).1) (ne_eqb held e h.1))
-looked_right j (RemoveIf e) key value Absent h c l r =
-    let f = found_had j key None h c l r in (f.0, f.1, f.2, ap (λ z. (step_where z (map_of (take f.0 j.front)) (RemoveIfCall key e)).1) f.3)
-looked_right j Remove key value Absent h c l r =
-    let f = found_had j key None h c l r in (f.0, f.1, f.2, ap (λ z. (step_where z (map_of (take f.0 j.front)) (RemoveCall key)).1) f.3)
-looked_right j _ key value _ h c l r = absurd h
+looked_right : (j : Known) (call : Call) (reply : Reply) → tries.HasLooked j call reply → (c : Core) → IsLawful c → Recalls c j → WasRight j call reply
+looked_right j call reply (held, found, is, quiet) c l r =
+    let f = found_had j (key_of call) held found c l r in (f.0, f.1, f.2, replies_so call (map_of (take f.0 j.front)) held f.3 ∙ sym is)
 
 -- and its call told of no change
-looked_quiet : (j : Known) (ask : Ask) (key : Key) (value : ℕ) (reply : Reply) → tries.HasLooked j ask key reply → is_some (effect_of (asked_call ask key value) reply) ≡ false
-looked_quiet j Insert key value (Exists held) h = refl
-looked_quiet j (Exchange e) key value (Differs held) h = refl
-looked_quiet j (Exchange e) key value Absent h = refl
-looked_quiet j Remove key value Absent h = refl
-looked_quiet j (RemoveIf e) key value (Differs held) h = refl
-looked_quiet j (RemoveIf e) key value Absent h = refl
-looked_quiet j _ key value _ h = absurd h
+looked_quiet : (j : Known) (call : Call) (reply : Reply) → tries.HasLooked j call reply → is_some (effect_of call reply) ≡ false
+looked_quiet j call reply (held, found, is, quiet) = ap is_some quiet
 
 -- The call with this reply tells of the change x, and a map where the key has this value, or none, replies so.
 record Tells (q : ℕ) (call : Call) (reply : Reply) (x : Change) (was : Option ℕ) : Type 0 where
@@ -99,44 +98,21 @@ record Tells (q : ℕ) (call : Call) (reply : Reply) (x : Change) (was : Option 
   change : (n : ℕ) → change_of q (record { place = n; call = call; reply = reply }) ≡ Some x
   right : (m : Map) → value_at m x.key ≡ was → reply ≡ reply_of m call
 
--- where the map holds this for the change's key, it holds it for the call's
-held_for : (m : Map) (x : Change) (key : Key) (was held : Option ℕ) → x.key ≡ key → was ≡ held → value_at m x.key ≡ was → value_at m key ≡ held
-held_for m x key was held same is e = ap (λ (k : Key). value_at m k) (sym same) ∙ (e ∙ is)
+-- a change is told of where there is an effect, and it is one of the call's key
+is_effect : {A B : Type 0} (f : A → B) (o : Option A) (b : B) → option_map f o ≡ Some b → is_some o ≡ true
+is_effect f None b e = absurd (cc)
+is_effect f (Some a) b e = refl
 
-change_told : (q : ℕ) (ask : Ask) (key : Key) (value : ℕ) (reply : Reply) (x : Change) (was : Option ℕ) → IsChangeOf q ask key value reply x was → Tells q (asked_call ask key value) reply x was
-change_told q Insert key value Inserted x was h = record {
-  changed = refl;
-  change = λ n. ap Some (sym h.0);
-  right = λ m e. sym (ap (λ z. (step_where z m (InsertCall key value)).1) (held_for m x key was None (ap (λ (z : Change). z.key) h.0) h.1 e));
+change_key : (q : ℕ) (call : Call) (o : Option (Kind × ℕ)) (x : Change) → option_map (λ effect. record { pass = q; key = key_of call; value = effect.1; kind = effect.0 }) o ≡ Some x → x.key ≡ key_of call
+change_key q call None x e = absurd (cc)
+change_key q call (Some effect) x e = let same : Some (key_of call) ≡ Some x.key = ap (option_map (λ (c : Change). c.key)) e in cc
+
+change_told : (q : ℕ) (call : Call) (reply : Reply) (x : Change) (was : Option ℕ) → IsChangeOf q call reply x was → Tells q call reply x was
+change_told q call reply x was (is, told) = record {
+  changed = is_effect _ (effect_of call reply) x told;
+  change = λ n. told;
+  right = λ m e. is ∙ sym (replies_so call m was (ap (λ (k : Key). value_at m k) (sym (change_key q call (effect_of call reply) x told)) ∙ e));
 }
-change_told q Upsert key value New x was h = record {
-  changed = refl;
-  change = λ n. ap Some (sym h.0);
-  right = λ m e. sym (ap (λ z. (step_where z m (UpsertCall key value)).1) (held_for m x key was None (ap (λ (z : Change). z.key) h.0) h.1 e));
-}
-change_told q Upsert key value (Was held) x was h = record {
-  changed = refl;
-  change = λ n. ap Some (sym h.0);
-  right = λ m e. sym (ap (λ z. (step_where z m (UpsertCall key value)).1) (held_for m x key was (Some held) (ap (λ (z : Change). z.key) h.0) h.1 e));
-}
-change_told q Remove key value (Removed held) x was h = record {
-  changed = refl;
-  change = λ n. ap Some (sym h.0);
-  right = λ m e. sym (ap (λ z. (step_where z m (RemoveCall key)).1) (held_for m x key was (Some held) (ap (λ (z : Change). z.key) h.0) h.1 e));
-}
-change_told q (Exchange e) key value Exchanged x was h = record {
-  changed = refl;
-  change = λ n. ap Some (sym h.0);
-  right = λ m is. sym (ap (λ z. (step_where z m (ExchangeCall key e value)).1) (held_for m x key was (Some e) (ap (λ (z : Change). z.key) h.0) h.1 is)
-      ∙ ap (λ b. (step_if b m e (with_value m key value, Exchanged)).1) (eq-eqb e e refl));
-}
-change_told q (RemoveIf e) key value (Removed held) x was h = record {
-  changed = refl;
-  change = λ n. ap Some (sym h.0);
-  right = λ m is. sym (ap (λ z. (step_where z m (RemoveIfCall key e)).1) (held_for m x key was (Some held) (ap (λ (z : Change). z.key) h.0) h.1 is)
-      ∙ ap (λ b. (step_if b m held (without m key, Removed held)).1) (eq-eqb held e h.2));
-}
-change_told q _ key value _ x was h = absurd h
 
 -- The note of a change
 
@@ -295,14 +271,6 @@ waited_out table s m t call r (inl none) last = record {
 waited_out table s m t call r (inr some) last =
     let both = outcome_then table.layout (pass_of s) (pass_of m) (pass_of t) some.0 some.1 call r last.noted last.refused in record { idle = last.idle; noted = both.0; refused = both.1; leafless = last.leafless; loaded = le_trans some.1 last.loaded }
 
--- a call is of the key that it is asked with
-called_key : (ask : Ask) (key : Key) (value : ℕ) → key_of (asked_call ask key value) ≡ key
-called_key Insert key value = refl
-called_key Upsert key value = refl
-called_key (Exchange e) key value = refl
-called_key Remove key value = refl
-called_key (RemoveIf e) key value = refl
-
 -- An attempt
 
 module _ {G : Type 0} (table : TableView) (becomes : G → Event → G → Type 0) where
@@ -363,23 +331,21 @@ module _ {G : Type 0} {table : TableView} {becomes : G → Event → G → Type 
   Leaves call r = (IfOk r (IsNoted table.layout (pass_of a.0) (pass_of d.0) call) × IfErr r (IsRefused table.layout call (pass_of a.0) (pass_of d.0))) × IsSettled d.0.known
 
   -- it found that nothing was to change
-  when_looked : (ask : Ask) (key : Key) (value : ℕ) (reply : Reply) → tries.HasLooked c.0.known ask key reply → OthersGoOn b.0.known.pass b.0.known.front c.0.known.front →
-      IsEvent table.layout ClearPin (change_notes {F = TryFault} (asked_call ask key value) (Ok reply)) c.0.known d.0.known → Leaves (asked_call ask key value) (Ok reply)
-  when_looked ask key value reply found h event =
-      let call = asked_call ask key value in
-      let no = looked_quiet c.0.known ask key value reply found in
+  when_looked : (call : Call) (reply : Reply) → tries.HasLooked c.0.known call reply → OthersGoOn b.0.known.pass b.0.known.front c.0.known.front →
+      IsEvent table.layout ClearPin (change_notes {F = TryFault} call (Ok reply)) c.0.known d.0.known → Leaves call (Ok reply)
+  when_looked call reply found h event =
+      let no = looked_quiet c.0.known call reply found in
       let silent : change_notes {F = TryFault} call (Ok reply) ≡ note_of call reply = ap (λ t k. record { place = place_by t call reply k; call = call; reply = reply } ∷ []) no in
       let n =
       noted table.layout call reply a.0 c.0.known d.0 settled (quiet h) (subst (λ s. IsEvent table.layout ClearPin s c.0.known d.0.known) silent event)
-      (looked_right c.0.known ask key value reply found) (λ p. no) in
+      (looked_right c.0.known call reply found) (λ p. no) in
       ((n.0, tt), n.1)
 
   -- it made its change
-  when_changed : (ask : Ask) (key : Key) (value : ℕ) (reply : Reply) (x : Change) (was : Option ℕ) → IsChangeOf b.0.known.pass ask key value reply x was → HasChanged b.0.known c.0.known x was →
-      IsEvent table.layout ClearPin (change_notes {F = TryFault} (asked_call ask key value) (Ok reply)) c.0.known d.0.known → Leaves (asked_call ask key value) (Ok reply)
-  when_changed ask key value reply x was is changed event =
-      let call = asked_call ask key value in
-      let tells = change_told a.0.known.pass ask key value reply x was (subst (λ q. IsChangeOf q ask key value reply x was) same_pass is) in
+  when_changed : (call : Call) (reply : Reply) (x : Change) (was : Option ℕ) → IsChangeOf b.0.known.pass call reply x was → HasChanged b.0.known c.0.known x was →
+      IsEvent table.layout ClearPin (change_notes {F = TryFault} call (Ok reply)) c.0.known d.0.known → Leaves call (Ok reply)
+  when_changed call reply x was is changed event =
+      let tells = change_told a.0.known.pass call reply x was (subst (λ q. IsChangeOf q call reply x was) same_pass is) in
       let last : change_notes {F = TryFault} call (Ok reply) ≡ note_last call reply = ap (λ t k. record { place = place_by t call reply k; call = call; reply = reply } ∷ []) tells.changed in
       let n =
       change_noted table.layout call reply a.0 c.0.known d.0 x was changed.before settled gone_on (subst (λ s. IsEvent table.layout ClearPin s c.0.known d.0.known) last event)
@@ -418,11 +384,11 @@ module _ {G : Type 0} {table : TableView} {becomes : G → Event → G → Type 
           (ap (λ (z : Known). z.front) event.learned_is) (ap (λ (z : Known). z.fresh) event.learned_is) (cause_seen (key_of call) fault event h.others h.cause)
 
   -- whatever came of it
-  pub tried : (ask : Ask) (key : Key) (value : ℕ) (r : Result Reply TryFault) → IfOk r (HasAnswered b.0.known c.0.known ask key value) → IfErr r (HasRefused table.layout key b.0.known c.0.known) →
-      StepsWith table becomes ClearPin (change_notes (asked_call ask key value) r) c d → Leaves (asked_call ask key value) r
-  tried ask key value (Ok reply) (inl looked) refused step = when_looked ask key value reply looked.0 looked.1 step.event
-  tried ask key value (Ok reply) (inr (x, was, is, changed)) refused step = when_changed ask key value reply x was is changed step.event
-  tried ask key value (Err fault) answered refused step = when_refused (asked_call ask key value) fault (subst (λ z. HasRefused table.layout z b.0.known c.0.known fault) (sym (called_key ask key value)) refused) step.event
+  pub tried : (call : Call) (r : Result Reply TryFault) → IfOk r (HasAnswered b.0.known c.0.known call) → IfErr r (HasRefused table.layout (key_of call) b.0.known c.0.known) →
+      StepsWith table becomes ClearPin (change_notes call r) c d → Leaves call r
+  tried call (Ok reply) (inl looked) refused step = when_looked call reply looked.0 looked.1 step.event
+  tried call (Ok reply) (inr (x, was, is, changed)) refused step = when_changed call reply x was is changed step.event
+  tried call (Err fault) answered refused step = when_refused call fault refused step.event
 
   -- it has loaded the root
   pub tried_loaded : {said : Known → List Note} → StepsWith table becomes ClearPin said c d → a.0.known.steps ≤ d.0.known.fresh.step
@@ -434,25 +400,84 @@ module _ {G : Type 0} {table : TableView} {becomes : G → Event → G → Type 
       let cleared : d.0.known.steps ≡ c.0.known.steps + 1 = ap (λ (z : Known). z.steps) step.event.learned_is in
       omega (arith, counted, loaded.from, loaded.upto, cleared)
 
--- a removal that is never full of leaves
-pub leafless_asked : {F : Type 0} (leaves : F) (ask : Ask) (key : Key) (value : ℕ) (r : Result Reply F) → (aim_of ask ≡ ToRemove → r ≢ Err leaves) → IsLeafless leaves (asked_call ask key value) r
-leafless_asked leaves Insert key value r h = tt
-leafless_asked leaves Upsert key value r h = tt
-leafless_asked leaves (Exchange expected) key value r h = tt
-leafless_asked leaves Remove key value r h = h refl
-leafless_asked leaves (RemoveIf expected) key value r h = h refl
-
 waited_leafless : (call : Call) (r : Result Reply Full) → IsLeafless FullLeaves call (last_try r) → IsLeafless OfLeaves call r
 waited_leafless (Get key) r h = tt
-waited_leafless (InsertCall key value) r h = tt
-waited_leafless (UpsertCall key value) r h = tt
-waited_leafless (ExchangeCall key expected value) r h = tt
-waited_leafless (RemoveCall key) r h = λ is. h (ap last_try is)
-waited_leafless (RemoveIfCall key expected) r h = λ is. h (ap last_try is)
+waited_leafless (Insert key value) r h = tt
+waited_leafless (Upsert key value) r h = tt
+waited_leafless (Exchange key expected value) r h = tt
+waited_leafless (Remove key) r h = λ is. h (ap last_try is)
+waited_leafless (RemoveIf key expected) r h = λ is. h (ap last_try is)
 
 -- nobody need be told
 pub tried_untold : {G : Type 0} {call : Call} {r : Result Reply TryFault} {index : TableView} {becomes : G → Event → G → Type 0} {a b : PassView × G} → IsTriedWith call r index becomes a b → IsTriedWith call r index untold (a.0, tt) (b.0, tt)
 tried_untold x = record { own = x.own; call = x.call; made = made_untold _ _ _ _ _ x.made; leafless = x.leafless }
+
+-- a call that is no get is refused where it may be
+may : (call : Call) (fault : TryFault) → ((key : Key) → call ≢ Get key) → IsLeafless FullLeaves call (Err fault) → MayRefuse call fault
+may (Insert key value) fault change h = tt
+may (Upsert key value) fault change h = tt
+may (Exchange key expected value) fault change h = tt
+may (Get key) fault change h = absurd (change key refl)
+may (Remove key) Busy change h = tt
+may (Remove key) FullNodes change h = tt
+may (Remove key) FullLeaves change h = h refl
+may (RemoveIf key expected) Busy change h = tt
+may (RemoveIf key expected) FullNodes change h = tt
+may (RemoveIf key expected) FullLeaves change h = h refl
+
+pub may_refuse : (call : Call) (r : Result Reply TryFault) → ((key : Key) → call ≢ Get key) → IsLeafless FullLeaves call r → IfErr r (MayRefuse call)
+may_refuse call (Ok reply) change h = tt
+may_refuse call (Err fault) change h = may call fault change h
+
+-- and lacks then what it may lack
+lacks : (call : Call) (full : Full) → MayRefuse call (fault_of full) → MayLack call full
+lacks (Insert key value) full h = tt
+lacks (Upsert key value) full h = tt
+lacks (Exchange key expected value) full h = tt
+lacks (Get key) full h = h
+lacks (Remove key) OfNodes h = tt
+lacks (Remove key) OfLeaves h = h
+lacks (RemoveIf key expected) OfNodes h = tt
+lacks (RemoveIf key expected) OfLeaves h = h
+
+pub may_lack : (call : Call) (r : Result Reply TryFault) → IfErr r (MayRefuse call) → IfErr r (λ fault. (full : Full) → fault ≡ fault_of full → MayLack call full)
+may_lack call (Ok reply) h = tt
+may_lack call (Err fault) h = λ full e. lacks call full (subst (MayRefuse call) e h)
+
+-- where it waits
+waits_lack : (call : Call) (full : Full) → ((key : Key) → call ≢ Get key) → IsLeafless OfLeaves call (Err full) → MayLack call full
+waits_lack (Insert key value) full change h = tt
+waits_lack (Upsert key value) full change h = tt
+waits_lack (Exchange key expected value) full change h = tt
+waits_lack (Get key) full change h = absurd (change key refl)
+waits_lack (Remove key) OfNodes change h = tt
+waits_lack (Remove key) OfLeaves change h = h refl
+waits_lack (RemoveIf key expected) OfNodes change h = tt
+waits_lack (RemoveIf key expected) OfLeaves change h = h refl
+
+pub waited_lacks : (call : Call) (r : Result Reply Full) → ((key : Key) → call ≢ Get key) → IsLeafless OfLeaves call r → IfErr r (MayLack call)
+waited_lacks call (Ok reply) change h = tt
+waited_lacks call (Err full) change h = waits_lack call full change h
+
+-- and its steps are a change's
+pub makes_steps : {G : Type 0} (call : Call) (r : Result Reply TryFault) (index : TableView) (becomes : G → Event → G → Type 0) (a b : PassView × G) → ((key : Key) → call ≢ Get key) →
+    HasMade index becomes r a b → MakesStepsWith call r index becomes a b
+makes_steps (Insert key value) r index becomes a b change made = made
+makes_steps (Upsert key value) r index becomes a b change made = made
+makes_steps (Exchange key expected value) r index becomes a b change made = made
+makes_steps (Get key) r index becomes a b change made = absurd (change key refl)
+makes_steps (Remove key) r index becomes a b change made = made
+makes_steps (RemoveIf key expected) r index becomes a b change made = made
+
+-- nobody need be told
+pub steps_untold : {G : Type 0} (call : Call) (r : Result Reply TryFault) (index : TableView) (becomes : G → Event → G → Type 0) (a b : PassView × G) → MakesStepsWith call r index becomes a b →
+    MakesSteps call r index a.0 b.0
+steps_untold (Get key) r index becomes a b made = got_untold index becomes a b made
+steps_untold (Insert key value) r index becomes a b made = made_untold index becomes r a b made
+steps_untold (Upsert key value) r index becomes a b made = made_untold index becomes r a b made
+steps_untold (Exchange key expected value) r index becomes a b made = made_untold index becomes r a b made
+steps_untold (Remove key) r index becomes a b made = made_untold index becomes r a b made
+steps_untold (RemoveIf key expected) r index becomes a b made = made_untold index becomes r a b made
 
 -- A call on the seat of a pass of an index, as the index and the pass see it.
 module _ {table index : TableView} {k : PassView} {s t : SeatView} {call : Call} (index_is : table ≡ index) (pass_is : pass_of s ≡ k) where

@@ -1,5 +1,5 @@
 -- What calls of an index say.
-use Rattle.std.specs.Prelude.{◌≡◌, ◌≢◌, ◌⊎◌, ℕ, ◌<◌, ◌≤◌, List, [], ◌∷◌, ◌++◌, length, slice_get, Bool, true, IsTrue, Option, Some, None, Result, Err}
+use Rattle.std.specs.Prelude.{◌≡◌, ◌≢◌, ◌⊎◌, ℕ, ◌<◌, ◌≤◌, List, [], ◌∷◌, ◌++◌, length, slice_get, Bool, true, IsTrue, Option, Some, None}
 use Rattle.std.specs.Option.{option_to_list}
 use Rattle.finite_map.specs.declared.Change.{Change}
 use Rattle.finite_map.specs.declared.Call.{Call}
@@ -148,11 +148,12 @@ MayLack (Remove key) Leaves = ⊥
 MayLack (RemoveIf key expected) Nodes = Unit {0}
 MayLack (RemoveIf key expected) Leaves = ⊥
 
--- a removal is never refused for want of a leaf record
-abbrev pub IsLeafless : {F : Type 0} → F → Call → Result Reply F → Type 0
-IsLeafless leaves (Remove key) result = result ≢ Err leaves
-IsLeafless leaves (RemoveIf key expected) result = result ≢ Err leaves
-IsLeafless leaves asked result = Unit {0}
+-- a call may be refused so: a get never, and neither removal for want of a leaf record
+abbrev pub MayRefuse : Call → TryFault → Type 0
+MayRefuse (Get key) fault = ⊥
+MayRefuse (Remove key) FullLeaves = ⊥
+MayRefuse (RemoveIf key expected) FullLeaves = ⊥
+MayRefuse call fault = Unit {0}
 
 -- Two passes have met: both have seen one list of changes, which begins with what each had seen; the calls of both are legal
 -- in it, and stand together in one sequential history.

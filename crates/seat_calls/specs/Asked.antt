@@ -6,10 +6,11 @@ use Rattle.rowex_core.specs.declared.event.Act.{Act}
 use Rattle.rowex_core.specs.declared.event.Event.{Event}
 use Rattle.rowex_table.specs.Runs.{silent}
 use Rattle.rowex_table.specs.Seats.{TableView, SeatView, IsSeatOf}
+use Rattle.rowex_writing.specs.Attempts.{IsLeafless}
 use Rattle.rowex_writing.specs.declared.attempts.TryFault.{TryFault}
 use Rattle.rowex_writing.specs.declared.attempts.TryFault.TheVariants.{FullLeaves}
 use Rattle.rowex_writing.specs.declared.plan.Full.{Full}
-use Rattle.seat_calls.specs.Answers.{IsLeafless, IsNoted, IsRefused, IsUnnoted, fault_of}
+use Rattle.seat_calls.specs.Answers.{IsNoted, IsRefused, IsUnnoted, fault_of}
 use Rattle.seat_calls.specs.Noting.{change_notes}
 use Rattle.seat_calls.specs.Passes.{IsSettled, pass_of}
 use Rattle.seat_calls.specs.Traces.{HasEnded, IsAttempt}

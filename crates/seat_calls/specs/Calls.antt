@@ -1,21 +1,23 @@
 -- What a call of an index ensures, each of its clauses a field by the clause's name.
-use Rattle.std.specs.Prelude.{◌+◌, ◌≤◌, ℕ, Bool, List, Result, MatchResult, IfOk, OnErr}
+use Rattle.std.specs.Prelude.{◌+◌, ◌≤◌, ℕ, Bool, List, Result, MatchResult, IfOk, IfErr, OnErr}
 use Rattle.finite_map.specs.declared.Call.{Call}
+use Rattle.finite_map.specs.declared.Call.TheVariants.{Get}
 use Rattle.finite_map.specs.declared.Reply.{Reply}
 use Rattle.finite_map.specs.declared.Scan.{Scan}
 use Rattle.finite_map.specs.Scans.{IsLawfulScan}
 use Rattle.record_words.specs.declared.layout.Layout.{Layout}
 use Rattle.rowex_core.specs.declared.event.Event.{Event}
 use Rattle.rowex_table.specs.Seats.{TableView}
+use Rattle.rowex_writing.specs.Attempts.{IsLeafless}
 use Rattle.rowex_writing.specs.declared.attempts.TryFault.{TryFault}
 use Rattle.rowex_writing.specs.declared.attempts.TryFault.TheVariants.{FullLeaves}
 use Rattle.rowex_writing.specs.declared.plan.Full.{Full}
 use Rattle.rowex_writing.specs.declared.plan.Full.TheVariants.{Leaves}
 use Rattle.tries.specs.Keys.{Key}
-use Rattle.seat_calls.specs.Answers.{HasFoundPair, IsLeafless, IsListedBy, IsListedInPartBy, IsNoted, IsRefused, IsScannedBy, IsUnnoted, ScanLaw, fault_of}
+use Rattle.seat_calls.specs.Answers.{HasFoundPair, IsListedBy, IsListedInPartBy, IsNoted, IsRefused, IsScannedBy, IsUnnoted, MayRefuse, ScanLaw, fault_of}
 use Rattle.seat_calls.specs.Counts.{scan_steps}
 use Rattle.seat_calls.specs.Passes.{Owns, PassView}
-use Rattle.seat_calls.specs.Traces.{HasGotRange, HasMade, untold}
+use Rattle.seat_calls.specs.Traces.{HasGot, HasGotRange, HasMade, untold}
 
 -- A change that doesn't wait was answered or refused, by these steps, of which the gate was told.
 pub record IsTriedWith {G : Type 0} (asked : Call) (result : Result Reply TryFault) (index : TableView) (becomes : G → Event → G → Type 0)
@@ -27,6 +29,21 @@ pub record IsTriedWith {G : Type 0} (asked : Call) (result : Result Reply TryFau
 
 abbrev pub IsTried : Call → Result Reply TryFault → TableView → PassView → PassView → Type 0
 IsTried asked result index k j = IsTriedWith asked result index untold (k, tt) (j, tt)
+
+-- The steps of a call with this outcome, so many at most, of which the gate was told: those of a get, or of a change's attempts and rounds.
+abbrev pub MakesStepsWith : {G : Type 0} → Call → Result Reply TryFault → TableView → (G → Event → G → Type 0) → PassView × G → PassView × G → Type 0
+MakesStepsWith (Get key) result index becomes a b = HasGot index becomes a b
+MakesStepsWith asked result index becomes a b = HasMade index becomes result a b
+
+abbrev pub MakesSteps : Call → Result Reply TryFault → TableView → PassView → PassView → Type 0
+MakesSteps asked result index k j = MakesStepsWith asked result index untold (k, tt) (j, tt)
+
+-- A call that doesn't wait, a get or a change, was answered, or refused where it may be, by its steps.
+pub record IsCallTried (asked : Call) (result : Result Reply TryFault) (index : TableView) (k j : PassView) : Type 0 where
+  pub own : Owns index j
+  pub call : MatchResult result (IsNoted index.layout k j asked) (IsRefused index.layout asked k j)
+  pub may : IfErr result (MayRefuse asked)
+  pub made : MakesSteps asked result index k j
 
 -- A change that waits was answered or refused.
 pub record IsAwaited (asked : Call) (result : Result Reply Full) (index : TableView) (k j : PassView) : Type 0 where

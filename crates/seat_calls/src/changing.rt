@@ -6,7 +6,6 @@ ghost use Rattle.rowex_core.specs.declared.event.Act.TheVariants.{ClearPin};
 ghost use Rattle.rowex_core.specs.declared.known.Known.{Known};
 ghost use Rattle.rowex_table.specs.Runs.{StepsWith};
 ghost use Rattle.rowex_table.specs.Seats.{IsPassOf};
-ghost use Rattle.rowex_writing.specs.Attempts.{asked_call};
 ghost use Rattle.seat_calls.specs.Answers.{fault_of};
 ghost use Rattle.seat_calls.specs.Asked.{HasAsked, HasReplied, HasRested, IsIdle, last_try};
 ghost use Rattle.seat_calls.specs.Counts.{once_steps, try_steps, twice_steps};
@@ -15,11 +14,10 @@ ghost use Rattle.seat_calls.specs.Traces.{AreAttempts, AreTries, HasStepped, IsA
 
 use crate::room::Room;
 use epochs::{Given, collect_round, collect_small, pin, unpin};
-use finite_map::Reply;
-use key_bits::Key;
+use finite_map::{Call, Reply};
 use rowex_core::Gate;
 use rowex_table::{HotTable, TableSeat};
-use rowex_writing::{Ask, Full, TryFault, attempt};
+use rowex_writing::{Full, TryFault, attempt};
 use std::sync::Wait;
 use std::thread;
 
@@ -29,15 +27,13 @@ pub fn try_change<G: Gate>(
     seat: &mut TableSeat,
     gate: &mut G,
     room: &mut Room,
-    ask: Ask,
-    key: &Key,
-    value: u64,
+    call: &Call,
 ) -> Result<Reply, TryFault>
     requires idle { IsIdle table.now seat.old }
-    ensures asked { HasAsked table.now G.becomes (AreAttempts table.now.layout result) (try_steps table.now.layout) (asked_call ask key.now value) result (seat.old, gate.old) (seat.new, gate.new) }
+    ensures asked { HasAsked table.now G.becomes (AreAttempts table.now.layout result) (try_steps table.now.layout) call.now result (seat.old, gate.old) (seat.new, gate.new) }
 {
     tidy(table, seat, gate, room);
-    try_twice(table, seat, gate, room, ask, key, value)
+    try_twice(table, seat, gate, room, call)
 }
 
 /// Makes a small round, if one is due.
@@ -60,14 +56,12 @@ fn try_twice<G: Gate>(
     seat: &mut TableSeat,
     gate: &mut G,
     room: &mut Room,
-    ask: Ask,
-    key: &Key,
-    value: u64,
+    call: &Call,
 ) -> Result<Reply, TryFault>
     requires idle { IsIdle table.now seat.old }
-    ensures asked { HasAsked table.now G.becomes (AreTries table.now.layout result) (twice_steps table.now.layout) (asked_call ask key.now value) result (seat.old, gate.old) (seat.new, gate.new) }
+    ensures asked { HasAsked table.now G.becomes (AreTries table.now.layout result) (twice_steps table.now.layout) call.now result (seat.old, gate.old) (seat.new, gate.new) }
 {
-    let first = try_once(table, seat, gate, room, ask, key, value);
+    let first = try_once(table, seat, gate, room, call);
     let Some(lacks) = lacked(first) else {
         return first;
     };
@@ -77,7 +71,7 @@ fn try_twice<G: Gate>(
     room.is_moving = round.held_back || may_be_taken(passes, count);
     room.pass_none_by();
     if has_room(passes, count) {
-        return try_once(table, seat, gate, room, ask, key, value);
+        return try_once(table, seat, gate, room, call);
     }
     refuse_again(table, seat, gate);
     first
@@ -130,16 +124,14 @@ pub fn change<R: Wait, G: Gate>(
     seat: &mut TableSeat,
     gate: &mut G,
     room: &mut Room,
-    ask: Ask,
-    key: &Key,
-    value: u64,
+    call: &Call,
 ) -> Result<Reply, Full>
     requires idle { IsIdle table.now seat.old }
-    ensures replied { HasReplied table.now (asked_call ask key.now value) (last_try result) seat.old seat.new }
-    ensures stepped { HasStepped table.now G.becomes (change_notes (asked_call ask key.now value) (last_try result)) (seat.old, gate.old) (seat.new, gate.new) }
+    ensures replied { HasReplied table.now call.now (last_try result) seat.old seat.new }
+    ensures stepped { HasStepped table.now G.becomes (change_notes call.now (last_try result)) (seat.old, gate.old) (seat.new, gate.new) }
 {
     for _ in rt.forever() {
-        match try_change(table, seat, gate, room, ask, key, value) {
+        match try_change(table, seat, gate, room, call) {
             Ok(reply) => return Ok(reply),
             Err(fault) => {
                 if let Some(full) = refusal(fault, room.is_moving) {
@@ -169,26 +161,15 @@ fn try_once<G: Gate>(
     seat: &mut TableSeat,
     gate: &mut G,
     room: &mut Room,
-    ask: Ask,
-    key: &Key,
-    value: u64,
+    call: &Call,
 ) -> Result<Reply, TryFault>
     requires idle { IsIdle table.now seat.old }
-    ensures asked { HasAsked table.now G.becomes (IsAttempt table.now.layout) (once_steps table.now.layout) (asked_call ask key.now value) result (seat.old, gate.old) (seat.new, gate.new) }
+    ensures asked { HasAsked table.now G.becomes (IsAttempt table.now.layout) (once_steps table.now.layout) call.now result (seat.old, gate.old) (seat.new, gate.new) }
 {
     room.build.gone.clear();
     pin(table, seat, gate);
-    let outcome = attempt(
-        table,
-        seat,
-        gate,
-        &mut room.way,
-        &mut room.build,
-        ask,
-        key,
-        value,
-    );
-    end_try(table, seat, gate, ask, key, value, outcome);
+    let outcome = attempt(table, seat, gate, &mut room.way, &mut room.build, call);
+    end_try(table, seat, gate, call, outcome);
     room.keep_gone(outcome.is_ok());
     outcome
 }
@@ -198,9 +179,7 @@ fn end_try<G: Gate>(
     table: &HotTable,
     seat: &mut TableSeat,
     gate: &mut G,
-    _ask: Ask,
-    _key: &Key,
-    _value: u64,
+    _call: &Call,
     _outcome: Result<Reply, TryFault>,
 )
     ghost said: { Known → List Note }

@@ -1,6 +1,5 @@
 -- The tries before were refused; what the last one leaves is what the whole call leaves.
 use Rattle.std.proofs.Common.{[], inl, Ok, Err, refl, subst}
-use Rattle.rowex_writing.specs.Attempts.{asked_call}
 use Rattle.seat_calls.specs.Answers.{fault_of}
 use Rattle.seat_calls.specs.Asked.{HasReplied}
 use Rattle.seat_calls.specs.Passes.{pass_of}
@@ -10,7 +9,7 @@ use Rattle.seat_calls.proofs.changing.change.Goals as goal
 
 pub returns-in-Ok-clause-replied : goal.returns-in-Ok-clause-replied
 returns-in-Ok-clause-replied g c =
-    waited_out c.args.table.now c.args.seat.now c.loop.seat c.try_change.new.seat (asked_call c.args.ask c.args.key.now c.args.value) (Ok c.in-Ok.reply) c.loop.invariant.waited c.in-Ok.ensures.asked.replied
+    waited_out c.args.table.now c.args.seat.now c.loop.seat c.try_change.new.seat c.args.call.now (Ok c.in-Ok.reply) c.loop.invariant.waited c.in-Ok.ensures.asked.replied
 
 pub loop-init : goal.loop-init
 loop-init g c = record { idle = c.requires.idle; waited = inl refl; ran = ([], refl) }
@@ -32,5 +31,5 @@ loop-preserved g c =
 
 pub returns-in-Some-refusal-clause-replied : goal.returns-in-Some-refusal-clause-replied
 returns-in-Some-refusal-clause-replied g c =
-    waited_out c.args.table.now c.args.seat.now c.loop.seat c.try_change.new.seat (asked_call c.args.ask c.args.key.now c.args.value) (Err (fault_of c.in-Some-refusal.full)) c.loop.invariant.waited
-    (subst (λ fault. HasReplied c.args.table.now (asked_call c.args.ask c.args.key.now c.args.value) (Err fault) c.loop.seat c.try_change.new.seat) c.in-Some-refusal.ensures c.in-Err.ensures.asked.replied)
+    waited_out c.args.table.now c.args.seat.now c.loop.seat c.try_change.new.seat c.args.call.now (Err (fault_of c.in-Some-refusal.full)) c.loop.invariant.waited
+    (subst (λ fault. HasReplied c.args.table.now c.args.call.now (Err fault) c.loop.seat c.try_change.new.seat) c.in-Some-refusal.ensures c.in-Err.ensures.asked.replied)

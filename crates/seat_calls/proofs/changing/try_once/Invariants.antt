@@ -1,7 +1,6 @@
 -- The note of the call, where it was answered.
-use Rattle.rowex_writing.specs.Attempts.{asked_call}
 use Rattle.seat_calls.specs.Noting.{change_notes}
 use Rattle.seat_calls.proofs.changing.try_once.Given as goal
 
 abbrev pub ghost-end_try : goal.ghost-end_try
-ghost-end_try g a = change_notes (asked_call a._ask a._key.now a._value) a._outcome
+ghost-end_try g a = change_notes a._call.now a._outcome

@@ -5,7 +5,6 @@ use Rattle.finite_map.specs.Maps.{key_of}
 use Rattle.rowex_core.specs.declared.known.Fresh.{Fresh}
 use Rattle.rowex_core.specs.declared.known.Known.{Known}
 use Rattle.rowex_writing.specs.declared.attempts.TryFault.{TryFault}
-use Rattle.rowex_writing.specs.Attempts.{asked_call}
 use Rattle.seat_calls.specs.Answers.{fault_of}
 use Rattle.seat_calls.specs.Asked.{HasAsked}
 use Rattle.seat_calls.specs.Counts.{once_steps, twice_steps}
@@ -18,12 +17,12 @@ use Rattle.seat_calls.proofs.Trying.{once_asked, outcome_then, round_later, then
 use Rattle.seat_calls.proofs.changing.try_twice.Goals as goal
 
 pub returns-in_default : goal.returns-in_default
-returns-in_default g c = record { asked = once_asked (asked_call c.args.ask c.args.key.now c.args.value) c.try_once-first.result (c.lacked.ensures.none c.in_default.is) c.try_once-first.ensures.asked }
+returns-in_default g c = record { asked = once_asked c.args.call.now c.try_once-first.result (c.lacked.ensures.none c.in_default.is) c.try_once-first.ensures.asked }
 
 pub returns-then-has_room : goal.returns-then-has_room
 returns-then-has_room g c =
     let table = c.args.table.now in
-    let call = asked_call c.args.ask c.args.key.now c.args.value in
+    let call = c.args.call.now in
     let k = pass_of c.args.seat.now in
     let first = subst (λ (z : Result Reply TryFault). HasAsked table g.G.Gate.becomes (IsAttempt table.layout) (once_steps table.layout) call z (c.args.seat.now, c.args.gate.now) (c.try_once-first.new.seat, c.try_once-first.new.gate)) c.in-Some.ensures.some c.try_once-first.ensures.asked in
     let round = c.collect_round-round.ensures.round in
@@ -43,7 +42,7 @@ returns-then-has_room g c =
 pub returns : goal.returns
 returns g c =
     let table = c.args.table.now in
-    let call = asked_call c.args.ask c.args.key.now c.args.value in
+    let call = c.args.call.now in
     let k = pass_of c.args.seat.now in
     let fault = fault_of c.in-Some.lacks in
     let first = subst (λ (z : Result Reply TryFault). HasAsked table g.G.Gate.becomes (IsAttempt table.layout) (once_steps table.layout) call z (c.args.seat.now, c.args.gate.now) (c.try_once-first.new.seat, c.try_once-first.new.gate)) c.in-Some.ensures.some c.try_once-first.ensures.asked in
