@@ -10,7 +10,7 @@ use Rattle.rowex_writing.specs.declared.attempts.TryFault.{TryFault}
 use Rattle.rowex_writing.specs.declared.attempts.TryFault.TheVariants.{Busy, FullNodes, FullLeaves}
 use Rattle.seat_calls.specs.Answers.{MayRefuse}
 use Rattle.seat_calls.specs.Calls.{IsCallTried, MakesSteps}
-use Rattle.hot_index.specs.Handles.{Stays}
+use Rattle.hot_index.specs.Handles.{HandleView, Stays}
 use Rattle.hot_c.specs.Calls.{Answers, HasOutcome, FitsInKey, IsCallFor}
 use Rattle.hot_c.specs.Statuses.{reply_status, value_after}
 use Rattle.hot_c.specs.declared.opened.Opened.{Opened}
@@ -19,7 +19,7 @@ some_is_none : (s : Opened) → Some s ≡ None → ⊥
 some_is_none s e = cc
 
 pub answered : (key : List ℕ) (call asked : Call) (old new : Option Opened) (before after status : ℕ) (s u : Opened) (outcome : Result Reply TryFault) → old ≡ Some s → new ≡ Some u →
-    Stays (IsCallTried call outcome) s.handle u.handle → call ≡ asked → FitsInKey key → status ≡ reply_status outcome → after ≡ value_after before outcome →
+    Stays (λ index a b. HasOutcome call outcome index a b × MakesSteps call outcome index a b) s.handle u.handle → call ≡ asked → FitsInKey key → status ≡ reply_status outcome → after ≡ value_after before outcome →
     Answers key asked old new before after status
 answered key call asked old new before after status s u outcome was is stays same fits told left = record {
   closed = λ none. absurd (some_is_none s (sym was ∙ none));
@@ -31,13 +31,16 @@ answered key call asked old new before after status s u outcome was is stays sam
       after = u;
       was = was;
       is = is;
-      stays = subst (λ (x : Call). Stays (λ index a b. HasOutcome x outcome index a b × MakesSteps x outcome index a b) s.handle u.handle) same
-          (record { index = stays.index; pass = (stays.pass.call, stays.pass.made) });
+      stays = subst (λ (x : Call). Stays (λ index a b. HasOutcome x outcome index a b × MakesSteps x outcome index a b) s.handle u.handle) same stays;
     },
     told,
     left,
   );
 }
+
+pub tried : (call : Call) (outcome : Result Reply TryFault) (old new : HandleView) → Stays (IsCallTried call outcome) old new →
+    Stays (λ index a b. HasOutcome call outcome index a b × MakesSteps call outcome index a b) old new
+tried call outcome old new h = record { index = h.index; pass = (h.pass.call, h.pass.made) }
 
 -- the status of a fault is no reply's, and one fault's alone
 of_fault : (n : ℕ) (fault : TryFault) → n ≡ reply_status (Err fault) → (8 ≤ n) × (n ≤ 10)
@@ -75,10 +78,10 @@ pub of_key : (bytes k : List ℕ) (r : Result (List ℕ) KeyFault) → r ≡ Ok 
 of_key bytes k r is fits same = (subst (λ (x : Result (List ℕ) KeyFault). IfOk x (λ key. key ≡ bytes)) is same, fits.0 (subst IsOk (sym is) refl))
 
 -- the call for these bytes, made of the key that they are
-pub call_for : (Made : List ℕ → Call → Type 0) (for : List ℕ → Call) (bytes : List ℕ) (r : Result (List ℕ) KeyFault) (call : Result Call KeyFault) → (IsOk r ↔ (length bytes ≤ MAX_BYTES)) →
+pub call_of_bytes : (Made : List ℕ → Call → Type 0) (for : List ℕ → Call) (bytes : List ℕ) (r : Result (List ℕ) KeyFault) (call : Result Call KeyFault) → (IsOk r ↔ (length bytes ≤ MAX_BYTES)) →
     IfOk r (λ key. key ≡ bytes) → MatchResult r (λ key. IsOkAnd call (Made key)) (λ fault. call ≡ Err fault) → ((key : List ℕ) (call : Call) → Made key call → call ≡ for key) →
     IsCallFor bytes (for bytes) call
-call_for Made for bytes (Ok key) (Ok call) fits same made is_for = (is_for key call made ∙ ap for same, fits.0 refl)
-call_for Made for bytes (Ok key) (Err fault) fits same made is_for = absurd (made)
-call_for Made for bytes (Err fault) (Ok call) fits same made is_for = absurd (cc)
-call_for Made for bytes (Err fault) (Err other) fits same made is_for = λ short. absurd (let z = fits.1 short in cc)
+call_of_bytes Made for bytes (Ok key) (Ok call) fits same made is_for = (is_for key call made ∙ ap for same, fits.0 refl)
+call_of_bytes Made for bytes (Ok key) (Err fault) fits same made is_for = absurd (made)
+call_of_bytes Made for bytes (Err fault) (Ok call) fits same made is_for = absurd (cc)
+call_of_bytes Made for bytes (Err fault) (Err other) fits same made is_for = λ short. absurd (let z = fits.1 short in cc)

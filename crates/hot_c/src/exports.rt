@@ -120,8 +120,13 @@ pub extern "C" fn hot_get(handle: &mut Handle, key: &[u8], value: &mut u64) -> u
     ensures call { Answers key.now (Get key.now) handle.old.slot.opened handle.new.slot.opened value.old value.new result }
     ensures unrefused { (result ≢ BUSY) × (result ≢ FULL_NODES) × (result ≢ FULL_LEAVES) }
 {
-    let call = Key::from_bytes(key).map(|key| Call::Get(key));
-    make_call(handle, &call, value)
+    if !handle.is_open() {
+        return CLOSED;
+    }
+    match &Key::from_bytes(key) {
+        Ok(key) => tell(Ok(handle.slot.lend().get(key)), value),
+        Err(_) => KEY_TOO_LONG,
+    }
 }
 
 /// Looks up many keys, in turn, and writes what it found for each: `FOUND`, with its value, or `ABSENT`.

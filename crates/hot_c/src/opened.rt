@@ -1,12 +1,15 @@
 //! What an open handle holds.
 
 ghost use Rattle.std.specs.Prelude.{◌≡◌};
+ghost use Rattle.finite_map.specs.declared.Call.TheVariants.{Get};
+ghost use Rattle.seat_calls.specs.Answers.{IsNoted};
 ghost use Rattle.seat_calls.specs.Calls.{IsRangeRead};
 ghost use Rattle.hot_index.specs.Handles.{Stays};
+ghost use Rattle.seat_calls.specs.Traces.{HasGot, untold};
 ghost use Rattle.hot_c.specs.Orders.{IsFilledIn};
 
 use crate::pairs::Order;
-use hot_index::{Handle, Index};
+use hot_index::{Handle, Index, Reply};
 use key_bits::Key;
 use packed_pairs::Pairs;
 use std::alloc::{AllocError, Global};
@@ -23,6 +26,16 @@ pub struct Opened {
 }
 
 impl Opened {
+    /// The value of a key, as a reply. No `Call` is made for it, which would be a copy of the key.
+    pub fn get(&mut self, key: &Key) -> Reply
+        ensures { Stays (λ index k j. IsNoted index.layout k j (Get key.now) result × HasGot index untold (k, tt) (j, tt)) self.old.handle self.new.handle }
+    {
+        match self.handle.get(key) {
+            Some(value) => Reply::Value(value),
+            None => Reply::Absent,
+        }
+    }
+
     /// Lists the pairs of a range in the list, in the order of the scan; and tells whether there are more.
     pub fn scan(
         &mut self,
