@@ -2,10 +2,10 @@
 use Rattle.std.proofs.Common.{◌≡◌, ℕ, ◌+◌, ◌<◌, ◌≤◌, List, [], ◌∷◌, ◌++◌, Bool, true, false, min, nat_eq, if◌then◌else◌, Option, Some, None, refl, sym, ap, subst, ◌∙◌, arith, eq-eqb, ⊎_elim}
 use Rattle.std.proofs.lemmas.Bool.{cases_lt}
 use Rattle.record_words.specs.declared.layout.Layout.{Layout}
-use Rattle.moments.specs.declared.Pin.{Pin}
-use Rattle.moments.specs.declared.Round.{Round}
-use Rattle.moments.specs.Core.{has_seen}
-use Rattle.moments.specs.Steps.{lowered}
+use Rattle.versions.specs.declared.Pin.{Pin}
+use Rattle.versions.specs.declared.Round.{Round}
+use Rattle.versions.specs.Core.{has_seen}
+use Rattle.versions.specs.Steps.{lowered}
 use Rattle.rowex_core.specs.declared.event.Act.TheVariants.{LoadEpoch, LoadPin}
 use Rattle.rowex_core.specs.declared.known.Known.{Known}
 use Rattle.rowex_core.specs.Words.{pin_word}

@@ -2,11 +2,11 @@
 use Rattle.std.proofs.Common.{◌≡◌, ℕ, [], ◌∷◌, ◌<◌, ◌≤◌, true, nat_eq, if◌then◌else◌, Option, Some, None, refl, sym, ap, subst, ◌∙◌, arith, eq-eqb}
 use Rattle.record_words.specs.declared.state.Tag.TheVariants.{Obsolete}
 use Rattle.record_words.specs.State.{state_word}
-use Rattle.moments.specs.declared.Rec.{Rec}
-use Rattle.moments.specs.declared.Pin.{Pin}
-use Rattle.moments.specs.State.{Past, Stands}
-use Rattle.moments.specs.Core.{Fate, Free, Held, Ready as ReadyBy, InTree, Unlinked, Marked}
-use Rattle.moments.proofs.Legal.{same_rec_refl}
+use Rattle.versions.specs.declared.Rec.{Rec}
+use Rattle.versions.specs.declared.Pin.{Pin}
+use Rattle.versions.specs.State.{Past, Stands}
+use Rattle.versions.specs.Core.{Fate, Free, Held, Ready as ReadyBy, InTree, Unlinked, Marked}
+use Rattle.versions.proofs.Legal.{same_rec_refl}
 use Rattle.rowex_core.specs.declared.event.Act.TheVariants.{GiveBack}
 use Rattle.rowex_core.specs.Cores.{Core, IsLawful}
 use Rattle.rowex_core.specs.Words.{tag_of, lock_tag, lock_of}
@@ -30,7 +30,7 @@ runs_keep_reach becomes table (act ∷ acts) a b run =
     let kept = reach_is_kept table.layout act silent a.0.known run.0.0.known run.1.event in
     (kept.0, kept.1, runs_keep_reach becomes table acts run.0 b run.2)
 
--- an exchange that found the state that it expected makes the record free, and changes no pin and no moment
+-- an exchange that found the state that it expected makes the record free, and changes no pin and no version
 
 unlocked_below : (o : Option ℕ) → state_word (lock_tag o) < 4
 unlocked_below None = omega arith

@@ -1,7 +1,7 @@
 -- A round of its parts.
 use Rattle.std.proofs.Common.{◌≡◌, ℕ, ◌∷◌, ◌++◌, sym, ap, subst, ◌∙◌}
-use Rattle.moments.specs.declared.Rec.TheVariants.{Node as a_node, Leaf as a_leaf}
-use Rattle.moments.specs.declared.Round.{Round}
+use Rattle.versions.specs.declared.Rec.TheVariants.{Node as a_node, Leaf as a_leaf}
+use Rattle.versions.specs.declared.Round.{Round}
 use Rattle.rowex_core.specs.declared.event.Act.TheVariants.{LoadEpoch}
 use Rattle.rowex_core.specs.declared.event.Event.{Event}
 use Rattle.rowex_table.specs.Runs.{Does, InTurn}

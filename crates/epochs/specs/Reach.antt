@@ -1,15 +1,15 @@
 -- Records that pinned passes can reach.
 use Rattle.std.specs.Prelude.{◌≡◌, ◌≢◌, ℕ, ◌≤◌, Some}
 use Rattle.tries.specs.Tree.{Tree}
-use Rattle.moments.specs.declared.Rec.{Rec}
-use Rattle.moments.specs.declared.Pin.{Pin}
-use Rattle.moments.specs.State.{Stands}
-use Rattle.moments.specs.Core.{Free, Held}
+use Rattle.versions.specs.declared.Rec.{Rec}
+use Rattle.versions.specs.declared.Pin.{Pin}
+use Rattle.versions.specs.State.{Stands}
+use Rattle.versions.specs.Core.{Free, Held}
 use Rattle.rowex_core.specs.Cores.{Core}
 
--- the record stood in the tree at a moment since the pin of a pass that is pinned
+-- the record stood in the tree in a version since the pin of a pass that is pinned
 abbrev pub IsInReach : Core → Rec → Type 0
-IsInReach c r = (q : ℕ) × (p : Pin) × (n : ℕ) × (u : Tree) × (c.pins q ≡ Some p) × (p.moment ≤ n) × (n ≤ c.past.now) × Stands c.past n r u
+IsInReach c r = (q : ℕ) × (p : Pin) × (n : ℕ) × (u : Tree) × (c.pins q ≡ Some p) × (p.version ≤ n) × (n ≤ c.past.now) × Stands c.past n r u
 
 -- no record of a pinned pass's reach is free or held
 abbrev pub IsReachKept : Core → Type 0

@@ -3,9 +3,9 @@ use Rattle.std.specs.Prelude.{◌≡◌, ◌≢◌, ℕ, ◌<◌, ◌≤◌, ◌
 use Rattle.record_words.specs.declared.TheConstants.{EPOCHS}
 use Rattle.record_words.specs.declared.state.Tag.TheVariants.{Obsolete}
 use Rattle.record_words.specs.State.{state_word}
-use Rattle.moments.specs.Core.{has_seen}
-use Rattle.moments.specs.declared.Rec.{Rec}
-use Rattle.moments.specs.declared.Rec.TheVariants.{Node as a_node, Leaf as a_leaf}
+use Rattle.versions.specs.Core.{has_seen}
+use Rattle.versions.specs.declared.Rec.{Rec}
+use Rattle.versions.specs.declared.Rec.TheVariants.{Node as a_node, Leaf as a_leaf}
 use Rattle.rowex_core.specs.declared.event.Act.{Act}
 use Rattle.rowex_core.specs.declared.event.Event.{Event}
 use Rattle.rowex_core.specs.declared.event.Act.TheVariants.{LoadEpoch, Advance, LoadPin, LoadState, GiveBack}
@@ -104,8 +104,8 @@ VisitsAll table becomes bound kind n given a b =
     (acts : List Act) × InTurn (λ m. Visits bound (kind m)) n acts × Does table becomes collecting acts a b × (given ≡ count_by has_given acts)
 
 -- visits that go on after those of the first n records of a kind, so that then those of the first m are made
-abbrev pub VisitsOn : {G : Type 0} → TableView → (G → Event → G → Type 0) → ℕ → (ℕ → Rec) → (n given m more : ℕ) → SeatView × G → SeatView × G → Type 0
-VisitsOn {G = G} table becomes bound kind n given m more b c =
+abbrev pub GoesOnVisiting : {G : Type 0} → TableView → (G → Event → G → Type 0) → ℕ → (ℕ → Rec) → (n given m more : ℕ) → SeatView × G → SeatView × G → Type 0
+GoesOnVisiting {G = G} table becomes bound kind n given m more b c =
     (a : SeatView × G) → VisitsAll table becomes bound kind n given a b → VisitsAll table becomes bound kind m more a c
 
 -- visits of some records, so many at most

@@ -4,11 +4,11 @@ ghost use Rattle.std.specs.Prelude.{◌≡◌, ◌≢◌, ℕ, ◌+◌, ◌^◌,
 ghost use Rattle.record_words.specs.declared.state.Tag.TheVariants.{Obsolete};
 ghost use Rattle.record_words.specs.Layout.{leaf_size};
 ghost use Rattle.record_words.specs.State.{state_word};
-ghost use Rattle.moments.specs.declared.Rec.TheVariants.{Node as a_node, Leaf as a_leaf};
+ghost use Rattle.versions.specs.declared.Rec.TheVariants.{Node as a_node, Leaf as a_leaf};
 ghost use Rattle.rowex_core.specs.Cores.{HasRecord};
 ghost use Rattle.rowex_table.specs.Rule.{IsStartOf};
 ghost use Rattle.rowex_table.specs.Seats.{IsSeatOf};
-ghost use Rattle.epochs.specs.Rounds.{AdvancesEpoch, BeginsRound, FindsBound, HasBound, IsRound, IsSmallRound, VisitsAll, VisitsOn, VisitsOne, VisitsSome, is_given};
+ghost use Rattle.epochs.specs.Rounds.{AdvancesEpoch, BeginsRound, FindsBound, HasBound, IsRound, IsSmallRound, VisitsAll, GoesOnVisiting, VisitsOne, VisitsSome, is_given};
 
 use crate::limbo::{Limbo, MOST_VISITED};
 use record_words::{EPOCHS, Layout, Tag, unpack_state};
@@ -198,7 +198,7 @@ fn visit_class<G: Gate>(
     requires few { before.given ≤ first }
     ensures same { (seat.new.known.pin ≡ seat.old.known.pin) × (seat.new.known.round ≡ seat.old.known.round) }
     ensures few { result.given ≤ end }
-    ensures steps { VisitsOn table.now G.becomes bound a_leaf first before.given end result.given (seat.old, gate.old) (seat.new, gate.new) }
+    ensures steps { GoesOnVisiting table.now G.becomes bound a_leaf first before.given end result.given (seat.old, gate.old) (seat.new, gate.new) }
 {
     let layout = table.layout();
     let size = layout.leaf_size(first);

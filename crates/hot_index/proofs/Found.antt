@@ -7,7 +7,7 @@ use Rattle.finite_map.specs.declared.Scan.{Scan}
 use Rattle.finite_map.specs.Scans.{is_within, IsHeldBetween, IsLawfulScan}
 use Rattle.key_bits.specs.Key.{IsKey}
 use Rattle.record_words.specs.declared.layout.Layout.{Layout}
-use Rattle.moments.specs.State.{IsHeldSince, Past}
+use Rattle.versions.specs.State.{IsHeldSince, Past}
 use Rattle.rowex_core.specs.declared.event.Act.TheVariants.{ClearPin}
 use Rattle.rowex_core.specs.declared.known.Known.{Known}
 use Rattle.rowex_core.specs.Knowing.{IsEvent}

@@ -28,7 +28,7 @@ use Rattle.seat_calls.specs.Noting.{answers_so, same_reply}
 use Rattle.seat_calls.specs.Passes.{IsSettled, PassView, pass_of}
 use Rattle.seat_calls.specs.Traces.{reading, untold}
 use Rattle.seat_calls.proofs.LookedUp.{looked_on}
-use Rattle.seat_calls.proofs.Noting.{HasLooked, get_quiet, goes_on, itself, legal_front, longer, looked_then, reply_is, settles}
+use Rattle.seat_calls.proofs.Noting.{HasLooked, get_changes_nothing, goes_on, same_reply_reflexive, legal_front, longer, looked_then, reply_is, settles}
 use Rattle.seat_calls.proofs.Tracing.{pinned_sees, runs_untold, step_untold}
 
 -- The places, from the last one on: each is the last right one up to that of the next call
@@ -73,10 +73,10 @@ abbrev AreQuiet : List (Call × Reply) → Type 0
 AreQuiet [] = Unit {0}
 AreQuiet (x ∷ xs) = ((p : ℕ) → is_change (record { place = p; call = x.0; reply = x.1 }) ≡ false) × AreQuiet xs
 
-gets_quiet : (keys : List Key) (found : List (Option ℕ)) → AreQuiet (gets keys found)
-gets_quiet [] found = tt
-gets_quiet (key ∷ keys) [] = tt
-gets_quiet (key ∷ keys) (value ∷ found) = (get_quiet key value, gets_quiet keys found)
+gets_change_nothing : (keys : List Key) (found : List (Option ℕ)) → AreQuiet (gets keys found)
+gets_change_nothing [] found = tt
+gets_change_nothing (key ∷ keys) [] = tt
+gets_change_nothing (key ∷ keys) (value ∷ found) = (get_changes_nothing key value, gets_change_nothing keys found)
 
 -- The calls were right in turn: so the places are
 
@@ -111,7 +111,7 @@ place_more front q low m x xs lo is quiet others = record {
     note = record { place = top; call = x.0; reply = x.1 }
 
     at : IsLast (answers_so front x.0 x.1) m (top_of front xs) (top_of front (x ∷ xs))
-    at = last_is (answers_so front x.0 x.1) m (top_of front xs) others.least (ap (λ r. same_reply r x.1) is ∙ itself x.1)
+    at = last_is (answers_so front x.0 x.1) m (top_of front xs) others.least (ap (λ r. same_reply r x.1) is ∙ same_reply_reflexive x.1)
 
     stands : StandsIn front q note
     stands = record {
@@ -166,7 +166,7 @@ module _ {G : Type 0} {table : TableView} {becomes : G → Event → G → Type 
   start = length up.looks.at.0.known.front
 
   are_placed : ArePlaced c.0.known.front a.0.known.pass start calls
-  are_placed = placed c.0.known.front a.0.known.pass start calls up.right (gets_quiet keys found)
+  are_placed = placed c.0.known.front a.0.known.pass start calls up.right (gets_change_nothing keys found)
 
   -- the first load of the root shows no less than the pass had seen
   low_start : length a.0.known.front ≤ start

@@ -59,17 +59,17 @@ is_number word = nat_lt 0 (length word) && nat_le (length word) 20 && list_all i
 abbrev pub number_of : List ℕ → Option ℕ
 number_of word = if is_number word && nat_lt (digits_value 10 word) (2 ^ 64) then Some (digits_value 10 word) else None
 
-abbrev pub some_or : Reason → Option ℕ → Result ℕ Reason
-some_or reason (Some n) = Ok n
-some_or reason None = Err reason
+abbrev pub ok_or_reason : Reason → Option ℕ → Result ℕ Reason
+ok_or_reason reason (Some n) = Ok n
+ok_or_reason reason None = Err reason
 
 -- a value: any such number
 abbrev pub parsed_value : List ℕ → Result ℕ Reason
-parsed_value word = some_or bad.Value (number_of word)
+parsed_value word = ok_or_reason bad.Value (number_of word)
 
 -- a limit: such a number from 1 to 1,000,000
 abbrev pub limit_of : List ℕ → Result ℕ Reason
-limit_of word = some_or bad.Limit (number_of word) >>= λ n. if nat_le 1 n && nat_le n 1000000 then Ok n else Err bad.Limit
+limit_of word = ok_or_reason bad.Limit (number_of word) >>= λ n. if nat_le 1 n && nat_le n 1000000 then Ok n else Err bad.Limit
 
 -- a call on a key
 abbrev pub with_key : Version → (List ℕ → Call) → List ℕ → Result Command Reason
@@ -123,13 +123,13 @@ first_bad n (Ok c ∷ readings) = first_bad (n + 1) readings
 first_bad n (Err reason ∷ readings) = Some (n, reason)
 
 -- the value, unless there is a fault
-abbrev pub unless_bad : {A : Type 0} → Option (ℕ × Reason) → A → Result A (ℕ × Reason)
-unless_bad (Some fault) x = Err fault
-unless_bad None x = Ok x
+abbrev pub ok_unless_fault : {A : Type 0} → Option (ℕ × Reason) → A → Result A (ℕ × Reason)
+ok_unless_fault (Some fault) x = Err fault
+ok_unless_fault None x = Ok x
 
 -- the commands of lines, or the first bad one, the first of these lines having the number n
 abbrev pub commands_from : ℕ → List (Result (Option Command) Reason) → Result (List Command) (ℕ × Reason)
-commands_from n readings = unless_bad (first_bad n readings) (filter_map asked readings)
+commands_from n readings = ok_unless_fault (first_bad n readings) (filter_map asked readings)
 
 -- the commands of a script, or its first bad line, counted from 1, and what is wrong with it
 abbrev pub commands_of : List ℕ → Result (List Command) (ℕ × Reason)

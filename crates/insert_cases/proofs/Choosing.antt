@@ -12,8 +12,8 @@ use Rattle.tries.specs.Affected.{affected, IsPart}
 use Rattle.tries.specs.Keys.{Key, bit, AgreeBelow}
 use Rattle.tries.specs.Place.{spot}
 use Rattle.tries.specs.Search.{child, found}
-use Rattle.tries.specs.Tree.{Tree, leaf, node, fork, Fixed, page, first_position, Has, IsTrie, IsBuilt, IsTip, IsFork, Within, here, inside}
-use Rattle.tries.proofs.Affected.{IsAway, part_away, part_place, affected_page}
+use Rattle.tries.specs.Tree.{Tree, leaf, node, fork, Fixed, subtrie, first_position, Has, IsTrie, IsBuilt, IsTip, IsFork, Within, here, inside}
+use Rattle.tries.proofs.Affected.{DifferFirstAt, part_differs_first, part_place, affected_subtrie}
 use Rattle.tries.proofs.Places.{spot_below}
 use Rattle.tries.specs.Content.{first}
 use Rattle.tries.proofs.Tries.{has_first, within_trans, within_child, trie_within, built_within, follows_if_has, rises}
@@ -22,12 +22,12 @@ use Rattle.insert_cases.specs.declared.choice.Choice.{Choice}
 use Rattle.insert_cases.specs.declared.choice.Step.{Step}
 use Rattle.insert_cases.specs.Levels.{IsLevel, IsChosen}
 use Rattle.insert_cases.specs.Ways.{below, stage, IsStep, IsStepAt, IsLeaf, IsWay, WayBelow, body, is_leaf, case_of, IsAffectedNode}
-use Rattle.insert_cases.proofs.Affecting.{RootNot, key_part}
+use Rattle.insert_cases.proofs.Affecting.{FirstForkIsNot, key_part}
 use Rattle.tries.proofs.Contents.{found_child}
 use Rattle.tries.proofs.Building.{fork_of}
 
-pub same_some : {A : Type 0} {a b : A} → Some a ≡ Some b → a ≡ b
-same_some e = cc
+pub some_injective : {A : Type 0} {a b : A} → Some a ≡ Some b → a ≡ b
+some_injective e = cc
 
 -- ---- stages of a way
 pub some_at : (ss : List Step) (l : ℕ) → l < length ss → (s : Step) × (slice_get ss l ≡ Some s)
@@ -37,7 +37,7 @@ some_at (s ∷ ss) (suc l) h = some_at ss l (omega arith)
 
 pub way_at : (k : Key) (t : Tree) (ss : List Step) → IsWay k t ss → (l : ℕ) (s : Step) → slice_get ss l ≡ Some s → IsStepAt k s (stage k t l)
 way_at k t [] w l s e = absurd (let z : None ≡ Some s = e in cc)
-way_at k t (x ∷ ss) w zero s e = subst (λ z. IsStepAt k z t) (same_some e) w.0
+way_at k t (x ∷ ss) w zero s e = subst (λ z. IsStepAt k z t) (some_injective e) w.0
 way_at k t (x ∷ ss) w (suc l) s e = way_at k (below k t) ss w.1 l s e
 
 way_end : (k : Key) (t : Tree) (ss : List Step) → IsWay k t ss → IsLeaf (stage k t (length ss))
@@ -117,15 +117,15 @@ way_rises k t (s ∷ ss) w i (suc l) (suc j) h q a c in_j o =
     way_rises k (below k t) ss w.1 (trie_within (below_within k t) i) l j (omega arith) q a c in_j (omega arith)
 
 -- ---- the affected part
-pub part_big : (d : Tree) → 2 ≤ size (page d) → IsPart d × (is_leaf d ≡ false)
-part_big (leaf n l v) h = absurd (omega arith)
-part_big (node n x b) h = absurd (omega arith)
-part_big (fork q a b) h = (tt, refl)
+pub part_of_two : (d : Tree) → 2 ≤ size (subtrie d) → IsPart d × (is_leaf d ≡ false)
+part_of_two (leaf n l v) h = absurd (omega arith)
+part_of_two (node n x b) h = absurd (omega arith)
+part_of_two (fork q a b) h = (tt, refl)
 
-pub tip_small : (d : Tree) → size (page d) ≤ 1 → IsTip d
-tip_small (leaf n l v) h = tt
-tip_small (node n x b) h = tt
-tip_small (fork q a b) h = absurd (omega (arith, size_pos (page a), size_pos (page b)))
+pub tip_of_one_place : (d : Tree) → size (subtrie d) ≤ 1 → IsTip d
+tip_of_one_place (leaf n l v) h = tt
+tip_of_one_place (node n x b) h = tt
+tip_of_one_place (fork q a b) h = absurd (omega (arith, size_pos (subtrie a), size_pos (subtrie b)))
 
 leaf_part : (d : Tree) → IsLeaf d → IsPart d × (is_leaf d ≡ true)
 leaf_part (leaf n l v) h = (tt, refl)
@@ -152,10 +152,10 @@ has_found k (node n x b) = has_found k b
 has_found k (fork p a b) =
     elim (bit k p) as (λ o. Has a (if o then found k b else found k a).key ⊎ Has b (if o then found k b else found k a).key) [ true ↦ inr (has_found k b) | false ↦ inl (has_found k a) ]
 
-pub root_not : (p : ℕ) (u : Bool) (d : Tree) → IsTrie d → ((y : Key) → Has d y → bit y p ≡ u) → RootNot p (page d)
-root_not p u (leaf n l v) i h = tt
-root_not p u (node n x b) i h = tt
-root_not p u (fork q a c) i h = λ e.
+pub first_fork_is_not : (p : ℕ) (u : Bool) (d : Tree) → IsTrie d → ((y : Key) → Has d y → bit y p ≡ u) → FirstForkIsNot p (subtrie d)
+first_fork_is_not p u (leaf n l v) i h = tt
+first_fork_is_not p u (node n x b) i h = tt
+first_fork_is_not p u (fork q a c) i h = λ e.
     let zero_bit : bit (first a) p ≡ false = ap (bit (first a)) (sym e) ∙ i.3 (first a) (has_first a) in
     let one_bit : bit (first c) p ≡ true = ap (bit (first c)) (sym e) ∙ i.4 (first c) (has_first c) in
     false≢true (sym zero_bit ∙ (h (first a) (inl (has_first a)) ∙ (sym (h (first c) (inr (has_first c))) ∙ one_bit)))
@@ -170,27 +170,27 @@ module _ (k l : Key) (p : ℕ) (d : IsFirstDifference k l p) where
   differs = d.differ
 
   -- all keys of the affected part part from the new key at p
-  pub all_away : (b : Tree) → IsTrie b → Has (child k b) l → IsPart (affected p k b) → (y : Key) → Has (affected p k b) y → IsAway p k y
+  pub all_away : (b : Tree) → IsTrie b → Has (child k b) l → IsPart (affected p k b) → (y : Key) → Has (affected p k b) y → DifferFirstAt p k y
   all_away b i h part y g =
-      part_away p k l agrees differs b i part (follows_if_has (child k b) (trie_within (within_child k b) i) l h) y g
+      part_differs_first p k l agrees differs b i part (follows_if_has (child k b) (trie_within (within_child k b) i) l h) y g
 
-  pub root_fresh : (b : Tree) → IsTrie b → Has (child k b) l → IsPart (affected p k b) → RootNot p (page (affected p k b))
+  pub root_fresh : (b : Tree) → IsTrie b → Has (child k b) l → IsPart (affected p k b) → FirstForkIsNot p (subtrie (affected p k b))
   root_fresh b i h part =
-      root_not p (if bit k p then false else true) (affected p k b) (trie_within (part_place p k b).0 i) (λ y g. (all_away b i h part y g).1)
+      first_fork_is_not p (if bit k p then false else true) (affected p k b) (trie_within (part_place p k b).0 i) (λ y g. (all_away b i h part y g).1)
 
-pub size_affected : (k : Key) (p : ℕ) (b : Tree) → affected_count p (spot k (page b)) (page b) ≡ size (page (affected p k b))
-size_affected k p b = (key_part k p (page b)).count ∙ ap size (sym (affected_page p k b))
+pub size_affected : (k : Key) (p : ℕ) (b : Tree) → affected_count p (spot k (subtrie b)) (subtrie b) ≡ size (subtrie (affected p k b))
+size_affected k p b = (key_part k p (subtrie b)).count ∙ ap size (sym (affected_subtrie p k b))
 
 -- the range that a position affects from the key's place on
 pub affected_range : (k l : Key) (p : ℕ) → IsFirstDifference k l p → (b : Tree) → IsTrie b → Has (child k b) l → IsPart (affected p k b) → (first last : ℕ) →
-    affected_first p (spot k (page b)) (page b) ≡ first → affected_count p (spot k (page b)) (page b) + first ≡ last + 1 → IsAffected (page b) p first last
+    affected_first p (spot k (subtrie b)) (subtrie b) ≡ first → affected_count p (spot k (subtrie b)) (subtrie b) + first ≡ last + 1 → IsAffected (subtrie b) p first last
 affected_range k l p d b trie has part first last from upto =
-    let again = affected_again p (page b) (spot k (page b)) (spot_below k (page b)) in
+    let again = affected_again p (subtrie b) (spot k (subtrie b)) (spot_below k (subtrie b)) in
     let root = root_fresh k l p d b trie has part in
     record {
-      from = ap (λ j. affected_first p j (page b)) (sym from) ∙ (again.0 ∙ from);
-      upto = ap (λ j. j + first) (ap (λ j. affected_count p j (page b)) (sym from) ∙ again.1) ∙ upto;
-      fresh = subst (λ j. IsFresh p j (page b)) from ((key_part k p (page b)).fresh (subst (RootNot p) (affected_page p k b) root));
+      from = ap (λ j. affected_first p j (subtrie b)) (sym from) ∙ (again.0 ∙ from);
+      upto = ap (λ j. j + first) (ap (λ j. affected_count p j (subtrie b)) (sym from) ∙ again.1) ∙ upto;
+      fresh = subst (λ j. IsFresh p j (subtrie b)) from ((key_part k p (subtrie b)).fresh (subst (FirstForkIsNot p) (affected_subtrie p k b) root));
     }
 
 -- a body whose first fork is not before p is affected whole
@@ -198,11 +198,11 @@ pub record IsWhole (k : Key) (p : ℕ) (b : Tree) : Type 0 where
   pub whole : affected p k b ≡ b
   pub part : IsPart b
   pub plain : is_leaf b ≡ false
-  pub starts : (i : ℕ) → affected_first p i (page b) ≡ 0
-  pub counts : (i : ℕ) → affected_count p i (page b) ≡ size (page b)
-  pub fresh : RootNot p (page b) → IsFresh p 0 (page b)
+  pub starts : (i : ℕ) → affected_first p i (subtrie b) ≡ 0
+  pub counts : (i : ℕ) → affected_count p i (subtrie b) ≡ size (subtrie b)
+  pub fresh : FirstForkIsNot p (subtrie b) → IsFresh p 0 (subtrie b)
 
-is_whole : (k : Key) (p : ℕ) (b : Tree) → IsFork b → p ≤ first_position (page b) → IsWhole k p b
+is_whole : (k : Key) (p : ℕ) (b : Tree) → IsFork b → p ≤ first_position (subtrie b) → IsWhole k p b
 is_whole k p (leaf n l v) f h = elim f [ ]
 is_whole k p (node n x b) f h = elim f [ ]
 is_whole k p (fork q a c) f h =
@@ -240,20 +240,20 @@ module _ (k : Key) (t : Tree) (p : ℕ) (way : List Step) (trie : IsTrie t) (bui
       let u = node_here level s.0 s.1 in
       let low : s.0.first_position < p = at.low (omega arith) s.0 s.1 in
       let f = fork_of u.inner (built_here level u.number u.fixed u.inner u.is).0 in
-      let q : first_position (page u.inner) ≡ f.0 = ap (λ z. first_position (page z)) f.3 in
+      let q : first_position (subtrie u.inner) ≡ f.0 = ap (λ z. first_position (subtrie z)) f.3 in
       let in_level : Within (fork f.0 f.1 f.2) (stage k t level) = subst (λ z. Within (fork f.0 f.1 f.2) z) (sym (u.is ∙ ap (node u.number u.fixed) f.3)) (inside here) in
       way_more k f.0 p (body (stage k t l)) (omega (arith, u.step.first)) (way_rises k t way w trie l level h f.0 f.1 f.2 in_level (omega (arith, at.within)))
 
-  module _ (first last : ℕ) (from : affected_first p (spot k (page (body (stage k t level)))) (page (body (stage k t level))) ≡ first)
-      (upto : affected_count p (spot k (page (body (stage k t level)))) (page (body (stage k t level))) + first ≡ last + 1) where
+  module _ (first last : ℕ) (from : affected_first p (spot k (subtrie (body (stage k t level)))) (subtrie (body (stage k t level))) ≡ first)
+      (upto : affected_count p (spot k (subtrie (body (stage k t level)))) (subtrie (body (stage k t level))) + first ≡ last + 1) where
     -- the affected node is the one at the level
     at_level : (s : Step) → slice_get way level ≡ Some s → (one : Bool) → (IsPart (affected p k (body (stage k t level))) × (is_leaf (affected p k (body (stage k t level))) ≡ one)) →
         IsAffectedNode k p t (record { level = level; first = first; last = last; case = case_of s.height s.count one })
     at_level s e one part =
         let u = node_here level s e in
         let inner : body (stage k t level) ≡ u.inner = ap body u.is in
-        let from' : affected_first p (spot k (page u.inner)) (page u.inner) ≡ first = subst (λ z. affected_first p (spot k (page z)) (page z) ≡ first) inner from in
-        let upto' : affected_count p (spot k (page u.inner)) (page u.inner) + first ≡ last + 1 = subst (λ z. affected_count p (spot k (page z)) (page z) + first ≡ last + 1) inner upto in
+        let from' : affected_first p (spot k (subtrie u.inner)) (subtrie u.inner) ≡ first = subst (λ z. affected_first p (spot k (subtrie z)) (subtrie z) ≡ first) inner from in
+        let upto' : affected_count p (spot k (subtrie u.inner)) (subtrie u.inner) + first ≡ last + 1 = subst (λ z. affected_count p (spot k (subtrie z)) (subtrie z) + first ≡ last + 1) inner upto in
         let part' : IsPart (affected p k u.inner) = subst (λ z. IsPart (affected p k z)) inner part.0 in
         record {
           number = u.number;
@@ -265,7 +265,7 @@ module _ (k : Key) (t : Tree) (p : ℕ) (way : List Step) (trie : IsTrie t) (bui
           first = sym from';
           range = affected_range k (found k t).key p d u.inner (trie_here level u.number u.fixed u.inner u.is) (has_here level u.number u.fixed u.inner u.is) part' first last from' upto';
           case = ap (λ h. case_of h s.count one) u.step.height ∙
-              (ap (λ n. case_of u.fixed.height n one) u.step.count ∙ ap (case_of u.fixed.height (size (page u.inner))) (sym part.1 ∙ ap (λ z. is_leaf (affected p k z)) inner));
+              (ap (λ n. case_of u.fixed.height n one) u.step.count ∙ ap (case_of u.fixed.height (size (subtrie u.inner))) (sym part.1 ∙ ap (λ z. is_leaf (affected p k z)) inner));
         }
 
     -- or the next one, all of it
@@ -275,10 +275,10 @@ module _ (k : Key) (t : Tree) (p : ℕ) (way : List Step) (trie : IsTrie t) (bui
         let r = some_at way level at.within in
         let o = node_here level r.0 r.1 in
         let u = node_here (level + 1) s e in
-        let tip = tip_child p k (body (stage k t level)) (tip_small (affected p k (body (stage k t level))) (omega (arith, upto, size_affected k p (body (stage k t level))))) in
+        let tip = tip_child p k (body (stage k t level)) (tip_of_one_place (affected p k (body (stage k t level))) (omega (arith, upto, size_affected k p (body (stage k t level))))) in
         let high : p ≤ s.first_position = at.rest (level + 1) s (omega arith) e in
         let z = is_whole k p u.inner (built_here (level + 1) u.number u.fixed u.inner u.is).0 (omega (arith, u.step.first)) in
-        let root = subst (λ y. RootNot p (page y)) z.whole
+        let root = subst (λ y. FirstForkIsNot p (subtrie y)) z.whole
         (root_fresh k (found k t).key p d u.inner (trie_here (level + 1) u.number u.fixed u.inner u.is) (has_here (level + 1) u.number u.fixed u.inner u.is) (subst IsPart (sym z.whole) z.part)) in
         record {
           number = u.number;
@@ -290,14 +290,14 @@ module _ (k : Key) (t : Tree) (p : ℕ) (way : List Step) (trie : IsTrie t) (bui
             | inr q ↦ elim q [ inl y ↦ above_level l y | inr y ↦ absurd (omega arith) ]
           ];
           part = subst IsPart (sym z.whole) z.part;
-          first = sym (z.starts (spot k (page u.inner)));
+          first = sym (z.starts (spot k (subtrie u.inner)));
           range = record {
             from = z.starts 0;
-            upto = omega (arith, z.counts 0, u.step.count, size_pos (page u.inner));
+            upto = omega (arith, z.counts 0, u.step.count, size_pos (subtrie u.inner));
             fresh = z.fresh root;
           };
           case = ap (λ h. case_of h s.count false) u.step.height ∙
-              (ap (λ n. case_of u.fixed.height n false) u.step.count ∙ ap (case_of u.fixed.height (size (page u.inner))) (sym z.plain ∙ ap is_leaf (sym z.whole)));
+              (ap (λ n. case_of u.fixed.height n false) u.step.count ∙ ap (case_of u.fixed.height (size (subtrie u.inner))) (sym z.plain ∙ ap is_leaf (sym z.whole)));
         }
 
     pub chosen : (c : Choice) → IsChosen way level first last c → IsAffectedNode k p t c
@@ -305,12 +305,12 @@ module _ (k : Key) (t : Tree) (p : ℕ) (way : List Step) (trie : IsTrie t) (bui
         let s = some_at way level at.within in
         let count = size_affected k p (body (stage k t level)) in
         elim (cases_lt first last) [
-          | inl h ↦ subst (IsAffectedNode k p t) (sym (is.several h s.0 s.1)) (at_level s.0 s.1 false (part_big (affected p k (body (stage k t level))) (omega (arith, upto, count))))
+          | inl h ↦ subst (IsAffectedNode k p t) (sym (is.several h s.0 s.1)) (at_level s.0 s.1 false (part_of_two (affected p k (body (stage k t level))) (omega (arith, upto, count))))
           | inr h ↦ elim (cases_lt (level + 1) (length way)) [
             | inl g ↦ let r = some_at way (level + 1) g in subst (IsAffectedNode k p t) (sym (is.next h r.0 r.1)) (at_next r.0 r.1 h)
             | inr g ↦
                 let o = node_here level s.0 s.1 in
-                let tip = tip_child p k (body (stage k t level)) (tip_small (affected p k (body (stage k t level))) (omega (arith, upto, count))) in
+                let tip = tip_child p k (body (stage k t level)) (tip_of_one_place (affected p k (body (stage k t level))) (omega (arith, upto, count))) in
                 let long : length way ≡ suc level = omega (arith, at.within) in
                 let end : IsLeaf (child k o.inner) = subst IsLeaf (ap (stage k t) long ∙ (stage_suc k t level ∙ ap (below k) o.is)) (way_end k t way w) in
                 let same : affected p k (body (stage k t level)) ≡ child k o.inner = tip.0 ∙ ap (λ z. child k (body z)) o.is in
@@ -322,7 +322,7 @@ module _ (k : Key) (t : Tree) (p : ℕ) (way : List Step) (trie : IsTrie t) (bui
 pub chosen_several : (way : List Step) (level first last : ℕ) (s : Step) (r : Case) → first < last → slice_get way level ≡ Some s → r ≡ case_of s.height s.count false →
     IsChosen way level first last (record { level = level; first = first; last = last; case = r })
 chosen_several way level first last s r h at e = record {
-  several = λ _ z f. let same : s ≡ z = same_some (sym at ∙ f) in
+  several = λ _ z f. let same : s ≡ z = some_injective (sym at ∙ f) in
       ap (λ q. let c : Choice = record { level = level; first = first; last = last; case = q } in c) (e ∙ ap (λ (q : Step). case_of q.height q.count false) same);
   next = λ g z f. absurd (omega arith);
   leaf = λ g o z f. absurd (omega arith);
@@ -332,7 +332,7 @@ pub chosen_next : (way : List Step) (level first last : ℕ) (s : Step) (r : Cas
     r ≡ case_of s.height s.count false → IsChosen way level first last (record { level = level + 1; first = 0; last = s.count - 1; case = r })
 chosen_next way level first last s r h o at e = record {
   several = λ g z f. absurd (omega arith);
-  next = λ g z f. let same : s ≡ z = same_some (sym at ∙ f) in
+  next = λ g z f. let same : s ≡ z = some_injective (sym at ∙ f) in
       ap (λ q. let c : Choice = record { level = level + 1; first = 0; last = s.count - 1; case = q } in c) e ∙
       ap (λ (q : Step). let c : Choice = record { level = level + 1; first = 0; last = q.count - 1; case = case_of q.height q.count false } in c) same;
   leaf = λ g q z f. absurd (omega arith);
@@ -343,6 +343,6 @@ pub chosen_leaf : (way : List Step) (level first last : ℕ) (s : Step) (r : Cas
 chosen_leaf way level first last s r h o at e = record {
   several = λ g z f. absurd (omega arith);
   next = λ g z f. absurd (let i = slice_get_within way (level + 1) z f in omega arith);
-  leaf = λ g q z f. let same : s ≡ z = same_some (sym at ∙ f) in
+  leaf = λ g q z f. let same : s ≡ z = some_injective (sym at ∙ f) in
       ap (λ q. let c : Choice = record { level = level; first = first; last = last; case = q } in c) (e ∙ ap (λ (q : Step). case_of q.height q.count true) same);
 }

@@ -6,29 +6,29 @@ use Rattle.pieces.specs.Piece.{Place, Fork, places}
 use Rattle.compound_node.specs.Nodes.{IsEntry, height_of}
 use Rattle.compound_node.specs.declared.entries.Entry.{Entry}
 use Rattle.tries.specs.Content.{first}
-use Rattle.tries.specs.Tree.{Tree, leaf, node, fork, page, IsTrie, IsBuilt, IsLower}
+use Rattle.tries.specs.Tree.{Tree, leaf, node, fork, subtrie, IsTrie, IsBuilt, IsLower}
 use Rattle.tries.proofs.Building.{bit_below}
 use Rattle.tries.proofs.Fitting.{children_are, all_above}
 use Rattle.tries.proofs.Ranges.{has_key}
 use Rattle.tries.proofs.Tries.{has_first}
 
-pub tip_entry : (e : Entry) (t : Tree) → page t ≡ Place e → IsBuilt t → IsEntry e
+pub tip_entry : (e : Entry) (t : Tree) → subtrie t ≡ Place e → IsBuilt t → IsEntry e
 tip_entry e t h b = subst (λ x. All IsEntry (places x)) h (children_are t b) 0 e (omega arith)
 
-pub tip_low : (h : ℕ) (e : Entry) (t : Tree) → page t ≡ Place e → IsLower h t → height_of e < h
+pub tip_low : (h : ℕ) (e : Entry) (t : Tree) → subtrie t ≡ Place e → IsLower h t → height_of e < h
 tip_low h e t f l = subst (λ x. All (λ d. height_of d < h) (places x)) f (all_above h t l) 0 e (omega arith)
 
 pub record IsPair (q : ℕ) (z o : Entry) (t : Tree) : Type 0 where
   pub zero_tip : Tree
   pub one_tip : Tree
   pub is : t ≡ fork q zero_tip one_tip
-  pub zero_page : page zero_tip ≡ Place z
-  pub one_page : page one_tip ≡ Place o
+  pub zero_subtrie : subtrie zero_tip ≡ Place z
+  pub one_subtrie : subtrie one_tip ≡ Place o
 
-pub pair_of : (q : ℕ) (z o : Entry) (t : Tree) → page t ≡ Fork q (Place z) (Place o) → IsPair q z o t
+pub pair_of : (q : ℕ) (z o : Entry) (t : Tree) → subtrie t ≡ Fork q (Place z) (Place o) → IsPair q z o t
 pair_of q z o (leaf m k v) e = absurd cc
 pair_of q z o (node m x c) e = absurd cc
-pair_of q z o (fork p a c) e = let f : p ≡ q = cc in record { zero_tip = a; one_tip = c; is = ap (λ r. fork r a c) f; zero_page = cc; one_page = cc }
+pair_of q z o (fork p a c) e = let f : p ≡ q = cc in record { zero_tip = a; one_tip = c; is = ap (λ r. fork r a c) f; zero_subtrie = cc; one_subtrie = cc }
 
 -- what a fork of two entries that stands for a tree tells of them
 pub record IsPairOf (q : ℕ) (z o : Entry) : Type 0 where
@@ -36,13 +36,13 @@ pub record IsPairOf (q : ℕ) (z o : Entry) : Type 0 where
   pub zero : IsEntry z
   pub one : IsEntry o
 
-pub pair_facts : (q : ℕ) (z o : Entry) (t : Tree) → page t ≡ Fork q (Place z) (Place o) → IsTrie t → IsBuilt t → IsPairOf q z o
+pub pair_facts : (q : ℕ) (z o : Entry) (t : Tree) → subtrie t ≡ Fork q (Place z) (Place o) → IsTrie t → IsBuilt t → IsPairOf q z o
 pair_facts q z o t e i b =
     let u = pair_of q z o t e in
     let j : IsTrie (fork q u.zero_tip u.one_tip) = subst IsTrie u.is i in
     let c : IsBuilt (fork q u.zero_tip u.one_tip) = subst IsBuilt u.is b in
     record {
       position = bit_below (first u.one_tip) q (has_key u.one_tip j.1 (first u.one_tip) (has_first u.one_tip)) (j.4 (first u.one_tip) (has_first u.one_tip));
-      zero = tip_entry z u.zero_tip u.zero_page c.0;
-      one = tip_entry o u.one_tip u.one_page c.1;
+      zero = tip_entry z u.zero_tip u.zero_subtrie c.0;
+      one = tip_entry o u.one_tip u.one_subtrie c.1;
     }

@@ -7,7 +7,7 @@ use Rattle.tries.specs.Affected.{affected, IsPart}
 use Rattle.tries.specs.Keys.{Key, bit}
 use Rattle.tries.specs.Place.{spot}
 use Rattle.tries.specs.Search.{child}
-use Rattle.tries.specs.Tree.{Tree, leaf, node, fork, Fixed, page, first_position}
+use Rattle.tries.specs.Tree.{Tree, leaf, node, fork, Fixed, subtrie, first_position}
 use Rattle.insert_cases.specs.declared.choice.Case.{Case}
 use Rattle.insert_cases.specs.declared.choice.Case.TheVariants.{LeafPushdown, NormalInsert, Overflow}
 use Rattle.insert_cases.specs.declared.choice.Choice.{Choice}
@@ -28,9 +28,9 @@ stage k t (suc l) = stage k (below k t) l
 pub record IsStep (k : Key) (s : Step) (n : ℕ) (x : Fixed) (b : Tree) : Type 0 where
   pub number : s.number ≡ n
   pub height : s.height ≡ x.height
-  pub first : s.first_position ≡ first_position (page b)
-  pub count : s.count ≡ size (page b)
-  pub at : s.at ≡ spot k (page b)
+  pub first : s.first_position ≡ first_position (subtrie b)
+  pub count : s.count ≡ size (subtrie b)
+  pub at : s.at ≡ spot k (subtrie b)
 
 abbrev pub IsStepAt : Key → Step → Tree → Type 0
 IsStepAt k s (leaf n l v) = ⊥
@@ -76,6 +76,6 @@ pub record IsAffectedNode (k : Key) (p : ℕ) (t : Tree) (c : Choice) : Type 0 w
   pub is : stage k t c.level ≡ node number fixed inner
   pub above : (l : ℕ) → l < c.level → WayBelow p k (body (stage k t l))
   pub part : IsPart (affected p k inner)
-  pub first : c.first ≡ affected_first p (spot k (page inner)) (page inner)
-  pub range : IsAffected (page inner) p c.first c.last
-  pub case : c.case ≡ case_of fixed.height (size (page inner)) (is_leaf (affected p k inner))
+  pub first : c.first ≡ affected_first p (spot k (subtrie inner)) (subtrie inner)
+  pub range : IsAffected (subtrie inner) p c.first c.last
+  pub case : c.case ≡ case_of fixed.height (size (subtrie inner)) (is_leaf (affected p k inner))

@@ -5,7 +5,7 @@ ghost use Rattle.key_bits.specs.Bits.{IsFirstDifference};
 ghost use Rattle.pieces.specs.Growth.{affected_first, affected_count};
 ghost use Rattle.tries.specs.Keys.{Key as KeyBytes};
 ghost use Rattle.tries.specs.Place.{spot};
-ghost use Rattle.tries.specs.Tree.{Tree, IsTrie, IsBuilt, page};
+ghost use Rattle.tries.specs.Tree.{Tree, IsTrie, IsBuilt, subtrie};
 ghost use Rattle.insert_cases.specs.Levels.{IsLevel, IsChosen, IsChainEnd, IsPullUp};
 ghost use Rattle.tries.specs.Search.{found};
 ghost use Rattle.insert_cases.specs.Ways.{IsWay, IsAffectedNode, case_of, stage, body};
@@ -73,8 +73,8 @@ pub fn choose(way: &[Step], level: usize, first: u8, last: u8) -> Choice
     ensures chosen { IsChosen way.now level first last result }
     ensures affected { (k : KeyBytes) (t : Tree) (p : ℕ) → IsTrie t → IsBuilt t → IsWay k t way.now → IsFirstDifference k (found k t).key p →
         IsLevel way.now p level →
-        affected_first p (spot k (page (body (stage k t level)))) (page (body (stage k t level))) ≡ first →
-        affected_count p (spot k (page (body (stage k t level)))) (page (body (stage k t level))) + first ≡ last + 1 → IsAffectedNode k p t result }
+        affected_first p (spot k (subtrie (body (stage k t level)))) (subtrie (body (stage k t level))) ≡ first →
+        affected_count p (spot k (subtrie (body (stage k t level)))) (subtrie (body (stage k t level))) + first ≡ last + 1 → IsAffectedNode k p t result }
 {
     let step = way[level];
     if first < last {

@@ -1,4 +1,4 @@
--- What the columns of a node are.
+-- What the columns of a node, its discriminative bits, are.
 use Rattle.std.specs.Prelude.{List, length, replicate, take, ℕ, ◌++◌, ◌-◌, ◌<◌, ◌≡◌, ◌≤◌}
 use Rattle.pieces.specs.Positions.{Ascends, AllBelow}
 

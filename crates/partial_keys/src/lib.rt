@@ -1,4 +1,4 @@
-//! Columns of a compound node, and the search of its sparse partial keys (Binna and others, "HOT", SIGMOD 2018).
+//! Columns of a compound node, HOT's discriminative bits, and the search of its sparse partial keys (Binna and others, SIGMOD 2018).
 #![tactic(auto)]
 
 ghost use Rattle.std.specs.Prelude.{◌≡◌, ◌%◌, ◌+◌, ◌-◌, ◌++◌, ◌∷◌, ◌<◌, ◌≤◌, drop, insert, length, map, remove, replicate, slice_index, take};

@@ -10,32 +10,32 @@ use Rattle.compound_node.specs.declared.entries.Entry.{Entry}
 use Rattle.compound_node.specs.declared.entries.Entry.TheVariants.{Leaf, Node}
 use Rattle.tries.specs.Keys.{Key, bit}
 use Rattle.tries.specs.Search.{child, seek, found}
-use Rattle.tries.specs.Tree.{Page, Fixed, Tree, leaf, node, fork, page, Has, IsTrie, IsFork, Within, here, inside}
-use Rattle.tries.proofs.Tries.{rises, within_trans, within_child, trie_within, built_within, page_child}
+use Rattle.tries.specs.Tree.{Subtrie, Fixed, Tree, leaf, node, fork, subtrie, Has, IsTrie, IsFork, Within, here, inside}
+use Rattle.tries.proofs.Tries.{rises, within_trans, within_child, trie_within, built_within, subtrie_child}
 use Rattle.plain_records.specs.declared.leaf.LeafRecord.{LeafRecord}
 use Rattle.insert_cases.specs.declared.raising.Risen.{Risen}
 use Rattle.plain_records.specs.Cases.{IsByCase, is_split}
-use Rattle.plain_records.specs.Adding.{IsStanding, IsBehind, EndsAt, IsAbsentFrom, HasLeafRisen, with_leaf}
-use Rattle.insert_cases.specs.Risen.{page_of}
+use Rattle.plain_records.specs.Adding.{IsStanding, HasForkBefore, EndsAt, IsAbsentFrom, HasLeafRisen, with_leaf}
+use Rattle.insert_cases.specs.Risen.{subtrie_of}
 use Rattle.plain_records.specs.Rising.{IsAddable, IsRaised}
 use Rattle.plain_records.specs.Store.{item_record}
 use Rattle.insert_cases.specs.Ways.{WayBelow}
 use Rattle.insert_cases.proofs.Choosing.{has_found}
 use Rattle.plain_records.proofs.Climbing.{IsHere}
 use Rattle.plain_records.proofs.Keeping.{shown_more}
-use Rattle.plain_records.proofs.Searching.{IsNodeOf, node_of_page, read_at, sought_entry, shown_within, leaf_of_page, lower_child}
+use Rattle.plain_records.proofs.Searching.{IsNodeOf, node_of_subtrie, read_at, sought_entry, shown_within, leaf_of_subtrie, lower_child}
 use Rattle.plain_records.proofs.Storing.{push_old, push_new}
 use Rattle.tries.specs.Content.{item}
 use Rattle.tries.proofs.Contents.{found_child}
 
 -- ---- positions
 -- a fork of the child that is before the position is below those above the child, so all of these are before it
-pub way_behind : (p : ℕ) (k : Key) (b : Tree) → IsTrie b → IsBehind p (child k b) → WayBelow p k b
+pub way_behind : (p : ℕ) (k : Key) (b : Tree) → IsTrie b → HasForkBefore p (child k b) → WayBelow p k b
 way_behind p k (leaf n l v) i o = tt
 way_behind p k (node n x c) i o = tt
 way_behind p k (fork q a c) i o = go (bit k q) (way_behind p k a i.0) (way_behind p k c i.1) o
   where
-    go : (u : Bool) → (IsBehind p (child k a) → WayBelow p k a) → (IsBehind p (child k c) → WayBelow p k c) → IsBehind p (if u then child k c else child k a) →
+    go : (u : Bool) → (HasForkBefore p (child k a) → WayBelow p k a) → (HasForkBefore p (child k c) → WayBelow p k c) → HasForkBefore p (if u then child k c else child k a) →
         (q < p) × MatchBool u (WayBelow p k c) (WayBelow p k a)
     go true f g o =
         let low : q < o.position = rises true (within_trans o.within (within_child k c)) i.1 (λ x y h j. i.2 x y (inr h) (inr j)) i.4 in
@@ -44,11 +44,11 @@ way_behind p k (fork q a c) i o = go (bit k q) (way_behind p k a i.0) (way_behin
         let low : q < o.position = rises false (within_trans o.within (within_child k a)) i.0 (λ x y h j. i.2 x y (inl h) (inl j)) i.3 in
         let high = o.before in (omega arith, f o)
 
-pub behind_within : {s t : Tree} (p : ℕ) → Within s t → IsBehind p s → IsBehind p t
+pub behind_within : {s t : Tree} (p : ℕ) → Within s t → HasForkBefore p s → HasForkBefore p t
 behind_within p w o = record { position = o.position; zero_tree = o.zero_tree; one_tree = o.one_tree; within = within_trans o.within w; before = o.before }
 
 -- so where a node's first position is
-pub behind_first : (p n q : ℕ) (x : Fixed) (b : Tree) → IsFork b → AtRootFork (λ r zero one. q ≡ r) (page b) → q < p → IsBehind p (node n x b)
+pub behind_first : (p n q : ℕ) (x : Fixed) (b : Tree) → IsFork b → AtRootFork (λ r zero one. q ≡ r) (subtrie b) → q < p → HasForkBefore p (node n x b)
 behind_first p n q x (leaf m l v) f e h = elim f [ ]
 behind_first p n q x (node m y c) f e h = elim f [ ]
 behind_first p n q x (fork r a c) f e h = record { position = r; zero_tree = a; one_tree = c; within = inside here; before = omega arith }
@@ -58,7 +58,7 @@ pub standing_to : {ns : List NodeView} {ls : List LeafRecord} {e f : Entry} {t :
 standing_to {ns} {ls} {e} {f} {t} is s = subst (λ g. IsStanding ns ls g t) is s
 
 pub standing_node : {ns : List NodeView} {ls : List LeafRecord} {n h : ℕ} {t : Tree} → IsStanding ns ls (Node n h) t → IsNodeOf ns ls n h t
-standing_node {ns} {ls} {n} {h} {t} s = node_of_page ns ls n h t s.head s.shown s.built
+standing_node {ns} {ls} {n} {h} {t} s = node_of_subtrie ns ls n h t s.head s.shown s.built
 
 module _ {ns : List NodeView} {ls : List LeafRecord} {n h : ℕ} {t : Tree} (s : IsStanding ns ls (Node n h) t) (w : IsNodeOf ns ls n h t) where
   pub body_trie : IsTrie w.body
@@ -69,14 +69,14 @@ module _ {ns : List NodeView} {ls : List LeafRecord} {n h : ℕ} {t : Tree} (s :
 
   -- the entry that the code takes there is the child's
   pub standing_entry : (k : Key) (v : NodeView) → v ≡ get_or ns n v → (at : ℕ) (e : Entry) → IsLawfulNode v → at ≡ leads_to (bit_of k) (piece v) → slice_get v.entries at ≡ Some e →
-      e ≡ seek k (page w.body)
+      e ≡ seek k (subtrie w.body)
   standing_entry k v is at e lawful leads stands =
       sought_entry k v at e lawful leads stands ∙ ap (seek k) (ap piece (read_at ns n w.stored.view v w.stored.at is) ∙ w.stored.shows)
 
-  module _ (k : Key) (e : Entry) (is : e ≡ seek k (page w.body)) where
+  module _ (k : Key) (e : Entry) (is : e ≡ seek k (subtrie w.body)) where
     pub child_stands : IsStanding ns ls e (child k w.body)
     child_stands = record {
-      head = page_child k w.body ∙ ap (λ z. let y : Page = Place z in y) (sym is);
+      head = subtrie_child k w.body ∙ ap (λ z. let y : Subtrie = Place z in y) (sym is);
       trie = trie_within (within_child k w.body) body_trie;
       built = built_within (within_child k w.body) w.built.2;
       shown = shown_within ns ls (within_child k w.body) w.below;
@@ -127,14 +127,14 @@ module _ {ns : List NodeView} {ls : List LeafRecord} {n h : ℕ} {t : Tree} (s :
       has = subst (λ y. Has (child k w.body) y.key) (found_child k w.body) (has_found k (child k w.body));
     }
 
-    pub way_above : IsBehind p (child k w.body) → WayBelow p k w.body
+    pub way_above : HasForkBefore p (child k w.body) → WayBelow p k w.body
     way_above o = way_behind p k w.body body_trie o
 
 -- an entry of the node, with the tree below it, as the search finds it
 pub record IsAt (ns : List NodeView) (ls : List LeafRecord) (n h : ℕ) (t : Tree) (k : Key) (e : Entry) : Type 0 where
   pub whole : IsStanding ns ls (Node n h) t
   pub node : IsNodeOf ns ls n h t
-  pub is : e ≡ seek k (page node.body)
+  pub is : e ≡ seek k (subtrie node.body)
   pub below : IsStanding ns ls e (child k node.body)
 
 pub search_at : {ns : List NodeView} {ls : List LeafRecord} {n h : ℕ} {d : Entry} {t : Tree} → d ≡ Node n h → IsStanding ns ls d t → (k : Key) (v : NodeView) → v ≡ get_or ns n v →
@@ -147,7 +147,7 @@ search_at same stands k v is at e lawful leads entry =
 
 -- ---- a leaf
 pub standing_leaf : (ns : List NodeView) (ls : List LeafRecord) (k : Key) (n : ℕ) (t : Tree) → IsStanding ns ls (Leaf n) t → slice_get ls n ≡ Some (item_record (found k t))
-standing_leaf ns ls k n t s = leaf_of_page ns ls k n t s.head s.shown
+standing_leaf ns ls k n t s = leaf_of_subtrie ns ls k n t s.head s.shown
 
 pub leaf_addable : (ns : List NodeView) (ls us : List LeafRecord) (e : Entry) (t : Tree) (k : Key) (v m p : ℕ) → IsStanding ns ls e t → us ≡ with_leaf ls k v → m ≡ length ls → IsKey k →
     IsFirstDifference k (found k t).key p → IsAddable ns us (item m k v) p e t
@@ -163,13 +163,13 @@ leaf_addable ns ls us e t k v m p s leaves number key differ = record {
 
 -- ---- what rises from a node
 pub risen_here : (ns os ms : List NodeView) (ls us : List LeafRecord) (k : Key) (v n p : ℕ) (e : Entry) (t : Tree) (risen : Risen) → os ≡ ns → us ≡ with_leaf ls k v → n ≡ length ls →
-    IsAddable ns us (item n k v) p e t → IsBehind p t → IsRaised os ms us (item n k v) p t (suc (height_of e)) (page_of risen) → IsByCase os ms k p n t (is_split risen) → HasLeafRisen ns ms ls us k v e t risen
+    IsAddable ns us (item n k v) p e t → HasForkBefore p t → IsRaised os ms us (item n k v) p t (suc (height_of e)) (subtrie_of risen) → IsByCase os ms k p n t (is_split risen) → HasLeafRisen ns ms ls us k v e t risen
 risen_here ns os ms ls us k v n p e t risen nodes leaves number addable behind raised by_case = record {
   leaves = leaves;
   position = p;
   addable = subst (λ m. IsAddable ns us (item m k v) p e t) number addable;
   behind = behind;
-  raised = subst (λ m. IsRaised ns ms us (item m k v) p t (suc (height_of e)) (page_of risen)) number
-      (subst (λ xs. IsRaised xs ms us (item n k v) p t (suc (height_of e)) (page_of risen)) nodes raised);
+  raised = subst (λ m. IsRaised ns ms us (item m k v) p t (suc (height_of e)) (subtrie_of risen)) number
+      (subst (λ xs. IsRaised xs ms us (item n k v) p t (suc (height_of e)) (subtrie_of risen)) nodes raised);
   by_case = subst (λ m. IsByCase ns ms k p m t (is_split risen)) number (subst (λ xs. IsByCase xs ms k p n t (is_split risen)) nodes by_case);
 }

@@ -14,15 +14,15 @@ use Rattle.insert_cases.specs.declared.choice.Choice.{Choice}
 use Rattle.insert_cases.specs.declared.choice.Step.{Step}
 use Rattle.insert_cases.specs.declared.raising.Risen.{Risen}
 use Rattle.insert_cases.specs.declared.raising.Risen.TheVariants.{Whole, Split}
-use Rattle.insert_cases.specs.Risen.{page_of}
+use Rattle.insert_cases.specs.Risen.{subtrie_of}
 use Rattle.insert_cases.specs.Ways.{below, body, case_of, is_leaf, stage, IsAffectedNode, WayBelow}
-use Rattle.insert_cases.proofs.Choosing.{part_big, size_affected, tip_child, tip_small}
-use Rattle.tries.specs.Affected.{affected, page_forked, IsPart}
+use Rattle.insert_cases.proofs.Choosing.{part_of_two, size_affected, tip_child, tip_of_one_place}
+use Rattle.tries.specs.Affected.{affected, subtrie_forked, IsPart}
 use Rattle.tries.specs.Content.{Item}
 use Rattle.tries.specs.Keys.{Key, bit}
 use Rattle.tries.specs.Place.{spot}
 use Rattle.tries.specs.Search.{child, seek}
-use Rattle.tries.specs.Tree.{Fixed, Tree, leaf, node, fork, page}
+use Rattle.tries.specs.Tree.{Fixed, Tree, leaf, node, fork, subtrie}
 use Rattle.tries.proofs.Building.{size-piece}
 use Rattle.plain_records.specs.declared.leaf.LeafRecord.{LeafRecord}
 use Rattle.plain_records.specs.Cases.{IsInRecords, IsChosenAt, TakesLeaf, IsByCase, AddsByCase, DoesLevel, DoesCase, IsNewNode, IsPutBetween, DoesLevels, is_overflow, is_split}
@@ -85,7 +85,7 @@ module _ (h n first last : ℕ) (entry : Entry) (c : Choice) (i : IsChosenAt h n
   ]
 
 -- an entry that a shown tree begins with is in the records
-pub named_in : (ns : List NodeView) (ls : List LeafRecord) (t : Tree) (e : Entry) → page t ≡ Place e → ShowsTree ns ls t → IsInRecords ns e
+pub named_in : (ns : List NodeView) (ls : List LeafRecord) (t : Tree) (e : Entry) → subtrie t ≡ Place e → ShowsTree ns ls t → IsInRecords ns e
 named_in ns ls (leaf n k v) e is s = let q : Leaf n ≡ e = cc in subst (IsInRecords ns) q tt
 named_in ns ls (node n x b) e is s = let q : Node n x.height ≡ e = cc in subst (IsInRecords ns) q (slice_get_within ns n s.0.view s.0.at)
 named_in ns ls (fork p a b) e is s = absurd cc
@@ -96,24 +96,24 @@ low_case m true = refl
 low_case m false = refl
 
 -- an entry of height 0 that a tree begins with is a leaf's
-low_leaf : (t : Tree) (e : Entry) → page t ≡ Place e → IsEntry e → height_of e ≡ 0 → IsPart t × (is_leaf t ≡ true)
+low_leaf : (t : Tree) (e : Entry) → subtrie t ≡ Place e → IsEntry e → height_of e ≡ 0 → IsPart t × (is_leaf t ≡ true)
 low_leaf (leaf n k v) e is i z = (tt, refl)
 low_leaf (node n x b) e is i z = let q : e ≡ Node n x.height = cc in absurd (let o = subst IsEntry q i in omega (arith, o.0, z, ap height_of q))
 low_leaf (fork p a b) e is i z = absurd cc
 
 -- the height of a new node over two leaves
-pair_low : (v : NodeView) (b : Bool) (p l : ℕ) (e : Entry) → height_of e ≡ 0 → IsBuiltFrom v (page_forked b p (Leaf l) (Place e)) → v.height ≡ 1
+pair_low : (v : NodeView) (b : Bool) (p l : ℕ) (e : Entry) → height_of e ≡ 0 → IsBuiltFrom v (subtrie_forked b p (Leaf l) (Place e)) → v.height ≡ 1
 pair_low v b p l e low built = over ∙ low_pair b
   where
-    over : v.height ≡ 1 + greatest_height (places (page_forked b p (Leaf l) (Place e)))
+    over : v.height ≡ 1 + greatest_height (places (subtrie_forked b p (Leaf l) (Place e)))
     over = built.height_is ∙ ap (λ es. 1 + greatest_height es) (built.lawful.shows.entries_are ∙ ap places built.shows_it)
 
-    low_pair : (b : Bool) → 1 + greatest_height (places (page_forked b p (Leaf l) (Place e))) ≡ 1
+    low_pair : (b : Bool) → 1 + greatest_height (places (subtrie_forked b p (Leaf l) (Place e))) ≡ 1
     low_pair true = ap (λ g. 1 + max g (max 0 0)) low
     low_pair false = ap (λ g. 1 + max 0 (max g 0)) low
 
 module _ {ns : List NodeView} {ls : List LeafRecord} {x : Item} {p n h : ℕ} {t : Tree} (i : IsAddable ns ls x p (Node n h) t) (u : IsHere ns ls x p n h t) (v : NodeView) (is : v ≡ get_or ns n v)
-    (first last : ℕ) (from : affected_first p (spot x.key (page u.body)) (page u.body) ≡ first) (upto : affected_count p (spot x.key (page u.body)) (page u.body) + first ≡ last + 1)
+    (first last : ℕ) (from : affected_first p (spot x.key (subtrie u.body)) (subtrie u.body) ≡ first) (upto : affected_count p (spot x.key (subtrie u.body)) (subtrie u.body) + first ≡ last + 1)
     (s : Step) (tall : s.height ≡ v.height) (many : s.count ≡ length v.entries) (entry : Entry) (low : height_of entry < v.height)
     (c : Choice) (chosen : IsChosenAt s.height s.count first last entry c) where
   same_node : v ≡ u.shown.0.view
@@ -127,7 +127,7 @@ module _ {ns : List NodeView} {ls : List LeafRecord} {x : Item} {p n h : ℕ} {t
 
   -- the node is the affected one
   at_here : IsPart (affected p x.key u.body) → (z : Choice) (d : Case) → z ≡ record { level = 0; first = first; last = last; case = d } →
-      d ≡ case_of u.fixed.height (size (page u.body)) (is_leaf (affected p x.key u.body)) → IsAffectedNode x.key p (node n u.fixed u.body) z
+      d ≡ case_of u.fixed.height (size (subtrie u.body)) (is_leaf (affected p x.key u.body)) → IsAffectedNode x.key p (node n u.fixed u.body) z
   at_here o z d e f = record {
     number = n;
     fixed = u.fixed;
@@ -136,7 +136,7 @@ module _ {ns : List NodeView} {ls : List LeafRecord} {x : Item} {p n h : ℕ} {t
     above = λ l g. absurd (let same = ap (λ (w : Choice). w.level) e in omega (arith, g));
     part = o;
     first = ap (λ (w : Choice). w.first) e ∙ sym from;
-    range = subst (λ (w : Choice). IsAffected (page u.body) p w.first w.last) (sym e) (range i u first last from upto o);
+    range = subst (λ (w : Choice). IsAffected (subtrie u.body) p w.first w.last) (sym e) (range i u first last from upto o);
     case = ap (λ (w : Choice). w.case) e ∙ f;
   }
 
@@ -162,14 +162,14 @@ module _ {ns : List NodeView} {ls : List LeafRecord} {x : Item} {p n h : ℕ} {t
 
     taken_affected : IsLawfulNode v → IsAffectedNode x.key p (node n u.fixed u.body) c
     taken_affected lawful =
-        let m = size (page u.body) in
+        let m = size (subtrie u.body) in
         let g = u.fixed.height in
         let single = is_leaf (affected p x.key u.body) in
         let counts : s.count ≡ m =
         omega (arith, many_is, size-piece u.shown.0.view (subst IsLawfulNode same_node lawful), ap size u.shown.0.shows) in
         let tall_as : s.height ≡ g = tall_is ∙ sym u.high in
         let same : case_of g m false ≡ case_of g m single = elim whole.0 [
-          | inl o ↦ ap (case_of g m) (sym (part_big (affected p x.key u.body) (omega (arith, upto, size_affected x.key p u.body))).1)
+          | inl o ↦ ap (case_of g m) (sym (part_of_two (affected p x.key u.body) (omega (arith, upto, size_affected x.key p u.body))).1)
           | inr one ↦ let e : g ≡ 1 = sym tall_as ∙ one in subst (λ z. case_of z m false ≡ case_of z m single) (sym e) (low_case m single)
         ] in
         at_here taken_part c (case_of s.height s.count false) whole.1 (ap (λ z. case_of z s.count false) tall_as ∙ (ap (λ z. case_of g z false) counts ∙ same))
@@ -187,7 +187,7 @@ module _ {ns : List NodeView} {ls : List LeafRecord} {x : Item} {p n h : ℕ} {t
     }
 
   -- ---- or a new node takes the place of the leaf below it
-  module _ (passes : TakesLeaf c → ⊥) (zero_high : height_of entry ≡ 0) (sought : entry ≡ seek x.key (page u.body)) (stands : IsEntry entry) where
+  module _ (passes : TakesLeaf c → ⊥) (zero_high : height_of entry ≡ 0) (sought : entry ≡ seek x.key (subtrie u.body)) (stands : IsEntry entry) where
     passed_on : last ≤ first
     passed_on = passed s.height s.count first last entry c chosen passes
 
@@ -203,13 +203,13 @@ module _ {ns : List NodeView} {ls : List LeafRecord} {x : Item} {p n h : ℕ} {t
 
     pushed_affected : IsAffectedNode x.key p (node n u.fixed u.body) (record { level = 0; first = first; last = last; case = LeafPushdown })
     pushed_affected =
-        let tip = tip_child p x.key u.body (tip_small (affected p x.key u.body) (let q = passed_on in omega (arith, upto, size_affected x.key p u.body))) in
+        let tip = tip_child p x.key u.body (tip_of_one_place (affected p x.key u.body) (let q = passed_on in omega (arith, upto, size_affected x.key p u.body))) in
         let leafy = low_leaf (child x.key u.body) entry (child_addable i u entry sought).head stands zero_high in
         let single : is_leaf (affected p x.key u.body) ≡ true = ap is_leaf tip.0 ∙ leafy.1 in
         let tall_as : nat_lt 1 u.fixed.height ≡ true = lt-ltb 1 u.fixed.height (let q = pushed_high in omega (arith, u.high)) in
         at_here (subst IsPart (sym tip.0) leafy.0) _ LeafPushdown refl (rw (single, tall_as) refl)
 
-    pub pushed_by_case : (ms us : List NodeView) (at : ℕ) (b up : Bool) → at ≡ first → up ≡ false → IsPutBetween ms us n at u.shown.0.view (page_forked b p (Leaf x.number) (Place entry)) →
+    pub pushed_by_case : (ms us : List NodeView) (at : ℕ) (b up : Bool) → at ≡ first → up ≡ false → IsPutBetween ms us n at u.shown.0.view (subtrie_forked b p (Leaf x.number) (Place entry)) →
         IsByCase ns us x.key p x.number (node n u.fixed u.body) up
     unfolding at_here pushed_affected
     pushed_by_case ms us at b up at_first rose put =
@@ -231,17 +231,17 @@ module _ {ns : List NodeView} {ls : List LeafRecord} {x : Item} {p n h : ℕ} {t
 
 -- ---- below a node
 -- a leaf and the new one are a fork
-pub forked_split : (r : Risen) (b : Bool) (p l : ℕ) (e : Entry) → page_of r ≡ page_forked b p (Leaf l) (Place e) → is_split r ≡ true
+pub forked_split : (r : Risen) (b : Bool) (p l : ℕ) (e : Entry) → subtrie_of r ≡ subtrie_forked b p (Leaf l) (Place e) → is_split r ≡ true
 forked_split (Whole d) true p l e is = absurd cc
 forked_split (Whole d) false p l e is = absurd cc
 forked_split (Split q z o) b p l e is = refl
 
-pub leaf_by_case : (ns ms : List NodeView) (k : Key) (p l n : ℕ) (t : Tree) (up : Bool) → page t ≡ Place (Leaf n) → up ≡ true → AddsByCase ns ms k p l t up
+pub leaf_by_case : (ns ms : List NodeView) (k : Key) (p l n : ℕ) (t : Tree) (up : Bool) → subtrie t ≡ Place (Leaf n) → up ≡ true → AddsByCase ns ms k p l t up
 leaf_by_case ns ms k p l n (leaf m j v) up is rose = rose
 leaf_by_case ns ms k p l n (node m x b) up is rose = absurd cc
 leaf_by_case ns ms k p l n (fork q a b) up is rose = tt
 
-pub node_by_case : (ns ms : List NodeView) (k : Key) (p l : ℕ) (e : Entry) (t : Tree) (up : Bool) → page t ≡ Place e → 0 < height_of e → AddsByCase ns ms k p l t up → IsByCase ns ms k p l t up
+pub node_by_case : (ns ms : List NodeView) (k : Key) (p l : ℕ) (e : Entry) (t : Tree) (up : Bool) → subtrie t ≡ Place e → 0 < height_of e → AddsByCase ns ms k p l t up → IsByCase ns ms k p l t up
 node_by_case ns ms k p l e (leaf m j v) up is high d = absurd (let q : Leaf m ≡ e = cc in omega (arith, ap height_of q))
 node_by_case ns ms k p l e (node m x b) up is high d = d
 node_by_case ns ms k p l e (fork q a b) up is high d = absurd cc
@@ -288,7 +288,7 @@ others_rise ns ms us n others k (suc l) (node m y b) low up none r = (
 others_rise ns ms us n others k (suc l) (fork q a b) low up none r = elim r [ ]
 
 pub above_by_case : (ns ms us : List NodeView) (k : Key) (p l n : ℕ) (y : Fixed) (b : Tree) (rose up : Bool) → NoNode n b → WayBelow p k b → OthersStay ms us n →
-    DoesLevel ns us n (height_of (seek k (page b))) (spot k (page b)) rose up → IsByCase ns ms k p l (child k b) rose → IsByCase ns us k p l (node n y b) up
+    DoesLevel ns us n (height_of (seek k (subtrie b))) (spot k (subtrie b)) rose up → IsByCase ns ms k p l (child k b) rose → IsByCase ns us k p l (node n y b) up
 above_by_case ns ms us k p l n y b rose up none way others does d = record {
   choice = record { level = suc d.choice.level; first = d.choice.first; last = d.choice.last; case = d.choice.case };
   affected = record {

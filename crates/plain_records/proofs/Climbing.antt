@@ -9,35 +9,35 @@ use Rattle.pieces.specs.Piece.{Place, Fork, places, size, leads_to}
 use Rattle.compound_node.specs.Nodes.{NodeView, piece, IsLawfulNode, IsBuiltFrom, StandsBelow, greatest_height, height_of, head_of}
 use Rattle.compound_node.specs.declared.entries.Entry.{Entry}
 use Rattle.compound_node.specs.declared.entries.Entry.TheVariants.{Leaf, Node}
-use Rattle.tries.specs.Affected.{affected, IsPart, page_grown, page_forked}
+use Rattle.tries.specs.Affected.{affected, IsPart, subtrie_grown, subtrie_forked}
 use Rattle.tries.proofs.Changes.{put, IsPathBelow}
 use Rattle.tries.specs.Content.{Item, first}
 use Rattle.tries.specs.Keys.{bit}
 use Rattle.tries.specs.Place.{spot}
 use Rattle.tries.specs.Search.{child, seek, found}
-use Rattle.tries.specs.Tree.{Page, Fixed, Tree, leaf, node, fork, page, Has, IsTrie, IsBuilt, IsLower, first_position, Within, here, inside, zero_side, one_side}
+use Rattle.tries.specs.Tree.{Subtrie, Fixed, Tree, leaf, node, fork, subtrie, Has, IsTrie, IsBuilt, IsLower, first_position, Within, here, inside, zero_side, one_side}
 use Rattle.tries.proofs.Adding.{added_here}
-use Rattle.tries.proofs.Affected.{grown_page, part_place}
+use Rattle.tries.proofs.Affected.{grown_subtrie, part_place}
 use Rattle.tries.proofs.Fitting.{lower_positive}
 use Rattle.tries.proofs.Places.{grown, leads_spot, spot_below}
-use Rattle.tries.proofs.Tries.{rises, trie_within, built_within, within_child, page_child}
+use Rattle.tries.proofs.Tries.{rises, trie_within, built_within, within_child, subtrie_child}
 use Rattle.plain_records.specs.declared.leaf.LeafRecord.{LeafRecord}
 use Rattle.insert_cases.specs.declared.raising.Risen.{Risen}
 use Rattle.pieces.specs.Grafts.{grafted, IsAbovePath}
 use Rattle.plain_records.specs.Rising.{IsRaised, IsAddable, IsLifting, IsNew}
-use Rattle.insert_cases.specs.Risen.{page_of}
+use Rattle.insert_cases.specs.Risen.{subtrie_of}
 use Rattle.plain_records.specs.Risen.{IsNamed, RisenShows, OthersStay}
 use Rattle.plain_records.specs.Store.{ShowsTree}
 use Rattle.insert_cases.specs.Ways.{WayBelow}
 use Rattle.insert_cases.proofs.Affecting.{key_part}
 use Rattle.pieces.proofs.Replacing.{replaced-same}
-use Rattle.tries.proofs.Building.{size-piece, lower_to, node_built_from}
+use Rattle.tries.proofs.Building.{size-piece, greatest_if_lower, node_built_from}
 use Rattle.insert_cases.proofs.Pairs.{tip_entry, tip_low, pair_of, IsPairOf, pair_facts}
-use Rattle.insert_cases.proofs.Choosing.{has_found, same_some, all_away, affected_range, part_big, tip_small, tip_child, size_affected}
+use Rattle.insert_cases.proofs.Choosing.{has_found, some_injective, all_away, affected_range, part_of_two, tip_of_one_place, tip_child, size_affected}
 use Rattle.plain_records.proofs.Keeping.{shown_more}
 use Rattle.plain_records.proofs.Lifting.{grow_raised, lower_part, old_stays, body_adds, pulled_raised}
 use Rattle.plain_records.proofs.Replacing.{child_spot}
-use Rattle.plain_records.proofs.Searching.{node_of_page, read_at, shown_within, lower_child, sought_entry}
+use Rattle.plain_records.proofs.Searching.{node_of_subtrie, read_at, shown_within, lower_child, sought_entry}
 use Rattle.plain_records.proofs.Storing.{push_old, push_new}
 use Rattle.tries.proofs.Contents.{found_child}
 
@@ -48,14 +48,14 @@ piece-same n i e l h =
     (ap (λ es. get_or es i e) (sym l.shows.entries_are) ∙ get_or_from_slice_get n.entries i e e h)
 
 -- ---- a new node for a fork
-pub settle : (ns ms us : List NodeView) (ls : List LeafRecord) (x : Item) (p : ℕ) (s : Tree) (h q : ℕ) (z o e : Entry) →
+pub raised_in_new_node : (ns ms us : List NodeView) (ls : List LeafRecord) (x : Item) (p : ℕ) (s : Tree) (h q : ℕ) (z o e : Entry) →
     IsRaised ns ms ls x p s h (Fork q (Place z) (Place o)) → IsNew ms us e (Fork q (Place z) (Place o)) → IsRaised ns us ls x p s (suc h) (Place e)
-settle ns ms us ls x p s h q z o e u new = record {
+raised_in_new_node ns ms us ls x p s h q z o e u new = record {
   tree = node (length ms) (head_of new.view) u.tree;
-  begins = ap (λ d. let y : Page = Place d in y) (sym new.is);
+  begins = ap (λ d. let y : Subtrie = Place d in y) (sym new.is);
   adds = record { trie = u.adds.trie; more = u.adds.more; keys = u.adds.keys; like = u.adds.like; has_like = u.adds.has_like; agree = u.adds.agree };
   built = node_built_from new.view (length ms) u.tree built u.adds.trie u.built;
-  lower = omega (arith, high, lower_to h u.tree u.lower);
+  lower = omega (arith, high, greatest_if_lower h u.tree u.lower);
   shown = (
     record { view = new.view; at = stands; fixed = refl; shows = shows },
     shown_more ms us ls ls u.tree more (λ m l g. g) u.shown,
@@ -63,10 +63,10 @@ settle ns ms us ls x p s h q z o e u new = record {
   kept = λ m v none at. more m v (u.kept m v none at);
 }
   where
-    shows : piece new.view ≡ page u.tree
+    shows : piece new.view ≡ subtrie u.tree
     shows = new.built.shows_it ∙ sym u.begins
 
-    high : new.view.height ≡ 1 + greatest_height (places (page u.tree))
+    high : new.view.height ≡ 1 + greatest_height (places (subtrie u.tree))
     high = new.built.height_is ∙ ap (λ es. 1 + greatest_height es) (new.built.lawful.shows.entries_are ∙ ap places shows)
 
     stands : slice_get us (length ms) ≡ Some new.view
@@ -75,17 +75,17 @@ settle ns ms us ls x p s h q z o e u new = record {
     more : (m : ℕ) (v : NodeView) → slice_get ms m ≡ Some v → slice_get us m ≡ Some v
     more m v g = ap (λ (vs : List NodeView). slice_get vs m) new.added ∙ push_old ms _ m v g
 
-    built : IsBuiltFrom new.view (page u.tree)
+    built : IsBuiltFrom new.view (subtrie u.tree)
     built = subst (IsBuiltFrom new.view) (sym u.begins) new.built
 
 -- ---- a leaf
 pub beside_raised : (ns : List NodeView) (ls : List LeafRecord) (x : Item) (p n : ℕ) (t : Tree) → IsAddable ns ls x p (Leaf n) t →
-    IsRaised ns ns ls x p t 1 (page_forked (bit x.key p) p (Leaf x.number) (Place (Leaf n)))
+    IsRaised ns ns ls x p t 1 (subtrie_forked (bit x.key p) p (Leaf x.number) (Place (Leaf n)))
 beside_raised ns ls x p n (leaf m k v) i =
     let away = all_away x.key k p i.differ (leaf m k v) i.trie refl tt in
     record {
       tree = grown (bit x.key p) p (leaf m k v) x;
-      begins = grown_page (bit x.key p) p (leaf m k v) x ∙ ap (page_forked (bit x.key p) p (Leaf x.number)) i.head;
+      begins = grown_subtrie (bit x.key p) p (leaf m k v) x ∙ ap (subtrie_forked (bit x.key p) p (Leaf x.number)) i.head;
       adds = added_here (leaf m k v) x p i.trie i.key away;
       built = parts_built (bit x.key p);
       lower = parts_low (bit x.key p);
@@ -128,7 +128,7 @@ pub record IsHere (ns : List NodeView) (ls : List LeafRecord) (x : Item) (p n h 
 
 pub node_here : {ns : List NodeView} {ls : List LeafRecord} {x : Item} {p n h : ℕ} {t : Tree} → IsAddable ns ls x p (Node n h) t → IsHere ns ls x p n h t
 node_here {ns} {ls} {x} {p} {n} {h} {t} i =
-    let u = node_of_page ns ls n h t i.head i.shown i.built in
+    let u = node_of_subtrie ns ls n h t i.head i.shown i.built in
     record {
       fixed = u.fixed;
       body = u.body;
@@ -142,29 +142,29 @@ node_here {ns} {ls} {x} {p} {n} {h} {t} i =
     }
 
 module _ {ns : List NodeView} {ls : List LeafRecord} {x : Item} {p n h : ℕ} {t : Tree} (i : IsAddable ns ls x p (Node n h) t) (u : IsHere ns ls x p n h t) (first last : ℕ)
-    (from : affected_first p (spot x.key (page u.body)) (page u.body) ≡ first) (upto : affected_count p (spot x.key (page u.body)) (page u.body) + first ≡ last + 1) where
+    (from : affected_first p (spot x.key (subtrie u.body)) (subtrie u.body) ≡ first) (upto : affected_count p (spot x.key (subtrie u.body)) (subtrie u.body) + first ≡ last + 1) where
   -- several entries are affected, or there are leaves alone: the new leaf belongs to the node
   pub part : (first < last) ⊎ (h ≡ 1) → IsPart (affected p x.key u.body)
-  part (inl o) = (part_big (affected p x.key u.body) (omega (arith, upto, size_affected x.key p u.body))).0
+  part (inl o) = (part_of_two (affected p x.key u.body) (omega (arith, upto, size_affected x.key p u.body))).0
   part (inr one) =
       let w = part_place p x.key u.body in
       part_low (affected p x.key u.body) (built_within w.0 u.built.2) (lower_part 1 w.0 w.1 (subst (λ g. IsLower g u.body) (u.high ∙ one) u.built.1))
 
-  pub range : IsPart (affected p x.key u.body) → IsAffected (page u.body) p first last
+  pub range : IsPart (affected p x.key u.body) → IsAffected (subtrie u.body) p first last
   range o = affected_range x.key (found x.key u.body).key p u.differ u.body u.trie u.has o first last from upto
 
   pub here_raised : IsPart (affected p x.key u.body) → (ms : List NodeView) (risen : Risen) → OthersStay ns ms n →
-      RisenShows ms u.shown.0.view risen (piece_grown p (bit x.key p) (Leaf x.number) first (page u.body)) → IsRaised ns ms ls x p t (suc h) (page_of risen)
+      RisenShows ms u.shown.0.view risen (piece_grown p (bit x.key p) (Leaf x.number) first (subtrie u.body)) → IsRaised ns ms ls x p t (suc h) (subtrie_of risen)
   here_raised o ms risen others shows =
       let away = all_away x.key (found x.key u.body).key p u.differ u.body u.trie u.has o in
-      let page_is : piece_grown p (bit x.key p) (Leaf x.number) first (page u.body) ≡ page_grown p x.key (Leaf x.number) (page u.body) =
-      ap (λ j. piece_grown p (bit x.key p) (Leaf x.number) j (page u.body)) (sym from) ∙ (key_part x.key p (page u.body)).grows (Leaf x.number) in
-      let r = grow_raised ns ls n u.fixed u.body u.trie u.built u.shown ms x p i.key away i.new others risen (subst (RisenShows ms u.shown.0.view risen) page_is shows) in
-      subst (λ g. IsRaised ns ms ls x p t (suc g) (page_of risen)) u.high (subst (λ y. IsRaised ns ms ls x p y (suc u.fixed.height) (page_of risen)) (sym u.is) r)
+      let subtrie_is : piece_grown p (bit x.key p) (Leaf x.number) first (subtrie u.body) ≡ subtrie_grown p x.key (Leaf x.number) (subtrie u.body) =
+      ap (λ j. piece_grown p (bit x.key p) (Leaf x.number) j (subtrie u.body)) (sym from) ∙ (key_part x.key p (subtrie u.body)).grows (Leaf x.number) in
+      let r = grow_raised ns ls n u.fixed u.body u.trie u.built u.shown ms x p i.key away i.new others risen (subst (RisenShows ms u.shown.0.view risen) subtrie_is shows) in
+      subst (λ g. IsRaised ns ms ls x p t (suc g) (subtrie_of risen)) u.high (subst (λ y. IsRaised ns ms ls x p y (suc u.fixed.height) (subtrie_of risen)) (sym u.is) r)
 
   -- one entry is: the search goes on there
   pub way_below : last ≤ first → WayBelow p x.key u.body
-  way_below o = (tip_child p x.key u.body (tip_small (affected p x.key u.body) (omega (arith, upto, size_affected x.key p u.body)))).1
+  way_below o = (tip_child p x.key u.body (tip_of_one_place (affected p x.key u.body) (omega (arith, upto, size_affected x.key p u.body)))).1
 
 -- what the node's record tells of it
 module _ {ns : List NodeView} {ls : List LeafRecord} {x : Item} {p n h : ℕ} {t : Tree} (u : IsHere ns ls x p n h t) where
@@ -178,31 +178,31 @@ module _ {ns : List NodeView} {ls : List LeafRecord} {x : Item} {p n h : ℕ} {t
   here_high = ap (λ (f : Fixed). f.height) u.shown.0.fixed ∙ u.high
 
   module _ (v : NodeView) (is : v ≡ get_or ns n v) where
-    pub here_page : piece v ≡ page u.body
-    here_page = ap piece (read_at ns n u.shown.0.view v u.shown.0.at is) ∙ u.shown.0.shows
+    pub here_subtrie : piece v ≡ subtrie u.body
+    here_subtrie = ap piece (read_at ns n u.shown.0.view v u.shown.0.at is) ∙ u.shown.0.shows
 
-    pub here_spot : (at : ℕ) → at ≡ leads_to (bit_of x.key) (piece v) → at ≡ spot x.key (page u.body)
-    here_spot at leads = leads ∙ (ap (leads_to (bit_of x.key)) here_page ∙ leads_spot x.key (page u.body))
+    pub here_spot : (at : ℕ) → at ≡ leads_to (bit_of x.key) (piece v) → at ≡ spot x.key (subtrie u.body)
+    here_spot at leads = leads ∙ (ap (leads_to (bit_of x.key)) here_subtrie ∙ leads_spot x.key (subtrie u.body))
 
-    pub here_from : (at first : ℕ) → at ≡ leads_to (bit_of x.key) (piece v) → affected_first p at (piece v) ≡ first → affected_first p (spot x.key (page u.body)) (page u.body) ≡ first
-    here_from at first leads from = ap (λ j. affected_first p j (page u.body)) (sym (here_spot at leads)) ∙ (ap (affected_first p at) (sym here_page) ∙ from)
+    pub here_from : (at first : ℕ) → at ≡ leads_to (bit_of x.key) (piece v) → affected_first p at (piece v) ≡ first → affected_first p (spot x.key (subtrie u.body)) (subtrie u.body) ≡ first
+    here_from at first leads from = ap (λ j. affected_first p j (subtrie u.body)) (sym (here_spot at leads)) ∙ (ap (affected_first p at) (sym here_subtrie) ∙ from)
 
     pub here_upto : (at first last : ℕ) → at ≡ leads_to (bit_of x.key) (piece v) → affected_count p at (piece v) + first ≡ last + 1 →
-        affected_count p (spot x.key (page u.body)) (page u.body) + first ≡ last + 1
+        affected_count p (spot x.key (subtrie u.body)) (subtrie u.body) + first ≡ last + 1
     here_upto at first last leads upto =
-        ap (λ m. m + first) (ap (λ j. affected_count p j (page u.body)) (sym (here_spot at leads)) ∙ ap (affected_count p at) (sym here_page)) ∙ upto
+        ap (λ m. m + first) (ap (λ j. affected_count p j (subtrie u.body)) (sym (here_spot at leads)) ∙ ap (affected_count p at) (sym here_subtrie)) ∙ upto
 
-    pub here_entry : (at : ℕ) (e : Entry) → IsLawfulNode v → at ≡ leads_to (bit_of x.key) (piece v) → slice_get v.entries at ≡ Some e → e ≡ seek x.key (page u.body)
-    here_entry at e lawful leads stands = sought_entry x.key v at e lawful leads stands ∙ ap (seek x.key) here_page
+    pub here_entry : (at : ℕ) (e : Entry) → IsLawfulNode v → at ≡ leads_to (bit_of x.key) (piece v) → slice_get v.entries at ≡ Some e → e ≡ seek x.key (subtrie u.body)
+    here_entry at e lawful leads stands = sought_entry x.key v at e lawful leads stands ∙ ap (seek x.key) here_subtrie
 
 pub addable_to : {ns : List NodeView} {ls : List LeafRecord} {x : Item} {p : ℕ} {e f : Entry} {t : Tree} → e ≡ f → IsAddable ns ls x p e t → IsAddable ns ls x p f t
 addable_to {ns} {ls} {x} {p} {e} {f} {t} is i = subst (λ g. IsAddable ns ls x p g t) is i
 
 -- the entry below it
 pub child_addable : {ns : List NodeView} {ls : List LeafRecord} {x : Item} {p n h : ℕ} {t : Tree} (i : IsAddable ns ls x p (Node n h) t) (u : IsHere ns ls x p n h t) (e : Entry) →
-    e ≡ seek x.key (page u.body) → IsAddable ns ls x p e (child x.key u.body)
+    e ≡ seek x.key (subtrie u.body) → IsAddable ns ls x p e (child x.key u.body)
 child_addable {ns} {ls} {x} {p} {n} {h} {t} i u e is = record {
-  head = page_child x.key u.body ∙ ap (λ z. let y : Page = Place z in y) (sym is);
+  head = subtrie_child x.key u.body ∙ ap (λ z. let y : Subtrie = Place z in y) (sym is);
   trie = trie_within (within_child x.key u.body) u.trie;
   built = built_within (within_child x.key u.body) u.built.2;
   shown = shown_within ns ls (within_child x.key u.body) u.shown.1;
@@ -212,11 +212,11 @@ child_addable {ns} {ls} {x} {p} {n} {h} {t} i u e is = record {
 }
 
 pub child_low : {ns : List NodeView} {ls : List LeafRecord} {x : Item} {p n h : ℕ} {t : Tree} (u : IsHere ns ls x p n h t) (e : Entry) →
-    e ≡ seek x.key (page u.body) → height_of e < h
+    e ≡ seek x.key (subtrie u.body) → height_of e < h
 child_low {x = x} u e is = let l = lower_child u.fixed.height x.key u.body u.built.1 in omega (arith, ap height_of is, u.high)
 
-pub here_lifting : {ns : List NodeView} {ls : List LeafRecord} {x : Item} {p n h : ℕ} {t : Tree} (u : IsHere ns ls x p n h t) (at low : ℕ) (e : Entry) (ms : List NodeView) (head : Page) →
-    WayBelow p x.key u.body → at ≡ spot x.key (page u.body) → e ≡ seek x.key (page u.body) → low ≡ height_of e →
+pub here_lifting : {ns : List NodeView} {ls : List LeafRecord} {x : Item} {p n h : ℕ} {t : Tree} (u : IsHere ns ls x p n h t) (at low : ℕ) (e : Entry) (ms : List NodeView) (head : Subtrie) →
+    WayBelow p x.key u.body → at ≡ spot x.key (subtrie u.body) → e ≡ seek x.key (subtrie u.body) → low ≡ height_of e →
     IsRaised ns ms ls x p (child x.key u.body) (suc (height_of e)) head → IsLifting ns ms ls x p n h at low u.fixed u.body head
 here_lifting {ns} {ls} {x} {p} u at low e ms head below at_is is low_is up = record {
   trie = u.trie;
@@ -240,7 +240,7 @@ path_rises (one_side w) q a c i =
     let r = path_rises w q a c i.1 in
     (one_side r.0, (rises true r.0 i.1 (λ y z u v. i.2 y z (inr u) (inr v)) i.4, r.1))
 
-module _ {ns ms : List NodeView} {ls : List LeafRecord} {x : Item} {p n height at low : ℕ} {y : Fixed} {b : Tree} {head : Page}
+module _ {ns ms : List NodeView} {ls : List LeafRecord} {x : Item} {p n height at low : ℕ} {y : Fixed} {b : Tree} {head : Subtrie}
     (i : IsLifting ns ms ls x p n height at low y b head) where
   below_height : suc low ≤ y.height
   below_height = omega (arith, i.lower, i.high_is)
@@ -252,7 +252,7 @@ module _ {ns ms : List NodeView} {ls : List LeafRecord} {x : Item} {p n height a
   old_high = ap (λ (f : Fixed). f.height) i.shown.0.fixed ∙ i.high_is
 
   pub at_within : at < size (piece i.shown.0.view)
-  at_within = let e = ap size i.shown.0.shows in omega (arith, spot_below x.key (page b), i.at_is)
+  at_within = let e = ap size i.shown.0.shows in omega (arith, spot_below x.key (subtrie b), i.at_is)
 
   -- a fork can stand there
   pub above_path : (q : ℕ) (z o : Entry) → head ≡ Fork q (Place z) (Place o) → IsAbovePath q at (piece i.shown.0.view)
@@ -262,7 +262,7 @@ module _ {ns ms : List NodeView} {ls : List LeafRecord} {x : Item} {p n height a
       let trie = (body_adds ns ls n y b i.trie i.built i.shown ms x p (suc low) head i.below i.up below_height).trie in
       let r = path_rises w q u.zero_tip u.one_tip (subst (λ f. IsTrie (put w f)) u.is trie) in
       subst (λ j. IsAbovePath q j (piece i.shown.0.view)) (sym i.at_is)
-      (subst (IsAbovePath q (spot x.key (page b))) (sym i.shown.0.shows) ((child_spot x.key b).above q r.1))
+      (subst (IsAbovePath q (spot x.key (subtrie b))) (sym i.shown.0.shows) ((child_spot x.key b).above q r.1))
 
   pub pair_here : (q : ℕ) (z o : Entry) → head ≡ Fork q (Place z) (Place o) → IsPairOf q z o
   pair_here q z o e = pair_facts q z o i.up.tree (i.up.begins ∙ e) i.up.adds.trie i.up.built
@@ -270,18 +270,18 @@ module _ {ns ms : List NodeView} {ls : List LeafRecord} {x : Item} {p n height a
   -- an entry can stand there
   pub stands_here : (e : Entry) → head ≡ Place e → StandsBelow i.shown.0.view.height e
   stands_here e is =
-      let begins : page i.up.tree ≡ Place e = i.up.begins ∙ is in
+      let begins : subtrie i.up.tree ≡ Place e = i.up.begins ∙ is in
       (tip_entry e i.up.tree begins i.up.built, let l = tip_low (suc low) e i.up.tree begins i.up.lower in omega (arith, i.lower, old_high))
 
   -- and so the leaf has risen to the node
   pub lift : (us : List NodeView) (risen : Risen) → OthersStay ms us n → ((old : NodeView) → slice_get ms n ≡ Some old → RisenShows us old risen (grafted at head (piece old))) →
-      IsRaised ns us ls x p (node n y b) (suc height) (page_of risen)
+      IsRaised ns us ls x p (node n y b) (suc height) (subtrie_of risen)
   lift us risen others shows =
-      let s : RisenShows us i.shown.0.view risen (grafted (spot x.key (page b)) head (page b)) =
-      subst (λ j. RisenShows us i.shown.0.view risen (grafted j head (page b))) i.at_is
+      let s : RisenShows us i.shown.0.view risen (grafted (spot x.key (subtrie b)) head (subtrie b)) =
+      subst (λ j. RisenShows us i.shown.0.view risen (grafted j head (subtrie b))) i.at_is
       (subst (λ f. RisenShows us i.shown.0.view risen (grafted at head f)) i.shown.0.shows (shows i.shown.0.view old_at)) in
       let r = pulled_raised ns ls n y b i.trie i.built i.shown ms x p (suc low) head i.below i.up below_height us risen others s in
-      subst (λ g. IsRaised ns us ls x p (node n y b) (suc g) (page_of risen)) i.high_is r
+      subst (λ g. IsRaised ns us ls x p (node n y b) (suc g) (subtrie_of risen)) i.high_is r
 
   -- where the node is higher by two, a new node can stand between
   pub between : (us : List NodeView) (q : ℕ) (z o e : Entry) → head ≡ Fork q (Place z) (Place o) → IsNew ms us e (Fork q (Place z) (Place o)) → suc low < height →
@@ -294,11 +294,11 @@ module _ {ns ms : List NodeView} {ls : List LeafRecord} {x : Item} {p n height a
     high_is = i.high_is;
     at_is = i.at_is;
     lower = far;
-    up = settle ns ms us ls x p (child x.key b) (suc low) q z o e (subst (IsRaised ns ms ls x p (child x.key b) (suc low)) is i.up) new;
+    up = raised_in_new_node ns ms us ls x p (child x.key b) (suc low) q z o e (subst (IsRaised ns ms ls x p (child x.key b) (suc low)) is i.up) new;
   }
 
 -- ---- an entry for another
-pub replaced_grafted : (i : ℕ) (e : Entry) (P : Page) → replaced i e P ≡ grafted i (Place e) P
+pub replaced_grafted : (i : ℕ) (e : Entry) (P : Subtrie) → replaced i e P ≡ grafted i (Place e) P
 replaced_grafted i e (Place d) = refl
 replaced_grafted i e (Fork p a b) =
     elim (nat_lt i (size a)) as (λ o. cond o (Fork p (replaced i e a) b) (Fork p a (replaced (i - size a) e b)) ≡ cond o (Fork p (grafted i (Place e) a) b) (Fork p a (grafted (i - size a) (Place e) b))) [
@@ -306,7 +306,7 @@ replaced_grafted i e (Fork p a b) =
       | false ↦ ap (Fork p a) (replaced_grafted (i - size a) e b)
     ]
 
-first_replaced : (i : ℕ) (e : Entry) (P : Page) → first_position (replaced i e P) ≡ first_position P
+first_replaced : (i : ℕ) (e : Entry) (P : Subtrie) → first_position (replaced i e P) ≡ first_position P
 first_replaced i e (Place d) = refl
 first_replaced i e (Fork p a b) =
     elim (nat_lt i (size a)) as (λ o. first_position (cond o (Fork p (replaced i e a) b) (Fork p a (replaced (i - size a) e b))) ≡ p) [ true ↦ refl | false ↦ refl ]
@@ -327,5 +327,5 @@ replaced_named us n at e old view stands lawful high shows = record {
 pub child_held : (ns ms : List NodeView) (n at : ℕ) (u v old : NodeView) (e : Entry) → slice_get ns n ≡ Some u → v ≡ get_or ns n v → slice_get ms n ≡ Some u → slice_get ms n ≡ Some old →
     IsLawfulNode v → slice_get v.entries at ≡ Some e → IsLawfulNode old × (slice_get old.entries at ≡ Some e)
 child_held ns ms n at u v old e there read still now lawful held =
-    let same : v ≡ old = read_at ns n u v there read ∙ same_some (sym still ∙ now) in
+    let same : v ≡ old = read_at ns n u v there read ∙ some_injective (sym still ∙ now) in
     (subst IsLawfulNode same lawful, ap (λ (w : NodeView). slice_get w.entries at) (sym same) ∙ held)

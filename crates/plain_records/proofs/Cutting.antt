@@ -14,7 +14,7 @@ use Rattle.tries.specs.Content.{Item, items, Each}
 use Rattle.tries.specs.Keys.{Key, bit, AgreeBelow, IsBefore}
 use Rattle.tries.specs.Place.{spot}
 use Rattle.tries.specs.Search.{child}
-use Rattle.tries.specs.Tree.{Tree, leaf, node, fork, page, Has, IsTrie, IsTip}
+use Rattle.tries.specs.Tree.{Tree, leaf, node, fork, subtrie, Has, IsTrie, IsTip}
 use Rattle.tries.proofs.Affected.{part_place}
 use Rattle.tries.proofs.Contents.{each_append}
 use Rattle.tries.proofs.Maps.{before_less, before_greater}
@@ -47,8 +47,8 @@ module _ (k : Key) (key : IsKey k) where
     pub low : List Tree
     pub high : List Tree
     pub whole : parts b ≡ low ++ (parts (affected p k b) ++ high)
-    pub first : affected_first p (spot k (page b)) (page b) ≡ length low
-    pub at : spot k (page b) ≡ length low + spot k (page (affected p k b))
+    pub first : affected_first p (spot k (subtrie b)) (subtrie b) ≡ length low
+    pub at : spot k (subtrie b) ≡ length low + spot k (subtrie (affected p k b))
     pub below : IsBeyond k (items_of_all low)
     pub above : IsNotAboveKeys k (items_of_all high)
 
@@ -83,7 +83,7 @@ module _ (k : Key) (key : IsKey k) where
         at_one : nat_lt q p ≡ true → bit k q ≡ true → IsCutAround p b → IsCutAround p (fork q a b)
         at_one e o r =
             let same : affected p k (fork q a b) ≡ affected p k b = rw (e, o) refl in
-            let j : spot k (Fork q (page a) (page b)) ≡ size (page a) + spot k (page b) = rw o refl in
+            let j : spot k (Fork q (subtrie a) (subtrie b)) ≡ size (subtrie a) + spot k (subtrie b) = rw o refl in
             let n = length-append (parts a) r.low in
             record {
               low = parts a ++ r.low;
@@ -92,9 +92,9 @@ module _ (k : Key) (key : IsKey k) where
                   ap (λ ts. parts a ++ ts) r.whole ∙
                   (sym (append_assoc (parts a) r.low (parts (affected p k b) ++ r.high)) ∙ ap (λ (t : Tree). (parts a ++ r.low) ++ (parts t ++ r.high)) (sym same));
               first =
-                  ap (λ (m : ℕ). affected_first p m (Fork q (page a) (page b))) j ∙
-                  (first_one p q (page a) (page b) e (spot k (page b)) ∙ omega (arith, r.first, n, length-parts a));
-              at = j ∙ (ap (λ (m : ℕ). size (page a) + m) r.at ∙ (let z : spot k (page (affected p k b)) ≡ spot k (page (affected p k (fork q a b))) = ap (λ (t : Tree). spot k (page t)) (sym same) in omega (arith, n, length-parts a)));
+                  ap (λ (m : ℕ). affected_first p m (Fork q (subtrie a) (subtrie b))) j ∙
+                  (first_one p q (subtrie a) (subtrie b) e (spot k (subtrie b)) ∙ omega (arith, r.first, n, length-parts a));
+              at = j ∙ (ap (λ (m : ℕ). size (subtrie a) + m) r.at ∙ (let z : spot k (subtrie (affected p k b)) ≡ spot k (subtrie (affected p k (fork q a b))) = ap (λ (t : Tree). spot k (subtrie t)) (sym same) in omega (arith, n, length-parts a)));
               below =
                   subst (IsBeyond k) (sym (leaves-append (parts a) r.low ∙ ap (λ xs. xs ++ items_of_all r.low) (leaves_parts a)))
                   (each_append (λ x. key_order k x.key ≡ Greater) (items a) (items_of_all r.low)
@@ -105,7 +105,7 @@ module _ (k : Key) (key : IsKey k) where
         at_zero : nat_lt q p ≡ true → bit k q ≡ false → IsCutAround p a → IsCutAround p (fork q a b)
         at_zero e o r =
             let same : affected p k (fork q a b) ≡ affected p k a = rw (e, o) refl in
-            let j : spot k (Fork q (page a) (page b)) ≡ spot k (page a) = rw o refl in
+            let j : spot k (Fork q (subtrie a) (subtrie b)) ≡ spot k (subtrie a) = rw o refl in
             record {
               low = r.low;
               high = r.high ++ parts b;
@@ -114,9 +114,9 @@ module _ (k : Key) (key : IsKey k) where
                   (append_assoc r.low (parts (affected p k a) ++ r.high) (parts b) ∙
                   (ap (λ ts. r.low ++ ts) (append_assoc (parts (affected p k a)) r.high (parts b)) ∙ ap (λ (t : Tree). r.low ++ (parts t ++ (r.high ++ parts b))) (sym same)));
               first =
-                  ap (λ (m : ℕ). affected_first p m (Fork q (page a) (page b))) j ∙
-                  (first_zero p q (page a) (page b) e (spot k (page a)) (spot_below k (page a)) ∙ r.first);
-              at = j ∙ (r.at ∙ ap (λ (t : Tree). length r.low + spot k (page t)) (sym same));
+                  ap (λ (m : ℕ). affected_first p m (Fork q (subtrie a) (subtrie b))) j ∙
+                  (first_zero p q (subtrie a) (subtrie b) e (spot k (subtrie a)) (spot_below k (subtrie a)) ∙ r.first);
+              at = j ∙ (r.at ∙ ap (λ (t : Tree). length r.low + spot k (subtrie t)) (sym same));
               below = r.below;
               above =
                   subst (IsNotAboveKeys k) (sym (leaves-append r.high (parts b) ∙ ap (λ xs. items_of_all r.high ++ xs) (leaves_parts b)))
@@ -128,13 +128,13 @@ module _ (k : Key) (key : IsKey k) where
   pub start_within : (p : ℕ) (b : Tree) → IsCutAround p b → IsTip (affected p k b) → IsScanStart k b Within
   start_within p b c tip = go (affected p k b) tip c.whole c.at
     where
-      around : (s : Tree) → parts b ≡ c.low ++ s ∷ c.high → spot k (page b) ≡ length c.low → IsScanStart k b Within
+      around : (s : Tree) → parts b ≡ c.low ++ s ∷ c.high → spot k (subtrie b) ≡ length c.low → IsScanStart k b Within
       around s e j = (
         subst (λ ts. IsBeyond k (items_of_all ts)) (sym (ap₂ take j e ∙ take-append_seam c.low (s ∷ c.high))) c.below,
         subst (λ ts. IsNotAboveKeys k (items_of_all ts)) (sym (ap₂ (λ n ts. drop (n + 1) ts) j e ∙ drop-append-add c.low (s ∷ c.high) 1)) c.above,
       )
 
-      go : (s : Tree) → IsTip s → parts b ≡ c.low ++ (parts s ++ c.high) → spot k (page b) ≡ length c.low + spot k (page s) → IsScanStart k b Within
+      go : (s : Tree) → IsTip s → parts b ≡ c.low ++ (parts s ++ c.high) → spot k (subtrie b) ≡ length c.low + spot k (subtrie s) → IsScanStart k b Within
       go (leaf n m v) t e j = around (leaf n m v) e (omega arith)
       go (node n x d) t e j = around (node n x d) e (omega arith)
       go (fork q x y) t e j = elim t [ ]
@@ -152,7 +152,7 @@ module _ (k : Key) (key : IsKey k) where
       )
 
   -- where it is below the key, a scan starts behind it
-  pub start_behind : (p : ℕ) (b : Tree) (n : ℕ) → (c : IsCutAround p b) → n ≡ length c.low + size (page (affected p k b)) → IsBeyond k (items (affected p k b)) → IsScanStart k b (Before n)
+  pub start_behind : (p : ℕ) (b : Tree) (n : ℕ) → (c : IsCutAround p b) → n ≡ length c.low + size (subtrie (affected p k b)) → IsBeyond k (items (affected p k b)) → IsScanStart k b (Before n)
   start_behind p b n c j f =
       let s : List Tree = parts (affected p k b) in
       let e : parts b ≡ (c.low ++ s) ++ c.high = c.whole ∙ sym (append_assoc c.low s c.high) in

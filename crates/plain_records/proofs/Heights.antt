@@ -14,7 +14,7 @@ use Rattle.insert_cases.specs.declared.growth.Grown.TheVariants.{One as Whole, T
 use Rattle.plain_records.specs.Heights.{Remains, HasHeightAnew, KeepsHeight, KeepsHeights, IsHalfSteady, IsGrownSteady}
 use Rattle.plain_records.specs.Rising.{IsNew}
 use Rattle.plain_records.specs.Risen.{OthersStay, AllStay, pushed_nodes, kept_nodes}
-use Rattle.insert_cases.proofs.Choosing.{same_some}
+use Rattle.insert_cases.proofs.Choosing.{some_injective}
 use Rattle.plain_records.proofs.Storing.{set_back, push_back, push_old, others_kept, others_pushed}
 
 same_steady : {u v : NodeView} → v ≡ u → KeepsHeight u v
@@ -28,7 +28,7 @@ pub heights_same : (ns : List NodeView) → KeepsHeights ns ns
 heights_same ns = record {
   longer = omega arith;
   each = λ m v e. inl (v, e, inl refl);
-  steady = λ m u v old new. same_steady (same_some (sym new ∙ old));
+  steady = λ m u v old new. same_steady (some_injective (sym new ∙ old));
 }
 
 -- ---- one change
@@ -47,11 +47,11 @@ heights_set ns n u v at how = record {
 
     both : (m : ℕ) (o w : NodeView) → KeepsHeight u v → slice_get ns m ≡ Some o → (n ≡ m) × (w ≡ v) → KeepsHeight o w
     both m o w s old e =
-        let same : u ≡ o = same_some (sym at ∙ (ap (slice_get ns) e.0 ∙ old)) in
+        let same : u ≡ o = some_injective (sym at ∙ (ap (slice_get ns) e.0 ∙ old)) in
         subst (λ z. KeepsHeight z w) same (subst (KeepsHeight u) (sym e.1) s)
 
     still : (m : ℕ) (o w : NodeView) → Remains u v ⊎ (HasHeightAnew v × KeepsHeight u v) → slice_get ns m ≡ Some o → ((n ≡ m) × (w ≡ v)) ⊎ (slice_get ns m ≡ Some w) → KeepsHeight o w
-    still m o w h old (inr e) = same_steady (same_some (sym e ∙ old))
+    still m o w h old (inr e) = same_steady (some_injective (sym e ∙ old))
     still m o w (inl r) old (inl e) = both m o w (remains_steady u v r) old e
     still m o w (inr b) old (inl e) = both m o w b.1 old e
 
@@ -59,7 +59,7 @@ pub heights_push : (ns : List NodeView) (v : NodeView) → HasHeightAnew v → K
 heights_push ns v built = record {
   longer = omega (arith, length-append ns (v ∷ []));
   each = λ m w e. pick m w (push_back ns v m w e);
-  steady = λ m o w old new. same_steady (same_some (sym new ∙ push_old ns (v ∷ []) m o old));
+  steady = λ m o w old new. same_steady (some_injective (sym new ∙ push_old ns (v ∷ []) m o old));
 }
   where
     pick : (m : ℕ) (w : NodeView) → (slice_get ns m ≡ Some w) ⊎ (w ≡ v) → ((o : NodeView) × (slice_get ns m ≡ Some o) × Remains o w) ⊎ HasHeightAnew w

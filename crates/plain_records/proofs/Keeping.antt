@@ -4,14 +4,14 @@ use Rattle.std.specs.Prelude.{slice_get}
 use Rattle.pieces.specs.Piece.{Place, Fork}
 use Rattle.compound_node.specs.Nodes.{NodeView, piece, head_of}
 use Rattle.compound_node.specs.declared.entries.Entry.TheVariants.{Leaf, Node}
-use Rattle.tries.specs.Tree.{Page, Fixed, Tree, leaf, node, fork, page, Has, IsBuilt, IsLower}
+use Rattle.tries.specs.Tree.{Subtrie, Fixed, Tree, leaf, node, fork, subtrie, Has, IsBuilt, IsLower}
 use Rattle.tries.specs.Content.{first}
 use Rattle.tries.proofs.Tries.{has_first}
 use Rattle.plain_records.specs.declared.leaf.LeafRecord.{LeafRecord}
 use Rattle.plain_records.specs.Rising.{NoNode, StaysStored}
 use Rattle.plain_records.specs.Risen.{OthersStay}
 use Rattle.plain_records.specs.Store.{IsNodeStored, ShowsTree}
-use Rattle.insert_cases.proofs.Choosing.{same_some}
+use Rattle.insert_cases.proofs.Choosing.{some_injective}
 
 -- the trees have no key in common
 abbrev pub IsApart : Tree → Tree → Type 0
@@ -19,27 +19,27 @@ IsApart s t = (k : List ℕ) → Has s k → Has t k → ⊥
 
 module _ (ns : List NodeView) where
   same_view : {n m : ℕ} {v w : NodeView} → n ≡ m → slice_get ns n ≡ Some v → slice_get ns m ≡ Some w → v ≡ w
-  same_view e i j = same_some (sym i ∙ (ap (slice_get ns) e ∙ j))
+  same_view e i j = some_injective (sym i ∙ (ap (slice_get ns) e ∙ j))
 
-  stored_same : {n m : ℕ} {x y : Fixed} {p q : Page} → n ≡ m → IsNodeStored ns n x p → IsNodeStored ns m y q → (x ≡ y) × (p ≡ q)
+  stored_same : {n m : ℕ} {x y : Fixed} {p q : Subtrie} → n ≡ m → IsNodeStored ns n x p → IsNodeStored ns m y q → (x ≡ y) × (p ≡ q)
   stored_same e s t =
       let z = same_view e s.at t.at in
       (sym s.fixed ∙ (ap head_of z ∙ t.fixed), sym s.shows ∙ (ap piece z ∙ t.shows))
 
-  leaf_parts : {n o : ℕ} → (let a : Page = Place (Leaf n) in let b : Page = Place (Leaf o) in a ≡ b) → n ≡ o
+  leaf_parts : {n o : ℕ} → (let a : Subtrie = Place (Leaf n) in let b : Subtrie = Place (Leaf o) in a ≡ b) → n ≡ o
   leaf_parts e = cc
 
-  node_parts : {n o h g : ℕ} → (let a : Page = Place (Node n h) in let b : Page = Place (Node o g) in a ≡ b) → (n ≡ o) × (h ≡ g)
+  node_parts : {n o h g : ℕ} → (let a : Subtrie = Place (Node n h) in let b : Subtrie = Place (Node o g) in a ≡ b) → (n ≡ o) × (h ≡ g)
   node_parts e = (cc, cc)
 
-  part_parts : {p q : ℕ} {a b c d : Page} → Fork p a b ≡ Fork q c d → (p ≡ q) × (a ≡ c) × (b ≡ d)
+  part_parts : {p q : ℕ} {a b c d : Subtrie} → Fork p a b ≡ Fork q c d → (p ≡ q) × (a ≡ c) × (b ≡ d)
   part_parts e = (cc, cc, cc)
 
   -- what the records show is determined by the entry
-  pub determined : (ls : List LeafRecord) (s t : Tree) → ShowsTree ns ls s → ShowsTree ns ls t → page s ≡ page t → s ≡ t
+  pub determined : (ls : List LeafRecord) (s t : Tree) → ShowsTree ns ls s → ShowsTree ns ls t → subtrie s ≡ subtrie t → s ≡ t
   determined ls (leaf n k v) (leaf o l w) i j e =
       let x : n ≡ o = leaf_parts e in
-      let r = same_some (sym i ∙ (ap (slice_get ls) x ∙ j)) in
+      let r = some_injective (sym i ∙ (ap (slice_get ls) x ∙ j)) in
       let y : k ≡ l = ap (λ (z : LeafRecord). z.key) r in
       let z : v ≡ w = ap (λ (z : LeafRecord). z.value) r in cc
   determined ls (leaf n k v) (node o l w) i j e = absurd cc
@@ -54,7 +54,7 @@ module _ (ns : List NodeView) where
   determined ls (fork p a b) (leaf q c d) i j e = absurd cc
   determined ls (fork p a b) (node q c d) i j e = absurd cc
   determined ls (fork p a b) (fork q c d) i j e =
-      let x : (p ≡ q) × (page a ≡ page c) × (page b ≡ page d) = part_parts e in
+      let x : (p ≡ q) × (subtrie a ≡ subtrie c) × (subtrie b ≡ subtrie d) = part_parts e in
       let y : a ≡ c = determined ls a c i.0 j.0 x.1 in
       let z : b ≡ d = determined ls b d i.1 j.1 x.2 in
       ap₂ (λ (u : Tree) (w : Tree). fork p u w) y z ∙ ap (λ r. fork r c d) x.0

@@ -11,7 +11,7 @@ use Rattle.key_bits.specs.Key.{IsKey}
 use Rattle.finite_map.specs.Maps.{key_order}
 use Rattle.tries.specs.Content.{Item, items}
 use Rattle.tries.specs.Keys.{Key}
-use Rattle.tries.specs.Tree.{Page, Tree, leaf, node, fork, page, IsTrie, Within, here, zero_side, one_side}
+use Rattle.tries.specs.Tree.{Subtrie, Tree, leaf, node, fork, subtrie, IsTrie, Within, here, zero_side, one_side}
 use Rattle.tries.proofs.Contents.{content_rises, IsRising}
 use Rattle.tries.proofs.Maps.{AreKeys, are_keys}
 use Rattle.plain_records.specs.Gathered.{parts, items_of_all, items_from, IsNotAboveKeys}
@@ -28,24 +28,24 @@ leaves_parts (node n x b) = append-nil (items b)
 leaves_parts (fork p a b) = leaves-append (parts a) (parts b) ∙ ap₂ (λ (xs ys : List Item). xs ++ ys) (leaves_parts a) (leaves_parts b)
 
 -- a part at each place, which has there what stands there
-abbrev pub place : Entry → Page
+abbrev pub place : Entry → Subtrie
 place e = Place e
 
-pub parts_places : (b : Tree) → map page (parts b) ≡ map place (places (page b))
+pub parts_places : (b : Tree) → map subtrie (parts b) ≡ map place (places (subtrie b))
 parts_places (leaf n k v) = refl
 parts_places (node n x b) = refl
 parts_places (fork p a b) =
-    map-append page (parts a) (parts b) ∙
-    (ap₂ (λ (xs ys : List Page). xs ++ ys) (parts_places a) (parts_places b) ∙ sym (map-append place (places (page a)) (places (page b))))
+    map-append subtrie (parts a) (parts b) ∙
+    (ap₂ (λ (xs ys : List Subtrie). xs ++ ys) (parts_places a) (parts_places b) ∙ sym (map-append place (places (subtrie a)) (places (subtrie b))))
 
-pub length-parts : (b : Tree) → length (parts b) ≡ size (page b)
+pub length-parts : (b : Tree) → length (parts b) ≡ size (subtrie b)
 length-parts b =
-    sym (length-map (parts b) page) ∙ (ap length (parts_places b) ∙ (length-map (places (page b)) place ∙ length-places (page b)))
+    sym (length-map (parts b) subtrie) ∙ (ap length (parts_places b) ∙ (length-map (places (subtrie b)) place ∙ length-places (subtrie b)))
 
-pub part_head : (b : Tree) (i : ℕ) (d : Tree) (e : Entry) → i < length (parts b) → page (get_or (parts b) i d) ≡ Place (get_or (places (page b)) i e)
+pub part_head : (b : Tree) (i : ℕ) (d : Tree) (e : Entry) → i < length (parts b) → subtrie (get_or (parts b) i d) ≡ Place (get_or (places (subtrie b)) i e)
 part_head b i d e h =
-    let n : i < length (places (page b)) = omega (arith, length-parts b, length-places (page b)) in
-    sym (get_or-map page (parts b) i d (page d) h) ∙ (ap (λ ps. get_or ps i (page d)) (parts_places b) ∙ get_or-map place (places (page b)) i e (page d) n)
+    let n : i < length (places (subtrie b)) = omega (arith, length-parts b, length-places (subtrie b)) in
+    sym (get_or-map subtrie (parts b) i d (subtrie d) h) ∙ (ap (λ ps. get_or ps i (subtrie d)) (parts_places b) ∙ get_or-map place (places (subtrie b)) i e (subtrie d) n)
 
 -- what holds of each part
 abbrev pub EachPart : (Tree → Type 0) → List Tree → Type 0

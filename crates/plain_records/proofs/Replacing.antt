@@ -7,75 +7,75 @@ use Rattle.compound_node.specs.Nodes.{NodeView, piece, greatest_height, head_of}
 use Rattle.compound_node.specs.declared.entries.Entry.{Entry}
 use Rattle.tries.specs.Affected.{affected}
 use Rattle.tries.specs.Changes.{IsAdded}
-use Rattle.tries.proofs.Changes.{put, IsFlat, IsPathBelow}
+use Rattle.tries.proofs.Changes.{put, IsInOwnSubtrie, IsPathBelow}
 use Rattle.tries.specs.Content.{Item}
 use Rattle.tries.specs.Keys.{Key, bit}
 use Rattle.tries.specs.Place.{spot}
-use Rattle.tries.proofs.Places.{bare}
+use Rattle.tries.proofs.Places.{without_marks}
 use Rattle.tries.specs.Search.{child}
-use Rattle.tries.specs.Tree.{Page, Fixed, Tree, leaf, node, fork, page, IsTrie, IsBuilt, IsLower, first_position, Within, here, inside, zero_side, one_side, IsTip}
+use Rattle.tries.specs.Tree.{Subtrie, Fixed, Tree, leaf, node, fork, subtrie, IsTrie, IsBuilt, IsLower, first_position, Within, here, inside, zero_side, one_side, IsTip}
 use Rattle.tries.proofs.Spots.{path_spot, grafted_spot}
 use Rattle.tries.proofs.Tries.{has_within}
 use Rattle.pieces.specs.Grafts.{grafted, IsAbovePath}
 use Rattle.insert_cases.specs.Ways.{WayBelow}
-use Rattle.tries.proofs.Building.{size-piece, body_bound, lower_to, node_built, fork_big}
+use Rattle.tries.proofs.Building.{size-piece, body_bound, greatest_if_lower, node_built, fork_of_two_places}
 use Rattle.plain_records.specs.declared.leaf.LeafRecord.{LeafRecord}
 use Rattle.insert_cases.specs.declared.raising.Risen.{Risen}
 use Rattle.insert_cases.specs.declared.raising.Risen.TheVariants.{Whole, Split}
-use Rattle.insert_cases.specs.Risen.{page_of}
+use Rattle.insert_cases.specs.Risen.{subtrie_of}
 use Rattle.plain_records.specs.Risen.{IsNamed, IsFor, RisenShows}
 use Rattle.plain_records.specs.Store.{ShowsTree}
 use Rattle.plain_records.specs.Rising.{StaysStored}
 use Rattle.plain_records.proofs.Keeping.{lower_more, shown_kept}
 
 -- ---- records for a body
--- a tree that differs from a body in its nodes alone, and begins with this page
-pub record IsAround (ms : List NodeView) (ls : List LeafRecord) (h : ℕ) (head : Page) (b : Tree) : Type 0 where
+-- a tree that differs from a body in its nodes alone, and begins with this subtrie
+pub record IsAround (ms : List NodeView) (ls : List LeafRecord) (h : ℕ) (head : Subtrie) (b : Tree) : Type 0 where
   pub tree : Tree
-  pub begins : page tree ≡ head
-  pub same : bare tree ≡ bare b
+  pub begins : subtrie tree ≡ head
+  pub same : without_marks tree ≡ without_marks b
   pub built : IsBuilt tree
   pub lower : IsLower (suc h) tree
   pub shown : ShowsTree ms ls tree
 
 module _ (ms : List NodeView) (ls : List LeafRecord) (old : NodeView) (bounded : old.height + first_position (piece old) ≤ 9 * MAX_BYTES) where
-  named_around : (e : Entry) (s : Tree) → IsNamed ms old e (page s) → IsTrie s → IsBuilt s → ShowsTree ms ls s → IsLower old.height s → IsAround ms ls old.height (Place e) s
+  named_around : (e : Entry) (s : Tree) → IsNamed ms old e (subtrie s) → IsTrie s → IsBuilt s → ShowsTree ms ls s → IsLower old.height s → IsAround ms ls old.height (Place e) s
   named_around e s i trie built shown low = record {
     tree = node i.number (head_of i.view) s;
-    begins = ap (λ z. let y : Page = Place z in y) (sym i.is);
+    begins = ap (λ z. let y : Subtrie = Place z in y) (sym i.is);
     same = refl;
     built = node_built i.view i.number s i.lawful i.shows built (high i.height) (bound i.height);
     lower = under i.height;
     shown = (record { view = i.view; at = i.at; fixed = refl; shows = i.shows }, shown);
   }
     where
-      below : greatest_height (places (page s)) < old.height
-      below = lower_to old.height s low
+      below : greatest_height (places (subtrie s)) < old.height
+      below = greatest_if_lower old.height s low
 
-      high : (i.view.height ≡ 1 + greatest_height (places (page s))) ⊎ ((i.view.height ≡ old.height) × (first_position (piece i.view) ≡ first_position (piece old))) → greatest_height (places (page s)) < i.view.height
+      high : (i.view.height ≡ 1 + greatest_height (places (subtrie s))) ⊎ ((i.view.height ≡ old.height) × (first_position (piece i.view) ≡ first_position (piece old))) → greatest_height (places (subtrie s)) < i.view.height
       high (inl e) = omega arith
       high (inr e) = omega (arith, below)
 
-      under : (i.view.height ≡ 1 + greatest_height (places (page s))) ⊎ ((i.view.height ≡ old.height) × (first_position (piece i.view) ≡ first_position (piece old))) → i.view.height < suc old.height
+      under : (i.view.height ≡ 1 + greatest_height (places (subtrie s))) ⊎ ((i.view.height ≡ old.height) × (first_position (piece i.view) ≡ first_position (piece old))) → i.view.height < suc old.height
       under (inl e) = omega (arith, below)
       under (inr e) = omega arith
 
-      bound : (i.view.height ≡ 1 + greatest_height (places (page s))) ⊎ ((i.view.height ≡ old.height) × (first_position (piece i.view) ≡ first_position (piece old))) → i.view.height + first_position (page s) ≤ 9 * MAX_BYTES
+      bound : (i.view.height ≡ 1 + greatest_height (places (subtrie s))) ⊎ ((i.view.height ≡ old.height) × (first_position (piece i.view) ≡ first_position (piece old))) → i.view.height + first_position (subtrie s) ≤ 9 * MAX_BYTES
       bound (inl e) =
-          let g = body_bound s (fork_big s (omega (arith, i.lawful.several, ap size i.shows, size-piece i.view i.lawful))) trie built in
+          let g = body_bound s (fork_of_two_places s (omega (arith, i.lawful.several, ap size i.shows, size-piece i.view i.lawful))) trie built in
           omega arith
       bound (inr e) =
-          let g : first_position (piece old) ≡ first_position (page s) = sym e.1 ∙ ap first_position i.shows in
+          let g : first_position (piece old) ≡ first_position (subtrie s) = sym e.1 ∙ ap first_position i.shows in
           omega (arith, bounded)
 
-  for_around : (e : Entry) (s : Tree) → IsFor ms old e (page s) → IsTrie s → IsBuilt s → ShowsTree ms ls s → IsLower old.height s → IsAround ms ls old.height (Place e) s
+  for_around : (e : Entry) (s : Tree) → IsFor ms old e (subtrie s) → IsTrie s → IsBuilt s → ShowsTree ms ls s → IsLower old.height s → IsAround ms ls old.height (Place e) s
   for_around e s (inl is) trie built shown low =
       record { tree = s; begins = is; same = refl; built = built; lower = lower_more ms old.height (suc old.height) s low (omega arith); shown = shown }
   for_around e s (inr i) trie built shown low = named_around e s i trie built shown low
 
   -- what takes the node's place, where the node is to show this body
-  pub risen_around : (risen : Risen) (b : Tree) → RisenShows ms old risen (page b) → IsTrie b → IsBuilt b → ShowsTree ms ls b → IsLower old.height b →
-      IsAround ms ls old.height (page_of risen) b
+  pub risen_around : (risen : Risen) (b : Tree) → RisenShows ms old risen (subtrie b) → IsTrie b → IsBuilt b → ShowsTree ms ls b → IsLower old.height b →
+      IsAround ms ls old.height (subtrie_of risen) b
   risen_around (Whole e) b i trie built shown low = named_around e b i trie built shown low
   risen_around (Split p z o) (leaf n k v) i trie built shown low = elim i [ ]
   risen_around (Split p z o) (node n x d) i trie built shown low = elim i [ ]
@@ -95,10 +95,10 @@ module _ (ms : List NodeView) (ls : List LeafRecord) (old : NodeView) (bounded :
 -- the place in a body to which a key's search leads
 pub record IsSpot (k : Key) (b s : Tree) : Type 0 where
   pub place : Within s b
-  pub flat : IsFlat place
-  pub shows : (r : Tree) → page (put place r) ≡ grafted (spot k (page b)) (page r) (page b)
+  pub flat : IsInOwnSubtrie place
+  pub shows : (r : Tree) → subtrie (put place r) ≡ grafted (spot k (subtrie b)) (subtrie r) (subtrie b)
   pub path : (p : ℕ) → WayBelow p k b → IsPathBelow p place
-  pub above : (p : ℕ) → IsPathBelow p place → IsAbovePath p (spot k (page b)) (page b)
+  pub above : (p : ℕ) → IsPathBelow p place → IsAbovePath p (spot k (subtrie b)) (subtrie b)
 
 -- forks below the position alone on the way: there is but an entry after the forks below it
 way_tip : (p : ℕ) (k : Key) (b : Tree) → WayBelow p k b → IsTip (affected p k b)
@@ -113,17 +113,17 @@ way_tip p k (fork q a c) w = rw (lt-ltb q p w.0) (go (bit k q) (way_tip p k a) (
 
 pub child_spot : (k : Key) (b : Tree) → IsSpot k b (child k b)
 child_spot k b =
-    let ((place, flat, pages, path), above) = path_spot k b in
+    let ((place, flat, subtries, path), above) = path_spot k b in
     record {
       place = place;
       flat = flat;
-      shows = λ r. pages r ∙ sym (grafted_spot k (page r) (page b));
+      shows = λ r. subtries r ∙ sym (grafted_spot k (subtrie r) (subtrie b));
       path = λ p w. path p (way_tip p k b w);
       above = above;
     }
 
 -- another tree in one place of a shown one, whose other parts stay shown
-pub put_kept : (ns ms : List NodeView) (ls : List LeafRecord) {s b : Tree} (w : Within s b) → IsFlat w → (r : Tree) → IsTrie b → ShowsTree ns ls b → ShowsTree ns ls s →
+pub put_kept : (ns ms : List NodeView) (ls : List LeafRecord) {s b : Tree} (w : Within s b) → IsInOwnSubtrie w → (r : Tree) → IsTrie b → ShowsTree ns ls b → ShowsTree ns ls s →
     StaysStored ns ms s → ShowsTree ms ls r → ShowsTree ms ls (put w r)
 put_kept ns ms ls here f r t i j c h = h
 put_kept ns ms ls (inside w) f r t i j c h = elim f [ ]

@@ -8,13 +8,13 @@ use Rattle.compound_node.specs.Nodes.{NodeView, piece, IsLawfulNode}
 use Rattle.compound_node.specs.declared.entries.Entry.{Entry}
 use Rattle.compound_node.specs.declared.entries.Entry.TheVariants.{Leaf, Node}
 use Rattle.tries.specs.Content.{Item, items}
-use Rattle.tries.specs.Tree.{Page, Fixed, Tree, leaf, node, fork, page, Within}
+use Rattle.tries.specs.Tree.{Subtrie, Fixed, Tree, leaf, node, fork, subtrie, Within}
 use Rattle.tries.proofs.Tries.{trie_within, built_within}
 use Rattle.plain_records.specs.declared.leaf.LeafRecord.{LeafRecord}
 use Rattle.plain_records.specs.Gathered.{ShowsSound, items_from, parts}
 use Rattle.plain_records.specs.Store.{item_record}
 use Rattle.plain_records.proofs.Parts.{leaves_parts, length-parts, part_head, part_within}
-use Rattle.plain_records.proofs.Searching.{shown_within, read_at, node_of_page}
+use Rattle.plain_records.proofs.Searching.{shown_within, read_at, node_of_subtrie}
 
 -- some tree, where a list has none
 abbrev pub no_tree : Tree
@@ -34,7 +34,7 @@ stands_within ns ls w i = record {
 -- what stands at a place of a body
 pub record IsPartAt (ns : List NodeView) (ls : List LeafRecord) (b : Tree) (i : ℕ) (e : Entry) : Type 0 where
   pub in_range : i < length (parts b)
-  pub head : page (get_or (parts b) i no_tree) ≡ Place e
+  pub head : subtrie (get_or (parts b) i no_tree) ≡ Place e
   pub stands : ShowsSound ns ls (get_or (parts b) i no_tree)
 
 module _ (ns : List NodeView) (ls : List LeafRecord) (n : ℕ) (x : Fixed) (b : Tree) (i : ShowsSound ns ls (node n x b)) where
@@ -45,7 +45,7 @@ module _ (ns : List NodeView) (ls : List LeafRecord) (n : ℕ) (x : Fixed) (b : 
     same : w ≡ i.shown.0.view
     same = read_at ns n i.shown.0.view w i.shown.0.at at
 
-    pub node_shows : piece w ≡ page b
+    pub node_shows : piece w ≡ subtrie b
     node_shows = ap piece same ∙ i.shown.0.shows
 
     pub node_height : height_some (slice_get ns n) ≡ w.height
@@ -58,11 +58,11 @@ module _ (ns : List NodeView) (ls : List LeafRecord) (n : ℕ) (x : Fixed) (b : 
     pub part_at : IsLawfulNode w → (j : ℕ) (e : Entry) → slice_get w.entries j ≡ Some e → IsPartAt ns ls b j e
     part_at l j e at_j =
         let h : j < length (parts b) = (let k = slice_get_within w.entries j e at_j in let m = node_count l in omega arith) in
-        let is : get_or (places (page b)) j e ≡ e =
-        ap (λ (p : Page). get_or (places p) j e) (sym node_shows) ∙ (ap (λ (es : List Entry). get_or es j e) (sym l.shows.entries_are) ∙ get_or_from_slice_get w.entries j e e at_j) in
+        let is : get_or (places (subtrie b)) j e ≡ e =
+        ap (λ (p : Subtrie). get_or (places p) j e) (sym node_shows) ∙ (ap (λ (es : List Entry). get_or es j e) (sym l.shows.entries_are) ∙ get_or_from_slice_get w.entries j e e at_j) in
         record {
           in_range = h;
-          head = part_head b j no_tree e h ∙ ap (λ (z : Entry). let y : Page = Place z in y) is;
+          head = part_head b j no_tree e h ∙ ap (λ (z : Entry). let y : Subtrie = Place z in y) is;
           stands = stands_within ns ls (part_within b j no_tree h) (record { shown = i.shown.1; sound = record { trie = i.sound.trie; built = i.sound.built.2 } });
         }
 
@@ -72,7 +72,7 @@ pub record IsLeafAt (ns : List NodeView) (ls : List LeafRecord) (n : ℕ) (t : T
   pub alone : items t ≡ item ∷ []
   pub at : slice_get ls n ≡ Some (item_record item)
 
-pub leaf_at : (ns : List NodeView) (ls : List LeafRecord) (n : ℕ) (t : Tree) → page t ≡ Place (Leaf n) → ShowsSound ns ls t → IsLeafAt ns ls n t
+pub leaf_at : (ns : List NodeView) (ls : List LeafRecord) (n : ℕ) (t : Tree) → subtrie t ≡ Place (Leaf n) → ShowsSound ns ls t → IsLeafAt ns ls n t
 leaf_at ns ls n (leaf m k w) e i =
     let f : m ≡ n = cc in record { item = record { number = m; key = k; value = w }; alone = refl; at = subst (λ z. slice_get ls z ≡ Some (record { key = k; value = w })) f i.shown }
 leaf_at ns ls n (node m x b) e i = absurd cc
@@ -87,9 +87,9 @@ pub record IsNodeAt (ns : List NodeView) (ls : List LeafRecord) (n h : ℕ) (t :
   pub height : height_some (slice_get ns n) ≡ h
   pub all : items t ≡ items_from 0 body
 
-pub node_at : (ns : List NodeView) (ls : List LeafRecord) (n h : ℕ) (t : Tree) → page t ≡ Place (Node n h) → ShowsSound ns ls t → IsNodeAt ns ls n h t
+pub node_at : (ns : List NodeView) (ls : List LeafRecord) (n h : ℕ) (t : Tree) → subtrie t ≡ Place (Node n h) → ShowsSound ns ls t → IsNodeAt ns ls n h t
 node_at ns ls n h t e i =
-    let u = node_of_page ns ls n h t e i.shown i.sound.built in
+    let u = node_of_subtrie ns ls n h t e i.shown i.sound.built in
     record {
       fixed = u.fixed;
       body = u.body;

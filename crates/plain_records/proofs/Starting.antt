@@ -10,7 +10,7 @@ use Rattle.tries.specs.Content.{Item, items}
 use Rattle.tries.specs.Keys.{Key, bit}
 use Rattle.tries.specs.Place.{spot}
 use Rattle.tries.specs.Search.{child, found}
-use Rattle.tries.specs.Tree.{Tree, leaf, node, fork, page, IsTrie}
+use Rattle.tries.specs.Tree.{Tree, leaf, node, fork, subtrie, IsTrie}
 use Rattle.tries.proofs.Maps.{AreKeys}
 use Rattle.tries.proofs.Places.{spot_below}
 use Rattle.plain_records.specs.declared.gathering.Range.{Range}
@@ -22,17 +22,17 @@ use Rattle.plain_records.proofs.Parts.{length-parts, items_split, leaves_around,
 use Rattle.tries.proofs.Contents.{found_child, IsRising}
 
 -- the part at the place to which a search leads
-pub part_child : (k : Key) (b : Tree) (d : Tree) → get_or (parts b) (spot k (page b)) d ≡ child k b
+pub part_child : (k : Key) (b : Tree) (d : Tree) → get_or (parts b) (spot k (subtrie b)) d ≡ child k b
 part_child k (leaf n l v) d = refl
 part_child k (node n x b) d = refl
 part_child k (fork p a b) d =
-    elim (bit k p) as (λ u. get_or (parts a ++ parts b) (if u then size (page a) + spot k (page b) else spot k (page a)) d ≡ (if u then child k b else child k a)) [
-      | true ↦ ap (λ n. get_or (parts a ++ parts b) (n + spot k (page b)) d) (sym (length-parts a)) ∙ (get_or-append-add (parts a) (parts b) (spot k (page b)) d ∙ part_child k b d)
-      | false ↦ get_or_append_left (parts a) (parts b) d (spot k (page a)) (rw (length-parts a) (spot_below k (page a))) ∙ part_child k a d
+    elim (bit k p) as (λ u. get_or (parts a ++ parts b) (if u then size (subtrie a) + spot k (subtrie b) else spot k (subtrie a)) d ≡ (if u then child k b else child k a)) [
+      | true ↦ ap (λ n. get_or (parts a ++ parts b) (n + spot k (subtrie b)) d) (sym (length-parts a)) ∙ (get_or-append-add (parts a) (parts b) (spot k (subtrie b)) d ∙ part_child k b d)
+      | false ↦ get_or_append_left (parts a) (parts b) d (spot k (subtrie a)) (rw (length-parts a) (spot_below k (subtrie a))) ∙ part_child k a d
     ]
 
 -- in which the search ends at the same leaf
-pub part_mismatch : (k : Key) (b : Tree) (j : ℕ) (d : Tree) (o : Option ℕ) → j ≡ spot k (page b) → IsFirstMismatch k b o → IsFirstMismatch k (get_or (parts b) j d) o
+pub part_mismatch : (k : Key) (b : Tree) (j : ℕ) (d : Tree) (o : Option ℕ) → j ≡ spot k (subtrie b) → IsFirstMismatch k b o → IsFirstMismatch k (get_or (parts b) j d) o
 part_mismatch k b j d o e m =
     let same : found k (get_or (parts b) j d) ≡ found k b = ap (λ i. found k (get_or (parts b) i d)) e ∙ (ap (found k) (part_child k b d) ∙ found_child k b) in
     subst (λ (x : Item). IsKey k × MatchOption o (k ≡ x.key) (IsFirstDifference k x.key)) (sym same) m

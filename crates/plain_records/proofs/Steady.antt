@@ -14,7 +14,7 @@ use Rattle.compound_node.specs.declared.entries.Entry.{Entry}
 use Rattle.compound_node.specs.declared.halves.Cut.{Cut}
 use Rattle.compound_node.specs.declared.halves.Half.{Half}
 use Rattle.compound_node.specs.declared.halves.Half.TheVariants.{One, Many, Same}
-use Rattle.tries.specs.Tree.{Page, first_position}
+use Rattle.tries.specs.Tree.{Subtrie, first_position}
 use Rattle.pieces.specs.Grafts.{grafted, IsAbovePath}
 use Rattle.insert_cases.specs.Grown.{GrownShows, SidesShow, is_whole, keeps_node}
 use Rattle.plain_records.specs.Heights.{KeepsHeight, IsHalfSteady, IsGrownSteady}
@@ -71,11 +71,11 @@ module _ {A : Type 0} where
       (cases_Bool (nat_lt i (size a)))
 
 -- ---- nodes with the same forks
-root_is : (x : ℕ) (P : Page) → AtRootFork (λ p a b. x ≡ p) P → x ≡ first_position P
+root_is : (x : ℕ) (P : Subtrie) → AtRootFork (λ p a b. x ≡ p) P → x ≡ first_position P
 root_is x (Place e) h = elim h [ ]
 root_is x (Fork p a b) h = h
 
-root_beyond : (q : ℕ) (P : Page) → 2 ≤ size P → IsRootAbove q P → q < first_position P
+root_beyond : (q : ℕ) (P : Subtrie) → 2 ≤ size P → IsRootAbove q P → q < first_position P
 root_beyond q (Place e) h r = absurd (omega arith)
 root_beyond q (Fork p a b) h r = r
 
@@ -98,12 +98,12 @@ module _ (u v : NodeView) (lawful_u : IsLawfulNode u) (lawful_v : IsLawfulNode v
 
 -- ---- the halves of a cut
 module _ (u : NodeView) (lawful : IsLawfulNode u) where
-  half_steady : (half : Half) (P : Page) → HalfShows half P → IsRootAbove (first_position (piece u)) P → IsHalfSteady u half
+  half_steady : (half : Half) (P : Subtrie) → HalfShows half P → IsRootAbove (first_position (piece u)) P → IsHalfSteady u half
   half_steady (One e) P s r = tt
   half_steady (Many v) P s r = steady_below u v lawful s.lawful (subst (IsRootAbove (first_position (piece u))) (sym s.shows_it) r)
   half_steady Same P s r = tt
 
-  sides_steady : (first second : Half) (a b : Page) → SidesShow u first second a b → IsRootAbove (first_position (piece u)) a → IsRootAbove (first_position (piece u)) b →
+  sides_steady : (first second : Half) (a b : Subtrie) → SidesShow u first second a b → IsRootAbove (first_position (piece u)) a → IsRootAbove (first_position (piece u)) b →
       IsHalfSteady u first × IsHalfSteady u second
   sides_steady (One e) (One f) a b s x y = (tt, tt)
   sides_steady (One e) (Many v) a b s x y = (tt, half_steady (Many v) b s.1 y)
@@ -116,7 +116,7 @@ module _ (u : NodeView) (lawful : IsLawfulNode u) where
   sides_steady Same Same a b s x y = (tt, tt)
 
   -- where the old node is one half, no node was built
-  kept_steady : (cut : Cut) (P : Page) → GrownShows u (Two cut) P → IsTrue (keeps_node (Two cut)) → IsHalfSteady u cut.zero × IsHalfSteady u cut.one
+  kept_steady : (cut : Cut) (P : Subtrie) → GrownShows u (Two cut) P → IsTrue (keeps_node (Two cut)) → IsHalfSteady u cut.zero × IsHalfSteady u cut.one
   kept_steady cut (Place e) s k = elim s [ ]
   kept_steady cut (Fork p a b) s k = go cut.zero cut.one s.1 k
     where
@@ -131,14 +131,14 @@ module _ (u : NodeView) (lawful : IsLawfulNode u) where
       go Same (Many v) s k = elim s.0 [ ]
       go Same Same s k = (tt, tt)
 
-  cut_steady : (cut : Cut) (P : Page) → GrownShows u (Two cut) P → AreSidesAbove (first_position (piece u)) P → IsHalfSteady u cut.zero × IsHalfSteady u cut.one
+  cut_steady : (cut : Cut) (P : Subtrie) → GrownShows u (Two cut) P → AreSidesAbove (first_position (piece u)) P → IsHalfSteady u cut.zero × IsHalfSteady u cut.one
   cut_steady cut (Place e) s r = elim s [ ]
   cut_steady cut (Fork p a b) s r = sides_steady cut.zero cut.one a b s.1 r.0 r.1
 
   -- ---- a new entry
   module _ (position : ℕ) (bit : Bool) (x : Entry) (first last : ℕ) (affected : IsAffected (piece u) position first last) where
     full_cut : (cut : Cut) → GrownShows u (Two cut) (grown position bit x first (piece u)) → (AtRootFork (λ p zero one. position < p) (piece u) → IsTrue (keeps_node (Two cut))) →
-        (P : Page) → piece u ≡ P → IsHalfSteady u cut.zero × IsHalfSteady u cut.one
+        (P : Subtrie) → piece u ≡ P → IsHalfSteady u cut.zero × IsHalfSteady u cut.one
     full_cut cut shows keeps (Place e) is = absurd (let l = lawful.several in omega (arith, size-piece u lawful, ap size is))
     full_cut cut shows keeps (Fork q s t) is = ⊎_elim
         (λ e. let rises : RisesFrom 0 (Fork q s t) = subst (RisesFrom 0) is lawful.shows.paths_rise in
@@ -161,7 +161,7 @@ module _ (u : NodeView) (lawful : IsLawfulNode u) where
 
   -- ---- a fork for an entry
   module _ (position at : ℕ) (z o : Entry) (path : IsAbovePath position at (piece u)) where
-    pulled_cut : (cut : Cut) → GrownShows u (Two cut) (grafted at (Fork position (Place z) (Place o)) (piece u)) → (P : Page) → piece u ≡ P → IsHalfSteady u cut.zero × IsHalfSteady u cut.one
+    pulled_cut : (cut : Cut) → GrownShows u (Two cut) (grafted at (Fork position (Place z) (Place o)) (piece u)) → (P : Subtrie) → piece u ≡ P → IsHalfSteady u cut.zero × IsHalfSteady u cut.one
     pulled_cut cut shows (Place e) is = absurd (let l = lawful.several in omega (arith, size-piece u lawful, ap size is))
     pulled_cut cut shows (Fork q s t) is =
         let rises : RisesFrom 0 (Fork q s t) = subst (RisesFrom 0) is lawful.shows.paths_rise in

@@ -17,7 +17,7 @@ use Rattle.insert_cases.specs.declared.growth.Grown.TheVariants.{Two}
 use Rattle.plain_records.specs.Cases.{IsOneSide}
 use Rattle.plain_records.specs.Risen.{IsNamed, IsFor, RisenShows, OthersStay, AllStay, pushed_nodes, pushed_entry, kept_nodes, kept_entry}
 use Rattle.insert_cases.specs.declared.raising.Risen.TheVariants.{Split}
-use Rattle.insert_cases.proofs.Choosing.{same_some}
+use Rattle.insert_cases.proofs.Choosing.{some_injective}
 
 module _ {A : Type 0} where
   pub set_same : (xs : List A) (n : ℕ) (v : A) → n < length xs → slice_get (set xs n v) n ≡ Some v
@@ -40,7 +40,7 @@ module _ {A : Type 0} where
   -- what stands after a write or a push is what was written, or stood before
   pub set_back : (xs : List A) (n m : ℕ) (v w : A) → n < length xs → slice_get (set xs n v) m ≡ Some w → ((n ≡ m) × (w ≡ v)) ⊎ (slice_get xs m ≡ Some w)
   set_back xs n m v w h e = elim (cases_Bool (eqb n m)) [
-    | inl i ↦ let same : n ≡ m = eqb-true n m i in inl (same, same_some (sym e ∙ (ap (slice_get (set xs n v)) (sym same) ∙ set_same xs n v h)))
+    | inl i ↦ let same : n ≡ m = eqb-true n m i in inl (same, some_injective (sym e ∙ (ap (slice_get (set xs n v)) (sym same) ∙ set_same xs n v h)))
     | inr i ↦
         let old = slice_get-get_or xs m w (let g = slice_get_within (set xs n v) m w e in omega (arith, length-set xs n v)) in
         inr (old ∙ (sym (set_other xs n m v (get_or xs m w) (eqb-false n m i) old) ∙ e))
@@ -48,7 +48,7 @@ module _ {A : Type 0} where
 
   pub push_back : (xs : List A) (v : A) (m : ℕ) (w : A) → slice_get (xs ++ v ∷ []) m ≡ Some w → (slice_get xs m ≡ Some w) ⊎ (w ≡ v)
   push_back xs v m w e = elim (cases_Bool (eqb (length xs) m)) [
-    | inl i ↦ inr (same_some (sym e ∙ (ap (slice_get (xs ++ v ∷ [])) (sym (eqb-true (length xs) m i)) ∙ push_new xs v)))
+    | inl i ↦ inr (some_injective (sym e ∙ (ap (slice_get (xs ++ v ∷ [])) (sym (eqb-true (length xs) m i)) ∙ push_new xs v)))
     | inr i ↦
         let ne = eqb-false (length xs) m i in
         let old = slice_get-get_or xs m w (let g = slice_get_within (xs ++ v ∷ []) m w e in omega (arith, length-append xs (v ∷ []))) in

@@ -5,12 +5,12 @@ use Rattle.pieces.specs.Piece.{Place}
 use Rattle.compound_node.specs.Nodes.{NodeView, height_of}
 use Rattle.compound_node.specs.declared.entries.Entry.{Entry}
 use Rattle.tries.specs.Keys.{Key}
-use Rattle.tries.specs.Tree.{Tree, fork, page, IsTrie, IsBuilt, Within}
+use Rattle.tries.specs.Tree.{Tree, fork, subtrie, IsTrie, IsBuilt, Within}
 use Rattle.plain_records.specs.declared.leaf.LeafRecord.{LeafRecord}
 use Rattle.plain_records.specs.declared.adding.Addition.{Addition}
 use Rattle.plain_records.specs.declared.adding.Addition.TheVariants.{Held, Refused, Above, Below}
 use Rattle.insert_cases.specs.declared.raising.Risen.{Risen}
-use Rattle.insert_cases.specs.Risen.{page_of}
+use Rattle.insert_cases.specs.Risen.{subtrie_of}
 use Rattle.plain_records.specs.Cases.{IsByCase, is_split}
 use Rattle.plain_records.specs.Rising.{IsRaised, IsAddable}
 use Rattle.plain_records.specs.Store.{ShowsTree, item_record}
@@ -19,13 +19,13 @@ use Rattle.tries.specs.Content.{item}
 
 -- the records show a bit trie at an entry
 pub record IsStanding (nodes : List NodeView) (leaves : List LeafRecord) (e : Entry) (t : Tree) : Type 0 where
-  pub head : page t ≡ Place e
+  pub head : subtrie t ≡ Place e
   pub trie : IsTrie t
   pub built : IsBuilt t
   pub shown : ShowsTree nodes leaves t
 
 -- a fork of the tree is before the position
-pub record IsBehind (p : ℕ) (t : Tree) : Type 0 where
+pub record HasForkBefore (p : ℕ) (t : Tree) : Type 0 where
   pub position : ℕ
   pub zero_tree : Tree
   pub one_tree : Tree
@@ -59,8 +59,8 @@ pub record HasLeafRisen (ns ms : List NodeView) (ls us : List LeafRecord) (k : K
   pub leaves : us ≡ with_leaf ls k v
   pub position : ℕ
   pub addable : IsAddable ns us (item (length ls) k v) position e t
-  pub behind : IsBehind position t
-  pub raised : IsRaised ns ms us (item (length ls) k v) position t (suc (height_of e)) (page_of risen)
+  pub behind : HasForkBefore position t
+  pub raised : IsRaised ns ms us (item (length ls) k v) position t (suc (height_of e)) (subtrie_of risen)
   pub by_case : IsByCase ns ms k position (length ls) t (is_split risen)
 
 abbrev pub IsAddition : List NodeView → List NodeView → List LeafRecord → List LeafRecord → Key → ℕ → Entry → Tree → Addition → Type 0

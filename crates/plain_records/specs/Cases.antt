@@ -17,7 +17,7 @@ use Rattle.insert_cases.specs.Ways.{case_of, IsAffectedNode}
 use Rattle.tries.specs.Keys.{Key, bit}
 use Rattle.tries.specs.Place.{spot}
 use Rattle.tries.specs.Search.{child, seek}
-use Rattle.tries.specs.Tree.{Page, Tree, leaf, node, fork, page}
+use Rattle.tries.specs.Tree.{Subtrie, Tree, leaf, node, fork, subtrie}
 use Rattle.plain_records.specs.Heights.{Remains}
 
 -- the entry is a leaf's, or there is a record of its number
@@ -37,18 +37,18 @@ abbrev pub TakesLeaf : Choice → Type 0
 TakesLeaf c = (c.level ≡ 0) × (c.case ≢ LeafPushdown)
 
 -- the node shows one side of the root fork
-abbrev pub IsOneSide : NodeView → Page → Type 0
+abbrev pub IsOneSide : NodeView → Subtrie → Type 0
 IsOneSide view shown = AtRootFork (λ p zero one. (piece view ≡ zero) ⊎ (piece view ≡ one)) shown
 
--- What became of the affected node in its record, where it would show this page with the leaf as one entry more: a new node
+-- What became of the affected node in its record, where it would show this subtrie with the leaf as one entry more: a new node
 -- over leaves stands in the place of its one affected leaf; or it has the leaf; or it was cut, and one side is left.
-abbrev pub IsCaseDone : Case → NodeView → NodeView → ℕ → Page → Type 0
+abbrev pub IsCaseDone : Case → NodeView → NodeView → ℕ → Subtrie → Type 0
 IsCaseDone LeafPushdown old new first shown = (number : ℕ) × (new ≡ record old { entries = slice_set old.entries first (Node number 1) })
 IsCaseDone NormalInsert old new first shown = IsBuiltFrom new shown
 IsCaseDone Overflow old new first shown = IsOneSide new shown
 
 -- so in the record of this number
-abbrev pub DoesCase : List NodeView → ℕ → Case → NodeView → ℕ → Page → Type 0
+abbrev pub DoesCase : List NodeView → ℕ → Case → NodeView → ℕ → Subtrie → Type 0
 DoesCase nodes n case old first shown = (new : NodeView) × (slice_get nodes n ≡ Some new) × IsCaseDone case old new first shown
 
 -- ---- above the affected node
@@ -97,7 +97,7 @@ abbrev pub DoesLevels : List NodeView → List NodeView → Key → ℕ → Tree
 DoesLevels old new k zero t low up = up ≡ low
 DoesLevels old new k (suc l) (leaf n j v) low up = ⊥
 DoesLevels old new k (suc l) (node n y b) low up =
-    (rose : Bool) × DoesLevels old new k l (child k b) low rose × DoesLevel old new n (height_of (seek k (page b))) (spot k (page b)) rose up
+    (rose : Bool) × DoesLevels old new k l (child k b) low rose × DoesLevel old new n (height_of (seek k (subtrie b))) (spot k (subtrie b)) rose up
 DoesLevels old new k (suc l) (fork q a b) low up = ⊥
 
 -- ---- an insertion
@@ -122,8 +122,8 @@ abbrev pub IsNewNode : ℕ → Entry → Type 0
 IsNewNode count (Leaf n) = ⊥
 IsNewNode count (Node n h) = count ≤ n
 
--- In a node a new one was put between it and its child at a place: it has this page, the fork that rose there.
-pub record IsPutBetween (old new : List NodeView) (n at : ℕ) (node_view : NodeView) (shown : Page) : Type 0 where
+-- In a node a new one was put between it and its child at a place: it has this subtrie, the fork that rose there.
+pub record IsPutBetween (old new : List NodeView) (n at : ℕ) (node_view : NodeView) (shown : Subtrie) : Type 0 where
   pub view : NodeView
   pub built : IsBuiltFrom view shown
   pub after : slice_get new n ≡ Some (record node_view { entries = slice_set node_view.entries at (Node (length old) view.height) })

@@ -9,7 +9,7 @@ use Rattle.finite_map.specs.Scans.{range_of}
 use Rattle.compound_node.specs.Nodes.{NodeView}
 use Rattle.tries.specs.Content.{Item, items, pairs, Each, IsIn}
 use Rattle.tries.specs.Keys.{Key}
-use Rattle.tries.specs.Tree.{Tree, leaf, node, fork, page}
+use Rattle.tries.specs.Tree.{Tree, leaf, node, fork, subtrie}
 use Rattle.plain_records.specs.declared.leaf.LeafRecord.{LeafRecord}
 use Rattle.plain_records.specs.declared.gathering.Range.{Range}
 use Rattle.plain_records.specs.declared.gathering.Progress.{Progress}
@@ -89,4 +89,4 @@ IsFirstMismatch k t at = IsKey k × MatchOption at (k ≡ (found k t).key) (IsFi
 -- to which the key's search leads.
 abbrev pub IsScanStart : Key → Tree → Start → Type 0
 IsScanStart k b (Before place) = (place ≤ length (parts b)) × IsBeyond k (items_of_all (take place (parts b))) × IsNotAboveKeys k (items_from place b)
-IsScanStart k b Within = IsBeyond k (items_of_all (take (spot k (page b)) (parts b))) × IsNotAboveKeys k (items_from (spot k (page b) + 1) b)
+IsScanStart k b Within = IsBeyond k (items_of_all (take (spot k (subtrie b)) (parts b))) × IsNotAboveKeys k (items_from (spot k (subtrie b) + 1) b)

@@ -7,12 +7,12 @@ use Rattle.compound_node.specs.declared.entries.Entry.{Entry}
 use Rattle.compound_node.specs.declared.entries.Entry.TheVariants.{Node}
 use Rattle.compound_node.specs.declared.halves.Half.{Half}
 use Rattle.compound_node.specs.declared.halves.Half.TheVariants.{One, Many, Same}
-use Rattle.tries.specs.Tree.{Page, first_position}
+use Rattle.tries.specs.Tree.{Subtrie, first_position}
 use Rattle.insert_cases.specs.declared.raising.Risen.{Risen}
 use Rattle.insert_cases.specs.declared.raising.Risen.TheVariants.{Whole, Split}
 
--- the entry names a node that shows the page: its height is built anew, or it has the old one's height and first position
-pub record IsNamed (nodes : List NodeView) (old : NodeView) (entry : Entry) (shown : Page) : Type 0 where
+-- the entry names a node that shows the subtrie: its height is built anew, or it has the old one's height and first position
+pub record IsNamed (nodes : List NodeView) (old : NodeView) (entry : Entry) (shown : Subtrie) : Type 0 where
   pub number : ℕ
   pub view : NodeView
   pub at : slice_get nodes number ≡ Some view
@@ -21,11 +21,11 @@ pub record IsNamed (nodes : List NodeView) (old : NodeView) (entry : Entry) (sho
   pub shows : piece view ≡ shown
   pub height : (view.height ≡ 1 + greatest_height (places shown)) ⊎ ((view.height ≡ old.height) × (first_position (piece view) ≡ first_position (piece old)))
 
--- the entry stands for the page: it alone is its place, or it names a node
-abbrev pub IsFor : List NodeView → NodeView → Entry → Page → Type 0
+-- the entry stands for the subtrie: it alone is its place, or it names a node
+abbrev pub IsFor : List NodeView → NodeView → Entry → Subtrie → Type 0
 IsFor nodes old entry shown = (shown ≡ Place entry) ⊎ IsNamed nodes old entry shown
 
-abbrev pub RisenShows : List NodeView → NodeView → Risen → Page → Type 0
+abbrev pub RisenShows : List NodeView → NodeView → Risen → Subtrie → Type 0
 RisenShows nodes old (Whole entry) shown = IsNamed nodes old entry shown
 RisenShows nodes old (Split position zero one) shown = AtRootFork (λ p a b. (position ≡ p) × IsFor nodes old zero a × IsFor nodes old one b) shown
 

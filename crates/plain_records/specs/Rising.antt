@@ -10,7 +10,7 @@ use Rattle.tries.specs.Changes.{IsAdded}
 use Rattle.tries.specs.Content.{Item}
 use Rattle.tries.specs.Place.{spot}
 use Rattle.tries.specs.Search.{child, found}
-use Rattle.tries.specs.Tree.{Page, Fixed, Tree, leaf, node, fork, page, IsTrie, IsBuilt, IsLower}
+use Rattle.tries.specs.Tree.{Subtrie, Fixed, Tree, leaf, node, fork, subtrie, IsTrie, IsBuilt, IsLower}
 use Rattle.plain_records.specs.declared.leaf.LeafRecord.{LeafRecord}
 use Rattle.plain_records.specs.Store.{ShowsTree, item_record}
 use Rattle.insert_cases.specs.Ways.{WayBelow}
@@ -25,11 +25,11 @@ NoNode n (fork p a b) = NoNode n a × NoNode n b
 abbrev pub StaysStored : List NodeView → List NodeView → Tree → Type 0
 StaysStored old new s = (n : ℕ) (v : NodeView) → NoNode n s → slice_get old n ≡ Some v → slice_get new n ≡ Some v
 
--- In the place of s, which the old nodes show, the new ones show a tree with one leaf more. It begins with this page, its
+-- In the place of s, which the old nodes show, the new ones show a tree with one leaf more. It begins with this subtrie, its
 -- entries are lower than h, and all nodes but those of s are as they were.
-pub record IsRaised (old new : List NodeView) (leaves : List LeafRecord) (x : Item) (p : ℕ) (s : Tree) (h : ℕ) (head : Page) : Type 0 where
+pub record IsRaised (old new : List NodeView) (leaves : List LeafRecord) (x : Item) (p : ℕ) (s : Tree) (h : ℕ) (head : Subtrie) : Type 0 where
   pub tree : Tree
-  pub begins : page tree ≡ head
+  pub begins : subtrie tree ≡ head
   pub adds : IsAdded x p s tree
   pub built : IsBuilt tree
   pub lower : IsLower h tree
@@ -39,7 +39,7 @@ pub record IsRaised (old new : List NodeView) (leaves : List LeafRecord) (x : It
 -- The records show a tree at an entry, and a new leaf besides, whose key differs first at p from that of the leaf where
 -- its search in the tree ends.
 pub record IsAddable (nodes : List NodeView) (leaves : List LeafRecord) (x : Item) (p : ℕ) (e : Entry) (t : Tree) : Type 0 where
-  pub head : page t ≡ Place e
+  pub head : subtrie t ≡ Place e
   pub trie : IsTrie t
   pub built : IsBuilt t
   pub shown : ShowsTree nodes leaves t
@@ -48,19 +48,19 @@ pub record IsAddable (nodes : List NodeView) (leaves : List LeafRecord) (x : Ite
   pub new : slice_get leaves x.number ≡ Some (item_record x)
 
 -- A node of the old records, below which a new leaf has risen up to its child at the key's place: the child was of height
--- `low`, and in its place stands this page.
-pub record IsLifting (old new : List NodeView) (leaves : List LeafRecord) (x : Item) (p n height at low : ℕ) (y : Fixed) (b : Tree) (head : Page) : Type 0 where
+-- `low`, and in its place stands this subtrie.
+pub record IsLifting (old new : List NodeView) (leaves : List LeafRecord) (x : Item) (p n height at low : ℕ) (y : Fixed) (b : Tree) (head : Subtrie) : Type 0 where
   pub trie : IsTrie b
   pub built : IsBuilt (node n y b)
   pub shown : ShowsTree old leaves (node n y b)
   pub below : WayBelow p x.key b
   pub high_is : y.height ≡ height
-  pub at_is : at ≡ spot x.key (page b)
+  pub at_is : at ≡ spot x.key (subtrie b)
   pub lower : low < height
   pub up : IsRaised old new leaves x p (child x.key b) (suc low) head
 
--- one node more, behind the others, that was built for this page
-pub record IsNew (old new : List NodeView) (entry : Entry) (shown : Page) : Type 0 where
+-- one node more, behind the others, that was built for this subtrie
+pub record IsNew (old new : List NodeView) (entry : Entry) (shown : Subtrie) : Type 0 where
   pub view : NodeView
   pub added : new ≡ old ++ view ∷ []
   pub built : IsBuiltFrom view shown

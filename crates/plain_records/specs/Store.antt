@@ -4,12 +4,12 @@ use Rattle.compound_node.specs.Nodes.{NodeView, piece, head_of}
 use Rattle.compound_node.specs.declared.entries.Entry.{Entry}
 use Rattle.compound_node.specs.declared.entries.Entry.TheVariants.{Leaf, Node}
 use Rattle.tries.specs.Content.{Item}
-use Rattle.tries.specs.Read.{join_node, read_page}
-use Rattle.tries.specs.Tree.{Page, Fixed, Tree, leaf, node, fork, page, IsTrie, IsBuilt}
+use Rattle.tries.specs.Read.{join_node, read_subtrie}
+use Rattle.tries.specs.Tree.{Subtrie, Fixed, Tree, leaf, node, fork, subtrie, IsTrie, IsBuilt}
 use Rattle.plain_records.specs.declared.leaf.LeafRecord.{LeafRecord}
 
--- record n is a node that shows this page
-pub record IsNodeStored (nodes : List NodeView) (n : ℕ) (x : Fixed) (p : Page) : Type 0 where
+-- record n is a node that shows this subtrie
+pub record IsNodeStored (nodes : List NodeView) (n : ℕ) (x : Fixed) (p : Subtrie) : Type 0 where
   pub view : NodeView
   pub at : slice_get nodes n ≡ Some view
   pub fixed : head_of view ≡ x
@@ -18,12 +18,12 @@ pub record IsNodeStored (nodes : List NodeView) (n : ℕ) (x : Fixed) (p : Page)
 -- the records show the tree
 abbrev pub ShowsTree : List NodeView → List LeafRecord → Tree → Type 0
 ShowsTree nodes leaves (leaf n k v) = slice_get leaves n ≡ Some (record { key = k; value = v })
-ShowsTree nodes leaves (node n x b) = IsNodeStored nodes n x (page b) × ShowsTree nodes leaves b
+ShowsTree nodes leaves (node n x b) = IsNodeStored nodes n x (subtrie b) × ShowsTree nodes leaves b
 ShowsTree nodes leaves (fork p a b) = ShowsTree nodes leaves a × ShowsTree nodes leaves b
 
 -- what a node of a number shows, where it has this height
 abbrev pub read_node : (Entry → Option Tree) → ℕ → ℕ → Option NodeView → Option Tree
-read_node f n h (Some v) = if nat_eq v.height h then join_node n (head_of v) (read_page f (piece v)) else None
+read_node f n h (Some v) = if nat_eq v.height h then join_node n (head_of v) (read_subtrie f (piece v)) else None
 read_node f n h None = None
 
 -- the tree that an entry shows, read with a bound on the depth

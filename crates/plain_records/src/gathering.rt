@@ -9,7 +9,7 @@ ghost use Rattle.compound_node.specs.Nodes.{piece};
 ghost use Rattle.plain_records.specs.Gathered.{HasPairToGive, IsNotAboveKeys, IsGathered, IsFirstMismatch, IsScanStart, ShowsSound, items_from, pairs_read, parts};
 ghost use Rattle.plain_records.specs.Store.{item_record};
 ghost use Rattle.tries.specs.Place.{spot};
-ghost use Rattle.tries.specs.Tree.{Fixed, IsTrie, Tree, node, page};
+ghost use Rattle.tries.specs.Tree.{Fixed, IsTrie, Tree, node, subtrie};
 
 use crate::leaf::LeafRecord;
 use compound_node::{Entry, Node};
@@ -48,8 +48,8 @@ pub fn gather<'a>(
     range: Range,
     leaves: &mut Vec<&'a LeafRecord>,
 ) -> Result<Progress, AllocError>
-    requires shown { (t : Tree) × (page t ≡ At entry) × ShowsSound nodes.now.items records.now.items t }
-    ensures gathered { (t : Tree) → page t ≡ At entry → ShowsSound nodes.now.items records.now.items t → IsFirstMismatch range.entry.from.now t difference →
+    requires shown { (t : Tree) × (subtrie t ≡ At entry) × ShowsSound nodes.now.items records.now.items t }
+    ensures gathered { (t : Tree) → subtrie t ≡ At entry → ShowsSound nodes.now.items records.now.items t → IsFirstMismatch range.entry.from.now t difference →
         length (pairs_read leaves.old.items) ≤ range.entry.limit →
         MatchResult result (IsGathered range.entry (pairs_read leaves.old.items) (items t) (pairs_read leaves.new.items)) (λ _. HasPairToGive range.entry (items t)) }
 {
@@ -161,7 +161,8 @@ enum Start {
 /// position at which the key differs from that of the leaf where the search ends.
 fn start_in(node: &Node, at: u8, difference: Option<u16>, from: &Key) -> Start
     requires { at < length node.now.entries }
-    ensures { (b : Tree) → IsTrie b → piece node.now ≡ page b → at ≡ spot from.now (page b) → IsFirstMismatch from.now b difference → IsScanStart from.now b result }
+    ensures { (b : Tree) → IsTrie b → piece node.now ≡ subtrie b → at ≡ spot from.now (subtrie b) →
+        IsFirstMismatch from.now b difference → IsScanStart from.now b result }
 {
     let Some(position) = difference else {
         return Start::Within;

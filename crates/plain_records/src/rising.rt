@@ -6,14 +6,14 @@ ghost use Rattle.pieces.specs.Growth.{grown, IsAffected};
 ghost use Rattle.pieces.specs.Piece.{Fork, Place as At, size};
 ghost use Rattle.compound_node.specs.Nodes.{NodeView, piece, IsEntry, IsLawfulNode, StandsBelow, height_of};
 ghost use Rattle.compound_node.specs.declared.entries.Entry.{Entry as EntryView};
-ghost use Rattle.tries.specs.Affected.{page_forked};
+ghost use Rattle.tries.specs.Affected.{subtrie_forked};
 ghost use Rattle.tries.specs.Content.{Item, item};
 ghost use Rattle.tries.specs.Tree.{Tree, Fixed, node as tree_node};
 ghost use Rattle.pieces.specs.Grafts.{grafted, IsAbovePath};
 ghost use Rattle.plain_records.specs.Cases.{AddsByCase, DoesCase, IsLevelDone, IsNewNode, IsPutBetween, TakesFork, is_overflow, is_split};
 ghost use Rattle.plain_records.specs.Heights.{KeepsHeights};
 ghost use Rattle.plain_records.specs.Rising.{IsRaised, IsAddable, IsLifting};
-ghost use Rattle.insert_cases.specs.Risen.{page_of};
+ghost use Rattle.insert_cases.specs.Risen.{subtrie_of};
 ghost use Rattle.insert_cases.specs.Ways.{case_of};
 ghost use Rattle.plain_records.specs.Risen.{IsNamed, RisenShows, OthersStay, AllStay};
 ghost use Rattle.plain_records.specs.declared.leaf.LeafRecord.{LeafRecord};
@@ -39,10 +39,11 @@ pub fn raised(nodes: &mut Vec<Node>, entry: Entry, key: &Key, position: u16, lea
     requires room { vec_len nodes.old + height_of entry ≤ vec_capacity nodes.old }
     requires small { vec_len nodes.old + height_of entry ≤ 2 ^ 32 }
     ensures raised { (leaves : List LeafRecord) (value : ℕ) (t : Tree) → IsAddable nodes.old.items leaves (item leaf key.now value) position entry t →
-        IsRaised nodes.old.items nodes.new.items leaves (item leaf key.now value) position t (suc (height_of entry)) (page_of result) }
+        IsRaised nodes.old.items nodes.new.items leaves (item leaf key.now value) position t (suc (height_of entry)) (subtrie_of result) }
     ensures case { (leaves : List LeafRecord) (value : ℕ) (t : Tree) → IsAddable nodes.old.items leaves (item leaf key.now value) position entry t →
         AddsByCase nodes.old.items nodes.new.items key.now position leaf t (is_split result) }
-    ensures low { height_of entry ≡ 0 → (nodes.new.items ≡ nodes.old.items) × (bit : Bool) × (page_of result ≡ page_forked bit position (Entry.Leaf leaf) (At entry)) }
+    ensures low { height_of entry ≡ 0 → (nodes.new.items ≡ nodes.old.items) × (bit : Bool) ×
+        (subtrie_of result ≡ subtrie_forked bit position (Entry.Leaf leaf) (At entry)) }
     ensures heights { KeepsHeights nodes.old.items nodes.new.items }
     ensures len { vec_len nodes.new ≤ vec_len nodes.old + height_of entry }
     ensures capacity { vec_capacity nodes.new ≡ vec_capacity nodes.old }
@@ -76,7 +77,7 @@ pub fn raised(nodes: &mut Vec<Node>, entry: Entry, key: &Key, position: u16, lea
 
 /// The fork of an entry and a new one, which stands on the side of the bit.
 fn beside(old: Entry, position: u16, bit: bool, new: Entry) -> Risen
-    ensures { page_of result ≡ page_forked bit position new (At old) }
+    ensures { subtrie_of result ≡ subtrie_forked bit position new (At old) }
 {
     if bit {
         Risen::Split {
@@ -157,14 +158,14 @@ pub fn lifted(
     risen: Risen,
 ) -> Risen
     requires place { (ns : List NodeView) × (leaves : List LeafRecord) × (x : Item) × (p : ℕ) × (y : Fixed) × (b : Tree) ×
-        IsLifting ns nodes.old.items leaves x p number height at (height_of child) y b (page_of risen) }
+        IsLifting ns nodes.old.items leaves x p number height at (height_of child) y b (subtrie_of risen) }
     requires child { (old : NodeView) → slice_get nodes.old.items number ≡ Some old → IsLawfulNode old × (slice_get old.entries at ≡ Some child) }
     requires room { vec_len nodes.old < vec_capacity nodes.old }
     requires small { vec_len nodes.old < 2 ^ 32 }
     ensures raised { (ns : List NodeView) (leaves : List LeafRecord) (x : Item) (p : ℕ) (y : Fixed) (b : Tree) →
-        IsLifting ns nodes.old.items leaves x p number height at (height_of child) y b (page_of risen) →
-        IsRaised ns nodes.new.items leaves x p (tree_node number y b) (suc height) (page_of result) }
-    ensures between { (old : NodeView) (p : ℕ) (zero one : EntryView) → slice_get nodes.old.items number ≡ Some old → page_of risen ≡ Fork p (At zero) (At one) → height_of child + 1 < height →
+        IsLifting ns nodes.old.items leaves x p number height at (height_of child) y b (subtrie_of risen) →
+        IsRaised ns nodes.new.items leaves x p (tree_node number y b) (suc height) (subtrie_of result) }
+    ensures between { (old : NodeView) (p : ℕ) (zero one : EntryView) → slice_get nodes.old.items number ≡ Some old → subtrie_of risen ≡ Fork p (At zero) (At one) → height_of child + 1 < height →
         IsPutBetween nodes.old.items nodes.new.items number at old (Fork p (At zero) (At one)) }
     ensures takes { (old : NodeView) → slice_get nodes.old.items number ≡ Some old →
         (new : NodeView) × (slice_get nodes.new.items number ≡ Some new) × IsLevelDone (height_of child) (is_split risen) old new at (is_split result) }
@@ -229,11 +230,11 @@ fn forked_at(
 /// The root's entry, where this is what takes the place of the one before: a fork gets a new node.
 pub fn rooted(nodes: &mut Vec<Node>, risen: Risen) -> Entry
     requires place { (ns : List NodeView) × (leaves : List LeafRecord) × (x : Item) × (p : ℕ) × (t : Tree) × (h : ℕ) ×
-        IsRaised ns nodes.old.items leaves x p t h (page_of risen) }
+        IsRaised ns nodes.old.items leaves x p t h (subtrie_of risen) }
     requires room { vec_len nodes.old < vec_capacity nodes.old }
     requires small { vec_len nodes.old < 2 ^ 32 }
     ensures raised { (ns : List NodeView) (leaves : List LeafRecord) (x : Item) (p : ℕ) (t : Tree) (h : ℕ) →
-        IsRaised ns nodes.old.items leaves x p t h (page_of risen) → IsRaised ns nodes.new.items leaves x p t (suc h) (At result) }
+        IsRaised ns nodes.old.items leaves x p t h (subtrie_of risen) → IsRaised ns nodes.new.items leaves x p t (suc h) (At result) }
     ensures new { is_split risen ≡ true → IsNewNode (vec_len nodes.old) result }
     ensures all { AllStay nodes.old.items nodes.new.items }
     ensures heights { KeepsHeights nodes.old.items nodes.new.items }

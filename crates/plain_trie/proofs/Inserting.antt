@@ -11,18 +11,18 @@ use Rattle.finite_map.specs.declared.Reply.TheVariants.{Inserted, Exists, New, W
 use Rattle.tries.proofs.Changes.{put, IsExchanged}
 use Rattle.tries.specs.Content.{Item, items, pairs, item}
 use Rattle.tries.specs.Keys.{Key}
-use Rattle.tries.specs.Tree.{Tree, leaf, page, IsTrie, IsBuilt, Within}
-use Rattle.tries.proofs.Adding.{exchanged_put, exchanged_leaf}
+use Rattle.tries.specs.Tree.{Tree, leaf, subtrie, IsTrie, IsBuilt, Within}
+use Rattle.tries.proofs.Adding.{exchanged_in_whole, exchanged_leaf}
 use Rattle.tries.proofs.Contents.{content_rises}
 use Rattle.tries.proofs.Maps.{are_keys, more_inserts, exchange_inserts}
 use Rattle.tries.proofs.Tries.{trie_within}
-use Rattle.tries.proofs.Puts.{page_put}
+use Rattle.tries.proofs.Puts.{subtrie_put}
 use Rattle.plain_records.specs.declared.leaf.LeafRecord.{LeafRecord}
 use Rattle.plain_records.specs.Adding.{IsStanding, IsAbsentFrom}
 use Rattle.plain_records.specs.Rising.{IsRaised}
 use Rattle.plain_trie.specs.Views.{PlainView, ShowsSoundTree, IsHeldInLeaf, shown_tree, trie_map}
 use Rattle.plain_records.specs.Store.{IsSound, ShowsTree, entry_tree, item_record}
-use Rattle.insert_cases.proofs.Choosing.{same_some}
+use Rattle.insert_cases.proofs.Choosing.{some_injective}
 use Rattle.plain_trie.proofs.Trees.{IsTree, plain_tree, tree_is, tree_plain, map_is}
 use Rattle.plain_records.proofs.Putting.{found_place, put_same, shown_put}
 use Rattle.plain_records.proofs.Searching.{read_at}
@@ -33,7 +33,7 @@ use Rattle.tries.specs.Search.{found}
 abbrev pub Becomes : PlainView → PlainView → Key → ℕ → Type 0
 Becomes v w k x = ShowsSoundTree w × (trie_map w ≡ with_value (trie_map v) k x)
 
-becomes : (v w : PlainView) (e : Entry) (t : Tree) (k : Key) (x : ℕ) → w.top ≡ Some e → page t ≡ Place e → IsTrie t → IsBuilt t → ShowsTree w.nodes w.leaves t →
+becomes : (v w : PlainView) (e : Entry) (t : Tree) (k : Key) (x : ℕ) → w.top ≡ Some e → subtrie t ≡ Place e → IsTrie t → IsBuilt t → ShowsTree w.nodes w.leaves t →
     with_value (trie_map v) k x ≡ pairs (items t) → Becomes v w k x
 becomes v w e t k x top head trie built shown same =
     let sound : IsSound t = record { trie = trie; built = built } in
@@ -72,7 +72,7 @@ top_of v t e = go v.top refl
 pub held_becomes : (v w : PlainView) (k : Key) (n x : ℕ) → ShowsSoundTree v → IsHeldInLeaf v k n → w.nodes ≡ v.nodes → w.leaves ≡ set v.leaves n (record { key = k; value = x }) → w.top ≡ v.top →
     Becomes v w k x
 held_becomes v w k n x plain held nodes leaves top =
-    becomes v w e.0 (put place new) k x (top ∙ e.1) (page_put place new refl ∙ (ap page (sym same) ∙ t.1.head)) exchange.trie (put_same place new refl tt (subst IsBuilt same t.1.sound.built))
+    becomes v w e.0 (put place new) k x (top ∙ e.1) (subtrie_put place new refl ∙ (ap subtrie (sym same) ∙ t.1.head)) exchange.trie (put_same place new refl tt (subst IsBuilt same t.1.sound.built))
     (subst (λ ns. ShowsTree ns w.leaves (put place new)) (sym nodes) (subst (λ ls. ShowsTree v.nodes ls (put place new)) (sym leaves)
     (shown_put v.nodes v.leaves n k y.value x place trie at (subst (ShowsTree v.nodes v.leaves) same t.1.shown))))
     (ap (λ m. with_value m k x) (map_is v held.tree held.is) ∙
@@ -85,7 +85,7 @@ held_becomes v w k n x plain held nodes leaves top =
     t = plain_tree v e.0 e.1 plain
 
     same : t.0 ≡ held.tree
-    same = same_some (sym t.1.is ∙ held.is)
+    same = some_injective (sym t.1.is ∙ held.is)
 
     y : Item
     y = found k held.tree
@@ -104,7 +104,7 @@ held_becomes v w k n x plain held nodes leaves top =
     at = held.at ∙ ap (λ l. Some (item_record (item n l (found k held.tree).value))) held.key
 
     exchange : IsExchanged (item n k (found k held.tree).value) (item n k x) held.tree (put place (leaf n k x))
-    exchange = exchanged_put place (leaf n k x) (item n k (found k held.tree).value) (item n k x) trie (exchanged_leaf n n k (found k held.tree).value x (trie_within place trie))
+    exchange = exchanged_in_whole place (leaf n k x) (item n k (found k held.tree).value) (item n k x) trie (exchanged_leaf n n k (found k held.tree).value x (trie_within place trie))
 
 -- ---- what the map has for the key
 -- the value that stands in the leaf of a held key
@@ -112,7 +112,7 @@ pub held_value : (u v : PlainView) (k : Key) (n : ℕ) (l : LeafRecord) → Show
 held_value u v k n l plain same held at =
     let e = top_of v held.tree held.is in
     let t = plain_tree v e.0 e.1 (subst ShowsSoundTree same plain) in
-    let trie = subst IsTrie (same_some (sym t.1.is ∙ held.is)) t.1.sound.trie in
+    let trie = subst IsTrie (some_injective (sym t.1.is ∙ held.is)) t.1.sound.trie in
     let leaf = read_at v.leaves n (item_record (found k held.tree)) l held.at (rw (← same) at) in
     ap (λ m. value_at m k) (map_is v held.tree held.is) ∙ (value_found k held.tree trie held.key ∙ ap (λ (r : LeafRecord). Some r.value) (sym leaf))
 

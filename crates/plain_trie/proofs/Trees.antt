@@ -4,10 +4,10 @@ use Rattle.std.specs.Prelude.{IsSomeAnd, MatchOption, option_and_then}
 use Rattle.pieces.specs.Piece.{Place}
 use Rattle.compound_node.specs.Nodes.{height_of}
 use Rattle.compound_node.specs.declared.entries.Entry.{Entry}
-use Rattle.insert_cases.proofs.Choosing.{same_some}
+use Rattle.insert_cases.proofs.Choosing.{some_injective}
 use Rattle.tries.specs.Content.{items, pairs}
 use Rattle.tries.specs.Keys.{Key}
-use Rattle.tries.specs.Tree.{Tree, page}
+use Rattle.tries.specs.Tree.{Tree, subtrie}
 use Rattle.plain_records.specs.Store.{IsSound, ShowsTree, entry_tree}
 use Rattle.plain_records.proofs.Reading.{read_sound, read_exact}
 use Rattle.plain_records.proofs.Searching.{IsOnWay}
@@ -16,7 +16,7 @@ use Rattle.plain_trie.specs.Views.{PlainView, shown_tree, map_read, trie_map, Sh
 -- the tree of a trie from the root's entry on
 pub record IsTree (v : PlainView) (e : Entry) (t : Tree) : Type 0 where
   pub is : shown_tree v ≡ Some t
-  pub head : page t ≡ Place e
+  pub head : subtrie t ≡ Place e
   pub sound : IsSound t
   pub shown : ShowsTree v.nodes v.leaves t
 
@@ -36,10 +36,10 @@ plain_tree v e top i =
     (s.0, record { is = s.1; head = f.0; sound = s.2; shown = f.1 })
 
 -- and records that show such a tree make a trie
-pub tree_is : (v : PlainView) (e : Entry) (t : Tree) → v.top ≡ Some e → page t ≡ Place e → IsSound t → ShowsTree v.nodes v.leaves t → shown_tree v ≡ Some t
+pub tree_is : (v : PlainView) (e : Entry) (t : Tree) → v.top ≡ Some e → subtrie t ≡ Place e → IsSound t → ShowsTree v.nodes v.leaves t → shown_tree v ≡ Some t
 tree_is v e t top head sound shown = ap (option_and_then (λ z. entry_tree v.nodes v.leaves (height_of z) z)) top ∙ read_exact v.nodes v.leaves e t sound.built shown head
 
-pub tree_plain : (v : PlainView) (e : Entry) (t : Tree) → v.top ≡ Some e → page t ≡ Place e → IsSound t → ShowsTree v.nodes v.leaves t → ShowsSoundTree v
+pub tree_plain : (v : PlainView) (e : Entry) (t : Tree) → v.top ≡ Some e → subtrie t ≡ Place e → IsSound t → ShowsTree v.nodes v.leaves t → ShowsSoundTree v
 tree_plain v e t top head sound shown =
     subst (λ o. MatchOption o (Unit {0}) (λ _. IsSomeAnd (shown_tree v) IsSound)) (sym top)
     (subst (λ o. IsSomeAnd o IsSound) (sym (tree_is v e t top head sound shown)) sound)
@@ -48,7 +48,7 @@ pub shows_trie : (v : PlainView) → ShowsSoundTree v → ShowsTrie v
 shows_trie v i = go v.top refl
   where
     go : (o : Option Entry) → v.top ≡ o → MatchOption o (trie_map v ≡ []) (λ e.
-        (t : Tree) × (page t ≡ Place e) × IsSound t × ShowsTree v.nodes v.leaves t × (trie_map v ≡ pairs (items t)))
+        (t : Tree) × (subtrie t ≡ Place e) × IsSound t × ShowsTree v.nodes v.leaves t × (trie_map v ≡ pairs (items t)))
     go None top = ap map_read (ap (option_and_then (λ z. entry_tree v.nodes v.leaves (height_of z) z)) top)
     go (Some e) top = let t = plain_tree v e top i in (t.0, t.1.head, t.1.sound, t.1.shown, ap map_read t.1.is)
 
@@ -64,4 +64,4 @@ on_way_start v k e top i =
 
 -- the same of any reading of the trie's tree
 pub tree_once : (v : PlainView) (t u : Tree) → shown_tree v ≡ Some t → shown_tree v ≡ Some u → t ≡ u
-tree_once v t u e f = same_some (sym e ∙ f)
+tree_once v t u e f = some_injective (sym e ∙ f)

@@ -7,7 +7,7 @@ use Rattle.finite_map.specs.Maps.{Map}
 use Rattle.tries.specs.Content.{items, pairs}
 use Rattle.tries.specs.Keys.{Key}
 use Rattle.tries.specs.Search.{found}
-use Rattle.tries.specs.Tree.{Tree, page}
+use Rattle.tries.specs.Tree.{Tree, subtrie}
 use Rattle.plain_records.specs.declared.leaf.LeafRecord.{LeafRecord}
 use Rattle.plain_records.specs.Store.{ShowsTree, IsSound, entry_tree, item_record}
 
@@ -38,7 +38,7 @@ ShowsSoundTree v = MatchOption v.top (Unit {0}) (λ e. IsSomeAnd (shown_tree v) 
 -- the nodes from the root's entry down show the bit trie of the keys
 abbrev pub ShowsTrie : PlainView → Type 0
 ShowsTrie v = MatchOption v.top (trie_map v ≡ []) (λ e.
-    (t : Tree) × (page t ≡ Place e) × IsSound t × ShowsTree v.nodes v.leaves t × (trie_map v ≡ pairs (items t)))
+    (t : Tree) × (subtrie t ≡ Place e) × IsSound t × ShowsTree v.nodes v.leaves t × (trie_map v ≡ pairs (items t)))
 
 -- the key's search ends at its own leaf, which is the record of this number
 pub record IsHeldInLeaf (v : PlainView) (k : Key) (n : ℕ) : Type 0 where

@@ -4,10 +4,10 @@ use Rattle.std.proofs.lemmas.Bool.{eq-eqb, ne_eqb, cases_Bool, eqb-true}
 use Rattle.std.proofs.lemmas.List.{length-set, length-replicate}
 use Rattle.std.proofs.lemmas.Option.{same_Some, none-some, slice_get_within}
 use Rattle.record_words.specs.declared.layout.Layout.{Layout}
-use Rattle.moments.specs.declared.Pin.{Pin}
-use Rattle.moments.specs.declared.Round.{Round}
-use Rattle.moments.specs.Core.{has_seen}
-use Rattle.moments.specs.Steps.{lowered, with_pin, with_epoch}
+use Rattle.versions.specs.declared.Pin.{Pin}
+use Rattle.versions.specs.declared.Round.{Round}
+use Rattle.versions.specs.Core.{has_seen}
+use Rattle.versions.specs.Steps.{lowered, with_pin, with_epoch}
 use Rattle.rowex_core.specs.declared.event.Act.TheVariants.{ClearPin, LoadEpoch, LoadPin, SetPin}
 use Rattle.rowex_core.specs.Cores.{Core, IsLawful}
 use Rattle.rowex_core.specs.Words.{pin_word}
@@ -57,8 +57,8 @@ fresh_seen layout o h =
     x.1 ∙ ap Some (slice_get-replicate {X = Bool} 1024 false o x.0 x.1)
 
 round_begun : (p : PassState) (layout : Layout) (pin : Option Pin) (round : Round) (e m : ℕ) → IsPassStateOf layout p pin round →
-    IsPassStateOf layout (in_round p e m) pin (record { epoch = e; moment = m; bound = e; seen = [] })
-round_begun p layout pin round e m is = record { pin_is = is.pin_is; epoch_is = refl; moment_is = refl; bound_is = refl; seen_are = fresh_seen layout }
+    IsPassStateOf layout (in_round p e m) pin (record { epoch = e; version = m; bound = e; seen = [] })
+round_begun p layout pin round e m is = record { pin_is = is.pin_is; epoch_is = refl; version_is = refl; bound_is = refl; seen_are = fresh_seen layout }
 
 pub epoch_loads : (s : StateView) (q w : ℕ) (p : PassState) → w ≡ s.epoch → slice_get s.passes q ≡ Some p → (c : Core) → ∥ IsLawful c ∥₁ → IsStateOf s c →
     LegalAct c q (LoadEpoch w) × IsStateOf (record s { passes = set s.passes q (in_round p s.epoch (length s.changes)) }) (after c q (LoadEpoch w))
@@ -74,7 +74,7 @@ epoch_loads s q w p is at c lawful h = (
       count = length-set s.passes q (in_round p c.epoch c.past.now) ∙ h.passes.count;
       each = λ i x e.
           subst (λ pin. IsPassStateOf c.layout x pin ((after c q (LoadEpoch w)).rounds i)) (own_value c.pins q i)
-          ((pass_set s.passes c.layout c.pins c.rounds h.passes q (in_round p c.epoch c.past.now) (c.pins q) (record { epoch = c.epoch; moment = c.past.now; bound = c.epoch; seen = [] })
+          ((pass_set s.passes c.layout c.pins c.rounds h.passes q (in_round p c.epoch c.past.now) (c.pins q) (record { epoch = c.epoch; version = c.past.now; bound = c.epoch; seen = [] })
           (round_begun p c.layout (c.pins q) (c.rounds q) c.epoch c.past.now own)).each i x e);
     }
 
@@ -92,7 +92,7 @@ pin_set s c h q p pin at = passes_are s c h (set s.passes q (record p { pin = op
     own = h.passes.each q p at
 
     now : IsPassStateOf c.layout (record p { pin = option_map (λ (x : Pin). x.word) pin }) pin (c.rounds q)
-    now = let o = h.passes.each q p at in record { pin_is = refl; epoch_is = o.epoch_is; moment_is = o.moment_is; bound_is = o.bound_is; seen_are = o.seen_are }
+    now = let o = h.passes.each q p at in record { pin_is = refl; epoch_is = o.epoch_is; version_is = o.version_is; bound_is = o.bound_is; seen_are = o.seen_are }
 
     same_rounds : ArePassesOf (set s.passes q (record p { pin = option_map (λ (x : Pin). x.word) pin })) c.layout (λ i. if nat_eq i q then pin else c.pins i) c.rounds
     same_rounds = record {
@@ -115,7 +115,7 @@ pub pins : (s : StateView) (q w : ℕ) (p : PassState) → slice_get s.passes q 
 pins s q w p at none is positive c lawful h =
     let own = own_at s c h q p at in (
       (no_word (c.pins q) (sym own.pin_is ∙ none), is ∙ sym own.epoch_is, positive),
-      pin_set s c h q p (Some (record { word = w; moment = c.past.now; floor = c.epoch })) at,
+      pin_set s c h q p (Some (record { word = w; version = c.past.now; floor = c.epoch })) at,
     )
 
 pub unpins : (s : StateView) (q : ℕ) (p : PassState) → slice_get s.passes q ≡ Some p → p.pin ≢ None → (c : Core) → ∥ IsLawful c ∥₁ → IsStateOf s c →
@@ -152,16 +152,16 @@ pin_loads s q o w p x at other is c lawful h =
     )
   where
     round : Round
-    round = record { epoch = (c.rounds q).epoch; moment = (c.rounds q).moment; bound = lowered (c.rounds q).bound (c.pins o); seen = o ∷ (c.rounds q).seen }
+    round = record { epoch = (c.rounds q).epoch; version = (c.rounds q).version; bound = lowered (c.rounds q).bound (c.pins o); seen = o ∷ (c.rounds q).seen }
 
     now : IsPassStateOf c.layout (with_pin_seen p o (option_map (λ (y : Pin). y.word) (c.pins o))) (c.pins q)
-        (record { epoch = (c.rounds q).epoch; moment = (c.rounds q).moment; bound = lowered (c.rounds q).bound (c.pins o); seen = o ∷ (c.rounds q).seen })
+        (record { epoch = (c.rounds q).epoch; version = (c.rounds q).version; bound = lowered (c.rounds q).bound (c.pins o); seen = o ∷ (c.rounds q).seen })
     now =
         let own = h.passes.each q p at in
         record {
           pin_is = own.pin_is;
           epoch_is = own.epoch_is;
-          moment_is = own.moment_is;
+          version_is = own.version_is;
           bound_is = lowered_is (c.rounds q).bound (c.pins o) ∙ ap (λ b. lowered_by b (option_map (λ (y : Pin). y.word) (c.pins o))) own.bound_is;
           seen_are = λ i there. seen_more c.layout p (c.pins q) (c.rounds q) o i own there;
         }
@@ -172,5 +172,5 @@ pin_loads s q o w p x at other is c lawful h =
       each = λ i y e.
           subst (λ pin. IsPassStateOf c.layout y pin ((after c q (LoadPin o w)).rounds i)) (own_value c.pins q i)
           ((pass_set s.passes c.layout c.pins c.rounds h.passes q (with_pin_seen p o (option_map (λ (y : Pin). y.word) (c.pins o))) (c.pins q)
-          (record { epoch = (c.rounds q).epoch; moment = (c.rounds q).moment; bound = lowered (c.rounds q).bound (c.pins o); seen = o ∷ (c.rounds q).seen }) now).each i y e);
+          (record { epoch = (c.rounds q).epoch; version = (c.rounds q).version; bound = lowered (c.rounds q).bound (c.pins o); seen = o ∷ (c.rounds q).seen }) now).each i y e);
     }

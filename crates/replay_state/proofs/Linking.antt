@@ -8,18 +8,18 @@ use Rattle.compound_node.specs.declared.entries.Entry.{Entry}
 use Rattle.record_words.specs.declared.layout.Layout.{Layout}
 use Rattle.tries.specs.Tree.{Tree}
 use Rattle.tries.specs.Content.{Item}
-use Rattle.moments.specs.declared.Rec.{Rec}
-use Rattle.moments.specs.declared.Rec.TheVariants.{Node as a_node, Leaf as a_leaf}
-use Rattle.moments.specs.State.{IsTop, IsLinked}
-use Rattle.moments.specs.Told.{items_of}
-use Rattle.moments.specs.Core.{Fate, Free, Held, Ready as ReadyBy, InTree as InTreeSince, Unlinked, Marked}
-use Rattle.moments.specs.Steps.{is_linked}
-use Rattle.moments.proofs.Legal.{linked_cases}
+use Rattle.versions.specs.declared.Rec.{Rec}
+use Rattle.versions.specs.declared.Rec.TheVariants.{Node as a_node, Leaf as a_leaf}
+use Rattle.versions.specs.State.{IsTop, IsLinked}
+use Rattle.versions.specs.Told.{items_of}
+use Rattle.versions.specs.Core.{Fate, Free, Held, Ready as ReadyBy, InTree as InTreeSince, Unlinked, Marked}
+use Rattle.versions.specs.Steps.{is_linked}
+use Rattle.versions.proofs.Legal.{linked_cases}
 use Rattle.rowex_core.specs.Reading.{leaf_of}
 use Rattle.rowex_core.specs.Cores.{Core, HasRecord, IsWhole, heap_of}
 use Rattle.rowex_core.specs.Events.{AreSame, tree_of}
 use Rattle.rowex_core.proofs.Finding.{by_number, top_items}
-use Rattle.replay_trees.specs.Moments.{AreWordsOf, HasRecordIn, IsMoment, Tells}
+use Rattle.replay_trees.specs.Versions.{AreWordsOf, HasRecordIn, IsVersion, Tells}
 use Rattle.replay_trees.specs.declared.trees.Linked.{Linked}
 use Rattle.replay_state.specs.declared.fate.Fate.{Fate as Stored}
 use Rattle.replay_state.specs.declared.fate.Fate.TheVariants.{Free as IsFree, Held as IsHeld, Ready as IsReady, InTree as IsTree, Unlinked as IsUnlinked, Marked as IsMarked}
@@ -27,7 +27,7 @@ use Rattle.replay_state.specs.Fates.{stored_fate}
 use Rattle.replay_state.specs.Links.{AllMayCome, AllMayGo}
 use Rattle.replay_state.specs.Records.{RecordsView, AreRecordsOf, MayLink}
 use Rattle.replay_state.specs.States.{StateView}
-use Rattle.replay_state.specs.Publishing.{IsWordStored, AreWordsPacked, MayMakeMoment}
+use Rattle.replay_state.specs.Publishing.{IsWordStored, AreWordsPacked, MayMakeVersion}
 use Rattle.replay_state.proofs.Reading.{tree_stored}
 use Rattle.replay_state.proofs.Sound.{used}
 
@@ -62,8 +62,8 @@ whole : (q : ℕ) (f : Fate) → ((since : ℕ) × (f ≡ InTreeSince since)) �
 whole q f (inl (since, e)) = rw e (tt, λ x. cc)
 whole q f (inr e) = rw e (tt, λ x. cc)
 
-pub is_moment : (s : StateView) (c : Core) (words : Rec → List ℕ) (q : ℕ) (root : Option Entry) → IsWordStored s c words → AreWordsPacked c words → MayMakeMoment c q words root → IsMoment s.records.nodes s.records.leaves words root
-is_moment s c words q root st packed may = record {
+pub is_version : (s : StateView) (c : Core) (words : Rec → List ℕ) (q : ℕ) (root : Option Entry) → IsWordStored s c words → AreWordsPacked c words → MayMakeVersion c q words root → IsVersion s.records.nodes s.records.leaves words root
+is_version s c words q root st packed may = record {
   top = may.top;
   tree = may.tree;
   spelled = λ r linked.
@@ -77,10 +77,10 @@ item-set : IsSet Item
 item-set = Prim.hlevel props
 
 pub same_leaves : (s : StateView) (c : Core) (words : Rec → List ℕ) (root : Option Entry) → IsWordStored s c words → IsTop (heap_of words) root (tree_of (heap_of words) root) →
-    AreSame (items_of (c.past.moment c.past.now)) (items_of (tree_of (heap_of words) root))
+    AreSame (items_of (c.past.version c.past.now)) (items_of (tree_of (heap_of words) root))
 same_leaves s c words root st top = λ x y i j e. ∥∥₁_elim st.lawful (item-set x y) (λ lawful.
     by_number (heap_of c.words) (heap_of words) _ _ (λ n. ap leaf_of (sym (st.leaves n)))
-    (top_items (heap_of c.words) c.root (c.past.moment c.past.now) lawful.core.state.top) (top_items (heap_of words) root (tree_of (heap_of words) root) top) x y i j e)
+    (top_items (heap_of c.words) c.root (c.past.version c.past.now) lawful.core.state.top) (top_items (heap_of words) root (tree_of (heap_of words) root) top) x y i j e)
 
 -- ---- comes and goes
 

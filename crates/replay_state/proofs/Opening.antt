@@ -1,4 +1,4 @@
--- A replay of no event yet, and the content of its newest moment.
+-- A replay of no event yet, and the content of its newest version.
 use Rattle.std.proofs.Common.{◌≡◌, List, [], ◌∷◌, map, replicate, None, refl, sym, ap, ◌∙◌}
 use Rattle.std.proofs.lemmas.List.{length-replicate}
 use Rattle.record_words.specs.declared.layout.Layout.{Layout}
@@ -9,14 +9,14 @@ use Rattle.replay_trees.specs.declared.trees.Item.{Item as Stored}
 use Rattle.replay_state.specs.Passes.{ArePassesOf, fresh_pass}
 use Rattle.replay_state.specs.Records.{AreRecordsOf}
 use Rattle.replay_state.specs.States.{StateView, IsStateOf}
-use Rattle.replay_trees.specs.Moments.{read_item}
+use Rattle.replay_trees.specs.Versions.{read_item}
 use Rattle.replay_state.proofs.Tables.{slice_get-replicate}
 use Rattle.replay_state.proofs.EpochSteps.{fresh_seen}
 
 opening_passes : (layout : Layout) → ArePassesOf (replicate layout.passes fresh_pass) layout (opening layout).pins (opening layout).rounds
 opening_passes layout = record {
   count = length-replicate layout.passes fresh_pass;
-  each = λ q p e. rw (slice_get-replicate layout.passes fresh_pass q p e) record { pin_is = refl; epoch_is = refl; moment_is = refl; bound_is = refl; seen_are = fresh_seen layout };
+  each = λ q p e. rw (slice_get-replicate layout.passes fresh_pass q p e) record { pin_is = refl; epoch_is = refl; version_is = refl; bound_is = refl; seen_are = fresh_seen layout };
 }
 
 pub opening_replay : (s : StateView) (layout : Layout) → AreRecordsOf s.records layout (opening layout).words (opening layout).fate (opening layout).lock →
@@ -35,5 +35,5 @@ pairs_stored : (xs : List Stored) → map (λ (x : Stored). (x.key, x.value)) xs
 pairs_stored [] = refl
 pairs_stored (x ∷ xs) = ap (λ z. (x.key, x.value) ∷ z) (pairs_stored xs)
 
-pub content_is : (s : StateView) (c : Core) → IsStateOf s c → map (λ (x : Stored). (x.key, x.value)) s.items ≡ Rattle.moments.specs.Told.content (c.past.moment c.past.now)
+pub content_is : (s : StateView) (c : Core) → IsStateOf s c → map (λ (x : Stored). (x.key, x.value)) s.items ≡ Rattle.versions.specs.Told.content (c.past.version c.past.now)
 content_is s c h = pairs_stored s.items ∙ ap pairs (sym h.items)

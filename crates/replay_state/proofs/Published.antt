@@ -1,19 +1,19 @@
--- The tree that words show is made the newest moment.
+-- The tree that words show is made the newest version.
 use Rattle.std.proofs.Common.{◌≡◌, ◌⊎◌, inl, inr, ℕ, suc, List, [], ◌∷◌, ◌++◌, length, map, get_or, slice_get, Option, Some, None, Bool, true, false, refl, sym, ap, ◌∙◌, subst}
 use Rattle.std.proofs.lemmas.Bool.{cases_Bool, false≢true, eq-eqb}
 use Rattle.std.proofs.lemmas.Option.{get_or_from_slice_get}
 use Rattle.compound_node.specs.declared.entries.Entry.{Entry}
 use Rattle.finite_map.specs.declared.Change.{Change}
-use Rattle.moments.specs.declared.Rec.{Rec}
-use Rattle.moments.specs.declared.Rec.TheVariants.{Node as a_node, Leaf as a_leaf}
-use Rattle.moments.specs.State.{IsLinked}
-use Rattle.moments.specs.Told.{items_of}
-use Rattle.moments.specs.Core.{Free, Ready as ReadyBy, InTree as InTreeSince}
-use Rattle.moments.specs.Steps.{is_linked, next_fate}
+use Rattle.versions.specs.declared.Rec.{Rec}
+use Rattle.versions.specs.declared.Rec.TheVariants.{Node as a_node, Leaf as a_leaf}
+use Rattle.versions.specs.State.{IsLinked}
+use Rattle.versions.specs.Told.{items_of}
+use Rattle.versions.specs.Core.{Free, Ready as ReadyBy, InTree as InTreeSince}
+use Rattle.versions.specs.Steps.{is_linked, next_fate}
 use Rattle.rowex_core.specs.Cores.{Core, HasRecord, heap_of}
 use Rattle.rowex_core.specs.Events.{AreSame, IsInTree, tree_of, change_between}
 use Rattle.replay_trees.specs.Changed.{IsFoundChange}
-use Rattle.replay_trees.specs.Moments.{AreWordsOf, IsMoment, IsReadMoment, Tells, read_item}
+use Rattle.replay_trees.specs.Versions.{AreWordsOf, IsVersion, IsReadVersion, Tells, read_item}
 use Rattle.replay_trees.specs.declared.trees.Item.{Item as ReadItem}
 use Rattle.replay_trees.specs.declared.trees.Linked.{Linked}
 use Rattle.replay_state.specs.declared.fate.Fate.{Fate as Stored}
@@ -21,11 +21,11 @@ use Rattle.replay_state.specs.declared.fate.Fate.TheVariants.{Ready as IsReady, 
 use Rattle.replay_state.specs.Fates.{stored_fate}
 use Rattle.replay_state.specs.Records.{RecordsView, MayLink, AreNextRecords, words_in, fate_in}
 use Rattle.replay_state.specs.States.{StateView, IsStateOf}
-use Rattle.replay_state.specs.Publishing.{IsWordStored, AreWordsPacked, MayMakeMoment, published}
+use Rattle.replay_state.specs.Publishing.{IsWordStored, AreWordsPacked, MayMakeVersion, published}
 use Rattle.replay_state.proofs.Tables as table
 use Rattle.replay_state.proofs.Reading.{tree_stored}
 use Rattle.replay_state.proofs.Sound.{count, used}
-use Rattle.replay_state.proofs.Linking.{flag, flag_is, linked_flag, came, comes, of_table, is_moment, same_leaves, words_read}
+use Rattle.replay_state.proofs.Linking.{flag, flag_is, linked_flag, came, comes, of_table, is_version, same_leaves, words_read}
 
 not_true : (b : Bool) → (b ≡ true → ⊥) → b ≡ false
 not_true b f = elim (cases_Bool b) [ inl e ↦ absurd (f e) | inr e ↦ e ]
@@ -39,10 +39,10 @@ module _ (s : StateView) (c : Core) (words : Rec → List ℕ) (q : ℕ) (root :
   come_stored (a_node n) f m e on = m.nodes_come n f e on
   come_stored (a_leaf n) f m e on = m.leaves_come n f e on
 
-  pub all_come : IsMoment s.records.nodes s.records.leaves words root → MayLink s.records q linked.nodes.items linked.leaves.items →
+  pub all_come : IsVersion s.records.nodes s.records.leaves words root → MayLink s.records q linked.nodes.items linked.leaves.items →
       (r : Rec) → IsLinked (tree_of (heap_of words) root) r → ((since : ℕ) × (c.fate r ≡ InTreeSince since)) ⊎ (c.fate r ≡ ReadyBy q)
-  all_come moment m r in_tree =
-      let there = of_table s.records c.layout words c.fate c.lock st.at.records r (moment.spelled r in_tree).0 in
+  all_come version m r in_tree =
+      let there = of_table s.records c.layout words c.fate c.lock st.at.records r (version.spelled r in_tree).0 in
       let x = table.fate_there s.records c.layout words c.fate c.lock st.at.records r there in
       subst (λ z. ((since : ℕ) × (z ≡ InTreeSince since)) ⊎ (z ≡ ReadyBy q)) (sym (st.at.records.fates_are r x.0 x.1))
       (comes q x.0 (come_stored r x.0 m x.1 ((linked_flag s.records.nodes s.records.leaves (tree_of (heap_of words) root) linked tells r).1 in_tree)))
@@ -55,7 +55,7 @@ module _ (s : StateView) (c : Core) (words : Rec → List ℕ) (q : ℕ) (root :
       let off = not_true (get_or linked.nodes.items n false) (λ on. out ((tells.nodes_are n).0 on)) in
       st.at.records.locks_are n y.0 y.1 ∙ (sym (get_or_from_slice_get s.records.locks n y.0 None y.1) ∙ m.nodes_go n x.0 x.1 off (since, tree_stored x.0 since (sym (st.at.records.fates_are (a_node n) x.0 x.1) ∙ e)))
 
-  pub may_link_from : MayMakeMoment c q words root → MayLink s.records q linked.nodes.items linked.leaves.items
+  pub may_link_from : MayMakeVersion c q words root → MayLink s.records q linked.nodes.items linked.leaves.items
   may_link_from may = record {
     nodes_come = λ i f e on. came q f (subst (λ z. ((since : ℕ) × (z ≡ InTreeSince since)) ⊎ (z ≡ ReadyBy q)) (st.at.records.fates_are (a_node i) f e) (may.comes (a_node i) ((tells.nodes_are i).0 on)));
     leaves_come = λ i f e on. came q f (subst (λ z. ((since : ℕ) × (z ≡ InTreeSince since)) ⊎ (z ≡ ReadyBy q)) (st.at.records.fates_are (a_leaf i) f e) (may.comes (a_leaf i) ((tells.leaves_are i).0 on)));
@@ -67,13 +67,13 @@ module _ (s : StateView) (c : Core) (words : Rec → List ℕ) (q : ℕ) (root :
   }
 
   -- the change that is found is the one that the publish makes
-  pub found : (o : Option Change) → IsMoment s.records.nodes s.records.leaves words root → (AreSame (map read_item s.items) (map read_item linked.items.items) → IsFoundChange q (map read_item s.items) (map read_item linked.items.items) o) →
-      IsFoundChange q (items_of (c.past.moment c.past.now)) (items_of (tree_of (heap_of words) root)) o
-  found o moment h =
+  pub found : (o : Option Change) → IsVersion s.records.nodes s.records.leaves words root → (AreSame (map read_item s.items) (map read_item linked.items.items) → IsFoundChange q (map read_item s.items) (map read_item linked.items.items) o) →
+      IsFoundChange q (items_of (c.past.version c.past.now)) (items_of (tree_of (heap_of words) root)) o
+  found o version h =
       subst (λ xs. IsFoundChange q xs (items_of (tree_of (heap_of words) root)) o) (sym st.at.items)
       (subst (λ ys. IsFoundChange q (map read_item s.items) ys o) tells.items_are
       (h (subst (λ xs. AreSame xs (map read_item linked.items.items)) st.at.items
-      (subst (λ ys. AreSame (items_of (c.past.moment c.past.now)) ys) (sym tells.items_are) (same_leaves s c words root st moment.top)))))
+      (subst (λ ys. AreSame (items_of (c.past.version c.past.now)) ys) (sym tells.items_are) (same_leaves s c words root st version.top)))))
 
   -- the records after it
   next_words : (t : RecordsView) → (t.nodes ≡ s.records.nodes) × (t.leaves ≡ s.records.leaves) → (r : Rec) (x : List ℕ) → words_in t r ≡ Some x → words r ≡ x
@@ -93,7 +93,7 @@ module _ (s : StateView) (c : Core) (words : Rec → List ℕ) (q : ℕ) (root :
   next_fates now t same next (a_leaf n) f e = let x = next.leaf_fates n f e in next_is now (a_leaf n) f x.0 same x.1 x.2
 
   pub published_is : (now : ℕ) (t : RecordsView) (x : Change) → now ≡ length s.changes → AreNextRecords now q linked.nodes.items linked.leaves.items s.records t →
-      x ≡ change_between q (items_of (c.past.moment c.past.now)) (items_of (tree_of (heap_of words) root)) →
+      x ≡ change_between q (items_of (c.past.version c.past.now)) (items_of (tree_of (heap_of words) root)) →
       IsStateOf (record s { records = t; root = root; changes = s.changes ++ x ∷ []; items = linked.items.items }) (published c q words root)
   published_is now t x same next is = record {
     records = record {
@@ -108,36 +108,36 @@ module _ (s : StateView) (c : Core) (words : Rec → List ℕ) (q : ℕ) (root :
     anchor = st.at.anchor;
     root = refl;
     epoch = st.at.epoch;
-    changes = ap (λ xs. xs ++ change_between q (items_of (c.past.moment c.past.now)) (items_of (tree_of (heap_of words) root)) ∷ []) st.at.changes ∙ ap (λ z. s.changes ++ z ∷ []) (sym is);
+    changes = ap (λ xs. xs ++ change_between q (items_of (c.past.version c.past.now)) (items_of (tree_of (heap_of words) root)) ∷ []) st.at.changes ∙ ap (λ z. s.changes ++ z ∷ []) (sym is);
     items = rw (eq-eqb (suc c.past.now) (suc c.past.now) refl) (sym tells.items_are);
   }
 
 -- ---- the answers
 
-pub none_read : (s : StateView) (q : ℕ) (root : Option Entry) → ((words : Rec → List ℕ) → AreWordsOf s.records.nodes s.records.leaves words → IsReadMoment s.records.nodes s.records.leaves words root None) →
-    (c : Core) (words : Rec → List ℕ) → IsWordStored s c words → AreWordsPacked c words → ¬ (MayMakeMoment c q words root)
-none_read s q root read c words st packed may = read words (words_read s.records c.layout words c.fate c.lock st.at.records) (is_moment s c words q root st packed may)
+pub none_read : (s : StateView) (q : ℕ) (root : Option Entry) → ((words : Rec → List ℕ) → AreWordsOf s.records.nodes s.records.leaves words → IsReadVersion s.records.nodes s.records.leaves words root None) →
+    (c : Core) (words : Rec → List ℕ) → IsWordStored s c words → AreWordsPacked c words → ¬ (MayMakeVersion c q words root)
+none_read s q root read c words st packed may = read words (words_read s.records c.layout words c.fate c.lock st.at.records) (is_version s c words q root st packed may)
 
 pub not_linked : (s : StateView) (q : ℕ) (root : Option Entry) (linked : Linked) →
-    ((words : Rec → List ℕ) → AreWordsOf s.records.nodes s.records.leaves words → IsReadMoment s.records.nodes s.records.leaves words root (Some linked)) →
-    ¬ (MayLink s.records q linked.nodes.items linked.leaves.items) → (c : Core) (words : Rec → List ℕ) → IsWordStored s c words → AreWordsPacked c words → ¬ (MayMakeMoment c q words root)
+    ((words : Rec → List ℕ) → AreWordsOf s.records.nodes s.records.leaves words → IsReadVersion s.records.nodes s.records.leaves words root (Some linked)) →
+    ¬ (MayLink s.records q linked.nodes.items linked.leaves.items) → (c : Core) (words : Rec → List ℕ) → IsWordStored s c words → AreWordsPacked c words → ¬ (MayMakeVersion c q words root)
 not_linked s q root linked read fails c words st packed may =
     fails (may_link_from s c words q root st linked (read words (words_read s.records c.layout words c.fate c.lock st.at.records)).1 may)
 
 pub not_changed : (s : StateView) (q : ℕ) (root : Option Entry) (linked : Linked) →
-    ((words : Rec → List ℕ) → AreWordsOf s.records.nodes s.records.leaves words → IsReadMoment s.records.nodes s.records.leaves words root (Some linked)) →
+    ((words : Rec → List ℕ) → AreWordsOf s.records.nodes s.records.leaves words → IsReadVersion s.records.nodes s.records.leaves words root (Some linked)) →
     (AreSame (map read_item s.items) (map read_item linked.items.items) → IsFoundChange q (map read_item s.items) (map read_item linked.items.items) None) →
-    (c : Core) (words : Rec → List ℕ) → IsWordStored s c words → AreWordsPacked c words → ¬ (MayMakeMoment c q words root)
+    (c : Core) (words : Rec → List ℕ) → IsWordStored s c words → AreWordsPacked c words → ¬ (MayMakeVersion c q words root)
 not_changed s q root linked read none c words st packed may =
     let x = read words (words_read s.records c.layout words c.fate c.lock st.at.records) in
     found s c words q root st linked x.1 None x.0 none may.change
 
 pub publishes : (s : StateView) (q : ℕ) (root : Option Entry) (linked : Linked) (x : Change) (now : ℕ) (t : RecordsView) →
-    ((words : Rec → List ℕ) → AreWordsOf s.records.nodes s.records.leaves words → IsReadMoment s.records.nodes s.records.leaves words root (Some linked)) →
+    ((words : Rec → List ℕ) → AreWordsOf s.records.nodes s.records.leaves words → IsReadVersion s.records.nodes s.records.leaves words root (Some linked)) →
     MayLink s.records q linked.nodes.items linked.leaves.items →
     (AreSame (map read_item s.items) (map read_item linked.items.items) → IsFoundChange q (map read_item s.items) (map read_item linked.items.items) (Some x)) →
     now ≡ length s.changes → AreNextRecords now q linked.nodes.items linked.leaves.items s.records t → (c : Core) (words : Rec → List ℕ) → IsWordStored s c words →
-    MayMakeMoment c q words root × IsStateOf (record s { records = t; root = root; changes = s.changes ++ x ∷ []; items = linked.items.items }) (published c q words root)
+    MayMakeVersion c q words root × IsStateOf (record s { records = t; root = root; changes = s.changes ++ x ∷ []; items = linked.items.items }) (published c q words root)
 publishes s q root linked x now t read m one same next c words st =
     let y = read words (words_read s.records c.layout words c.fate c.lock st.at.records) in
     let z = found s c words q root st linked y.1 (Some x) y.0 one in (
@@ -146,7 +146,7 @@ publishes s q root linked x now t read m one same next c words st =
         tree = y.0.tree;
         comes = all_come s c words q root st linked y.1 y.0 m;
         goes = λ n since e. all_go s c words q root st linked y.1 m n (since, e);
-        change = subst (λ w. Rattle.moments.specs.Told.IsChange (c.past.moment c.past.now) w (tree_of (heap_of words) root)) z.0 z.1;
+        change = subst (λ w. Rattle.versions.specs.Told.IsChange (c.past.version c.past.now) w (tree_of (heap_of words) root)) z.0 z.1;
       },
       published_is s c words q root st linked y.1 now t x same next z.0,
     )
@@ -154,7 +154,7 @@ publishes s q root linked x now t read m one same next c words st =
 -- ---- what was read and found, of the same lists
 
 pub read_is : (a b x y : List (List ℕ)) (root : Option Entry) (o p : Option Linked) → a ≡ x → b ≡ y → o ≡ p →
-    ((words : Rec → List ℕ) → AreWordsOf a b words → IsReadMoment a b words root o) → (words : Rec → List ℕ) → AreWordsOf x y words → IsReadMoment x y words root p
+    ((words : Rec → List ℕ) → AreWordsOf a b words → IsReadVersion a b words root o) → (words : Rec → List ℕ) → AreWordsOf x y words → IsReadVersion x y words root p
 read_is a b x y root o p e f g h = rw (← e, ← f, ← g) h
 
 pub found_is : (q : ℕ) (a b x y : List ReadItem) (o p : Option Change) → a ≡ x → b ≡ y → o ≡ p → (AreSame (map read_item a) (map read_item b) → IsFoundChange q (map read_item a) (map read_item b) o) →

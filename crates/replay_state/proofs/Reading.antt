@@ -3,9 +3,9 @@ use Rattle.std.proofs.Common.{◌≡◌, ◌+◌, ◌*◌, ◌^◌, ◌<◌, ◌
 use Rattle.std.proofs.lemmas.Option.{same_Some, none-some}
 use Rattle.record_words.specs.declared.state.Tag.{Tag}
 use Rattle.record_words.specs.State.{HasStateWord, state_word}
-use Rattle.moments.specs.declared.Rec.{Rec}
-use Rattle.moments.specs.declared.Rec.TheVariants.{Node as a_node, Leaf as a_leaf}
-use Rattle.moments.specs.Core.{Fate, Free, Held, Ready, InTree, Unlinked, Marked}
+use Rattle.versions.specs.declared.Rec.{Rec}
+use Rattle.versions.specs.declared.Rec.TheVariants.{Node as a_node, Leaf as a_leaf}
+use Rattle.versions.specs.Core.{Fate, Free, Held, Ready, InTree, Unlinked, Marked}
 use Rattle.rowex_core.specs.Cores.{Core, IsLawful, HasRecord}
 use Rattle.rowex_core.specs.Words.{tag_of, lock_of, state_at}
 use Rattle.replay_state.specs.declared.fate.Fate.{Fate as Stored}

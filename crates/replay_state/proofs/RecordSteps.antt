@@ -1,7 +1,7 @@
 -- The steps on records of a pass's own.
 use Rattle.std.proofs.Common.{◌≡◌, ◌≢◌, ◌-◌, ◌^◌, ◌<◌, ℕ, List, set, Some, refl, sym, ap, ◌∙◌, subst}
-use Rattle.moments.specs.declared.Rec.{Rec}
-use Rattle.moments.specs.Core.{Fate, Free, Held, Ready as ReadyBy, InTree, Unlinked, Marked}
+use Rattle.versions.specs.declared.Rec.{Rec}
+use Rattle.versions.specs.Core.{Fate, Free, Held, Ready as ReadyBy, InTree, Unlinked, Marked}
 use Rattle.rowex_core.specs.declared.event.Act.TheVariants.{Claim, Fill, Ready, Release}
 use Rattle.rowex_core.specs.Reading.{IsPacked}
 use Rattle.record_words.specs.declared.layout.Layout.{Layout}
@@ -15,7 +15,7 @@ use Rattle.replay_state.specs.Records.{RecordsView, HasState, IsPackedIn, words_
 use Rattle.replay_state.specs.States.{StateView, IsStateOf}
 use Rattle.replay_state.proofs.Tables as table
 use Rattle.replay_state.proofs.Reading.{held_at, state_from, state_is, word_0, words_from, with_records_is}
-use Rattle.moments.specs.Steps.{with_fate}
+use Rattle.versions.specs.Steps.{with_fate}
 
 -- the replay with one fate changed is at the core with that fate changed
 pub with_fate_is : (s : StateView) (c : Core) → IsStateOf s c → (r : Rec) (g : Stored) → IsStateOf (record s { records = with_fate_in s.records r g }) (record c { shared = with_fate c.shared r (stored_fate g) })

@@ -3,9 +3,9 @@ use Rattle.std.proofs.Common.{◌≡◌, ◌<◌, ◌≤◌, ℕ, zero, suc, Lis
 use Rattle.std.proofs.lemmas.Bool.{eq-eqb, ne_eqb}
 use Rattle.std.proofs.lemmas.List.Elements.{All-head, All-tail}
 use Rattle.std.proofs.lemmas.Option.{same_Some, none-some}
-use Rattle.moments.specs.declared.Rec.{Rec}
-use Rattle.moments.specs.declared.Rec.TheVariants.{Node as a_node, Leaf as a_leaf}
-use Rattle.moments.specs.Core.{Fate, Free, Held, Ready as ReadyBy, InTree, Unlinked, Marked, has_seen}
+use Rattle.versions.specs.declared.Rec.{Rec}
+use Rattle.versions.specs.declared.Rec.TheVariants.{Node as a_node, Leaf as a_leaf}
+use Rattle.versions.specs.Core.{Fate, Free, Held, Ready as ReadyBy, InTree, Unlinked, Marked, has_seen}
 use Rattle.rowex_core.specs.declared.event.Act.TheVariants.{Mark, GiveBack}
 use Rattle.rowex_core.specs.Cores.{Core, IsLawful}
 use Rattle.rowex_core.specs.Events.{LegalAct, after, marked, given_back}
@@ -19,7 +19,7 @@ use Rattle.replay_state.specs.States.{StateView, IsStateOf}
 use Rattle.replay_state.proofs.Reading.{fate_at, fate_from, marked_stored, state_from}
 use Rattle.replay_state.proofs.RecordSteps.{with_fate_is}
 use Rattle.replay_state.proofs.LockSteps.{lock_is}
-use Rattle.moments.specs.Steps.{with_fate, with_lock, unlocked}
+use Rattle.versions.specs.Steps.{with_fate, with_lock, unlocked}
 
 -- ---- marks
 
@@ -27,12 +27,12 @@ marked_is : (s : StateView) (c : Core) → IsStateOf s c → (r : Rec) (g : Stor
 marked_is s c h (a_node n) g = with_fate_is (record s { records = with_lock_in s.records n None }) (record c { shared = with_lock c.shared n None }) (lock_is s c h n None) (a_node n) g
 marked_is s c h (a_leaf n) g = with_fate_is s c h (a_leaf n) g
 
-pub marks : (s : StateView) (q : ℕ) (r : Rec) (epoch since last : ℕ) (p : PassState) → slice_get s.passes q ≡ Some p → fate_in s.records r ≡ Some (IsUnlinked since last q) → p.epoch ≡ epoch → last < p.moment →
+pub marks : (s : StateView) (q : ℕ) (r : Rec) (epoch since last : ℕ) (p : PassState) → slice_get s.passes q ≡ Some p → fate_in s.records r ≡ Some (IsUnlinked since last q) → p.epoch ≡ epoch → last < p.version →
     (c : Core) → ∥ IsLawful c ∥₁ → IsStateOf s c → LegalAct c q (Mark r epoch) × IsStateOf (record s { records = marked_in s.records r (IsMarked since last epoch) }) (after c q (Mark r epoch))
 marks s q r epoch since last p at gone same before c lawful h =
     let own = h.passes.each q p at in
     let x = fate_at s c h r (IsUnlinked since last q) gone in (
-      (x.0, sym same ∙ sym own.epoch_is, (since, last, x.1, subst (λ m. last < m) (sym own.moment_is) before)),
+      (x.0, sym same ∙ sym own.epoch_is, (since, last, x.1, subst (λ m. last < m) (sym own.version_is) before)),
       subst (λ f. IsStateOf (record s { records = marked_in s.records r (IsMarked since last epoch) }) (record c { shared = marked c.shared r epoch f })) (sym x.1) (marked_is s c h r (IsMarked since last epoch)),
     )
 

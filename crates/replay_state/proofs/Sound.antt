@@ -3,12 +3,12 @@ use Rattle.std.proofs.Common.{◌≡◌, ◌≢◌, inl, inr, length}
 use Rattle.std.proofs.Props.{props}
 use Rattle.std.proofs.Math.Logic.{∥∥₁_elim}
 use Rattle.record_words.specs.declared.layout.Layout.{Layout}
-use Rattle.moments.specs.declared.Rec.{Rec}
-use Rattle.moments.specs.declared.Rec.TheVariants.{Node as a_node, Leaf as a_leaf}
-use Rattle.moments.specs.Core.{Free}
+use Rattle.versions.specs.declared.Rec.{Rec}
+use Rattle.versions.specs.declared.Rec.TheVariants.{Node as a_node, Leaf as a_leaf}
+use Rattle.versions.specs.Core.{Free}
 use Rattle.rowex_core.specs.Cores.{Core, IsLawful, HasRecord}
 
--- there is a moment after each change
+-- there is a version after each change
 pub count : (c : Core) → ∥ IsLawful c ∥₁ → length c.changes ≡ c.past.now
 count c h = ∥∥₁_elim h (Prim.hlevel props) (λ l. l.core.told.count)
 

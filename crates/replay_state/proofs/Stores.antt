@@ -5,10 +5,10 @@ use Rattle.std.proofs.lemmas.List.{set-set, set-get_or}
 use Rattle.std.proofs.lemmas.Option.{get_or_from_slice_get}
 use Rattle.compound_node.specs.declared.entries.Entry.{Entry}
 use Rattle.record_words.specs.Entry.{HasEntryWord, entry_word}
-use Rattle.moments.specs.declared.Rec.{Rec}
-use Rattle.moments.specs.declared.Rec.TheVariants.{Node as a_node}
-use Rattle.moments.specs.Steps.{same_rec}
-use Rattle.moments.proofs.Legal.{same_rec_refl, same_rec_true}
+use Rattle.versions.specs.declared.Rec.{Rec}
+use Rattle.versions.specs.declared.Rec.TheVariants.{Node as a_node}
+use Rattle.versions.specs.Steps.{same_rec}
+use Rattle.versions.proofs.Legal.{same_rec_refl, same_rec_true}
 use Rattle.rowex_core.specs.declared.event.Act.TheVariants.{Publish}
 use Rattle.rowex_core.specs.declared.event.Spot.TheVariants.{Root, Slot}
 use Rattle.rowex_core.specs.Reading.{entry_of, IsPacked}
@@ -17,7 +17,7 @@ use Rattle.rowex_core.specs.Events.{LegalAct, after, stored_words}
 use Rattle.rowex_core.proofs.Reading.{entry_of_word}
 use Rattle.replay_state.specs.Records.{RecordsView, AreRecordsOf, lock_in, with_words_in}
 use Rattle.replay_state.specs.States.{StateView, IsStateOf, IsStepped}
-use Rattle.replay_state.specs.Publishing.{IsWordStored, AreWordsPacked, MayMakeMoment, IsPublishJudged, published}
+use Rattle.replay_state.specs.Publishing.{IsWordStored, AreWordsPacked, MayMakeVersion, IsPublishJudged, published}
 use Rattle.replay_state.proofs.Tables as table
 use Rattle.replay_state.proofs.Reading.{with_records_is}
 
@@ -66,7 +66,7 @@ pub entry_publishes : (s t : StateView) (q n j w : ℕ) (x y : List ℕ) → j <
     HasEntryWord (entry_of w) × (entry_word (entry_of w) ≡ w) → IsPublishJudged true (record s { records = with_words_in s.records (a_node n) y }) t q s.root → (c : Core) → ∥ IsLawful c ∥₁ → IsStateOf s c →
     LegalAct c q (Publish (Slot n j) w) × IsStateOf t (after c q (Publish (Slot n j) w))
 entry_publishes s t q n j w x y few own at is packed entry p c lawful h =
-    let z = subst (λ o. MayMakeMoment c q (stored_words c (Slot n j) w) o × IsStateOf t (published c q (stored_words c (Slot n j) w) o)) (sym h.root)
+    let z = subst (λ o. MayMakeVersion c q (stored_words c (Slot n j) w) o × IsStateOf t (published c q (stored_words c (Slot n j) w) o)) (sym h.root)
     (p c (stored_words c (Slot n j) w) (entry_stored s c n j w x y lawful h at is)) in (
       record {
         locked = (table.has_words s.records c.layout c.words c.fate c.lock h.records (a_node n) x at, few, h.records.locks_are n (Some q) own);
@@ -81,7 +81,7 @@ pub entry_refused : (s t : StateView) (q n j w : ℕ) (x y : List ℕ) → slice
     IsPublishJudged false (record s { records = with_words_in s.records (a_node n) y }) t q s.root → (c : Core) → IsLawful c → IsStateOf s c → ¬ (LegalAct c q (Publish (Slot n j) w))
 entry_refused s t q n j w x y at is packed (same, p) c lawful h legal =
     p c (stored_words c (Slot n j) w) (entry_stored s c n j w x y ∣ lawful ∣₁ h at is) (entry_packed s c n j w x y lawful h at is packed)
-    (subst (MayMakeMoment c q (stored_words c (Slot n j) w)) h.root legal.next)
+    (subst (MayMakeVersion c q (stored_words c (Slot n j) w)) h.root legal.next)
 
 pub entry_unpacked : (s : StateView) (q n j w : ℕ) (x y : List ℕ) → slice_get s.records.nodes n ≡ Some x → y ≡ set x (25 + j) w → ¬ (IsPacked (a_node n) y) → (c : Core) → IsLawful c → IsStateOf s c →
     ¬ (LegalAct c q (Publish (Slot n j) w))

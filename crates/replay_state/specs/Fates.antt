@@ -1,7 +1,7 @@
 -- The fates of records as data.
 use Rattle.replay_state.specs.declared.fate.Fate.{Fate as Stored}
 use Rattle.replay_state.specs.declared.fate.Fate.TheVariants.{Free as IsFree, Held as IsHeld, Ready as IsReady, InTree as IsInTree, Unlinked as IsUnlinked, Marked as IsMarked}
-use Rattle.moments.specs.Core.{Fate, Free, Held, Ready, InTree, Unlinked, Marked}
+use Rattle.versions.specs.Core.{Fate, Free, Held, Ready, InTree, Unlinked, Marked}
 
 -- the fate that is stored so
 abbrev pub stored_fate : Stored → Fate

@@ -1,6 +1,6 @@
 -- What a publish asks of the fates of records and makes of them, by whether it links them.
 use Rattle.std.specs.Prelude.{◌≡◌, ◌⊎◌, ℕ, List, get_or, slice_get, Bool, true, false, Option, Some, None}
-use Rattle.moments.specs.Steps.{next_fate}
+use Rattle.versions.specs.Steps.{next_fate}
 use Rattle.replay_state.specs.declared.fate.Fate.{Fate as Stored}
 use Rattle.replay_state.specs.declared.fate.Fate.TheVariants.{Ready, InTree}
 use Rattle.replay_state.specs.Fates.{stored_fate}
@@ -25,7 +25,7 @@ abbrev pub AllMayGo : ℕ → List Bool → List (Option ℕ) → List Stored �
 AllMayGo q linked locks fates =
     (i : ℕ) (f : Stored) → slice_get fates i ≡ Some f → MayGo q (get_or linked i false) (get_or locks i None) f
 
--- the fates after a publish by pass q at moment `now`
+-- the fates after a publish by pass q in version `now`
 abbrev pub AreNextFates : ℕ → ℕ → List Bool → List Stored → List Stored → Type 0
 AreNextFates now q linked old new =
     (i : ℕ) (f : Stored) → slice_get new i ≡ Some f →

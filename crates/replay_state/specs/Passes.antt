@@ -2,18 +2,18 @@
 use Rattle.std.specs.Prelude.{◌≡◌, ℕ, ◌<◌, ◌≤◌, min, List, length, set, take, replicate, slice_get, All, true, false, Option, Some, None, option_map}
 use Rattle.record_words.specs.declared.TheConstants.{MAX_STOCK_PASSES}
 use Rattle.record_words.specs.declared.layout.Layout.{Layout}
-use Rattle.moments.specs.declared.Pin.{Pin}
-use Rattle.moments.specs.declared.Round.{Round}
-use Rattle.moments.specs.Core.{has_seen}
+use Rattle.versions.specs.declared.Pin.{Pin}
+use Rattle.versions.specs.declared.Round.{Round}
+use Rattle.versions.specs.Core.{has_seen}
 use Rattle.replay_state.specs.declared.passes.PassState.{PassState}
 
 -- a pass that has done nothing yet
 abbrev pub fresh_pass : PassState
-fresh_pass = record { pin = None; epoch = 0; moment = 0; bound = 0; seen = replicate MAX_STOCK_PASSES false }
+fresh_pass = record { pin = None; epoch = 0; version = 0; bound = 0; seen = replicate MAX_STOCK_PASSES false }
 
--- the pass when it has loaded this epoch at this moment
+-- the pass when it has loaded this epoch at this version
 abbrev pub in_round : PassState → ℕ → ℕ → PassState
-in_round p epoch moment = record { pin = p.pin; epoch = epoch; moment = moment; bound = epoch; seen = replicate MAX_STOCK_PASSES false }
+in_round p epoch version = record { pin = p.pin; epoch = epoch; version = version; bound = epoch; seen = replicate MAX_STOCK_PASSES false }
 
 abbrev pub lowered_by : ℕ → Option ℕ → ℕ
 lowered_by bound None = bound
@@ -21,7 +21,7 @@ lowered_by bound (Some w) = min bound w
 
 -- the pass when it has loaded this pin of pass o
 abbrev pub with_pin_seen : PassState → ℕ → Option ℕ → PassState
-with_pin_seen p o pin = record { pin = p.pin; epoch = p.epoch; moment = p.moment; bound = lowered_by p.bound pin; seen = set p.seen o true }
+with_pin_seen p o pin = record { pin = p.pin; epoch = p.epoch; version = p.version; bound = lowered_by p.bound pin; seen = set p.seen o true }
 
 -- it isn't pinned, and has loaded this epoch last
 abbrev pub MayPin : PassState → ℕ → Type 0
@@ -39,7 +39,7 @@ IsOutOfReach p epoch n = (1 ≤ epoch) × (epoch < p.bound) × HasLoadedPins p n
 pub record IsPassStateOf (layout : Layout) (p : PassState) (pin : Option Pin) (round : Round) : Type 0 where
   pub pin_is : p.pin ≡ option_map (λ (x : Pin). x.word) pin
   pub epoch_is : round.epoch ≡ p.epoch
-  pub moment_is : round.moment ≡ p.moment
+  pub version_is : round.version ≡ p.version
   pub bound_is : round.bound ≡ p.bound
   pub seen_are : (o : ℕ) → o < layout.passes → slice_get p.seen o ≡ Some (has_seen round.seen o)
 

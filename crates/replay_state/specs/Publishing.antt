@@ -2,10 +2,10 @@
 use Rattle.std.specs.Prelude.{◌≡◌, ℕ, List, Bool, true, false, Option}
 use Rattle.compound_node.specs.declared.entries.Entry.{Entry}
 use Rattle.finite_map.specs.declared.Change.{Change}
-use Rattle.moments.specs.declared.Rec.{Rec}
-use Rattle.moments.specs.declared.Rec.TheVariants.{Leaf as a_leaf}
-use Rattle.moments.specs.Steps.{IsNextMoment, published_by}
-use Rattle.moments.specs.Told.{items_of}
+use Rattle.versions.specs.declared.Rec.{Rec}
+use Rattle.versions.specs.declared.Rec.TheVariants.{Leaf as a_leaf}
+use Rattle.versions.specs.Steps.{IsNextVersion, published_by}
+use Rattle.versions.specs.Told.{items_of}
 use Rattle.rowex_core.specs.Reading.{IsPacked}
 use Rattle.rowex_core.specs.Cores.{Core, IsLawful, IsWhole, heap_of}
 use Rattle.rowex_core.specs.Events.{change_between, tree_of}
@@ -23,11 +23,11 @@ AreWordsPacked c words = (r : Rec) → IsWhole (c.fate r) → IsPacked r (words 
 
 -- the change by which pass q then makes the tree that the words show from this root
 abbrev pub change_to : Core → ℕ → (Rec → List ℕ) → Option Entry → Change
-change_to c q words root = change_between q (items_of (c.past.moment c.past.now)) (items_of (tree_of (heap_of words) root))
+change_to c q words root = change_between q (items_of (c.past.version c.past.now)) (items_of (tree_of (heap_of words) root))
 
--- Pass q may make that tree the newest moment, its locks on words aside,
-abbrev pub MayMakeMoment : Core → ℕ → (Rec → List ℕ) → Option Entry → Type 0
-MayMakeMoment c q words root = IsNextMoment c.shared q (heap_of words) root (tree_of (heap_of words) root) (change_to c q words root)
+-- Pass q may make that tree the newest version, its locks on words aside,
+abbrev pub MayMakeVersion : Core → ℕ → (Rec → List ℕ) → Option Entry → Type 0
+MayMakeVersion c q words root = IsNextVersion c.shared q (heap_of words) root (tree_of (heap_of words) root) (change_to c q words root)
 
 -- and the core when it has.
 abbrev pub published : Core → ℕ → (Rec → List ℕ) → Option Entry → Core
@@ -35,5 +35,5 @@ published c q words root = record { layout = c.layout; words = words; shared = p
 
 -- That was done, and may be done in each core whose state it was; or it wasn't, and may be in none.
 abbrev pub IsPublishJudged : Bool → StateView → StateView → ℕ → Option Entry → Type 0
-IsPublishJudged true s t q root = (c : Core) (words : Rec → List ℕ) → IsWordStored s c words → MayMakeMoment c q words root × IsStateOf t (published c q words root)
-IsPublishJudged false s t q root = (t ≡ s) × ((c : Core) (words : Rec → List ℕ) → IsWordStored s c words → AreWordsPacked c words → ¬ (MayMakeMoment c q words root))
+IsPublishJudged true s t q root = (c : Core) (words : Rec → List ℕ) → IsWordStored s c words → MayMakeVersion c q words root × IsStateOf t (published c q words root)
+IsPublishJudged false s t q root = (t ≡ s) × ((c : Core) (words : Rec → List ℕ) → IsWordStored s c words → AreWordsPacked c words → ¬ (MayMakeVersion c q words root))

@@ -2,8 +2,8 @@
 use Rattle.std.specs.Prelude.{◌≡◌, ℕ, ◌<◌, List, map, Bool, true, false, Option, Some}
 use Rattle.compound_node.specs.declared.entries.Entry.{Entry}
 use Rattle.finite_map.specs.declared.Change.{Change}
-use Rattle.moments.specs.declared.Rec.TheVariants.{Node as a_node}
-use Rattle.moments.specs.Told.{items_of}
+use Rattle.versions.specs.declared.Rec.TheVariants.{Node as a_node}
+use Rattle.versions.specs.Told.{items_of}
 use Rattle.rowex_core.specs.declared.event.Act.{Act}
 use Rattle.rowex_core.specs.declared.event.Act.TheVariants.{Publish}
 use Rattle.rowex_core.specs.declared.event.Spot.{Spot}
@@ -12,7 +12,7 @@ use Rattle.record_words.specs.declared.TheConstants.{MAX_ENTRIES}
 use Rattle.rowex_core.specs.Cores.{Core, IsLawful}
 use Rattle.rowex_core.specs.Events.{LegalAct, after}
 use Rattle.replay_trees.specs.declared.trees.Item.{Item as ReadItem}
-use Rattle.replay_trees.specs.Moments.{read_item}
+use Rattle.replay_trees.specs.Versions.{read_item}
 use Rattle.replay_state.specs.declared.passes.PassState.{PassState}
 use Rattle.replay_state.specs.Passes.{ArePassesOf}
 use Rattle.replay_state.specs.Records.{RecordsView, AreRecordsOf, lock_in}
@@ -28,7 +28,7 @@ pub record StateView : Type 0 where
   pub items : List ReadItem
 
 -- The state is that of this core: they have the same records, passes, locks, epoch, root and changes, and the state has
--- the leaves of the newest moment.
+-- the leaves of the newest version.
 pub record IsStateOf (s : StateView) (c : Core) : Type 0 where
   pub records : AreRecordsOf s.records c.layout c.words c.fate c.lock
   pub passes : ArePassesOf s.passes c.layout c.pins c.rounds
@@ -36,7 +36,7 @@ pub record IsStateOf (s : StateView) (c : Core) : Type 0 where
   pub root : c.root ≡ s.root
   pub epoch : c.epoch ≡ s.epoch
   pub changes : c.changes ≡ s.changes
-  pub items : items_of (c.past.moment c.past.now) ≡ map read_item s.items
+  pub items : items_of (c.past.version c.past.now) ≡ map read_item s.items
 
 -- The act of pass q was made, and is legal in each lawful core whose state it was; or it wasn't, and is legal in none.
 abbrev pub IsStepped : Bool → StateView → StateView → ℕ → Act → Type 0

@@ -34,8 +34,8 @@ impl State {
         if word != self.epoch {
             return false;
         }
-        let moment = self.changes.len() as u64;
-        let loaded = self.own(pass).loaded(self.epoch, moment);
+        let version = self.changes.len() as u64;
+        let loaded = self.own(pass).loaded(self.epoch, version);
         put(&mut self.passes, pass as usize, loaded);
         true
     }

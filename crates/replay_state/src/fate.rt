@@ -5,7 +5,7 @@ ghost use Rattle.rowex_core.specs.Words.{lock_tag, tag_of};
 
 use record_words::Tag;
 
-/// What has become of a record. Moments are counted by changes, passes by their numbers.
+/// What has become of a record. Versions are counted by changes, passes by their numbers.
 #[derive(Clone, Copy)]
 pub(crate) enum Fate {
     /// Any pass may claim it.
@@ -14,11 +14,11 @@ pub(crate) enum Fate {
     Held { by: u16 },
     /// A pass has made it live and not yet linked it.
     Ready { by: u16 },
-    /// It is in the tree since a moment.
+    /// It is in the tree since a version.
     InTree { since: u64 },
-    /// It was in the tree from a moment to another, and a pass has unlinked it.
+    /// It was in the tree from one version to another, and a pass has unlinked it.
     Unlinked { since: u64, last: u64, by: u16 },
-    /// It was in the tree from a moment to another, and is obsolete with this epoch.
+    /// It was in the tree from one version to another, and is obsolete with this epoch.
     Marked { since: u64, last: u64, epoch: u64 },
 }
 

@@ -1,7 +1,7 @@
 //! What a publish asks of the fates of records, and what it makes of them.
 
 ghost use Rattle.std.specs.Prelude.{◌≡◌, ◌↔◌, ◌+◌, ◌<◌, ◌^◌, IsTrue, None, false, get_or};
-ghost use Rattle.moments.specs.Steps.{next_fate};
+ghost use Rattle.versions.specs.Steps.{next_fate};
 ghost use Rattle.replay_state.specs.Fates.{stored_fate};
 ghost use Rattle.replay_state.specs.Links.{AllMayCome, AllMayGo, AreNextFates, MayCome, MayGo};
 
@@ -29,7 +29,7 @@ impl Fate {
         }
     }
 
-    /// The fate of a record after a publish by the pass, which makes the moment after `now`.
+    /// The fate of a record after a publish by the pass, which makes the version after `now`.
     fn next(self, now: u64, pass: u16, is_linked: bool) -> Fate
         requires { now + 1 < 2 ^ 64 }
         ensures { stored_fate result ≡ next_fate now pass is_linked (stored_fate self) }
@@ -70,7 +70,7 @@ pub(crate) fn all_may_go(fates: &[Fate], locks: &[Option<u16>], pass: u16, linke
     true
 }
 
-/// Gives these records the fates that they have after a publish by the pass, which makes the moment after `now`.
+/// Gives these records the fates that they have after a publish by the pass, which makes the version after `now`.
 pub(crate) fn link_all(fates: &mut [Fate], now: u64, pass: u16, linked: &[bool])
     requires { now + 1 < 2 ^ 64 }
     ensures { AreNextFates now pass linked.now fates.old fates.new }

@@ -7,13 +7,13 @@ use record_words::MAX_STOCK_PASSES;
 /// The most passes of an index, as a length.
 const PASSES: usize = MAX_STOCK_PASSES as usize;
 
-/// The pin of a pass, and its last load of the epoch: what it found, at which moment, the least of it and of the pins
+/// The pin of a pass, and its last load of the epoch: what it found, at which version, the least of it and of the pins
 /// loaded since, and whose they were.
 #[derive(Clone, Copy)]
 pub(crate) struct PassState {
     pub(crate) pin: Option<u64>,
     pub(crate) epoch: u64,
-    pub(crate) moment: u64,
+    pub(crate) version: u64,
     pub(crate) bound: u64,
     pub(crate) seen: [bool; PASSES],
 }
@@ -28,20 +28,20 @@ impl PassState {
         PassState {
             pin: None,
             epoch: 0,
-            moment: 0,
+            version: 0,
             bound: 0,
             seen: [false; PASSES],
         }
     }
 
-    /// The pass when it has loaded this epoch at this moment.
-    pub(crate) fn loaded(self, epoch: u64, moment: u64) -> PassState
-        ensures { result ≡ in_round self epoch moment }
+    /// The pass when it has loaded this epoch at this version.
+    pub(crate) fn loaded(self, epoch: u64, version: u64) -> PassState
+        ensures { result ≡ in_round self epoch version }
     {
         PassState {
             pin: self.pin,
             epoch,
-            moment,
+            version,
             bound: epoch,
             seen: [false; PASSES],
         }
@@ -62,7 +62,7 @@ impl PassState {
         PassState {
             pin: self.pin,
             epoch: self.epoch,
-            moment: self.moment,
+            version: self.version,
             bound,
             seen,
         }

@@ -93,7 +93,7 @@ impl State {
         }
     }
 
-    /// Makes the tree that the words show from this root the newest moment, if the pass may.
+    /// Makes the tree that the words show from this root the newest version, if the pass may.
     fn publish_tree(&mut self, pass: u16, root: Option<Entry>) -> Result<bool, AllocError>
         ensures ok { IfOk result (λ made. IsPublishJudged made self.old self.new pass root) }
         ensures err { OnErr result (self.new ≡ self.old) }

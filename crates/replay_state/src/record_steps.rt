@@ -68,7 +68,7 @@ impl State {
         let Some(Fate::Unlinked { since, last, by }) = self.records.fate(rec) else {
             return false;
         };
-        if by != pass || own.epoch != epoch || own.moment <= last {
+        if by != pass || own.epoch != epoch || own.version <= last {
             return false;
         }
         self.records.mark(rec, Fate::Marked { since, last, epoch });

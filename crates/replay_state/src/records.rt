@@ -4,7 +4,7 @@ ghost use Rattle.std.specs.Prelude.{◌≡◌, ℕ, List, Some, None, IfOk, IsTr
 ghost use Rattle.rowex_core.specs.Cores.{FitsIn};
 ghost use Rattle.rowex_core.specs.Reading.{IsPacked};
 ghost use Rattle.replay_state.specs.declared.fate.Fate.TheVariants.{Held, InTree, Marked};
-ghost use Rattle.moments.specs.declared.Rec.TheVariants.{Node as a_node, Leaf as a_leaf};
+ghost use Rattle.versions.specs.declared.Rec.TheVariants.{Node as a_node, Leaf as a_leaf};
 
 use crate::fate::Fate;
 use crate::links::{all_may_come, all_may_go, link_all};
@@ -138,7 +138,7 @@ impl Records {
     }
 
     /// Gives each record its fate after a publish by the pass of a tree that links these nodes and leaves. It makes the
-    /// moment after `now`.
+    /// version after `now`.
     pub(crate) fn link(&mut self, now: u64, pass: u16, nodes: &[bool], leaves: &[bool])
         requires { now + 1 < 2 ^ 64 }
         ensures { AreNextRecords now pass nodes.now leaves.now self.old self.new }

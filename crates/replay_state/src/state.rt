@@ -14,7 +14,7 @@ use rowex_core::{Act, Event};
 use std::alloc::{AllocError, Global};
 use std::marker::Model;
 
-/// The records, pins and rounds of an index as numbers, the list of its changes and the leaves of its newest moment.
+/// The records, pins and rounds of an index as numbers, the list of its changes and the leaves of its newest version.
 #[derive(Drop)]
 pub struct State {
     pub(crate) alloc: Global,
@@ -44,7 +44,7 @@ impl Model for State {
 }
 
 impl State {
-    ghost use Rattle.moments.specs.Told.{content};
+    ghost use Rattle.versions.specs.Told.{content};
     ghost use Rattle.rowex_core.specs.Cores.{Core, IsLawful};
     ghost use Rattle.rowex_core.specs.Events.{Legal, after};
     ghost use Rattle.rowex_core.specs.Opening.{opening};
@@ -120,9 +120,9 @@ impl State {
         self.changes.len() as u64
     }
 
-    /// The keys that the newest moment holds, with their values, in the order of the keys.
+    /// The keys that the newest version holds, with their values, in the order of the keys.
     pub fn content(&self, alloc: Global) -> Result<Vec<(Key, u64)>, AllocError>
-        ensures { IfOk result (λ pairs. (c : Core) → IsStateOf self.now c → pairs.items ≡ content (c.past.moment c.past.now)) }
+        ensures { IfOk result (λ pairs. (c : Core) → IsStateOf self.now c → pairs.items ≡ content (c.past.version c.past.now)) }
     {
         let mut pairs = Vec::with_capacity(alloc, self.items.len())?;
         for item in &self.items {

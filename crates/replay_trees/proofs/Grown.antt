@@ -6,11 +6,11 @@ use Rattle.compound_node.specs.Nodes.{HeadView}
 use Rattle.tries.specs.Keys.{Key}
 use Rattle.tries.specs.Tree.{Tree, leaf, node, fork}
 use Rattle.tries.specs.Content.{Item, items, first}
-use Rattle.moments.specs.declared.Rec.TheVariants.{Node as a_node, Leaf as a_leaf}
-use Rattle.moments.specs.State.{Links}
+use Rattle.versions.specs.declared.Rec.TheVariants.{Node as a_node, Leaf as a_leaf}
+use Rattle.versions.specs.State.{Links}
 use Rattle.replay_trees.specs.declared.trees.Item.{Item as ReadItem}
 use Rattle.replay_trees.specs.declared.trees.Linked.{Linked}
-use Rattle.replay_trees.specs.Moments.{read_item}
+use Rattle.replay_trees.specs.Versions.{read_item}
 use Rattle.replay_trees.specs.Parts.{GrowsBy}
 
 -- a mark set

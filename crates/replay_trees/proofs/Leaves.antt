@@ -1,5 +1,5 @@
 -- Before and after a publish a number names one leaf.
-use Rattle.moments.specs.Told.{items_of}
+use Rattle.versions.specs.Told.{items_of}
 use Rattle.rowex_core.specs.Cores.{heap_of}
 use Rattle.rowex_core.specs.Events.{stored_words, stored_root, next_tree}
 use Rattle.rowex_core.proofs.Finding.{top_items, by_number}
@@ -8,6 +8,6 @@ use Rattle.replay_trees.specs.Statements.{LeavesAreOne}
 
 pub leaves_are_one : LeavesAreOne
 leaves_are_one c spot w law top =
-    by_number (heap_of c.words) (heap_of (stored_words c spot w)) (items_of (c.past.moment c.past.now)) (items_of (next_tree c spot w)) (near_store c spot w).0
-    (top_items (heap_of c.words) c.root (c.past.moment c.past.now) law.core.state.top)
+    by_number (heap_of c.words) (heap_of (stored_words c spot w)) (items_of (c.past.version c.past.now)) (items_of (next_tree c spot w)) (near_store c spot w).0
+    (top_items (heap_of c.words) c.root (c.past.version c.past.now) law.core.state.top)
     (top_items (heap_of (stored_words c spot w)) (stored_root c spot w) (next_tree c spot w) top)

@@ -9,21 +9,21 @@ use Rattle.compound_node.specs.Halves.{HalfShows, CutShows}
 use Rattle.compound_node.specs.declared.entries.Entry.TheVariants.{Leaf, Node}
 use Rattle.compound_node.specs.declared.halves.Cut.{Cut}
 use Rattle.tries.specs.Keys.{IsParted}
-use Rattle.tries.specs.Tree.{Page, Tree, leaf, node, fork, page, first_position, IsFork}
+use Rattle.tries.specs.Tree.{Subtrie, Tree, leaf, node, fork, subtrie, first_position, IsFork}
 use Rattle.tries.specs.Content.{items, first}
-use Rattle.moments.specs.declared.Rec.{Rec}
+use Rattle.versions.specs.declared.Rec.{Rec}
 use Rattle.replay_trees.specs.declared.trees.Item.{Item as ReadItem}
 use Rattle.replay_trees.specs.declared.trees.Linked.{Linked}
-use Rattle.replay_trees.specs.Moments.{AreWordsOf, read_item}
+use Rattle.replay_trees.specs.Versions.{AreWordsOf, read_item}
 use Rattle.replay_trees.specs.Parts.{ShowsPart, HasMarks, GrowsBy, IsPartRead, AddsLeaf, SpellsNode}
 use Rattle.replay_trees.proofs.Grown.{leaf_grown, node_grown, fork_grown, first_read}
 use Rattle.replay_trees.proofs.Shown.{leaf_part, no_leaf, node_part, node_back, fork_part, fork_back, one_tree}
 
-cut_first : (cut : Cut) (p : Page) → CutShows cut p → first_position p ≡ cut.position
+cut_first : (cut : Cut) (p : Subtrie) → CutShows cut p → first_position p ≡ cut.position
 cut_first cut (Place e) s = elim s [ ]
 cut_first cut (Fork q x y) s = sym s.0
 
-is_fork : (cut : Cut) (b : Tree) → CutShows cut (page b) → IsFork b
+is_fork : (cut : Cut) (b : Tree) → CutShows cut (subtrie b) → IsFork b
 is_fork cut (leaf n k v) s = elim s [ ]
 is_fork cut (node n x b) s = elim s [ ]
 is_fork cut (fork p a b) s = tt
@@ -51,7 +51,7 @@ module _ (nodes leaves : List (List ℕ)) (words : Rec → List ℕ) (are : AreW
     node_read bound true old mid new i j k room read =
         let b = read.0 in (
           node n (head_of view) b,
-          node_part nodes leaves words are least n h view b at (let m : MAX_BYTES ≡ 240 = refl in omega (arith, bound, cut_first cut (piece view) cuts)) (is_fork cut b (subst (CutShows cut) (sym read.1.page_is) cuts)) read.1,
+          node_part nodes leaves words are least n h view b at (let m : MAX_BYTES ≡ 240 = refl in omega (arith, bound, cut_first cut (piece view) cuts)) (is_fork cut b (subst (CutShows cut) (sym read.1.subtrie_is) cuts)) read.1,
           node_grown old mid new n (head_of view) b i j k (omega (arith, at.in_table, room.all_nodes)) read.2,
         )
     node_read bound false old mid new i j k room read = λ t part. let b = node_back nodes leaves words are least n h view t at part in read b.0 b.1
@@ -60,19 +60,19 @@ module _ (nodes leaves : List (List ℕ)) (words : Rec → List ℕ) (are : AreW
 
   -- No part is there where a side is none.
   module _ (cut : Cut) where
-    pub no_low : cut.position < least → (p : Page) → CutShows cut p → (t : Tree) → ¬ (ShowsPart nodes leaves words least p t)
+    pub no_low : cut.position < least → (p : Subtrie) → CutShows cut p → (t : Tree) → ¬ (ShowsPart nodes leaves words least p t)
     no_low low (Place e) s t part = elim s [ ]
     no_low low (Fork q x y) s t part = let f = fork_back nodes leaves words are least q x y t part in omega (arith, low, f.low, s.0)
 
-    pub no_zero : (next : ℕ) → next ≡ cut.position + 1 → ((p : Page) → HalfShows cut.zero p → (t : Tree) → ¬ (ShowsPart nodes leaves words next p t)) →
-        (p : Page) → CutShows cut p → (t : Tree) → ¬ (ShowsPart nodes leaves words least p t)
+    pub no_zero : (next : ℕ) → next ≡ cut.position + 1 → ((p : Subtrie) → HalfShows cut.zero p → (t : Tree) → ¬ (ShowsPart nodes leaves words next p t)) →
+        (p : Subtrie) → CutShows cut p → (t : Tree) → ¬ (ShowsPart nodes leaves words least p t)
     no_zero next e none (Place f) s t part = elim s [ ]
     no_zero next e none (Fork q x y) s t part =
         let f = fork_back nodes leaves words are least q x y t part in
         none x s.1 f.zero (subst (λ z. ShowsPart nodes leaves words z x f.zero) (let i : q + 1 ≡ next = omega (arith, e, s.0) in i) f.zero_part)
 
-    pub no_one : (next : ℕ) → next ≡ cut.position + 1 → ((p : Page) → HalfShows cut.one p → (t : Tree) → ¬ (ShowsPart nodes leaves words next p t)) →
-        (p : Page) → CutShows cut p → (t : Tree) → ¬ (ShowsPart nodes leaves words least p t)
+    pub no_one : (next : ℕ) → next ≡ cut.position + 1 → ((p : Subtrie) → HalfShows cut.one p → (t : Tree) → ¬ (ShowsPart nodes leaves words next p t)) →
+        (p : Subtrie) → CutShows cut p → (t : Tree) → ¬ (ShowsPart nodes leaves words least p t)
     no_one next e none (Place f) s t part = elim s [ ]
     no_one next e none (Fork q x y) s t part =
         let f = fork_back nodes leaves words are least q x y t part in
@@ -80,10 +80,10 @@ module _ (nodes leaves : List (List ℕ)) (words : Rec → List ℕ) (are : AreW
 
     -- Two sides are a part where their first keys part.
     pub cut_read : (next next' : ℕ) → next ≡ cut.position + 1 → next' ≡ cut.position + 1 → least ≤ cut.position → (old mid new : Linked) →
-        ((p : Page) → HalfShows cut.zero p → IsPartRead nodes leaves words next p true old mid) →
-        ((p : Page) → HalfShows cut.one p → IsPartRead nodes leaves words next' p true mid new) → (z o : ReadItem) (i j : ℕ) →
+        ((p : Subtrie) → HalfShows cut.zero p → IsPartRead nodes leaves words next p true old mid) →
+        ((p : Subtrie) → HalfShows cut.one p → IsPartRead nodes leaves words next' p true mid new) → (z o : ReadItem) (i j : ℕ) →
         i ≡ length old.items.items → j ≡ length mid.items.items → i < length new.items.items → j < length new.items.items → get_or new.items.items i z ≡ z → get_or new.items.items j o ≡ o →
-        (good : Bool) → IsTrue good ↔ IsParted cut.position z.key o.key → (p : Page) → CutShows cut p → IsPartRead nodes leaves words least p good old new
+        (good : Bool) → IsTrue good ↔ IsParted cut.position z.key o.key → (p : Subtrie) → CutShows cut p → IsPartRead nodes leaves words least p good old new
     cut_read next next' e e' low old mid new zero one z o i j first_at second_at first_in second_in first_is second_is good parted (Place f) s = elim s [ ]
     cut_read next next' e e' low old mid new zero one z o i j first_at second_at first_in second_in first_is second_is good parted (Fork q x y) s =
         go good parted

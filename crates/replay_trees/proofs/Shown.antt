@@ -9,19 +9,19 @@ use Rattle.compound_node.specs.Nodes.{NodeView, head_of, piece, height_of, IsLaw
 use Rattle.compound_node.specs.declared.entries.Entry.TheVariants.{Leaf, Node}
 use Rattle.record_words.specs.Node.{HasNodeWords, node_words}
 use Rattle.tries.specs.Keys.{IsParted}
-use Rattle.tries.specs.Tree.{Page, Tree, leaf, node, fork, page, first_position, IsFork, IsLower, IsFit}
+use Rattle.tries.specs.Tree.{Subtrie, Tree, leaf, node, fork, subtrie, first_position, IsFork, IsLower, IsFit}
 use Rattle.tries.specs.Content.{IsAbove, first}
-use Rattle.moments.specs.declared.Rec.{Rec}
-use Rattle.moments.specs.declared.Rec.TheVariants.{Node as a_node, Leaf as a_leaf}
-use Rattle.moments.specs.Heap.{NodeWords}
-use Rattle.moments.specs.State.{Links}
-use Rattle.moments.proofs.Heaps.{determined, leaf_parts, node_parts}
+use Rattle.versions.specs.declared.Rec.{Rec}
+use Rattle.versions.specs.declared.Rec.TheVariants.{Node as a_node, Leaf as a_leaf}
+use Rattle.versions.specs.Heap.{NodeWords}
+use Rattle.versions.specs.State.{Links}
+use Rattle.versions.proofs.Heaps.{determined, leaf_parts, node_parts}
 use Rattle.rowex_core.specs.Reading.{node_words_of, leaf_of, IsPacked}
 use Rattle.rowex_core.specs.Cores.{heap_of}
 use Rattle.rowex_core.proofs.Reading.{node_is, leaf_is}
 use Rattle.replay_trees.proofs.Lists.{all_parts}
 use Rattle.replay_trees.proofs.Small.{leaf_small, node_small}
-use Rattle.replay_trees.specs.Moments.{AreWordsOf, IsSpelled}
+use Rattle.replay_trees.specs.Versions.{AreWordsOf, IsSpelled}
 use Rattle.replay_trees.specs.Parts.{IsForkedFrom, ShowsPart, IsLeafAt, SpellsNode}
 
 -- Where a first fork stands
@@ -41,10 +41,10 @@ from_start (node n x b) = from_start b
 from_start (fork q a b) = omega arith
 
 -- The entries of a body are lower where its places are
-lower_from : (h : ℕ) (b : Tree) → All (λ e. height_of e < h) (places (page b)) → IsLower h b
+lower_from : (h : ℕ) (b : Tree) → All (λ e. height_of e < h) (places (subtrie b)) → IsLower h b
 lower_from h (leaf n k v) a = a 0 (Leaf 0) (omega arith)
 lower_from h (node n x b) a = a 0 (Leaf 0) (omega arith)
-lower_from h (fork p x y) a = let s = all_parts (λ e. height_of e < h) (places (page x)) (places (page y)) a in (lower_from h x s.0, lower_from h y s.1)
+lower_from h (fork p x y) a = let s = all_parts (λ e. height_of e < h) (places (subtrie x)) (places (subtrie y)) a in (lower_from h x s.0, lower_from h y s.1)
 
 module _ (nodes leaves : List (List ℕ)) (words : Rec → List ℕ) (are : AreWordsOf nodes leaves words) where
   -- Leaves
@@ -55,7 +55,7 @@ module _ (nodes leaves : List (List ℕ)) (words : Rec → List ℕ) (are : AreW
 
   pub leaf_part : (least n : ℕ) (pair : List ℕ × ℕ) → IsLeafAt leaves n pair → ShowsPart nodes leaves words least (Place (Leaf n)) (leaf n pair.0 pair.1)
   leaf_part least n pair at = record {
-    page_is = refl;
+    subtrie_is = refl;
     shown = ap leaf_of (are.leaves_are n at.in_table) ∙ leaf_is pair (get_or leaves n []) (leaf_small pair (get_or leaves n []) at.has at.spelling) at.has at.spelling;
     local = at.has.key;
     built = tt;
@@ -69,11 +69,11 @@ module _ (nodes leaves : List (List ℕ)) (words : Rec → List ℕ) (are : AreW
 
   pub no_leaf : (least n : ℕ) (t : Tree) → ((pair : List ℕ × ℕ) → ¬ (IsLeafAt leaves n pair)) → ¬ (ShowsPart nodes leaves words least (Place (Leaf n)) t)
   no_leaf least n (leaf o k v) none part =
-      let e : o ≡ n = leaf_parts part.page_is in
+      let e : o ≡ n = leaf_parts part.subtrie_is in
       let found = leaf_spelled n (subst (λ z. IsSpelled nodes leaves words (a_leaf z)) e (part.spelled (a_leaf o) refl)) in
       none found.0 found.1
-  no_leaf least n (node o x b) none part = let e = part.page_is in absurd cc
-  no_leaf least n (fork p a b) none part = let e = part.page_is in absurd cc
+  no_leaf least n (node o x b) none part = let e = part.subtrie_is in absurd cc
+  no_leaf least n (fork p a b) none part = let e = part.subtrie_is in absurd cc
 
   -- Nodes
 
@@ -82,10 +82,10 @@ module _ (nodes leaves : List (List ℕ)) (words : Rec → List ℕ) (are : AreW
   node_packed n h view at = (view, at.has, at.spelling ∙ sym (are.nodes_are n at.in_table))
 
   words_are : (n : ℕ) (view : NodeView) → n < length nodes → HasNodeWords view → node_words view ≡ get_or nodes n [] →
-      node_words_of (words (a_node n)) ≡ record { fixed = head_of view; page = piece view }
+      node_words_of (words (a_node n)) ≡ record { fixed = head_of view; subtrie = piece view }
   words_are n view in_table has spelling = ap node_words_of (are.nodes_are n in_table) ∙ node_is view (get_or nodes n []) (node_small view has (get_or nodes n []) spelling) has spelling
 
-  fit_of : (view : NodeView) (b : Tree) → IsLawfulNode view → page b ≡ piece view → view.height + first_position (piece view) ≤ 9 * MAX_BYTES → IsFit (head_of view) (page b)
+  fit_of : (view : NodeView) (b : Tree) → IsLawfulNode view → subtrie b ≡ piece view → view.height + first_position (piece view) ≤ 9 * MAX_BYTES → IsFit (head_of view) (subtrie b)
   fit_of view b lawful e bound = subst (IsFit (head_of view)) (sym e) (record {
     positions = lawful.positions;
     shows = subst (λ u. ShowsPiece view.columns view.rows u (piece view)) lawful.shows.entries_are lawful.shows;
@@ -96,14 +96,14 @@ module _ (nodes leaves : List (List ℕ)) (words : Rec → List ℕ) (are : AreW
   pub node_part : (least n h : ℕ) (view : NodeView) (b : Tree) → SpellsNode nodes n h view → h + first_position (piece view) ≤ 9 * MAX_BYTES → IsFork b →
       ShowsPart nodes leaves words least (piece view) b → ShowsPart nodes leaves words least (Place (Node n h)) (node n (head_of view) b)
   node_part least n h view b at bound two part = record {
-    page_is = ap (λ z. Place (Node n z)) at.height_is;
-    shown = (words_are n view at.in_table at.has at.spelling ∙ ap (λ z. let w : NodeWords = record { fixed = head_of view; page = z } in w) (sym part.page_is), part.shown);
+    subtrie_is = ap (λ z. Place (Node n z)) at.height_is;
+    shown = (words_are n view at.in_table at.has at.spelling ∙ ap (λ z. let w : NodeWords = record { fixed = head_of view; subtrie = z } in w) (sym part.subtrie_is), part.shown);
     local = part.local;
     built = (
       two,
-      lower_from view.height b (subst (All (λ e. height_of e < view.height)) (at.has.lawful.shows.entries_are ∙ ap places (sym part.page_is)) at.has.lawful.above),
+      lower_from view.height b (subst (All (λ e. height_of e < view.height)) (at.has.lawful.shows.entries_are ∙ ap places (sym part.subtrie_is)) at.has.lawful.above),
       part.built,
-      fit_of view b at.has.lawful part.page_is (subst (λ z. z + first_position (piece view) ≤ 9 * MAX_BYTES) (sym at.height_is) bound),
+      fit_of view b at.has.lawful part.subtrie_is (subst (λ z. z + first_position (piece view) ≤ 9 * MAX_BYTES) (sym at.height_is) bound),
     );
     from = part.from;
     spelled = of;
@@ -118,33 +118,33 @@ module _ (nodes leaves : List (List ℕ)) (words : Rec → List ℕ) (are : AreW
   node_spelled n s = (s.1.0, s.0, s.1.1, s.1.2 ∙ are.nodes_are n s.0)
 
   pub no_node : (least n h : ℕ) (t : Tree) → ((view : NodeView) → ¬ (SpellsNode nodes n h view)) → ¬ (ShowsPart nodes leaves words least (Place (Node n h)) t)
-  no_node least n h (leaf o k v) none part = let e = part.page_is in absurd cc
-  no_node least n h (fork p a b) none part = let e = part.page_is in absurd cc
+  no_node least n h (leaf o k v) none part = let e = part.subtrie_is in absurd cc
+  no_node least n h (fork p a b) none part = let e = part.subtrie_is in absurd cc
   no_node least n h (node o x b) none part =
-      let e = node_parts part.page_is in
+      let e = node_parts part.subtrie_is in
       let s = node_spelled n (subst (λ z. IsSpelled nodes leaves words (a_node z)) e.0 (part.spelled (a_node o) (inl refl))) in
-      let w : record { fixed = x; page = page b } ≡ record { fixed = head_of s.0; page = piece s.0 } = sym part.shown.0 ∙ (ap (λ z. node_words_of (words (a_node z))) e.0 ∙ words_are n s.0 s.1 s.2 s.3) in
+      let w : record { fixed = x; subtrie = subtrie b } ≡ record { fixed = head_of s.0; subtrie = piece s.0 } = sym part.shown.0 ∙ (ap (λ z. node_words_of (words (a_node z))) e.0 ∙ words_are n s.0 s.1 s.2 s.3) in
       none s.0 (record { in_table = s.1; has = s.2; spelling = s.3; height_is = sym (ap (λ (z : NodeWords). z.fixed.height) w) ∙ e.1 })
 
   pub node_back : (least n h : ℕ) (view : NodeView) (t : Tree) → SpellsNode nodes n h view → ShowsPart nodes leaves words least (Place (Node n h)) t →
       (b : Tree) × ShowsPart nodes leaves words least (piece view) b × (h + first_position (piece view) ≤ 9 * MAX_BYTES)
-  node_back least n h view (leaf o k v) at part = let e = part.page_is in absurd cc
-  node_back least n h view (fork p a b) at part = let e = part.page_is in absurd cc
+  node_back least n h view (leaf o k v) at part = let e = part.subtrie_is in absurd cc
+  node_back least n h view (fork p a b) at part = let e = part.subtrie_is in absurd cc
   node_back least n h view (node o x b) at part =
-      let e = node_parts part.page_is in
-      let w : record { fixed = x; page = page b } ≡ record { fixed = head_of view; page = piece view } = sym part.shown.0 ∙ (ap (λ z. node_words_of (words (a_node z))) e.0 ∙ words_are n view at.in_table at.has at.spelling) in
-      let p : page b ≡ piece view = ap (λ (z : NodeWords). z.page) w in (
+      let e = node_parts part.subtrie_is in
+      let w : record { fixed = x; subtrie = subtrie b } ≡ record { fixed = head_of view; subtrie = piece view } = sym part.shown.0 ∙ (ap (λ z. node_words_of (words (a_node z))) e.0 ∙ words_are n view at.in_table at.has at.spelling) in
+      let p : subtrie b ≡ piece view = ap (λ (z : NodeWords). z.subtrie) w in (
         b,
-        record { page_is = p; shown = part.shown.1; local = part.local; built = part.built.2; from = part.from; spelled = λ r l. part.spelled r (inr l) },
+        record { subtrie_is = p; shown = part.shown.1; local = part.local; built = part.built.2; from = part.from; spelled = λ r l. part.spelled r (inr l) },
         subst (λ z. z + first_position (piece view) ≤ 9 * MAX_BYTES) e.1 (subst (λ z. x.height + first_position z ≤ 9 * MAX_BYTES) p part.built.3.bound),
       )
 
   -- Forks
 
-  pub fork_part : (least p : ℕ) (x y : Page) (a b : Tree) → least ≤ p → ShowsPart nodes leaves words (p + 1) x a → ShowsPart nodes leaves words (p + 1) y b → IsParted p (first a) (first b) →
+  pub fork_part : (least p : ℕ) (x y : Subtrie) (a b : Tree) → least ≤ p → ShowsPart nodes leaves words (p + 1) x a → ShowsPart nodes leaves words (p + 1) y b → IsParted p (first a) (first b) →
       ShowsPart nodes leaves words least (Fork p x y) (fork p a b)
   fork_part least p x y a b low zero one parted = record {
-    page_is = let e = zero.page_is in let f = one.page_is in cc;
+    subtrie_is = let e = zero.subtrie_is in let f = one.subtrie_is in cc;
     shown = (zero.shown, one.shown);
     local = (zero.local, one.local, above_from p a zero.from, above_from p b one.from, parted);
     built = (zero.built, one.built);
@@ -157,7 +157,7 @@ module _ (nodes leaves : List (List ℕ)) (words : Rec → List ℕ) (are : AreW
       of r (inr l) = one.spelled r l
 
   -- What a lawful fork has.
-  pub record IsForkPart (least p : ℕ) (x y : Page) : Type 0 where
+  pub record IsForkPart (least p : ℕ) (x y : Subtrie) : Type 0 where
     pub low : least ≤ p
     pub zero : Tree
     pub zero_part : ShowsPart nodes leaves words (p + 1) x zero
@@ -165,23 +165,23 @@ module _ (nodes leaves : List (List ℕ)) (words : Rec → List ℕ) (are : AreW
     pub one_part : ShowsPart nodes leaves words (p + 1) y one
     pub parted : IsParted p (first zero) (first one)
 
-  fork_parts : {p q : ℕ} {a b x y : Page} → Fork p a b ≡ Fork q x y → (p ≡ q) × (a ≡ x) × (b ≡ y)
+  fork_parts : {p q : ℕ} {a b x y : Subtrie} → Fork p a b ≡ Fork q x y → (p ≡ q) × (a ≡ x) × (b ≡ y)
   fork_parts e = (cc, cc, cc)
 
-  pub fork_back : (least p : ℕ) (x y : Page) (t : Tree) → ShowsPart nodes leaves words least (Fork p x y) t → IsForkPart least p x y
-  fork_back least p x y (leaf o k v) part = let e = part.page_is in absurd cc
-  fork_back least p x y (node o z b) part = let e = part.page_is in absurd cc
+  pub fork_back : (least p : ℕ) (x y : Subtrie) (t : Tree) → ShowsPart nodes leaves words least (Fork p x y) t → IsForkPart least p x y
+  fork_back least p x y (leaf o k v) part = let e = part.subtrie_is in absurd cc
+  fork_back least p x y (node o z b) part = let e = part.subtrie_is in absurd cc
   fork_back least p x y (fork q a b) part =
-      let e = fork_parts part.page_is in
+      let e = fork_parts part.subtrie_is in
       record {
         low = subst (λ z. least ≤ z) e.0 part.from;
         zero = a;
-        zero_part = record { page_is = e.1; shown = part.shown.0; local = part.local.0; built = part.built.0; from = subst (λ z. IsForkedFrom (z + 1) a) e.0 (from_above q a part.local.2); spelled = λ r l. part.spelled r (inl l) };
+        zero_part = record { subtrie_is = e.1; shown = part.shown.0; local = part.local.0; built = part.built.0; from = subst (λ z. IsForkedFrom (z + 1) a) e.0 (from_above q a part.local.2); spelled = λ r l. part.spelled r (inl l) };
         one = b;
-        one_part = record { page_is = e.2; shown = part.shown.1; local = part.local.1; built = part.built.1; from = subst (λ z. IsForkedFrom (z + 1) b) e.0 (from_above q b part.local.3); spelled = λ r l. part.spelled r (inr l) };
+        one_part = record { subtrie_is = e.2; shown = part.shown.1; local = part.local.1; built = part.built.1; from = subst (λ z. IsForkedFrom (z + 1) b) e.0 (from_above q b part.local.3); spelled = λ r l. part.spelled r (inr l) };
         parted = subst (λ z. IsParted z (first a) (first b)) e.0 part.local.4;
       }
 
-  -- A page shows one tree.
-  pub one_tree : (least least' : ℕ) (p : Page) (s t : Tree) → ShowsPart nodes leaves words least p s → ShowsPart nodes leaves words least' p t → s ≡ t
-  one_tree least least' p s t i j = determined (heap_of words) s t i.shown j.shown (i.page_is ∙ sym j.page_is)
+  -- A subtrie shows one tree.
+  pub one_tree : (least least' : ℕ) (p : Subtrie) (s t : Tree) → ShowsPart nodes leaves words least p s → ShowsPart nodes leaves words least' p t → s ≡ t
+  one_tree least least' p s t i j = determined (heap_of words) s t i.shown j.shown (i.subtrie_is ∙ sym j.subtrie_is)

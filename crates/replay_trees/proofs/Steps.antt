@@ -9,10 +9,10 @@ use Rattle.compound_node.specs.declared.halves.Half.{Half}
 use Rattle.compound_node.specs.declared.halves.Half.TheVariants.{One, Many, Same}
 use Rattle.pieces.specs.Piece.{Place, Fork, size, places}
 use Rattle.pieces.proofs.Paths.{size_pos, length-places}
-use Rattle.tries.specs.Tree.{Page}
+use Rattle.tries.specs.Tree.{Subtrie}
 use Rattle.replay_trees.proofs.Lists.{all_parts}
 
-abbrev pub steps : Page → ℕ
+abbrev pub steps : Subtrie → ℕ
 steps (Place e) = 1 + 100 * height_of e
 steps (Fork p x y) = 1 + max (steps x) (steps y)
 
@@ -21,17 +21,17 @@ half_steps (One e) = steps (Place e)
 half_steps (Many view) = steps (piece view)
 half_steps Same = 0
 
-half_steps_are : (h : Half) (p : Page) → HalfShows h p → half_steps h ≡ steps p
+half_steps_are : (h : Half) (p : Subtrie) → HalfShows h p → half_steps h ≡ steps p
 half_steps_are (One e) p s = ap steps (sym s.0)
 half_steps_are (Many view) p s = ap steps s.shows_it
 half_steps_are Same p s = elim s [ ]
 
 -- A cut has the steps of its piece.
-pub cut_steps : (cut : Cut) (p : Page) → CutShows cut p → 1 + max (half_steps cut.zero) (half_steps cut.one) ≡ steps p
+pub cut_steps : (cut : Cut) (p : Subtrie) → CutShows cut p → 1 + max (half_steps cut.zero) (half_steps cut.one) ≡ steps p
 cut_steps cut (Place e) s = elim s [ ]
 cut_steps cut (Fork q x y) s = ap₂ (λ u v. 1 + max u v) (half_steps_are cut.zero x s.1) (half_steps_are cut.one y s.2)
 
-few_steps : (h : ℕ) (p : Page) → All (λ e. height_of e < h) (places p) → steps p ≤ size p + 100 * (h - 1)
+few_steps : (h : ℕ) (p : Subtrie) → All (λ e. height_of e < h) (places p) → steps p ≤ size p + 100 * (h - 1)
 few_steps h (Place e) a = let l : height_of e < h = a 0 (Leaf 0) (omega arith) in omega arith
 few_steps h (Fork q x y) a =
     let s = all_parts (λ e. height_of e < h) (places x) (places y) a in

@@ -1,23 +1,23 @@
--- What was read from a root, and whether it is a lawful moment.
+-- What was read from a root, and whether it is a lawful version.
 use Rattle.std.proofs.Common.{◌≡◌, ◌⊎◌, ◌↔◌, inl, inr, ℕ, ◌<◌, ◌≤◌, List, [], ◌++◌, Bool, true, false, length, get_or, map, replicate, Option, Some, None, refl, ap, sym, ◌∙◌, subst, arith}
 use Rattle.std.proofs.lemmas.Bool.{false≢true, cases_lt}
 use Rattle.std.proofs.lemmas.List.{get_or-replicate, get_or_past, length-replicate}
 use Rattle.pieces.specs.Piece.{Place}
 use Rattle.compound_node.specs.declared.entries.Entry.{Entry}
-use Rattle.tries.specs.Tree.{Tree, page, IsTrie, IsBuilt}
+use Rattle.tries.specs.Tree.{Tree, subtrie, IsTrie, IsBuilt}
 use Rattle.tries.specs.Content.{items}
 use Rattle.tries.proofs.Contents.{trie_if_local, local_if_trie}
-use Rattle.moments.specs.declared.Rec.{Rec}
-use Rattle.moments.specs.declared.Rec.TheVariants.{Node as a_node, Leaf as a_leaf}
-use Rattle.moments.specs.Heap.{IsShown}
-use Rattle.moments.specs.Read.{read}
-use Rattle.moments.specs.State.{Links, IsTop, IsLinked}
-use Rattle.moments.specs.Told.{items_of}
-use Rattle.moments.proofs.Reading.{read_exact}
+use Rattle.versions.specs.declared.Rec.{Rec}
+use Rattle.versions.specs.declared.Rec.TheVariants.{Node as a_node, Leaf as a_leaf}
+use Rattle.versions.specs.Heap.{IsShown}
+use Rattle.versions.specs.Read.{read}
+use Rattle.versions.specs.State.{Links, IsTop, IsLinked}
+use Rattle.versions.specs.Told.{items_of}
+use Rattle.versions.proofs.Reading.{read_exact}
 use Rattle.rowex_core.specs.Cores.{heap_of}
 use Rattle.rowex_core.specs.Events.{tree_of}
 use Rattle.replay_trees.specs.declared.trees.Linked.{Linked}
-use Rattle.replay_trees.specs.Moments.{IsSpelled, IsReadMoment, read_item}
+use Rattle.replay_trees.specs.Versions.{IsSpelled, IsReadVersion, read_item}
 use Rattle.replay_trees.specs.Parts.{ShowsPart, HasMarks, IsPartRead}
 use Rattle.replay_trees.proofs.Shown.{from_start}
 
@@ -44,7 +44,7 @@ empty_room nodes leaves linked e = record {
 }
 
 -- From an empty root nothing is linked.
-pub empty_read : (nodes leaves : List (List ℕ)) (words : Rec → List ℕ) (linked : Linked) → IsEmpty nodes leaves linked → IsReadMoment nodes leaves words None (Some linked)
+pub empty_read : (nodes leaves : List (List ℕ)) (words : Rec → List ℕ) (linked : Linked) → IsEmpty nodes leaves linked → IsReadVersion nodes leaves words None (Some linked)
 empty_read nodes leaves words linked e = (
   record { top = tt; tree = λ t i. absurd cc; spelled = λ r l. absurd l },
   record {
@@ -58,13 +58,13 @@ empty_read nodes leaves words linked e = (
 
 module _ (nodes leaves : List (List ℕ)) (words : Rec → List ℕ) (e : Entry) where
   read_of : (t : Tree) → ShowsPart nodes leaves words 0 (Place e) t → tree_of (heap_of words) (Some e) ≡ Some t
-  read_of t part = read_exact (heap_of words) e t part.built part.shown part.page_is
+  read_of t part = read_exact (heap_of words) e t part.built part.shown part.subtrie_is
 
-  moment_of : (o : Option Tree) (t : Tree) → o ≡ Some t → ShowsPart nodes leaves words 0 (Place e) t → IsTop (heap_of words) (Some e) o × ((u : Tree) → o ≡ Some u → IsTrie u × IsBuilt u) × ((r : Rec) → IsLinked o r → IsSpelled nodes leaves words r)
-  moment_of None t i part = absurd cc
-  moment_of (Some u) t i part =
+  version_of : (o : Option Tree) (t : Tree) → o ≡ Some t → ShowsPart nodes leaves words 0 (Place e) t → IsTop (heap_of words) (Some e) o × ((u : Tree) → o ≡ Some u → IsTrie u × IsBuilt u) × ((r : Rec) → IsLinked o r → IsSpelled nodes leaves words r)
+  version_of None t i part = absurd cc
+  version_of (Some u) t i part =
       let s : t ≡ u = cc in (
-        subst (λ z. (page z ≡ Place e) × IsShown (heap_of words) z) s (part.page_is, part.shown),
+        subst (λ z. (subtrie z ≡ Place e) × IsShown (heap_of words) z) s (part.subtrie_is, part.shown),
         λ v j. subst (λ z. IsTrie z × IsBuilt z) (let k : t ≡ v = cc in k) (trie_if_local t part.local, part.built),
         λ r l. part.spelled r (subst (λ z. Links z r) (sym s) l),
       )
@@ -76,11 +76,11 @@ module _ (nodes leaves : List (List ℕ)) (words : Rec → List ℕ) (e : Entry)
   from_none : (o : Option Tree) (t : Tree) (r : Rec) (before after : Bool) → o ≡ Some t → (before ≡ true → ⊥) → (after ≡ true) ↔ ((before ≡ true) ⊎ Links t r) → (after ≡ true) ↔ IsLinked o r
   from_none o t r before after i none f = (λ h. (linked_in o t r i).0 (elim (f.0 h) [ inl x ↦ absurd (none x) | inr x ↦ x ]), λ l. f.1 (inr ((linked_in o t r i).1 l)))
 
-  pub top_read : (old new : Linked) → IsEmpty nodes leaves old → HasMarks nodes leaves new → IsPartRead nodes leaves words 0 (Place e) true old new → IsReadMoment nodes leaves words (Some e) (Some new)
+  pub top_read : (old new : Linked) → IsEmpty nodes leaves old → HasMarks nodes leaves new → IsPartRead nodes leaves words 0 (Place e) true old new → IsReadVersion nodes leaves words (Some e) (Some new)
   top_read old new empty room read =
       let t = read.0 in
       let i = read_of t read.1 in
-      let m = moment_of (tree_of (heap_of words) (Some e)) t i read.1 in (
+      let m = version_of (tree_of (heap_of words) (Some e)) t i read.1 in (
         record { top = m.0; tree = m.1; spelled = m.2 },
         record {
           items_are = read.2.items_are ∙ (ap (λ u. map read_item u ++ items t) empty.no_items ∙ sym (ap items_of i));
@@ -95,7 +95,7 @@ module _ (nodes leaves : List (List ℕ)) (words : Rec → List ℕ) (e : Entry)
       (t : Tree) × ShowsPart nodes leaves words 0 (Place e) t
   part_of None top tree spelled = absurd top
   part_of (Some t) top tree spelled =
-      (t, record { page_is = top.0; shown = top.1; local = local_if_trie t (tree t refl).0; built = (tree t refl).1; from = from_start t; spelled = spelled })
+      (t, record { subtrie_is = top.0; shown = top.1; local = local_if_trie t (tree t refl).0; built = (tree t refl).1; from = from_start t; spelled = spelled })
 
-  pub top_none : (old new : Linked) → IsPartRead nodes leaves words 0 (Place e) false old new → IsReadMoment nodes leaves words (Some e) None
+  pub top_none : (old new : Linked) → IsPartRead nodes leaves words 0 (Place e) false old new → IsReadVersion nodes leaves words (Some e) None
   top_none old new read m = let p = part_of (tree_of (heap_of words) (Some e)) m.top m.tree m.spelled in read p.0 p.1

@@ -2,7 +2,7 @@
 use Rattle.std.specs.Prelude.{◌≡◌, ◌≢◌, ℕ, List, ◌∷◌, map, Option, Some, None}
 use Rattle.finite_map.specs.declared.Change.{Change}
 use Rattle.tries.specs.Content.{Item}
-use Rattle.moments.specs.Told.{item_of, IsChanged}
+use Rattle.versions.specs.Told.{item_of, IsChanged}
 use Rattle.rowex_core.specs.Events.{change_between}
 
 -- the first leaves of the lists, if both have one, have different numbers

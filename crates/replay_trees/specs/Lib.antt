@@ -1,5 +1,5 @@
 -- The definitions of the crate.
-pub mod Moments
+pub mod Versions
 pub mod Parts
 pub mod Changed
 pub mod Statements

@@ -8,15 +8,15 @@ use Rattle.compound_node.specs.declared.halves.Half.{Half}
 use Rattle.pieces.specs.Piece.{Place}
 use Rattle.record_words.specs.Node.{HasNodeWords, node_words}
 use Rattle.record_words.specs.Leaf.{HasLeafWords, leaf_words}
-use Rattle.tries.specs.Tree.{Page, Tree, leaf, node, fork, page, IsBuilt}
+use Rattle.tries.specs.Tree.{Subtrie, Tree, leaf, node, fork, subtrie, IsBuilt}
 use Rattle.tries.specs.Content.{items, IsLocal}
-use Rattle.moments.specs.declared.Rec.{Rec}
-use Rattle.moments.specs.declared.Rec.TheVariants.{Node as a_node, Leaf as a_leaf}
-use Rattle.moments.specs.Heap.{IsShown}
-use Rattle.moments.specs.State.{Links}
+use Rattle.versions.specs.declared.Rec.{Rec}
+use Rattle.versions.specs.declared.Rec.TheVariants.{Node as a_node, Leaf as a_leaf}
+use Rattle.versions.specs.Heap.{IsShown}
+use Rattle.versions.specs.State.{Links}
 use Rattle.rowex_core.specs.Cores.{heap_of}
 use Rattle.replay_trees.specs.declared.trees.Linked.{Linked}
-use Rattle.replay_trees.specs.Moments.{AreWordsOf, IsSpelled, read_item}
+use Rattle.replay_trees.specs.Versions.{AreWordsOf, IsSpelled, read_item}
 
 -- the tree's first fork is at `least` or later; a leaf has none
 abbrev pub IsForkedFrom : ℕ → Tree → Type 0
@@ -24,9 +24,9 @@ IsForkedFrom least (leaf n k v) = Unit {0}
 IsForkedFrom least (node n x b) = IsForkedFrom least b
 IsForkedFrom least (fork p a b) = least ≤ p
 
--- The words show a lawful tree for the page, of records of the table that spell values.
-pub record ShowsPart (nodes leaves : List (List ℕ)) (words : Rec → List ℕ) (least : ℕ) (p : Page) (t : Tree) : Type 0 where
-  pub page_is : page t ≡ p
+-- The words show a lawful tree for the subtrie, of records of the table that spell values.
+pub record ShowsPart (nodes leaves : List (List ℕ)) (words : Rec → List ℕ) (least : ℕ) (p : Subtrie) (t : Tree) : Type 0 where
+  pub subtrie_is : subtrie t ≡ p
   pub shown : IsShown (heap_of words) t
   pub local : IsLocal t
   pub built : IsBuilt t
@@ -45,7 +45,7 @@ pub record GrowsBy (t : Tree) (old new : Linked) : Type 0 where
   pub leaves_are : (n : ℕ) → (slice_index_or new.leaves.items n false ≡ true) ↔ ((slice_index_or old.leaves.items n false ≡ true) ⊎ Links t (a_leaf n))
 
 -- A part was read exactly where the words show one.
-abbrev pub IsPartRead : List (List ℕ) → List (List ℕ) → (Rec → List ℕ) → ℕ → Page → Bool → Linked → Linked → Type 0
+abbrev pub IsPartRead : List (List ℕ) → List (List ℕ) → (Rec → List ℕ) → ℕ → Subtrie → Bool → Linked → Linked → Type 0
 IsPartRead nodes leaves words least p true old new = (t : Tree) × ShowsPart nodes leaves words least p t × GrowsBy t old new
 IsPartRead nodes leaves words least p false old new = (t : Tree) → ¬ (ShowsPart nodes leaves words least p t)
 
@@ -55,11 +55,11 @@ IsEntryRead nodes leaves least e good old new = (words : Rec → List ℕ) → A
 
 abbrev pub IsHalfRead : List (List ℕ) → List (List ℕ) → ℕ → Half → Bool → Linked → Linked → Type 0
 IsHalfRead nodes leaves least half good old new =
-    (words : Rec → List ℕ) → AreWordsOf nodes leaves words → (p : Page) → HalfShows half p → IsPartRead nodes leaves words least p good old new
+    (words : Rec → List ℕ) → AreWordsOf nodes leaves words → (p : Subtrie) → HalfShows half p → IsPartRead nodes leaves words least p good old new
 
 abbrev pub IsCutRead : List (List ℕ) → List (List ℕ) → ℕ → Cut → Bool → Linked → Linked → Type 0
 IsCutRead nodes leaves least cut good old new =
-    (words : Rec → List ℕ) → AreWordsOf nodes leaves words → (p : Page) → CutShows cut p → IsPartRead nodes leaves words least p good old new
+    (words : Rec → List ℕ) → AreWordsOf nodes leaves words → (p : Subtrie) → CutShows cut p → IsPartRead nodes leaves words least p good old new
 
 -- There is a mark for each record still, and of a part that was read one leaf more is told, or several.
 pub record HasGrown (nodes leaves : List (List ℕ)) (good : Bool) (old new : Linked) : Type 0 where

@@ -1,4 +1,4 @@
-//! The trees that recorded words show: which of them are lawful moments, what those link, and by which change one list of
+//! The trees that recorded words show: which of them are lawful versions, what those link, and by which change one list of
 //! leaves became another.
 #![tactic(auto)]
 

@@ -1,7 +1,7 @@
 //! The tree that words show from a root entry.
 
 ghost use Rattle.std.specs.Prelude.{IfOk, ◌≡◌, replicate, false};
-ghost use Rattle.replay_trees.specs.Moments.{IsToldMoment};
+ghost use Rattle.replay_trees.specs.Versions.{IsToldVersion};
 
 use crate::parts::{Records, read_entry};
 use compound_node::Entry;
@@ -37,7 +37,7 @@ pub fn read_tree(
     leaves: &[[u64; LEAF_FIELDS]],
     root: Option<Entry>,
 ) -> Result<Option<Linked>, AllocError>
-    ensures { IfOk result (λ linked. IsToldMoment nodes.now leaves.now root linked) }
+    ensures { IfOk result (λ linked. IsToldVersion nodes.now leaves.now root linked) }
 {
     let mut linked = Linked {
         items: Vec::new(alloc),

@@ -1,15 +1,15 @@
--- A publish appends one change and one moment, and no other step does anything to either.
+-- A publish appends one change and one version, and no other step does anything to either.
 use Rattle.std.proofs.Common.{◌≡◌, ℕ, suc, Bool, true, false, if◌then◌else◌, nat_eq, Option, Some, None, refl, arith}
-use Rattle.moments.specs.declared.Rec.{Rec}
-use Rattle.moments.specs.Core.{Shared, Fate, Free, Unlinked, Marked}
-use Rattle.moments.specs.Steps.{with_fate, with_lock, with_epoch}
-use Rattle.moments.proofs.Publish.{moment_old}
+use Rattle.versions.specs.declared.Rec.{Rec}
+use Rattle.versions.specs.Core.{Shared, Fate, Free, Unlinked, Marked}
+use Rattle.versions.specs.Steps.{with_fate, with_lock, with_epoch}
+use Rattle.versions.proofs.Publish.{version_old}
 use Rattle.rowex_core.specs.declared.event.Act.TheVariants.{Claim, Lock, Unlock, Publish, Mark, Advance, GiveBack}
 use Rattle.rowex_core.specs.declared.event.Target.TheVariants.{Anchor, Node as NodeTarget}
 use Rattle.rowex_core.specs.Events.{claimed, marked, given_back, anchored, locked_where, advanced, next_tree, next_change}
 use Rattle.rowex_core.specs.Statements.{OnlyPublishAppends}
 
--- neither the changes nor the moments are others
+-- neither the changes nor the versions are others
 abbrev Leaves : Shared → Shared → Type 0
 Leaves s t = (t.changes ≡ s.changes) × (t.past ≡ s.past)
 
@@ -40,7 +40,7 @@ advanced_leaves : (s : Shared) (expected : ℕ) → Leaves s (advanced s expecte
 advanced_leaves s expected = either_leaves (nat_eq s.epoch expected) s (with_epoch s (suc s.epoch)) (refl, refl)
 
 pub only_publish_appends : OnlyPublishAppends
-only_publish_appends c q (Publish spot w) = (next_change c q spot w, refl, refl, λ n h. moment_old c.past.moment (suc c.past.now) (next_tree c spot w) n (omega arith))
+only_publish_appends c q (Publish spot w) = (next_change c q spot w, refl, refl, λ n h. version_old c.past.version (suc c.past.now) (next_tree c spot w) n (omega arith))
 only_publish_appends c q (Claim r found) = claimed_leaves c.shared q r (c.fate r)
 only_publish_appends c q (Lock Anchor found) = anchored_leaves c.shared q c.anchor
 only_publish_appends c q (Lock (NodeTarget n) found) = locked_leaves c.shared n q found

@@ -1,12 +1,12 @@
--- A publish that is legal for moments is legal for words.
+-- A publish that is legal for versions is legal for words.
 use Rattle.std.proofs.Common.{◌≡◌, Option, Some, None, refl, sym, ap, ◌∙◌, subst}
 use Rattle.compound_node.specs.declared.entries.Entry.{Entry}
 use Rattle.tries.specs.Tree.{Tree, IsTrie, IsBuilt}
-use Rattle.moments.specs.Heap.{Heap}
-use Rattle.moments.specs.State.{IsTop}
-use Rattle.moments.specs.Told.{items_of}
-use Rattle.moments.specs.Steps.{IsNextMoment}
-use Rattle.moments.proofs.Reading.{read_exact}
+use Rattle.versions.specs.Heap.{Heap}
+use Rattle.versions.specs.State.{IsTop}
+use Rattle.versions.specs.Told.{items_of}
+use Rattle.versions.specs.Steps.{IsNextVersion}
+use Rattle.versions.proofs.Reading.{read_exact}
 use Rattle.rowex_core.specs.Cores.{heap_of}
 use Rattle.rowex_core.specs.Events.{IsLegalPublish, tree_of, stored_words, stored_root, next_tree, next_change}
 use Rattle.rowex_core.proofs.Finding.{finds_change}
@@ -25,17 +25,17 @@ publish_is_legal c q spot w law locked entry packed t x l ne = (legal, next, cha
     next : next_tree c spot w ≡ t
     next = tree_read (heap_of (stored_words c spot w)) (stored_root c spot w) t l.top l.tree
 
-    -- the demands on the next moment are the same for both
-    moment : IsNextMoment c.shared q (heap_of (stored_words c spot w)) (stored_root c spot w) (next_tree c spot w) x
-    moment = subst (λ z. IsNextMoment c.shared q (heap_of (stored_words c spot w)) (stored_root c spot w) z x) (sym next) l.next
+    -- the demands on the next version are the same for both
+    version : IsNextVersion c.shared q (heap_of (stored_words c spot w)) (stored_root c spot w) (next_tree c spot w) x
+    version = subst (λ z. IsNextVersion c.shared q (heap_of (stored_words c spot w)) (stored_root c spot w) z x) (sym next) l.next
 
     change : next_change c q spot w ≡ x
-    change = finds_change c q spot w law moment.top moment.tree x moment.change (λ e. ne (e ∙ ap items_of next)) l.own
+    change = finds_change c q spot w law version.top version.tree x version.change (λ e. ne (e ∙ ap items_of next)) l.own
 
     legal : IsLegalPublish c q spot w
     legal = record {
       locked = locked;
       entry = entry;
       packed = packed;
-      next = subst (IsNextMoment c.shared q (heap_of (stored_words c spot w)) (stored_root c spot w) (next_tree c spot w)) (sym change) moment;
+      next = subst (IsNextVersion c.shared q (heap_of (stored_words c spot w)) (stored_root c spot w) (next_tree c spot w)) (sym change) version;
     }

@@ -10,9 +10,9 @@ use Rattle.tries.specs.Content.{Item, items, Each, IsIn, IsMore, added, behind, 
 use Rattle.tries.specs.Keys.{IsBefore}
 use Rattle.tries.proofs.Contents.{content_rises, before_irrefl, each_append, each_in, IsRising}
 use Rattle.tries.proofs.Maps.{AreKeys, are_keys, before_less, before_greater, same_order}
-use Rattle.moments.specs.Heap.{Heap, LeafWords, IsShown}
-use Rattle.moments.specs.State.{IsTop}
-use Rattle.moments.specs.Told.{items_of, item_of, IsChanged, added_change, replaced_change, removed_change}
+use Rattle.versions.specs.Heap.{Heap, LeafWords, IsShown}
+use Rattle.versions.specs.State.{IsTop}
+use Rattle.versions.specs.Told.{items_of, item_of, IsChanged, added_change, replaced_change, removed_change}
 use Rattle.rowex_core.specs.Cores.{heap_of}
 use Rattle.rowex_core.specs.Events.{AreSame, change_between, stored_words, stored_root, next_tree}
 use Rattle.rowex_core.specs.Statements.{FindsChange}
@@ -94,7 +94,7 @@ finds q x n xs ys m p ne r a s b d = of_kind x.kind refl m
     of_kind Removed e m = finds_removed q (item_of n x) xs ys m r a d ∙ named Removed e
     of_kind Replaced e (y, k, m) = finds_replaced q y (item_of n x) xs ys m k ne d ∙ named Replaced e
 
--- ---- Of moments
+-- ---- Of versions
 
 rises : (t : Option Tree) → ((u : Tree) → t ≡ Some u → IsTrie u × IsBuilt u) → IsRising (items_of t) × AreKeys (items_of t)
 rises None h = (tt, tt)
@@ -102,13 +102,13 @@ rises (Some t) h = (content_rises t (h t refl).0, are_keys t (h t refl).0)
 
 pub finds_change : FindsChange
 finds_change c q spot w law top trees x (n, m) ne p =
-    finds q x n (items_of (c.past.moment c.past.now)) (items_of (next_tree c spot w)) m p ne old.0 old.1 new.0 new.1
+    finds q x n (items_of (c.past.version c.past.now)) (items_of (next_tree c spot w)) m p ne old.0 old.1 new.0 new.1
     (by_number (heap_of c.words) (heap_of (stored_words c spot w)) _ _ (near_store c spot w).0
-    (top_items (heap_of c.words) c.root (c.past.moment c.past.now) law.core.state.top)
+    (top_items (heap_of c.words) c.root (c.past.version c.past.now) law.core.state.top)
     (top_items (heap_of (stored_words c spot w)) (stored_root c spot w) (next_tree c spot w) top))
   where
-    old : IsRising (items_of (c.past.moment c.past.now)) × AreKeys (items_of (c.past.moment c.past.now))
-    old = rises (c.past.moment c.past.now) (λ t e. law.core.state.trees c.past.now t (omega arith) e)
+    old : IsRising (items_of (c.past.version c.past.now)) × AreKeys (items_of (c.past.version c.past.now))
+    old = rises (c.past.version c.past.now) (λ t e. law.core.state.trees c.past.now t (omega arith) e)
 
     new : IsRising (items_of (next_tree c spot w)) × AreKeys (items_of (next_tree c spot w))
     new = rises (next_tree c spot w) trees

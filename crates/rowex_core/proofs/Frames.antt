@@ -4,17 +4,17 @@ use Rattle.std.proofs.lemmas.Bool.{eqb-true, cases_Bool}
 use Rattle.std.proofs.lemmas.List.Elements.{All-from_recursion}
 use Rattle.finite_map.specs.Fronts.{OthersGoOn}
 use Rattle.tries.specs.Content.{Item}
-use Rattle.moments.specs.declared.Rec.{Rec}
-use Rattle.moments.specs.declared.Rec.TheVariants.{Node as a_node}
-use Rattle.moments.specs.declared.Pin.{Pin}
-use Rattle.moments.specs.declared.Round.{Round}
-use Rattle.moments.specs.Told.{items_of}
+use Rattle.versions.specs.declared.Rec.{Rec}
+use Rattle.versions.specs.declared.Rec.TheVariants.{Node as a_node}
+use Rattle.versions.specs.declared.Pin.{Pin}
+use Rattle.versions.specs.declared.Round.{Round}
+use Rattle.versions.specs.Told.{items_of}
 use Rattle.finite_map.specs.Maps.{key_order}
 use Rattle.std.specs.declared.cmp.Ordering.{Ordering}
 use Rattle.std.specs.declared.cmp.Ordering.TheVariants.{Less, Equal, Greater}
-use Rattle.moments.specs.Core.{Fate, Free, Held, Ready as ReadyBy, InTree, Unlinked, Marked}
-use Rattle.moments.specs.Steps.{IsLockable, with_fate, with_lock, with_pin, with_round, unlocked, with_anchor}
-use Rattle.moments.proofs.Publish.{moment_old}
+use Rattle.versions.specs.Core.{Fate, Free, Held, Ready as ReadyBy, InTree, Unlinked, Marked}
+use Rattle.versions.specs.Steps.{IsLockable, with_fate, with_lock, with_pin, with_round, unlocked, with_anchor}
+use Rattle.versions.proofs.Publish.{version_old}
 use Rattle.rowex_core.specs.declared.event.Act.{Act}
 use Rattle.rowex_core.specs.declared.event.Act.TheVariants.{Claim, Fill, Ready, Release, LoadRef, LoadFixed, Lock, Unlock, Publish, Mark, LoadEpoch, Advance, SetPin, ClearPin, LoadPin, LoadState, GiveBack}
 use Rattle.rowex_core.specs.declared.event.Target.TheVariants.{Anchor, Node as NodeTarget}
@@ -27,7 +27,7 @@ use Rattle.rowex_core.specs.Frames.{IsFrame}
 use Rattle.rowex_core.specs.Sharing.{share, holding_of, is_by, is_in_tree, anchored_at}
 use Rattle.rowex_core.proofs.Publishing.{publish_share}
 use Rattle.rowex_core.proofs.Sharing.{same_share, same_fate, same_word, same_lock, same_unlocked, by_another}
-use Rattle.moments.specs.Frames.{IsGrown}
+use Rattle.versions.specs.Frames.{IsGrown}
 use Rattle.finite_map.proofs.Growth.{others_none}
 
 -- nothing that pass q knows has changed
@@ -73,8 +73,8 @@ advance_frame c q expected = go (cases_Bool (eqb c.epoch expected))
     go (inl e) = rw e (quiet q c _ refl refl refl refl)
     go (inr e) = rw e (unchanged q c)
 
-some_pass : {p q : ℕ} → Some p ≡ Some q → p ≡ q
-some_pass e = cc
+some_pass_injective : {p q : ℕ} → Some p ≡ Some q → p ≡ q
+some_pass_injective e = cc
 
 -- another has it
 not_by : {p q : ℕ} (o : Option ℕ) → p ≢ q → o ≡ Some p → is_by q o ≡ false
@@ -120,8 +120,8 @@ module _ (c : Core) (p q : ℕ) (spot : Spot) (w : ℕ) (ne : p ≢ q) (law : Is
   pub publish_frame : IsFrame q c (after c p (Publish spot w))
   publish_frame = record {
     layout = refl;
-    past = record { longer = omega arith; kept = λ i h. moment_old c.past.moment (suc c.past.now) (next_tree c spot w) i (omega arith) };
-    changes = (next_change c p spot w ∷ [], refl, All-from_recursion (λ z. z.pass ≢ q) (next_change c p spot w ∷ []) ((λ e. ne (sym (change_pass p (items_of (c.past.moment c.past.now)) (items_of (next_tree c spot w))) ∙ e)), tt));
+    past = record { longer = omega arith; kept = λ i h. version_old c.past.version (suc c.past.now) (next_tree c spot w) i (omega arith) };
+    changes = (next_change c p spot w ∷ [], refl, All-from_recursion (λ z. z.pass ≢ q) (next_change c p spot w ∷ []) ((λ e. ne (sym (change_pass p (items_of (c.past.version c.past.now)) (items_of (next_tree c spot w))) ∙ e)), tt));
     own = publish_share c p spot w law l q ne;
   }
 

@@ -3,27 +3,27 @@ use Rattle.std.proofs.Common.{◌≡◌, inl, inr, ℕ, ◌<◌, List, [], ◌�
 use Rattle.std.specs.Prelude.{not}
 use Rattle.std.proofs.lemmas.Bool.{false≢true, eq-eqb, eqb-true}
 use Rattle.tries.specs.Tree.{Tree, leaf, node, fork}
-use Rattle.moments.specs.declared.Rec.{Rec}
-use Rattle.moments.specs.declared.Rec.TheVariants.{Node as a_node}
-use Rattle.moments.specs.State.{Links, IsLinked}
-use Rattle.moments.specs.Core.{InTree, Free}
-use Rattle.moments.specs.Steps.{same_rec, is_linked}
-use Rattle.moments.proofs.Growth.{in_tree_now}
-use Rattle.moments.proofs.Publish.{within_links}
-use Rattle.moments.proofs.Legal.{same_rec_refl, same_rec_true, linked_cases}
+use Rattle.versions.specs.declared.Rec.{Rec}
+use Rattle.versions.specs.declared.Rec.TheVariants.{Node as a_node}
+use Rattle.versions.specs.State.{Links, IsLinked}
+use Rattle.versions.specs.Core.{InTree, Free}
+use Rattle.versions.specs.Steps.{same_rec, is_linked}
+use Rattle.versions.proofs.Growth.{in_tree_now}
+use Rattle.versions.proofs.Publish.{within_links}
+use Rattle.versions.proofs.Legal.{same_rec_refl, same_rec_true, linked_cases}
 use Rattle.rowex_core.specs.declared.known.Locked.{Locked}
 use Rattle.rowex_core.specs.declared.known.Owned.{Owned}
 use Rattle.rowex_core.specs.Cores.{Core, IsLawful, bare, HasRecord}
 use Rattle.rowex_core.specs.Events.{IsInTree, stored_words, next_tree}
-use Rattle.rowex_core.specs.Knowing.{records_of, records_in, unlinked_as, own_after, relocked, locks_after, without_record, without_lock}
+use Rattle.rowex_core.specs.Knowing.{records_of, records_in, owned_unlinked, own_after, locked_with_words, locks_after, without_record, without_lock}
 use Rattle.rowex_core.proofs.Publishing.{linked_now, true_linked}
-use Rattle.moments.specs.Trades.{IsOf, AreApart, HasTraded}
-use Rattle.rowex_core.specs.Having.{OwnsJust, LocksJust, AreKept, IsAny, IsUnlinked}
-use Rattle.moments.proofs.Members.{all_of, of_append, of_left, of_right, of_map, map_of, of_filter, filter_of, none_of}
+use Rattle.versions.specs.Trades.{IsOneOf, AreApart, HasTraded}
+use Rattle.rowex_core.specs.Having.{OwnsJust, LocksJust, AreKept, InAnyWay, IsUnlinked}
+use Rattle.versions.proofs.Members.{all_of, of_append, of_left, of_right, of_map, map_of, of_filter, filter_of, none_of}
 use Rattle.rowex_core.specs.declared.known.Holding.{Holding}
 use Rattle.rowex_core.specs.declared.known.Holding.TheVariants.{Held, Ready, Unlinked}
 use Rattle.rowex_core.specs.Sharing.{IsOwned, IsLocked, fate_of}
-use Rattle.rowex_core.specs.Writers.{PublishLeaves}
+use Rattle.rowex_core.specs.Writers.{OwnedAfterPublish}
 use Rattle.rowex_core.proofs.Owning.{knows_all}
 
 -- a record of the pass's own is not free
@@ -44,27 +44,27 @@ module _ (c : Core) (law : IsLawful c) where
 
 -- The records of a tree are those that it links
 
-of_records : (t : Tree) (r : Rec) → IsOf r (records_of t) → Links t r
+of_records : (t : Tree) (r : Rec) → IsOneOf r (records_of t) → Links t r
 of_records (leaf n k v) r (inl e) = e
 of_records (leaf n k v) r (inr h) = absurd h
 of_records (node n x b) r (inl e) = inl e
 of_records (node n x b) r (inr h) = inr (of_records b r h)
 of_records (fork p a b) r h = elim (of_append r (records_of a) (records_of b) h) [ inl y ↦ inl (of_records a r y) | inr y ↦ inr (of_records b r y) ]
 
-records_have : (t : Tree) (r : Rec) → Links t r → IsOf r (records_of t)
+records_have : (t : Tree) (r : Rec) → Links t r → IsOneOf r (records_of t)
 records_have (leaf n k v) r e = inl e
 records_have (node n x b) r (inl e) = inl e
 records_have (node n x b) r (inr h) = inr (records_have b r h)
 records_have (fork p a b) r (inl h) = of_left r (records_of a) (records_of b) (records_have a r h)
 records_have (fork p a b) r (inr h) = of_right r (records_of a) (records_of b) (records_have b r h)
 
-in_moment : (t : Option Tree) (r : Rec) → IsOf r (records_in t) → IsLinked t r
-in_moment None r h = absurd h
-in_moment (Some t) r h = of_records t r h
+in_version : (t : Option Tree) (r : Rec) → IsOneOf r (records_in t) → IsLinked t r
+in_version None r h = absurd h
+in_version (Some t) r h = of_records t r h
 
-moment_has : (t : Option Tree) (r : Rec) → IsLinked t r → IsOf r (records_in t)
-moment_has None r h = absurd h
-moment_has (Some t) r h = records_have t r h
+version_has : (t : Option Tree) (r : Rec) → IsLinked t r → IsOneOf r (records_in t)
+version_has None r h = absurd h
+version_has (Some t) r h = records_have t r h
 
 not_true : (b : Bool) → not b ≡ true → b ≡ false
 not_true true e = absurd (false≢true e)
@@ -78,78 +78,78 @@ out_passes : (t : Option Tree) (r : Rec) → (IsLinked t r → ⊥) → not (is_
 out_passes t r f = elim (linked_cases t r) [ inl h ↦ absurd (f h.0) | inr h ↦ ap not h.1 ]
 
 -- a node in the tree is linked now
-pub node_linked : (c : Core) → IsLawful c → (n : ℕ) → IsInTree c n → IsLinked (c.past.moment c.past.now) (a_node n)
+pub node_linked : (c : Core) → IsLawful c → (n : ℕ) → IsInTree c n → IsLinked (c.past.version c.past.now) (a_node n)
 node_linked c law n (since, e) =
     let u = (in_tree_now (bare c) law.core.state n since e).1 in
-    subst (λ z. IsLinked z (a_node n)) (sym u.is_moment) (within_links u.within (a_node n) u.is_record)
+    subst (λ z. IsLinked z (a_node n)) (sym u.is_version) (within_links u.within (a_node n) u.is_record)
 
 -- The publish
 
-module _ (c : Core) (law : IsLawful c) (t : Option Tree) (new gone : List Rec) (trade : HasTraded (c.past.moment c.past.now) t new gone) where
-  unlinked_is : (r : Rec) → IsLinked (c.past.moment c.past.now) r → ((unlinked_as c r (c.fate r)).rec ≡ r) × IsUnlinked (unlinked_as c r (c.fate r))
+module _ (c : Core) (law : IsLawful c) (t : Option Tree) (new gone : List Rec) (trade : HasTraded (c.past.version c.past.now) t new gone) where
+  unlinked_is : (r : Rec) → IsLinked (c.past.version c.past.now) r → ((owned_unlinked c r (c.fate r)).rec ≡ r) × IsUnlinked (owned_unlinked c r (c.fate r))
   unlinked_is r h =
       let (since, e) = linked_now c law r h in
-      subst (λ f. ((unlinked_as c r f).rec ≡ r) × IsUnlinked (unlinked_as c r f)) (sym e) (refl, (since, c.past.now, refl))
+      subst (λ f. ((owned_unlinked c r f).rec ≡ r) × IsUnlinked (owned_unlinked c r f)) (sym e) (refl, (since, c.past.now, refl))
 
   -- of a pass that owned just what is linked anew: it owns just what is unlinked
   abbrev left : List Owned
-  left = map (λ r. unlinked_as c r (c.fate r)) (filter (λ r. not (is_linked t r)) (records_in (c.past.moment c.past.now)))
+  left = map (λ r. owned_unlinked c r (c.fate r)) (filter (λ r. not (is_linked t r)) (records_in (c.past.version c.past.now)))
 
   abbrev right : List Owned → List Owned
   right own = filter (λ o. not (is_linked t o.rec)) own
 
-  pub publish_owns : (own : List Owned) → OwnsJust own IsAny new → OwnsJust (own_after c t own) IsUnlinked gone
+  pub publish_owns : (own : List Owned) → OwnsJust own InAnyWay new → OwnsJust (own_after c t own) IsUnlinked gone
   publish_owns own has = record { only = only; each = each }
     where
-      only : (o : Owned) → IsOf o (own_after c t own) → IsOf o.rec gone × IsUnlinked o
+      only : (o : Owned) → IsOneOf o (own_after c t own) → IsOneOf o.rec gone × IsUnlinked o
       only o h = elim (of_append o left (right own) h) [
         | inl y ↦
-            let (r, i, e) = of_map (λ r. unlinked_as c r (c.fate r)) o (filter (λ r. not (is_linked t r)) (records_in (c.past.moment c.past.now))) y in
-            let (k, out) = of_filter (λ r. not (is_linked t r)) r (records_in (c.past.moment c.past.now)) i in
-            let was = in_moment (c.past.moment c.past.now) r k in
+            let (r, i, e) = of_map (λ r. owned_unlinked c r (c.fate r)) o (filter (λ r. not (is_linked t r)) (records_in (c.past.version c.past.now))) y in
+            let (k, out) = of_filter (λ r. not (is_linked t r)) r (records_in (c.past.version c.past.now)) i in
+            let was = in_version (c.past.version c.past.now) r k in
             let u = unlinked_is r was in
-            let going : IsOf r gone = elim (trade.goes r was) [ inl z ↦ absurd (out_of t r out z) | inr z ↦ z ] in
-            subst (λ (z : Owned). IsOf z.rec gone × IsUnlinked z) (sym e) (subst (λ z. IsOf z gone) (sym u.0) going, u.1)
+            let going : IsOneOf r gone = elim (trade.goes r was) [ inl z ↦ absurd (out_of t r out z) | inr z ↦ z ] in
+            subst (λ (z : Owned). IsOneOf z.rec gone × IsUnlinked z) (sym e) (subst (λ z. IsOneOf z gone) (sym u.0) going, u.1)
         | inr y ↦
             let (i, out) = of_filter (λ (o : Owned). not (is_linked t o.rec)) o own y in
             absurd (out_of t o.rec out ((trade.came o.rec (has.only o i).0).0))
       ]
 
-      each : (r : Rec) → IsOf r gone → (o : Owned) × IsOf o (own_after c t own) × (o.rec ≡ r)
+      each : (r : Rec) → IsOneOf r gone → (o : Owned) × IsOneOf o (own_after c t own) × (o.rec ≡ r)
       each r h =
           let (was, out) = trade.went r h in
-          let i = filter_of (λ r. not (is_linked t r)) r (records_in (c.past.moment c.past.now)) (moment_has (c.past.moment c.past.now) r was) (out_passes t r out) in
-          let o : Owned = unlinked_as c r (c.fate r) in
-          (o, of_left o left (right own) (map_of (λ r. unlinked_as c r (c.fate r)) r (filter (λ r. not (is_linked t r)) (records_in (c.past.moment c.past.now))) i), (unlinked_is r was).0)
+          let i = filter_of (λ r. not (is_linked t r)) r (records_in (c.past.version c.past.now)) (version_has (c.past.version c.past.now) r was) (out_passes t r out) in
+          let o : Owned = owned_unlinked c r (c.fate r) in
+          (o, of_left o left (right own) (map_of (λ r. owned_unlinked c r (c.fate r)) r (filter (λ r. not (is_linked t r)) (records_in (c.past.version c.past.now))) i), (unlinked_is r was).0)
 
   -- of a pass whose locked nodes are in the tree: it has locked just those that stay
-  pub publish_locks : (words : Rec → List ℕ) (locks : List Locked) (held kept : List ℕ) → LocksJust locks held → AreKept held gone kept → ((l : Locked) → IsOf l locks → IsLinked (c.past.moment c.past.now) (a_node l.node)) →
+  pub publish_locks : (words : Rec → List ℕ) (locks : List Locked) (held kept : List ℕ) → LocksJust locks held → AreKept held gone kept → ((l : Locked) → IsOneOf l locks → IsLinked (c.past.version c.past.now) (a_node l.node)) →
       LocksJust (locks_after words t locks) kept
   publish_locks words locks held kept has keeps now = record { only = only; each = each }
     where
       test : Locked → Bool
       test l = is_linked t (a_node l.node)
 
-      only : (l : Locked) → IsOf l (locks_after words t locks) → IsOf l.node kept
+      only : (l : Locked) → IsOneOf l (locks_after words t locks) → IsOneOf l.node kept
       only l h =
-          let (o, i, e) = of_map (λ l. relocked words l) l (filter (λ l. is_linked t (a_node l.node)) locks) h in
+          let (o, i, e) = of_map (λ l. locked_with_words words l) l (filter (λ l. is_linked t (a_node l.node)) locks) h in
           let (k, on) = of_filter (λ (l : Locked). is_linked t (a_node l.node)) o locks i in
-          subst (λ (z : Locked). IsOf z.node kept) (sym e)
+          subst (λ (z : Locked). IsOneOf z.node kept) (sym e)
           (elim (keeps.only o.node (has.only o k)) [ inl y ↦ y | inr y ↦ absurd ((trade.went (a_node o.node) y).1 (linked o on)) ])
         where
           linked : (o : Locked) → is_linked t (a_node o.node) ≡ true → IsLinked t (a_node o.node)
           linked o on = elim (linked_cases t (a_node o.node)) [ inl y ↦ y.0 | inr y ↦ absurd (false≢true (sym y.1 ∙ on)) ]
 
-      each : (n : ℕ) → IsOf n kept → (l : Locked) × IsOf l (locks_after words t locks) × (l.node ≡ n)
+      each : (n : ℕ) → IsOneOf n kept → (l : Locked) × IsOneOf l (locks_after words t locks) × (l.node ≡ n)
       each n h =
           let (was, stays) = keeps.each n h in
           let (l, i, e) = has.each n was in
-          let on : IsLinked t (a_node l.node) = elim (trade.goes (a_node l.node) (now l i)) [ inl y ↦ y | inr y ↦ absurd (stays (subst (λ z. IsOf (a_node z) gone) e y)) ] in
+          let on : IsLinked t (a_node l.node) = elim (trade.goes (a_node l.node) (now l i)) [ inl y ↦ y | inr y ↦ absurd (stays (subst (λ z. IsOneOf (a_node z) gone) e y)) ] in
           let k = filter_of (λ (l : Locked). is_linked t (a_node l.node)) l locks i (true_linked t (a_node l.node) on) in
-          (relocked words l, map_of (λ l. relocked words l) l (filter (λ l. is_linked t (a_node l.node)) locks) k, e)
+          (locked_with_words words l, map_of (λ l. locked_with_words words l) l (filter (λ l. is_linked t (a_node l.node)) locks) k, e)
 
-pub publish_leaves : PublishLeaves
-publish_leaves c k spot w law known new gone held kept trade own locks keeps = (
+pub owned_after_publish : OwnedAfterPublish
+owned_after_publish c k spot w law known new gone held kept trade own locks keeps = (
   publish_owns c law (next_tree c spot w) new gone trade k.own own,
   publish_locks c law (next_tree c spot w) new gone trade (stored_words c spot w) k.locks held kept locks keeps
       (λ l i. node_linked c law l.node (all_of (IsLocked k.pass c) l k.locks (knows_all c k known).locks i).1),
@@ -168,16 +168,16 @@ other_rec s r ne = go (same_rec s r) refl
 pub mark_owns : (P : Owned → Type 0) (own : List Owned) (r : Rec) (rs : List Rec) → OwnsJust own P (r ∷ rs) → AreApart (r ∷ rs) → OwnsJust (without_record r own) P rs
 mark_owns P own r rs has apart = record { only = only; each = each }
   where
-    only : (o : Owned) → IsOf o (without_record r own) → IsOf o.rec rs × P o
+    only : (o : Owned) → IsOneOf o (without_record r own) → IsOneOf o.rec rs × P o
     only o h =
         let (i, out) = of_filter (λ (o : Owned). not (same_rec o.rec r)) o own h in
         let (was, p) = has.only o i in
         (elim was [ inl e ↦ absurd (false≢true (sym (not_true (same_rec o.rec r) out) ∙ subst (λ z. same_rec o.rec z ≡ true) e (same_rec_refl o.rec))) | inr y ↦ y ], p)
 
-    each : (s : Rec) → IsOf s rs → (o : Owned) × IsOf o (without_record r own) × (o.rec ≡ s)
+    each : (s : Rec) → IsOneOf s rs → (o : Owned) × IsOneOf o (without_record r own) × (o.rec ≡ s)
     each s h =
         let (o, i, e) = has.each s (inr h) in
-        (o, filter_of (λ (o : Owned). not (same_rec o.rec r)) o own i (ap not (other_rec o.rec r (λ z. apart.0 (subst (λ y. IsOf y rs) (sym e ∙ z) h)))), e)
+        (o, filter_of (λ (o : Owned). not (same_rec o.rec r)) o own i (ap not (other_rec o.rec r (λ z. apart.0 (subst (λ y. IsOneOf y rs) (sym e ∙ z) h)))), e)
 
 other_node : (n m : ℕ) → (n ≡ m → ⊥) → not (nat_eq n m) ≡ true
 other_node n m ne = go (nat_eq n m) refl
@@ -189,15 +189,15 @@ other_node n m ne = go (nat_eq n m) refl
 pub unlock_locks : (locks : List Locked) (n : ℕ) (ns : List ℕ) → LocksJust locks (n ∷ ns) → AreApart (n ∷ ns) → LocksJust (without_lock n locks) ns
 unlock_locks locks n ns has apart = record { only = only; each = each }
   where
-    only : (l : Locked) → IsOf l (without_lock n locks) → IsOf l.node ns
+    only : (l : Locked) → IsOneOf l (without_lock n locks) → IsOneOf l.node ns
     only l h =
         let (i, out) = of_filter (λ (l : Locked). not (nat_eq l.node n)) l locks h in
         elim (has.only l i) [ inl e ↦ absurd (false≢true (sym (not_true (nat_eq l.node n) out) ∙ eq-eqb l.node n e)) | inr y ↦ y ]
 
-    each : (m : ℕ) → IsOf m ns → (l : Locked) × IsOf l (without_lock n locks) × (l.node ≡ m)
+    each : (m : ℕ) → IsOneOf m ns → (l : Locked) × IsOneOf l (without_lock n locks) × (l.node ≡ m)
     each m h =
         let (l, i, e) = has.each m (inr h) in
-        (l, filter_of (λ (l : Locked). not (nat_eq l.node n)) l locks i (other_node l.node n (λ z. apart.0 (subst (λ y. IsOf y ns) (sym e ∙ z) h))), e)
+        (l, filter_of (λ (l : Locked). not (nat_eq l.node n)) l locks i (other_node l.node n (λ z. apart.0 (subst (λ y. IsOneOf y ns) (sym e ∙ z) h))), e)
 
 -- At the end there is none
 

@@ -2,11 +2,11 @@
 use Rattle.std.proofs.Common.{◌≡◌, ◌≢◌, inl, inr, ℕ, suc, ◌<◌, ◌≤◌, List, refl, sym, ap, ◌∙◌, subst, le_trans, arith}
 use Rattle.std.proofs.lemmas.List.Elements.{All-append, All-weaker}
 use Rattle.tries.specs.Tree.{Tree}
-use Rattle.moments.specs.declared.Rec.{Rec}
-use Rattle.moments.specs.declared.Rec.TheVariants.{Node as a_node}
-use Rattle.moments.specs.State.{Past, Stands}
-use Rattle.moments.specs.Frames.{IsGrown}
-use Rattle.moments.proofs.Growth.{stands_grown}
+use Rattle.versions.specs.declared.Rec.{Rec}
+use Rattle.versions.specs.declared.Rec.TheVariants.{Node as a_node}
+use Rattle.versions.specs.State.{Past, Stands}
+use Rattle.versions.specs.Frames.{IsGrown}
+use Rattle.versions.proofs.Growth.{stands_grown}
 use Rattle.rowex_core.specs.declared.event.Act.{Act}
 use Rattle.rowex_core.specs.declared.known.Fact.{Fact}
 use Rattle.rowex_core.specs.declared.known.Fact.TheVariants.{Rooted, Placed, Fixed}
@@ -29,7 +29,7 @@ use Rattle.finite_map.proofs.Growth.{begins_on, others_begin, others_on}
 
 stands_before : (a b : Past) → IsGrown a b → (n : ℕ) (r : Rec) (u : Tree) → n ≤ a.now → Stands b n r u → Stands a n r u
 stands_before a b g n r u h st =
-    record { tree = st.tree; is_moment = sym (g.kept n h) ∙ st.is_moment; within = st.within; is_record = st.is_record }
+    record { tree = st.tree; is_version = sym (g.kept n h) ∙ st.is_version; within = st.within; is_record = st.is_record }
 
 stood_as_grown : (a b : Past) → IsGrown a b → (since at : ℕ) (r : Rec) (P : Tree → Type 0) → at ≤ a.now → StoodAs a since at r P → StoodAs b since at r P
 stood_as_grown a b g since at r P h (n, u, lo, hi, st, p) = (n, u, lo, hi, stands_grown a b g n r u (le_trans hi h) st, p)

@@ -2,27 +2,27 @@
 use Rattle.std.proofs.Common.{◌≡◌, inl, inr, ℕ, List, [], ◌∷◌, filter, Bool, true, false, refl, sym, ap, subst, ◌∙◌}
 use Rattle.std.specs.Prelude.{not, if◌then◌else◌}
 use Rattle.std.proofs.lemmas.Bool.{cases_Bool, false≢true}
-use Rattle.moments.specs.declared.Rec.{Rec}
-use Rattle.moments.specs.declared.Rec.TheVariants.{Node as a_node}
-use Rattle.moments.specs.Steps.{same_rec}
-use Rattle.moments.specs.Trades.{IsOf, AreApart}
-use Rattle.moments.proofs.Legal.{same_rec_refl, same_rec_true}
-use Rattle.moments.proofs.Members.{of_filter, filter_of}
-use Rattle.rowex_core.specs.Having.{AreKept, is_among, kept_of}
+use Rattle.versions.specs.declared.Rec.{Rec}
+use Rattle.versions.specs.declared.Rec.TheVariants.{Node as a_node}
+use Rattle.versions.specs.Steps.{same_rec}
+use Rattle.versions.specs.Trades.{IsOneOf, AreApart}
+use Rattle.versions.proofs.Legal.{same_rec_refl, same_rec_true}
+use Rattle.versions.proofs.Members.{of_filter, filter_of}
+use Rattle.rowex_core.specs.Having.{AreKept, is_among, kept_locks}
 
-among : (r : Rec) (xs : List Rec) → is_among r xs ≡ true → IsOf r xs
+among : (r : Rec) (xs : List Rec) → is_among r xs ≡ true → IsOneOf r xs
 among r [] e = absurd (false≢true e)
 among r (x ∷ xs) e = go (λ h. among r xs h) (same_rec r x) refl e
   where
-    go : (is_among r xs ≡ true → IsOf r xs) → (b : Bool) → same_rec r x ≡ b → (if b then true else is_among r xs) ≡ true → IsOf r (x ∷ xs)
+    go : (is_among r xs ≡ true → IsOneOf r xs) → (b : Bool) → same_rec r x ≡ b → (if b then true else is_among r xs) ≡ true → IsOneOf r (x ∷ xs)
     go rest true s h = inl (same_rec_true r x s)
     go rest false s h = inr (rest h)
 
-not_among : (r : Rec) (xs : List Rec) → is_among r xs ≡ false → IsOf r xs → ⊥
+not_among : (r : Rec) (xs : List Rec) → is_among r xs ≡ false → IsOneOf r xs → ⊥
 not_among r [] e h = absurd h
 not_among r (x ∷ xs) e h = go (λ e i. not_among r xs e i) (same_rec r x) refl e h
   where
-    go : (is_among r xs ≡ false → IsOf r xs → ⊥) → (b : Bool) → same_rec r x ≡ b → (if b then true else is_among r xs) ≡ false → IsOf r (x ∷ xs) → ⊥
+    go : (is_among r xs ≡ false → IsOneOf r xs → ⊥) → (b : Bool) → same_rec r x ≡ b → (if b then true else is_among r xs) ≡ false → IsOneOf r (x ∷ xs) → ⊥
     go rest true s h i = false≢true (sym h)
     go rest false s h (inl i) = false≢true (sym s ∙ subst (λ z. same_rec r z ≡ true) i (same_rec_refl r))
     go rest false s h (inr i) = rest h i
@@ -32,8 +32,8 @@ was_true true e = absurd (false≢true e)
 was_true false e = refl
 
 -- of the locked nodes that are unlinked go, and the others are kept
-pub kept_is : (held : List ℕ) (gone : List Rec) → AreKept held gone (kept_of held gone)
-kept_is held gone = record {
+pub kept_are_not_gone : (held : List ℕ) (gone : List Rec) → AreKept held gone (kept_locks held gone)
+kept_are_not_gone held gone = record {
   only = λ n h. elim (cases_Bool (is_among (a_node n) gone)) [
     | inl e ↦ inr (among (a_node n) gone e)
     | inr e ↦ inl (filter_of (λ m. not (is_among (a_node m) gone)) n held h (ap not e))

@@ -1,9 +1,9 @@
 -- A lock of a node to which the pass was led takes one that is in the tree.
 use Rattle.std.proofs.Common.{◌≡◌, ℕ, Option, Some, None, refl, ap, arith}
 use Rattle.record_words.specs.State.{state_word}
-use Rattle.moments.specs.declared.Rec.TheVariants.{Node as a_node}
-use Rattle.moments.specs.State.{Spans}
-use Rattle.moments.specs.Core.{Fate, Free, Held, Ready, InTree, Unlinked, Marked, life_of, pin_moment}
+use Rattle.versions.specs.declared.Rec.TheVariants.{Node as a_node}
+use Rattle.versions.specs.State.{Spans}
+use Rattle.versions.specs.Core.{Fate, Free, Held, Ready, InTree, Unlinked, Marked, life_of, pin_version}
 use Rattle.rowex_core.specs.Words.{tag_of}
 use Rattle.rowex_core.specs.Writers.{LedIsInTree}
 
@@ -22,4 +22,4 @@ of_state now n q m lock (Marked f l s) r h e = absurd (omega arith)
 pub led_is_in_tree : LedIsInTree
 led_is_in_tree c law q p pinned n m u lo hi st e =
     of_state c.past.now n q m (c.lock n) (c.fate (a_node n)) (λ since last o h. law.records.retired n since last o h)
-    (law.core.state.reach q p.moment (ap pin_moment pinned) m lo hi (a_node n) u st) e
+    (law.core.state.reach q p.version (ap pin_version pinned) m lo hi (a_node n) u st) e

@@ -7,16 +7,16 @@ use Rattle.finite_map.specs.declared.Change.{Change}
 use Rattle.finite_map.specs.Fronts.{BeginsWith, OthersGoOn}
 use Rattle.compound_node.specs.declared.entries.Entry.{Entry}
 use Rattle.pieces.specs.Piece.{Place}
-use Rattle.tries.specs.Tree.{Tree, leaf, node, fork, page}
-use Rattle.moments.specs.declared.Rec.{Rec}
-use Rattle.moments.specs.declared.Rec.TheVariants.{Node as a_node}
-use Rattle.moments.specs.declared.Pin.{Pin}
-use Rattle.moments.specs.declared.Round.{Round}
-use Rattle.moments.specs.Heap.{Heap}
-use Rattle.moments.specs.State.{Past, IsTop, IsReach}
-use Rattle.moments.specs.Core.{Fate, Free, Held as HeldBy, Ready as ReadyBy, InTree, Unlinked as UnlinkedBy, Marked, pin_moment}
-use Rattle.moments.specs.Steps.{same_rec, is_linked, next_fate, IsLockable, lowered, with_fate, with_lock, with_pin, with_round, unlocked, with_anchor}
-use Rattle.moments.proofs.Legal.{same_rec_refl}
+use Rattle.tries.specs.Tree.{Tree, leaf, node, fork, subtrie}
+use Rattle.versions.specs.declared.Rec.{Rec}
+use Rattle.versions.specs.declared.Rec.TheVariants.{Node as a_node}
+use Rattle.versions.specs.declared.Pin.{Pin}
+use Rattle.versions.specs.declared.Round.{Round}
+use Rattle.versions.specs.Heap.{Heap}
+use Rattle.versions.specs.State.{Past, IsTop, IsReach}
+use Rattle.versions.specs.Core.{Fate, Free, Held as HeldBy, Ready as ReadyBy, InTree, Unlinked as UnlinkedBy, Marked, pin_version}
+use Rattle.versions.specs.Steps.{same_rec, is_linked, next_fate, IsLockable, lowered, with_fate, with_lock, with_pin, with_round, unlocked, with_anchor}
+use Rattle.versions.proofs.Legal.{same_rec_refl}
 use Rattle.rowex_core.specs.declared.event.Act.{Act}
 use Rattle.rowex_core.specs.declared.event.Act.TheVariants.{Claim, Fill, Ready, Release, LoadRef, LoadFixed, Lock, Unlock, Publish, Mark, LoadEpoch, Advance, SetPin, ClearPin, LoadPin, LoadState, GiveBack}
 use Rattle.rowex_core.specs.declared.event.Target.TheVariants.{Anchor, Node as NodeTarget}
@@ -33,10 +33,10 @@ use Rattle.rowex_core.specs.declared.known.Known.{Known}
 use Rattle.rowex_core.specs.Reading.{entry_of, head_entry, root_of}
 use Rattle.rowex_core.specs.Cores.{Core, IsLawful, heap_of}
 use Rattle.rowex_core.specs.Words.{record_word}
-use Rattle.moments.proofs.Publish.{moment_old}
+use Rattle.versions.proofs.Publish.{version_old}
 use Rattle.rowex_core.specs.declared.event.Spot.{Spot}
 use Rattle.rowex_core.specs.Events.{IsLegalPublish, IsLockedAt, stored_words, stored_root, next_tree, next_change, Legal, after, with_word, claimed, marked, anchored, word_of, target_word, IsInTree}
-use Rattle.rowex_core.specs.Knowing.{IsFact, HasSeen, facts_with, AreCounted, Knows, learned_by, learned, entry_learned, hold_as, fill_in, without_record, failed_with, claim_learned, anchor_learned, node_learned, state_learned, taker_of, without_lock, records_in, unlinked_as, own_after, relocked, locks_after, anchor_after, publish_learned}
+use Rattle.rowex_core.specs.Knowing.{IsFact, HasSeen, facts_with, AreCounted, Knows, learned_by, learned, entry_learned, with_holding, with_filled_word, without_record, failed_with, claim_learned, anchor_learned, node_learned, state_learned, blocking_pass_of, without_lock, records_in, owned_unlinked, own_after, locked_with_words, locks_after, anchor_after, publish_learned}
 use Rattle.record_words.specs.declared.layout.Location.{Location}
 use Rattle.rowex_core.proofs.Frames.{advance_frame, give_back_frame, unlocked_node}
 use Rattle.rowex_core.proofs.Keeping.{fact_grown, knows_kept}
@@ -61,26 +61,26 @@ with_failed c k act location w h = record { pass = h.pass; seen = h.seen; own = 
 
 -- Facts of loads
 
-more_facts : (s : Past) (o : Option Pin) (f : ℕ → Fact) (facts : List Fact) → ((p : Pin) → o ≡ Some p → IsFact s (f p.moment)) →
+more_facts : (s : Past) (o : Option Pin) (f : ℕ → Fact) (facts : List Fact) → ((p : Pin) → o ≡ Some p → IsFact s (f p.version)) →
     All (IsFact s) facts → All (IsFact s) (facts_with o f facts)
 more_facts s None f facts h a = a
-more_facts s (Some p) f facts h a = All-cons (IsFact s) (f p.moment) facts (h p refl) a
+more_facts s (Some p) f facts h a = All-cons (IsFact s) (f p.version) facts (h p refl) a
 
--- the root entry is that of the newest moment
+-- the root entry is that of the newest version
 root_is : (heap : Heap) (e : Option Entry) (t : Option Tree) → IsTop heap e t → root_of t ≡ e
 root_is heap None None h = refl
 root_is heap None (Some t) h = absurd h
 root_is heap (Some e) None h = absurd h
 root_is heap (Some e) (Some t) h = head t h.0
   where
-    head : (t : Tree) → page t ≡ Place e → head_entry t ≡ Some e
+    head : (t : Tree) → subtrie t ≡ Place e → head_entry t ≡ Some e
     head (leaf n k v) p = cc
     head (node n x b) p = cc
     head (fork q a b) p = absurd cc
 
-pinned : (c : Core) (k : Known) → IsLawful c → Knows c k → (p : Pin) → k.pin ≡ Some p → IsReach (view c) p.moment × (p.moment ≤ c.past.now)
+pinned : (c : Core) (k : Known) → IsLawful c → Knows c k → (p : Pin) → k.pin ≡ Some p → IsReach (view c) p.version × (p.version ≤ c.past.now)
 pinned c k law h p e =
-    let is : c.pins k.pass ≡ Some p = ap (λ (z : Share). z.pin) h.own ∙ e in (law.core.state.reach k.pass p.moment (ap pin_moment is), (law.core.paced.floors k.pass p is).2)
+    let is : c.pins k.pass ≡ Some p = ap (λ (z : Share). z.pin) h.own ∙ e in (law.core.state.reach k.pass p.version (ap pin_version is), (law.core.paced.floors k.pass p is).2)
 
 seen_whole : (c : Core) (q : ℕ) → OthersGoOn q c.changes c.changes
 seen_whole c q = ([], sym (append-nil c.changes), All-from_recursion (λ z. z.pass ≢ q) [] tt)
@@ -98,7 +98,7 @@ fact_learned c k f law h true_ = record {
   seen = record {
     front = seen_whole c k.pass;
     fresh = begins_whole c k h;
-    facts = more_facts c.past k.pin f k.facts (λ p e. let x = pinned c k law h p e in true_ p.moment x.0 x.1) h.seen.facts;
+    facts = more_facts c.past k.pin f k.facts (λ p e. let x = pinned c k law h p e in true_ p.version x.0 x.1) h.seen.facts;
   };
   own = h.own;
 }
@@ -109,7 +109,7 @@ root_learned c k law h = record {
   seen = record {
     front = seen_whole c k.pass;
     fresh = ([], sym (append-nil c.changes));
-    facts = (fact_learned c k (λ since. Rooted since c.past.now c.root) law h (λ since r lo. (lo, le_refl c.past.now, root_is (heap_of c.words) c.root (c.past.moment c.past.now) law.core.state.top))).seen.facts;
+    facts = (fact_learned c k (λ since. Rooted since c.past.now c.root) law h (λ since r lo. (lo, le_refl c.past.now, root_is (heap_of c.words) c.root (c.past.version c.past.now) law.core.state.top))).seen.facts;
   };
   own = h.own;
 }
@@ -137,11 +137,11 @@ either_rec : (b : Bool) (o p : Owned) → p.rec ≡ o.rec → (if b then p else 
 either_rec true o p e = e
 either_rec false o p e = refl
 
-hold_at : (r : Rec) (h : Holding) → IsAt r (map (hold_as r h))
-hold_at r h = map_at r (hold_as r h) (λ o. either_rec (same_rec o.rec r) o (record o { holding = h }) refl) (λ o e. rw e refl)
+hold_at : (r : Rec) (h : Holding) → IsAt r (map (with_holding r h))
+hold_at r h = map_at r (with_holding r h) (λ o. either_rec (same_rec o.rec r) o (record o { holding = h }) refl) (λ o e. rw e refl)
 
-fill_at : (r : Rec) (offset w : ℕ) → IsAt r (map (fill_in r offset w))
-fill_at r offset w = map_at r (fill_in r offset w) (λ o. either_rec (same_rec o.rec r) o (record o { words = set o.words (offset - 1) w }) refl) (λ o e. rw e refl)
+fill_at : (r : Rec) (offset w : ℕ) → IsAt r (map (with_filled_word r offset w))
+fill_at r offset w = map_at r (with_filled_word r offset w) (λ o. either_rec (same_rec o.rec r) o (record o { words = set o.words (offset - 1) w }) refl) (λ o e. rw e refl)
 
 drop_at : (r : Rec) → IsAt r (without_record r)
 drop_at r = record { each = λ i own. filter_swapped (λ (o : Owned). same_rec i o.rec) (λ (o : Owned). not (same_rec o.rec r)) own; others = λ i words. leaves i words }
@@ -187,19 +187,19 @@ module _ (c : Core) (k : Known) (h : Knows c k) where
       (λ i o. rw o (had i))
   claim_learns r found _ e = with_failed c k a_claim (word_of r 0) found h
 
-  fill_learns : (r : Rec) (offset w : ℕ) → c.fate r ≡ HeldBy k.pass → IsTrue (record c { words = with_word c.words r offset w }) (record k { own = map (fill_in r offset w) k.own })
+  fill_learns : (r : Rec) (offset w : ℕ) → c.fate r ≡ HeldBy k.pass → IsTrue (record c { words = with_word c.words r offset w }) (record k { own = map (with_filled_word r offset w) k.own })
   fill_learns r offset w e = record {
     pass = h.pass;
     seen = h.seen;
     own = λ i. record (h.own i) {
-      own = λ s. at_record (λ s x. owned s x (holding_of k.pass (c.fate s)) ≡ of_record s (map (fill_in r offset w) k.own)) r (set (c.words r) (offset - 1) w) c.words
-          (sym filled ∙ has_then r (map (fill_in r offset w)) (fill_at r offset w) r)
-          (λ i o. sym ((fill_at r offset w).others i (c.words i) (holding_of k.pass (c.fate i)) o) ∙ has_then r (map (fill_in r offset w)) (fill_at r offset w) i) s i;
+      own = λ s. at_record (λ s x. owned s x (holding_of k.pass (c.fate s)) ≡ of_record s (map (with_filled_word r offset w) k.own)) r (set (c.words r) (offset - 1) w) c.words
+          (sym filled ∙ has_then r (map (with_filled_word r offset w)) (fill_at r offset w) r)
+          (λ i o. sym ((fill_at r offset w).others i (c.words i) (holding_of k.pass (c.fate i)) o) ∙ has_then r (map (with_filled_word r offset w)) (fill_at r offset w) i) s i;
       locks = λ n. (word_locks c k.pass r offset w (ap is_in_tree e) n ∙ ap (λ (z : Share). z.locks n) h.own) i;
     };
   }
     where
-      filled : map (fill_in r offset w) (owned r (c.words r) (holding_of k.pass (c.fate r))) ≡ owned r (set (c.words r) (offset - 1) w) (holding_of k.pass (c.fate r))
+      filled : map (with_filled_word r offset w) (owned r (c.words r) (holding_of k.pass (c.fate r))) ≡ owned r (set (c.words r) (offset - 1) w) (holding_of k.pass (c.fate r))
       filled = rw (e, by_itself k.pass, same_rec_refl r) refl
 
   -- The lock of a node
@@ -267,19 +267,19 @@ module _ (c : Core) (k : Known) (spot : Spot) (w : ℕ) (law : IsLawful c) (h : 
   left o = not (is_linked (next_tree c spot w) o.rec)
 
   abbrev unlinked : Rec → Owned
-  unlinked r = unlinked_as c r (c.fate r)
+  unlinked r = owned_unlinked c r (c.fate r)
 
   -- what the pass has of a record then
   listed : (r : Rec) → of_record r (own_after c (next_tree c spot w) k.own) ≡ map unlinked (filter gone (once r (is_in_tree (c.fate r)))) ++ filter left (owned r (c.words r) (holding_of k.pass (c.fate r)))
-  listed r = filter-append (λ o. same_rec r o.rec) (map unlinked (filter gone (records_in (c.past.moment c.past.now)))) (filter left k.own) ∙ (λ i. come i ++ stay i)
+  listed r = filter-append (λ o. same_rec r o.rec) (map unlinked (filter gone (records_in (c.past.version c.past.now)))) (filter left k.own) ∙ (λ i. come i ++ stay i)
     where
-      rec_is : (i : Rec) (f : Fate) → (unlinked_as c i f).rec ≡ i
+      rec_is : (i : Rec) (f : Fate) → (owned_unlinked c i f).rec ≡ i
       rec_is i (InTree s) = refl
       rec_is i _ = refl
 
-      come : of_record r (map unlinked (filter gone (records_in (c.past.moment c.past.now)))) ≡ map unlinked (filter gone (once r (is_in_tree (c.fate r))))
-      come = filter_mapped (λ o. same_rec r o.rec) (same_rec r) unlinked (λ i. ap (same_rec r) (rec_is i (c.fate i))) (filter gone (records_in (c.past.moment c.past.now))) ∙
-          ap (map unlinked) (filter_swapped (same_rec r) gone (records_in (c.past.moment c.past.now)) ∙ ap (filter gone) (listed_once c law r))
+      come : of_record r (map unlinked (filter gone (records_in (c.past.version c.past.now)))) ≡ map unlinked (filter gone (once r (is_in_tree (c.fate r))))
+      come = filter_mapped (λ o. same_rec r o.rec) (same_rec r) unlinked (λ i. ap (same_rec r) (rec_is i (c.fate i))) (filter gone (records_in (c.past.version c.past.now))) ∙
+          ap (map unlinked) (filter_swapped (same_rec r) gone (records_in (c.past.version c.past.now)) ∙ ap (filter gone) (listed_once c law r))
 
       stay : of_record r (filter left k.own) ≡ filter left (owned r (c.words r) (holding_of k.pass (c.fate r)))
       stay = filter_swapped (λ (o : Owned). same_rec r o.rec) left k.own ∙ ap (filter left) (sym (had c k h r))
@@ -317,7 +317,7 @@ module _ (c : Core) (k : Known) (spot : Spot) (w : ℕ) (law : IsLawful c) (h : 
       linked x = is_linked (next_tree c spot w) (a_node x.node)
 
       words : Locked → Locked
-      words = relocked (stored_words c spot w)
+      words = locked_with_words (stored_words c spot w)
 
       through : of_node n (locks_after (stored_words c spot w) (next_tree c spot w) k.locks) ≡ map words (filter linked (locked n (c.words (a_node n)) (is_in_tree (c.fate (a_node n)) && is_by k.pass (c.lock n))))
       through = filter_mapped (λ (x : Locked). nat_eq n x.node) (λ (x : Locked). nat_eq n x.node) words (λ x. refl) (filter linked k.locks) ∙
@@ -347,7 +347,7 @@ module _ (c : Core) (k : Known) (spot : Spot) (w : ℕ) (law : IsLawful c) (h : 
     seen = record {
       front = ([], sym (append-nil _), All-from_recursion (λ z. z.pass ≢ k.pass) [] tt);
       fresh = longer h.seen.front h.seen.fresh;
-      facts = All-weaker (IsFact c.past) (IsFact _) (fact_grown c.past _ (record { longer = omega arith; kept = λ i b. moment_old c.past.moment (suc c.past.now) (next_tree c spot w) i (omega arith) })) k.facts h.seen.facts;
+      facts = All-weaker (IsFact c.past) (IsFact _) (fact_grown c.past _ (record { longer = omega arith; kept = λ i b. version_old c.past.version (suc c.past.now) (next_tree c spot w) i (omega arith) })) k.facts h.seen.facts;
     };
     own = λ i. record (h.own i) { own = λ r. (own_then r ∙ sym (listed r)) i; locks = λ n. locks_then n i; anchor = anchor_then spot l.locked i };
   }
@@ -366,7 +366,7 @@ module _ (c : Core) (k : Known) (spot : Spot) (w : ℕ) (law : IsLawful c) (h : 
 learns_by : (c : Core) (k : Known) (act : Act) → IsLawful c → Knows c k → Legal c k.pass act → IsTrue (after c k.pass act) (learned_by c act k)
 learns_by c k (Claim r found) law h (a, b) = claim_learns c k h r found (c.fate r) refl
 learns_by c k (Fill r offset w) law h (a, b) = fill_learns c k h r offset w b.1
-learns_by c k (Ready r) law h (a, b) = changes c k h r (HeldBy k.pass) (ReadyBy k.pass) (map (hold_as r IsReady)) (hold_at r IsReady) b.1 refl refl (rw (by_itself k.pass, same_rec_refl r) refl)
+learns_by c k (Ready r) law h (a, b) = changes c k h r (HeldBy k.pass) (ReadyBy k.pass) (map (with_holding r IsReady)) (hold_at r IsReady) b.1 refl refl (rw (by_itself k.pass, same_rec_refl r) refl)
 learns_by c k (Release r) law h (a, b) = changes c k h r (HeldBy k.pass) Free (without_record r) (drop_at r) b.1 refl refl (dropped r (c.words r) (holding_of k.pass (HeldBy k.pass)))
 learns_by c k (LoadRef Root w) law h l = root_learned c k law h
 learns_by c k (LoadRef (Slot n j) w) law h (a, b) = fact_learned c k (λ since. Placed since c.past.now n j (entry_of (record_word c (a_node n) (26 + j)))) law h (λ since r lo. slot_fact c law since r n j b.1)
@@ -376,7 +376,7 @@ learns_by c k (Lock (NodeTarget n) found) law h (a, b) = go (cases_Bool (eqb fou
   where
     go : ((eqb found 2 ≡ true) ⊎ (eqb found 2 ≡ false)) → IsTrue (after c k.pass (Lock (NodeTarget n) found)) (node_learned c n found k)
     go (inl e) = rw e (lock_taken c k h n (b.2 (eqb-true found 2 e)) (unlocked_node c law n (sym b.1 ∙ eqb-true found 2 e)))
-    go (inr e) = rw e (with_failed c k (a_lock (taker_of c n (c.fate (a_node n)))) (target_word (NodeTarget n)) found h)
+    go (inr e) = rw e (with_failed c k (a_lock (blocking_pass_of c n (c.fate (a_node n)))) (target_word (NodeTarget n)) found h)
 learns_by c k (Unlock Anchor) law h l = anchor_given c k h
 learns_by c k (Unlock (NodeTarget n)) law h l = lock_given c k h n
 learns_by c k (Publish spot w) law h (a, b) = publish_learns c k spot w law h b
@@ -385,7 +385,7 @@ learns_by c k (LoadEpoch w) law h l = round_learns c k h _ _ refl
 learns_by c k (Advance expected found) law h l = is_true (knows_kept c _ k (advance_frame c k.pass expected) h)
 learns_by c k (SetPin w) law h l = pin_learns c k h _
 learns_by c k ClearPin law h l = pin_learns c k h None
-learns_by c k (LoadPin o w) law h l = round_learns c k h _ _ (ap (λ (s : Share). let z = s.round in let x : Round = record { epoch = z.epoch; moment = z.moment; bound = lowered z.bound (c.pins o); seen = o ∷ z.seen } in x) h.own)
+learns_by c k (LoadPin o w) law h l = round_learns c k h _ _ (ap (λ (s : Share). let z = s.round in let x : Round = record { epoch = z.epoch; version = z.version; bound = lowered z.bound (c.pins o); seen = o ∷ z.seen } in x) h.own)
 learns_by c k (LoadState r w) law h l = go (cases_Bool (eqb w 0))
   where
     go : ((eqb w 0 ≡ true) ⊎ (eqb w 0 ≡ false)) → IsTrue c (state_learned r w k)
@@ -423,7 +423,7 @@ module _ (c : Core) (k : Known) (h : AreCounted k.steps k.fresh.step k.failed) w
   next_by : (act : Act) → IsNext (learned_by c act k)
   next_by (Claim r found) = claim_next r found (c.fate r)
   next_by (Lock Anchor found) = anchor_next found c.anchor
-  next_by (Lock (NodeTarget n) found) = either_next (nat_eq found 2) _ _ same_next (failed_next (a_lock (taker_of c n (c.fate (a_node n)))) (target_word (NodeTarget n)) found)
+  next_by (Lock (NodeTarget n) found) = either_next (nat_eq found 2) _ _ same_next (failed_next (a_lock (blocking_pass_of c n (c.fate (a_node n)))) (target_word (NodeTarget n)) found)
   next_by (LoadState r w) = either_next (nat_eq w 0) _ _ same_next (failed_next a_load (word_of r 0) w)
   next_by (LoadRef Root w) = before k.steps (omega arith)
   next_by (LoadRef (Slot n j) w) = same_next

@@ -1,17 +1,17 @@
--- What the words of a record in reach say of it at a moment since the pin.
+-- What the words of a record in reach say of it in a version since the pin.
 use Rattle.std.proofs.Common.{◌≡◌, ℕ, zero, suc, ◌+◌, ◌-◌, ◌<◌, ◌≤◌, length, get_or, Some, None, nat_lt, if◌then◌else◌, sym, ap, ◌∙◌, arith, le_refl, le_trans}
 use Rattle.compound_node.specs.Nodes.{piece}
 use Rattle.pieces.specs.Piece.{size}
 use Rattle.record_words.specs.Leaf.{leaf_words}
 use Rattle.record_words.specs.Packed.{fixed_words}
-use Rattle.tries.specs.Tree.{Tree, leaf, node, fork, page, Page, Fixed}
+use Rattle.tries.specs.Tree.{Tree, leaf, node, fork, subtrie, Subtrie, Fixed}
 use Rattle.tries.specs.Place.{entry_at}
-use Rattle.moments.specs.declared.Rec.{Rec}
-use Rattle.moments.specs.declared.Rec.TheVariants.{Node as a_node, Leaf as a_leaf}
-use Rattle.moments.specs.Heap.{NodeWords, LeafWords, IsCopied}
-use Rattle.moments.specs.State.{Stands, IsReach, last_of, Spans, IsRecord, State}
-use Rattle.moments.specs.Core.{Fate, Free, Held as HeldBy, Ready as ReadyBy, InTree, Unlinked as UnlinkedBy, Marked, life_of, view as moments_of}
-use Rattle.moments.proofs.States.{spans_last, spans_ended, reach_later}
+use Rattle.versions.specs.declared.Rec.{Rec}
+use Rattle.versions.specs.declared.Rec.TheVariants.{Node as a_node, Leaf as a_leaf}
+use Rattle.versions.specs.Heap.{NodeWords, LeafWords, IsCopied}
+use Rattle.versions.specs.State.{Stands, IsReach, last_of, Spans, IsRecord, State}
+use Rattle.versions.specs.Core.{Fate, Free, Held as HeldBy, Ready as ReadyBy, InTree, Unlinked as UnlinkedBy, Marked, life_of, view as versions_of}
+use Rattle.versions.proofs.States.{spans_last, spans_ended, reach_later}
 use Rattle.rowex_core.specs.declared.known.Fact.TheVariants.{Placed, Fixed as FixedWord}
 use Rattle.rowex_core.specs.Reading.{entry_of, node_words_of, leaf_of, IsPacked, entry_in, word_in}
 use Rattle.rowex_core.specs.Cores.{Core, IsLawful, IsWhole, heap_of, bare}
@@ -20,11 +20,11 @@ use Rattle.rowex_core.specs.Events.{IsFixedOffset}
 use Rattle.rowex_core.specs.Knowing.{StoodBetween, IsFact}
 use Rattle.rowex_core.proofs.Reading.{node_is, entry_at_is, fixed_word_is, leaf_is}
 
--- the core without the words: moments, lives and pins
+-- the core without the words: versions, lives and pins
 abbrev pub view : Core → State
-view c = moments_of (bare c)
+view c = versions_of (bare c)
 
--- The last moment of the life of a record that stood since a pass's pin: its words are those of now, and they spell a value.
+-- The last version of the life of a record that stood since a pass's pin: its words are those of now, and they spell a value.
 pub record LastOf (c : Core) (since : ℕ) (r : Rec) : Type 0 where
   pub tree : Tree
   pub at : ℕ
@@ -72,8 +72,8 @@ node_number e = cc
 leaf_number : {n m : ℕ} → a_leaf n ≡ a_leaf m → n ≡ m
 leaf_number e = cc
 
-same_words : {x y : NodeWords} → x ≡ y → (x.page ≡ y.page) × (x.fixed ≡ y.fixed)
-same_words e = (ap (λ (z : NodeWords). z.page) e, ap (λ (z : NodeWords). z.fixed) e)
+same_words : {x y : NodeWords} → x ≡ y → (x.subtrie ≡ y.subtrie) × (x.fixed ≡ y.fixed)
+same_words e = (ap (λ (z : NodeWords). z.subtrie) e, ap (λ (z : NodeWords). z.fixed) e)
 
 -- An entry word of a node in reach: it has the entry that the node had when it stood last,
 pub entry_of_last : (c : Core) → IsLawful c → (since n j : ℕ) → j < 32 → (l : LastOf c since (a_node n)) → entry_in l.tree j ≡ entry_of (record_word c (a_node n) (26 + j))
@@ -85,8 +85,8 @@ entry_of_last c law since n j small l = go l.tree l.stands.is_record l.copied l.
     go (fork q a b) r i p = absurd r
     go (node m x b) r i (v, has, same) =
         let words = c.words (a_node n) in
-        let e : page b ≡ piece v = (same_words (sym i ∙ (ap (λ z. node_words_of (c.words (a_node z))) (sym (node_number r)) ∙ node_is v (c.words (a_node n)) (law.records.sized (a_node n)).1 has same))).0 in
-        ap (λ (z : Page). if nat_lt j (size z) then Some (entry_at z j) else None) e ∙
+        let e : subtrie b ≡ piece v = (same_words (sym i ∙ (ap (λ z. node_words_of (c.words (a_node z))) (sym (node_number r)) ∙ node_is v (c.words (a_node n)) (law.records.sized (a_node n)).1 has same))).0 in
+        ap (λ (z : Subtrie). if nat_lt j (size z) then Some (entry_at z j) else None) e ∙
         (sym (entry_at_is v (c.words (a_node n)) (law.records.sized (a_node n)).1 has same j small) ∙
         ap (λ z. entry_of (get_or (c.words (a_node n)) z 0)) (let a : 25 + j ≡ 26 + j - 1 = omega arith in a) ∙
         ap entry_of (sym (later_word c (a_node n) (26 + j) (omega arith))))

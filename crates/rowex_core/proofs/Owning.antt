@@ -4,10 +4,10 @@ use Rattle.std.specs.Prelude.{Contains}
 use Rattle.std.proofs.lemmas.Bool.{eqb-true}
 use Rattle.std.proofs.lemmas.List.Elements.{All-weaker, All-contains_itself}
 use Rattle.compound_node.specs.declared.entries.Entry.{Entry}
-use Rattle.moments.specs.declared.Rec.TheVariants.{Node as a_node}
-use Rattle.moments.specs.Core.{Fate, Held as HeldBy, Ready as ReadyBy, InTree, Unlinked as UnlinkedBy}
-use Rattle.moments.specs.Steps.{same_rec}
-use Rattle.moments.proofs.Legal.{same_rec_refl}
+use Rattle.versions.specs.declared.Rec.TheVariants.{Node as a_node}
+use Rattle.versions.specs.Core.{Fate, Held as HeldBy, Ready as ReadyBy, InTree, Unlinked as UnlinkedBy}
+use Rattle.versions.specs.Steps.{same_rec}
+use Rattle.versions.proofs.Legal.{same_rec_refl}
 use Rattle.rowex_core.specs.declared.known.Holding.{Holding}
 use Rattle.rowex_core.specs.declared.known.Holding.TheVariants.{Held, Ready as IsReady, Unlinked}
 use Rattle.rowex_core.specs.declared.known.Owned.{Owned}

@@ -17,13 +17,13 @@ use Rattle.record_words.specs.Packed.{fixed_words}
 use Rattle.record_words.specs.Leaf.{leaf_words}
 use Rattle.tries.specs.Keys.{Key}
 use Rattle.tries.specs.Tree.{Fixed, Tree, leaf, node, fork}
-use Rattle.moments.specs.declared.Rec.{Rec}
-use Rattle.moments.specs.declared.Rec.TheVariants.{Node as a_node, Leaf as a_leaf}
-use Rattle.moments.specs.State.{IsSameRecord}
-use Rattle.moments.specs.Core.{Free, Unlinked, Marked, pin_moment}
-use Rattle.moments.specs.Told.{content, items_of}
-use Rattle.moments.proofs.States.{hindsight as state_hindsight, state_parting, reach_later}
-use Rattle.moments.proofs.Stepping.{opening_core, core_reach, core_steady}
+use Rattle.versions.specs.declared.Rec.{Rec}
+use Rattle.versions.specs.declared.Rec.TheVariants.{Node as a_node, Leaf as a_leaf}
+use Rattle.versions.specs.State.{IsSameRecord}
+use Rattle.versions.specs.Core.{Free, Unlinked, Marked, pin_version}
+use Rattle.versions.specs.Told.{content, items_of}
+use Rattle.versions.proofs.States.{hindsight as state_hindsight, state_parting, reach_later}
+use Rattle.versions.proofs.Stepping.{opening_core, core_reach, core_steady}
 use Rattle.rowex_core.specs.declared.event.Act.TheVariants.{Lock, Publish}
 use Rattle.rowex_core.specs.declared.event.Target.TheVariants.{Node as NodeTarget}
 use Rattle.rowex_core.specs.Reading.{word_in}
@@ -31,7 +31,7 @@ use Rattle.rowex_core.specs.Cores.{IsLawful, IsWithin, bare, heap_of, word_count
 use Rattle.rowex_core.specs.Words.{record_word, word_at, Shows}
 use Rattle.rowex_core.specs.Events.{IsFixedOffset, after, next_change, next_tree}
 use Rattle.rowex_core.specs.Opening.{opening, opening_words}
-use Rattle.rowex_core.specs.Statements.{OpeningIsLawful, Hindsight, Parting, InReach, EntriesInReach, PublishIsAStep, LocksApart, call_for, change_call}
+use Rattle.rowex_core.specs.Statements.{OpeningIsLawful, Hindsight, Parting, InReach, EntriesInReach, PublishIsAStep, LocksApart, call_of_kind, call_of_change}
 use Rattle.rowex_core.proofs.Frames.{change_pass}
 use Rattle.rowex_core.proofs.Loading.{LastOf, last, entry_of_last, fixed_fact, view}
 use Rattle.rowex_core.proofs.Staying.{stays_lawful}
@@ -98,7 +98,7 @@ opening_is_lawful layout = (
 -- Records in reach
 
 pub hindsight : Hindsight
-hindsight c law q p e m low k n h = state_hindsight (view c) law.core.state m (reach_later (view c) p.moment m low (law.core.state.reach q p.moment (ap pin_moment e))) k n h
+hindsight c law q p e m low k n h = state_hindsight (view c) law.core.state m (reach_later (view c) p.version m low (law.core.state.reach q p.version (ap pin_version e))) k n h
 
 pub parting : Parting
 parting c law = state_parting (view c) law.core.state
@@ -118,7 +118,7 @@ in_reach c law q p e n r u lo hi st =
   where
     word : (offset : ℕ) → IsFixedOffset r offset → record_word c r offset ≡ word_in u offset
     word offset fits =
-        let f = (fixed_fact c law p.moment (law.core.state.reach q p.moment (ap pin_moment e)) r offset fits).1 p.moment (le_refl p.moment) (n, u, lo, hi, st) in
+        let f = (fixed_fact c law p.version (law.core.state.reach q p.version (ap pin_version e)) r offset fits).1 p.version (le_refl p.version) (n, u, lo, hi, st) in
         sym f.5 ∙ same_word offset f.1 u (core_steady (bare c) law.core q p e r f.0 n f.1 u f.2 f.3 lo hi f.4 st)
 
 pub entries_in_reach : EntriesInReach
@@ -132,7 +132,7 @@ entries_in_reach c law q p e m n u lo hi st = (
 )
   where
     l : LastOf c m (a_node n)
-    l = last c law m (reach_later (view c) p.moment m lo (law.core.state.reach q p.moment (ap pin_moment e))) (a_node n) (m, u, le_refl m, hi, st)
+    l = last c law m (reach_later (view c) p.version m lo (law.core.state.reach q p.version (ap pin_version e))) (a_node n) (m, u, le_refl m, hi, st)
 
 -- A publish is a step of the map
 
@@ -140,17 +140,17 @@ last_fits : (m : Map) (xs : List Change) (x : Change) → LegalFrom m (xs ++ x �
 last_fits m [] x l = l.0
 last_fits m (y ∷ xs) x l = last_fits (changed m y) xs x l.1
 
-one_call : (k : Kind) (m : Map) (key : Key) (value : ℕ) → FitsKind k (value_at m key) value → map_after m (call_for k key value) ≡ changed_by k m key value
+one_call : (k : Kind) (m : Map) (key : Key) (value : ℕ) → FitsKind k (value_at m key) value → map_after m (call_of_kind k key value) ≡ changed_by k m key value
 one_call Added m key value e = ap (λ (o : Option ℕ). (step_where o m (Upsert key value)).0) e
 one_call Removed m key value e = ap (λ (o : Option ℕ). (step_where o m (Remove key)).0) e
 one_call Replaced m key value h = go (value_at m key) refl h
   where
-    go : (o : Option ℕ) → value_at m key ≡ o → IsSome o → map_after m (call_for Replaced key value) ≡ changed_by Replaced m key value
+    go : (o : Option ℕ) → value_at m key ≡ o → IsSome o → map_after m (call_of_kind Replaced key value) ≡ changed_by Replaced m key value
     go None e h = absurd (false≢true h)
     go (Some v) e h = ap (λ (z : Option ℕ). (step_where z m (Upsert key value)).0) e
 
 pub publish_is_a_step : PublishIsAStep
-publish_is_a_step c q spot w law l = (refl, change_pass q (items_of (c.past.moment c.past.now)) (items_of (next_tree c spot w)), fits, sym (held ∙ sym told_then))
+publish_is_a_step c q spot w law l = (refl, change_pass q (items_of (c.past.version c.past.now)) (items_of (next_tree c spot w)), fits, sym (held ∙ sym told_then))
   where
     then_lawful : IsLawful (after c q (Publish spot w))
     then_lawful = stays_lawful c q (Publish spot w) law l
@@ -158,10 +158,10 @@ publish_is_a_step c q spot w law l = (refl, change_pass q (items_of (c.past.mome
     fits : Fits (map_of c.changes) (next_change c q spot w)
     fits = last_fits [] c.changes (next_change c q spot w) then_lawful.core.told.legal
 
-    held : map_after (map_of c.changes) (change_call (next_change c q spot w)) ≡ map_of (c.changes ++ next_change c q spot w ∷ [])
+    held : map_after (map_of c.changes) (call_of_change (next_change c q spot w)) ≡ map_of (c.changes ++ next_change c q spot w ∷ [])
     held = one_call (next_change c q spot w).kind (map_of c.changes) (next_change c q spot w).key (next_change c q spot w).value fits ∙ sym (map_of-push c.changes (next_change c q spot w))
 
-    told_then : content ((after c q (Publish spot w)).past.moment (suc c.past.now)) ≡ map_of (c.changes ++ next_change c q spot w ∷ [])
+    told_then : content ((after c q (Publish spot w)).past.version (suc c.past.now)) ≡ map_of (c.changes ++ next_change c q spot w ∷ [])
     told_then = then_lawful.core.told.content_is (suc c.past.now) (le_refl (suc c.past.now)) ∙
         ap map_of (take_all (suc c.past.now) (c.changes ++ next_change c q spot w ∷ []) (let e = then_lawful.core.told.count in omega arith))
 

@@ -6,15 +6,15 @@ use Rattle.finite_map.specs.declared.Change.{Change}
 use Rattle.compound_node.specs.declared.entries.Entry.{Entry}
 use Rattle.compound_node.specs.declared.entries.Entry.TheVariants.{Leaf, Node}
 use Rattle.record_words.specs.Entry.{HasEntryWord, entry_word}
-use Rattle.moments.specs.declared.Rec.{Rec}
-use Rattle.moments.specs.declared.Rec.TheVariants.{Node as a_node, Leaf as a_leaf}
-use Rattle.moments.specs.State.{IsLinked}
-use Rattle.moments.specs.Told.{items_of}
-use Rattle.moments.specs.Core.{Fate, Free, Held, Ready as ReadyBy, InTree, Unlinked, Marked}
-use Rattle.moments.specs.Steps.{same_rec, is_linked, next_fate, publishes, IsStore, at_root, at_slot}
-use Rattle.moments.specs.Steps.{IsMomentPublish as IsMomentsPublish}
-use Rattle.moments.proofs.Legal.{same_rec_true, linked_cases}
-use Rattle.moments.proofs.Stepping.{step_lawful}
+use Rattle.versions.specs.declared.Rec.{Rec}
+use Rattle.versions.specs.declared.Rec.TheVariants.{Node as a_node, Leaf as a_leaf}
+use Rattle.versions.specs.State.{IsLinked}
+use Rattle.versions.specs.Told.{items_of}
+use Rattle.versions.specs.Core.{Fate, Free, Held, Ready as ReadyBy, InTree, Unlinked, Marked}
+use Rattle.versions.specs.Steps.{same_rec, is_linked, next_fate, publishes, IsStore, at_root, at_slot}
+use Rattle.versions.specs.Steps.{IsVersionPublish as IsVersionsPublish}
+use Rattle.versions.proofs.Legal.{same_rec_true, linked_cases}
+use Rattle.versions.proofs.Stepping.{step_lawful}
 use Rattle.rowex_core.specs.declared.event.Act.TheVariants.{Publish}
 use Rattle.rowex_core.specs.declared.event.Spot.{Spot}
 use Rattle.rowex_core.specs.declared.event.Spot.TheVariants.{Root, Slot}
@@ -25,7 +25,7 @@ use Rattle.rowex_core.proofs.Frames.{change_pass}
 use Rattle.rowex_core.proofs.Records.{sized_after, within_after}
 use Rattle.rowex_core.proofs.Publishing.{other_words, unlinked_words, true_linked}
 use Rattle.rowex_core.proofs.Storing.{near_store}
-use Rattle.moments.proofs.Pace.{next_marked}
+use Rattle.versions.proofs.Pace.{next_marked}
 
 whole_before : (now q : ℕ) (b : Bool) (f : Fate) → IsWhole (next_fate now q b f) → IsWhole f
 whole_before now q true Free h = h
@@ -80,12 +80,12 @@ module _ (c : Core) (q : ℕ) (spot : Spot) (w : ℕ) (law : IsLawful c) (l : Is
       go (inl x) = inl x.0
       go (inr x) = inr (ap node_words_of (sym (unlinked_words c q law s w k (a_node n) x.0)))
 
-  pub moments_publish : IsMomentsPublish (bare c) q (heap_of (stored_words c spot w)) (stored_root c spot w) (next_tree c spot w) (next_change c q spot w)
-  moments_publish = record {
+  pub versions_publish : IsVersionsPublish (bare c) q (heap_of (stored_words c spot w)) (stored_root c spot w) (next_tree c spot w) (next_change c q spot w)
+  versions_publish = record {
     store = store spot l.locked;
     near = near_store c spot w;
     kept = kept spot l;
-    own = change_pass q (items_of (c.past.moment c.past.now)) (items_of (next_tree c spot w));
+    own = change_pass q (items_of (c.past.version c.past.now)) (items_of (next_tree c spot w));
     next = l.next;
   }
 
@@ -132,7 +132,7 @@ module _ (c : Core) (q : ℕ) (spot : Spot) (w : ℕ) (law : IsLawful c) (l : Is
 
   pub publish_stays : q < c.layout.passes → IsLawful (after c q (Publish spot w))
   publish_stays low = record {
-    core = step_lawful (bare c) q _ law.core (publishes (heap_of (stored_words c spot w)) (stored_root c spot w) (next_tree c spot w) (next_change c q spot w) moments_publish);
+    core = step_lawful (bare c) q _ law.core (publishes (heap_of (stored_words c spot w)) (stored_root c spot w) (next_tree c spot w) (next_change c q spot w) versions_publish);
     records = record {
       sized = published_sizes spot;
       packed = λ r h. published_words spot l.packed r (whole_before c.past.now q (is_linked (next_tree c spot w) r) (c.fate r) h);
@@ -150,5 +150,5 @@ module _ (c : Core) (q : ℕ) (spot : Spot) (w : ℕ) (law : IsLawful c) (l : Is
     root = published_root spot;
     lockers = law.lockers;
     makers = All-push (λ (x : Change). x.pass < c.layout.passes) c.changes (next_change c q spot w) law.makers
-        (subst (λ z. z < c.layout.passes) (sym (change_pass q (items_of (c.past.moment c.past.now)) (items_of (next_tree c spot w)))) low);
+        (subst (λ z. z < c.layout.passes) (sym (change_pass q (items_of (c.past.version c.past.now)) (items_of (next_tree c spot w)))) low);
   }

@@ -7,21 +7,21 @@ use Rattle.finite_map.specs.declared.Kind.TheVariants.{Removed}
 use Rattle.compound_node.specs.declared.entries.Entry.{Entry}
 use Rattle.compound_node.specs.declared.entries.Entry.TheVariants.{Leaf, Node}
 use Rattle.pieces.specs.Piece.{Place}
-use Rattle.tries.specs.Tree.{Tree, leaf, node, fork, page, Has, IsTrie, IsBuilt, IsLower}
+use Rattle.tries.specs.Tree.{Tree, leaf, node, fork, subtrie, Has, IsTrie, IsBuilt, IsLower}
 use Rattle.tries.specs.Content.{Item, IsMore, added, behind, first}
 use Rattle.tries.proofs.Contents.{within_has}
 use Rattle.tries.proofs.Tries.{has_first}
-use Rattle.moments.specs.declared.Rec.{Rec}
-use Rattle.moments.specs.declared.Rec.TheVariants.{Node as a_node, Leaf as a_leaf}
-use Rattle.moments.specs.Heap.{Heap, NodeWords, IsShown}
-use Rattle.moments.specs.State.{IsRecord, IsLived, IsTop, IsLinked, Links, Spans}
-use Rattle.moments.specs.Core.{Fate, Free, Held, Ready as ReadyBy, InTree, Unlinked as UnlinkedBy, Marked, life_of}
-use Rattle.moments.specs.Steps.{same_rec, links, is_linked, next_fate, IsLockable}
-use Rattle.moments.specs.Told.{items_of, item_of, IsChanged, IsChange}
-use Rattle.moments.proofs.Publish.{links_within, within_links}
-use Rattle.moments.proofs.Heaps.{determined, shown_within}
-use Rattle.moments.proofs.Quiet.{slot_linked}
-use Rattle.moments.proofs.Legal.{same_rec_true, links_true, linked_cases}
+use Rattle.versions.specs.declared.Rec.{Rec}
+use Rattle.versions.specs.declared.Rec.TheVariants.{Node as a_node, Leaf as a_leaf}
+use Rattle.versions.specs.Heap.{Heap, NodeWords, IsShown}
+use Rattle.versions.specs.State.{IsRecord, IsLived, IsTop, IsLinked, Links, Spans}
+use Rattle.versions.specs.Core.{Fate, Free, Held, Ready as ReadyBy, InTree, Unlinked as UnlinkedBy, Marked, life_of}
+use Rattle.versions.specs.Steps.{same_rec, links, is_linked, next_fate, IsLockable}
+use Rattle.versions.specs.Told.{items_of, item_of, IsChanged, IsChange}
+use Rattle.versions.proofs.Publish.{links_within, within_links}
+use Rattle.versions.proofs.Heaps.{determined, shown_within}
+use Rattle.versions.proofs.Quiet.{slot_linked}
+use Rattle.versions.proofs.Legal.{same_rec_true, links_true, linked_cases}
 use Rattle.rowex_core.specs.declared.event.Act.TheVariants.{Publish}
 use Rattle.rowex_core.specs.declared.event.Spot.{Spot}
 use Rattle.rowex_core.specs.declared.event.Spot.TheVariants.{Root, Slot}
@@ -82,7 +82,7 @@ module _ (c : Core) (q : ℕ) (law : IsLawful c) where
       go : (IsLinked (next_tree c (Slot n j) w) (a_node n) × (is_linked (next_tree c (Slot n j) w) (a_node n) ≡ true)) ⊎
           ((¬ (IsLinked (next_tree c (Slot n j) w) (a_node n))) × (is_linked (next_tree c (Slot n j) w) (a_node n) ≡ false)) → IsLinked (next_tree c (Slot n j) w) (a_node n)
       go (inl x) = x.0
-      go (inr x) = absurd (always_changed q (c.past.moment c.past.now) (next_tree c (Slot n j) w)
+      go (inr x) = absurd (always_changed q (c.past.version c.past.now) (next_tree c (Slot n j) w)
           (same_top (heap_of c.words) (heap_of (stored_words c (Slot n j) w)) c.root n _ _ law.core.state.top l.top
           (λ i ne. ap node_words_of (sym (other_words c n j w (a_node i) (λ e. ne (node_number e)))))
           (λ i. ap leaf_of (sym (other_words c n j w (a_leaf i) (λ e. absurd cc)))) x.0) l.change)
@@ -111,24 +111,24 @@ lower_links m h n (node o x t) low b s (inr l) = let y = lower_links m x.height 
 lower_links m h n (fork p t u) low b s (inl l) = lower_links m h n t low.0 b.0 s.0 l
 lower_links m h n (fork p t u) low b s (inr l) = lower_links m h n u low.1 b.1 s.1 l
 
-same_page : (m : Heap) (r : Rec) (s t : Tree) → IsRecord r s → IsRecord r t → IsShown m s → IsShown m t → page s ≡ page t
-same_page m r (leaf n k v) (leaf o l w) a b i j = let e : n ≡ o = leaf_number (sym a ∙ b) in ap (λ z. Place (Leaf z)) e
-same_page m r (node n x s) (node o y t) a b i j =
+same_subtrie : (m : Heap) (r : Rec) (s t : Tree) → IsRecord r s → IsRecord r t → IsShown m s → IsShown m t → subtrie s ≡ subtrie t
+same_subtrie m r (leaf n k v) (leaf o l w) a b i j = let e : n ≡ o = leaf_number (sym a ∙ b) in ap (λ z. Place (Leaf z)) e
+same_subtrie m r (node n x s) (node o y t) a b i j =
     let e : n ≡ o = node_number (sym a ∙ b) in
     let h : x.height ≡ y.height = ap (λ (z : NodeWords). z.fixed.height) (sym i.0 ∙ (ap m.nodes e ∙ j.0)) in
     λ k. Place (Node (e k) (h k))
-same_page m r (leaf n k v) (node o y t) a b i j = absurd (let z : a_leaf n ≡ a_node o = sym a ∙ b in cc)
-same_page m r (node n x s) (leaf o l w) a b i j = absurd (let z : a_node n ≡ a_leaf o = sym a ∙ b in cc)
-same_page m r (fork p a b) t x y i j = absurd x
-same_page m r (leaf n k v) (fork p a b) x y i j = absurd y
-same_page m r (node n z s) (fork p a b) x y i j = absurd y
+same_subtrie m r (leaf n k v) (node o y t) a b i j = absurd (let z : a_leaf n ≡ a_node o = sym a ∙ b in cc)
+same_subtrie m r (node n x s) (leaf o l w) a b i j = absurd (let z : a_node n ≡ a_leaf o = sym a ∙ b in cc)
+same_subtrie m r (fork p a b) t x y i j = absurd x
+same_subtrie m r (leaf n k v) (fork p a b) x y i j = absurd y
+same_subtrie m r (node n z s) (fork p a b) x y i j = absurd y
 
 -- the sides of a fork have no record in common
 sides_apart : (m : Heap) (p : ℕ) (a b : Tree) → IsTrie (fork p a b) → IsShown m a → IsShown m b → (r : Rec) → Links a r → Links b r → ⊥
 sides_apart m p a b trie i j r x y =
     let s = links_within a r x in
     let t = links_within b r y in
-    let e : s.0 ≡ t.0 = determined m s.0 t.0 (shown_within m s.1 i) (shown_within m t.1 j) (same_page m r s.0 t.0 s.2 t.2 (shown_within m s.1 i) (shown_within m t.1 j)) in
+    let e : s.0 ≡ t.0 = determined m s.0 t.0 (shown_within m s.1 i) (shown_within m t.1 j) (same_subtrie m r s.0 t.0 s.2 t.2 (shown_within m s.1 i) (shown_within m t.1 j)) in
     let k = first s.0 in
     let zero = trie.3 k (within_has s.1 k (has_first s.0)) in
     let one = trie.4 k (within_has t.1 k (subst (λ z. Has z k) e (has_first s.0))) in
@@ -158,9 +158,9 @@ records_once m (fork p a b) trie built shown r =
     join (inl e) (inr f) = rw (e, f) refl
     join (inr e) h = rw e refl
 
--- A record of the newest moment is in the tree.
+-- A record of the newest version is in the tree.
 
-spans_now : (now : ℕ) (f : Fate) → Rattle.moments.specs.State.IsLived now (life_of f) → Spans now (life_of f) now → (since : ℕ) × (f ≡ InTree since)
+spans_now : (now : ℕ) (f : Fate) → Rattle.versions.specs.State.IsLived now (life_of f) → Spans now (life_of f) now → (since : ℕ) × (f ≡ InTree since)
 spans_now now Free l s = absurd s
 spans_now now (Held p) l s = absurd s
 spans_now now (ReadyBy p) l s = absurd s
@@ -168,37 +168,37 @@ spans_now now (InTree f) l s = (f, refl)
 spans_now now (UnlinkedBy f e p) l s = absurd (omega arith)
 spans_now now (Marked f e p) l s = absurd (omega arith)
 
-pub linked_now : (c : Core) → IsLawful c → (r : Rec) → IsLinked (c.past.moment c.past.now) r → (since : ℕ) × (c.fate r ≡ InTree since)
-linked_now c law r l = go (c.past.moment c.past.now) refl l
+pub linked_now : (c : Core) → IsLawful c → (r : Rec) → IsLinked (c.past.version c.past.now) r → (since : ℕ) × (c.fate r ≡ InTree since)
+linked_now c law r l = go (c.past.version c.past.now) refl l
   where
-    go : (t : Option Tree) → c.past.moment c.past.now ≡ t → IsLinked t r → (since : ℕ) × (c.fate r ≡ InTree since)
+    go : (t : Option Tree) → c.past.version c.past.now ≡ t → IsLinked t r → (since : ℕ) × (c.fate r ≡ InTree since)
     go None e h = absurd h
     go (Some t) e h =
         let u = links_within t r h in
         spans_now c.past.now (c.fate r) (law.core.state.lived r)
-        (law.core.state.present c.past.now (le_refl c.past.now) (le_refl c.past.now) r u.0 (record { tree = t; is_moment = e; within = u.1; is_record = u.2 }))
+        (law.core.state.present c.past.now (le_refl c.past.now) (le_refl c.past.now) r u.0 (record { tree = t; is_version = e; within = u.1; is_record = u.2 }))
 
 pub true_linked : (t : Option Tree) (r : Rec) → IsLinked t r → is_linked t r ≡ true
 true_linked t r h = elim (linked_cases t r) [ inl x ↦ x.1 | inr x ↦ absurd (x.0 h) ]
 
--- a record is linked in the newest moment where its fate says so
-pub linked_where : (c : Core) → IsLawful c → (r : Rec) → is_linked (c.past.moment c.past.now) r ≡ is_in_tree (c.fate r)
-linked_where c law r = go (linked_cases (c.past.moment c.past.now) r)
+-- a record is linked in the newest version where its fate says so
+pub linked_where : (c : Core) → IsLawful c → (r : Rec) → is_linked (c.past.version c.past.now) r ≡ is_in_tree (c.fate r)
+linked_where c law r = go (linked_cases (c.past.version c.past.now) r)
   where
-    there : (f : Fate) → c.fate r ≡ f → ¬ (IsLinked (c.past.moment c.past.now) r) → is_in_tree f ≡ false
+    there : (f : Fate) → c.fate r ≡ f → ¬ (IsLinked (c.past.version c.past.now) r) → is_in_tree f ≡ false
     there (InTree since) e n =
         let stood = law.core.state.alive r c.past.now (subst (λ z. Spans c.past.now (life_of z) c.past.now) (sym e) (subst (λ z. IsLived c.past.now (life_of z)) e (law.core.state.lived r), le_refl c.past.now)) in
-        absurd (n (subst (λ z. IsLinked z r) (sym stood.1.is_moment) (within_links stood.1.within r stood.1.is_record)))
+        absurd (n (subst (λ z. IsLinked z r) (sym stood.1.is_version) (within_links stood.1.within r stood.1.is_record)))
     there _ e n = refl
 
-    go : (IsLinked (c.past.moment c.past.now) r × (is_linked (c.past.moment c.past.now) r ≡ true)) ⊎ ((¬ (IsLinked (c.past.moment c.past.now) r)) × (is_linked (c.past.moment c.past.now) r ≡ false)) →
-        is_linked (c.past.moment c.past.now) r ≡ is_in_tree (c.fate r)
+    go : (IsLinked (c.past.version c.past.now) r × (is_linked (c.past.version c.past.now) r ≡ true)) ⊎ ((¬ (IsLinked (c.past.version c.past.now) r)) × (is_linked (c.past.version c.past.now) r ≡ false)) →
+        is_linked (c.past.version c.past.now) r ≡ is_in_tree (c.fate r)
     go (inl (h, e)) = e ∙ sym (ap is_in_tree (linked_now c law r h).1)
     go (inr (h, e)) = e ∙ sym (there (c.fate r) refl h)
 
--- the records of the newest moment, each once
-pub listed_once : (c : Core) → IsLawful c → (r : Rec) → filter (same_rec r) (records_in (c.past.moment c.past.now)) ≡ once r (is_in_tree (c.fate r))
-listed_once c law r = go (c.past.moment c.past.now) c.root law.core.state.top (λ t e. law.core.state.trees c.past.now t (le_refl c.past.now) e) ∙ ap (once r) (linked_where c law r)
+-- the records of the newest version, each once
+pub listed_once : (c : Core) → IsLawful c → (r : Rec) → filter (same_rec r) (records_in (c.past.version c.past.now)) ≡ once r (is_in_tree (c.fate r))
+listed_once c law r = go (c.past.version c.past.now) c.root law.core.state.top (λ t e. law.core.state.trees c.past.now t (le_refl c.past.now) e) ∙ ap (once r) (linked_where c law r)
   where
     go : (o : Option Tree) (e : Option Entry) → IsTop (heap_of c.words) e o → ((t : Tree) → o ≡ Some t → IsTrie t × IsBuilt t) → filter (same_rec r) (records_in o) ≡ once r (is_linked o r)
     go None e top trees = refl
@@ -207,8 +207,8 @@ listed_once c law r = go (c.past.moment c.past.now) c.root law.core.state.top (�
 
 -- What a publish by pass p makes of what pass q has
 
-some_pass : {p q : ℕ} → Some p ≡ Some q → p ≡ q
-some_pass e = cc
+some_pass_injective : {p q : ℕ} → Some p ≡ Some q → p ≡ q
+some_pass_injective e = cc
 
 unlinked_stays : (now p : ℕ) (b : Bool) (since last o : ℕ) → is_in_tree (next_fate now p b (UnlinkedBy since last o)) ≡ false
 unlinked_stays now p true since last o = refl
@@ -243,12 +243,12 @@ module _ (c : Core) (p : ℕ) (spot : Spot) (w : ℕ) (law : IsLawful c) (l : Is
 
     stored : (s : Spot) → IsLockedAt c p s → (n : ℕ) → c.lock n ≡ Some q → stored_words c s w (a_node n) ≡ c.words (a_node n)
     stored Root h n e = refl
-    stored (Slot m j) h n e = other_words c m j w (a_node n) (λ x. ne (some_pass (sym h.2 ∙ (ap c.lock (sym (node_number x)) ∙ e))))
+    stored (Slot m j) h n e = other_words c m j w (a_node n) (λ x. ne (some_pass_injective (sym h.2 ∙ (ap c.lock (sym (node_number x)) ∙ e))))
 
     lock_then : (n : ℕ) → c.lock n ≡ Some q → (f : Fate) → c.fate (a_node n) ≡ f → IsLockable q f → Linking (a_node n) → is_in_tree (next_fate c.past.now p (is_linked (next_tree c spot w) (a_node n)) f) ≡ is_in_tree f
     lock_then n a (InTree s) f m (stays t g e) = rw e refl
     lock_then n a (InTree s) f m (comes g e) = absurd (let x : InTree s ≡ ReadyBy p = sym f ∙ g in cc)
-    lock_then n a (InTree s) f m (out h e same) = absurd (ne (some_pass (sym (l.goes n s f h) ∙ a)))
+    lock_then n a (InTree s) f m (out h e same) = absurd (ne (some_pass_injective (sym (l.goes n s f h) ∙ a)))
     lock_then n a (UnlinkedBy s e o) f m k = unlinked_stays c.past.now p (is_linked (next_tree c spot w) (a_node n)) s e o
     lock_then n a _ f m k = absurd m
 

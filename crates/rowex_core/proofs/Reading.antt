@@ -25,9 +25,9 @@ use Rattle.record_words.proofs.Packings.{positions_from_parts, same_positions, r
 use Rattle.record_words.proofs.Lawful.{column-lt, row-lt}
 use Rattle.record_words.proofs.Leaves.{key_of_bytes, leaf_words_parts}
 use Rattle.record_words.proofs.Bytes.{key_word-bytes}
-use Rattle.tries.specs.Tree.{Page}
+use Rattle.tries.specs.Tree.{Subtrie}
 use Rattle.tries.specs.Place.{entry_at}
-use Rattle.moments.specs.Heap.{NodeWords, LeafWords}
+use Rattle.versions.specs.Heap.{NodeWords, LeafWords}
 use Rattle.rowex_core.specs.Reading.{entry_of, positions_in, rows_in, fixed_of, entries_of, node_words_of, bytes_in, leaf_of}
 
 -- Entries
@@ -45,7 +45,7 @@ entry_of_word (Some (Node n height)) h =
     let tagged : eqb ((2 ^ 34 * height + 4 * n + 2) % 4) 1 ≡ false = ne_eqb ((2 ^ 34 * height + 4 * n + 2) % 4) 1 (λ z. omega arith) in
     rw (other, tagged) (ap₂ (λ x y. Some (Node x y)) (let x : (2 ^ 34 * height + 4 * n + 2) / 4 % 2 ^ 32 ≡ n = omega arith in x) (let y : (2 ^ 34 * height + 4 * n + 2) / 2 ^ 34 ≡ height = omega arith in y))
 
--- the entry at a place of a page, from the list of its places
+-- the entry at a place of a subtrie, from the list of its places
 low_place : {X : Type 0} (xs ys : List X) (j : ℕ) → j < length xs → slice_get (xs ++ ys) j ≡ slice_get xs j
 low_place [] ys j h = absurd (omega arith)
 low_place (x ∷ xs) ys zero h = refl
@@ -56,11 +56,11 @@ high_place [] ys j h = ap (slice_get ys) (let e : j ≡ j - 0 = omega arith in e
 high_place (x ∷ xs) ys zero h = absurd (omega arith)
 high_place (x ∷ xs) ys (suc j) h = high_place xs ys j (omega arith) ∙ ap (slice_get ys) (let e : j - length xs ≡ suc j - suc (length xs) = omega arith in e)
 
-size_places : (p : Page) → length (places p) ≡ size p
+size_places : (p : Subtrie) → length (places p) ≡ size p
 size_places (Place e) = refl
 size_places (Fork q a b) = length-append (places a) (places b) ∙ ap₂ (λ x y. x + y) (size_places a) (size_places b)
 
-pub place_is : (p : Page) (j : ℕ) → (if nat_lt j (size p) then Some (entry_at p j) else None) ≡ slice_get (places p) j
+pub place_is : (p : Subtrie) (j : ℕ) → (if nat_lt j (size p) then Some (entry_at p j) else None) ≡ slice_get (places p) j
 place_is (Place e) zero = refl
 place_is (Place e) (suc j) = rw (le-ltb (suc j) 1 (omega arith)) refl
 place_is (Fork q a b) j = go (place_is a j) (place_is b (j - size a)) (cases_lt j (size a))
@@ -163,12 +163,12 @@ module _ (view : NodeView) (words : List ℕ) (small : All (λ w. w < 2 ^ 64) wo
       (ap (λ z. unwrap_or z (Leaf 0)) (entry_word_at i (omega arith)) ∙ unwrap_or-slice_get view.entries i (Leaf 0))))
 
   -- the words that a node has are read as that node
-  pub node_is : node_words_of words ≡ record { fixed = record { height = view.height; columns = view.columns; rows = view.rows }; page = piece view }
+  pub node_is : node_words_of words ≡ record { fixed = record { height = view.height; columns = view.columns; rows = view.rows }; subtrie = piece view }
   unfolding node_words_of
   node_is = same_node (numbers.2) columns_are rows_are entries_are
     where
       same_node : {h i : ℕ} {c d r s : List ℕ} {e f : List Entry} → h ≡ i → c ≡ d → r ≡ s → e ≡ f →
-          ◌≡◌ {A = NodeWords} (record { fixed = record { height = h; columns = c; rows = r }; page = piece_of (Leaf 0) c r e }) (record { fixed = record { height = i; columns = d; rows = s }; page = piece_of (Leaf 0) d s f })
+          ◌≡◌ {A = NodeWords} (record { fixed = record { height = h; columns = c; rows = r }; subtrie = piece_of (Leaf 0) c r e }) (record { fixed = record { height = i; columns = d; rows = s }; subtrie = piece_of (Leaf 0) d s f })
       same_node a b c d = rw (a, b, c, d) refl
 
   -- and each entry word is that of the entry at its place, or of none

@@ -5,13 +5,13 @@ use Rattle.rowex_core.specs.Cores.{Core, IsLawful}
 use Rattle.rowex_core.specs.Events.{after}
 use Rattle.rowex_core.specs.Knowing.{Knowing}
 use Rattle.rowex_core.specs.Opening.{opening}
-use Rattle.rowex_core.specs.Runs.{Leads}
+use Rattle.rowex_core.specs.Runs.{EventsLead}
 use Rattle.rowex_core.specs.Statements.{RunsStayLawful, RunsKeep}
 use Rattle.rowex_core.proofs.Keeping.{keeps}
 use Rattle.rowex_core.proofs.Promises.{opening_is_lawful}
 use Rattle.rowex_core.proofs.Staying.{stays_lawful}
 
-stay : (c : Core) (xs : List Event) (d : Core) → IsLawful c → Leads c xs d → IsLawful d
+stay : (c : Core) (xs : List Event) (d : Core) → IsLawful c → EventsLead c xs d → IsLawful d
 stay c [] d law e = subst IsLawful (sym e) law
 stay c (x ∷ xs) d law l = stay (after c x.pass x.act) xs d (stays_lawful c x.pass x.act law l.0) l.1
 

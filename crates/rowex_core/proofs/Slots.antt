@@ -14,16 +14,16 @@ use Rattle.record_words.specs.Entry.{HasEntryWord, entry_word}
 use Rattle.record_words.specs.Node.{HasNodeWords, head_words, entry_words, node_words}
 use Rattle.record_words.proofs.Entries.{length-entry_words, entry_words_at, entry_words_made}
 use Rattle.record_words.proofs.Fixing.{fixed_words_parts}
-use Rattle.tries.specs.Tree.{Page}
+use Rattle.tries.specs.Tree.{Subtrie}
 use Rattle.tries.specs.Place.{with_entry}
-use Rattle.moments.specs.Heap.{NodeWords}
+use Rattle.versions.specs.Heap.{NodeWords}
 use Rattle.rowex_core.specs.Reading.{node_words_of}
 use Rattle.rowex_core.proofs.Reading.{node_is}
 use Rattle.rowex_core.proofs.Published.{entry_small}
 use Rattle.rowex_core.specs.Writers.{SlotIsStored}
 
--- the page with another entry is the piece with it
-pub replaced_entry : (p : Page) (i : ℕ) (e : Entry) → replaced i e p ≡ with_entry p i e
+-- the subtrie with another entry is the piece with it
+pub replaced_entry : (p : Subtrie) (i : ℕ) (e : Entry) → replaced i e p ≡ with_entry p i e
 replaced_entry (Place x) i e = refl
 replaced_entry (Fork q a b) i e = go (nat_lt i (size a)) (replaced_entry a i e) (replaced_entry b (i - size a) e)
   where
@@ -76,12 +76,12 @@ module _ (view : NodeView) (words : List ℕ) (has : HasNodeWords view) (same : 
       (sym (set-append_right (head_words (head_of view)) (entry_words view.entries) 25 (25 + j) (entry_word (Some e)) long (omega arith)) ∙ ap (λ z. set z (25 + j) (entry_word (Some e))) same)
 
   pub stored_node : (small : All (λ w. w < 2 ^ 64) words) → entry_word (Some e) < 2 ^ 64 →
-      node_words_of (set words (25 + j) (entry_word (Some e))) ≡ record { fixed = (node_words_of words).fixed; page = with_entry (node_words_of words).page j e }
+      node_words_of (set words (25 + j) (entry_word (Some e))) ≡ record { fixed = (node_words_of words).fixed; subtrie = with_entry (node_words_of words).subtrie j e }
   stored_node small fits =
       let was = node_is view words small has same in
       let now = node_is stored (set words (25 + j) (entry_word (Some e))) (All-set (λ w. w < 2 ^ 64) words (25 + j) (entry_word (Some e)) fits small) stored_has stored_same in
-      now ∙ sym (ap (λ (z : NodeWords). let s : NodeWords = record { fixed = z.fixed; page = with_entry z.page j e } in s) was ∙
-      ap (λ p. let s : NodeWords = record { fixed = record { height = view.height; columns = view.columns; rows = view.rows }; page = p } in s)
+      now ∙ sym (ap (λ (z : NodeWords). let s : NodeWords = record { fixed = z.fixed; subtrie = with_entry z.subtrie j e } in s) was ∙
+      ap (λ p. let s : NodeWords = record { fixed = record { height = view.height; columns = view.columns; rows = view.rows }; subtrie = p } in s)
       (sym (replaced_entry (piece view) j e) ∙ sym (piece-replaced view has.lawful j e low)))
 
 pub slot_is_stored : SlotIsStored

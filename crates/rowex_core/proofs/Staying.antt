@@ -3,14 +3,14 @@ use Rattle.std.proofs.Common.{◌≡◌, ◌≢◌, ◌⊎◌, inl, inr, ℕ, �
 use Rattle.std.specs.Prelude.{IsSome}
 use Rattle.std.proofs.lemmas.Bool.{eqb-true, cases_Bool, false≢true}
 use Rattle.record_words.specs.State.{state_word}
-use Rattle.moments.specs.declared.Rec.{Rec}
-use Rattle.moments.specs.declared.Rec.TheVariants.{Node as a_node, Leaf as a_leaf}
-use Rattle.moments.specs.declared.Pin.{Pin}
-use Rattle.moments.specs.declared.Round.{Round}
-use Rattle.moments.specs.Core.{Fate, Free, Held, Ready as ReadyBy, InTree, Unlinked, Marked, has_seen}
-use Rattle.moments.specs.Steps.{same_rec, IsLawfulCore, claims, fills, readies, releases, locks_anchor, unlocks_anchor, locks, unlocks, marks, loads_epoch, advances, pins, unpins, loads_pin, gives_back, with_fate, with_lock, with_pin, with_round, unlocked, after_mark}
-use Rattle.moments.proofs.Legal.{same_rec_true}
-use Rattle.moments.proofs.Stepping.{step_lawful}
+use Rattle.versions.specs.declared.Rec.{Rec}
+use Rattle.versions.specs.declared.Rec.TheVariants.{Node as a_node, Leaf as a_leaf}
+use Rattle.versions.specs.declared.Pin.{Pin}
+use Rattle.versions.specs.declared.Round.{Round}
+use Rattle.versions.specs.Core.{Fate, Free, Held, Ready as ReadyBy, InTree, Unlinked, Marked, has_seen}
+use Rattle.versions.specs.Steps.{same_rec, IsLawfulCore, claims, fills, readies, releases, locks_anchor, unlocks_anchor, locks, unlocks, marks, loads_epoch, advances, pins, unpins, loads_pin, gives_back, with_fate, with_lock, with_pin, with_round, unlocked, after_mark}
+use Rattle.versions.proofs.Legal.{same_rec_true}
+use Rattle.versions.proofs.Stepping.{step_lawful}
 use Rattle.rowex_core.specs.declared.event.Act.{Act}
 use Rattle.rowex_core.specs.declared.event.Act.TheVariants.{Claim, Fill, Ready, Release, LoadRef, LoadFixed, Lock, Unlock, Publish, Mark, LoadEpoch, Advance, SetPin, ClearPin, LoadPin, LoadState, GiveBack}
 use Rattle.rowex_core.specs.declared.event.Target.TheVariants.{Anchor, Node as NodeTarget}
@@ -91,7 +91,7 @@ give_back_stays c q r epoch (Marked s l m) law has e low seen = go (cases_Bool (
     go (inr x) = rw x law
 
 mark_stays : (c : Core) (q : ℕ) (r : Rec) (epoch since last : ℕ) → IsLawful c → HasRecord c.layout r → epoch ≡ (c.rounds q).epoch → c.fate r ≡ Unlinked since last q →
-    last < (c.rounds q).moment → IsLawful (record c { shared = after_mark c.shared r since last epoch })
+    last < (c.rounds q).version → IsLawful (record c { shared = after_mark c.shared r since last epoch })
 mark_stays c q r epoch since last law has same e late = record {
   core = subst (λ z. IsLawfulCore (bare (record c { shared = after_mark c.shared r since last z }))) (sym same) (step_lawful (bare c) q _ law.core (marks r since last e late));
   records = record {
@@ -212,7 +212,7 @@ pin_stays c q o law core new = record {
   makers = law.makers;
 }
 
-round_stays : (c : Core) (q : ℕ) (o : Round) → IsLawful c → IsLawfulCore (bare (record c { shared = with_round c.shared q o })) → (o.moment ≡ 0) ⊎ (1 ≤ o.epoch) → IsLawful (record c { shared = with_round c.shared q o })
+round_stays : (c : Core) (q : ℕ) (o : Round) → IsLawful c → IsLawfulCore (bare (record c { shared = with_round c.shared q o })) → (o.version ≡ 0) ⊎ (1 ≤ o.epoch) → IsLawful (record c { shared = with_round c.shared q o })
 round_stays c q o law core new = record {
   core = core;
   records = law.records;
@@ -222,7 +222,7 @@ round_stays c q o law core new = record {
   makers = law.makers;
 }
   where
-    go : (i : ℕ) → ((eqb i q ≡ true) ⊎ (eqb i q ≡ false)) → ((if nat_eq i q then o else c.rounds i).moment ≡ 0) ⊎ (1 ≤ (if nat_eq i q then o else c.rounds i).epoch)
+    go : (i : ℕ) → ((eqb i q ≡ true) ⊎ (eqb i q ≡ false)) → ((if nat_eq i q then o else c.rounds i).version ≡ 0) ⊎ (1 ≤ (if nat_eq i q then o else c.rounds i).epoch)
     go i (inl e) = rw e new
     go i (inr e) = rw e (law.epochs.loads i)
 
@@ -266,8 +266,8 @@ stays_lawful c q (Mark r epoch) law (a, b) = subst (λ f. IsLawful (record c { s
 stays_lawful c q (LoadEpoch w) law l = round_stays c q _ law (step_lawful (bare c) q _ law.core loads_epoch) (inr law.epochs.now.0)
 stays_lawful c q (Advance expected found) law (a, b) = advance_stays c q expected law b.1
 stays_lawful c q (SetPin w) law (a, b) =
-    subst (λ z. IsLawful (record c { shared = with_pin c.shared q (Some (record { word = z; moment = c.past.now; floor = c.epoch })) })) (sym b.1)
-    (pin_stays c q _ law (step_lawful (bare c) q _ law.core (pins b.0)) (λ p e. (a, subst (λ (z : Pin). 1 ≤ z.word) (let x : (record { word = (c.rounds q).epoch; moment = c.past.now; floor = c.epoch }) ≡ p = cc in x) (let y = b.1 in let z = b.2 in omega arith))))
+    subst (λ z. IsLawful (record c { shared = with_pin c.shared q (Some (record { word = z; version = c.past.now; floor = c.epoch })) })) (sym b.1)
+    (pin_stays c q _ law (step_lawful (bare c) q _ law.core (pins b.0)) (λ p e. (a, subst (λ (z : Pin). 1 ≤ z.word) (let x : (record { word = (c.rounds q).epoch; version = c.past.now; floor = c.epoch }) ≡ p = cc in x) (let y = b.1 in let z = b.2 in omega arith))))
 stays_lawful c q ClearPin law (a, b) = go (c.pins q) refl b
   where
     go : (o : Option Pin) → c.pins q ≡ o → IsSome o → IsLawful (record c { shared = with_pin c.shared q None })

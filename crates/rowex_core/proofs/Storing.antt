@@ -1,4 +1,4 @@
--- An entry stored to a node leaves its fixed words, and all of its page but one entry.
+-- An entry stored to a node leaves its fixed words, and all of its subtrie but one entry.
 use Rattle.std.proofs.Common.{◌≡◌, ◌⊎◌, inl, inr, ⊎_elim, ℕ, zero, suc, ◌+◌, ◌-◌, ◌^◌, ◌%◌, ◌<◌, ◌≤◌, List, [], ◌∷◌, length, set, take, drop, map, get_or, true, false, nat_eq, eqb, if◌then◌else◌, refl, sym, ap, ◌∙◌, arith}
 use Rattle.std.specs.Option.{unwrap_or}
 use Rattle.std.proofs.lemmas.Bool.{cases_Bool, cases_lt}
@@ -10,11 +10,11 @@ use Rattle.partial_keys.specs.Shown.{shown}
 use Rattle.pieces.specs.Positions.{front_below}
 use Rattle.pieces.specs.Piece.{Fork}
 use Rattle.tries.specs.Place.{Swap, swap, in_zero, in_one}
-use Rattle.moments.specs.declared.Rec.TheVariants.{Node as a_node}
-use Rattle.moments.specs.Heap.{IsNear}
-use Rattle.moments.specs.Steps.{same_rec}
-use Rattle.moments.proofs.Heaps.{near_refl}
-use Rattle.moments.proofs.Legal.{same_rec_true}
+use Rattle.versions.specs.declared.Rec.TheVariants.{Node as a_node}
+use Rattle.versions.specs.Heap.{IsNear}
+use Rattle.versions.specs.Steps.{same_rec}
+use Rattle.versions.proofs.Heaps.{near_refl}
+use Rattle.versions.proofs.Legal.{same_rec_true}
 use Rattle.rowex_core.specs.declared.event.Spot.{Spot}
 use Rattle.rowex_core.specs.declared.event.Spot.TheVariants.{Root, Slot}
 use Rattle.rowex_core.specs.Reading.{node_words_of, fixed_of, entries_of, entry_of}
@@ -55,9 +55,9 @@ fixed_stays : (words : List ℕ) (j w : ℕ) → (node_words_of words).fixed ≡
 unfolding node_words_of
 fixed_stays words j w = ap fixed_of (sym (take-set-le 25 words (26 + j - 1) w (omega arith)))
 
-page_stays : (words : List ℕ) (j w : ℕ) → ((node_words_of words).page ≡ (node_words_of (set words (26 + j - 1) w)).page) ⊎ Swap (node_words_of words).page (node_words_of (set words (26 + j - 1) w)).page
+subtrie_stays : (words : List ℕ) (j w : ℕ) → ((node_words_of words).subtrie ≡ (node_words_of (set words (26 + j - 1) w)).subtrie) ⊎ Swap (node_words_of words).subtrie (node_words_of (set words (26 + j - 1) w)).subtrie
 unfolding node_words_of
-page_stays words j w =
+subtrie_stays words j w =
     let at : take 25 (set words (26 + j - 1) w) ≡ take 25 words = take-set-le 25 words (26 + j - 1) w (omega arith) in
     let behind : drop 25 (set words (26 + j - 1) w) ≡ set (drop 25 words) j w = ap (λ z. drop 25 (set words z w)) (let v : 26 + j - 1 ≡ 25 + j = omega arith in v) ∙ drop-set-add 25 words j w in
     rw (at, behind)
@@ -66,7 +66,7 @@ page_stays words j w =
 
 pub near_store : (c : Core) (spot : Spot) (w : ℕ) → IsNear (heap_of c.words) (heap_of (stored_words c spot w))
 near_store c Root w = near_refl (heap_of c.words)
-near_store c (Slot n j) w = (λ i. refl, λ i. fixed i (cases_Bool (same_rec (a_node i) (a_node n))), λ i. pages i (cases_Bool (same_rec (a_node i) (a_node n))))
+near_store c (Slot n j) w = (λ i. refl, λ i. fixed i (cases_Bool (same_rec (a_node i) (a_node n))), λ i. subtries i (cases_Bool (same_rec (a_node i) (a_node n))))
   where
     fixed : (i : ℕ) → ((same_rec (a_node i) (a_node n) ≡ true) ⊎ (same_rec (a_node i) (a_node n) ≡ false)) → (node_words_of (c.words (a_node i))).fixed ≡ (node_words_of (stored_words c (Slot n j) w (a_node i))).fixed
     fixed i (inr e) = rw e refl
@@ -75,7 +75,7 @@ near_store c (Slot n j) w = (λ i. refl, λ i. fixed i (cases_Bool (same_rec (a_
         same : (i : ℕ) → a_node i ≡ a_node n → (node_words_of (c.words (a_node i))).fixed ≡ (node_words_of (set (c.words (a_node n)) (26 + j - 1) w)).fixed
         same i e = ap (λ z. (node_words_of (c.words z)).fixed) e ∙ fixed_stays (c.words (a_node n)) j w
 
-    pages : (i : ℕ) → ((same_rec (a_node i) (a_node n) ≡ true) ⊎ (same_rec (a_node i) (a_node n) ≡ false)) →
-        ((node_words_of (c.words (a_node i))).page ≡ (node_words_of (stored_words c (Slot n j) w (a_node i))).page) ⊎ Swap (node_words_of (c.words (a_node i))).page (node_words_of (stored_words c (Slot n j) w (a_node i))).page
-    pages i (inr e) = rw e (inl refl)
-    pages i (inl e) = rw (e, same_rec_true (a_node i) (a_node n) e) (page_stays (c.words (a_node n)) j w)
+    subtries : (i : ℕ) → ((same_rec (a_node i) (a_node n) ≡ true) ⊎ (same_rec (a_node i) (a_node n) ≡ false)) →
+        ((node_words_of (c.words (a_node i))).subtrie ≡ (node_words_of (stored_words c (Slot n j) w (a_node i))).subtrie) ⊎ Swap (node_words_of (c.words (a_node i))).subtrie (node_words_of (stored_words c (Slot n j) w (a_node i))).subtrie
+    subtries i (inr e) = rw e (inl refl)
+    subtries i (inl e) = rw (e, same_rec_true (a_node i) (a_node n) e) (subtrie_stays (c.words (a_node n)) j w)

@@ -10,13 +10,13 @@ use Rattle.record_words.specs.Layout.{address, word_count, IsInTable}
 use Rattle.record_words.specs.State.{state_word}
 use Rattle.record_words.specs.Entry.{entry_word}
 use Rattle.record_words.proofs.Locations.{size_fits, address-below, same_location}
-use Rattle.moments.specs.declared.Rec.{Rec}
-use Rattle.moments.specs.declared.Rec.TheVariants.{Node as a_node, Leaf as a_leaf}
-use Rattle.moments.specs.declared.Pin.{Pin}
-use Rattle.moments.specs.declared.Round.{Round}
-use Rattle.moments.specs.Core.{Fate, Free, Held, Ready as ReadyBy, InTree, Unlinked, Marked}
-use Rattle.moments.specs.Steps.{same_rec, is_linked, next_fate, IsLockable, with_fate, with_lock, with_pin, with_round, with_anchor, with_epoch, after_mark}
-use Rattle.moments.proofs.Legal.{same_rec_refl, same_rec_true}
+use Rattle.versions.specs.declared.Rec.{Rec}
+use Rattle.versions.specs.declared.Rec.TheVariants.{Node as a_node, Leaf as a_leaf}
+use Rattle.versions.specs.declared.Pin.{Pin}
+use Rattle.versions.specs.declared.Round.{Round}
+use Rattle.versions.specs.Core.{Fate, Free, Held, Ready as ReadyBy, InTree, Unlinked, Marked}
+use Rattle.versions.specs.Steps.{same_rec, is_linked, next_fate, IsLockable, with_fate, with_lock, with_pin, with_round, with_anchor, with_epoch, after_mark}
+use Rattle.versions.proofs.Legal.{same_rec_refl, same_rec_true}
 use Rattle.rowex_core.specs.declared.event.Act.{Act}
 use Rattle.rowex_core.specs.declared.event.Act.TheVariants.{Claim, Fill, Ready, Release, LoadRef, LoadFixed, Lock, Unlock, Publish, Mark, LoadEpoch, Advance, SetPin, ClearPin, LoadPin, LoadState, GiveBack}
 use Rattle.rowex_core.specs.declared.event.Target.TheVariants.{Anchor, Node as NodeTarget}

@@ -1,17 +1,17 @@
--- The state of the shared words and of all moments so far.
+-- The state of the shared words and of all versions so far.
 use Rattle.std.specs.Prelude.{◌≡◌, ◌⊎◌, ℕ, ◌+◌, ◌<◌, ◌≤◌, ◌^◌, List, length, get_or, All, Option, Some}
 use Rattle.record_words.specs.declared.TheConstants.{EPOCHS, NODE_WORDS, NODE_FIELDS, LEAF_FIELDS}
 use Rattle.record_words.specs.declared.layout.Layout.{Layout}
-use Rattle.moments.specs.declared.Rec.{Rec}
-use Rattle.moments.specs.declared.Rec.TheVariants.{Node as a_node, Leaf as a_leaf}
-use Rattle.moments.specs.declared.Pin.{Pin}
-use Rattle.moments.specs.declared.Round.{Round}
-use Rattle.moments.specs.Heap.{Heap}
-use Rattle.moments.specs.Steps.{IsLawfulCore}
+use Rattle.versions.specs.declared.Rec.{Rec}
+use Rattle.versions.specs.declared.Rec.TheVariants.{Node as a_node, Leaf as a_leaf}
+use Rattle.versions.specs.declared.Pin.{Pin}
+use Rattle.versions.specs.declared.Round.{Round}
+use Rattle.versions.specs.Heap.{Heap}
+use Rattle.versions.specs.Steps.{IsLawfulCore}
 use Rattle.record_words.specs.Entry.{HasEntryWord}
 use Rattle.record_words.specs.Layout.{leaf_size}
 use Rattle.record_words.specs.Leaf.{words_for}
-use Rattle.moments.specs.Core.{BareCore as Moments, Shared, Fate, Free, Held, Unlinked, Marked}
+use Rattle.versions.specs.Core.{BareCore as Versions, Shared, Fate, Free, Held, Unlinked, Marked}
 use Rattle.rowex_core.specs.Reading.{node_words_of, leaf_of, IsPacked}
 
 -- The words of each record but its state, and all else that passes share.
@@ -26,7 +26,7 @@ abbrev pub heap_of : (Rec → List ℕ) → Heap
 heap_of words = record { nodes = λ n. node_words_of (words (a_node n)); leaves = λ n. leaf_of (words (a_leaf n)) }
 
 -- the core with what its words say in the place of the words
-abbrev pub bare : Core → Moments
+abbrev pub bare : Core → Versions
 bare c = record { heap = heap_of c.words; shared = c.shared }
 
 abbrev pub HasRecord : Layout → Rec → Type 0
@@ -82,7 +82,7 @@ pub record AreRecords (layout : Layout) (words : Rec → List ℕ) (fate : Rec �
 -- What holds of the epochs: they are from 1 on and below EPOCHS, and so are pins and marks; only passes of the index are pinned.
 pub record AreEpochs (layout : Layout) (epoch : ℕ) (pins : ℕ → Option Pin) (rounds : ℕ → Round) (fate : Rec → Fate) : Type 0 where
   pub now : (1 ≤ epoch) × (epoch < EPOCHS)
-  pub loads : (q : ℕ) → ((rounds q).moment ≡ 0) ⊎ (1 ≤ (rounds q).epoch)
+  pub loads : (q : ℕ) → ((rounds q).version ≡ 0) ⊎ (1 ≤ (rounds q).epoch)
   pub pinned : (q : ℕ) (p : Pin) → pins q ≡ Some p → (q < layout.passes) × (1 ≤ p.word)
   pub marked : (r : Rec) (since last epoch : ℕ) → fate r ≡ Marked since last epoch → (1 ≤ epoch) × (epoch < EPOCHS)
 
@@ -93,7 +93,7 @@ pub record AreLockers (layout : Layout) (anchor : Option ℕ) (lock : ℕ → Op
 
 -- The whole core is lawful.
 pub record IsLawful (c : Core) : Type 0 where
-  -- moments, lives, paces and locks; the content of each moment is the map of the changes before it
+  -- versions, lives, paces and locks; the content of each version is the map of the changes before it
   pub core : IsLawfulCore (bare c)
   pub records : AreRecords c.layout c.words c.fate c.lock
   pub epochs : AreEpochs c.layout c.epoch c.pins c.rounds c.fate

@@ -14,14 +14,14 @@ use Rattle.record_words.specs.declared.layout.Location.{Location}
 use Rattle.record_words.specs.declared.layout.Location.TheVariants.{Epoch, Root as RootWord, Anchor as AnchorWord, Pin as PinOf, NodeWord, LeafWord}
 use Rattle.tries.specs.Tree.{Tree}
 use Rattle.tries.specs.Content.{Item, IsIn}
-use Rattle.moments.specs.Told.{items_of, added_change, replaced_change, removed_change}
-use Rattle.moments.specs.declared.Rec.{Rec}
-use Rattle.moments.specs.declared.Rec.TheVariants.{Node as a_node, Leaf as a_leaf}
-use Rattle.moments.specs.Heap.{Heap}
-use Rattle.moments.specs.Read.{read}
+use Rattle.versions.specs.Told.{items_of, added_change, replaced_change, removed_change}
+use Rattle.versions.specs.declared.Rec.{Rec}
+use Rattle.versions.specs.declared.Rec.TheVariants.{Node as a_node, Leaf as a_leaf}
+use Rattle.versions.specs.Heap.{Heap}
+use Rattle.versions.specs.Read.{read}
 use Rattle.compound_node.specs.Nodes.{height_of}
-use Rattle.moments.specs.Core.{Shared, Fate, Free, Held, Ready as ReadyBy, InTree, Unlinked, Marked, has_seen}
-use Rattle.moments.specs.Steps.{same_rec, IsNextMoment, with_fate, with_anchor, with_lock, after_mark, with_epoch, with_pin, after_set_pin, after_load_epoch, after_load_pin, published_by}
+use Rattle.versions.specs.Core.{Shared, Fate, Free, Held, Ready as ReadyBy, InTree, Unlinked, Marked, has_seen}
+use Rattle.versions.specs.Steps.{same_rec, IsNextVersion, with_fate, with_anchor, with_lock, after_mark, with_epoch, with_pin, after_set_pin, after_load_epoch, after_load_pin, published_by}
 use Rattle.rowex_core.specs.declared.event.Act.{Act}
 use Rattle.rowex_core.specs.declared.event.Act.TheVariants.{Claim, Fill, Ready, Release, LoadRef, LoadFixed, Lock, Unlock, Publish, Mark, LoadEpoch, Advance, SetPin, ClearPin, LoadPin, LoadState, GiveBack}
 use Rattle.rowex_core.specs.declared.event.Target.{Target}
@@ -75,7 +75,7 @@ abbrev pub next_tree : Core → Spot → ℕ → Option Tree
 next_tree c spot w = tree_of (heap_of (stored_words c spot w)) (stored_root c spot w)
 
 abbrev pub next_change : Core → ℕ → Spot → ℕ → Change
-next_change c q spot w = change_between q (items_of (c.past.moment c.past.now)) (items_of (next_tree c spot w))
+next_change c q spot w = change_between q (items_of (c.past.version c.past.now)) (items_of (next_tree c spot w))
 
 -- Legality
 
@@ -103,12 +103,12 @@ IsPackedAt c Root w = Unit {0}
 IsPackedAt c (Slot n j) w = IsPacked (a_node n) (stored_words c (Slot n j) w (a_node n))
 
 -- The publish is legal: the pass has the lock, the word spells an entry, the node that is stored to has words that spell a value
--- then too, and the words show the next moment.
+-- then too, and the words show the next version.
 pub record IsLegalPublish (c : Core) (q : ℕ) (spot : Spot) (w : ℕ) : Type 0 where
   pub locked : IsLockedAt c q spot
   pub entry : HasEntryWord (entry_of w) × (entry_word (entry_of w) ≡ w)
   pub packed : IsPackedAt c spot w
-  pub next : IsNextMoment c.shared q (heap_of (stored_words c spot w)) (stored_root c spot w) (next_tree c spot w) (next_change c q spot w)
+  pub next : IsNextVersion c.shared q (heap_of (stored_words c spot w)) (stored_root c spot w) (next_tree c spot w) (next_change c q spot w)
   pub open next use *
 
 abbrev pub LegalAct : Core → ℕ → Act → Type 0
@@ -125,7 +125,7 @@ LegalAct c q (Unlock Anchor) = c.anchor ≡ Some q
 LegalAct c q (Unlock (NodeTarget n)) = (n < c.layout.nodes) × (c.lock n ≡ Some q) × IsInTree c n
 LegalAct c q (Publish spot w) = IsLegalPublish c q spot w
 LegalAct c q (Mark r epoch) =
-    HasRecord c.layout r × (epoch ≡ (c.rounds q).epoch) × ((since : ℕ) × (last : ℕ) × (c.fate r ≡ Unlinked since last q) × (last < (c.rounds q).moment))
+    HasRecord c.layout r × (epoch ≡ (c.rounds q).epoch) × ((since : ℕ) × (last : ℕ) × (c.fate r ≡ Unlinked since last q) × (last < (c.rounds q).version))
 LegalAct c q (LoadEpoch w) = w ≡ c.epoch
 LegalAct c q (Advance expected found) = (1 ≤ expected) × (expected + 1 < EPOCHS) × (found ≡ c.epoch)
 LegalAct c q (SetPin w) = (c.pins q ≡ None) × (w ≡ (c.rounds q).epoch) × (1 ≤ w)

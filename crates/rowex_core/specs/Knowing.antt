@@ -10,12 +10,12 @@ use Rattle.record_words.specs.declared.layout.Layout.{Layout}
 use Rattle.record_words.specs.declared.state.Tag.TheVariants.{Live, Free as FreeTag}
 use Rattle.record_words.specs.State.{state_word}
 use Rattle.tries.specs.Tree.{Tree, node, leaf, fork}
-use Rattle.moments.specs.declared.Rec.{Rec}
-use Rattle.moments.specs.declared.Rec.TheVariants.{Node as a_node, Leaf as a_leaf}
-use Rattle.moments.specs.declared.Pin.{Pin}
-use Rattle.moments.specs.State.{Past, Stands}
-use Rattle.moments.specs.Core.{Fate, Free, InTree, Marked}
-use Rattle.moments.specs.Steps.{same_rec, is_linked, begun_round, with_seen}
+use Rattle.versions.specs.declared.Rec.{Rec}
+use Rattle.versions.specs.declared.Rec.TheVariants.{Node as a_node, Leaf as a_leaf}
+use Rattle.versions.specs.declared.Pin.{Pin}
+use Rattle.versions.specs.State.{Past, Stands}
+use Rattle.versions.specs.Core.{Fate, Free, InTree, Marked}
+use Rattle.versions.specs.Steps.{same_rec, is_linked, begun_round, with_seen}
 use Rattle.rowex_core.specs.declared.event.Act.{Act}
 use Rattle.rowex_core.specs.declared.event.Act.TheVariants.{Claim, Fill, Ready, Release, LoadRef, LoadFixed, Lock, Unlock, Publish, Mark, LoadEpoch, Advance, SetPin, ClearPin, LoadPin, LoadState, GiveBack}
 use Rattle.rowex_core.specs.declared.event.Target.{Target}
@@ -40,9 +40,9 @@ use Rattle.rowex_core.specs.Sharing.{share, known_share, nothing}
 use Rattle.rowex_core.specs.Words.{record_word}
 use Rattle.rowex_core.specs.Events.{Legal, stored_words, stored_root, next_change, next_tree, state_of, target_word}
 
--- Facts of past moments
+-- Facts of past versions
 
--- the record stood in the tree at some moment from `since` to `at`
+-- the record stood in the tree in some version from `since` to `at`
 abbrev pub StoodBetween : Past → ℕ → ℕ → Rec → Type 0
 StoodBetween s since at r = (n : ℕ) × (u : Tree) × (since ≤ n) × (n ≤ at) × Stands s n r u
 
@@ -50,12 +50,12 @@ StoodBetween s since at r = (n : ℕ) × (u : Tree) × (since ≤ n) × (n ≤ a
 abbrev pub StoodAs : Past → ℕ → ℕ → Rec → (Tree → Type 0) → Type 0
 StoodAs s since at r P = (n : ℕ) × (u : Tree) × (since ≤ n) × (n ≤ at) × Stands s n r u × P u
 
--- whichever moment since `since` we begin at, if the record stood from then to `at`, it stood so as a tree of which P holds
+-- whichever version since `since` we begin at, if the record stood from then to `at`, it stood so as a tree of which P holds
 abbrev pub HoldsIfStood : Past → ℕ → ℕ → Rec → (Tree → Type 0) → Type 0
 HoldsIfStood s since at r P = (m : ℕ) → since ≤ m → StoodBetween s m at r → StoodAs s m at r P
 
 abbrev pub IsFact : Past → Fact → Type 0
-IsFact s (Rooted since at e) = (since ≤ at) × (at ≤ s.now) × (root_of (s.moment at) ≡ e)
+IsFact s (Rooted since at e) = (since ≤ at) × (at ≤ s.now) × (root_of (s.version at) ≡ e)
 IsFact s (Placed since at n j e) = (at ≤ s.now) × HoldsIfStood s since at (a_node n) (λ u. entry_in u j ≡ e)
 IsFact s (Fixed since at r offset w) = (at ≤ s.now) × HoldsIfStood s since at r (λ u. word_in u offset ≡ w)
 
@@ -85,9 +85,9 @@ pub record Recalls (c : Core) (k : Known) : Type 0 where
   pub facts : All (IsFact c.past) k.facts
   pub pin : c.pins k.pass ≡ k.pin
 
--- the pass has been pinned since moment m or longer
-abbrev pub IsSince : Known → ℕ → Type 0
-IsSince k m = (p : Pin) × (k.pin ≡ Some p) × (p.moment ≤ m)
+-- the pass has been pinned since version m or longer
+abbrev pub IsPinnedSince : Known → ℕ → Type 0
+IsPinnedSince k m = (p : Pin) × (k.pin ≡ Some p) × (p.version ≤ m)
 
 abbrev pub NoChangeBy : ℕ → List Change → Type 0
 NoChangeBy q changes = All (λ x. x.pass ≢ q) changes
@@ -119,16 +119,16 @@ IsViewOf (Follower k front) q = k.pass ≡ q
 -- a load teaches a pinned pass a fact
 abbrev pub facts_with : Option Pin → (ℕ → Fact) → List Fact → List Fact
 facts_with None f facts = facts
-facts_with (Some p) f facts = f p.moment ∷ facts
+facts_with (Some p) f facts = f p.version ∷ facts
 
 abbrev pub failed_with : Known → FailedAct → Location → ℕ → Known
 failed_with k act location w = record k { failed = record { act = act; location = location; word = w; step = k.steps } ∷ k.failed }
 
-abbrev pub hold_as : Rec → Holding → Owned → Owned
-hold_as r h o = if same_rec o.rec r then record o { holding = h } else o
+abbrev pub with_holding : Rec → Holding → Owned → Owned
+with_holding r h o = if same_rec o.rec r then record o { holding = h } else o
 
-abbrev pub fill_in : Rec → ℕ → ℕ → Owned → Owned
-fill_in r offset w o = if same_rec o.rec r then record o { words = set o.words (offset - 1) w } else o
+abbrev pub with_filled_word : Rec → ℕ → ℕ → Owned → Owned
+with_filled_word r offset w o = if same_rec o.rec r then record o { words = set o.words (offset - 1) w } else o
 
 abbrev pub without_record : Rec → List Owned → List Owned
 without_record r own = filter (λ o. not (same_rec o.rec r)) own
@@ -146,14 +146,14 @@ maker_of None = None
 maker_of (Some x) = Some x.pass
 
 -- the pass that has locked a node of this fate; or whose change unlinked it, where it is retired
-abbrev pub taker_of : Core → ℕ → Fate → Option ℕ
-taker_of c n (Marked since last epoch) = maker_of (slice_get c.changes last)
-taker_of c n f = c.lock n
+abbrev pub blocking_pass_of : Core → ℕ → Fate → Option ℕ
+blocking_pass_of c n (Marked since last epoch) = maker_of (slice_get c.changes last)
+blocking_pass_of c n f = c.lock n
 
 -- the pass that stands in the way of a lock, if one does
-abbrev pub taker_at : Core → Target → Option ℕ
-taker_at c Anchor = c.anchor
-taker_at c (NodeTarget n) = taker_of c n (c.fate (a_node n))
+abbrev pub blocking_pass_at : Core → Target → Option ℕ
+blocking_pass_at c Anchor = c.anchor
+blocking_pass_at c (NodeTarget n) = blocking_pass_of c n (c.fate (a_node n))
 
 abbrev pub anchor_learned : Core → ℕ → Option ℕ → Known → Known
 anchor_learned c found None k = record k { anchor = Some c.root }
@@ -162,21 +162,21 @@ anchor_learned c found (Some q) k = failed_with k (a_lock (Some q)) (target_word
 abbrev pub node_learned : Core → ℕ → ℕ → Known → Known
 node_learned c n found k =
     if nat_eq found (state_word Live) then record k { locks = record { node = n; words = c.words (a_node n) } ∷ k.locks }
-    else failed_with k (a_lock (taker_of c n (c.fate (a_node n)))) (target_word (NodeTarget n)) found
+    else failed_with k (a_lock (blocking_pass_of c n (c.fate (a_node n)))) (target_word (NodeTarget n)) found
 
 -- a load finds the record not free
 abbrev pub state_learned : Rec → ℕ → Known → Known
 state_learned r w k = if nat_eq w (state_word FreeTag) then k else failed_with k a_load (state_of r) w
 
--- the moment of a pin
-abbrev pub moment_of : Option Pin → ℕ
-moment_of None = 0
-moment_of (Some p) = p.moment
+-- the version of a pin
+abbrev pub version_of : Option Pin → ℕ
+version_of None = 0
+version_of (Some p) = p.version
 
 abbrev pub entry_learned : Core → Spot → Known → Known
 entry_learned c Root k = record k {
   front = c.changes;
-  fresh = record { front = c.changes; step = k.steps; pinned = moment_of k.pin };
+  fresh = record { front = c.changes; step = k.steps; pinned = version_of k.pin };
   facts = facts_with k.pin (λ since. Rooted since c.past.now c.root) k.facts;
 }
 entry_learned c (Slot n j) k = record k {
@@ -195,22 +195,22 @@ records_in None = []
 records_in (Some t) = records_of t
 
 -- a record that the pass unlinks is its own until it is marked
-abbrev pub unlinked_as : Core → Rec → Fate → Owned
-unlinked_as c r (InTree since) = record { rec = r; holding = Unlinked since c.past.now; words = c.words r }
-unlinked_as c r _ = record { rec = r; holding = Unlinked 0 0; words = c.words r }
+abbrev pub owned_unlinked : Core → Rec → Fate → Owned
+owned_unlinked c r (InTree since) = record { rec = r; holding = Unlinked since c.past.now; words = c.words r }
+owned_unlinked c r _ = record { rec = r; holding = Unlinked 0 0; words = c.words r }
 
 -- the pass's own records after a publish of the tree t: those that it links have gone, and those that it unlinks have come
 abbrev pub own_after : Core → Option Tree → List Owned → List Owned
 own_after c t own =
-    map (λ r. unlinked_as c r (c.fate r)) (filter (λ r. not (is_linked t r)) (records_in (c.past.moment c.past.now))) ++
+    map (λ r. owned_unlinked c r (c.fate r)) (filter (λ r. not (is_linked t r)) (records_in (c.past.version c.past.now))) ++
     filter (λ o. not (is_linked t o.rec)) own
 
-abbrev pub relocked : (Rec → List ℕ) → Locked → Locked
-relocked words l = record l { words = words (a_node l.node) }
+abbrev pub locked_with_words : (Rec → List ℕ) → Locked → Locked
+locked_with_words words l = record l { words = words (a_node l.node) }
 
 -- the nodes in the tree t that the pass has locked, where these are the words then
 abbrev pub locks_after : (Rec → List ℕ) → Option Tree → List Locked → List Locked
-locks_after words t locks = map (λ l. relocked words l) (filter (λ l. is_linked t (a_node l.node)) locks)
+locks_after words t locks = map (λ l. locked_with_words words l) (filter (λ l. is_linked t (a_node l.node)) locks)
 
 abbrev pub anchor_after : Spot → Option Entry → Option (Option Entry) → Option (Option Entry)
 anchor_after Root root anchor = Some root
@@ -226,8 +226,8 @@ publish_learned c spot w k = record k {
 
 abbrev pub learned_by : Core → Act → Known → Known
 learned_by c (Claim r found) k = claim_learned c r found (c.fate r) k
-learned_by c (Fill r offset w) k = record k { own = map (fill_in r offset w) k.own }
-learned_by c (Ready r) k = record k { own = map (hold_as r IsReady) k.own }
+learned_by c (Fill r offset w) k = record k { own = map (with_filled_word r offset w) k.own }
+learned_by c (Ready r) k = record k { own = map (with_holding r IsReady) k.own }
 learned_by c (Release r) k = record k { own = without_record r k.own }
 learned_by c (LoadRef spot w) k = entry_learned c spot k
 learned_by c (LoadFixed r offset w) k = record k { front = c.changes; facts = facts_with k.pin (λ since. Fixed since c.past.now r offset w) k.facts }
@@ -239,7 +239,7 @@ learned_by c (Publish spot w) k = publish_learned c spot w k
 learned_by c (Mark r epoch) k = record k { own = without_record r k.own }
 learned_by c (LoadEpoch w) k = record k { round = begun_round c.epoch c.past.now }
 learned_by c (Advance expected found) k = k
-learned_by c (SetPin w) k = record k { pin = Some (record { word = w; moment = c.past.now; floor = c.epoch }) }
+learned_by c (SetPin w) k = record k { pin = Some (record { word = w; version = c.past.now; floor = c.epoch }) }
 learned_by c ClearPin k = record k { pin = None }
 learned_by c (LoadPin o w) k = record k { round = with_seen k.round o (c.pins o) }
 learned_by c (LoadState r w) k = state_learned r w k
@@ -269,5 +269,5 @@ pub record SeesAllAtRoot (layout : Layout) (k j : Known) : Type 0 where
   pub pass : at.pass ≡ k.pass
   pub since : k.steps ≤ at.steps
   pub until : at.steps < j.steps
-  pub fresh : j.fresh ≡ record { front = core.changes; step = at.steps; pinned = moment_of at.pin }
+  pub fresh : j.fresh ≡ record { front = core.changes; step = at.steps; pinned = version_of at.pin }
   pub all : (o : Known) → Knows core o → BeginsWith j.fresh.front o.front

@@ -5,7 +5,7 @@ use Rattle.record_words.specs.declared.layout.Layout.{Layout}
 use Rattle.record_words.specs.declared.state.Tag.TheVariants.{Live}
 use Rattle.record_words.specs.Layout.{word_count}
 use Rattle.record_words.specs.State.{state_word}
-use Rattle.moments.specs.Steps.{at_first}
+use Rattle.versions.specs.Steps.{at_first}
 use Rattle.rowex_core.specs.Cores.{Core, word_count_of}
 
 -- No pass has made a step: the index is empty, and all words of records are 0.

@@ -14,11 +14,11 @@ use Rattle.record_words.specs.Packed.{fixed_words}
 use Rattle.record_words.specs.Entry.{entry_word}
 use Rattle.record_words.specs.Node.{HasNodeWords, node_words}
 use Rattle.record_words.specs.Leaf.{HasLeafWords, leaf_words}
-use Rattle.tries.specs.Tree.{Tree, leaf, node, fork, page, Fixed}
+use Rattle.tries.specs.Tree.{Tree, leaf, node, fork, subtrie, Fixed}
 use Rattle.tries.specs.Place.{entry_at}
-use Rattle.moments.specs.declared.Rec.{Rec}
-use Rattle.moments.specs.declared.Rec.TheVariants.{Node as a_node, Leaf as a_leaf}
-use Rattle.moments.specs.Heap.{NodeWords, LeafWords}
+use Rattle.versions.specs.declared.Rec.{Rec}
+use Rattle.versions.specs.declared.Rec.TheVariants.{Node as a_node, Leaf as a_leaf}
+use Rattle.versions.specs.Heap.{NodeWords, LeafWords}
 
 -- ---- reading words, whatever they are; of words that spell a value these are its parts
 
@@ -47,7 +47,7 @@ entries_of count tail = take count (map (λ w. unwrap_or (entry_of w) (Leaf 0)) 
 abbrev pub node_words_from : List ℕ → List ℕ → NodeWords
 node_words_from head tail = record {
   fixed = fixed_of head;
-  page = piece_of (Leaf 0) (fixed_of head).columns (fixed_of head).rows (entries_of (get_or head 0 0 % 256) tail);
+  subtrie = piece_of (Leaf 0) (fixed_of head).columns (fixed_of head).rows (entries_of (get_or head 0 0 % 256) tail);
 }
 
 unfoldable pub node_words_of : List ℕ → NodeWords
@@ -80,7 +80,7 @@ root_of (Some t) = head_entry t
 -- the entry at a place of the node at the tree's head
 abbrev pub entry_in : Tree → ℕ → Option Entry
 entry_in (leaf n k v) j = None
-entry_in (node n x b) j = if nat_lt j (size (page b)) then Some (entry_at (page b) j) else None
+entry_in (node n x b) j = if nat_lt j (size (subtrie b)) then Some (entry_at (subtrie b) j) else None
 entry_in (fork p a b) j = None
 
 -- the word at an offset, neither state nor entry, of the record at the tree's head

@@ -7,9 +7,9 @@ use Rattle.rowex_core.specs.Events.{Legal, after}
 use Rattle.rowex_core.specs.Knowing.{IsViewOf}
 
 -- the events are legal one after the other from a core on, and lead to this one
-abbrev pub Leads : Core → List Event → Core → Type 0
-Leads c [] d = d ≡ c
-Leads c (x ∷ xs) d = Legal c x.pass x.act × Leads (after c x.pass x.act) xs d
+abbrev pub EventsLead : Core → List Event → Core → Type 0
+EventsLead c [] d = d ≡ c
+EventsLead c (x ∷ xs) d = Legal c x.pass x.act × EventsLead (after c x.pass x.act) xs d
 
 -- all of them are events of other passes than the view's
 abbrev pub AreOthers : View → List Event → Type 0

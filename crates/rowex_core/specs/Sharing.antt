@@ -1,12 +1,12 @@
 -- What of a core is a pass's own.
 use Rattle.std.specs.Prelude.{◌≡◌, ℕ, ◌&&◌, All, Contains, List, [], ◌∷◌, filter, nat_eq, if◌then◌else◌, Bool, true, false, Option, Some, None}
 use Rattle.compound_node.specs.declared.entries.Entry.{Entry}
-use Rattle.moments.specs.declared.Rec.{Rec}
-use Rattle.moments.specs.declared.Rec.TheVariants.{Node as a_node}
-use Rattle.moments.specs.declared.Pin.{Pin}
-use Rattle.moments.specs.declared.Round.{Round}
-use Rattle.moments.specs.Core.{Fate, Free, Held as HeldBy, Ready as ReadyBy, InTree, Unlinked as UnlinkedBy, Marked}
-use Rattle.moments.specs.Steps.{same_rec}
+use Rattle.versions.specs.declared.Rec.{Rec}
+use Rattle.versions.specs.declared.Rec.TheVariants.{Node as a_node}
+use Rattle.versions.specs.declared.Pin.{Pin}
+use Rattle.versions.specs.declared.Round.{Round}
+use Rattle.versions.specs.Core.{Fate, Free, Held as HeldBy, Ready as ReadyBy, InTree, Unlinked as UnlinkedBy, Marked}
+use Rattle.versions.specs.Steps.{same_rec}
 use Rattle.rowex_core.specs.declared.known.Holding.{Holding}
 use Rattle.rowex_core.specs.declared.known.Holding.TheVariants.{Held, Ready as IsReady, Unlinked}
 use Rattle.rowex_core.specs.declared.known.Owned.{Owned}
@@ -91,7 +91,7 @@ nothing = record {
   locks = λ n. [];
   anchor = None;
   pin = None;
-  round = record { epoch = 0; moment = 0; bound = 0; seen = [] };
+  round = record { epoch = 0; version = 0; bound = 0; seen = [] };
 }
 
 -- In other words: what the pass knows of each record and node by itself

@@ -14,14 +14,14 @@ use Rattle.record_words.specs.declared.layout.Layout.{Layout}
 use Rattle.record_words.specs.declared.state.Tag.TheVariants.{Live}
 use Rattle.record_words.specs.State.{state_word}
 use Rattle.tries.specs.Keys.{Key, IsParted}
-use Rattle.tries.specs.Tree.{Fixed, Tree, node, page, IsTrie, IsBuilt}
+use Rattle.tries.specs.Tree.{Fixed, Tree, node, subtrie, IsTrie, IsBuilt}
 use Rattle.tries.specs.Search.{seek, between, IsUnder}
-use Rattle.moments.specs.declared.Rec.{Rec}
-use Rattle.moments.specs.declared.Rec.TheVariants.{Node as a_node}
-use Rattle.moments.specs.declared.Pin.{Pin}
-use Rattle.moments.specs.State.{Past, Spans, Stands, IsSameRecord, IsLed, IsTop}
-use Rattle.moments.specs.Core.{Free, Held, life_of}
-use Rattle.moments.specs.Told.{content, items_of, IsChange}
+use Rattle.versions.specs.declared.Rec.{Rec}
+use Rattle.versions.specs.declared.Rec.TheVariants.{Node as a_node}
+use Rattle.versions.specs.declared.Pin.{Pin}
+use Rattle.versions.specs.State.{Past, Spans, Stands, IsSameRecord, IsLed, IsTop}
+use Rattle.versions.specs.Core.{Free, Held, life_of}
+use Rattle.versions.specs.Told.{content, items_of, IsChange}
 use Rattle.rowex_core.specs.declared.event.Act.{Act}
 use Rattle.rowex_core.specs.declared.event.Act.TheVariants.{LoadRef, Lock, Publish}
 use Rattle.rowex_core.specs.declared.event.Target.TheVariants.{Node as NodeTarget}
@@ -38,7 +38,7 @@ use Rattle.rowex_core.specs.Sharing.{HasAll}
 use Rattle.rowex_core.specs.Frames.{IsFrame}
 use Rattle.rowex_core.specs.Knowing.{Knows, Knowing, IsViewOf, learned}
 use Rattle.rowex_core.specs.Opening.{opening, opening_words}
-use Rattle.rowex_core.specs.Runs.{Leads, AreOthers}
+use Rattle.rowex_core.specs.Runs.{EventsLead, AreOthers}
 use Rattle.rowex_core.specs.declared.event.Event.{Event}
 
 -- a legal step keeps the core lawful
@@ -49,8 +49,8 @@ StaysLawful = (c : Core) (q : ℕ) (act : Act) → IsLawful c → Legal c q act 
 abbrev pub Keeps : Type 0
 Keeps = (c : Core) (p : ℕ) (act : Act) (v : View) → IsLawful c → Legal c p act → ¬ IsViewOf v p → Knowing c v → Knowing (after c p act) v
 
--- a legal step of one pass leaves to another what it has, and the moments and changes so far: locks of two passes on different nodes are
--- lawful at once, and each publish is one change whatever other locks are held
+-- a legal step of one pass leaves to another what it has, and the versions and changes so far: locks of two passes on different nodes
+-- are lawful at once, and each publish is one change whatever other locks are held
 abbrev pub LeavesOthers : Type 0
 LeavesOthers = (c : Core) (p q : ℕ) (act : Act) → p ≢ q → IsLawful c → Legal c p act → IsFrame q c (after c p act)
 
@@ -80,65 +80,65 @@ OpeningIsLawful = (layout : Layout) → IsLawful (opening layout) × Shows (open
 
 -- so for lists of events: from the opening core they lead to lawful cores,
 abbrev pub RunsStayLawful : Type 0
-RunsStayLawful = (layout : Layout) (events : List Event) (d : Core) → Leads (opening layout) events d → IsLawful d
+RunsStayLawful = (layout : Layout) (events : List Event) (d : Core) → EventsLead (opening layout) events d → IsLawful d
 
 -- and from any lawful core they leave true what a view says that owns none of their passes
 abbrev pub RunsKeep : Type 0
-RunsKeep = (c : Core) (events : List Event) (d : Core) (v : View) → IsLawful c → Leads c events d → AreOthers v events → Knowing c v → Knowing d v
+RunsKeep = (c : Core) (events : List Event) (d : Core) (v : View) → IsLawful c → EventsLead c events d → AreOthers v events → Knowing c v → Knowing d v
 
--- what a step does to the changes and the moments: a publish appends one of each, any other leaves both as they are
+-- what a step does to the changes and the versions: a publish appends one of each, any other leaves both as they are
 abbrev pub Appends : Act → Core → Core → Type 0
 Appends (Publish spot w) c d =
-    (x : Change) × (d.changes ≡ c.changes ++ x ∷ []) × (d.past.now ≡ suc c.past.now) × ((n : ℕ) → n ≤ c.past.now → d.past.moment n ≡ c.past.moment n)
+    (x : Change) × (d.changes ≡ c.changes ++ x ∷ []) × (d.past.now ≡ suc c.past.now) × ((n : ℕ) → n ≤ c.past.now → d.past.version n ≡ c.past.version n)
 Appends _ c d = (d.changes ≡ c.changes) × (d.past ≡ c.past)
 
 abbrev pub OnlyPublishAppends : Type 0
 OnlyPublishAppends = (c : Core) (q : ℕ) (act : Act) → Appends act c (after c q act)
 
--- Whichever moment m since its pin we begin at: a search of a pinned pass that was led to a node since m, a node that was
+-- Whichever version m since its pin we begin at: a search of a pinned pass that was led to a node since m, a node that was
 -- linked then and whose stem the key followed unless it was absent since m, is led since m to the child that the node's words
 -- give it now, be the node still linked or unlinked.
 abbrev pub Hindsight : Type 0
 Hindsight =
-    (c : Core) → IsLawful c → (q : ℕ) (p : Pin) → c.pins q ≡ Some p → (m : ℕ) → p.moment ≤ m → (k : Key) (n h : ℕ) →
-    IsLed c.past m k (Node n h) → IsLed c.past m k (seek k (node_words_of (c.words (a_node n))).page)
+    (c : Core) → IsLawful c → (q : ℕ) (p : Pin) → c.pins q ≡ Some p → (m : ℕ) → p.version ≤ m → (k : Key) (n h : ℕ) →
+    IsLed c.past m k (Node n h) → IsLed c.past m k (seek k (node_words_of (c.words (a_node n))).subtrie)
 
--- keys below two entries of a record part at the fork between these, whichever moments of its present life they come from
+-- keys below two entries of a record part at the fork between these, whichever versions of its present life they come from
 abbrev pub Parting : Type 0
 Parting =
     (c : Core) → IsLawful c → (r : Rec) (n o x y : ℕ) (g h : Fixed) (a b : Tree) → n ≤ c.past.now → o ≤ c.past.now →
     Spans c.past.now (life_of (c.fate r)) n → Spans c.past.now (life_of (c.fate r)) o → Stands c.past n r (node x g a) → Stands c.past o r (node y h b) →
-    (i j : ℕ) → i < j → (k l : Key) → IsUnder a i k → IsUnder b j l → IsParted (between (page a) i j) k l
+    (i j : ℕ) → i < j → (k l : Key) → IsUnder a i k → IsUnder b j l → IsParted (between (subtrie a) i j) k l
 
--- a record that stood at a moment since a pass's pin is neither free nor held, and its words, state and entries aside, are
+-- a record that stood in a version since a pass's pin is neither free nor held, and its words, state and entries aside, are
 -- those that it had then
 abbrev pub InReach : Type 0
 InReach =
-    (c : Core) → IsLawful c → (q : ℕ) (p : Pin) → c.pins q ≡ Some p → (n : ℕ) (r : Rec) (u : Tree) → p.moment ≤ n → n ≤ c.past.now → Stands c.past n r u →
+    (c : Core) → IsLawful c → (q : ℕ) (p : Pin) → c.pins q ≡ Some p → (n : ℕ) (r : Rec) (u : Tree) → p.version ≤ n → n ≤ c.past.now → Stands c.past n r u →
     (c.fate r ≢ Free) × ((o : ℕ) → c.fate r ≢ Held o) × ((offset : ℕ) → IsFixedOffset r offset → record_word c r offset ≡ word_in u offset)
 
--- the record stood at moment n as u, and at no later one
+-- the record stood in version n as u, and at no later one
 pub record StoodLast (s : Past) (n : ℕ) (r : Rec) (u : Tree) : Type 0 where
   pub past : n ≤ s.now
   pub stands : Stands s n r u
   pub later : (o : ℕ) (v : Tree) → n < o → o ≤ s.now → Stands s o r v → ⊥
 
--- Of a node that stood as u at a moment m since a pass's pin, each entry is one that it had when it stood last, which is now or at
--- a moment since m; all other words but the state are the same as at m, and so are its stems.
+-- Of a node that stood as u in a version m since a pass's pin, each entry is one that it had when it stood last, which is now or in
+-- a version since m; all other words but the state are the same as at m, and so are its stems.
 abbrev pub EntriesInReach : Type 0
 EntriesInReach =
-    (c : Core) → IsLawful c → (q : ℕ) (p : Pin) → c.pins q ≡ Some p → (m n : ℕ) (u : Tree) → p.moment ≤ m → m ≤ c.past.now → Stands c.past m (a_node n) u →
+    (c : Core) → IsLawful c → (q : ℕ) (p : Pin) → c.pins q ≡ Some p → (m n : ℕ) (u : Tree) → p.version ≤ m → m ≤ c.past.now → Stands c.past m (a_node n) u →
     (o : ℕ) × (v : Tree) × (m ≤ o) × StoodLast c.past o (a_node n) v × IsSameRecord u v ×
     ((j : ℕ) → j < MAX_ENTRIES → entry_of (record_word c (a_node n) (FIRST_ENTRY + j)) ≡ entry_in v j)
 
 -- the call that makes the change
-abbrev pub call_for : Kind → Key → ℕ → Call
-call_for Added key value = Upsert key value
-call_for Replaced key value = Upsert key value
-call_for Removed key value = Remove key
+abbrev pub call_of_kind : Kind → Key → ℕ → Call
+call_of_kind Added key value = Upsert key value
+call_of_kind Replaced key value = Upsert key value
+call_of_kind Removed key value = Remove key
 
-abbrev pub change_call : Change → Call
-change_call x = call_for x.kind x.key x.value
+abbrev pub call_of_change : Change → Call
+call_of_change x = call_of_kind x.kind x.key x.value
 
 -- a publish makes one change, by its pass, which fits the map of those before; the content is then that map after one call,
 -- whatever locks others hold
@@ -147,15 +147,15 @@ PublishIsAStep =
     (c : Core) (q : ℕ) (spot : Spot) (w : ℕ) → IsLawful c → Legal c q (Publish spot w) →
     ((after c q (Publish spot w)).changes ≡ c.changes ++ next_change c q spot w ∷ []) × ((next_change c q spot w).pass ≡ q) ×
     Fits (map_of c.changes) (next_change c q spot w) ×
-    (content ((after c q (Publish spot w)).past.moment (after c q (Publish spot w)).past.now) ≡ map_after (map_of c.changes) (change_call (next_change c q spot w)))
+    (content ((after c q (Publish spot w)).past.version (after c q (Publish spot w)).past.now) ≡ map_after (map_of c.changes) (call_of_change (next_change c q spot w)))
 
 -- where the words then show a bit trie whose leaves differ by one change of the pass from those before, the change that the
 -- publish makes is that one
 abbrev pub FindsChange : Type 0
 FindsChange =
     (c : Core) (q : ℕ) (spot : Spot) (w : ℕ) → IsLawful c → IsTop (heap_of (stored_words c spot w)) (stored_root c spot w) (next_tree c spot w) →
-    ((t : Tree) → next_tree c spot w ≡ Some t → IsTrie t × IsBuilt t) → (x : Change) → IsChange (c.past.moment c.past.now) x (next_tree c spot w) →
-    items_of (c.past.moment c.past.now) ≢ items_of (next_tree c spot w) → x.pass ≡ q → next_change c q spot w ≡ x
+    ((t : Tree) → next_tree c spot w ≡ Some t → IsTrie t × IsBuilt t) → (x : Change) → IsChange (c.past.version c.past.now) x (next_tree c spot w) →
+    items_of (c.past.version c.past.now) ≢ items_of (next_tree c spot w) → x.pass ≡ q → next_change c q spot w ≡ x
 
 -- a pass may lock a node while another holds the lock of another node, and both have their locks then
 abbrev pub LocksApart : Type 0

@@ -7,10 +7,10 @@ use Rattle.record_words.specs.declared.state.Tag.TheVariants.{Free as FreeTag, H
 use Rattle.record_words.specs.Layout.{address, word_count, IsInTable}
 use Rattle.record_words.specs.State.{state_word}
 use Rattle.record_words.specs.Entry.{entry_word}
-use Rattle.moments.specs.declared.Rec.{Rec}
-use Rattle.moments.specs.declared.Rec.TheVariants.{Node as a_node, Leaf as a_leaf}
-use Rattle.moments.specs.declared.Pin.{Pin}
-use Rattle.moments.specs.Core.{Fate, Free, Held, Ready, InTree, Unlinked, Marked}
+use Rattle.versions.specs.declared.Rec.{Rec}
+use Rattle.versions.specs.declared.Rec.TheVariants.{Node as a_node, Leaf as a_leaf}
+use Rattle.versions.specs.declared.Pin.{Pin}
+use Rattle.versions.specs.Core.{Fate, Free, Held, Ready, InTree, Unlinked, Marked}
 use Rattle.rowex_core.specs.Cores.{Core}
 
 abbrev pub lock_tag : Option ℕ → Tag

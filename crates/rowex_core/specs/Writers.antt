@@ -8,51 +8,51 @@ use Rattle.record_words.specs.Entry.{HasEntryWord, entry_word}
 use Rattle.record_words.specs.Node.{HasNodeWords, node_words}
 use Rattle.tries.specs.Tree.{Tree}
 use Rattle.tries.specs.Place.{with_entry}
-use Rattle.moments.specs.declared.Rec.{Rec}
-use Rattle.moments.specs.declared.Rec.TheVariants.{Node as a_node}
-use Rattle.moments.specs.declared.Pin.{Pin}
-use Rattle.moments.specs.State.{Stands}
-use Rattle.moments.specs.Told.{items_of}
-use Rattle.moments.specs.Trades.{HasTraded}
-use Rattle.moments.specs.Steps.{IsMomentPublish as IsMomentsPublish}
+use Rattle.versions.specs.declared.Rec.{Rec}
+use Rattle.versions.specs.declared.Rec.TheVariants.{Node as a_node}
+use Rattle.versions.specs.declared.Pin.{Pin}
+use Rattle.versions.specs.State.{Stands}
+use Rattle.versions.specs.Told.{items_of}
+use Rattle.versions.specs.Trades.{HasTraded}
+use Rattle.versions.specs.Steps.{IsVersionPublish as IsVersionsPublish}
 use Rattle.rowex_core.specs.declared.event.Spot.{Spot}
 use Rattle.rowex_core.specs.declared.known.Known.{Known}
 use Rattle.rowex_core.specs.Reading.{entry_of, node_words_of}
 use Rattle.rowex_core.specs.Cores.{Core, IsLawful, bare, heap_of}
 use Rattle.rowex_core.specs.Words.{state_at}
 use Rattle.rowex_core.specs.Events.{IsLegalPublish, IsLockedAt, IsPackedAt, IsInTree, stored_words, stored_root, next_tree, next_change}
-use Rattle.rowex_core.specs.Having.{OwnsJust, LocksJust, AreKept, IsAny, IsUnlinked}
+use Rattle.rowex_core.specs.Having.{OwnsJust, LocksJust, AreKept, InAnyWay, IsUnlinked}
 use Rattle.rowex_core.specs.Knowing.{Knows, publish_learned}
 
--- A store that moments allow as a publish of this tree, by which the leaves become others, is a legal publish of the word; the tree
--- that the words show then is this one, and the change that is found between the leaves is the one that moments tell.
+-- A store that versions allow as a publish of this tree, by which the leaves become others, is a legal publish of the word; the tree
+-- that the words show then is this one, and the change that is found between the leaves is the one that versions tell.
 abbrev pub PublishIsLegal : Type 0
 PublishIsLegal =
     (c : Core) (q : ℕ) (spot : Spot) (w : ℕ) → IsLawful c → IsLockedAt c q spot → HasEntryWord (entry_of w) × (entry_word (entry_of w) ≡ w) → IsPackedAt c spot w →
-    (t : Option Tree) (x : Change) → IsMomentsPublish (bare c) q (heap_of (stored_words c spot w)) (stored_root c spot w) t x →
-    items_of (c.past.moment c.past.now) ≢ items_of t →
+    (t : Option Tree) (x : Change) → IsVersionsPublish (bare c) q (heap_of (stored_words c spot w)) (stored_root c spot w) t x →
+    items_of (c.past.version c.past.now) ≢ items_of t →
     IsLegalPublish c q spot w × (next_tree c spot w ≡ t) × (next_change c q spot w ≡ x)
 
 -- Where the words of a node record spell a node, and an entry that may stand in it is stored as entry j: the words spell the node
--- with that entry then, and what is read from them is the node's fixed part with its page so changed.
+-- with that entry then, and what is read from them is the node's fixed part with its subtrie so changed.
 abbrev pub SlotIsStored : Type 0
 SlotIsStored =
     (view : NodeView) (words : List ℕ) → HasNodeWords view → node_words view ≡ words → All (λ w. w < 2 ^ 64) words →
     (j : ℕ) (e : Entry) → j < length view.entries → HasEntryWord (Some e) → StandsBelow view.height e →
     let stored = record view { entries = set view.entries j e } in let after = set words (HEAD_WORDS + j) (entry_word (Some e)) in
     HasNodeWords stored × (node_words stored ≡ after) ×
-    (node_words_of after ≡ record { fixed = (node_words_of words).fixed; page = with_entry (node_words_of words).page j e })
+    (node_words_of after ≡ record { fixed = (node_words_of words).fixed; subtrie = with_entry (node_words_of words).subtrie j e })
 
--- A node that stood in the tree at a moment since a pass's pin is in the tree, if its state word is that of a live record.
+-- A node that stood in the tree in a version since a pass's pin is in the tree, if its state word is that of a live record.
 abbrev pub LedIsInTree : Type 0
 LedIsInTree =
-    (c : Core) → IsLawful c → (q : ℕ) (p : Pin) → c.pins q ≡ Some p → (n m : ℕ) (u : Tree) → p.moment ≤ m → m ≤ c.past.now →
+    (c : Core) → IsLawful c → (q : ℕ) (p : Pin) → c.pins q ≡ Some p → (n m : ℕ) (u : Tree) → p.version ≤ m → m ≤ c.past.now →
     Stands c.past m (a_node n) u → state_at c (a_node n) ≡ 2 → IsInTree c n
 
 -- After the publish of a pass that owned just what is linked anew, and had locked just these nodes: it owns just what is
 -- unlinked, and has locked just those that are still linked.
-abbrev pub PublishLeaves : Type 0
-PublishLeaves =
+abbrev pub OwnedAfterPublish : Type 0
+OwnedAfterPublish =
     (c : Core) (k : Known) (spot : Spot) (w : ℕ) → IsLawful c → Knows c k → (new gone : List Rec) (held kept : List ℕ) →
-    HasTraded (c.past.moment c.past.now) (next_tree c spot w) new gone → OwnsJust k.own IsAny new → LocksJust k.locks held → AreKept held gone kept →
+    HasTraded (c.past.version c.past.now) (next_tree c spot w) new gone → OwnsJust k.own InAnyWay new → LocksJust k.locks held → AreKept held gone kept →
     let j = publish_learned c spot w k in OwnsJust j.own IsUnlinked gone × LocksJust j.locks kept

@@ -1,6 +1,6 @@
 //! Atomic steps on the shared words, as events.
 
-use moments::Rec;
+use versions::Rec;
 
 /// What a writer locks.
 #[derive(Clone, Copy)]

@@ -3,10 +3,10 @@
 
 use compound_node::Entry;
 use finite_map::{Change, Note};
-use moments::{Listed, Pin, Rec, Round};
 use record_words::Location;
+use versions::{Listed, Pin, Rec, Round};
 
-/// What a load found at the moment `at`, of a moment since any since `since`.
+/// What a load found at the version `at`, of a version since any since `since`.
 pub enum Fact {
     /// The root had this entry.
     Rooted {
@@ -38,7 +38,7 @@ pub enum Holding {
     Held,
     /// Made live, and not yet linked.
     Ready,
-    /// Linked from a moment to another, unlinked by the pass, and not yet marked.
+    /// Linked from one version to another, unlinked by the pass, and not yet marked.
     Unlinked { since: u64, last: u64 },
 }
 
@@ -73,8 +73,8 @@ pub struct Failed {
     pub step: u64,
 }
 
-/// The front that the last load of the root left, the number of that step, and the moment at which the pass had set the pin that
-/// it had then. Before the first load the step is 0, the number of none; and so is the moment, where there was no pin.
+/// The front that the last load of the root left, the number of that step, and the version at which the pass had set the pin that
+/// it had then. Before the first load the step is 0, the number of none; and so is the version, where there was no pin.
 pub struct Fresh {
     pub front: Listed<Change>,
     pub step: u64,

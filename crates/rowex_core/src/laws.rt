@@ -52,18 +52,18 @@ pub fn runs_keep()
     ensures { RunsKeep }
 {}
 
-/// A publish appends one change and one moment and leaves all earlier ones; every other step leaves both lists.
+/// A publish appends one change and one version and leaves all earlier ones; every other step leaves both lists.
 pub fn only_publish_appends()
     ensures { OnlyPublishAppends }
 {}
 
-/// A search of a pinned pass that goes on at a record goes on at what it finds there, whatever has been published since: at
-/// each moment since the pin.
+/// A search of a pinned pass that goes on at a record goes on at what it finds there, whatever has been published since: in
+/// each version since the pin.
 pub fn hindsight()
     ensures { Hindsight }
 {}
 
-/// Keys below two entries of a record part at the fork between them, whichever moments of its life they come from.
+/// Keys below two entries of a record part at the fork between them, whichever versions of its life they come from.
 pub fn parting()
     ensures { Parting }
 {}

@@ -9,4 +9,4 @@ pub mod writer_laws;
 
 pub use event::{Act, Event, Gate, NoGate, Spot, Target};
 pub use known::{Fact, Failed, FailedAct, Fresh, Holding, Known, Locked, Owned, View};
-pub use moments::{Pin, Rec, Round};
+pub use versions::{Pin, Rec, Round};

@@ -1,8 +1,8 @@
 //! The laws of a writer's publish, in words. The functions do nothing: their contracts are the laws.
 
-ghost use Rattle.rowex_core.specs.Writers.{LedIsInTree, PublishIsLegal, PublishLeaves, SlotIsStored};
+ghost use Rattle.rowex_core.specs.Writers.{LedIsInTree, PublishIsLegal, OwnedAfterPublish, SlotIsStored};
 
-/// A store that moments allow as a publish is a legal publish of the word, of the tree that the words show then.
+/// A store that versions allow as a publish is a legal publish of the word, of the tree that the words show then.
 pub fn publish_is_legal()
     ensures { PublishIsLegal }
 {}
@@ -18,6 +18,6 @@ pub fn led_is_in_tree()
 {}
 
 /// After a publish a pass owns just what it has unlinked, and has locked just what is still linked.
-pub fn publish_leaves()
-    ensures { PublishLeaves }
+pub fn owned_after_publish()
+    ensures { OwnedAfterPublish }
 {}

@@ -9,7 +9,7 @@ use Rattle.record_words.specs.Leaf.{HasLeafWords, key_word, leaf_words, words_of
 use Rattle.record_words.proofs.Leaves.{IsLeafOf, leaf_words_made, leaf_words_parts, same_leaf}
 use Rattle.record_words.proofs.Unused.{leaf_word_past}
 use Rattle.tries.specs.Keys.{Key}
-use Rattle.moments.specs.declared.Rec.TheVariants.{Leaf as a_leaf}
+use Rattle.versions.specs.declared.Rec.TheVariants.{Leaf as a_leaf}
 use Rattle.rowex_core.specs.declared.event.Act.TheVariants.{LoadFixed}
 use Rattle.rowex_core.specs.declared.known.Known.{Known}
 use Rattle.rowex_core.specs.Knowing.{IsEvent}

@@ -17,14 +17,14 @@ use Rattle.record_words.specs.declared.layout.Layout.{Layout}
 use Rattle.record_words.specs.declared.TheConstants.{HEAD_WORDS, LEAF_FIELDS}
 use Rattle.tries.specs.Keys.{Key}
 use Rattle.tries.specs.Place.{spot}
-use Rattle.tries.specs.Tree.{Page, first_position}
+use Rattle.tries.specs.Tree.{Subtrie, first_position}
 use Rattle.tries.proofs.Building.{size-piece}
 use Rattle.rowex_core.specs.declared.event.Event.{Event}
 use Rattle.rowex_core.specs.declared.known.Known.{Known}
-use Rattle.rowex_core.specs.Knowing.{IsSince}
+use Rattle.rowex_core.specs.Knowing.{IsPinnedSince}
 use Rattle.rowex_table.specs.Made.{IsLater}
 use Rattle.rowex_table.specs.Seats.{TableView, SeatView}
-use Rattle.rowex_walks.specs.Scan.{IsSeen, IsRooted, IsPlaced, IsShaped, IsRead}
+use Rattle.rowex_walks.specs.Scan.{EntryStoodSince, IsRooted, IsPlaced, IsShaped, IsRead}
 use Rattle.rowex_reading.specs.Lookups.{HasFound}
 use Rattle.rowex_reading.specs.Possible.{IsPossible}
 use Rattle.rowex_reading.specs.Reads.{Reads}
@@ -94,7 +94,7 @@ module _ (layout : Layout) (k j : Known) (m : ℕ) (key : Key) (later : IsLater 
   }
 
   -- and ends at a leaf
-  pub going_ends : (way : List Step) (number value : ℕ) (mismatch : Option ℕ) → IsGoing layout k m key way (LeafEntry number) → IsKey key → IsSince j m → IsFoundAt j m key (Leaf number value mismatch) →
+  pub going_ends : (way : List Step) (number value : ℕ) (mismatch : Option ℕ) → IsGoing layout k m key way (LeafEntry number) → IsKey key → IsPinnedSince j m → IsFoundAt j m key (Leaf number value mismatch) →
       IsWayOf layout j m key way (Leaf number value mismatch)
   going_ends way number value mismatch going is_key since found = record {
     is_key = is_key;
@@ -112,7 +112,7 @@ going_first layout k m key way e none low root =
     subst (λ z. IsGoing layout k m key z e) (sym none) (let start : IsGoing layout k m key [] e = record { root = root; nodes = tt; falls = omega arith } in start)
 
 -- at an empty root it has no way
-pub ends_nowhere : (layout : Layout) (k : Known) (m : ℕ) (key : Key) (way : List Step) → way ≡ [] → IsKey key → IsSince k m → RootWas k m None → IsWayOf layout k m key way Nothing
+pub ends_nowhere : (layout : Layout) (k : Known) (m : ℕ) (key : Key) (way : List Step) → way ≡ [] → IsKey key → IsPinnedSince k m → RootWas k m None → IsWayOf layout k m key way Nothing
 ends_nowhere layout k m key way none is_key since blank = subst (λ z. IsWayOf layout k m key z Nothing) (sym none) nowhere
   where
     nowhere : IsWayOf layout k m key [] Nothing
@@ -132,7 +132,7 @@ where_differs key l None none first = none.0 refl
 where_differs key l (Some p) none first = (agrees key l p first, differs key l p first)
 
 -- ---- a node
-first_is : (x : ℕ) (forks : Page) → AtRootFork (λ p a b. x ≡ p) forks → x ≡ first_position forks
+first_is : (x : ℕ) (forks : Subtrie) → AtRootFork (λ p a b. x ≡ p) forks → x ≡ first_position forks
 first_is x (Place e) root = absurd root
 first_is x (Fork p a b) root = root
 
@@ -187,7 +187,7 @@ module _ {G : Type 0} {table : TableView} {becomes : G → Event → G → Type 
           record {
             forks = shape_of head;
             range = led_in_table table.layout b.0.known (since b.0.known) (Node n height) possible led;
-            seen = sure_later {P = λ s. IsSeen s (since b.0.known) (Node n height)} (seen_stable (since b.0.known) (Node n height)) (reads_later both) led.1;
+            seen = sure_later {P = λ s. EntryStoodSince s (since b.0.known) (Node n height)} (seen_stable (since b.0.known) (Node n height)) (reads_later both) led.1;
             shaped = sure_later {P = λ s. IsShaped s (since b.0.known) n (shape_of head)} (shaped_stable (since b.0.known) n (shape_of head)) (reads_later one) (told (since b.0.known) height led).1;
             placed = stood.1;
             at = spot_is;

@@ -19,12 +19,12 @@ use Rattle.record_words.specs.declared.TheConstants.{FIRST_ROWS, HEAD_WORDS, MAX
 use Rattle.record_words.specs.Packed.{words_of_positions, words_of_rows}
 use Rattle.record_words.proofs.Fixing.{fixed_words_parts}
 use Rattle.record_words.proofs.Unused.{positions_past, rows_past}
-use Rattle.tries.specs.Tree.{Tree, leaf, node, fork, page, Page, Fixed}
+use Rattle.tries.specs.Tree.{Tree, leaf, node, fork, subtrie, Subtrie, Fixed}
 use Rattle.tries.specs.Place.{shape}
-use Rattle.moments.specs.declared.Rec.TheVariants.{Node as a_node}
-use Rattle.moments.specs.Heap.{Heap, NodeWords, IsCopied}
-use Rattle.moments.specs.State.{Stands, IsRecord, IsSameRecord, IsReach}
-use Rattle.moments.proofs.States.{steady}
+use Rattle.versions.specs.declared.Rec.TheVariants.{Node as a_node}
+use Rattle.versions.specs.Heap.{Heap, NodeWords, IsCopied}
+use Rattle.versions.specs.State.{Stands, IsRecord, IsSameRecord, IsReach}
+use Rattle.versions.proofs.States.{steady}
 use Rattle.rowex_core.specs.declared.known.Known.{Known}
 use Rattle.rowex_core.specs.declared.event.Act.TheVariants.{LoadFixed}
 use Rattle.rowex_core.specs.Cores.{Core, IsLawful, IsSized, heap_of}
@@ -34,15 +34,15 @@ use Rattle.rowex_table.specs.Runs.{silent}
 use Rattle.rowex_core.proofs.Owning.{recalls}
 use Rattle.rowex_core.specs.Reading.{IsPacked}
 use Rattle.rowex_core.proofs.Reading.{head_is, node_is}
-use Rattle.rowex_walks.specs.Scan.{IsSeen, IsShaped}
+use Rattle.rowex_walks.specs.Scan.{EntryStoodSince, IsShaped}
 use Rattle.rowex_walks.proofs.Loads.{loads_shape}
-use Rattle.rowex_walks.proofs.Search.{now_same}
+use Rattle.rowex_walks.proofs.Search.{same_record_now}
 use Rattle.rowex_walks.proofs.Scans.{node_of, shaped}
 use Rattle.rowex_reading.specs.Possible.{IsPossible}
 use Rattle.rowex_reading.specs.Seen.{seen, IsLedTo, shape_of}
 use Rattle.rowex_reading.proofs.Seeing.{recalls_before, seen_within, seen_past, seen_grown, seen_stable, stands_in, stands_seen}
 use Rattle.rowex_reading.proofs.Standing.{reach, is_packed}
-use Rattle.rowex_reading.proofs.Placing.{to_stood}
+use Rattle.rowex_reading.proofs.Placing.{stood_if_stands}
 use Rattle.rowex_reading.proofs.Wording.{AreLoaded, led_stood, next_loaded, none_loaded, word_now, words_now}
 use Rattle.rowex_core.proofs.Loading.{view}
 
@@ -51,7 +51,7 @@ use Rattle.rowex_core.proofs.Loading.{view}
 abbrev a_leaf : Entry → Entry
 a_leaf e = Leaf 0
 
-shape_map : (p : Page) → shape p ≡ map_places a_leaf p
+shape_map : (p : Subtrie) → shape p ≡ map_places a_leaf p
 shape_map (Place e) = refl
 shape_map (Fork q a b) = ap₂ (λ x y. Fork q x y) (shape_map a) (shape_map b)
 
@@ -195,7 +195,7 @@ module _ (layout : Layout) (k j : Known) (n : ℕ) (words : List ℕ) (possible 
     view_now : NodeView
     lawful_now : IsLawfulNode view_now
     spelled : head_words (head_of view_now) ≡ words
-    nodes_are : (heap_of c.words).nodes n ≡ record { fixed = head_of view_now; page = piece view_now }
+    nodes_are : (heap_of c.words).nodes n ≡ record { fixed = head_of view_now; subtrie = piece view_now }
 
   head_now : (c : Core) → IsLawful c → Recalls c j → HeadNow c
   unfolding IsPacked
@@ -229,7 +229,7 @@ module _ (layout : Layout) (k j : Known) (n : ℕ) (words : List ℕ) (possible 
     before : Recalls c k
     before = recalls_before later known
 
-    led_there : IsSeen (seen c k) m (Node n h)
+    led_there : EntryStoodSince (seen c k) m (Node n h)
     led_there = led.1 c lawful before
 
     head_reach : IsReach (view c) m
@@ -241,7 +241,7 @@ module _ (layout : Layout) (k j : Known) (n : ℕ) (words : List ℕ) (possible 
         go : (x : Fixed) × (b : Tree) × (led_there.1 ≡ node n x b) × (x.height ≡ h) → head.height ≡ h
         go (x, b, is_node, high) =
             let st : Stands c.past led_there.0 (a_node n) (node n x b) = subst (λ z. Stands c.past led_there.0 (a_node n) z) is_node (stands_in c k led_there.4) in
-            let w = now_same (view c) lawful.core.state (a_node n) led_there.0 (node n x b)
+            let w = same_record_now (view c) lawful.core.state (a_node n) led_there.0 (node n x b)
             (head_reach led_there.0 led_there.2 (le_trans led_there.3 (seen_within lawful before)) (a_node n) (node n x b) st) st in
             ap (λ (z : HeadView). z.height) (sym head_same ∙ (ap (λ (z : NodeWords). z.fixed) (sym there.nodes_are) ∙ same_fixed (heap_of c.words) n x b w.0 w.1.is_record w.2 w.3)) ∙ high
 
@@ -253,10 +253,10 @@ module _ (layout : Layout) (k j : Known) (n : ℕ) (words : List ℕ) (possible 
             let inside : led_there.0 ≤ length j.front = le_trans led_there.3 (seen_grown c later).longer in
             let past : led_there.0 ≤ c.past.now = le_trans led_there.3 (seen_within lawful before) in
             let st = stands_in c k led_there.4 in
-            let p = shape ((heap_of c.words).nodes n).page in
+            let p = shape ((heap_of c.words).nodes n).subtrie in
             let shape_there : IsShaped c.past m n p = loads_shape (view c) lawful.core.state m head_reach n h (seen_stable m (Node n h) (seen c k) c.past (seen_past lawful before) led_there) in
-            let same : shape (page b) ≡ p = shaped c.past m (steady (view c) lawful.core.state m head_reach) n p b shape_there (to_stood c.past m n led_there.0 led_there.1 x b is_node led_there.2 past st) in (
+            let same : shape (subtrie b) ≡ p = shaped c.past m (steady (view c) lawful.core.state m head_reach) n p b shape_there (stood_if_stands c.past m n led_there.0 led_there.1 x b is_node led_there.2 past st) in (
               b,
-              to_stood (seen c j) m n led_there.0 led_there.1 x b is_node led_there.2 inside (stands_seen c j st),
-              same ∙ (ap (λ (z : NodeWords). shape z.page) there.nodes_are ∙ (shape_is there.view_now there.lawful_now ∙ ap shape_of head_same)),
+              stood_if_stands (seen c j) m n led_there.0 led_there.1 x b is_node led_there.2 inside (stands_seen c j st),
+              same ∙ (ap (λ (z : NodeWords). shape z.subtrie) there.nodes_are ∙ (shape_is there.view_now there.lawful_now ∙ ap shape_of head_same)),
             )

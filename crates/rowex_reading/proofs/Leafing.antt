@@ -15,9 +15,9 @@ use Rattle.record_words.specs.Reading.{IsSpelling, IsSpelledBy}
 use Rattle.record_words.specs.declared.TheConstants.{LEAF_FIELDS}
 use Rattle.tries.specs.Tree.{leaf}
 use Rattle.tries.specs.Keys.{Key}
-use Rattle.moments.specs.declared.Rec.TheVariants.{Leaf as a_leaf}
-use Rattle.moments.specs.Heap.{LeafWords}
-use Rattle.moments.specs.State.{Stands}
+use Rattle.versions.specs.declared.Rec.TheVariants.{Leaf as a_leaf}
+use Rattle.versions.specs.Heap.{LeafWords}
+use Rattle.versions.specs.State.{Stands}
 use Rattle.rowex_core.specs.declared.known.Known.{Known}
 use Rattle.rowex_core.specs.Cores.{Core, IsLawful}
 use Rattle.rowex_core.specs.declared.event.Act.TheVariants.{LoadFixed}
@@ -29,7 +29,7 @@ use Rattle.rowex_table.specs.Seats.{SeatView, TableView}
 use Rattle.rowex_core.proofs.Owning.{recalls}
 use Rattle.rowex_core.specs.Reading.{IsPacked}
 use Rattle.rowex_core.proofs.Reading.{leaf_is}
-use Rattle.rowex_walks.specs.Scan.{IsSeen, IsRead}
+use Rattle.rowex_walks.specs.Scan.{EntryStoodSince, IsRead}
 use Rattle.rowex_walks.proofs.Search.{leaf_now}
 use Rattle.rowex_walks.proofs.Scans.{leaf_of}
 use Rattle.rowex_reading.specs.Possible.{IsPossible}
@@ -104,7 +104,7 @@ module _ (k j : Known) (later : IsLater k j) (n m : ℕ) (led : IsLedTo k m (Lea
   before : Recalls c k
   before = recalls_before later known
 
-  led_there : IsSeen (seen c k) m (Leaf n)
+  led_there : EntryStoodSince (seen c k) m (Leaf n)
   led_there = led.1 c lawful before
 
   pub leaf_packed : IsPacked (a_leaf n) (c.words (a_leaf n))

@@ -11,7 +11,7 @@ use Rattle.finite_map.specs.declared.Note.{Note}
 use Rattle.finite_map.specs.Fronts.{BeginsWith}
 use Rattle.pieces.specs.Piece.{size}
 use Rattle.record_words.specs.declared.layout.Layout.{Layout}
-use Rattle.tries.specs.Tree.{Page}
+use Rattle.tries.specs.Tree.{Subtrie}
 use Rattle.rowex_core.specs.declared.event.Act.{Act}
 use Rattle.rowex_core.specs.declared.event.Act.TheVariants.{LoadRef, LoadFixed}
 use Rattle.rowex_core.specs.declared.event.Event.{Event}
@@ -19,11 +19,11 @@ use Rattle.rowex_core.specs.declared.event.Spot.TheVariants.{Root, Slot}
 use Rattle.rowex_core.specs.declared.known.Fact.{Fact}
 use Rattle.rowex_core.specs.declared.known.Fresh.{Fresh}
 use Rattle.rowex_core.specs.declared.known.Known.{Known}
-use Rattle.rowex_core.specs.Knowing.{IsEvent, IsSince, moment_of}
+use Rattle.rowex_core.specs.Knowing.{IsEvent, IsPinnedSince, version_of}
 use Rattle.rowex_table.specs.Runs.{Runs, Steps, silent}
 use Rattle.rowex_table.specs.Seats.{TableView, SeatView, IsSame, IsSeatOf}
 use Rattle.rowex_table.proofs.Running.{runs_append, runs_one, runs_same, same_more}
-use Rattle.rowex_walks.specs.Scan.{IsSeen, IsPlaced, IsShaped}
+use Rattle.rowex_walks.specs.Scan.{EntryStoodSince, IsPlaced, IsShaped}
 use Rattle.rowex_walks.proofs.Loads.{placed_seen, rooted_seen}
 use Rattle.rowex_reading.specs.Possible.{IsPossible}
 use Rattle.rowex_reading.specs.Reads.{IsBelowRoot, IsReader, Reads, ReadsRoot, Looks, entries_in, loads_entry}
@@ -32,10 +32,10 @@ use Rattle.rowex_table.specs.Made.{IsLater}
 use Rattle.rowex_reading.proofs.Later.{event_later, event_possible}
 use Rattle.rowex_reading.proofs.Loading.{pinned_by}
 use Rattle.rowex_reading.proofs.Rooting.{root_since}
-use Rattle.rowex_reading.proofs.Seeing.{later_none, later_trans, since_later, sure_later, seen_stable}
+use Rattle.rowex_reading.proofs.Seeing.{later_reflexive, later_trans, since_later, sure_later, seen_stable}
 
 -- it was led to the node, and has read its forks
-abbrev pub HasShape : Known → ℕ → ℕ → ℕ → Page → Type 0
+abbrev pub HasShape : Known → ℕ → ℕ → ℕ → Subtrie → Type 0
 HasShape k m n h x = IsLedTo k m (Node n h) × Sure k (λ s. IsShaped s m n x)
 
 -- One load
@@ -98,7 +98,7 @@ pub record HasLookedAt (n : ℕ) (k j : Known) : Type 0 where
 module _ {G : Type 0} (table : TableView) (becomes : G → Event → G → Type 0) where
   runs_leave : (acts : List Act) (a b : SeatView × G) → All IsBelowRoot acts → Runs table becomes acts a b → Leaves table.layout (length acts) a.0.known b.0.known
   runs_leave [] a b below run = subst (λ (z : SeatView × G). Leaves table.layout 0 a.0.known z.0.known) (sym run)
-      (record { sees = sees_none a.0.known; fresh = refl; later = later_none a.0.known; possible = λ h. h })
+      (record { sees = sees_none a.0.known; fresh = refl; later = later_reflexive a.0.known; possible = λ h. h })
   runs_leave (act ∷ acts) a b below run =
       let first = All-head IsBelowRoot act acts below in let e = run.1.event in
       let rest = runs_leave acts run.0 b (All-tail IsBelowRoot act acts below) run.2 in
@@ -148,10 +148,10 @@ module _ {G : Type 0} {table : TableView} {becomes : G → Event → G → Type 
 
   -- What the pass was led to it is led to still.
   pub led_on : {f n : ℕ} {a b : SeatView × G} (m : ℕ) (e : Entry) → Reads table becomes f n a b → IsLedTo a.0.known m e → IsLedTo b.0.known m e
-  led_on m e x (pinned, sure) = (since_later (reads_later x) pinned, sure_later {P = λ s. IsSeen s m e} (seen_stable m e) (reads_later x) sure)
+  led_on m e x (pinned, sure) = (since_later (reads_later x) pinned, sure_later {P = λ s. EntryStoodSince s m e} (seen_stable m e) (reads_later x) sure)
 
   -- a node that it was led to, with the forks that it has read
-  pub led_shape : {e n : ℕ} {a b : SeatView × G} (m c h : ℕ) (x : Page) → Reads table becomes e n a b → IsLedTo a.0.known m (Node c h) → Sure b.0.known (λ s. IsShaped s m c x) →
+  pub led_shape : {e n : ℕ} {a b : SeatView × G} (m c h : ℕ) (x : Subtrie) → Reads table becomes e n a b → IsLedTo a.0.known m (Node c h) → Sure b.0.known (λ s. IsShaped s m c x) →
       HasShape b.0.known m c h x
   led_shape m c h x r led shaped = (led_on m (Node c h) r led, shaped)
 
@@ -162,7 +162,7 @@ module _ {G : Type 0} {table : TableView} {becomes : G → Event → G → Type 
   root_reader own x = (x.1.seat.0 ∙ own, event_possible x.1.event)
 
   -- and is pinned since the load
-  pub root_pinned : {a b : SeatView × G} → IsSome a.0.known.pin → ReadsRoot table becomes a b → IsSince b.0.known (since b.0.known)
+  pub root_pinned : {a b : SeatView × G} → IsSome a.0.known.pin → ReadsRoot table becomes a b → IsPinnedSince b.0.known (since b.0.known)
   root_pinned {a} {b} is x = let p = pinned_by a.0.known.pin is in root_since table.layout a.0.known b.0.known p.0 p.1 x.0 x.1.event
 
   pub root_later : {a b : SeatView × G} → ReadsRoot table becomes a b → IsLater a.0.known b.0.known
@@ -180,7 +180,7 @@ module _ {G : Type 0} {table : TableView} {becomes : G → Event → G → Type 
   pub looked_at : {ents n : ℕ} {a b : SeatView × G} → Looks table becomes ents n a b → HasLookedAt n a.0.known b.0.known
   looked_at {ents} {n} {a} {b} x =
       let e = x.root.1.event in let rest = left x.rest in let root = event_later e tt in
-      let fresh : b.0.known.fresh ≡ record { front = e.core.changes; step = a.0.known.steps; pinned = moment_of a.0.known.pin } = rest.fresh ∙ ap (λ (z : Known). z.fresh) e.learned_is in
+      let fresh : b.0.known.fresh ≡ record { front = e.core.changes; step = a.0.known.steps; pinned = version_of a.0.known.pin } = rest.fresh ∙ ap (λ (z : Known). z.fresh) e.learned_is in
       record {
         sees = sees_more 1 n a.0.known x.at.0.known b.0.known (root_sees table.layout a.0.known x.at.0.known x.root.0 e) rest.sees;
         later = later_trans root rest.later;
@@ -193,10 +193,10 @@ module _ {G : Type 0} {table : TableView} {becomes : G → Event → G → Type 
 pub rooted_led : {k : Known} (e : Entry) → IsAtRoot k e → IsLedTo k (since k) e
 rooted_led {k} e (pinned, root) = (pinned, λ c lawful known. rooted_seen (seen c k) (since k) e (root c lawful known))
 
-pub placed_led : {k : Known} {m : ℕ} (r j : ℕ) (e : Entry) → IsSince k m → Sure k (λ s. IsPlaced s m r j e) → IsLedTo k m e
+pub placed_led : {k : Known} {m : ℕ} (r j : ℕ) (e : Entry) → IsPinnedSince k m → Sure k (λ s. IsPlaced s m r j e) → IsLedTo k m e
 placed_led {k} {m} r j e pinned at = (pinned, λ c lawful known. placed_seen (seen c k) m r j e (at c lawful known))
 
 -- Places of a node
 
-pub shape_place : {k : Known} {m n h i : ℕ} {x : Page} → HasShape k m n h x → i < size x → HasPlace k m n h i
+pub shape_place : {k : Known} {m n h i : ℕ} {x : Subtrie} → HasShape k m n h x → i < size x → HasPlace k m n h i
 shape_place {x = x} (led, shaped) low = (led, λ c lawful known. (x, shaped c lawful known, low))

@@ -4,9 +4,9 @@ use Rattle.std.specs.Prelude.{All}
 use Rattle.std.proofs.lemmas.List.Elements.{All-head}
 use Rattle.record_words.specs.declared.layout.Layout.{Layout}
 use Rattle.tries.specs.Tree.{Tree}
-use Rattle.moments.specs.declared.Pin.{Pin}
-use Rattle.moments.specs.declared.Rec.{Rec}
-use Rattle.moments.specs.declared.Rec.TheVariants.{Node as a_node}
+use Rattle.versions.specs.declared.Pin.{Pin}
+use Rattle.versions.specs.declared.Rec.{Rec}
+use Rattle.versions.specs.declared.Rec.TheVariants.{Node as a_node}
 use Rattle.rowex_core.specs.declared.event.Act.TheVariants.{LoadRef, LoadFixed}
 use Rattle.rowex_core.specs.declared.event.Spot.TheVariants.{Root, Slot}
 use Rattle.rowex_core.specs.declared.known.Fact.{Fact}
@@ -14,7 +14,7 @@ use Rattle.rowex_core.specs.declared.known.Fact.TheVariants.{Rooted, Placed, Fix
 use Rattle.rowex_core.specs.declared.known.Fresh.{Fresh}
 use Rattle.rowex_core.specs.declared.known.Known.{Known}
 use Rattle.rowex_core.specs.Cores.{Core, IsLawful}
-use Rattle.rowex_core.specs.Knowing.{IsFact, HoldsIfStood, StoodAs, StoodBetween, Recalls, IsEvent, facts_with, moment_of}
+use Rattle.rowex_core.specs.Knowing.{IsFact, HoldsIfStood, StoodAs, StoodBetween, Recalls, IsEvent, facts_with, version_of}
 use Rattle.rowex_core.specs.Reading.{entry_of}
 use Rattle.rowex_core.specs.Words.{record_word}
 use Rattle.rowex_table.specs.Runs.{silent}
@@ -30,35 +30,35 @@ pub record IsTaught (core : Core) (found : Fact) (k j : Known) : Type 0 where
   pub fact : (c : Core) → Recalls c j → IsFact c.past found
 
 taught : (core : Core) (k j : Known) (p : Pin) (f : ℕ → Fact) (fresh : Fresh) → k.pin ≡ Some p → IsLater k j →
-    j ≡ record k { front = core.changes; fresh = fresh; facts = facts_with k.pin f k.facts; steps = k.steps + 1; notes = k.notes ++ [] } → IsTaught core (f p.moment) k j
+    j ≡ record k { front = core.changes; fresh = fresh; facts = facts_with k.pin f k.facts; steps = k.steps + 1; notes = k.notes ++ [] } → IsTaught core (f p.version) k j
 taught core k j p f fresh pinned later is = record {
   later = later;
   front = ap (λ (z : Known). z.front) is;
-  fact = λ c h. All-head (IsFact c.past) (f p.moment) k.facts (subst (All (IsFact c.past)) facts_are h.facts);
+  fact = λ c h. All-head (IsFact c.past) (f p.version) k.facts (subst (All (IsFact c.past)) facts_are h.facts);
 }
   where
-    facts_are : j.facts ≡ f p.moment ∷ k.facts
+    facts_are : j.facts ≡ f p.version ∷ k.facts
     facts_are = ap (λ (z : Known). z.facts) is ∙ ap (λ (o : Option Pin). facts_with o f k.facts) pinned
 
 module _ (layout : Layout) (k j : Known) (p : Pin) (pinned : k.pin ≡ Some p) where
-  pub root_taught : (w : ℕ) (e : IsEvent layout (LoadRef Root w) silent k j) → IsTaught e.core (Rooted p.moment e.core.past.now e.core.root) k j
+  pub root_taught : (w : ℕ) (e : IsEvent layout (LoadRef Root w) silent k j) → IsTaught e.core (Rooted p.version e.core.past.now e.core.root) k j
   root_taught w e =
-      taught e.core k j p (λ since. Rooted since e.core.past.now e.core.root) (record { front = e.core.changes; step = k.steps; pinned = moment_of k.pin }) pinned (event_later e tt) e.learned_is
+      taught e.core k j p (λ since. Rooted since e.core.past.now e.core.root) (record { front = e.core.changes; step = k.steps; pinned = version_of k.pin }) pinned (event_later e tt) e.learned_is
 
   pub slot_taught : (n i w : ℕ) (e : IsEvent layout (LoadRef (Slot n i) w) silent k j) →
-      IsTaught e.core (Placed p.moment e.core.past.now n i (entry_of (record_word e.core (a_node n) (26 + i)))) k j
+      IsTaught e.core (Placed p.version e.core.past.now n i (entry_of (record_word e.core (a_node n) (26 + i)))) k j
   slot_taught n i w e =
       taught e.core k j p (λ since. Placed since e.core.past.now n i (entry_of (record_word e.core (a_node n) (26 + i)))) k.fresh pinned (event_later e tt) e.learned_is
 
-  pub fixed_taught : (r : Rec) (offset w : ℕ) (e : IsEvent layout (LoadFixed r offset w) silent k j) → IsTaught e.core (Fixed p.moment e.core.past.now r offset w) k j
+  pub fixed_taught : (r : Rec) (offset w : ℕ) (e : IsEvent layout (LoadFixed r offset w) silent k j) → IsTaught e.core (Fixed p.version e.core.past.now r offset w) k j
   fixed_taught r offset w e =
       taught e.core k j p (λ since. Fixed since e.core.past.now r offset w) k.fresh pinned (event_later e tt) e.learned_is
 
--- the load was at the newest moment that the pass has seen then
+-- the load was at the newest version that the pass has seen then
 pub taught_now : {core : Core} {fact : Fact} {k j : Known} → IsLawful core → IsTaught core fact k j → length j.front ≡ core.past.now
 taught_now lawful t = ap length t.front ∙ lawful.core.told.count
 
--- what the load found of a record that stood before: it stood so at a moment that the pass has seen
+-- what the load found of a record that stood before: it stood so in a version that the pass has seen
 pub found_seen : (core c : Core) (k j : Known) (p m : ℕ) (r : Rec) (P : Tree → Type 0) → length j.front ≡ core.past.now → IsLater k j → p ≤ m →
     StoodBetween (seen c k) m (length k.front) r → HoldsIfStood c.past p core.past.now r P → StoodAs (seen c j) m (length j.front) r P
 found_seen core c k j p m r P now later low (o, u, lo, hi, st) found =

@@ -6,15 +6,15 @@ use Rattle.compound_node.specs.declared.entries.Entry.{Entry}
 use Rattle.compound_node.specs.declared.entries.Entry.TheVariants.{Leaf, Node}
 use Rattle.pieces.specs.Piece.{size}
 use Rattle.tries.specs.Keys.{Key}
-use Rattle.tries.specs.Tree.{Page, Tree, leaf, node, fork, Has, here}
+use Rattle.tries.specs.Tree.{Subtrie, Tree, leaf, node, fork, Has, here}
 use Rattle.tries.specs.Search.{Follows}
 use Rattle.tries.specs.Place.{spot}
 use Rattle.tries.proofs.Places.{spot_below}
 use Rattle.tries.proofs.Tries.{has?, follows_if_has}
-use Rattle.moments.specs.State.{Past, IsSteady, IsLed, IsMissed, IsHeldSince}
-use Rattle.moments.specs.declared.Rec.TheVariants.{Leaf as a_leaf}
-use Rattle.moments.proofs.States.{record_of_page}
-use Rattle.rowex_walks.specs.Scan.{IsSeen, IsRooted, IsBlank, IsPlaced, IsShaped, IsRead}
+use Rattle.versions.specs.State.{Past, IsSteady, IsLed, WasAbsentSince, IsHeldSince}
+use Rattle.versions.specs.declared.Rec.TheVariants.{Leaf as a_leaf}
+use Rattle.versions.proofs.States.{record_of_subtrie}
+use Rattle.rowex_walks.specs.Scan.{EntryStoodSince, IsRooted, IsBlank, IsPlaced, IsShaped, IsRead}
 use Rattle.rowex_walks.proofs.Scans.{led_placed, read_held}
 use Rattle.record_words.specs.declared.TheConstants.{HEAD_WORDS, LEAF_FIELDS}
 use Rattle.rowex_core.specs.declared.event.Event.{Event}
@@ -22,24 +22,24 @@ use Rattle.rowex_table.specs.Seats.{TableView, SeatView}
 use Rattle.rowex_reading.specs.Lookups.{HasFound, HasSearched}
 use Rattle.rowex_reading.specs.Reads.{Looks, Reads, ReadsRoot}
 use Rattle.rowex_reading.specs.Seen.{seen, Sure, since, IsCompared, IsLedTo, HasPlace, shape_of}
-use Rattle.rowex_core.specs.Knowing.{IsSince}
+use Rattle.rowex_core.specs.Knowing.{IsPinnedSince}
 use Rattle.rowex_reading.proofs.Led.{led_shape, looks_first, looks_on, reads_later, reads_trans, root_pinned, same_since, shape_place}
 use Rattle.rowex_reading.proofs.Seeing.{sure_later, sure_map, since_later, seen_steady, led_stable, shaped_stable}
 
--- Over moments alone
+-- Over versions alone
 
-led_seen : (s : Past) (m : ℕ) (k : Key) (e : Entry) → IsLed s m k e → IsSeen s m e
+led_seen : (s : Past) (m : ℕ) (k : Key) (e : Entry) → IsLed s m k e → EntryStoodSince s m e
 led_seen s m k e (n, u, lo, hi, st, pg, f) = (n, u, lo, hi, st, pg)
 
-blank_missed : (s : Past) (m : ℕ) (k : Key) → IsBlank s m → IsMissed s m k
+blank_missed : (s : Past) (m : ℕ) (k : Key) → IsBlank s m → WasAbsentSince s m k
 blank_missed s m k (n, lo, hi, none) = (n, lo, hi, λ t is h. absurd (let no : None ≡ Some t = sym none ∙ is in cc))
 
 -- A search begins at the root's entry.
 rooted_led : (s : Past) (m : ℕ) → IsSteady s m → (k : Key) (e : Entry) → IsRooted s m e → IsLed s m k e
 rooted_led s m steady k e (n, t, lo, hi, is, pg) =
-    (n, t, lo, hi, record { tree = t; is_moment = is; within = here; is_record = record_of_page e t pg }, pg, choose (has? t k))
+    (n, t, lo, hi, record { tree = t; is_version = is; within = here; is_record = record_of_subtrie e t pg }, pg, choose (has? t k))
   where
-    choose : Dec (Has t k) → Follows k t ⊎ IsMissed s m k
+    choose : Dec (Has t k) → Follows k t ⊎ WasAbsentSince s m k
     choose (yes x) = inl (follows_if_has t (steady.trees n t hi is).0 k x)
     choose (no x) = inr (n, lo, hi, λ u e h. x (subst (λ z. Has z k) (let q : u ≡ t = same (sym e ∙ is) in q) h))
       where
@@ -47,7 +47,7 @@ rooted_led s m steady k e (n, t, lo, hi, is, pg) =
         same e = cc
 
 -- It ends at a leaf: the leaf's key tells whether the key was held or absent.
-leaf_missed : (s : Past) (m : ℕ) → IsSteady s m → (k : Key) (n : ℕ) (l : Key) (v : ℕ) → IsLed s m k (Leaf n) → IsRead s m n l v → k ≢ l → IsMissed s m k
+leaf_missed : (s : Past) (m : ℕ) → IsSteady s m → (k : Key) (n : ℕ) (l : Key) (v : ℕ) → IsLed s m k (Leaf n) → IsRead s m n l v → k ≢ l → WasAbsentSince s m k
 leaf_missed s m steady k n l v (o, u, lo, hi, st, pg, inr missed) r ne = missed
 leaf_missed s m steady k n l v (o, leaf a y w, lo, hi, st, pg, inl follows) (p, la, ha, sa) ne =
     absurd (ne (follows ∙ (steady.same (a_leaf n) o p (leaf a y w) (leaf n l v) lo hi la ha st sa).0))
@@ -66,7 +66,7 @@ pub record IsAt {G : Type 0} (table : TableView) (becomes : G → Event → G �
   pub low : height ≤ 9 * MAX_BYTES
   pub few : loaded ≤ 26 * passed
   pub looks : Looks table becomes passed loaded a b
-  pub pinned : IsSince b.0.known (since b.0.known)
+  pub pinned : IsPinnedSince b.0.known (since b.0.known)
   pub led : Sure b.0.known (λ s. IsLed s (since b.0.known) key e)
 
 module _ {G : Type 0} {table : TableView} {becomes : G → Event → G → Type 0} where
@@ -104,7 +104,7 @@ module _ {G : Type 0} {table : TableView} {becomes : G → Event → G → Type 
     at_led e is = subst (IsLedTo b.0.known m) is (at.pinned, sure_map (λ s h. led_seen s m key d h) at.led)
 
     -- It is a node, whose forks are known: there is an entry at the key's place.
-    module _ {c : SeatView × G} (n height : ℕ) (forks : Page) (place : ℕ) (is : d ≡ Node n height) {loads : ℕ} (few : loads ≤ HEAD_WORDS) (reads : Reads table becomes 0 loads b c)
+    module _ {c : SeatView × G} (n height : ℕ) (forks : Subtrie) (place : ℕ) (is : d ≡ Node n height) {loads : ℕ} (few : loads ≤ HEAD_WORDS) (reads : Reads table becomes 0 loads b c)
         (shaped : Sure c.0.known (λ s. IsShaped s (since b.0.known) n forks)) (leads : place ≡ spot key forks) where
       pub place_of : HasPlace c.0.known (since b.0.known) n height place
       place_of = shape_place (led_shape m n height forks reads (at_led (Node n height) is) shaped)
@@ -120,7 +120,7 @@ module _ {G : Type 0} {table : TableView} {becomes : G → Event → G → Type 
         low = at.low;
         few = let f = at.few in omega (arith, f, few);
         looks = looks_on at.looks both;
-        pinned = subst (IsSince i.0.known) (sym kept) pinned;
+        pinned = subst (IsPinnedSince i.0.known) (sym kept) pinned;
         led = subst (λ o. Sure i.0.known (λ s. IsLed s o key e)) (sym kept)
             (λ o lawful recalls. led_placed (seen o i.0.known) m (seen_steady lawful recalls pinned) key n height place forks e
             (shapes o lawful recalls) (sym leads) (entry.1 o lawful recalls) (leads_on o lawful recalls));
@@ -132,7 +132,7 @@ module _ {G : Type 0} {table : TableView} {becomes : G → Event → G → Type 
           kept : since i.0.known ≡ m
           kept = same_since both
 
-          pinned : IsSince i.0.known m
+          pinned : IsPinnedSince i.0.known m
           pinned = since_later (reads_later both) at.pinned
 
           shapes : Sure i.0.known (λ s. IsShaped s m n forks)
@@ -167,7 +167,7 @@ module _ {G : Type 0} {table : TableView} {becomes : G → Event → G → Type 
       pub leaf_found : (found : Option ℕ) → ((m : ℕ) → IsLedTo b.0.known m (Leaf n) → Sure c.0.known (λ s. IsCompared s m n key found)) → HasFound c.0.known key found
       leaf_found (Some v) told = subst (λ o. Sure c.0.known (λ s. IsHeldSince s o key v)) (sym (same_since reads))
           (λ o lawful recalls. read_held (seen o c.0.known) m n key v (told m (at_led (Leaf n) is) o lawful recalls))
-      leaf_found None told = subst (λ o. Sure c.0.known (λ s. IsMissed s o key)) (sym (same_since reads))
+      leaf_found None told = subst (λ o. Sure c.0.known (λ s. WasAbsentSince s o key)) (sym (same_since reads))
           (λ o lawful recalls. (let other = told m (at_led (Leaf n) is) o lawful recalls in
           leaf_missed (seen o c.0.known) m (seen_steady lawful recalls (since_later (reads_later reads) at.pinned)) key n other.0 other.1 (led_there o lawful recalls) other.2 other.3))
         where

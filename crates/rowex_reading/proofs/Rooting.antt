@@ -11,19 +11,19 @@ use Rattle.pieces.specs.Piece.{Place}
 use Rattle.record_words.specs.declared.layout.Layout.{Layout}
 use Rattle.record_words.specs.Entry.{HasEntryWord, entry_word}
 use Rattle.record_words.specs.Reading.{IsSpelling}
-use Rattle.tries.specs.Tree.{Tree, leaf, node, fork, page, IsBuilt}
+use Rattle.tries.specs.Tree.{Tree, leaf, node, fork, subtrie, IsBuilt}
 use Rattle.tries.specs.Content.{Item, items, pairs}
-use Rattle.moments.specs.declared.Pin.{Pin}
-use Rattle.moments.specs.Heap.{Heap}
-use Rattle.moments.specs.State.{IsTop}
-use Rattle.moments.specs.Told.{content}
+use Rattle.versions.specs.declared.Pin.{Pin}
+use Rattle.versions.specs.Heap.{Heap}
+use Rattle.versions.specs.State.{IsTop}
+use Rattle.versions.specs.Told.{content}
 use Rattle.rowex_core.specs.declared.event.Act.TheVariants.{LoadRef}
 use Rattle.rowex_core.specs.declared.event.Spot.TheVariants.{Root}
 use Rattle.rowex_core.specs.declared.known.Fact.TheVariants.{Rooted}
 use Rattle.rowex_core.specs.declared.known.Fresh.{Fresh}
 use Rattle.rowex_core.specs.declared.known.Known.{Known}
 use Rattle.rowex_core.specs.Cores.{Core, IsLawful, heap_of}
-use Rattle.rowex_core.specs.Knowing.{Recalls, IsEvent, IsSince, moment_of}
+use Rattle.rowex_core.specs.Knowing.{Recalls, IsEvent, IsPinnedSince, version_of}
 use Rattle.rowex_core.proofs.Owning.{pin_is}
 use Rattle.rowex_core.specs.Reading.{entry_of, root_of, head_entry}
 use Rattle.rowex_core.proofs.Reading.{entry_of_word}
@@ -50,23 +50,23 @@ no_top heap None h = refl
 no_top heap (Some t) h = absurd h
 
 -- the tree whose head has the entry
-a_top : (t : Option Tree) (e : Entry) → root_of t ≡ Some e → (u : Tree) × (t ≡ Some u) × (page u ≡ Place e)
+a_top : (t : Option Tree) (e : Entry) → root_of t ≡ Some e → (u : Tree) × (t ≡ Some u) × (subtrie u ≡ Place e)
 a_top None e h = absurd (let x : None ≡ Some e = h in cc)
 a_top (Some t) e h = (t, refl, go t h)
   where
-    go : (t : Tree) → head_entry t ≡ Some e → page t ≡ Place e
+    go : (t : Tree) → head_entry t ≡ Some e → subtrie t ≡ Place e
     go (leaf n k v) p = cc
     go (node n x b) p = cc
     go (fork q a b) p = absurd cc
 
-low_height : (t : Tree) (e : Entry) → page t ≡ Place e → IsBuilt t → height_of e ≤ 9 * MAX_BYTES
+low_height : (t : Tree) (e : Entry) → subtrie t ≡ Place e → IsBuilt t → height_of e ≤ 9 * MAX_BYTES
 low_height (leaf n k v) e p b = subst (λ (z : Entry). height_of z ≤ 9 * MAX_BYTES) (place_entry p) (omega arith)
   where
-    place_entry : {x : Entry} → page (leaf n k v) ≡ Place x → Leaf n ≡ x
+    place_entry : {x : Entry} → subtrie (leaf n k v) ≡ Place x → Leaf n ≡ x
     place_entry q = cc
 low_height (node n x d) e p b = subst (λ (z : Entry). height_of z ≤ 9 * MAX_BYTES) (place_entry p) (let f = b.3.bound in omega arith)
   where
-    place_entry : {y : Entry} → page (node n x d) ≡ Place y → Node n x.height ≡ y
+    place_entry : {y : Entry} → subtrie (node n x d) ≡ Place y → Node n x.height ≡ y
     place_entry q = cc
 low_height (fork q a d) e p b = absurd cc
 
@@ -78,24 +78,24 @@ module _ (layout : Layout) (k j : Known) (p : Pin) (pinned : k.pin ≡ Some p) (
   abbrev core : Core
   core = event.core
 
-  is : IsTaught core (Rooted p.moment core.past.now core.root) k j
+  is : IsTaught core (Rooted p.version core.past.now core.root) k j
   is = root_taught layout k j p pinned w event
 
-  fresh_is : j.fresh ≡ record { front = core.changes; step = k.steps; pinned = moment_of k.pin }
+  fresh_is : j.fresh ≡ record { front = core.changes; step = k.steps; pinned = version_of k.pin }
   fresh_is = ap (λ (z : Known). z.fresh) event.learned_is
 
-  pub root_fresh : j.fresh ≡ record { front = j.front; step = k.steps; pinned = moment_of k.pin }
-  root_fresh = fresh_is ∙ ap (λ (z : List Change). let f : Fresh = record { front = z; step = k.steps; pinned = moment_of k.pin } in f) (sym is.front)
+  pub root_fresh : j.fresh ≡ record { front = j.front; step = k.steps; pinned = version_of k.pin }
+  root_fresh = fresh_is ∙ ap (λ (z : List Change). let f : Fresh = record { front = z; step = k.steps; pinned = version_of k.pin } in f) (sym is.front)
 
-  -- the newest moment, by its number
+  -- the newest version, by its number
   fresh_now : since j ≡ core.past.now
   fresh_now = ap (λ (z : Fresh). length z.front) fresh_is ∙ event.lawful.core.told.count
 
-  pub root_since : IsSince j (since j)
+  pub root_since : IsPinnedSince j (since j)
   root_since = (
     p,
     ap (λ (z : Known). z.pin) event.learned_is ∙ pinned,
-    subst (λ z. p.moment ≤ z) (sym fresh_now) (event.lawful.core.paced.floors k.pass p (pin_is core k event.knows ∙ pinned)).2,
+    subst (λ z. p.version ≤ z) (sym fresh_now) (event.lawful.core.paced.floors k.pass p (pin_is core k event.knows ∙ pinned)).2,
   )
 
   found_root : (e : Option Entry) → HasEntryWord e → entry_word e ≡ w → e ≡ core.root
@@ -104,23 +104,23 @@ module _ (layout : Layout) (k j : Known) (p : Pin) (pinned : k.pin ≡ Some p) (
   pub root_low : (e : Option Entry) → HasEntryWord e → entry_word e ≡ w → IfSome e (λ x. height_of x ≤ 9 * MAX_BYTES)
   root_low e has spells = go e (found_root e has spells)
     where
-      top : (t : Option Tree) (x : Entry) → core.past.moment core.past.now ≡ t → IsTop (heap_of core.words) (Some x) t → height_of x ≤ 9 * MAX_BYTES
+      top : (t : Option Tree) (x : Entry) → core.past.version core.past.now ≡ t → IsTop (heap_of core.words) (Some x) t → height_of x ≤ 9 * MAX_BYTES
       top None x g h = absurd h
       top (Some t) x g h = low_height t x h.0 (event.lawful.core.state.trees core.past.now t (le_refl core.past.now) g).1
 
       go : (e : Option Entry) → e ≡ core.root → IfSome e (λ x. height_of x ≤ 9 * MAX_BYTES)
       go None h = tt
-      go (Some x) h = top (core.past.moment core.past.now) x refl (subst (λ z. IsTop (heap_of core.words) z (core.past.moment core.past.now)) (sym h) event.lawful.core.state.top)
+      go (Some x) h = top (core.past.version core.past.now) x refl (subst (λ z. IsTop (heap_of core.words) z (core.past.version core.past.now)) (sym h) event.lawful.core.state.top)
 
   -- in each core of which j is true, the root was this one then
-  fact_there : (c : Core) → Recalls c j → root_of (c.past.moment (since j)) ≡ core.root
-  fact_there c recalls = ap (λ z. root_of (c.past.moment z)) fresh_now ∙ (is.fact c recalls).2
+  fact_there : (c : Core) → Recalls c j → root_of (c.past.version (since j)) ≡ core.root
+  fact_there c recalls = ap (λ z. root_of (c.past.version z)) fresh_now ∙ (is.fact c recalls).2
 
   front_long : since j ≤ length j.front
   front_long = subst (λ z. z ≤ length j.front) (sym fresh_now) (subst (λ z. core.past.now ≤ z) (sym (taught_now event.lawful is)) (le_refl core.past.now))
 
   -- and the content is that of the core here
-  same_content : (c : Core) → IsLawful c → Recalls c j → content (c.past.moment (since j)) ≡ content (core.past.moment core.past.now)
+  same_content : (c : Core) → IsLawful c → Recalls c j → content (c.past.version (since j)) ≡ content (core.past.version core.past.now)
   same_content c lawful recalls =
       (seen_told lawful recalls).content_is (since j) front_long ∙
       (ap (λ (z : ℕ). map_of (take z j.front)) fresh_now ∙ (ap (λ (z : List Change). map_of (take core.past.now z)) is.front ∙ sym (event.lawful.core.told.content_is core.past.now (le_refl core.past.now))))
@@ -133,7 +133,7 @@ module _ (layout : Layout) (k j : Known) (p : Pin) (pinned : k.pin ≡ Some p) (
         since j,
         le_refl (since j),
         front_long,
-        no_tree (c.past.moment (since j)) (same_content c lawful recalls ∙
-            ap content (no_top (heap_of core.words) (core.past.moment core.past.now) (subst (λ z. IsTop (heap_of core.words) z (core.past.moment core.past.now)) (sym h) event.lawful.core.state.top))),
+        no_tree (c.past.version (since j)) (same_content c lawful recalls ∙
+            ap content (no_top (heap_of core.words) (core.past.version core.past.now) (subst (λ z. IsTop (heap_of core.words) z (core.past.version core.past.now)) (sym h) event.lawful.core.state.top))),
       )
-      go (Some x) h = λ c lawful recalls. (let t = a_top (c.past.moment (since j)) x (fact_there c recalls ∙ sym h) in (since j, t.0, le_refl (since j), front_long, t.1, t.2))
+      go (Some x) h = λ c lawful recalls. (let t = a_top (c.past.version (since j)) x (fact_there c recalls ∙ sym h) in (since j, t.0, le_refl (since j), front_long, t.1, t.2))

@@ -11,19 +11,19 @@ use Rattle.finite_map.proofs.Growth.{legal_front_part, others_none}
 use Rattle.tries.specs.Keys.{Key}
 use Rattle.tries.specs.Place.{spot}
 use Rattle.tries.proofs.Places.{leads_spot}
-use Rattle.tries.specs.Tree.{Page, Tree}
-use Rattle.moments.specs.declared.Rec.{Rec}
-use Rattle.moments.specs.State.{Past, Stands, IsHeldSince, IsMissed, IsLed, IsSteady, rec_of}
-use Rattle.moments.specs.Core.{pin_moment}
-use Rattle.moments.specs.Frames.{IsGrown}
-use Rattle.moments.specs.Told.{TellChanges}
-use Rattle.moments.proofs.Growth.{stands_grown}
-use Rattle.moments.proofs.States.{steady, reach_later}
+use Rattle.tries.specs.Tree.{Subtrie, Tree}
+use Rattle.versions.specs.declared.Rec.{Rec}
+use Rattle.versions.specs.State.{Past, Stands, IsHeldSince, WasAbsentSince, IsLed, IsSteady, rec_of}
+use Rattle.versions.specs.Core.{pin_version}
+use Rattle.versions.specs.Frames.{IsGrown}
+use Rattle.versions.specs.Told.{TellChanges}
+use Rattle.versions.proofs.Growth.{stands_grown}
+use Rattle.versions.proofs.States.{steady, reach_later}
 use Rattle.rowex_core.specs.declared.known.Known.{Known}
 use Rattle.rowex_core.specs.Cores.{Core, IsLawful}
-use Rattle.rowex_core.specs.Knowing.{Recalls, IsSince}
-use Rattle.rowex_walks.specs.Scan.{IsSeen, IsRooted, IsPlaced, IsShaped, IsRead, IsBlank}
-use Rattle.rowex_walks.proofs.Persist.{rooted_on, placed_on, shaped_on, read_on}
+use Rattle.rowex_core.specs.Knowing.{Recalls, IsPinnedSince}
+use Rattle.rowex_walks.specs.Scan.{EntryStoodSince, IsRooted, IsPlaced, IsShaped, IsRead, IsBlank}
+use Rattle.rowex_walks.proofs.Persist.{rooted_grown, placed_grown, shaped_grown, read_grown}
 use Rattle.rowex_reading.specs.Seen.{seen, shape_of, Sure, HasRoom}
 use Rattle.rowex_table.specs.Made.{IsLater}
 pub use Rattle.rowex_table.proofs.ActsBefore.{later_trans, recalls_before}
@@ -31,10 +31,10 @@ use Rattle.rowex_core.proofs.Loading.{view}
 
 -- Later on
 
-pub later_none : (k : Known) → IsLater k k
-later_none k = record { pass = refl; pin = refl; front = others_none k.pass k.front; facts = λ s h. h }
+pub later_reflexive : (k : Known) → IsLater k k
+later_reflexive k = record { pass = refl; pin = refl; front = others_none k.pass k.front; facts = λ s h. h }
 
--- the moments that it has seen become more
+-- the versions that it has seen become more
 pub seen_grown : {k j : Known} (c : Core) → IsLater k j → IsGrown (seen c k) (seen c j)
 seen_grown {k} {j} c l = record { longer = omega (arith, ap length l.front.1, length-append k.front l.front.0); kept = λ n a. refl }
 
@@ -50,10 +50,10 @@ sure_later {P} {k} {j} stable l sure c lawful recalls = stable (seen c k) (seen 
 pub sure_map : {P Q : Past → Type 0} {k : Known} → ((s : Past) → P s → Q s) → Sure k P → Sure k Q
 sure_map f sure c lawful recalls = f _ (sure c lawful recalls)
 
-pub since_later : {m : ℕ} {k j : Known} → IsLater k j → IsSince k m → IsSince j m
+pub since_later : {m : ℕ} {k j : Known} → IsLater k j → IsPinnedSince k m → IsPinnedSince j m
 since_later l (p, is, low) = (p, l.pin ∙ is, low)
 
--- The moments that a pass has seen are those of the core up to one of them
+-- The versions that a pass has seen are those of the core up to one of them
 
 pub seen_within : {c : Core} {k : Known} → IsLawful c → Recalls c k → length k.front ≤ c.past.now
 seen_within {c} {k} lawful recalls = omega (arith, lawful.core.told.count, ap length recalls.front.1, length-append k.front recalls.front.0)
@@ -62,10 +62,10 @@ pub seen_past : {c : Core} {k : Known} → IsLawful c → Recalls c k → IsGrow
 seen_past lawful recalls = record { longer = seen_within lawful recalls; kept = λ n a. refl }
 
 pub stands_in : (c : Core) (k : Known) {n : ℕ} {r : Rec} {u : Tree} → Stands (seen c k) n r u → Stands c.past n r u
-stands_in c k st = record { tree = st.tree; is_moment = st.is_moment; within = st.within; is_record = st.is_record }
+stands_in c k st = record { tree = st.tree; is_version = st.is_version; within = st.within; is_record = st.is_record }
 
 pub stands_seen : (c : Core) (k : Known) {n : ℕ} {r : Rec} {u : Tree} → Stands c.past n r u → Stands (seen c k) n r u
-stands_seen c k st = record { tree = st.tree; is_moment = st.is_moment; within = st.within; is_record = st.is_record }
+stands_seen c k st = record { tree = st.tree; is_version = st.is_version; within = st.within; is_record = st.is_record }
 
 take_front : (n : ℕ) (xs ys : List Change) → n ≤ length xs → take n (xs ++ ys) ≡ take n xs
 take_front zero xs ys h = refl
@@ -82,7 +82,7 @@ seen_told {c} {k} lawful recalls = record {
 }
 
 -- and since its pin the records keep their fixed words
-pub seen_steady : {c : Core} {k : Known} {m : ℕ} → IsLawful c → Recalls c k → IsSince k m → IsSteady (seen c k) m
+pub seen_steady : {c : Core} {k : Known} {m : ℕ} → IsLawful c → Recalls c k → IsPinnedSince k m → IsSteady (seen c k) m
 seen_steady {c} {k} {m} lawful recalls (p, is, low) = record {
   trees = λ n t h e. all.trees n t (le_trans h within) e;
   same = λ r n o u v a b d e x y. all.same r n o u v a (le_trans b within) d (le_trans e within) (stands_in c k x) (stands_in c k y);
@@ -92,27 +92,27 @@ seen_steady {c} {k} {m} lawful recalls (p, is, low) = record {
     within = seen_within lawful recalls
 
     all : IsSteady c.past m
-    all = steady (view c) lawful.core.state m (reach_later (view c) p.moment m low (lawful.core.state.reach k.pass p.moment (ap pin_moment (recalls.pin ∙ is))))
+    all = steady (view c) lawful.core.state m (reach_later (view c) p.version m low (lawful.core.state.reach k.pass p.version (ap pin_version (recalls.pin ∙ is))))
 
 -- What stays true as the past grows
 
-pub seen_stable : (m : ℕ) (e : Entry) → IsStable (λ s. IsSeen s m e)
+pub seen_stable : (m : ℕ) (e : Entry) → IsStable (λ s. EntryStoodSince s m e)
 seen_stable m e a b g (n, u, lo, hi, st, pg) = (n, u, lo, le_trans hi g.longer, stands_grown a b g n (rec_of e) u hi st, pg)
 
 pub rooted_stable : (m : ℕ) (e : Entry) → IsStable (λ s. IsRooted s m e)
-rooted_stable m e a b g h = rooted_on a b g m e h
+rooted_stable m e a b g h = rooted_grown a b g m e h
 
 pub placed_stable : (m r j : ℕ) (e : Entry) → IsStable (λ s. IsPlaced s m r j e)
-placed_stable m r j e a b g h = placed_on a b g m r j e h
+placed_stable m r j e a b g h = placed_grown a b g m r j e h
 
-pub shaped_stable : (m r : ℕ) (p : Page) → IsStable (λ s. IsShaped s m r p)
-shaped_stable m r p a b g h = shaped_on a b g m r p h
+pub shaped_stable : (m r : ℕ) (p : Subtrie) → IsStable (λ s. IsShaped s m r p)
+shaped_stable m r p a b g h = shaped_grown a b g m r p h
 
 pub room_stable : (m r i : ℕ) → IsStable (λ s. HasRoom s m r i)
 room_stable m r i a b g (x, shaped, low) = (x, shaped_stable m r x a b g shaped, low)
 
 pub read_stable : (m r : ℕ) (k : Key) (v : ℕ) → IsStable (λ s. IsRead s m r k v)
-read_stable m r k v a b g h = read_on a b g m r k v h
+read_stable m r k v a b g h = read_grown a b g m r k v h
 
 pub blank_stable : (m : ℕ) → IsStable (λ s. IsBlank s m)
 blank_stable m a b g (n, lo, hi, e) = (n, lo, le_trans hi g.longer, g.kept n hi ∙ e)
@@ -120,7 +120,7 @@ blank_stable m a b g (n, lo, hi, e) = (n, lo, le_trans hi g.longer, g.kept n hi 
 pub held_stable : (m : ℕ) (k : Key) (v : ℕ) → IsStable (λ s. IsHeldSince s m k v)
 held_stable m k v a b g (n, t, lo, hi, e, h) = (n, t, lo, le_trans hi g.longer, g.kept n hi ∙ e, h)
 
-pub missed_stable : (m : ℕ) (k : Key) → IsStable (λ s. IsMissed s m k)
+pub missed_stable : (m : ℕ) (k : Key) → IsStable (λ s. WasAbsentSince s m k)
 missed_stable m k a b g (n, lo, hi, absent) = (n, lo, le_trans hi g.longer, λ t e. absent t (sym (g.kept n hi) ∙ e))
 
 pub led_stable : (m : ℕ) (k : Key) (e : Entry) → IsStable (λ s. IsLed s m k e)

@@ -8,9 +8,9 @@ use Rattle.tries.proofs.Building.{size-piece}
 use Rattle.tries.proofs.Places.{spot_below}
 use Rattle.tries.specs.Keys.{Key}
 use Rattle.tries.specs.Place.{spot}
-use Rattle.tries.specs.Tree.{Page}
+use Rattle.tries.specs.Tree.{Subtrie}
 use Rattle.rowex_core.specs.declared.known.Known.{Known}
-use Rattle.rowex_core.specs.Knowing.{IsSince}
+use Rattle.rowex_core.specs.Knowing.{IsPinnedSince}
 use Rattle.rowex_core.proofs.Owning.{recalls}
 use Rattle.rowex_walks.specs.Scan.{IsShaped}
 use Rattle.rowex_walks.proofs.Scans.{shaped}
@@ -19,7 +19,7 @@ use Rattle.rowex_reading.specs.Seen.{Sure, seen, shape_of}
 use Rattle.rowex_reading.proofs.Seeing.{seen_steady}
 
 -- forks that were read twice
-pub same_shape : (layout : Layout) (k : Known) (m n : ℕ) (x y : Page) → IsPossible layout k → IsSince k m → Sure k (λ past. IsShaped past m n x) → Sure k (λ past. IsShaped past m n y) → x ≡ y
+pub same_shape : (layout : Layout) (k : Known) (m n : ℕ) (x y : Subtrie) → IsPossible layout k → IsPinnedSince k m → Sure k (λ past. IsShaped past m n x) → Sure k (λ past. IsShaped past m n y) → x ≡ y
 same_shape layout k m n x y possible since one two =
     let c = possible.core in
     let known = recalls c k possible.knows in
@@ -31,5 +31,5 @@ pub rows_are : (head : HeadView) → IsLawfulNode (node_of head (leaves (length 
 rows_are head lawful = let v = node_of head (leaves (length head.rows)) in same_count v lawful ∙ sym (size-piece v lawful)
 
 -- so the place on the key's way is one of them
-pub row_below : (head : HeadView) (key : Key) (x : Page) (at : ℕ) → IsLawfulNode (node_of head (leaves (length head.rows))) → at ≡ spot key x → x ≡ shape_of head → at < length head.rows
+pub row_below : (head : HeadView) (key : Key) (x : Subtrie) (at : ℕ) → IsLawfulNode (node_of head (leaves (length head.rows))) → at ≡ spot key x → x ≡ shape_of head → at < length head.rows
 row_below head key x at lawful is same = subst (λ z. at < z) (sym (rows_are head lawful)) (subst (λ z. at < size z) same (subst (λ z. z < size x) (sym is) (spot_below key x)))

@@ -10,20 +10,20 @@ use Rattle.record_words.specs.Node.{head_words, entry_words}
 use Rattle.record_words.proofs.Entries.{entry_words_at}
 use Rattle.record_words.proofs.Fixing.{fixed_words_parts}
 use Rattle.tries.specs.Tree.{Tree}
-use Rattle.moments.specs.declared.Rec.{Rec}
-use Rattle.moments.specs.declared.Rec.TheVariants.{Node as a_node}
-use Rattle.moments.specs.State.{Stands, IsReach, rec_of}
-use Rattle.moments.specs.Core.{Fate, Free, Held, Ready, InTree, Unlinked, Marked, pin_moment}
-use Rattle.moments.proofs.States.{reach_later}
+use Rattle.versions.specs.declared.Rec.{Rec}
+use Rattle.versions.specs.declared.Rec.TheVariants.{Node as a_node}
+use Rattle.versions.specs.State.{Stands, IsReach, rec_of}
+use Rattle.versions.specs.Core.{Fate, Free, Held, Ready, InTree, Unlinked, Marked, pin_version}
+use Rattle.versions.proofs.States.{reach_later}
 use Rattle.rowex_core.specs.declared.known.Known.{Known}
 use Rattle.rowex_core.specs.Cores.{Core, IsLawful, IsWhole, HasRecord, FitsIn}
 use Rattle.rowex_core.specs.Events.{IsFixedOffset}
-use Rattle.rowex_core.specs.Knowing.{Recalls, IsSince}
+use Rattle.rowex_core.specs.Knowing.{Recalls, IsPinnedSince}
 use Rattle.rowex_core.proofs.Owning.{recalls}
 use Rattle.rowex_core.specs.Reading.{IsPacked, word_in}
 use Rattle.rowex_core.specs.Words.{record_word}
 use Rattle.rowex_core.proofs.Promises.{in_reach}
-use Rattle.rowex_walks.specs.Scan.{IsSeen}
+use Rattle.rowex_walks.specs.Scan.{EntryStoodSince}
 use Rattle.rowex_reading.specs.Possible.{IsPossible}
 use Rattle.rowex_reading.specs.Seen.{seen, IsLedTo}
 use Rattle.rowex_reading.proofs.Seeing.{seen_within, stands_in}
@@ -37,16 +37,16 @@ whole (InTree s) a b = tt
 whole (Unlinked s l q) a b = tt
 whole (Marked s l e) a b = tt
 
-module _ (c : Core) (k : Known) (lawful : IsLawful c) (known : Recalls c k) (m : ℕ) (pinned : IsSince k m) where
+module _ (c : Core) (k : Known) (lawful : IsLawful c) (known : Recalls c k) (m : ℕ) (pinned : IsPinnedSince k m) where
   -- the pass's reach
   pub reach : IsReach (view c) m
-  reach = reach_later (view c) pinned.0.moment m pinned.2 (lawful.core.state.reach k.pass pinned.0.moment (ap pin_moment (known.pin ∙ pinned.1)))
+  reach = reach_later (view c) pinned.0.version m pinned.2 (lawful.core.state.reach k.pass pinned.0.version (ap pin_version (known.pin ∙ pinned.1)))
 
   -- the words of a record that stood are those that it has now
   pub word_stays : (n : ℕ) (r : Rec) (u : Tree) → m ≤ n → n ≤ c.past.now → Stands c.past n r u → (offset : ℕ) → IsFixedOffset r offset → record_word c r offset ≡ word_in u offset
   word_stays n r u lo hi st = (in_reach c lawful k.pass pinned.0 (known.pin ∙ pinned.1) n r u (le_trans pinned.2 lo) hi st).2
 
-  module _ (e : Entry) (led : IsSeen (seen c k) m e) where
+  module _ (e : Entry) (led : EntryStoodSince (seen c k) m e) where
     fate_is : (c.fate (rec_of e) ≢ Free) × ((o : ℕ) → c.fate (rec_of e) ≢ Held o)
     fate_is =
         let h = in_reach c lawful k.pass pinned.0 (known.pin ∙ pinned.1) led.0 (rec_of e) led.1 (le_trans pinned.2 led.2) (le_trans led.3 (seen_within lawful known)) (stands_in c k led.4) in

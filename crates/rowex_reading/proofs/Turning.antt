@@ -8,32 +8,33 @@ use Rattle.std.proofs.Math.Nat.{suc-mul}
 use Rattle.compound_node.specs.declared.entries.Entry.{Entry}
 use Rattle.compound_node.specs.declared.entries.Entry.TheVariants.{Node}
 use Rattle.compound_node.specs.Nodes.{height_of}
-use Rattle.moments.specs.State.{IsSteady, Past}
+use Rattle.versions.specs.State.{IsSteady, Past}
 use Rattle.pieces.specs.Piece.{size}
 use Rattle.tries.specs.Keys.{Key}
-use Rattle.tries.specs.Tree.{Page}
+use Rattle.tries.specs.Tree.{Subtrie}
 use Rattle.tries.proofs.Places.{spot_below}
 use Rattle.rowex_core.specs.declared.known.Known.{Known}
-use Rattle.rowex_core.specs.Knowing.{IsSince}
+use Rattle.rowex_core.specs.Knowing.{IsPinnedSince}
 use Rattle.rowex_table.specs.Made.{IsLater}
-use Rattle.rowex_walks.specs.Scan.{IsPlaced, IsSeen, IsShaped}
+use Rattle.rowex_walks.specs.Scan.{IsPlaced, EntryStoodSince, IsShaped}
 use Rattle.rowex_walks.proofs.Scans.{node_of, shaped}
-use Rattle.rowex_reading.specs.Turns.{AreAlong, AreRows, AreSomeTurns, AreTips, AreTurns, IsSomeTurn, IsWayTip, IsTurn, StandsAt, turns_in}
+use Rattle.rowex_reading.specs.Turns.{AreTurnsOfKey, AreRows, AreSomeTurns, AreTips, AreTurns, IsSomeTurn, IsWayTip, IsTurn, StandsAt, turns_in}
 use Rattle.rowex_reading.specs.Seen.{HasPlace, IsLedTo, RootIs, Sure, seen, since}
 use Rattle.rowex_reading.specs.declared.along.Turn.{Turn}
 use Rattle.rowex_reading.proofs.Led.{placed_led, rooted_led, shape_place}
-use Rattle.rowex_reading.proofs.Placing.{to_stood}
+use Rattle.rowex_reading.proofs.Placing.{stood_if_stands}
 use Rattle.rowex_reading.proofs.Seeing.{seen_stable, seen_steady, shaped_stable, since_later, sure_later}
 
--- A node that was seen since m has the forks that it had at a moment since l, at which its pass was pinned, whichever of both is older.
-shape_then : (s : Past) (l m n h : ℕ) (x : Page) → IsSteady s l → IsShaped s l n x → IsSeen s m (Node n h) → IsShaped s m n x
+-- A node that was seen since m has the forks that it had in a version since l, at which its pass was pinned, whichever of both is
+-- older.
+shape_then : (s : Past) (l m n h : ℕ) (x : Subtrie) → IsSteady s l → IsShaped s l n x → EntryStoodSince s m (Node n h) → IsShaped s m n x
 shape_then s l m n h x steady had (at, u, low, high, st, pg) =
     let is = node_of n h u pg in
     ⊎_elim (λ (less : m < l). (had.0, record { at = had.1.at; since = le_trans (omega (arith, less)) had.1.since; until = had.1.until; fixed = had.1.fixed; stands = had.1.stands }, had.2))
-    (λ (more : l ≤ m). (is.1, to_stood s m n at u is.0 is.1 is.2 low high st, shaped s l steady n x is.1 had (to_stood s l n at u is.0 is.1 is.2 (le_trans more low) high st)))
+    (λ (more : l ≤ m). (is.1, stood_if_stands s m n at u is.0 is.1 is.2 low high st, shaped s l steady n x is.1 had (stood_if_stands s l n at u is.0 is.1 is.2 (le_trans more low) high st)))
     (cases_lt m l)
 
-pub shape_kept : (k : Known) (l m n h : ℕ) (x : Page) → IsSince k l → Sure k (λ s. IsShaped s l n x) → IsLedTo k m (Node n h) → Sure k (λ s. IsShaped s m n x)
+pub shape_kept : (k : Known) (l m n h : ℕ) (x : Subtrie) → IsPinnedSince k l → Sure k (λ s. IsShaped s l n x) → IsLedTo k m (Node n h) → Sure k (λ s. IsShaped s m n x)
 shape_kept k l m n h x pinned had led c lawful recalls =
     shape_then (seen c k) l m n h x (seen_steady lawful recalls pinned) (had c lawful recalls) (led.1 c lawful recalls)
 
@@ -45,7 +46,7 @@ turn_place {k} {key} {t} turn = shape_place {x = turn.forks} (turn.led, turn.sha
 
 module _ {k j : Known} (later : IsLater k j) where
   led_later : (m : ℕ) (e : Entry) → IsLedTo k m e → IsLedTo j m e
-  led_later m e (pinned, sure) = (since_later later pinned, sure_later {P = λ s. IsSeen s m e} (seen_stable m e) later sure)
+  led_later m e (pinned, sure) = (since_later later pinned, sure_later {P = λ s. EntryStoodSince s m e} (seen_stable m e) later sure)
 
   pub tip_later : (e : Entry) → IsWayTip k e → IsWayTip j e
   tip_later e (m, led) = (m, led_later m e led)
@@ -72,7 +73,7 @@ module _ {k j : Known} (later : IsLater k j) where
   pub rows_later : (keys : List Key) (first : ℕ) (rows : List (List (Option Turn))) → AreRows k keys first rows → AreRows j keys first rows
   rows_later keys first rows are depth row at = turns_later keys first row (are depth row at)
 
-  pub along_later : (key : Key) (i : ℕ) (rows : List (List (Option Turn))) → AreAlong k key i rows → AreAlong j key i rows
+  pub along_later : (key : Key) (i : ℕ) (rows : List (List (Option Turn))) → AreTurnsOfKey k key i rows → AreTurnsOfKey j key i rows
   along_later key i rows are depth t at = turn_later key t (are depth t at)
 
   -- the entry at the turn's place, once it is loaded
@@ -102,7 +103,7 @@ in_set (z ∷ zs) (suc i) zero x y at = inr at
 in_set (z ∷ zs) (suc i) (suc j) x y at = ⊎_elim (λ (both : (j ≡ i) × (x ≡ y)). inl (ap suc both.0, both.1)) (λ (other : slice_get zs j ≡ Some y). inr other) (in_set zs i j x y at)
 
 -- the root's entry
-pub root_tip : (k : Known) (o : Option Entry) → RootIs k o → IsSince k (since k) → IfSome o (IsWayTip k)
+pub root_tip : (k : Known) (o : Option Entry) → RootIs k o → IsPinnedSince k (since k) → IfSome o (IsWayTip k)
 root_tip k None root pinned = tt
 root_tip k (Some e) root pinned = (since k, rooted_led e (pinned, root))
 
@@ -150,7 +151,7 @@ turns_some k keys first count row room are i t low at =
     has (x ∷ xs) (suc n) low = has xs n (omega (arith, low))
 
 -- the rows are those of each key
-pub rows_along : (k : Known) (keys : List Key) (first i : ℕ) (key : Key) (rows : List (List (Option Turn))) → AreRows k keys first rows → slice_get keys (first + i) ≡ Some key → AreAlong k key i rows
+pub rows_along : (k : Known) (keys : List Key) (first i : ℕ) (key : Key) (rows : List (List (Option Turn))) → AreRows k keys first rows → slice_get keys (first + i) ≡ Some key → AreTurnsOfKey k key i rows
 rows_along k keys first i key rows are is depth t (row, at, there) = are depth row at i t key there is
 
 -- What stands in a list, read
@@ -192,7 +193,7 @@ stands_at rows depth i = go (get_or (get_or rows depth []) i None) refl
     go (Some t) is = read_rows rows depth i t is
 
 -- the turns that stand there are those of the key
-pub along_at : {k : Known} (key : Key) (i depth : ℕ) (rows : List (List (Option Turn))) (o : Option Turn) → AreAlong k key i rows → IfSome o (StandsAt rows depth i) → IfSome o (IsTurn k key)
+pub along_at : {k : Known} (key : Key) (i depth : ℕ) (rows : List (List (Option Turn))) (o : Option Turn) → AreTurnsOfKey k key i rows → IfSome o (StandsAt rows depth i) → IfSome o (IsTurn k key)
 along_at key i depth rows None are at = tt
 along_at key i depth rows (Some t) are at = are depth t at
 

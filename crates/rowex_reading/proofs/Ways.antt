@@ -2,14 +2,14 @@
 use Rattle.std.proofs.Common.{◌≡◌, ℕ, zero, suc, ◌≤◌, List, [], ◌∷◌, length, Option, Some, None, refl, ap, arith}
 use Rattle.std.specs.Prelude.{slice_get}
 use Rattle.insert_cases.specs.declared.choice.Step.{Step}
-use Rattle.insert_cases.proofs.Choosing.{same_some}
+use Rattle.insert_cases.proofs.Choosing.{some_injective}
 use Rattle.compound_node.specs.declared.entries.Entry.{Entry}
 use Rattle.compound_node.specs.declared.entries.Entry.TheVariants.{Node}
 use Rattle.record_words.specs.declared.layout.Layout.{Layout}
 use Rattle.tries.specs.Keys.{Key}
 use Rattle.rowex_core.specs.declared.known.Known.{Known}
 use Rattle.rowex_table.specs.Made.{IsLater}
-use Rattle.rowex_walks.specs.Scan.{IsSeen, IsRooted, IsBlank, IsPlaced, IsShaped, IsRead}
+use Rattle.rowex_walks.specs.Scan.{EntryStoodSince, IsRooted, IsBlank, IsPlaced, IsShaped, IsRead}
 use Rattle.rowex_reading.specs.Seen.{seen}
 use Rattle.rowex_reading.proofs.Seeing.{sure_later, since_later, seen_stable, rooted_stable, placed_stable, shaped_stable, read_stable, blank_stable}
 use Rattle.rowex_reading.specs.Ways.{IsWayOf, IsWayNode, IsFoundAt, RootWas, end_of, named}
@@ -19,7 +19,7 @@ use Rattle.rowex_reading.specs.declared.descent.Found.TheVariants.{Nothing, Leaf
 -- what names a node of a way
 pub named_at : (way : List Step) (found : Found) (i : ℕ) (s : Step) → slice_get way i ≡ Some s → named way found i ≡ Some (Node s.number s.height)
 named_at [] found i s at = absurd (let z : None ≡ Some s = at in cc)
-named_at (x ∷ way) found zero s at = ap (λ (z : Step). Some (Node z.number z.height)) (same_some at)
+named_at (x ∷ way) found zero s at = ap (λ (z : Step). Some (Node z.number z.height)) (some_injective at)
 named_at (x ∷ way) found (suc i) s at = named_at way found i s at
 
 -- and what its search ended at
@@ -37,7 +37,7 @@ module _ (layout : Layout) (k j : Known) (m : ℕ) (key : Key) (later : IsLater 
   node_later s e w = record {
     forks = w.forks;
     range = w.range;
-    seen = sure_later {P = λ p. IsSeen p m (Node s.number s.height)} (seen_stable m (Node s.number s.height)) later w.seen;
+    seen = sure_later {P = λ p. EntryStoodSince p m (Node s.number s.height)} (seen_stable m (Node s.number s.height)) later w.seen;
     shaped = sure_later {P = λ p. IsShaped p m s.number w.forks} (shaped_stable m s.number w.forks) later w.shaped;
     placed = sure_later {P = λ p. IsPlaced p m s.number s.at e} (placed_stable m s.number s.at e) later w.placed;
     at = w.at;

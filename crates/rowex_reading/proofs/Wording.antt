@@ -4,21 +4,21 @@ use Rattle.std.proofs.lemmas.Bool.{cases_lt}
 use Rattle.std.proofs.lemmas.List.{ext_get_or, get_or-set_same, get_or-set_other, get_or-take, length-take-le}
 use Rattle.compound_node.specs.declared.entries.Entry.{Entry}
 use Rattle.record_words.specs.declared.layout.Layout.{Layout}
-use Rattle.moments.specs.declared.Pin.{Pin}
-use Rattle.moments.specs.declared.Rec.{Rec}
-use Rattle.moments.specs.State.{Past, rec_of}
-use Rattle.moments.proofs.Growth.{stands_grown}
+use Rattle.versions.specs.declared.Pin.{Pin}
+use Rattle.versions.specs.declared.Rec.{Rec}
+use Rattle.versions.specs.State.{Past, rec_of}
+use Rattle.versions.proofs.Growth.{stands_grown}
 use Rattle.rowex_core.specs.declared.event.Act.TheVariants.{LoadFixed}
 use Rattle.rowex_core.specs.declared.known.Fact.TheVariants.{Fixed}
 use Rattle.rowex_core.specs.declared.known.Known.{Known}
 use Rattle.rowex_core.specs.Cores.{Core, IsLawful}
 use Rattle.rowex_core.specs.Events.{IsFixedOffset}
-use Rattle.rowex_core.specs.Knowing.{Recalls, IsEvent, StoodAs, StoodBetween, IsSince}
+use Rattle.rowex_core.specs.Knowing.{Recalls, IsEvent, StoodAs, StoodBetween, IsPinnedSince}
 use Rattle.rowex_core.specs.Reading.{word_in}
 use Rattle.rowex_table.specs.Runs.{silent}
 use Rattle.rowex_reading.specs.Seen.{seen, Sure, IsLedTo}
 use Rattle.rowex_table.specs.Made.{IsLater}
-use Rattle.rowex_reading.proofs.Seeing.{later_none, later_trans, recalls_before, sure_later, since_later, seen_within, stands_in, IsStable}
+use Rattle.rowex_reading.proofs.Seeing.{later_reflexive, later_trans, recalls_before, sure_later, since_later, seen_within, stands_in, IsStable}
 use Rattle.rowex_reading.proofs.Loading.{IsTaught, fixed_taught, taught_now, found_seen}
 use Rattle.rowex_reading.proofs.Standing.{word_stays, later_word}
 
@@ -31,7 +31,7 @@ word_stable m r offset w a b g (n, u, lo, hi, st, is) = (n, u, lo, le_trans hi g
 
 -- since m, to which its pin goes back, the pass knows that the record stood
 abbrev pub IsStood : Known → ℕ → Rec → Type 0
-IsStood k m r = IsSince k m × Sure k (λ s. StoodBetween s m s.now r)
+IsStood k m r = IsPinnedSince k m × Sure k (λ s. StoodBetween s m s.now r)
 
 pub led_stood : (k : Known) (m : ℕ) (e : Entry) → IsLedTo k m e → IsStood k m (rec_of e)
 led_stood k m e led = (led.0, λ c lawful recalls. (let s = led.1 c lawful recalls in (s.0, s.1, s.2, s.3, s.4)))
@@ -42,12 +42,12 @@ pub record AreLoaded (k j : Known) (r : Rec) (IsLoaded : ℕ → Type 0) (words 
   pub each : (m : ℕ) → IsStood k m r → (o : ℕ) → IsLoaded o → Sure j (λ s. HasWord s m r (o + 1) (get_or words o 0))
 
 pub none_loaded : (k : Known) (r : Rec) (words : List ℕ) → AreLoaded k k r (λ o. o < 0) words
-none_loaded k r words = record { later = later_none k; each = λ m led o low. absurd (omega arith) }
+none_loaded k r words = record { later = later_reflexive k; each = λ m led o low. absurd (omega arith) }
 
 -- one word more
 module _ (layout : Layout) (k j i : Known) (r : Rec) (IsLoaded IsNow : ℕ → Type 0) (n w : ℕ) (words : List ℕ) (so_far : AreLoaded k j r IsLoaded words) (room : n < length words)
     (older : (o : ℕ) → IsNow o → (IsLoaded o × (o ≢ n)) ⊎ (o ≡ n)) (event : IsEvent layout (LoadFixed r (n + 1) w) silent j i) where
-  is : (p : Pin) → j.pin ≡ Some p → IsTaught event.core (Fixed p.moment event.core.past.now r (n + 1) w) j i
+  is : (p : Pin) → j.pin ≡ Some p → IsTaught event.core (Fixed p.version event.core.past.now r (n + 1) w) j i
   is p pinned = fixed_taught layout j i p pinned r (n + 1) w event
 
   pub one_loaded : (m : ℕ) → IsStood k m r → AreLoaded k i r IsNow (set words n w)
@@ -56,10 +56,10 @@ module _ (layout : Layout) (k j i : Known) (r : Rec) (IsLoaded IsNow : ℕ → T
     each = λ o from a now. word_at o from a (older a now);
   }
     where
-      still : IsSince j m
+      still : IsPinnedSince j m
       still = since_later so_far.later stood.0
 
-      now : IsTaught event.core (Fixed still.0.moment event.core.past.now r (n + 1) w) j i
+      now : IsTaught event.core (Fixed still.0.version event.core.past.now r (n + 1) w) j i
       now = is still.0 still.1
 
       both : IsLater k i
@@ -67,9 +67,9 @@ module _ (layout : Layout) (k j i : Known) (r : Rec) (IsLoaded IsNow : ℕ → T
 
       new_word : (o : ℕ) → IsStood k o r → Sure i (λ s. HasWord s o r (n + 1) w)
       new_word o from c lawful recalls =
-          let since : IsSince j o = since_later so_far.later from.0 in
+          let since : IsPinnedSince j o = since_later so_far.later from.0 in
           let taught = is since.0 since.1 in
-          found_seen event.core c k i since.0.moment o r (λ u. word_in u (n + 1) ≡ w) (taught_now event.lawful taught) both since.2 (from.1 c lawful (recalls_before both recalls)) (taught.fact c recalls).1
+          found_seen event.core c k i since.0.version o r (λ u. word_in u (n + 1) ≡ w) (taught_now event.lawful taught) both since.2 (from.1 c lawful (recalls_before both recalls)) (taught.fact c recalls).1
 
       word_at : (o : ℕ) → IsStood k o r → (a : ℕ) → (IsLoaded a × (a ≢ n)) ⊎ (a ≡ n) → Sure i (λ s. HasWord s o r (a + 1) (get_or (set words n w) a 0))
       word_at o from a (inl (loaded, other)) =

@@ -2,7 +2,7 @@
 use Rattle.std.specs.Prelude.{ℕ, ◌+◌, ◌*◌, ◌≤◌, Option, Some, None}
 use Rattle.key_bits.specs.declared.TheConstants.{MAX_BYTES}
 use Rattle.tries.specs.Keys.{Key}
-use Rattle.moments.specs.State.{IsHeldSince, IsMissed}
+use Rattle.versions.specs.State.{IsHeldSince, WasAbsentSince}
 use Rattle.rowex_core.specs.declared.event.Event.{Event}
 use Rattle.rowex_core.specs.declared.known.Known.{Known}
 use Rattle.rowex_table.specs.Seats.{TableView, SeatView}
@@ -18,7 +18,7 @@ pub record HasSearched {G : Type 0} (table : TableView) (becomes : G → Event �
   pub few : loaded ≤ 32 + 26 * nodes
   pub looks : Looks table becomes nodes loaded a b
 
--- what a search for the key found: that it had the value, or was absent, at a moment since the last load of the root
+-- what a search for the key found: that it had the value, or was absent, in a version since the last load of the root
 abbrev pub HasFound : Known → Key → Option ℕ → Type 0
-HasFound k key None = Sure k (λ s. IsMissed s (since k) key)
+HasFound k key None = Sure k (λ s. WasAbsentSince s (since k) key)
 HasFound k key (Some value) = Sure k (λ s. IsHeldSince s (since k) key value)

@@ -1,31 +1,31 @@
--- What a pass may conclude of the moments that it has seen, and what loads teach it.
+-- What a pass may conclude of the versions that it has seen, and what loads teach it.
 use Rattle.std.specs.Prelude.{◌≢◌, ℕ, ◌<◌, length, Option, Some, None}
 use Rattle.compound_node.specs.Nodes.{HeadView, piece, node_of, leaves}
 use Rattle.compound_node.specs.declared.entries.Entry.{Entry}
 use Rattle.compound_node.specs.declared.entries.Entry.TheVariants.{Node}
 use Rattle.pieces.specs.Piece.{size}
 use Rattle.tries.specs.Keys.{Key}
-use Rattle.tries.specs.Tree.{Page}
-use Rattle.moments.specs.State.{Past}
+use Rattle.tries.specs.Tree.{Subtrie}
+use Rattle.versions.specs.State.{Past}
 use Rattle.rowex_core.specs.declared.known.Known.{Known}
 use Rattle.rowex_core.specs.Cores.{Core, IsLawful}
-use Rattle.rowex_core.specs.Knowing.{IsSince, Recalls}
-use Rattle.rowex_walks.specs.Scan.{IsSeen, IsRooted, IsBlank, IsRead, IsShaped}
+use Rattle.rowex_core.specs.Knowing.{IsPinnedSince, Recalls}
+use Rattle.rowex_walks.specs.Scan.{EntryStoodSince, IsRooted, IsBlank, IsRead, IsShaped}
 
--- the moments that the pass has seen, of those of a core: up to the one after the changes of its front
+-- the versions that the pass has seen, of those of a core: up to the one after the changes of its front
 abbrev pub seen : Core → Known → Past
-seen c k = record { now = length k.front; moment = c.past.moment }
+seen c k = record { now = length k.front; version = c.past.version }
 
--- the pass can be sure of it: it holds of the moments seen in each lawful core of which what the pass recalls is true
+-- the pass can be sure of it: it holds of the versions seen in each lawful core of which what the pass recalls is true
 abbrev pub Sure : Known → (Past → Type 0) → Type 0
 Sure k P = (c : Core) → IsLawful c → Recalls c k → P (seen c k)
 
--- the moment at which it loaded the root last
+-- the version at which it loaded the root last
 abbrev pub since : Known → ℕ
 since k = length k.fresh.front
 
 -- the forks of a node with this head
-abbrev pub shape_of : HeadView → Page
+abbrev pub shape_of : HeadView → Subtrie
 shape_of head = piece (node_of head (leaves (length head.rows)))
 
 -- what a load of the root tells
@@ -35,15 +35,15 @@ RootIs k (Some e) = Sure k (λ s. IsRooted s (since k) e)
 
 -- at its last load of the root, to which its pin goes back, the root had this entry
 abbrev pub IsAtRoot : Known → Entry → Type 0
-IsAtRoot k e = IsSince k (since k) × Sure k (λ s. IsRooted s (since k) e)
+IsAtRoot k e = IsPinnedSince k (since k) × Sure k (λ s. IsRooted s (since k) e)
 
--- since moment m, to which its pin goes back, the pass was led to the record that the entry names
+-- since version m, to which its pin goes back, the pass was led to the record that the entry names
 abbrev pub IsLedTo : Known → ℕ → Entry → Type 0
-IsLedTo k m e = IsSince k m × Sure k (λ s. IsSeen s m e)
+IsLedTo k m e = IsPinnedSince k m × Sure k (λ s. EntryStoodSince s m e)
 
 -- the node stood since m with more places than this one
 abbrev pub HasRoom : Past → ℕ → ℕ → ℕ → Type 0
-HasRoom s m n i = (x : Page) × IsShaped s m n x × (i < size x)
+HasRoom s m n i = (x : Subtrie) × IsShaped s m n x × (i < size x)
 
 -- it was led to the node, which has an entry at this place
 abbrev pub HasPlace : Known → ℕ → ℕ → ℕ → ℕ → Type 0

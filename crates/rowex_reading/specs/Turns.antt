@@ -4,13 +4,13 @@ use Rattle.compound_node.specs.declared.entries.Entry.{Entry}
 use Rattle.compound_node.specs.declared.entries.Entry.TheVariants.{Node}
 use Rattle.tries.specs.Keys.{Key}
 use Rattle.tries.specs.Place.{spot}
-use Rattle.tries.specs.Tree.{Page}
+use Rattle.tries.specs.Tree.{Subtrie}
 use Rattle.rowex_core.specs.declared.known.Known.{Known}
 use Rattle.rowex_walks.specs.Scan.{IsShaped}
 use Rattle.rowex_reading.specs.Seen.{IsLedTo, Sure}
 use Rattle.rowex_reading.specs.declared.along.Turn.{Turn}
 
--- the pass was led to the record that the entry names, since some moment
+-- the pass was led to the record that the entry names, since some version
 abbrev pub IsWayTip : Known → Entry → Type 0
 IsWayTip k e = (m : ℕ) × IsLedTo k m e
 
@@ -22,7 +22,7 @@ AreTips k tips = (i : ℕ) (e : Entry) → slice_get tips i ≡ Some (Some e) �
 pub record IsTurn (k : Known) (key : Key) (t : Turn) : Type 0 where
   pub since : ℕ
   pub height : ℕ
-  pub forks : Page
+  pub forks : Subtrie
   pub led : IsLedTo k since (Node t.number height)
   pub shaped : Sure k (λ s. IsShaped s since t.number forks)
   pub place : t.place ≡ spot key forks
@@ -52,5 +52,5 @@ abbrev pub StandsAt : List (List (Option Turn)) → ℕ → ℕ → Turn → Typ
 StandsAt rows depth i t = (row : List (Option Turn)) × (slice_get rows depth ≡ Some row) × (slice_get row i ≡ Some (Some t))
 
 -- each turn of these rows at this index is one of the key
-abbrev pub AreAlong : Known → Key → ℕ → List (List (Option Turn)) → Type 0
-AreAlong k key i rows = (depth : ℕ) (t : Turn) → StandsAt rows depth i t → IsTurn k key t
+abbrev pub AreTurnsOfKey : Known → Key → ℕ → List (List (Option Turn)) → Type 0
+AreTurnsOfKey k key i rows = (depth : ℕ) (t : Turn) → StandsAt rows depth i t → IsTurn k key t

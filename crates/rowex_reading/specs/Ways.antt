@@ -10,10 +10,10 @@ use Rattle.pieces.specs.Piece.{size}
 use Rattle.record_words.specs.declared.layout.Layout.{Layout}
 use Rattle.tries.specs.Keys.{Key, bit, AgreeBelow}
 use Rattle.tries.specs.Place.{spot}
-use Rattle.tries.specs.Tree.{Page, first_position}
+use Rattle.tries.specs.Tree.{Subtrie, first_position}
 use Rattle.rowex_core.specs.declared.known.Known.{Known}
-use Rattle.rowex_core.specs.Knowing.{IsSince}
-use Rattle.rowex_walks.specs.Scan.{IsSeen, IsRooted, IsBlank, IsPlaced, IsShaped, IsRead}
+use Rattle.rowex_core.specs.Knowing.{IsPinnedSince}
+use Rattle.rowex_walks.specs.Scan.{EntryStoodSince, IsRooted, IsBlank, IsPlaced, IsShaped, IsRead}
 use Rattle.rowex_reading.specs.Seen.{Sure, shape_of}
 use Rattle.rowex_reading.specs.declared.descent.Found.{Found}
 use Rattle.rowex_reading.specs.declared.descent.Found.TheVariants.{Nothing, Leaf}
@@ -40,16 +40,16 @@ named (s ∷ way) found (suc i) = named way found i
 abbrev pub step_at : HeadView → ℕ → ℕ → Step
 step_at head number at = record { number = number; height = head.height; first_position = first_position (shape_of head); count = size (shape_of head); at = at }
 
--- the root's entry at a moment since m
+-- the root's entry in a version since m
 abbrev pub RootWas : Known → ℕ → Option Entry → Type 0
 RootWas k m None = Sure k (λ past. IsBlank past m)
 RootWas k m (Some e) = Sure k (λ past. IsRooted past m e)
 
--- Since moment m the pass was led to the node of the step, and has read its forks and, at the place on the key's way, this entry.
+-- Since version m the pass was led to the node of the step, and has read its forks and, at the place on the key's way, this entry.
 pub record IsWayNode (layout : Layout) (k : Known) (m : ℕ) (key : Key) (s : Step) (e : Entry) : Type 0 where
-  pub forks : Page
+  pub forks : Subtrie
   pub range : s.number < layout.nodes
-  pub seen : Sure k (λ past. IsSeen past m (Node s.number s.height))
+  pub seen : Sure k (λ past. EntryStoodSince past m (Node s.number s.height))
   pub shaped : Sure k (λ past. IsShaped past m s.number forks)
   pub placed : Sure k (λ past. IsPlaced past m s.number s.at e)
   pub at : s.at ≡ spot key forks
@@ -63,15 +63,15 @@ abbrev pub IsMismatch : Key → Key → Option ℕ → Type 0
 IsMismatch key l None = key ≡ l
 IsMismatch key l (Some p) = AgreeBelow p key l × (bit key p ≢ bit l p)
 
--- since moment m the pass has read the leaf that was found
+-- since version m the pass has read the leaf that was found
 abbrev pub IsFoundAt : Known → ℕ → Key → Found → Type 0
 IsFoundAt k m key Nothing = Unit {0}
 IsFoundAt k m key (Leaf number value mismatch) = (l : Key) × Sure k (λ past. IsRead past m number l value) × IsMismatch key l mismatch
 
--- What a search for the key has found, which loaded the root at moment m.
+-- What a search for the key has found, which loaded the root at version m.
 pub record IsWayOf (layout : Layout) (k : Known) (m : ℕ) (key : Key) (way : List Step) (found : Found) : Type 0 where
   pub is_key : IsKey key
-  pub since : IsSince k m
+  pub since : IsPinnedSince k m
   pub root : RootWas k m (named way found 0)
   pub nodes : (i : ℕ) (s : Step) → slice_get way i ≡ Some s → (e : Entry) × (named way found (i + 1) ≡ Some e) × IsWayNode layout k m key s e
   pub found_at : IsFoundAt k m key found

@@ -7,8 +7,8 @@ ghost use Rattle.record_words.specs.declared.TheConstants.{HEAD_WORDS};
 ghost use Rattle.rowex_walks.specs.Scan.{IsShaped};
 ghost use Rattle.rowex_table.specs.Seats.{IsSeatOf};
 ghost use Rattle.tries.specs.Place.{spot};
-ghost use Rattle.tries.specs.Tree.{Page};
-ghost use Rattle.rowex_reading.specs.Turns.{AreAlong, AreRows, AreSomeTurns, AreTips, AreTurns, IsSomeTurn, IsWayTip, IsTurn, StandsAt, turns_in};
+ghost use Rattle.tries.specs.Tree.{Subtrie};
+ghost use Rattle.rowex_reading.specs.Turns.{AreTurnsOfKey, AreRows, AreSomeTurns, AreTips, AreTurns, IsSomeTurn, IsWayTip, IsTurn, StandsAt, turns_in};
 ghost use Rattle.rowex_reading.specs.Lookups.{HasFound, HasSearched};
 ghost use Rattle.rowex_reading.specs.Reads.{IsReader, Looks, Reads};
 ghost use Rattle.rowex_reading.specs.Seen.{IsLedTo, Sure};
@@ -77,7 +77,7 @@ pub fn look_up_along<G: Gate>(
     requires own { IsSeatOf table.now seat.old }
     requires pinned { IsSome seat.old.known.pin }
     requires range { index < TOGETHER }
-    requires along { AreAlong seat.old.known key.now index rows.now }
+    requires along { AreTurnsOfKey seat.old.known key.now index rows.now }
     ensures searched { HasSearched table.now G.becomes (seat.old, gate.old) (seat.new, gate.new) }
     ensures found { HasFound seat.new.known key.now result }
 {
@@ -126,7 +126,7 @@ fn place_in<G: Gate>(
     requires turn { IfSome turn (IsTurn seat.old.known key.now) }
     ensures reads { (n : ℕ) × (n ≤ HEAD_WORDS) × Reads table.now G.becomes 0 n (seat.old, gate.old) (seat.new, gate.new) }
     ensures place { (m h : ℕ) → IsLedTo seat.old.known m (NodeEntry number h) →
-        (forks : Page) × Sure seat.new.known (λ s. IsShaped s m number forks) × (result ≡ spot key.now forks) }
+        (forks : Subtrie) × Sure seat.new.known (λ s. IsShaped s m number forks) × (result ≡ spot key.now forks) }
 {
     match turn {
         Some(turn) if turn.number == number => turn.place,

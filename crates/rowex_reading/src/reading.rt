@@ -9,11 +9,11 @@ ghost use Rattle.record_words.specs.declared.TheConstants.{HEAD_WORDS, LEAF_FIEL
 ghost use Rattle.rowex_walks.specs.Scan.{IsShaped, IsPlaced, IsRead};
 ghost use Rattle.rowex_reading.specs.Reads.{IsReader, Reads, ReadsRoot, head_loads, leaf_loads};
 ghost use Rattle.rowex_reading.specs.Seen.{Sure, RootIs, IsCompared, IsLedTo, HasPlace, shape_of};
-ghost use Rattle.moments.specs.declared.Rec.TheVariants.{Leaf as a_leaf, Node as a_node};
+ghost use Rattle.versions.specs.declared.Rec.TheVariants.{Leaf as a_leaf, Node as a_node};
 ghost use Rattle.rowex_table.specs.Rule.{IsStartOf};
 ghost use Rattle.rowex_table.specs.Seats.{IsSeatOf};
 ghost use Rattle.tries.specs.Place.{spot};
-ghost use Rattle.tries.specs.Tree.{Page};
+ghost use Rattle.tries.specs.Tree.{Subtrie};
 
 use compound_node::{Entry, Head};
 use key_bits::{Key, MAX_BYTES};
@@ -78,7 +78,7 @@ pub fn find_place<G: Gate>(
     requires led { (m h : ℕ) × IsLedTo seat.old.known m (NodeEntry number h) }
     ensures reads { Reads table.now G.becomes 0 HEAD_WORDS (seat.old, gate.old) (seat.new, gate.new) }
     ensures place { (m h : ℕ) → IsLedTo seat.old.known m (NodeEntry number h) →
-        (forks : Page) × Sure seat.new.known (λ s. IsShaped s m number forks) × (result ≡ spot key.now forks) }
+        (forks : Subtrie) × Sure seat.new.known (λ s. IsShaped s m number forks) × (result ≡ spot key.now forks) }
 {
     let rec = Rec::Node(number);
     let start = table.start_of(rec);

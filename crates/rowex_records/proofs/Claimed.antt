@@ -6,8 +6,8 @@ use Rattle.std.proofs.lemmas.List.Elements.{All-contains, All-weaker}
 use Rattle.record_words.specs.declared.layout.Layout.{Layout}
 use Rattle.record_words.specs.Layout.{leaf_size, leaf_start}
 use Rattle.record_words.specs.State.{state_word}
-use Rattle.moments.specs.declared.Rec.{Rec}
-use Rattle.moments.specs.Core.{Fate, Free, Held as HeldBy, Ready as ReadyBy, InTree, Unlinked, Marked}
+use Rattle.versions.specs.declared.Rec.{Rec}
+use Rattle.versions.specs.Core.{Fate, Free, Held as HeldBy, Ready as ReadyBy, InTree, Unlinked, Marked}
 use Rattle.rowex_core.specs.declared.event.Act.{Act}
 use Rattle.rowex_core.specs.declared.event.Act.TheVariants.{Claim, LoadState}
 use Rattle.rowex_core.specs.declared.event.Event.{Event}
@@ -31,7 +31,7 @@ use Rattle.rowex_table.proofs.Rights.{free_tag}
 use Rattle.rowex_table.proofs.Running.{in_turn_more, does_count}
 use Rattle.rowex_records.specs.declared.claiming.RecordKind.{RecordKind}
 use Rattle.rowex_records.specs.declared.claiming.RecordKind.TheVariants.{Node, Leaf}
-use Rattle.rowex_records.specs.Claims.{claiming, begin_of, count_of, record_of, wrapped, HasIndex, IsKindOf, Misses, HasMissedSince, MissesOne, HoldsOneMore, ClaimsOne, FindsNone, Claims, AllMissed, TriesOn}
+use Rattle.rowex_records.specs.Claims.{claiming, begin_of, count_of, record_of, wrapped, HasIndex, IsKindOf, Misses, HasMissedSince, MissesOne, HoldsOneMore, ClaimsOne, FindsNone, Claims, AllMissed, GoesOnTrying}
 use Rattle.rowex_records.specs.Starts.{IsRow, first_word}
 use Rattle.rowex_records.proofs.Making.{counted, claims_nothing, claims_one, looks_one, claims_append}
 
@@ -300,21 +300,21 @@ module _ {G : Type 0} (table : TableView) (becomes : G → Event → G → Type 
 
   -- A row of records: none yet, one more, and one that was free
 
-  pub row_none : (kind : ℕ → Rec) (n number : ℕ) (b : SeatView × G) → TriesOn table becomes kind n number 0 None b b
+  pub row_none : (kind : ℕ → Rec) (n number : ℕ) (b : SeatView × G) → GoesOnTrying table becomes kind n number 0 None b b
   row_none kind n number b a from m low fits is none = subst (λ z. FindsNone table becomes kind n from z a b) (sym (add-zero m)) none
 
   row_at : (n from m number index count : ℕ) → number ≡ wrapped n from m → from < n → m + count ≤ n → index < count → number + count ≤ n → number + index ≡ wrapped n from (m + index)
   row_at n from m number index count is low fits below few = ap (λ z. z + index) is ∙ turned_by n from m index low (omega arith) (rw (← is) (omega arith))
 
-  pub row_more : (kind : ℕ → Rec) (n number index : ℕ) (a i b : SeatView × G) → number + (index + 1) ≤ n → TriesOn table becomes kind n number index None a i
-      → MissesOne table becomes (kind (number + index)) i b → TriesOn table becomes kind n number (index + 1) None a b
+  pub row_more : (kind : ℕ → Rec) (n number index : ℕ) (a i b : SeatView × G) → number + (index + 1) ≤ n → GoesOnTrying table becomes kind n number index None a i
+      → MissesOne table becomes (kind (number + index)) i b → GoesOnTrying table becomes kind n number (index + 1) None a b
   row_more kind n number index a i b few tries one c from m low fits is none =
       let next : m + index + 1 ≡ m + (index + 1) = omega arith in
       subst (λ z. FindsNone table becomes kind n from z c b) next
       (finds_more kind n from (m + index) (number + index) c i b (row_at n from m number index (index + 1) is low fits (omega arith) few) (tries c from m low (omega arith) is none) one)
 
-  pub row_claims : (kind : ℕ → Rec) (n number index count : ℕ) (a i b : SeatView × G) → index < count → number + count ≤ n → TriesOn table becomes kind n number index None a i
-      → ClaimsOne table becomes (kind (number + index)) i b → TriesOn table becomes kind n number count (Some index) a b
+  pub row_claims : (kind : ℕ → Rec) (n number index count : ℕ) (a i b : SeatView × G) → index < count → number + count ≤ n → GoesOnTrying table becomes kind n number index None a i
+      → ClaimsOne table becomes (kind (number + index)) i b → GoesOnTrying table becomes kind n number count (Some index) a b
   row_claims kind n number index count a i b below few tries one c from m low fits is none = (
     below,
     record { tried = m + index; low = omega arith; number_is = row_at n from m number index count is low fits below few; before = i; none = tries c from m low (omega arith) is none; one = one },

@@ -7,10 +7,10 @@ use Rattle.std.proofs.lemmas.List.Elements.{All-head, All-tail, All-weaker}
 use Rattle.record_words.specs.declared.layout.Layout.{Layout}
 use Rattle.record_words.specs.Layout.{leaf_size}
 use Rattle.record_words.proofs.Locations.{size_fits}
-use Rattle.moments.specs.declared.Rec.{Rec}
-use Rattle.moments.specs.declared.Rec.TheVariants.{Leaf as a_leaf}
-use Rattle.moments.specs.Steps.{same_rec}
-use Rattle.moments.proofs.Legal.{same_rec_true}
+use Rattle.versions.specs.declared.Rec.{Rec}
+use Rattle.versions.specs.declared.Rec.TheVariants.{Leaf as a_leaf}
+use Rattle.versions.specs.Steps.{same_rec}
+use Rattle.versions.proofs.Legal.{same_rec_true}
 use Rattle.rowex_core.specs.declared.event.Act.TheVariants.{Ready, Release}
 use Rattle.rowex_core.specs.declared.event.Event.{Event}
 use Rattle.rowex_core.specs.declared.known.Holding.{Holding}
@@ -18,7 +18,7 @@ use Rattle.rowex_core.specs.declared.known.Owned.{Owned}
 use Rattle.rowex_core.specs.declared.known.Known.{Known}
 use Rattle.rowex_core.specs.Cores.{Core, IsLawful, IsWithin, word_count_of}
 use Rattle.rowex_core.specs.Sharing.{IsOwned}
-use Rattle.rowex_core.specs.Knowing.{Knows, fill_in}
+use Rattle.rowex_core.specs.Knowing.{Knows, with_filled_word}
 use Rattle.rowex_core.proofs.Lists.{kept}
 use Rattle.rowex_core.proofs.Owning.{knows_all}
 use Rattle.rowex_table.specs.Rights.{OwnsAs}
@@ -64,13 +64,13 @@ pub stored_nothing : (r : Rec) (words : List ℕ) (own : List Owned) → map (st
 stored_nothing r words [] = refl
 stored_nothing r words (o ∷ own) = λ i. stored_none r words o i ∷ stored_nothing r words own i
 
-pub stored_more : (r : Rec) (words : List ℕ) (i : ℕ) (o : Owned) → fill_in r (i + 1) (get_or words i 0) (stored_in r words i o) ≡ stored_in r words (i + 1) o
+pub stored_more : (r : Rec) (words : List ℕ) (i : ℕ) (o : Owned) → with_filled_word r (i + 1) (get_or words i 0) (stored_in r words i o) ≡ stored_in r words (i + 1) o
 stored_more r words i o = rw (add-one i) (go (same_rec o.rec r) refl)
   where
     at : suc i - 1 ≡ i
     at = omega arith
 
-    go : (b : Bool) → same_rec o.rec r ≡ b → fill_in r (suc i) (get_or words i 0) (stored_in r words i o) ≡ stored_in r words (suc i) o
+    go : (b : Bool) → same_rec o.rec r ≡ b → with_filled_word r (suc i) (get_or words i 0) (stored_in r words i o) ≡ stored_in r words (suc i) o
     go true e = rw e (rw e (rw at refl))
     go false e = rw e (rw e refl)
 

@@ -4,9 +4,9 @@ use Rattle.std.specs.Prelude.{All, Contains}
 use Rattle.std.proofs.lemmas.List.{drop_all, map-append, take_all, take_more}
 use Rattle.std.proofs.Math.Seq.{drop-cons}
 use Rattle.std.proofs.lemmas.List.Elements.{All-nil, All-cons, All-head, All-tail}
-use Rattle.moments.specs.declared.Rec.{Rec}
-use Rattle.moments.specs.Steps.{same_rec}
-use Rattle.moments.proofs.Legal.{same_rec_refl}
+use Rattle.versions.specs.declared.Rec.{Rec}
+use Rattle.versions.specs.Steps.{same_rec}
+use Rattle.versions.proofs.Legal.{same_rec_refl}
 use Rattle.rowex_core.specs.declared.event.Act.TheVariants.{Release}
 use Rattle.rowex_core.specs.declared.event.Event.{Event}
 use Rattle.rowex_core.specs.declared.known.Holding.TheVariants.{Held}
@@ -19,7 +19,7 @@ use Rattle.rowex_table.specs.Seats.{TableView, SeatView}
 use Rattle.rowex_records.specs.Records.{owning, HoldsJust, GivesUp, GivesUpAll}
 use Rattle.rowex_records.proofs.Filled.{gives_up_keeps}
 use Rattle.rowex_records.proofs.Making.{owns_none, owns_append}
-use Rattle.moments.specs.Trades.{IsOf}
+use Rattle.versions.specs.Trades.{IsOneOf}
 
 -- a pass that has just no records has none
 held_none : (k : Known) → HoldsJust k [] → k.own ≡ []
@@ -56,7 +56,7 @@ module _ {G : Type 0} (table : TableView) (becomes : G → Event → G → Type 
     apart = holds.apart.1;
   }
     where
-      both : (rest : List Rec) → (IsOf r rest → ⊥) → All (IsClaimed a.0.known) rest → All (IsClaimed b.0.known) rest
+      both : (rest : List Rec) → (IsOneOf r rest → ⊥) → All (IsClaimed a.0.known) rest → All (IsClaimed b.0.known) rest
       both [] none held = All-nil (IsClaimed b.0.known)
       both (s ∷ rest) none held =
           let h = All-head (IsClaimed a.0.known) s rest held in

@@ -6,10 +6,10 @@ use Rattle.std.proofs.lemmas.Bool.{eq-eqb, eqb-true, ltb-false}
 use Rattle.std.proofs.lemmas.List.Elements.{All-head, All-tail, All-weaker}
 use Rattle.finite_map.specs.declared.Change.{Change}
 use Rattle.finite_map.specs.declared.Note.{Note}
-use Rattle.moments.specs.declared.Rec.{Rec}
-use Rattle.moments.specs.declared.Rec.TheVariants.{Node as a_node, Leaf as a_leaf}
-use Rattle.moments.specs.Steps.{same_rec}
-use Rattle.moments.proofs.Legal.{same_rec_true, same_rec_refl}
+use Rattle.versions.specs.declared.Rec.{Rec}
+use Rattle.versions.specs.declared.Rec.TheVariants.{Node as a_node, Leaf as a_leaf}
+use Rattle.versions.specs.Steps.{same_rec}
+use Rattle.versions.proofs.Legal.{same_rec_true, same_rec_refl}
 use Rattle.record_words.specs.declared.layout.Layout.{Layout}
 use Rattle.rowex_core.specs.declared.event.Act.{Act}
 use Rattle.record_words.specs.declared.TheConstants.{FIRST_ENTRY}
@@ -26,7 +26,7 @@ use Rattle.rowex_core.specs.Cores.{Core, IsWithin, word_count_of}
 use Rattle.rowex_core.specs.Events.{IsFixedOffset}
 use Rattle.rowex_core.specs.Words.{record_word}
 use Rattle.rowex_core.specs.Sharing.{IsOwned}
-use Rattle.rowex_core.specs.Knowing.{IsEvent, fill_in}
+use Rattle.rowex_core.specs.Knowing.{IsEvent, with_filled_word}
 use Rattle.rowex_core.proofs.Owning.{knows_all}
 use Rattle.rowex_table.specs.Made.{IsLater}
 use Rattle.rowex_table.specs.Rights.{OwnsAs, IsClaimed}
@@ -37,7 +37,7 @@ use Rattle.rowex_table.proofs.ActsBefore.{later_trans, recalls_on, same_later}
 use Rattle.rowex_table.proofs.Rights.{mapped}
 use Rattle.rowex_table.proofs.Running as running
 use Rattle.rowex_table.proofs.Running.{in_turn_more}
-use Rattle.rowex_records.specs.Records.{owning, filling, fill_with, looking, mending, unused_word, Sets, SetsAll, SetsWord}
+use Rattle.rowex_records.specs.Records.{owning, filling, fill_with, load_of_word, fill_unless_found, unused_word, Sets, SetsAll, SetsWord}
 use Rattle.rowex_records.proofs.Filled.{AreWithin, each_mapped, filled_with, leaf_filled_with, own_within, stored_in, stored_more, stored_nothing, twice}
 use Rattle.rowex_records.proofs.Making.{owns_one}
 
@@ -56,13 +56,13 @@ each_left P f e [] all = refl
 each_left P f e (o ∷ own) all = λ i. e o (All-head P o own all) i ∷ each_left P f e own (All-tail P o own all) i
 
 -- where a record has this word, it stands in what the pass knows of it
-word_stands : (c : Core) (q : ℕ) (r : Rec) (offset word : ℕ) → word ≡ get_or (c.words r) offset 0 → (own : List Owned) → All (IsOwned q c) own → map (fill_in r (suc offset) word) own ≡ own
-word_stands c q r offset word is own all = each_left (IsOwned q c) (fill_in r (suc offset) word) stands own all
+word_stands : (c : Core) (q : ℕ) (r : Rec) (offset word : ℕ) → word ≡ get_or (c.words r) offset 0 → (own : List Owned) → All (IsOwned q c) own → map (with_filled_word r (suc offset) word) own ≡ own
+word_stands c q r offset word is own all = each_left (IsOwned q c) (with_filled_word r (suc offset) word) stands own all
   where
-    stands : (o : Owned) → IsOwned q c o → fill_in r (suc offset) word o ≡ o
+    stands : (o : Owned) → IsOwned q c o → with_filled_word r (suc offset) word o ≡ o
     stands o owned = go (same_rec o.rec r) refl
       where
-        go : (b : Bool) → same_rec o.rec r ≡ b → fill_in r (suc offset) word o ≡ o
+        go : (b : Bool) → same_rec o.rec r ≡ b → with_filled_word r (suc offset) word o ≡ o
         go false t = rw t refl
         go true t =
             let at : suc offset - 1 ≡ offset = omega arith in
@@ -71,11 +71,11 @@ word_stands c q r offset word is own all = each_left (IsOwned q c) (fill_in r (s
 
 -- what a load of a word is: of a fixed one, or of an entry
 looks : (P : Rec → ℕ → Act → Type 0) (w : ℕ) → ((r : Rec) (offset : ℕ) → P r offset (LoadFixed r offset w)) → ((n j : ℕ) → P (a_node n) (FIRST_ENTRY + j) (LoadRef (Slot n j) w)) →
-    (r : Rec) (offset : ℕ) → P r offset (looking r offset w)
+    (r : Rec) (offset : ℕ) → P r offset (load_of_word r offset w)
 looks P w fixed slot (a_leaf n) offset = fixed (a_leaf n) offset
 looks P w fixed slot (a_node n) offset = go (nat_lt offset FIRST_ENTRY) refl
   where
-    go : (b : Bool) → nat_lt offset FIRST_ENTRY ≡ b → P (a_node n) offset (looking (a_node n) offset w)
+    go : (b : Bool) → nat_lt offset FIRST_ENTRY ≡ b → P (a_node n) offset (load_of_word (a_node n) offset w)
     go true e = rw e (fixed (a_node n) offset)
     go false e =
         let past : FIRST_ENTRY ≤ offset = ltb-false offset FIRST_ENTRY e in
@@ -87,30 +87,30 @@ entry_word : (c : Core) (n i : ℕ) → record_word c (a_node n) (FIRST_ENTRY + 
 entry_word c n i = let at : FIRST_ENTRY + i ≡ suc (25 + i) = omega arith in ap (record_word c (a_node n)) at
 
 -- where a load of a record finds a word, it stands in what the pass knows of it
-found_stands : (layout : Layout) (word : ℕ) (k j : Known) (r : Rec) (offset : ℕ) → IsEvent layout (looking r offset word) silent k j → map (fill_in r offset word) k.own ≡ k.own
-found_stands layout word k j = looks (λ r offset act. IsEvent layout act silent k j → map (fill_in r offset word) k.own ≡ k.own) word fixed slot
+found_stands : (layout : Layout) (word : ℕ) (k j : Known) (r : Rec) (offset : ℕ) → IsEvent layout (load_of_word r offset word) silent k j → map (with_filled_word r offset word) k.own ≡ k.own
+found_stands layout word k j = looks (λ r offset act. IsEvent layout act silent k j → map (with_filled_word r offset word) k.own ≡ k.own) word fixed slot
   where
-    fixed : (r : Rec) (offset : ℕ) → IsEvent layout (LoadFixed r offset word) silent k j → map (fill_in r offset word) k.own ≡ k.own
+    fixed : (r : Rec) (offset : ℕ) → IsEvent layout (LoadFixed r offset word) silent k j → map (with_filled_word r offset word) k.own ≡ k.own
     fixed r zero e = absurd (no_state r e.legal.1.1)
     fixed r (suc offset) e = word_stands e.core k.pass r offset word e.legal.1.2 k.own (knows_all e.core k e.knows).own
 
-    slot : (n i : ℕ) → IsEvent layout (LoadRef (Slot n i) word) silent k j → map (fill_in (a_node n) (FIRST_ENTRY + i) word) k.own ≡ k.own
+    slot : (n i : ℕ) → IsEvent layout (LoadRef (Slot n i) word) silent k j → map (with_filled_word (a_node n) (FIRST_ENTRY + i) word) k.own ≡ k.own
     slot n i e =
         let at : suc (25 + i) ≡ FIRST_ENTRY + i = omega arith in
-        subst (λ offset. map (fill_in (a_node n) offset word) k.own ≡ k.own) at (word_stands e.core k.pass (a_node n) (25 + i) word (e.legal.1.2 ∙ entry_word e.core n i) k.own (knows_all e.core k e.knows).own)
+        subst (λ offset. map (with_filled_word (a_node n) offset word) k.own ≡ k.own) at (word_stands e.core k.pass (a_node n) (25 + i) word (e.legal.1.2 ∙ entry_word e.core n i) k.own (knows_all e.core k e.knows).own)
 
 -- a load teaches nothing else than facts
-look_settled : (layout : Layout) (word : ℕ) (k j : Known) (r : Rec) (offset : ℕ) → IsEvent layout (looking r offset word) silent k j → j ≡ record (filling k j) { steps = k.steps + 1 }
+look_settled : (layout : Layout) (word : ℕ) (k j : Known) (r : Rec) (offset : ℕ) → IsEvent layout (load_of_word r offset word) silent k j → j ≡ record (filling k j) { steps = k.steps + 1 }
 look_settled layout word k j = looks (λ r offset act. IsEvent layout act silent k j → j ≡ record (filling k j) { steps = k.steps + 1 }) word
     (λ r offset e. read_settled k j _ _ e.learned_is)
     (λ n i e. read_settled k j _ _ e.learned_is)
 
-look_owns : (layout : Layout) (word : ℕ) (k j : Known) (r : Rec) (offset : ℕ) → IsEvent layout (looking r offset word) silent k j → j.own ≡ k.own
+look_owns : (layout : Layout) (word : ℕ) (k j : Known) (r : Rec) (offset : ℕ) → IsEvent layout (load_of_word r offset word) silent k j → j.own ≡ k.own
 look_owns layout word k j = looks (λ r offset act. IsEvent layout act silent k j → j.own ≡ k.own) word
     (λ r offset e. ap (λ (z : Known). z.own) e.learned_is)
     (λ n i e. ap (λ (z : Known). z.own) e.learned_is)
 
-look_keeps : (word : ℕ) (r : Rec) (offset : ℕ) → KeepsRecall (looking r offset word)
+look_keeps : (word : ℕ) (r : Rec) (offset : ℕ) → KeepsRecall (load_of_word r offset word)
 look_keeps word = looks (λ r offset act. KeepsRecall act) word (λ r offset. tt) (λ n i. tt)
 
 module _ {G : Type 0} (table : TableView) (becomes : G → Event → G → Type 0) where
@@ -126,8 +126,8 @@ module _ {G : Type 0} (table : TableView) (becomes : G → Event → G → Type 
   fill_one : (r : Rec) (offset word : ℕ) (a b : SeatView × G) → Steps table becomes (Fill r offset word) a b → Does table becomes filling (Fill r offset word ∷ []) a b
   fill_one r offset word a b step = owns_filling (Fill r offset word ∷ []) a b (owns_one table becomes (Fill r offset word) a b tt step)
 
-  load_one : (r : Rec) (offset found : ℕ) (a b : SeatView × G) → Steps table becomes (looking r offset found) a b → Does table becomes filling (looking r offset found ∷ []) a b
-  load_one r offset found a b step = running.does_one table becomes filling (looking r offset found) a b step (look_settled table.layout found a.0.known b.0.known r offset step.event)
+  load_one : (r : Rec) (offset found : ℕ) (a b : SeatView × G) → Steps table becomes (load_of_word r offset found) a b → Does table becomes filling (load_of_word r offset found ∷ []) a b
+  load_one r offset found a b step = running.does_one table becomes filling (load_of_word r offset found) a b step (look_settled table.layout found a.0.known b.0.known r offset step.event)
 
   fillings_append : (acts more : List Act) (a m b : SeatView × G) → Does table becomes filling acts a m → Does table becomes filling more m b → Does table becomes filling (acts ++ more) a b
   fillings_append acts more a m b first second = running.does_append table becomes filling (λ k i j n o. refl) acts more a m b first second
@@ -146,35 +146,35 @@ module _ {G : Type 0} (table : TableView) (becomes : G → Event → G → Type 
   }
 
   -- an unused one that stands there already,
-  pub sets_found : (r : Rec) (offset word : ℕ) (a b : SeatView × G) → word ≡ unused_word r offset → Steps table becomes (looking r offset word) a b → Sets table becomes r offset word a b
+  pub sets_found : (r : Rec) (offset word : ℕ) (a b : SeatView × G) → word ≡ unused_word r offset → Steps table becomes (load_of_word r offset word) a b → Sets table becomes r offset word a b
   sets_found r offset word a b unused step = record {
-    acts = looking r offset word ∷ [];
-    sets = inr (unused, word, ap (λ l. looking r offset word ∷ l) (sym mended));
+    acts = load_of_word r offset word ∷ [];
+    sets = inr (unused, word, ap (λ l. load_of_word r offset word ∷ l) (sym mended));
     does = load_one r offset word a b step;
-    later = later_step (looking r offset word) a b (look_keeps word r offset) step;
+    later = later_step (load_of_word r offset word) a b (look_keeps word r offset) step;
     own = look_owns table.layout word a.0.known b.0.known r offset step.event ∙ sym (found_stands table.layout word a.0.known b.0.known r offset step.event);
   }
     where
-      mended : mending r offset word word ≡ []
+      mended : fill_unless_found r offset word word ≡ []
       mended = rw (eq-eqb word word refl) refl
 
   -- and one in another's place
-  pub sets_mended : (r : Rec) (offset word found : ℕ) (a m b : SeatView × G) → word ≡ unused_word r offset → found ≢ word → Steps table becomes (looking r offset found) a m → Steps table becomes (Fill r offset word) m b →
+  pub sets_mended : (r : Rec) (offset word found : ℕ) (a m b : SeatView × G) → word ≡ unused_word r offset → found ≢ word → Steps table becomes (load_of_word r offset found) a m → Steps table becomes (Fill r offset word) m b →
       Sets table becomes r offset word a b
   sets_mended r offset word found a m b unused other load step = record {
-    acts = looking r offset found ∷ Fill r offset word ∷ [];
-    sets = inr (unused, found, ap (λ l. looking r offset found ∷ l) (sym (differs (nat_eq found word) refl)));
-    does = fillings_append (looking r offset found ∷ []) (Fill r offset word ∷ []) a m b (load_one r offset found a m load) (fill_one r offset word m b step);
-    later = later_trans (later_step (looking r offset found) a m (look_keeps found r offset) load) (later_step (Fill r offset word) m b tt step);
-    own = ap (λ (z : Known). z.own) step.event.learned_is ∙ ap (map (fill_in r offset word)) (look_owns table.layout found a.0.known m.0.known r offset load.event);
+    acts = load_of_word r offset found ∷ Fill r offset word ∷ [];
+    sets = inr (unused, found, ap (λ l. load_of_word r offset found ∷ l) (sym (differs (nat_eq found word) refl)));
+    does = fillings_append (load_of_word r offset found ∷ []) (Fill r offset word ∷ []) a m b (load_one r offset found a m load) (fill_one r offset word m b step);
+    later = later_trans (later_step (load_of_word r offset found) a m (look_keeps found r offset) load) (later_step (Fill r offset word) m b tt step);
+    own = ap (λ (z : Known). z.own) step.event.learned_is ∙ ap (map (with_filled_word r offset word)) (look_owns table.layout found a.0.known m.0.known r offset load.event);
   }
     where
-      differs : (b : Bool) → nat_eq found word ≡ b → mending r offset word found ≡ Fill r offset word ∷ []
+      differs : (b : Bool) → nat_eq found word ≡ b → fill_unless_found r offset word found ≡ Fill r offset word ∷ []
       differs true e = absurd (other (eqb-true found word e))
       differs false e = rw e refl
 
   -- the record stays claimed by a load,
-  pub load_claimed : (r : Rec) (offset found : ℕ) (a b : SeatView × G) → Steps table becomes (looking r offset found) a b → IsClaimed a.0.known r → IsClaimed b.0.known r
+  pub load_claimed : (r : Rec) (offset found : ℕ) (a b : SeatView × G) → Steps table becomes (load_of_word r offset found) a b → IsClaimed a.0.known r → IsClaimed b.0.known r
   load_claimed r offset found a b step (words, size, has) =
       (words, size, subst (λ l. Contains l (record { rec = r; holding = Held; words = words })) (sym (look_owns table.layout found a.0.known b.0.known r offset step.event)) has)
 
@@ -182,10 +182,10 @@ module _ {G : Type 0} (table : TableView) (becomes : G → Event → G → Type 
   pub set_claimed : (r : Rec) (offset word : ℕ) (a b : SeatView × G) → Sets table becomes r offset word a b → IsClaimed a.0.known r → IsClaimed b.0.known r
   set_claimed r offset word a b sets (words, size, has) =
       let o : Owned = record { rec = r; holding = Held; words = set words (offset - 1) word } in
-      let with : fill_in r offset word (record { rec = r; holding = Held; words = words }) ≡ o = rw (same_rec_refl r) refl in (
+      let with : with_filled_word r offset word (record { rec = r; holding = Held; words = words }) ≡ o = rw (same_rec_refl r) refl in (
         set words (offset - 1) word,
         length-set words (offset - 1) word ∙ size,
-        subst (λ l. Contains l o) (sym sets.own) (subst (Contains (map (fill_in r offset word) a.0.known.own)) with (mapped (fill_in r offset word) a.0.known.own (record { rec = r; holding = Held; words = words }) has)),
+        subst (λ l. Contains l o) (sym sets.own) (subst (Contains (map (with_filled_word r offset word) a.0.known.own)) with (mapped (with_filled_word r offset word) a.0.known.own (record { rec = r; holding = Held; words = words }) has)),
       )
 
   -- ---- word by word
@@ -193,7 +193,7 @@ module _ {G : Type 0} (table : TableView) (becomes : G → Event → G → Type 
   sets_long r offset word acts (inl (used, is)) = subst (λ l. (1 ≤ length l) × (length l ≤ 2)) (sym is) (omega arith, omega arith)
   sets_long r offset word acts (inr (unused, found, is)) = subst (λ l. (1 ≤ length l) × (length l ≤ 2)) (sym is) (go (nat_eq found word) refl)
     where
-      go : (b : Bool) → nat_eq found word ≡ b → (1 ≤ length (looking r offset found ∷ mending r offset word found)) × (length (looking r offset found ∷ mending r offset word found) ≤ 2)
+      go : (b : Bool) → nat_eq found word ≡ b → (1 ≤ length (load_of_word r offset found ∷ fill_unless_found r offset word found)) × (length (load_of_word r offset found ∷ fill_unless_found r offset word found) ≤ 2)
       go true e = rw e (omega arith, omega arith)
       go false e = rw e (omega arith, omega arith)
 
@@ -232,8 +232,8 @@ module _ {G : Type 0} (table : TableView) (becomes : G → Event → G → Type 
         does = fillings_append some.acts sets.acts a m b some.does sets.does;
         later = later_trans some.later sets.later;
         held = set_claimed r (i + 1) word m b sets some.held;
-        own = sets.own ∙ (ap (map (fill_in r (i + 1) word)) some.own ∙
-            (ap (λ w. map (fill_in r (i + 1) w) (map (stored_in r words i) a.0.known.own)) is ∙ twice (fill_in r (i + 1) (get_or words i 0)) (stored_in r words i) (stored_in r words (i + 1)) (stored_more r words i) a.0.known.own));
+        own = sets.own ∙ (ap (map (with_filled_word r (i + 1) word)) some.own ∙
+            (ap (λ w. map (with_filled_word r (i + 1) w) (map (stored_in r words i) a.0.known.own)) is ∙ twice (with_filled_word r (i + 1) (get_or words i 0)) (stored_in r words i) (stored_in r words (i + 1)) (stored_more r words i) a.0.known.own));
       }
 
   -- a pass that makes a step knows of each of its records as many words as it has

@@ -2,8 +2,8 @@
 use Rattle.std.specs.Prelude.{◌≡◌, ◌≢◌, ℕ, ◌+◌, ◌-◌, ◌<◌, ◌≤◌, ◌*◌, ◌⊎◌, List, [], ◌∷◌, ◌++◌, length, nat_lt, All, Contains, MatchOption, Option, if◌then◌else◌}
 use Rattle.record_words.specs.declared.layout.Layout.{Layout}
 use Rattle.record_words.specs.Layout.{leaf_size}
-use Rattle.moments.specs.declared.Rec.{Rec}
-use Rattle.moments.specs.declared.Rec.TheVariants.{Node as a_node, Leaf as a_leaf}
+use Rattle.versions.specs.declared.Rec.{Rec}
+use Rattle.versions.specs.declared.Rec.TheVariants.{Node as a_node, Leaf as a_leaf}
 use Rattle.rowex_core.specs.declared.event.Act.{Act}
 use Rattle.rowex_core.specs.declared.event.Act.TheVariants.{Claim, LoadState}
 use Rattle.rowex_core.specs.declared.event.Event.{Event}
@@ -120,8 +120,8 @@ pub record Claims {G : Type 0} (table : TableView) (becomes : G → Event → G 
 
 -- The pass goes on, after tries that found none free, with so many of the n records from this number on, which follow those; it
 -- answers none, or how many it tried of these before the one that it has claimed.
-abbrev pub TriesOn : {G : Type 0} → TableView → (G → Event → G → Type 0) → (ℕ → Rec) → (n number count : ℕ) → Option ℕ → SeatView × G → SeatView × G → Type 0
-TriesOn {G = G} table becomes kind n number count answer b c =
+abbrev pub GoesOnTrying : {G : Type 0} → TableView → (G → Event → G → Type 0) → (ℕ → Rec) → (n number count : ℕ) → Option ℕ → SeatView × G → SeatView × G → Type 0
+GoesOnTrying {G = G} table becomes kind n number count answer b c =
     (a : SeatView × G) (from m : ℕ) → from < n → m + count ≤ n → number ≡ wrapped n from m → FindsNone table becomes kind n from m a b →
     MatchOption answer (FindsNone table becomes kind n from (m + count) a c)
     (λ index. (index < count) × (claims : Claims table becomes kind n from (number + index) a c) × (claims.tried ≡ m + index))

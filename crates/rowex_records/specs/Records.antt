@@ -1,8 +1,8 @@
 -- Steps on records of a pass's own that are not in the tree: filled, made ready, given up.
 use Rattle.std.specs.Prelude.{◌≡◌, ◌≢◌, ◌⊎◌, ℕ, ◌+◌, ◌-◌, ◌^◌, List, [], ◌∷◌, length, map, get_or, nat_eq, nat_lt, All, Contains, if◌then◌else◌}
-use Rattle.moments.specs.declared.Rec.{Rec}
-use Rattle.moments.specs.declared.Rec.TheVariants.{Node as a_node, Leaf as a_leaf}
-use Rattle.moments.specs.Steps.{same_rec}
+use Rattle.versions.specs.declared.Rec.{Rec}
+use Rattle.versions.specs.declared.Rec.TheVariants.{Node as a_node, Leaf as a_leaf}
+use Rattle.versions.specs.Steps.{same_rec}
 use Rattle.rowex_core.specs.declared.event.Act.{Act}
 use Rattle.record_words.specs.declared.TheConstants.{FIRST_ENTRY}
 use Rattle.rowex_core.specs.declared.event.Act.TheVariants.{Fill, LoadFixed, LoadRef, Ready, Release}
@@ -12,13 +12,13 @@ use Rattle.rowex_core.specs.declared.known.Holding.TheVariants.{Held, Ready as I
 use Rattle.rowex_core.specs.declared.known.Known.{Known}
 use Rattle.rowex_core.specs.declared.known.Owned.{Owned}
 use Rattle.rowex_core.specs.Cores.{size_of, word_count_of}
-use Rattle.rowex_core.specs.Knowing.{fill_in, hold_as, without_record}
+use Rattle.rowex_core.specs.Knowing.{with_filled_word, with_holding, without_record}
 use Rattle.rowex_core.specs.Reading.{IsPacked}
 use Rattle.rowex_table.specs.Made.{IsLater}
 use Rattle.rowex_table.specs.Rights.{OwnsAs, IsClaimed}
 use Rattle.rowex_table.specs.Runs.{Does, InTurn}
 use Rattle.rowex_table.specs.Seats.{TableView, SeatView}
-use Rattle.moments.specs.Trades.{AreApart}
+use Rattle.versions.specs.Trades.{AreApart}
 
 -- of what a pass knows, its own records may change
 abbrev pub owning : Known → Known → Known
@@ -44,19 +44,19 @@ unused_word (a_node n) offset = if nat_lt offset FIRST_ENTRY then 2 ^ 64 - 1 els
 unused_word (a_leaf n) offset = 0
 
 -- a load of the word there
-abbrev pub looking : Rec → ℕ → ℕ → Act
-looking (a_node n) offset w = if nat_lt offset FIRST_ENTRY then LoadFixed (a_node n) offset w else LoadRef (Slot n (offset - FIRST_ENTRY)) w
-looking (a_leaf n) offset w = LoadFixed (a_leaf n) offset w
+abbrev pub load_of_word : Rec → ℕ → ℕ → Act
+load_of_word (a_node n) offset w = if nat_lt offset FIRST_ENTRY then LoadFixed (a_node n) offset w else LoadRef (Slot n (offset - FIRST_ENTRY)) w
+load_of_word (a_leaf n) offset w = LoadFixed (a_leaf n) offset w
 
 -- where a load found the word nothing is stored, and else the word
-abbrev pub mending : Rec → ℕ → ℕ → ℕ → List Act
-mending r offset word found = if nat_eq found word then [] else Fill r offset word ∷ []
+abbrev pub fill_unless_found : Rec → ℕ → ℕ → ℕ → List Act
+fill_unless_found r offset word found = if nat_eq found word then [] else Fill r offset word ∷ []
 
 -- the word comes to stand at the offset: it is stored, but for an unused one the word there is loaded first
 abbrev pub SetsWord : Rec → ℕ → ℕ → List Act → Type 0
 SetsWord r offset word acts =
     ((word ≢ unused_word r offset) × (acts ≡ Fill r offset word ∷ [])) ⊎
-    ((word ≡ unused_word r offset) × (found : ℕ) × (acts ≡ looking r offset found ∷ mending r offset word found))
+    ((word ≡ unused_word r offset) × (found : ℕ) × (acts ≡ load_of_word r offset found ∷ fill_unless_found r offset word found))
 
 -- The pass goes on so for one word. Of its own records this one has the word then, and the others are as they were.
 pub record Sets {G : Type 0} (table : TableView) (becomes : G → Event → G → Type 0) (r : Rec) (offset word : ℕ) (a b : SeatView × G) : Type 0 where
@@ -64,7 +64,7 @@ pub record Sets {G : Type 0} (table : TableView) (becomes : G → Event → G �
   pub sets : SetsWord r offset word acts
   pub does : Does table becomes filling acts a b
   pub later : IsLater a.0.known b.0.known
-  pub own : b.0.known.own ≡ map (fill_in r offset word) a.0.known.own
+  pub own : b.0.known.own ≡ map (with_filled_word r offset word) a.0.known.own
 
 -- The words come to stand from offset 1 on, as far as the table has words for the record, one after the other; an unused one that stands
 -- there already is not stored again. Of the pass's own records this one has them then, and the others are as they were.
@@ -79,7 +79,7 @@ pub record SetsAll {G : Type 0} (table : TableView) (becomes : G → Event → G
 -- The record is made ready. Of the pass's own records this one is ready then, and the others are as they were.
 pub record Readies {G : Type 0} (table : TableView) (becomes : G → Event → G → Type 0) (r : Rec) (a b : SeatView × G) : Type 0 where
   pub does : Does table becomes owning (Ready r ∷ []) a b
-  pub own : b.0.known.own ≡ map (hold_as r IsReady) a.0.known.own
+  pub own : b.0.known.own ≡ map (with_holding r IsReady) a.0.known.own
 
 -- The record is released, and is no more among the pass's own; all others are.
 pub record GivesUp {G : Type 0} (table : TableView) (becomes : G → Event → G → Type 0) (r : Rec) (a b : SeatView × G) : Type 0 where

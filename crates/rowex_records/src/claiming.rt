@@ -5,7 +5,7 @@ ghost use Rattle.rowex_core.specs.Cores.{HasRecord};
 ghost use Rattle.rowex_table.specs.Rights.{IsClaimed};
 ghost use Rattle.rowex_table.specs.Rule.{IsStartOf};
 ghost use Rattle.rowex_table.specs.Seats.{IsSeatOf};
-ghost use Rattle.rowex_records.specs.Claims.{AllMissed, Claims, ClaimsOne, FindsNone, MissesNumber, MissesOne, HasIndex, IsKindOf, TriesOn, begin_of, count_of, record_of};
+ghost use Rattle.rowex_records.specs.Claims.{AllMissed, Claims, ClaimsOne, FindsNone, MissesNumber, MissesOne, HasIndex, IsKindOf, GoesOnTrying, begin_of, count_of, record_of};
 ghost use Rattle.rowex_records.specs.Starts.{IsRow, first_word};
 ghost use Rattle.rowex_records.specs.Records.{GivesUp, GivesUpAll, HoldsJust};
 
@@ -154,7 +154,7 @@ fn claim_in_row<G: Gate>(
     requires row { IsRow kind table.now.layout number count size }
     ensures own { IsSeatOf table.now seat.new }
     ensures low { IfSome result (λ index. index < count) }
-    ensures tries { TriesOn table.now G.becomes (record_of kind) (count_of kind table.now.layout) number count result (seat.old, gate.old) (seat.new, gate.new) }
+    ensures tries { GoesOnTrying table.now G.becomes (record_of kind) (count_of kind table.now.layout) number count result (seat.old, gate.old) (seat.new, gate.new) }
 {
     let mut start = kind.start_at(&table.layout(), number);
     for index in 0..count {

@@ -1,7 +1,7 @@
 //! Records filled with the words of a leaf or of a node, and made ready.
 
 ghost use Rattle.std.specs.Prelude.{◌≡◌, ◌<◌, ◌≤◌, ◌+◌, ◌*◌, ℕ, List, length};
-ghost use Rattle.moments.specs.declared.Rec.TheVariants.{Node as a_node, Leaf as a_leaf};
+ghost use Rattle.versions.specs.declared.Rec.TheVariants.{Node as a_node, Leaf as a_leaf};
 ghost use Rattle.record_words.specs.Layout.{leaf_size};
 ghost use Rattle.record_words.specs.Leaf.{leaf_words, words_for};
 ghost use Rattle.record_words.specs.Node.{HasNodeWords, node_words};
@@ -13,7 +13,7 @@ ghost use Rattle.rowex_table.specs.Rights.{IsClaimed};
 ghost use Rattle.rowex_table.specs.Rule.{IsStartOf};
 ghost use Rattle.rowex_table.specs.Runs.{Steps};
 ghost use Rattle.rowex_table.specs.Seats.{IsSeatOf};
-ghost use Rattle.rowex_records.specs.Records.{IsFilled, Readies, Sets, SetsAll, looking, unused_word};
+ghost use Rattle.rowex_records.specs.Records.{IsFilled, Readies, Sets, SetsAll, load_of_word, unused_word};
 
 use key_bits::Key;
 use record_words::{FIRST_ENTRY, HEAD_WORDS, NODE_FIELDS, key_word_at, key_words};
@@ -156,7 +156,7 @@ fn load_node_word<G: Gate>(
     requires own { IsSeatOf table.now seat.old }
     requires range { (number < table.now.layout.nodes) × IsOffset (a_node number) offset }
     requires start { IsStartOf table.now.layout (a_node number) start }
-    ensures { Steps table.now G.becomes (looking (a_node number) offset result) (seat.old, gate.old) (seat.new, gate.new) }
+    ensures { Steps table.now G.becomes (load_of_word (a_node number) offset result) (seat.old, gate.old) (seat.new, gate.new) }
 {
     if (offset as usize) < FIRST_ENTRY {
         table.load_fixed_from(seat, gate, Rec::Node(number), start, offset)

@@ -4,7 +4,7 @@ use Rattle.std.proofs.Props.{props}
 use Rattle.std.proofs.lemmas.List.{take_all}
 use Rattle.std.proofs.Math.Logic.{∥∥₁_elim, ∥∥₁_map}
 use Rattle.finite_map.specs.Fronts.{map_of}
-use Rattle.moments.specs.Told.{content}
+use Rattle.versions.specs.Told.{content}
 use Rattle.rowex_core.specs.declared.event.Act.{Act}
 use Rattle.rowex_core.specs.declared.event.Event.{Event}
 use Rattle.rowex_core.specs.declared.event.Spot.{Spot}
@@ -12,7 +12,7 @@ use Rattle.rowex_core.specs.declared.event.Spot.TheVariants.{Root, Slot}
 use Rattle.rowex_core.specs.Cores.{Core, IsLawful}
 use Rattle.rowex_core.specs.Events.{IsLockedAt, Legal, after}
 use Rattle.rowex_core.specs.Opening.{opening}
-use Rattle.rowex_core.specs.Runs.{Leads}
+use Rattle.rowex_core.specs.Runs.{EventsLead}
 use Rattle.rowex_core.proofs.Runs.{runs_stay_lawful}
 use Rattle.rowex_replay.specs.Runs.{Run, HasLegalEvents, core_after, core_of, with_event}
 use Rattle.replay_state.specs.States.{StateView, IsStateOf, HasLock, IsLockedPublish}
@@ -27,7 +27,7 @@ core_more : (c : Core) (xs : List Event) (x : Event) → core_after c (xs ++ x �
 core_more c [] x = refl
 core_more c (y ∷ ys) x = core_more (after c y.pass y.act) ys x
 
-leads_more : (c : Core) (xs : List Event) (x : Event) → Leads c xs (core_after c xs) → Legal (core_after c xs) x.pass x.act → Leads c (xs ++ x ∷ []) (core_after c (xs ++ x ∷ []))
+leads_more : (c : Core) (xs : List Event) (x : Event) → EventsLead c xs (core_after c xs) → Legal (core_after c xs) x.pass x.act → EventsLead c (xs ++ x ∷ []) (core_after c (xs ++ x ∷ []))
 leads_more c [] x l legal = (legal, refl)
 leads_more c (y ∷ ys) x l legal = (l.0, leads_more (after c y.pass y.act) ys x l.1 legal)
 
@@ -35,8 +35,8 @@ leads_more c (y ∷ ys) x l legal = (l.0, leads_more (after c y.pass y.act) ys x
 pub lawful : (run : Run) → ∥ HasLegalEvents run ∥₁ → ∥ IsLawful (core_of run) ∥₁
 lawful run h = ∥∥₁_map h (λ l. runs_stay_lawful run.layout run.events (core_of run) l)
 
--- there the content of the newest moment is the map of the changes
-pub told : (run : Run) → ∥ HasLegalEvents run ∥₁ → content ((core_of run).past.moment (core_of run).past.now) ≡ map_of (core_of run).changes
+-- there the content of the newest version is the map of the changes
+pub told : (run : Run) → ∥ HasLegalEvents run ∥₁ → content ((core_of run).past.version (core_of run).past.now) ≡ map_of (core_of run).changes
 told run h = ∥∥₁_elim (lawful run h) (Prim.hlevel props) (λ l.
     let c = core_of run in
     l.core.told.content_is c.past.now (omega arith) ∙ ap map_of (take_all c.past.now c.changes (let count = l.core.told.count in omega (arith, count))))

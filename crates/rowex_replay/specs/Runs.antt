@@ -5,7 +5,7 @@ use Rattle.rowex_core.specs.declared.event.Event.{Event}
 use Rattle.rowex_core.specs.Cores.{Core}
 use Rattle.rowex_core.specs.Events.{after}
 use Rattle.rowex_core.specs.Opening.{opening}
-use Rattle.rowex_core.specs.Runs.{Leads}
+use Rattle.rowex_core.specs.Runs.{EventsLead}
 
 -- the layout of an index and the events so far, the oldest first
 pub record Run : Type 0 where
@@ -23,7 +23,7 @@ core_of run = core_after (opening run.layout) run.events
 
 -- its events are legal one after the other
 abbrev pub HasLegalEvents : Run → Type 0
-HasLegalEvents run = Leads (opening run.layout) run.events (core_of run)
+HasLegalEvents run = EventsLead (opening run.layout) run.events (core_of run)
 
 -- a run of no event yet, and one with one event more
 

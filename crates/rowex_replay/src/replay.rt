@@ -34,7 +34,7 @@ impl Model for Replay {
 
 impl Replay {
     ghost use Rattle.finite_map.specs.Fronts.{map_of};
-    ghost use Rattle.moments.specs.Told.{content};
+    ghost use Rattle.versions.specs.Told.{content};
     ghost use Rattle.rowex_core.specs.Events.{Legal};
     ghost use Rattle.rowex_replay.specs.Runs.{core_of, new_run, with_event};
     ghost use Rattle.rowex_replay.specs.Replays.{MayWantMemory};
@@ -71,9 +71,9 @@ impl Replay {
         self.state.changes()
     }
 
-    /// The map after the run's changes: the keys of the newest moment with their values, in the order of the keys.
+    /// The map after the run's changes: the keys of the newest version with their values, in the order of the keys.
     pub fn content(&self, alloc: Global) -> Result<Vec<(Key, u64)>, AllocError>
-        ensures moment { IfOk result (λ pairs. pairs.items ≡ content ((core_of self.now).past.moment (core_of self.now).past.now)) }
+        ensures version { IfOk result (λ pairs. pairs.items ≡ content ((core_of self.now).past.version (core_of self.now).past.now)) }
         ensures map { IfOk result (λ pairs. pairs.items ≡ map_of (core_of self.now).changes) }
     {
         self.state.content(alloc)

@@ -1,7 +1,7 @@
 -- Locks and loads under them, and what a pass recalls after an act.
 use Rattle.std.proofs.Common.{◌≡◌, ◌+◌, subst, ◌∙◌, arith, suc}
 use Rattle.rowex_core.specs.declared.event.Act.TheVariants.{LoadFixed}
-use Rattle.moments.specs.declared.Rec.TheVariants.{Node as a_node}
+use Rattle.versions.specs.declared.Rec.TheVariants.{Node as a_node}
 use Rattle.rowex_core.specs.Knowing.{IsEvent}
 use Rattle.rowex_core.proofs.Owning.{recalls, pin_is}
 use Rattle.rowex_core.proofs.Leading.{led_is_in_tree}
@@ -12,7 +12,7 @@ use Rattle.rowex_rights.specs.Acts.{LedMayLock, LoadsOfLocked, ActGoesOn}
 
 pub led_may_lock : LedMayLock
 led_may_lock layout k since n h (pin, pinned, early) sure c law layout_is known state =
-    let (m, u, lo, hi, stands, page_is) = sure c law (recalls c k known) in
+    let (m, u, lo, hi, stands, subtrie_is) = sure c law (recalls c k known) in
     led_is_in_tree c law k.pass pin (pin_is c k known ∙ pinned) n m u (omega arith) hi stands state
 
 pub loads_of_locked : LoadsOfLocked

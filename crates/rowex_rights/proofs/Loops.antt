@@ -16,8 +16,8 @@ use Rattle.rowex_table.proofs.ActsLeave.{act_leaves}
 use Rattle.rowex_core.specs.Sharing.{IsOwned}
 use Rattle.rowex_core.proofs.Owning.{knows_all}
 use Rattle.rowex_core.proofs.Having.{owned_used}
-use Rattle.moments.specs.Trades.{IsOf, AreApart}
-use Rattle.moments.proofs.Members.{of_right, all_of}
+use Rattle.versions.specs.Trades.{IsOneOf, AreApart}
+use Rattle.versions.proofs.Members.{of_right, all_of}
 use Rattle.rowex_table.proofs.ActsBefore.{ready_gives_next, recalls_on, later_trans, same_later}
 use Rattle.rowex_table.specs.Runs.{silent}
 use Rattle.rowex_table.specs.Made.{HasReadied, IsLater, Made, held_as, recs_of, HoldsMade}
@@ -25,11 +25,11 @@ use Rattle.rowex_rights.specs.Loops.{ReadiesEach, StaysLocked}
 
 -- What is recalled on and on
 
-pub later_same : (k j : Known) → j ≡ k → IsLater k j
-later_same k j e = same_later k j (ap (λ (z : Known). z.pass) e) (ap (λ (z : Known). z.pin) e) (ap (λ (z : Known). z.front) e) (ap (λ (z : Known). z.facts) e)
+pub later_if_same : (k j : Known) → j ≡ k → IsLater k j
+later_if_same k j e = same_later k j (ap (λ (z : Known). z.pass) e) (ap (λ (z : Known). z.pin) e) (ap (λ (z : Known). z.front) e) (ap (λ (z : Known). z.facts) e)
 
-pub later_on : (k i j : Known) → IsLater k i → IsLater i j → IsLater k j
-later_on k i j a b = later_trans a b
+pub later_transitive : (k i j : Known) → IsLater k i → IsLater i j → IsLater k j
+later_transitive k i j a b = later_trans a b
 
 -- All made ready
 
@@ -37,7 +37,7 @@ pub recs_append : (us vs : List Made) → recs_of (us ++ vs) ≡ recs_of us ++ r
 recs_append us vs = map-append (λ (m : Made). m.rec) us vs
 
 -- of lists that are apart, the one in the middle is on neither side
-middle : {X : Type 0} (xs ys : List X) (x : X) → AreApart (xs ++ x ∷ ys) → (IsOf x xs → ⊥) × (IsOf x ys → ⊥)
+middle : {X : Type 0} (xs ys : List X) (x : X) → AreApart (xs ++ x ∷ ys) → (IsOneOf x xs → ⊥) × (IsOneOf x ys → ⊥)
 middle [] ys x a = ((λ h. absurd h), a.0)
 middle (z ∷ xs) ys x a =
     let m = middle xs ys x a.1 in
@@ -48,10 +48,10 @@ pub still_locked : (layout : Layout) (k i : Known) (act : Act) → KeepsRecall a
 still_locked layout k i act recalls locks anchor e = let n = act_leaves layout k i act e in (recalls_on layout silent k i act recalls e, n.locks locks, n.anchor anchor)
 
 locked_on : (k i j : Known) → StaysLocked k i → StaysLocked i j → StaysLocked k j
-locked_on k i j a b = (later_on k i j a.0 b.0, b.1 ∙ a.1, b.2 ∙ a.2)
+locked_on k i j a b = (later_transitive k i j a.0 b.0, b.1 ∙ a.1, b.2 ∙ a.2)
 
 locked_same : (k j : Known) → j ≡ k → StaysLocked k j
-locked_same k j e = (later_same k j e, ap (λ (z : Known). z.locks) e, ap (λ (z : Known). z.anchor) e)
+locked_same k j e = (later_if_same k j e, ap (λ (z : Known). z.locks) e, ap (λ (z : Known). z.anchor) e)
 
 -- one of them is ready
 pub ready_next : (layout : Layout) (done : List Made) (m : Made) (todo : List Made) (k i : Known) → HasReadied k done (m ∷ todo) → IsEvent layout (Ready m.rec) silent k i → HasReadied i (done ++ m ∷ []) todo
@@ -91,8 +91,8 @@ holds_rights layout k done todo m has = (
   λ c law layout_is known. (let owned = owned_here c known in (known.pass, (owned_used c law k.pass (held_as Held m) owned, owned.0))),
 )
   where
-    here : IsOf (held_as Held m) k.own
-    here = subst (IsOf (held_as Held m)) (sym has.0) (of_right (held_as Held m) (map (held_as IsReady) done) (held_as Held m ∷ map (held_as Held) todo) (inl refl))
+    here : IsOneOf (held_as Held m) k.own
+    here = subst (IsOneOf (held_as Held m)) (sym has.0) (of_right (held_as Held m) (map (held_as IsReady) done) (held_as Held m ∷ map (held_as Held) todo) (inl refl))
 
     owned_here : (c : Core) → Knows c k → IsOwned k.pass c (held_as Held m)
     owned_here c known = all_of (IsOwned k.pass c) (held_as Held m) k.own (knows_all c k known).own here

@@ -1,4 +1,4 @@
--- A publish that the laws on moments give is one for words.
+-- A publish that the laws on versions give is one for words.
 use Rattle.std.proofs.Common.{◌≡◌, ◌<◌, inl, inr, ℕ, List, Option, Some, refl, sym, ap, subst, ◌∙◌, arith, le_refl}
 use Rattle.std.proofs.lemmas.List.{take_all}
 use Rattle.compound_node.specs.declared.entries.Entry.{Entry}
@@ -9,9 +9,9 @@ use Rattle.record_words.specs.Entry.{HasEntryWord, entry_word}
 use Rattle.tries.specs.Keys.{Key}
 use Rattle.tries.specs.Tree.{Tree, leaf, Holds, Within, here, inside, zero_side, one_side}
 use Rattle.tries.proofs.Maps.{holds_value}
-use Rattle.moments.specs.declared.Rec.{Rec}
-use Rattle.moments.specs.Told.{content}
-use Rattle.moments.specs.Trades.{HasTraded}
+use Rattle.versions.specs.declared.Rec.{Rec}
+use Rattle.versions.specs.Told.{content}
+use Rattle.versions.specs.Trades.{HasTraded}
 use Rattle.rowex_walks.specs.Statements.{IsPublished}
 use Rattle.rowex_walks.proofs.Now.{trie_now}
 use Rattle.rowex_core.specs.declared.event.Spot.{Spot}
@@ -35,7 +35,7 @@ publish_words c q law low spot w e locked fits is packed x was new gone p held =
       legal = legal;
       change = change;
       was_held = held (subst (Fits (map_of c.changes)) change fit);
-      trade = subst (λ z. HasTraded (c.past.moment c.past.now) z new gone) (sym next) p.trade;
+      trade = subst (λ z. HasTraded (c.past.version c.past.now) z new gone) (sym next) p.trade;
     }
 
 -- at the root
@@ -54,7 +54,7 @@ holds_within (inside w) k v h = holds_within w k v h
 holds_within (zero_side w) k v h = inl (holds_within w k v h)
 holds_within (one_side w) k v h = inr (holds_within w k v h)
 
-pub leaf_held : (c : Core) → IsLawful c → (t : Tree) → c.past.moment c.past.now ≡ Some t → (j : ℕ) (k : Key) (v : ℕ) → Within (leaf j k v) t → value_at (map_of c.changes) k ≡ Some v
+pub leaf_held : (c : Core) → IsLawful c → (t : Tree) → c.past.version c.past.now ≡ Some t → (j : ℕ) (k : Key) (v : ℕ) → Within (leaf j k v) t → value_at (map_of c.changes) k ≡ Some v
 leaf_held c law t now j k v w =
-    let told : content (c.past.moment c.past.now) ≡ map_of c.changes = law.core.told.content_is c.past.now (le_refl c.past.now) ∙ ap map_of (take_all c.past.now c.changes (let e = law.core.told.count in omega arith)) in
+    let told : content (c.past.version c.past.now) ≡ map_of c.changes = law.core.told.content_is c.past.now (le_refl c.past.now) ∙ ap map_of (take_all c.past.now c.changes (let e = law.core.told.count in omega arith)) in
     ap (λ (z : Map). value_at z k) (sym told) ∙ (ap (λ s. value_at (content s) k) now ∙ holds_value t (trie_now (bare c) law.core.state t now) k v (holds_within w k v (refl, refl)))

@@ -1,7 +1,7 @@
 -- Upserts and removals may be published; and leaves that a pass has read stay.
 use Rattle.std.proofs.Common.{ℕ, inl, List, [], ◌∷◌, Some, None, refl, sym, ap, subst, ◌∙◌}
 use Rattle.rowex_core.specs.declared.known.Locked.{Locked}
-use Rattle.rowex_core.specs.Knowing.{IsSince}
+use Rattle.rowex_core.specs.Knowing.{IsPinnedSince}
 use Rattle.rowex_walks.specs.Scan.{IsRead}
 use Rattle.tries.specs.Keys.{Key}
 use Rattle.rowex_rights.specs.Stages.{IsLeafThere, IsSure}
@@ -10,14 +10,14 @@ use Rattle.rowex_core.specs.declared.known.Known.{Known}
 use Rattle.compound_node.specs.declared.entries.Entry.TheVariants.{Leaf, Node}
 use Rattle.finite_map.specs.declared.Change.{Change}
 use Rattle.tries.specs.Search.{seek}
-use Rattle.tries.specs.Place.{page_without}
+use Rattle.tries.specs.Place.{subtrie_without}
 use Rattle.tries.specs.Tree.{leaf, Within}
-use Rattle.moments.specs.declared.Rec.TheVariants.{Node as a_node, Leaf as a_leaf}
-use Rattle.moments.specs.Heap.{NodeWords, LeafWords}
+use Rattle.versions.specs.declared.Rec.TheVariants.{Node as a_node, Leaf as a_leaf}
+use Rattle.versions.specs.Heap.{NodeWords, LeafWords}
 use Rattle.rowex_walks.specs.Writer.{replaced_change, removed_change}
-use Rattle.rowex_walks.specs.Rise.{IsLeafOf, entry_news}
+use Rattle.rowex_walks.specs.Rise.{IsLeafOf, linked_for_entry}
 use Rattle.rowex_walks.specs.Statements.{IsPublished}
-use Rattle.rowex_walks.proofs.Holding.{now_held, leaf_at}
+use Rattle.rowex_walks.proofs.Holding.{newest_tree_if_spot_held, leaf_at}
 use Rattle.rowex_core.specs.declared.event.Spot.TheVariants.{Root}
 use Rattle.rowex_core.specs.Reading.{node_words_of}
 use Rattle.rowex_core.specs.Cores.{bare, heap_of}
@@ -25,7 +25,7 @@ use Rattle.rowex_core.specs.Events.{stored_words, stored_root}
 use Rattle.rowex_core.proofs.Owning.{knows_all}
 use Rattle.rowex_table.specs.Made.{Made, recs_of}
 use Rattle.rowex_table.proofs.ActsAfter.{publishes_made, MayPublish}
-use Rattle.rowex_rights.specs.Rises.{of_leaf}
+use Rattle.rowex_rights.specs.Rises.{made_of_leaf}
 use Rattle.rowex_rights.proofs.Stages.{locked_node, made_leaf, stage_of}
 use Rattle.rowex_rights.proofs.Holding.{stores_at}
 use Rattle.rowex_rights.proofs.Sure.{reach_since}
@@ -39,7 +39,7 @@ use Rattle.rowex_core.proofs.Loading.{view as state_of}
 use Rattle.tries.specs.Content.{item}
 
 -- A leaf that a pinned pass has read keeps its key and value.
-pub leaf_stays : (layout : Layout) (k : Known) (held : List Locked) (news : List Made) (since j : ℕ) (key : Key) (value : ℕ) → IsSince k since →
+pub leaf_stays : (layout : Layout) (k : Known) (held : List Locked) (news : List Made) (since j : ℕ) (key : Key) (value : ℕ) → IsPinnedSince k since →
     IsSure k (λ s. IsRead s since j key value) → IsLeafThere layout k held news j key value
 leaf_stays layout k held news since j key value pinned sure c stage =
     let (n, lo, hi, st) = sure c stage.lawful stage.recalls in
@@ -49,7 +49,7 @@ pub upsert : MayUpsert
 upsert layout k held x j w value at has spelled holds fits there word = publishes_made layout k at w (replaced_change k.pass x) (Some value) news (a_leaf j ∷ []) has.own may
   where
     news : List Made
-    news = of_leaf x ∷ []
+    news = made_of_leaf x ∷ []
 
     may : MayPublish layout k at w (replaced_change k.pass x) (Some value) (a_leaf x.number ∷ []) (a_leaf j ∷ [])
     may c law layout_is known =
@@ -57,7 +57,7 @@ upsert layout k held x j w value at has spelled holds fits there word = publishe
         let s = stores_at layout k held news c stage known x.key (Leaf j) at holds (Leaf x.number) w fits word in
         let new = made_leaf layout k held news c stage x (inl refl) spelled in
         let is_leaf = there c stage in
-        let (t, now) = now_held (bare c) k.pass law.core.state s.spot in
+        let (t, now) = newest_tree_if_spot_held (bare c) k.pass law.core.state s.spot in
         let stands : Within (leaf j x.key value) t = subst (λ (z : LeafWords). Within (leaf j z.key z.value) t) is_leaf (leaf_at (bare c) k.pass law.core.state t now x.key j s.spot).place in
         publish_words c k.pass law known.pass at w (Some (Leaf x.number)) s.locked word.0 word.1 s.packed (replaced_change k.pass x) (Some value) (a_leaf x.number ∷ []) (a_leaf j ∷ [])
         (upsert_at_spot (bare c) k.pass law.core.state x new j s.spot (ap (λ (z : LeafWords). z.key) is_leaf) (heap_of (stored_words c at w)) (stored_root c at w) s.stored)
@@ -76,17 +76,17 @@ remove layout k held news key n j height w value e words at has side below names
         let s = stores_at layout k held news c stage known key (Node n height) at holds e w fits word in
         let (locked, same) = locked_node layout k held news c stage n words below in
         let is_leaf = there c stage in
-        let seen : IsLeafOf (bare c) k.pass key n j = record { lock = locked.lock; entry = ap (λ (y : NodeWords). seek key y.page) same ∙ names; key = ap (λ (y : LeafWords). y.key) is_leaf } in
-        let (t, now) = now_held (bare c) k.pass law.core.state s.spot in
+        let seen : IsLeafOf (bare c) k.pass key n j = record { lock = locked.lock; entry = ap (λ (y : NodeWords). seek key y.subtrie) same ∙ names; key = ap (λ (y : LeafWords). y.key) is_leaf } in
+        let (t, now) = newest_tree_if_spot_held (bare c) k.pass law.core.state s.spot in
         let (b, pg, trie, built) = left_tree (bare c) k.pass law.core.state key n j seen t now locked.linked locked.fate in
-        let (i, made) = side_in layout k held news c stage (page_without key (node_words_of words).page) e news side (λ m h. h) b (pg ∙ ap (λ (y : NodeWords). page_without key y.page) same) trie built in
-        let (z, still) = same_entry (bare c) k.pass (page_without key (node_words_of words).page) (page_without key ((bare c).heap.nodes n).page) (ap (λ (y : NodeWords). page_without key y.page) (sym same)) e i in
+        let (i, made) = side_in layout k held news c stage (subtrie_without key (node_words_of words).subtrie) e news side (λ m h. h) b (pg ∙ ap (λ (y : NodeWords). subtrie_without key y.subtrie) same) trie built in
+        let (z, still) = same_entry (bare c) k.pass (subtrie_without key (node_words_of words).subtrie) (subtrie_without key ((bare c).heap.nodes n).subtrie) (ap (λ (y : NodeWords). subtrie_without key y.subtrie) (sym same)) e i in
         let heap = heap_of (stored_words c at w) in
         let root = stored_root c at w in
         let published = remove_at_spot (bare c) k.pass law.core.state key n j seen height e z s.spot s.low heap root s.stored in
         publish_words c k.pass law known.pass at w (Some e) s.locked word.0 word.1 s.packed change (Some value) (recs_of news) (a_node n ∷ a_leaf j ∷ [])
         (subst (λ us. IsPublished (bare c) k.pass heap root change us (a_node n ∷ a_leaf j ∷ [])) (still ∙ made)
-        (subst (λ (y : LeafWords). IsPublished (bare c) k.pass heap root (removed_change k.pass (item j key y.value)) (entry_news z) (a_node n ∷ a_leaf j ∷ [])) is_leaf published)) (λ f. f)
+        (subst (λ (y : LeafWords). IsPublished (bare c) k.pass heap root (removed_change k.pass (item j key y.value)) (linked_for_entry z) (a_node n ∷ a_leaf j ∷ [])) is_leaf published)) (λ f. f)
 
 pub remove_the_last : MayRemoveLast
 remove_the_last layout k held j value key has anchor there = publishes_made layout k Root 0 change (Some value) [] (a_leaf j ∷ []) has.own may

@@ -3,15 +3,15 @@ use Rattle.std.specs.Prelude.{◌≡◌, ℕ, ◌+◌, List, get_or}
 use Rattle.compound_node.specs.declared.entries.Entry.TheVariants.{Node}
 use Rattle.record_words.specs.declared.layout.Layout.{Layout}
 use Rattle.record_words.specs.declared.TheConstants.{HEAD_WORDS}
-use Rattle.moments.specs.declared.Rec.TheVariants.{Node as a_node}
-use Rattle.moments.specs.Trades.{IsOf}
-use Rattle.rowex_walks.specs.Scan.{IsSeen}
+use Rattle.versions.specs.declared.Rec.TheVariants.{Node as a_node}
+use Rattle.versions.specs.Trades.{IsOneOf}
+use Rattle.rowex_walks.specs.Scan.{EntryStoodSince}
 use Rattle.rowex_core.specs.declared.event.Act.{Act}
 use Rattle.rowex_core.specs.declared.event.Act.TheVariants.{LoadRef, LoadFixed}
 use Rattle.rowex_core.specs.declared.event.Spot.TheVariants.{Slot}
 use Rattle.rowex_core.specs.declared.event.Target.TheVariants.{Node as NodeTarget}
 use Rattle.rowex_core.specs.declared.known.Known.{Known}
-use Rattle.rowex_core.specs.Knowing.{IsEvent, IsSince}
+use Rattle.rowex_core.specs.Knowing.{IsEvent, IsPinnedSince}
 use Rattle.rowex_table.specs.Rights.{MayLock}
 use Rattle.rowex_table.specs.Made.{IsLater}
 use Rattle.rowex_table.specs.Runs.{silent}
@@ -21,12 +21,12 @@ use Rattle.rowex_rights.specs.Stages.{IsSure}
 -- A node to which the pass was led since its pin it may lock.
 abbrev pub LedMayLock : Type 0
 LedMayLock =
-    (layout : Layout) (k : Known) (since n h : ℕ) → IsSince k since → IsSure k (λ s. IsSeen s since (Node n h)) → MayLock layout (NodeTarget n) k
+    (layout : Layout) (k : Known) (since n h : ℕ) → IsPinnedSince k since → IsSure k (λ s. EntryStoodSince s since (Node n h)) → MayLock layout (NodeTarget n) k
 
 -- What it loads of a node that it has locked is a word of those that it holds.
 abbrev pub LoadsOfLocked : Type 0
 LoadsOfLocked =
-    (layout : Layout) (k j : Known) (n : ℕ) (words : List ℕ) → IsOf (record { node = n; words = words }) k.locks →
+    (layout : Layout) (k j : Known) (n : ℕ) (words : List ℕ) → IsOneOf (record { node = n; words = words }) k.locks →
     ((i w : ℕ) → IsEvent layout (LoadRef (Slot n i) w) silent k j → w ≡ get_or words (HEAD_WORDS + i) 0) ×
     ((i w : ℕ) → IsEvent layout (LoadFixed (a_node n) (i + 1) w) silent k j → w ≡ get_or words i 0)
 

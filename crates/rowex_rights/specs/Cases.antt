@@ -9,11 +9,11 @@ use Rattle.record_words.specs.Entry.{HasEntryWord, entry_word}
 use Rattle.record_words.specs.Leaf.{HasLeafWords}
 use Rattle.tries.specs.Keys.{Key, bit, AgreeBelow}
 use Rattle.tries.specs.Search.{seek}
-use Rattle.tries.specs.Place.{page_without}
+use Rattle.tries.specs.Place.{subtrie_without}
 use Rattle.tries.specs.Content.{Item, item}
-use Rattle.tries.specs.Affected.{page_forked}
-use Rattle.moments.specs.declared.Rec.TheVariants.{Node as a_node, Leaf as a_leaf}
-use Rattle.moments.specs.Trades.{IsOf}
+use Rattle.tries.specs.Affected.{subtrie_forked}
+use Rattle.versions.specs.declared.Rec.TheVariants.{Node as a_node, Leaf as a_leaf}
+use Rattle.versions.specs.Trades.{IsOneOf}
 use Rattle.rowex_walks.specs.Writer.{added_change, replaced_change, removed_change}
 use Rattle.rowex_core.specs.declared.event.Spot.{Spot}
 use Rattle.rowex_core.specs.declared.event.Spot.TheVariants.{Root}
@@ -23,8 +23,8 @@ use Rattle.rowex_core.specs.Reading.{node_words_of}
 use Rattle.rowex_table.specs.Made.{Made}
 use Rattle.rowex_table.specs.Publishes.{Publishes}
 use Rattle.rowex_rights.specs.Stages.{HasReady, IsLeafThere}
-use Rattle.rowex_rights.specs.Spots.{HoldsAt, FitsAt, IsAlone}
-use Rattle.rowex_rights.specs.Rises.{of_view, of_leaf, IsAnew, IsSide}
+use Rattle.rowex_rights.specs.Spots.{HoldsAt, FitsAt, AffectsSpotAlone}
+use Rattle.rowex_rights.specs.Rises.{made_of_node, made_of_leaf, IsBuiltAnew, IsSide}
 
 -- The entry has a word, which is this one.
 abbrev pub IsWord : Entry → ℕ → Type 0
@@ -33,32 +33,32 @@ IsWord e w = HasEntryWord (Some e) × (entry_word (Some e) ≡ w)
 -- The first key: where the root is empty, the new leaf.
 abbrev pub MayAddFirstKey : Type 0
 MayAddFirstKey =
-    (layout : Layout) (k : Known) (held : List Locked) (x : Item) (w : ℕ) → HasReady k held (of_leaf x ∷ []) → HasLeafWords (x.key, x.value) →
+    (layout : Layout) (k : Known) (held : List Locked) (x : Item) (w : ℕ) → HasReady k held (made_of_leaf x ∷ []) → HasLeafWords (x.key, x.value) →
     IsWord (Leaf x.number) w → k.anchor ≡ Some None → Publishes layout k Root w (added_change k.pass x) None []
 
 -- A pair: a new node of a leaf, which alone is affected, and the new one. In a node this is a leaf pushdown, at the root the second key.
 abbrev pub MayPair : Type 0
 MayPair =
     (layout : Layout) (k : Known) (held : List Locked) (x : Item) (p j m w value : ℕ) (l : Key) (view : NodeView) (at : Spot) →
-    HasReady k held (of_view m view ∷ of_leaf x ∷ []) → HasLeafWords (x.key, x.value) →
-    (s : HoldsAt k held x.key (Leaf j) at) → IsAlone s p → FitsAt s (Node m view.height) →
-    IsLeafThere layout k held (of_view m view ∷ of_leaf x ∷ []) j l value → AgreeBelow p x.key l → bit x.key p ≢ bit l p →
-    IsAnew view → piece view ≡ page_forked (bit x.key p) p (Leaf x.number) (Place (Leaf j)) → IsWord (Node m view.height) w →
+    HasReady k held (made_of_node m view ∷ made_of_leaf x ∷ []) → HasLeafWords (x.key, x.value) →
+    (s : HoldsAt k held x.key (Leaf j) at) → AffectsSpotAlone s p → FitsAt s (Node m view.height) →
+    IsLeafThere layout k held (made_of_node m view ∷ made_of_leaf x ∷ []) j l value → AgreeBelow p x.key l → bit x.key p ≢ bit l p →
+    IsBuiltAnew view → piece view ≡ subtrie_forked (bit x.key p) p (Leaf x.number) (Place (Leaf j)) → IsWord (Node m view.height) w →
     Publishes layout k at w (added_change k.pass x) None []
 
 -- Upsert of a held key: a new leaf in the place of the old one. The old value is that of the old leaf.
 abbrev pub MayUpsert : Type 0
 MayUpsert =
-    (layout : Layout) (k : Known) (held : List Locked) (x : Item) (j w value : ℕ) (at : Spot) → HasReady k held (of_leaf x ∷ []) → HasLeafWords (x.key, x.value) →
-    (s : HoldsAt k held x.key (Leaf j) at) → FitsAt s (Leaf x.number) → IsLeafThere layout k held (of_leaf x ∷ []) j x.key value → IsWord (Leaf x.number) w →
+    (layout : Layout) (k : Known) (held : List Locked) (x : Item) (j w value : ℕ) (at : Spot) → HasReady k held (made_of_leaf x ∷ []) → HasLeafWords (x.key, x.value) →
+    (s : HoldsAt k held x.key (Leaf j) at) → FitsAt s (Leaf x.number) → IsLeafThere layout k held (made_of_leaf x ∷ []) j x.key value → IsWord (Leaf x.number) w →
     Publishes layout k at w (replaced_change k.pass x) (Some value) (a_leaf j ∷ [])
 
 -- Removal: what is left of the node that names the leaf, one entry or a new node, takes its place.
 abbrev pub MayRemove : Type 0
 MayRemove =
     (layout : Layout) (k : Known) (held : List Locked) (news : List Made) (key : Key) (n j height w value : ℕ) (e : Entry) (words : List ℕ) (at : Spot) →
-    HasReady k held news → IsSide (page_without key (node_words_of words).page) e news → IsOf (record { node = n; words = words }) held →
-    seek key (node_words_of words).page ≡ Leaf j → (s : HoldsAt k held key (Node n height) at) → FitsAt s e → IsLeafThere layout k held news j key value → IsWord e w →
+    HasReady k held news → IsSide (subtrie_without key (node_words_of words).subtrie) e news → IsOneOf (record { node = n; words = words }) held →
+    seek key (node_words_of words).subtrie ≡ Leaf j → (s : HoldsAt k held key (Node n height) at) → FitsAt s e → IsLeafThere layout k held news j key value → IsWord e w →
     Publishes layout k at w (removed_change k.pass (item j key value)) (Some value) (a_node n ∷ a_leaf j ∷ [])
 
 -- And of the last key.

@@ -2,12 +2,12 @@
 use Rattle.std.specs.Prelude.{◌≡◌, ℕ, List, [], ◌∷◌, Option, None, IsSome}
 use Rattle.finite_map.specs.declared.Change.{Change}
 use Rattle.record_words.specs.declared.layout.Layout.{Layout}
-use Rattle.moments.specs.declared.Rec.{Rec}
-use Rattle.moments.specs.Trades.{IsOf, AreApart}
+use Rattle.versions.specs.declared.Rec.{Rec}
+use Rattle.versions.specs.Trades.{IsOneOf, AreApart}
 use Rattle.rowex_core.specs.declared.event.Act.TheVariants.{Unlock, Mark, LoadEpoch}
 use Rattle.rowex_core.specs.declared.event.Target.TheVariants.{Anchor, Node as NodeTarget}
 use Rattle.rowex_core.specs.declared.known.Known.{Known}
-use Rattle.rowex_core.specs.Having.{OwnsJust, LocksJust, AreKept, IsDue, kept_of}
+use Rattle.rowex_core.specs.Having.{OwnsJust, LocksJust, AreKept, IsUnlinkedBefore, kept_locks}
 use Rattle.rowex_core.specs.Knowing.{IsEvent}
 use Rattle.rowex_table.specs.Rule.{MayStep}
 use Rattle.rowex_table.specs.Publishes.{HasPublished}
@@ -16,7 +16,7 @@ use Rattle.rowex_table.specs.Runs.{silent}
 -- After the epoch was loaded: just these records are the pass's own, each unlinked before that load, and just those nodes are
 -- locked by it; the epoch is that of its round.
 pub record IsEnding (k : Known) (epoch : ℕ) (recs : List Rec) (nodes : List ℕ) : Type 0 where
-  pub own : OwnsJust k.own (IsDue k.round.moment) recs
+  pub own : OwnsJust k.own (IsUnlinkedBefore k.round.version) recs
   pub locks : LocksJust k.locks nodes
   pub recs_apart : AreApart recs
   pub nodes_apart : AreApart nodes
@@ -33,12 +33,12 @@ pub record IsAtRest (k : Known) : Type 0 where
   pub anchor : k.anchor ≡ None
 
 -- Of locked nodes, each once, just those that are not unlinked are kept, each once.
-abbrev pub KeptIs : Type 0
-KeptIs = (held : List ℕ) (gone : List Rec) → AreApart held → AreKept held gone (kept_of held gone) × AreApart (kept_of held gone)
+abbrev pub KeptAreNotGone : Type 0
+KeptAreNotGone = (held : List ℕ) (gone : List Rec) → AreApart held → AreKept held gone (kept_locks held gone) × AreApart (kept_locks held gone)
 
 -- two lists have the same elements
-abbrev pub HaveSame : {X : Type 0} → List X → List X → Type 0
-HaveSame {X} xs ys = ((x : X) → IsOf x xs → IsOf x ys) × ((x : X) → IsOf x ys → IsOf x xs)
+abbrev pub HaveSameElements : {X : Type 0} → List X → List X → Type 0
+HaveSameElements {X} xs ys = ((x : X) → IsOneOf x xs → IsOneOf x ys) × ((x : X) → IsOneOf x ys → IsOneOf x xs)
 
 -- The load of the epoch begins the end,
 abbrev pub EndBegins : Type 0
@@ -69,7 +69,7 @@ EndUnlocksAnchor =
 -- in any order;
 abbrev pub EndInAnyOrder : Type 0
 EndInAnyOrder =
-    (k : Known) (epoch : ℕ) (rs qs : List Rec) (ns ms : List ℕ) → IsEnding k epoch rs ns → HaveSame rs qs → HaveSame ns ms → AreApart qs → AreApart ms →
+    (k : Known) (epoch : ℕ) (rs qs : List Rec) (ns ms : List ℕ) → IsEnding k epoch rs ns → HaveSameElements rs qs → HaveSameElements ns ms → AreApart qs → AreApart ms →
     IsEnding k epoch qs ms
 
 -- with none left, the pass is at rest.

@@ -4,15 +4,15 @@ use Rattle.compound_node.specs.declared.entries.Entry.TheVariants.{Node}
 use Rattle.record_words.specs.declared.layout.Layout.{Layout}
 use Rattle.record_words.specs.Leaf.{HasLeafWords, leaf_words}
 use Rattle.tries.specs.Keys.{Key}
-use Rattle.tries.specs.Tree.{Page}
+use Rattle.tries.specs.Tree.{Subtrie}
 use Rattle.tries.specs.Search.{seek}
 use Rattle.tries.specs.Content.{Item}
-use Rattle.moments.specs.declared.Rec.{Rec}
-use Rattle.moments.specs.declared.Rec.TheVariants.{Leaf as a_leaf}
-use Rattle.moments.specs.State.{Past}
-use Rattle.moments.specs.Trades.{IsOf}
+use Rattle.versions.specs.declared.Rec.{Rec}
+use Rattle.versions.specs.declared.Rec.TheVariants.{Leaf as a_leaf}
+use Rattle.versions.specs.State.{Past}
+use Rattle.versions.specs.Trades.{IsOneOf}
 use Rattle.rowex_walks.specs.Spots.{AffectsOne}
-use Rattle.rowex_walks.specs.Rise.{Side, IsRise, news_of, gone_of}
+use Rattle.rowex_walks.specs.Rise.{Side, IsRise, linked_by_rise, unlinked_by_rise}
 use Rattle.rowex_core.specs.declared.known.Holding.TheVariants.{Ready}
 use Rattle.rowex_core.specs.declared.known.Known.{Known}
 use Rattle.rowex_core.specs.declared.known.Locked.{Locked}
@@ -32,8 +32,8 @@ pub record IsStage (layout : Layout) (k : Known) (held : List Locked) (news : Li
   pub lawful : IsLawful c
   pub layout_is : c.layout ≡ layout
   pub recalls : Recalls c k
-  pub locks : (l : Locked) → IsOf l held → IsLocked k.pass c l
-  pub made : (m : Made) → IsOf m news → IsOwned k.pass c (held_as Ready m)
+  pub locks : (l : Locked) → IsOneOf l held → IsLocked k.pass c l
+  pub made : (m : Made) → IsOneOf m news → IsOwned k.pass c (held_as Ready m)
 
 -- What the pass has is just these locks and these records, which it has made ready.
 pub record HasReady (k : Known) (held : List Locked) (news : List Made) : Type 0 where
@@ -42,24 +42,24 @@ pub record HasReady (k : Known) (held : List Locked) (news : List Made) : Type 0
 
 -- Among the new records is the leaf with the words of this key and value.
 abbrev pub HasLeaf : List Made → Item → Type 0
-HasLeaf news x = IsOf (record { rec = a_leaf x.number; words = leaf_words (x.key, x.value) }) news × HasLeafWords (x.key, x.value)
+HasLeaf news x = IsOneOf (record { rec = a_leaf x.number; words = leaf_words (x.key, x.value) }) news × HasLeafWords (x.key, x.value)
 
--- In each stage the page is what comes in the place of node n's body or entry when the key is added; it links anew just the
+-- In each stage the subtrie is what comes in the place of node n's body or entry when the key is added; it links anew just the
 -- records made, the one made last first, and unlinks just those.
-abbrev pub HasRisen : Layout → Known → List Locked → List Made → ℕ → Item → ℕ → Key → Side → ℕ → Page → List Rec → Type 0
+abbrev pub HasRisen : Layout → Known → List Locked → List Made → ℕ → Item → ℕ → Key → Side → ℕ → Subtrie → List Rec → Type 0
 HasRisen layout k held news since x p l d n r gone = (c : Core) → IsStage layout k held news c →
-    (i : IsRise (bare c) k.pass since x p l d n r) × (news_of i ≡ recs_of news) × (gone_of i ≡ gone)
+    (i : IsRise (bare c) k.pass since x p l d n r) × (linked_by_rise i ≡ recs_of news) × (unlinked_by_rise i ≡ gone)
 
 -- By their words, the locked node o's entry on the key's way names the locked node n, and an insertion at p affects no more than
 -- that place.
 pub record IsLockedAbove (held : List Locked) (key : Key) (p o n : ℕ) : Type 0 where
   pub upper : List ℕ
   pub lower : List ℕ
-  pub has_upper : IsOf (record { node = o; words = upper }) held
-  pub has_lower : IsOf (record { node = n; words = lower }) held
+  pub has_upper : IsOneOf (record { node = o; words = upper }) held
+  pub has_lower : IsOneOf (record { node = n; words = lower }) held
   pub height : ℕ
-  pub entry : seek key (node_words_of upper).page ≡ Node n height
-  pub path : AffectsOne p key (node_words_of upper).page (node_words_of lower).page
+  pub entry : seek key (node_words_of upper).subtrie ≡ Node n height
+  pub path : AffectsOne p key (node_words_of upper).subtrie (node_words_of lower).subtrie
 
 -- In each stage leaf j has this key, and this value.
 abbrev pub IsLeafThere : Layout → Known → List Locked → List Made → ℕ → Key → ℕ → Type 0

@@ -1,7 +1,7 @@
 -- The records to which a walk is led begin where its origins say.
 use Rattle.std.proofs.Common.{◌≡◌, ◌∙◌, ℕ, ap, arith}
 use Rattle.compound_node.specs.declared.entries.Entry.TheVariants.{Leaf, Node}
-use Rattle.moments.specs.declared.Rec.TheVariants.{Leaf as a_leaf, Node as a_node}
+use Rattle.versions.specs.declared.Rec.TheVariants.{Leaf as a_leaf, Node as a_node}
 use Rattle.record_words.specs.declared.layout.Layout.{Layout}
 use Rattle.record_words.specs.Layout.{leaf_start, node_start}
 use Rattle.rowex_core.specs.declared.known.Known.{Known}

@@ -1,14 +1,14 @@
 -- The laws of scans, for both directions.
 use Rattle.std.proofs.Common.{◌≡◌, ◌⊎◌, inl, inr, ℕ, suc, ◌<◌, ◌≤◌, List, [], ◌∷◌, length, arith, true, false}
 use Rattle.compound_node.specs.declared.entries.Entry.TheVariants.{Leaf, Node}
-use Rattle.moments.specs.Frames.{IsGrown}
-use Rattle.moments.specs.State.{Past, IsSteady}
+use Rattle.versions.specs.Frames.{IsGrown}
+use Rattle.versions.specs.State.{Past, IsSteady}
 use Rattle.pieces.specs.Piece.{size}
-use Rattle.rowex_walks.proofs.Downs.{at_beneath, beneath_down, beneath_less, beneath_on, down_blank, down_cut, down_end, down_nought, down_on, down_one, down_outside, down_past, down_pop, down_push, down_take}
+use Rattle.rowex_walks.proofs.Downs.{left_of_own_place, keys_left_in_child, keys_further_left, keys_left_grown, down_blank, down_cut, down_end, down_nought, down_scan_grown, down_one, down_outside, down_past, down_pop, down_push, down_take}
 use Rattle.rowex_walks.proofs.Ends.{scan_blank, scan_nought, scan_one, scan_outside}
-use Rattle.rowex_walks.proofs.Persist.{scan_on}
+use Rattle.rowex_walks.proofs.Persist.{up_scan_grown}
 use Rattle.rowex_walks.proofs.Scans.{before_most, never_before}
-use Rattle.rowex_walks.proofs.Starts.{at_over, over_down, over_later, over_on}
+use Rattle.rowex_walks.proofs.Starts.{at_over, keys_from_in_child, over_later, keys_from_grown}
 use Rattle.rowex_walks.proofs.Walk.{scan_cut, scan_end, scan_past, scan_pop, scan_push, scan_take}
 use Rattle.rowex_walks.specs.Scan.{Pair, Range, IsBlank, IsInRange, IsPlaced, IsRead, IsRooted, IsShaped, IsStack, MayStandAt, Frame as Stage}
 use Rattle.rowex_scanning.specs.Directions.{IsAnswer, IsPastKey, IsEarlier, IsNoLater, IsScanBy, first_gap, first_key, gap_before, gap_behind, last_key, to_come}
@@ -16,7 +16,7 @@ use Rattle.rowex_scanning.specs.Scanning.{limited}
 use Rattle.rowex_scanning.specs.declared.direction.Direction.{Direction}
 use Rattle.rowex_scanning.specs.declared.direction.Direction.TheVariants.{Upwards, Downwards}
 use Rattle.tries.specs.Keys.{Key, IsBefore}
-use Rattle.tries.specs.Tree.{Page}
+use Rattle.tries.specs.Tree.{Subtrie}
 
 -- the node, before the entry at its place, or behind it
 abbrev pub before : Direction → Stage → Stage
@@ -73,8 +73,8 @@ module _ (s : Past) (m : ℕ) (g : Range) where
 
   -- while the past grows
   pub scan_grown : (d : Direction) (t : Past) (fs : List Stage) (xs : List Pair) → IsGrown s t → IsScanBy d s m g fs xs → IsScanBy d t m g fs xs
-  scan_grown Upwards t fs xs grown w = scan_on s t grown m g fs xs w
-  scan_grown Downwards t fs xs grown w = down_on s t grown m g fs xs w
+  scan_grown Upwards t fs xs grown w = up_scan_grown s t grown m g fs xs w
+  scan_grown Downwards t fs xs grown w = down_scan_grown s t grown m g fs xs w
 
   -- nothing is between the keys
   pub none_between : (d : Direction) → IsBefore g.upto g.from → IsAnswer d s m g [] false
@@ -104,7 +104,7 @@ module _ (s : Past) (m : ℕ) (g : Range) where
     answer_outside Downwards n l v root read out = down_outside s m steady g n l v root read out
 
     -- ---- steps
-    pub scan_pushed : (d : Direction) (f : Stage) (fs : List Stage) (xs : List Pair) → IsScanBy d s m g (before d f ∷ fs) xs → (c h : ℕ) (p : Page) → IsPlaced s m f.number f.place (Node c h) → IsShaped s m c p →
+    pub scan_pushed : (d : Direction) (f : Stage) (fs : List Stage) (xs : List Pair) → IsScanBy d s m g (before d f ∷ fs) xs → (c h : ℕ) (p : Subtrie) → IsPlaced s m f.number f.place (Node c h) → IsShaped s m c p →
         IsScanBy d s m g (record { number = c; height = h; shape = p; place = first_gap d (size p) } ∷ f ∷ fs) xs
     scan_pushed Upwards f fs xs w c h p placed shaped = scan_push s m steady g f fs xs w c h p placed shaped
     scan_pushed Downwards f fs xs w c h p placed shaped = down_push s m steady g f fs xs w c h p placed shaped
@@ -141,26 +141,26 @@ out_last Upwards g k high = inr high
 out_last Downwards g k low = inl low
 
 -- ---- keys that come later
-pub beyond_on : (d : Direction) (a b : Past) → IsGrown a b → (m r gap : ℕ) (key : Key) → IsPastKey d a m key r gap → IsPastKey d b m key r gap
-beyond_on Upwards a b grown m r gap key h = over_on a b grown m r gap key h
-beyond_on Downwards a b grown m r gap key h = beneath_on a b grown m r gap key h
+pub beyond_grown : (d : Direction) (a b : Past) → IsGrown a b → (m r gap : ℕ) (key : Key) → IsPastKey d a m key r gap → IsPastKey d b m key r gap
+beyond_grown Upwards a b grown m r gap key h = keys_from_grown a b grown m r gap key h
+beyond_grown Downwards a b grown m r gap key h = keys_left_grown a b grown m r gap key h
 
 -- behind an entry,
 pub beyond_behind : (d : Direction) (s : Past) (m r place : ℕ) (key : Key) → IsPastKey d s m key r (gap_before d place) → IsPastKey d s m key r (gap_behind d place)
 beyond_behind Upwards s m r place key h = over_later s m r place (suc place) key (omega arith) h
-beyond_behind Downwards s m r place key h = beneath_less s m r (suc place) place key (omega arith) h
+beyond_behind Downwards s m r place key h = keys_further_left s m r (suc place) place key (omega arith) h
 
 -- in a node that stands at it,
-pub beyond_down : (d : Direction) (s : Past) (m r place c h count : ℕ) (key : Key) → IsPlaced s m r place (Node c h) → IsPastKey d s m key r (gap_before d place) → IsPastKey d s m key c (first_gap d count)
-beyond_down Upwards s m r place c h count key placed b = over_down s m r place c h key placed b
-beyond_down Downwards s m r place c h count key placed b = beneath_down s m r place c h count key placed b
+pub beyond_in_child : (d : Direction) (s : Past) (m r place c h count : ℕ) (key : Key) → IsPlaced s m r place (Node c h) → IsPastKey d s m key r (gap_before d place) → IsPastKey d s m key c (first_gap d count)
+beyond_in_child Upwards s m r place c h count key placed b = keys_from_in_child s m r place c h key placed b
+beyond_in_child Downwards s m r place c h count key placed b = keys_left_in_child s m r place c h count key placed b
 
 -- and at its own place.
-pub beyond_at : (d : Direction) (s : Past) (m r place : ℕ) (key z : Key) → IsPastKey d s m key r (gap_before d place) → (t : Past) → IsGrown s t → IsSteady t m → MayStandAt t m r place z → IsEarlier d key z
-beyond_at Upwards s m r place key z b t grown steady at = b t grown steady place z (omega arith) at
-beyond_at Downwards s m r place key z b t grown steady at = b t grown steady place z (omega arith) at
+pub beyond_at_place : (d : Direction) (s : Past) (m r place : ℕ) (key z : Key) → IsPastKey d s m key r (gap_before d place) → (t : Past) → IsGrown s t → IsSteady t m → MayStandAt t m r place z → IsEarlier d key z
+beyond_at_place Upwards s m r place key z b t grown steady at = b t grown steady place z (omega arith) at
+beyond_at_place Downwards s m r place key z b t grown steady at = b t grown steady place z (omega arith) at
 
 -- where the key itself may stand
 pub at_beyond : (d : Direction) (s : Past) (m r place : ℕ) (key : Key) → MayStandAt s m r place key → IsPastKey d s m key r (gap_behind d place)
 at_beyond Upwards s m r place key at = at_over s m r place key at
-at_beyond Downwards s m r place key at = at_beneath s m r place key at
+at_beyond Downwards s m r place key at = left_of_own_place s m r place key at

@@ -5,13 +5,13 @@ use Rattle.finite_map.specs.declared.Note.{Note}
 use Rattle.finite_map.specs.declared.Scan.{Scan}
 use Rattle.key_bits.specs.Key.{IsKey}
 use Rattle.record_words.specs.declared.layout.Layout.{Layout}
-use Rattle.moments.specs.declared.Pin.{Pin}
-use Rattle.moments.specs.State.{IsSteady}
-use Rattle.moments.specs.Told.{TellChanges}
+use Rattle.versions.specs.declared.Pin.{Pin}
+use Rattle.versions.specs.State.{IsSteady}
+use Rattle.versions.specs.Told.{TellChanges}
 use Rattle.rowex_core.specs.declared.event.Act.TheVariants.{ClearPin}
 use Rattle.rowex_core.specs.declared.known.Known.{Known}
 use Rattle.rowex_core.specs.Knowing.{IsEvent}
-use Rattle.rowex_walks.specs.Scan.{Range, turned}
+use Rattle.rowex_walks.specs.Scan.{Range, in_order_taken}
 use Rattle.rowex_walks.proofs.Fronts.{complete_lawful, complete_lawful_down, cut_lawful, cut_lawful_down}
 use Rattle.rowex_reading.specs.Seen.{seen, since}
 use Rattle.rowex_scanning.specs.Directions.{IsAnswer, IsLawfulBy}
@@ -31,12 +31,12 @@ lawful_scan d k g scan layout said j kf ku p pin h event =
     told : TellChanges (seen event.core k) (k.fresh.front ++ event.knows.seen.fresh.0)
     told = subst (λ (z : List Change). TellChanges (seen event.core k) z) event.knows.seen.fresh.1 (seen_told event.lawful (event_recalls event))
 
-    steady : IsSteady (seen event.core k) p.moment
-    steady = seen_steady event.lawful (event_recalls event) (p, pin, le_refl p.moment)
+    steady : IsSteady (seen event.core k) p.version
+    steady = seen_steady event.lawful (event_recalls event) (p, pin, le_refl p.version)
 
-    go : (d : Direction) (more : Bool) → scan.more ≡ more → scan.pairs.items ≡ turned h.taken → IsAnswer d (seen event.core k) (since k) g h.taken more →
+    go : (d : Direction) (more : Bool) → scan.more ≡ more → scan.pairs.items ≡ in_order_taken h.taken → IsAnswer d (seen event.core k) (since k) g h.taken more →
         IsLawfulBy d k.fresh.front (k.fresh.front ++ event.knows.seen.fresh.0) g.from g.upto g.limit scan
-    go Upwards false e pairs answer = complete_lawful (seen event.core k) k.fresh.front event.knows.seen.fresh.0 p.moment steady told g kf ku h.taken scan pairs e answer
-    go Upwards true e pairs answer = cut_lawful (seen event.core k) k.fresh.front event.knows.seen.fresh.0 p.moment steady told g kf ku h.taken scan pairs e answer
-    go Downwards false e pairs answer = complete_lawful_down (seen event.core k) k.fresh.front event.knows.seen.fresh.0 p.moment steady told g kf ku h.taken scan pairs e answer
-    go Downwards true e pairs answer = cut_lawful_down (seen event.core k) k.fresh.front event.knows.seen.fresh.0 p.moment steady told g kf ku h.taken scan pairs e answer
+    go Upwards false e pairs answer = complete_lawful (seen event.core k) k.fresh.front event.knows.seen.fresh.0 p.version steady told g kf ku h.taken scan pairs e answer
+    go Upwards true e pairs answer = cut_lawful (seen event.core k) k.fresh.front event.knows.seen.fresh.0 p.version steady told g kf ku h.taken scan pairs e answer
+    go Downwards false e pairs answer = complete_lawful_down (seen event.core k) k.fresh.front event.knows.seen.fresh.0 p.version steady told g kf ku h.taken scan pairs e answer
+    go Downwards true e pairs answer = cut_lawful_down (seen event.core k) k.fresh.front event.knows.seen.fresh.0 p.version steady told g kf ku h.taken scan pairs e answer

@@ -10,33 +10,33 @@ use Rattle.insert_cases.specs.declared.choice.Choice.{Choice}
 use Rattle.insert_cases.specs.declared.choice.Step.{Step}
 use Rattle.insert_cases.specs.Levels.{IsLevel, IsChosen}
 use Rattle.insert_cases.proofs.Affecting.{first_zero, first_one, key_part}
-use Rattle.insert_cases.proofs.Choosing.{same_some, some_at}
+use Rattle.insert_cases.proofs.Choosing.{some_injective, some_at}
 use Rattle.pieces.proofs.Growing.{affected_fits}
 use Rattle.pieces.proofs.Paths.{size_pos}
 use Rattle.pieces.specs.Growth.{affected_first, affected_count}
 use Rattle.pieces.specs.Piece.{Place, Fork, size}
 use Rattle.record_words.specs.declared.layout.Layout.{Layout}
 use Rattle.key_bits.specs.Bits.{bit_of}
-use Rattle.tries.specs.Affected.{page_affected}
+use Rattle.tries.specs.Affected.{subtrie_affected}
 use Rattle.tries.specs.Keys.{Key, bit, AgreeBelow, IsBefore, IsAtMost}
 use Rattle.tries.specs.Place.{spot}
-use Rattle.tries.specs.Tree.{Page, first_position, leaf}
+use Rattle.tries.specs.Tree.{Subtrie, first_position, leaf}
 use Rattle.tries.proofs.Places.{spot_below}
-use Rattle.moments.specs.State.{Past, IsSteady}
+use Rattle.versions.specs.State.{Past, IsSteady}
 use Rattle.rowex_core.specs.Cores.{Core, IsLawful}
-use Rattle.rowex_core.specs.Knowing.{IsSince, Recalls}
+use Rattle.rowex_core.specs.Knowing.{IsPinnedSince, Recalls}
 use Rattle.rowex_core.specs.declared.known.Known.{Known}
 use Rattle.rowex_core.proofs.Owning.{recalls}
-use Rattle.rowex_walks.specs.Scan.{Range, IsBlank, IsRooted, IsPlaced, IsShaped, IsRead, IsStack, IsScan, IsOver, MayStandAt, Frame as Stage}
-use Rattle.rowex_walks.proofs.Scans.{fit_down, fit_leaf, fit_near, fit_order, shaped_several}
-use Rattle.rowex_walks.specs.Reverse.{IsBeneath}
-use Rattle.rowex_walks.proofs.Downs.{at_beneath, sides_beneath}
+use Rattle.rowex_walks.specs.Scan.{Range, IsBlank, IsRooted, IsPlaced, IsShaped, IsRead, IsStack, IsScan, KeysFromAreAbove, MayStandAt, Frame as Stage}
+use Rattle.rowex_walks.proofs.Scans.{may_stand_at_child_place, leaf_may_stand, near_may_stand, may_stand_in_order, shaped_several}
+use Rattle.rowex_walks.specs.Reverse.{KeysLeftAreBelow}
+use Rattle.rowex_walks.proofs.Downs.{left_of_own_place, sides_left_are_below}
 use Rattle.rowex_walks.proofs.Starts.{fit_sole, scan_start, sides, sides_over, stack_at, start_fits, AreAt, affected_from, start_place}
 use Rattle.rowex_walks.proofs.Walk.{scan_skip, stack_place}
 use Rattle.rowex_reading.specs.Possible.{IsPossible}
 use Rattle.compound_node.specs.Nodes.{HeadView}
 use Rattle.rowex_table.specs.Made.{IsLater}
-use Rattle.moments.specs.declared.Rec.TheVariants.{Leaf as a_leaf}
+use Rattle.versions.specs.declared.Rec.TheVariants.{Leaf as a_leaf}
 use Rattle.rowex_reading.specs.Seen.{seen, since, IsAtRoot, Sure, IsLedTo, shape_of}
 use Rattle.rowex_reading.proofs.Seeing.{read_stable, seen_steady, since_later, sure_later}
 use Rattle.rowex_reading.proofs.Shapes.{same_shape}
@@ -54,7 +54,7 @@ use Rattle.rowex_scanning.proofs.Directed.{at_beyond}
 use Rattle.rowex_scanning.proofs.Walking.{beyond_append, walk_before, IsAtEntry}
 
 -- ---- the affected places, by the key
-key_first : (d : ℕ) (v : Key) (x : Page) → affected_first d (spot v x) x ≡ affected_from d v x
+key_first : (d : ℕ) (v : Key) (x : Subtrie) → affected_first d (spot v x) x ≡ affected_from d v x
 key_first d v (Place e) = refl
 key_first d v (Fork q x y) = go (cases_Bool (nat_lt q d)) (cases_Bool (bit v q)) (key_first d v x) (key_first d v y)
   where
@@ -70,28 +70,28 @@ key_first d v (Fork q x y) = go (cases_Bool (nat_lt q d)) (cases_Bool (bit v q))
         ap (λ i. affected_first d i (Fork q x y)) at ∙ (first_zero d q x y e (spot v x) (spot_below v x) ∙ (f ∙ sym from))
     go (inr e) o f g = rw e refl
 
--- of a page whose forks are all from d on, the whole is affected
-whole_from : (d : ℕ) (v : Key) (x : Page) → 2 ≤ size x → d ≤ first_position x → (affected_from d v x ≡ 0) × (page_affected d v x ≡ x)
+-- of a subtrie whose forks are all from d on, the whole is affected
+whole_from : (d : ℕ) (v : Key) (x : Subtrie) → 2 ≤ size x → d ≤ first_position x → (affected_from d v x ≡ 0) × (subtrie_affected d v x ≡ x)
 whole_from d v (Place e) two le = absurd (omega (arith, two))
 whole_from d v (Fork q x y) two le = let e : nat_lt q d ≡ false = le-ltb q d le in (rw e refl, rw e refl)
 
 -- the key's place is one of the affected
-part_around : (d : ℕ) (v : Key) (x : Page) → (affected_from d v x ≤ spot v x) × (spot v x < affected_from d v x + size (page_affected d v x))
+part_around : (d : ℕ) (v : Key) (x : Subtrie) → (affected_from d v x ≤ spot v x) × (spot v x < affected_from d v x + size (subtrie_affected d v x))
 part_around d v (Place e) = (omega arith, omega arith)
 part_around d v (Fork q x y) = go (nat_lt q d) (bit v q) (part_around d v x) (part_around d v y)
   where
-    go : (u o : Bool) → (affected_from d v x ≤ spot v x) × (spot v x < affected_from d v x + size (page_affected d v x)) →
-        (affected_from d v y ≤ spot v y) × (spot v y < affected_from d v y + size (page_affected d v y)) →
+    go : (u o : Bool) → (affected_from d v x ≤ spot v x) × (spot v x < affected_from d v x + size (subtrie_affected d v x)) →
+        (affected_from d v y ≤ spot v y) × (spot v y < affected_from d v y + size (subtrie_affected d v y)) →
         ((if u then (if o then size x + affected_from d v y else affected_from d v x) else 0) ≤ (if o then size x + spot v y else spot v x)) ×
         ((if o then size x + spot v y else spot v x) < (if u then (if o then size x + affected_from d v y else affected_from d v x) else 0) +
-        size (if u then (if o then page_affected d v y else page_affected d v x) else Fork q x y))
+        size (if u then (if o then subtrie_affected d v y else subtrie_affected d v x) else Fork q x y))
     go true true a b = (omega (arith, b.0), omega (arith, b.1))
     go true false a b = a
     go false true a b = let l = spot_below v y in (omega arith, omega (arith, l))
     go false false a b = let l = spot_below v x in (omega arith, omega (arith, l))
 
 -- no more than a node has entries
-pub affected_low : (d i first last : ℕ) (x : Page) → affected_first d i x ≡ first → affected_count d i x + first ≡ last + 1 → last < size x
+pub affected_low : (d i first last : ℕ) (x : Subtrie) → affected_first d i x ≡ first → affected_count d i x + first ≡ last + 1 → last < size x
 affected_low d i first last x from upto = let h = affected_fits d x i in omega (arith, from, upto, h.0)
 
 -- ---- the way of a search that has ended at a leaf
@@ -142,17 +142,17 @@ module _ (layout : Layout) (k : Known) (m : ℕ) (key : Key) (way : List Step) (
   -- what stands at the place of a node: the next one, or the leaf at the end
   placed_next : (i : ℕ) (h : i < length way) (o : suc i < length way) → Sure k (λ s. IsPlaced s m (stage i h).number (stage i h).place (Node (stage (suc i) o).number (stage (suc i) o).height))
   placed_next i h o = subst (λ e. Sure k (λ s. IsPlaced s m (stage i h).number (stage i h).place e))
-      (same_some (sym (node i h).1 ∙ (ap (named way found) (let q : i + 1 ≡ suc i = omega arith in q) ∙ named_at way found (suc i) (step (suc i) o).0 (step (suc i) o).1))) (node i h).2.placed
+      (some_injective (sym (node i h).1 ∙ (ap (named way found) (let q : i + 1 ≡ suc i = omega arith in q) ∙ named_at way found (suc i) (step (suc i) o).0 (step (suc i) o).1))) (node i h).2.placed
 
   placed_end : (i : ℕ) (h : i < length way) → i + 1 ≡ length way → Sure k (λ s. IsPlaced s m (stage i h).number (stage i h).place (LeafEntry number))
   placed_end i h last = subst (λ e. Sure k (λ s. IsPlaced s m (stage i h).number (stage i h).place e))
-      (same_some (sym (node i h).1 ∙ (ap (named way found) last ∙ named_end way found (length way) (le_refl (length way))))) (node i h).2.placed
+      (some_injective (sym (node i h).1 ∙ (ap (named way found) last ∙ named_end way found (length way) (le_refl (length way))))) (node i h).2.placed
 
   -- the leaf that was found
   abbrev leaf_key : Key
   leaf_key = w.found_at.0
 
-  -- ---- at the moments that it has seen
+  -- ---- in the versions that it has seen
   module _ (c : Core) (lawful : IsLawful c) (known : Recalls c k) where
     steady : IsSteady (seen c k) m
     steady = seen_steady lawful known w.since
@@ -168,10 +168,10 @@ module _ (layout : Layout) (k : Known) (m : ℕ) (key : Key) (way : List Step) (
     -- The key of the leaf may stand at the place of each node: so many nodes from the end.
     found_fits : (rest i : ℕ) (h : i < length way) → i + suc rest ≡ length way → MayStandAt (seen c k) m (stage i h).number (stage i h).place leaf_key
     found_fits zero i h e =
-        fit_leaf (seen c k) m steady (stage i h).number (stage i h).place number leaf_key value (placed_end i h (omega (arith, e)) c lawful known) (w.found_at.1 c lawful known)
+        leaf_may_stand (seen c k) m steady (stage i h).number (stage i h).place number leaf_key value (placed_end i h (omega (arith, e)) c lawful known) (w.found_at.1 c lawful known)
     found_fits (suc rest) i h e =
         let o : suc i < length way = omega (arith, e) in
-        fit_down (seen c k) m steady (stage i h).number (stage i h).place (stage (suc i) o).number (stage (suc i) o).height (stage (suc i) o).place leaf_key
+        may_stand_at_child_place (seen c k) m steady (stage i h).number (stage i h).place (stage (suc i) o).number (stage (suc i) o).height (stage (suc i) o).place leaf_key
         (placed_next i h o c lawful known) (found_fits rest (suc i) o (omega (arith, e)))
 
     pub leaf_fits : (i : ℕ) (h : i < length way) → MayStandAt (seen c k) m (stage i h).number (stage i h).place leaf_key
@@ -192,7 +192,7 @@ module _ (layout : Layout) (k : Known) (m : ℕ) (key : Key) (way : List Step) (
   -- the step of a start is the way's
   of_step : (i : ℕ) (h : i < length way) (place : ℕ) (top : Step) → top ≡ record (step i h).0 { at = place } → (s : Step) → slice_get way i ≡ Some s → top ≡ record s { at = top.at }
   of_step i h place top is s there =
-      is ∙ (ap (λ (z : Step). let x : Step = record z { at = place } in x) (same_some (sym (step i h).1 ∙ there)) ∙ ap (λ z. let x : Step = record s { at = z } in x) (sym (ap (λ (z : Step). z.at) is)))
+      is ∙ (ap (λ (z : Step). let x : Step = record z { at = place } in x) (some_injective (sym (step i h).1 ∙ there)) ∙ ap (λ z. let x : Step = record s { at = z } in x) (sym (ap (λ (z : Step). z.at) is)))
 
   -- If it may stand at a node's place, it may so at the nodes' above.
   at_above : (i : ℕ) (h : i < length way) → StandsAt i h → Sure k (λ s. AreAt s m key (stages (suc i) h))
@@ -224,16 +224,16 @@ module _ (layout : Layout) (k : Known) (m : ℕ) (key : Key) (way : List Step) (
     scan_at g from c lawful known =
         scan_start (seen c k) m (steady c lawful known) g (stage i h) (stages i (down h)) (stack c lawful known (suc i) h)
         (subst (λ z. AreAt (seen c k) m z (stages i (down h))) (sym from) (above c lawful known))
-        (λ j z lt at. subst (IsBefore z) (sym from) (fit_order (seen c k) m (steady c lawful known) (stage i h).number j (stage i h).place lt z key at (stands c lawful known)))
+        (λ j z lt at. subst (IsBefore z) (sym from) (may_stand_in_order (seen c k) m (steady c lawful known) (stage i h).number j (stage i h).place lt z key at (stands c lawful known)))
 
     bound_behind : (top : Step) → top ≡ record (step i h).0 { at = suc (step i h).0.at } → IsBound Upwards k m key top (take i way)
     bound_behind top is = record {
-      there = λ c lawful known. subst (λ (z : Step). IsOver (seen c k) m key z.number z.at) (sym is) (at_beyond Upwards (seen c k) m (stage i h).number (stage i h).place key (stands c lawful known));
+      there = λ c lawful known. subst (λ (z : Step). KeysFromAreAbove (seen c k) m key z.number z.at) (sym is) (at_beyond Upwards (seen c k) m (stage i h).number (stage i h).place key (stands c lawful known));
       above = are_beyond Upwards i (down h) above;
     }
 
-    beneath : Sure k (λ s. IsBeneath s m key (step i h).0.number (step i h).0.at)
-    beneath c lawful known = at_beneath (seen c k) m (stage i h).number (stage i h).place key (stands c lawful known)
+    beneath : Sure k (λ s. KeysLeftAreBelow s m key (step i h).0.number (step i h).0.at)
+    beneath c lawful known = left_of_own_place (seen c k) m (stage i h).number (stage i h).place key (stands c lawful known)
 
     -- the leaf comes first
     pub starts_at_leaf : IsAtMost key leaf_key → (top : Step) → top ≡ (step i h).0 → IsParting k m key way number (record { level = i; top = top; leaf = true })
@@ -255,7 +255,7 @@ module _ (layout : Layout) (k : Known) (m : ℕ) (key : Key) (way : List Step) (
       };
       of_way = of_step i h (step i h).0.at top is;
       left = are_beyond Downwards i (down h) above;
-      side = inl (subst (λ (z : Step). Sure k (λ s. IsBeneath s m key z.number z.at)) (sym is) beneath);
+      side = inl (subst (λ (z : Step). Sure k (λ s. KeysLeftAreBelow s m key z.number z.at)) (sym is) beneath);
     }
 
     -- or it is below the key, and the scan starts behind it
@@ -293,24 +293,24 @@ module _ (layout : Layout) (k : Known) (m : ℕ) (key : Key) (way : List Step) (
     fits_at i h c lawful known = subst (λ z. MayStandAt (seen c k) m (stage i h).number z leaf_key) (place_is i h) (leaf_fits c lawful known i h)
 
     -- where one place alone is affected, the key may stand there
-    pub stands_alone : (i : ℕ) (h : i < length way) → size (page_affected d key (stage i h).shape) ≡ 1 → StandsAt i h
+    pub stands_alone : (i : ℕ) (h : i < length way) → size (subtrie_affected d key (stage i h).shape) ≡ 1 → StandsAt i h
     stands_alone i h one c lawful known = subst (λ z. MayStandAt (seen c k) m (stage i h).number z key) (sym (place_is i h))
         (fit_sole (seen c k) m (steady c lawful known) (stage i h).number (stage i h).shape ((node i h).2.shaped c lawful known) key leaf_key d agree (fits_at i h c lawful known) one)
 
     -- a node whose first fork is before d: the key may stand at the place above it
     pub stands_above : (i : ℕ) (h : i < length way) (o : suc i < length way) → first_position (stage (suc i) o).shape < d → StandsAt i h
     stands_above i h o low c lawful known =
-        fit_near (seen c k) m (steady c lawful known) (stage i h).number (stage i h).place (stage (suc i) o).number (stage (suc i) o).height (stage (suc i) o).place (stage (suc i) o).shape leaf_key key
+        near_may_stand (seen c k) m (steady c lawful known) (stage i h).number (stage i h).place (stage (suc i) o).number (stage (suc i) o).height (stage (suc i) o).place (stage (suc i) o).shape leaf_key key
         (placed_next i h o c lawful known) ((node (suc i) o).2.shaped c lawful known) (leaf_fits c lawful known (suc i) o) (λ q lt. sym (agree q (omega (arith, lt, low))))
 
-    pub starts_among : (i : ℕ) (h : i < length way) → 2 ≤ size (page_affected d key (stage i h).shape) → Sure k (λ s. AreAt s m key (stages i (down h))) →
+    pub starts_among : (i : ℕ) (h : i < length way) → 2 ≤ size (subtrie_affected d key (stage i h).shape) → Sure k (λ s. AreAt s m key (stages i (down h))) →
         (top : Step) → top ≡ record (step i h).0 { at = start_place d key (stage i h).shape } → IsParting k m key way number (record { level = i; top = top; leaf = false })
     starts_among i h two at top is = record {
       upwards = record {
         within = h;
         begun = (
           record {
-            there = λ c lawful known. subst (λ (z : Step). IsOver (seen c k) m key z.number z.at) (sym is)
+            there = λ c lawful known. subst (λ (z : Step). KeysFromAreAbove (seen c k) m key z.number z.at) (sym is)
                 (sides_over (seen c k) m (stage i h).number (stage i h).shape ((node i h).2.shaped c lawful known) key leaf_key d agree (fits_at i h c lawful known) ne two);
             above = are_beyond Upwards i (down h) at;
           },
@@ -323,8 +323,8 @@ module _ (layout : Layout) (k : Known) (m : ℕ) (key : Key) (way : List Step) (
       };
       of_way = of_step i h (start_place d key (stage i h).shape) top is;
       left = are_beyond Downwards i (down h) at;
-      side = inl (λ c lawful known. subst (λ (z : Step). IsBeneath (seen c k) m key z.number z.at) (sym is)
-          (sides_beneath (seen c k) m (stage i h).number (stage i h).shape ((node i h).2.shaped c lawful known) key leaf_key d agree (fits_at i h c lawful known) ne two));
+      side = inl (λ c lawful known. subst (λ (z : Step). KeysLeftAreBelow (seen c k) m key z.number z.at) (sym is)
+          (sides_left_are_below (seen c k) m (stage i h).number (stage i h).shape ((node i h).2.shaped c lawful known) key leaf_key d agree (fits_at i h c lawful known) ne two));
     }
       where
         stack_with : (c : Core) (lawful : IsLawful c) (known : Recalls c k) → IsStack (seen c k) m (record (stage i h) { place = start_place d key (stage i h).shape } ∷ stages i (down h))
@@ -336,16 +336,16 @@ module _ (layout : Layout) (k : Known) (m : ℕ) (key : Key) (way : List Step) (
       let h : i < length way = omega (arith, last) in
       let same : key ≡ leaf_key = subst (IsMismatch key leaf_key) none w.found_at.2 in
       starts_at_leaf i h last (λ c lawful known. subst (λ z. MayStandAt (seen c k) m (stage i h).number (stage i h).place z) (sym same) (leaf_fits c lawful known i h)) (inl same) top
-      (same_some (sym at ∙ (step i h).1))
+      (some_injective (sym at ∙ (step i h).1))
 
   -- ---- where it differs
-  module _ (d : ℕ) (differs : differ ≡ Some d) (level : ℕ) (is : IsLevel way d level) (s : Step) (there : slice_get way level ≡ Some s) (x : Page) (shapes : Sure k (λ p. IsShaped p m s.number x))
+  module _ (d : ℕ) (differs : differ ≡ Some d) (level : ℕ) (is : IsLevel way d level) (s : Step) (there : slice_get way level ≡ Some s) (x : Subtrie) (shapes : Sure k (λ p. IsShaped p m s.number x))
       (first last : ℕ) (from : affected_first d s.at x ≡ first) (upto : affected_count d s.at x + first ≡ last + 1) where
     apart : AgreeBelow d key leaf_key × (bit key d ≢ bit leaf_key d)
     apart = subst (IsMismatch key leaf_key) differs w.found_at.2
 
     step_is : (h : level < length way) → (step level h).0 ≡ s
-    step_is h = same_some (sym (step level h).1 ∙ there)
+    step_is h = some_injective (sym (step level h).1 ∙ there)
 
     shape_is : (h : level < length way) → (stage level h).shape ≡ x
     shape_is h = same_shape layout k m s.number (stage level h).shape x possible w.since (subst (λ (z : Step). Sure k (λ p. IsShaped p m z.number (stage level h).shape)) (step_is h) (node level h).2.shaped) shapes
@@ -356,9 +356,9 @@ module _ (layout : Layout) (k : Known) (m : ℕ) (key : Key) (way : List Step) (
     low_is : (h : level < length way) → affected_from d key (stage level h).shape ≡ first
     low_is h = ap (affected_from d key) (shape_is h) ∙ (sym (key_first d key x) ∙ (ap (λ i. affected_first d i x) (sym (spot_is h)) ∙ from))
 
-    count_is : (h : level < length way) → size (page_affected d key (stage level h).shape) + first ≡ last + 1
-    count_is h = let e : affected_count d s.at x ≡ size (page_affected d key (stage level h).shape) =
-        ap (λ i. affected_count d i x) (spot_is h) ∙ ((key_part key d x).count ∙ ap (λ y. size (page_affected d key y)) (sym (shape_is h))) in omega (arith, e, upto)
+    count_is : (h : level < length way) → size (subtrie_affected d key (stage level h).shape) + first ≡ last + 1
+    count_is h = let e : affected_count d s.at x ≡ size (subtrie_affected d key (stage level h).shape) =
+        ap (λ i. affected_count d i x) (spot_is h) ∙ ((key_part key d x).count ∙ ap (λ y. size (subtrie_affected d key y)) (sym (shape_is h))) in omega (arith, e, upto)
 
     -- the nodes above one whose first fork is before d
     are_above : (i : ℕ) (h : i < length way) → (0 < i → first_position (stage i h).shape < d) → Sure k (λ p. AreAt p m key (stages i (down h)))
@@ -366,7 +366,7 @@ module _ (layout : Layout) (k : Known) (m : ℕ) (key : Key) (way : List Step) (
     are_above (suc i) h low = at_above i (down h) (stands_above d apart.0 apart.1 i (down h) h (low (omega arith)))
 
     alone : (h : level < length way) → last ≤ first → StandsAt level h
-    alone h le = stands_alone d apart.0 apart.1 level h (let n = count_is h in let p = size_pos (page_affected d key (stage level h).shape) in omega (arith, n, p, le))
+    alone h le = stands_alone d apart.0 apart.1 level h (let n = count_is h in let p = size_pos (subtrie_affected d key (stage level h).shape) in omega (arith, n, p, le))
 
     abbrev Starts : Bool → ℕ → ℕ → ℕ → Type 0
     Starts u i low high = (top t : Step) → slice_get way i ≡ Some t → top ≡ record t { at = if u then high + 1 else low } → IsParting k m key way number (record { level = i; top = top; leaf = (if u then false else nat_eq low high) })
@@ -384,10 +384,10 @@ module _ (layout : Layout) (k : Known) (m : ℕ) (key : Key) (way : List Step) (
         let n = count_is h in let f = low_is h in
         leaf_is (no_leaf u first last lt)
         (starts_among d apart.0 apart.1 level h (omega (arith, n, lt)) (are_above level h (λ o. subst (λ z. z < d) (ap (λ (z : Step). z.first_position) (sym (step_is h)) ∙ (node level h).2.first) (is.low o s there)))
-        top (top_is ∙ (ap (λ (z : Step). let y : Step = record z { at = if u then last + 1 else first } in y) (same_some (sym at ∙ (step level h).1)) ∙
+        top (top_is ∙ (ap (λ (z : Step). let y : Step = record z { at = if u then last + 1 else first } in y) (some_injective (sym at ∙ (step level h).1)) ∙
         ap (λ z. let y : Step = record (step level h).0 { at = z } in y) (place_now u b f n))))
       where
-        place_now : (u : Bool) → bit key d ≡ u → affected_from d key (stage level h).shape ≡ first → size (page_affected d key (stage level h).shape) + first ≡ last + 1 →
+        place_now : (u : Bool) → bit key d ≡ u → affected_from d key (stage level h).shape ≡ first → size (subtrie_affected d key (stage level h).shape) + first ≡ last + 1 →
             (if u then last + 1 else first) ≡ start_place d key (stage level h).shape
         place_now true b f n = rw b (omega (arith, f, n))
         place_now false b f n = rw b (sym f)
@@ -395,17 +395,17 @@ module _ (layout : Layout) (k : Known) (m : ℕ) (key : Key) (way : List Step) (
     -- or all those of the next one,
     next_one : (u : Bool) → bit key d ≡ u → (o : suc level < length way) → last ≤ first → (count : ℕ) → count ≡ size (stage (suc level) o).shape → Starts u (suc level) 0 (count - 1)
     next_one u b o le count count_eq top t at top_is =
-        let forks : Page = (stage (suc level) o).shape in
+        let forks : Subtrie = (stage (suc level) o).shape in
         let c = possible.core in let known = recalls c k possible.knows in
         let two : 2 ≤ size forks = shaped_several (seen c k) m (steady c possible.lawful known) (stage (suc level) o).number forks ((node (suc level) o).2.shaped c possible.lawful known) in
         let high : d ≤ first_position forks = subst (λ z. d ≤ z) (node (suc level) o).2.first (is.rest (suc level) (step (suc level) o).0 (omega arith) (step (suc level) o).1) in
         let whole = whole_from d key forks two high in
         leaf_is (no_leaf u 0 (count - 1) (omega (arith, two, count_eq)))
         (starts_among d apart.0 apart.1 (suc level) o (subst (λ y. 2 ≤ size y) (sym whole.1) two) (at_above level (down o) (alone (down o) le)) top
-        (top_is ∙ (ap (λ (z : Step). let y : Step = record z { at = if u then count - 1 + 1 else 0 } in y) (same_some (sym at ∙ (step (suc level) o).1)) ∙
+        (top_is ∙ (ap (λ (z : Step). let y : Step = record z { at = if u then count - 1 + 1 else 0 } in y) (some_injective (sym at ∙ (step (suc level) o).1)) ∙
         ap (λ z. let y : Step = record (step (suc level) o).0 { at = z } in y) (place_now u b whole.0 (ap size whole.1) two))))
       where
-        place_now : (u : Bool) → bit key d ≡ u → affected_from d key (stage (suc level) o).shape ≡ 0 → size (page_affected d key (stage (suc level) o).shape) ≡ size (stage (suc level) o).shape →
+        place_now : (u : Bool) → bit key d ≡ u → affected_from d key (stage (suc level) o).shape ≡ 0 → size (subtrie_affected d key (stage (suc level) o).shape) ≡ size (stage (suc level) o).shape →
             2 ≤ size (stage (suc level) o).shape → (if u then count - 1 + 1 else 0) ≡ start_place d key (stage (suc level) o).shape
         place_now true b f n two = rw b (omega (arith, f, n, two, count_eq))
         place_now false b f n two = rw b (sym f)
@@ -417,10 +417,10 @@ module _ (layout : Layout) (k : Known) (m : ℕ) (key : Key) (way : List Step) (
         around : (first ≤ s.at) × (s.at ≤ first) × (first ≡ last)
         around =
             let a = part_around d key (stage level h).shape in let f = low_is h in let n = count_is h in let p = place_is level h in let e = ap (λ (z : Step). z.at) (step_is h) in
-            (omega (arith, a.0, f, p, e), omega (arith, a.1, f, n, p, e, le), let q = size_pos (page_affected d key (stage level h).shape) in omega (arith, n, le, q))
+            (omega (arith, a.0, f, p, e), omega (arith, a.1, f, n, p, e, le), let q = size_pos (subtrie_affected d key (stage level h).shape) in omega (arith, n, le, q))
 
         is_step : t ≡ (step level h).0
-        is_step = same_some (sym at ∙ (step level h).1)
+        is_step = some_injective (sym at ∙ (step level h).1)
 
         at_is : (step level h).0.at ≡ first
         at_is = let e = ap (λ (z : Step). z.at) (step_is h) in let a = around.0 in let b = around.1 in omega (arith, e, a, b)
@@ -531,7 +531,7 @@ pub read_same : (s : Past) (m : ℕ) → IsSteady s m → (n : ℕ) (a b : Key) 
 read_same s m steady n a b v u (o, lo, hi, st) (p, lo2, hi2, su) = (steady.same (a_leaf n) o p (leaf n a v) (leaf n b u) lo hi lo2 hi2 st su).0
 
 -- The leaf that was found does not come before the first key.
-first_reached : {d : Direction} (layout : Layout) {k : Known} (m : ℕ) (key : Key) (number : ℕ) {top : Step} {frames : List Step} → IsFirst d k m key number top frames → IsSince k m → IsReached d layout k m key number
+first_reached : {d : Direction} (layout : Layout) {k : Known} (m : ℕ) (key : Key) (number : ℕ) {top : Step} {frames : List Step} → IsFirst d k m key number top frames → IsPinnedSince k m → IsReached d layout k m key number
 first_reached {d} layout {k} m key number f pinned j l possible other value read =
     let c = possible.core in let known = recalls c j possible.knows in
     let steady = seen_steady possible.lawful known (since_later l pinned) in

@@ -2,15 +2,15 @@
 use Rattle.std.proofs.Common.{◌≡◌, ◌≢◌, inl, inr, ⊎_elim, ℕ, suc, ◌+◌, ◌-◌, ◌<◌, ◌≤◌, List, [], ◌∷◌, length, take, le_refl, refl, ap, sym, ◌∙◌, subst, arith, Bool, true, false, Option, Some, None}
 use Rattle.std.specs.Prelude.{slice_get}
 use Rattle.std.proofs.lemmas.Bool.{false≢true}
-use Rattle.insert_cases.proofs.Choosing.{same_some}
+use Rattle.insert_cases.proofs.Choosing.{some_injective}
 use Rattle.insert_cases.specs.declared.choice.Step.{Step}
 use Rattle.compound_node.specs.declared.entries.Entry.{Entry}
 use Rattle.compound_node.specs.declared.entries.Entry.TheVariants.{Leaf}
-use Rattle.moments.specs.State.{IsSteady}
+use Rattle.versions.specs.State.{IsSteady}
 use Rattle.record_words.specs.declared.layout.Layout.{Layout}
 use Rattle.rowex_core.proofs.Owning.{recalls}
 use Rattle.rowex_core.specs.Cores.{Core, IsLawful}
-use Rattle.rowex_core.specs.Knowing.{Recalls, IsSince}
+use Rattle.rowex_core.specs.Knowing.{Recalls, IsPinnedSince}
 use Rattle.rowex_core.specs.declared.known.Known.{Known}
 use Rattle.rowex_reading.proofs.Seeing.{placed_stable, read_stable, seen_steady, since_later, sure_later}
 use Rattle.rowex_reading.proofs.Ways.{named_end}
@@ -25,11 +25,11 @@ use Rattle.rowex_scanning.specs.Starts.{IsBegun, IsFirst, IsParting, IsStart, Is
 use Rattle.rowex_scanning.specs.declared.direction.Direction.TheVariants.{Upwards, Downwards}
 use Rattle.rowex_scanning.specs.declared.start.Start.{Start}
 use Rattle.rowex_table.specs.Made.{IsLater}
-use Rattle.rowex_walks.proofs.Downs.{AreRightOver, beneath_less, down_skip, down_start, same_past}
-use Rattle.rowex_walks.proofs.Scans.{fit_leaf}
+use Rattle.rowex_walks.proofs.Downs.{AreRightOver, keys_further_left, down_skip, down_start, same_past}
+use Rattle.rowex_walks.proofs.Scans.{leaf_may_stand}
 use Rattle.rowex_walks.proofs.Walk.{stack_place}
-use Rattle.rowex_walks.specs.Reverse.{IsBeneath}
-use Rattle.rowex_walks.specs.Scan.{Range, IsOver, IsPlaced, IsRead, Frame as Stage}
+use Rattle.rowex_walks.specs.Reverse.{KeysLeftAreBelow}
+use Rattle.rowex_walks.specs.Scan.{Range, KeysFromAreAbove, IsPlaced, IsRead, Frame as Stage}
 use Rattle.tries.specs.Keys.{Key, bit, AgreeBelow, IsBefore}
 
 -- the places of these frames are over the key
@@ -55,7 +55,7 @@ walk_at {k} {m} {key} {top} {frames} walks place fits bound g is = record {
       let stack = stack_place (seen c k) m w.lowest place w.others (w.scan c lawful known).stack in
       down_start (seen c k) m (seen_steady lawful known w.pinned) g (record w.lowest { place = place }) w.others stack
       (subst (λ z. AreRightOver (seen c k) m z w.others) (sym is) (right_over m key w.others (subst (ArePastKey Upwards k m key) w.frames_are bound.above) c lawful known))
-      (subst (λ z. IsOver (seen c k) m z w.lowest.number place) (sym is) (subst (λ (z : Step). IsOver (seen c k) m key z.number place) w.top_is (bound.there c lawful known)));
+      (subst (λ z. KeysFromAreAbove (seen c k) m z w.lowest.number place) (sym is) (subst (λ (z : Step). KeysFromAreAbove (seen c k) m key z.number place) w.top_is (bound.there c lawful known)));
 }
   where
     w : IsWalk Upwards k m (record { from = key; upto = key; limit = 0 }) top frames []
@@ -64,7 +64,7 @@ walk_at {k} {m} {key} {top} {frames} walks place fits bound g is = record {
 -- From the way of the search and the start of a scan upwards.
 module _ (layout : Layout) (k j : Known) (m : ℕ) (key : Key) (way : List Step) (number value : ℕ) (differ : Option ℕ) (w : IsWayOf layout k m key way (FoundLeaf number value differ)) (l : IsLater k j)
     (possible : IsPossible layout j) (start : Start) (s : IsParting j m key way number start) (lowest : Step) (there : slice_get way (length way - 1) ≡ Some lowest) where
-  pinned : IsSince j m
+  pinned : IsPinnedSince j m
   pinned = since_later l w.since
 
   found_read : Sure j (λ p. IsRead p m number w.found_at.0 value)
@@ -74,11 +74,11 @@ module _ (layout : Layout) (k j : Known) (m : ℕ) (key : Key) (way : List Step)
   at_level : start.level + 1 ≡ length way → slice_get way start.level ≡ Some lowest
   at_level e = subst (λ i. slice_get way i ≡ Some lowest) (let n : length way - 1 ≡ start.level = omega (arith, e) in n) there
 
-  beneath_there : start.leaf ≡ false → (start.level + 1 ≡ length way → lowest.at + 1 ≡ start.top.at → ⊥) → Sure j (λ p. IsBeneath p m key start.top.number start.top.at)
+  beneath_there : start.leaf ≡ false → (start.level + 1 ≡ length way → lowest.at + 1 ≡ start.top.at → ⊥) → Sure j (λ p. KeysLeftAreBelow p m key start.top.number start.top.at)
   beneath_there apart not_behind = ⊎_elim (λ low. low)
-      (λ b. absurd (not_behind b.last (let e = b.behind ∙ ap (λ (z : Step). suc z.at) (same_some (sym b.there ∙ at_level b.last)) in omega (arith, e)))) s.side
+      (λ b. absurd (not_behind b.last (let e = b.behind ∙ ap (λ (z : Step). suc z.at) (some_injective (sym b.there ∙ at_level b.last)) in omega (arith, e)))) s.side
 
-  beneath_first : start.leaf ≡ true → Sure j (λ p. IsBeneath p m key start.top.number start.top.at)
+  beneath_first : start.leaf ≡ true → Sure j (λ p. KeysLeftAreBelow p m key start.top.number start.top.at)
   beneath_first is = ⊎_elim (λ low. low) (λ b. absurd (false≢true (sym b.apart ∙ is))) s.side
 
   first : start.leaf ≡ true → IsBegun true Upwards j m key number start.top (take start.level way)
@@ -174,13 +174,13 @@ module _ (layout : Layout) (k j : Known) (m : ℕ) (key : Key) (way : List Step)
       fits = let low = walk_fits ((gap is).1 (record { from = key; upto = key; limit = 0 }) refl) in omega (arith, low, next_to)
 
       bound_next_to : IsBound Upwards j m key (record start.top { at = suc lowest.at }) (take start.level way)
-      bound_next_to = record { there = subst (λ n. Sure j (λ p. IsOver p m key start.top.number n)) place_is (gap is).0.there; above = (gap is).0.above }
+      bound_next_to = record { there = subst (λ n. Sure j (λ p. KeysFromAreAbove p m key start.top.number n)) place_is (gap is).0.there; above = (gap is).0.above }
 
       node : (e : Entry) × (named way (FoundLeaf number value differ) (start.level + 1) ≡ Some e) × IsWayNode layout k m key lowest e
       node = w.nodes start.level lowest (at_level last)
 
       is_leaf : node.0 ≡ Leaf number
-      is_leaf = same_some (sym node.1 ∙ (ap (named way (FoundLeaf number value differ)) last ∙ named_end way (FoundLeaf number value differ) (length way) (le_refl (length way))))
+      is_leaf = some_injective (sym node.1 ∙ (ap (named way (FoundLeaf number value differ)) last ∙ named_end way (FoundLeaf number value differ) (length way) (le_refl (length way))))
 
       placed_low : Sure j (λ p. IsPlaced p m lowest.number lowest.at (Leaf number))
       placed_low = sure_later {P = λ p. IsPlaced p m lowest.number lowest.at (Leaf number)} (placed_stable m lowest.number lowest.at (Leaf number)) l
@@ -189,10 +189,10 @@ module _ (layout : Layout) (k j : Known) (m : ℕ) (key : Key) (way : List Step)
       placed : Sure j (λ p. IsPlaced p m start.top.number lowest.at (Leaf number))
       placed = subst (λ n. Sure j (λ p. IsPlaced p m n lowest.at (Leaf number))) (sym number_is) placed_low
 
-      below_place : Sure j (λ p. IsBeneath p m key start.top.number lowest.at)
+      below_place : Sure j (λ p. KeysLeftAreBelow p m key start.top.number lowest.at)
       below_place = ⊎_elim
-          (λ low c lawful known. beneath_less (seen c j) m start.top.number start.top.at lowest.at key (omega (arith, next_to)) (low c lawful known))
-          (λ b. subst (λ n. Sure j (λ p. IsBeneath p m key n lowest.at)) (sym number_is) (subst (λ (z : Step). Sure j (λ p. IsBeneath p m key z.number z.at)) (same_some (sym b.there ∙ at_level last)) b.beneath))
+          (λ low c lawful known. keys_further_left (seen c j) m start.top.number start.top.at lowest.at key (omega (arith, next_to)) (low c lawful known))
+          (λ b. subst (λ n. Sure j (λ p. KeysLeftAreBelow p m key n lowest.at)) (sym number_is) (subst (λ (z : Step). Sure j (λ p. KeysLeftAreBelow p m key z.number z.at)) (some_injective (sym b.there ∙ at_level last)) b.beneath))
           s.side
 
       now : Recalls possible.core j
@@ -204,7 +204,7 @@ module _ (layout : Layout) (k j : Known) (m : ℕ) (key : Key) (way : List Step)
       found_low : IsBefore w.found_at.0 key
       found_low = ⊎_elim
           (λ low. low possible.core possible.lawful now (seen possible.core j) (same_past (seen possible.core j)) fixed_then lowest.at w.found_at.0 (omega (arith, next_to))
-          (fit_leaf (seen possible.core j) m fixed_then start.top.number lowest.at number w.found_at.0 value (placed possible.core possible.lawful now) (found_read possible.core possible.lawful now)))
+          (leaf_may_stand (seen possible.core j) m fixed_then start.top.number lowest.at number w.found_at.0 value (placed possible.core possible.lawful now) (found_read possible.core possible.lawful now)))
           (λ b. subst (λ z. IsBefore z key) (read_same (seen possible.core j) m fixed_then number b.found w.found_at.0 b.value value (b.read possible.core possible.lawful now) (found_read possible.core possible.lawful now)) b.low)
           s.side
 

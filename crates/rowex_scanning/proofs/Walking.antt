@@ -20,20 +20,20 @@ use Rattle.compound_node.specs.declared.entries.Entry.TheVariants.{Leaf, Node}
 use Rattle.pieces.specs.Piece.{size}
 use Rattle.pieces.proofs.Paths.{length-places}
 use Rattle.tries.specs.Keys.{Key, bit, IsBefore, IsAtMost}
-use Rattle.moments.specs.State.{IsSteady}
+use Rattle.versions.specs.State.{IsSteady}
 use Rattle.rowex_core.specs.declared.event.Event.{Event}
 use Rattle.rowex_core.specs.declared.known.Known.{Known}
 use Rattle.rowex_core.specs.Cores.{Core, IsLawful}
-use Rattle.rowex_core.specs.Knowing.{Recalls, IsSince}
+use Rattle.rowex_core.specs.Knowing.{Recalls, IsPinnedSince}
 use Rattle.rowex_core.proofs.Owning.{recalls}
 use Rattle.record_words.specs.declared.TheConstants.{LEAF_FIELDS}
 use Rattle.record_words.specs.declared.layout.Layout.{Layout}
 use Rattle.insert_cases.specs.declared.choice.Step.{Step}
-use Rattle.rowex_walks.specs.Scan.{Pair, Range, IsRooted, IsPlaced, IsRead, IsBlank, IsShaped, IsStack, turned, Frame as Stage}
-use Rattle.rowex_walks.proofs.Scans.{fit_leaf, shaped_several}
+use Rattle.rowex_walks.specs.Scan.{Pair, Range, IsRooted, IsPlaced, IsRead, IsBlank, IsShaped, IsStack, in_order_taken, Frame as Stage}
+use Rattle.rowex_walks.proofs.Scans.{leaf_may_stand, shaped_several}
 use Rattle.rowex_walks.proofs.Walk.{stack_shape}
 use Rattle.rowex_walks.proofs.Ends.{stack_depth, stack_high, stack_seen, stack_low}
-use Rattle.rowex_walks.proofs.Persist.{rooted_on}
+use Rattle.rowex_walks.proofs.Persist.{rooted_grown}
 use Rattle.rowex_table.specs.Made.{IsLater}
 use Rattle.rowex_table.specs.Seats.{SeatView, TableView}
 use Rattle.rowex_reading.specs.Lookups.{HasSearched}
@@ -51,7 +51,7 @@ use Rattle.rowex_scanning.specs.declared.direction.Direction.{Direction}
 use Rattle.rowex_scanning.specs.declared.direction.Direction.TheVariants.{Upwards, Downwards}
 use Rattle.rowex_scanning.specs.declared.scanning.Verdict.{Verdict}
 use Rattle.rowex_scanning.specs.declared.scanning.Verdict.TheVariants.{Further, Past as IsPast, Full}
-use Rattle.rowex_scanning.proofs.Directed.{answer_blank, answer_nought, answer_one, answer_outside, before, before_fits, behind, behind_fits, beyond_at, beyond_behind, beyond_down, beyond_on, come_behind, come_first, come_most, first_fits, none_between, out_first, out_last, scan_ended, scan_filled, scan_grown, scan_passed, scan_popped, scan_pushed, scan_short, scan_stack, scan_taken}
+use Rattle.rowex_scanning.proofs.Directed.{answer_blank, answer_nought, answer_one, answer_outside, before, before_fits, behind, behind_fits, beyond_at_place, beyond_behind, beyond_in_child, beyond_grown, come_behind, come_first, come_most, first_fits, none_between, out_first, out_last, scan_ended, scan_filled, scan_grown, scan_passed, scan_popped, scan_pushed, scan_short, scan_stack, scan_taken}
 
 -- What a walk has still to do, at most: its measure.
 abbrev pub rest_of_frames : Direction → List Step → ℕ
@@ -62,15 +62,15 @@ abbrev pub rest_of : Direction → Step → List Step → ℕ
 rest_of d top frames = to_come d top.count top.at * 34 ^ top.height + 1 + rest_of_frames d frames
 
 -- How many entries of the nodes on a way have yet to be passed until each has passed two.
-abbrev pub spare_of : Direction → List Step → ℕ
-spare_of d [] = 0
-spare_of d (x ∷ xs) = (2 - (x.count - to_come d x.count (gap_before d x.at))) + spare_of d xs
+abbrev pub entries_until_two : Direction → List Step → ℕ
+entries_until_two d [] = 0
+entries_until_two d (x ∷ xs) = (2 - (x.count - to_come d x.count (gap_before d x.at))) + entries_until_two d xs
 
 -- So many loads, of which so many are of entries, are paid for: 26 for each entry, and 7 for each of so many pairs; and there are two
 -- entries for each pair, and one for each node of the way beyond what it has yet to pass, over those of the longest way.
 abbrev pub IsPaid : Direction → ℕ → ℕ → ℕ → Step → List Step → Type 0
 IsPaid d loads entries pairs top frames =
-    (loads ≤ 26 * entries + 7 * pairs) × (entries + suc (length frames) ≤ 9 * MAX_BYTES + 2 * pairs + ((2 - (top.count - to_come d top.count top.at)) + spare_of d frames))
+    (loads ≤ 26 * entries + 7 * pairs) × (entries + suc (length frames) ≤ 9 * MAX_BYTES + 2 * pairs + ((2 - (top.count - to_come d top.count top.at)) + entries_until_two d frames))
 
 -- Keys
 
@@ -140,9 +140,9 @@ module _ {A : Type 0} where
   empty_is [] e = refl
   empty_is (x ∷ xs) e = absurd (omega arith)
 
-pub length_turned : (xs : List Pair) → length (turned xs) ≡ length xs
-length_turned [] = refl
-length_turned (x ∷ xs) = let e = length-append (turned xs) ((x.key, x.value) ∷ []) in let h = length_turned xs in omega arith
+pub length_in_order_taken : (xs : List Pair) → length (in_order_taken xs) ≡ length xs
+length_in_order_taken [] = refl
+length_in_order_taken (x ∷ xs) = let e = length-append (in_order_taken xs) ((x.key, x.value) ∷ []) in let h = length_in_order_taken xs in omega arith
 
 pub length_frames : (fs : List Stage) → length (frames_of fs) ≡ length fs
 length_frames [] = refl
@@ -216,11 +216,11 @@ pub record IsBeforeEntry (d : Direction) (k : Known) (m : ℕ) (g : Range) (at :
   pub taken : List Pair
   pub at_is : at ≡ frame stage
   pub frames_are : frames ≡ frames_of others
-  pub pairs_are : pairs ≡ turned taken
+  pub pairs_are : pairs ≡ in_order_taken taken
   pub room : size stage.shape ≤ 32
   pub low : stage.place < size stage.shape
   pub inside : AreInside others
-  pub pinned : IsSince k m
+  pub pinned : IsPinnedSince k m
   pub scan : Sure k (λ s. IsScanBy d s m g (before d stage ∷ others) taken)
 
 pub walk_before : {d : Direction} {k : Known} {m : ℕ} {g : Range} {frames : List Step} {pairs : List (Key × ℕ)} (at : Step) {top : Step} → IsWalk d k m g top frames pairs → at.at < at.count → top ≡ record at { at = gap_before d at.at } →
@@ -282,7 +282,7 @@ entry_scan : {d : Direction} {k j : Known} {m : ℕ} {g : Range} {at : Step} {fr
 entry_scan {d} {k} {j} {m} {g} w l c lawful recalls = scan_grown (seen c k) m g d (seen c j) (before d w.stage ∷ w.others) w.taken (seen_grown c l) (w.scan c lawful (recalls_before l recalls))
 
 -- the same place, with other knowledge, or another range
-pub before_with : {d : Direction} {k j : Known} {m : ℕ} {g : Range} {at : Step} {frames : List Step} {pairs : List (Key × ℕ)} (w : IsBeforeEntry d k m g at frames pairs) (h : Range) → IsSince j m →
+pub before_with : {d : Direction} {k j : Known} {m : ℕ} {g : Range} {at : Step} {frames : List Step} {pairs : List (Key × ℕ)} (w : IsBeforeEntry d k m g at frames pairs) (h : Range) → IsPinnedSince j m →
     Sure j (λ s. IsScanBy d s m h (before d w.stage ∷ w.others) w.taken) → IsBeforeEntry d j m h at frames pairs
 before_with w h since scan = record {
   stage = w.stage;
@@ -350,7 +350,7 @@ module _ {d : Direction} {k j : Known} {m : ℕ} {g : Range} {at : Step} {frames
   taken e = subst (λ z. IsPairTaken d g pairs t.key t.value more z) e t.taken
 
   taken_length : length pairs ≡ length a.walk.taken
-  taken_length = ap length a.walk.pairs_are ∙ length_turned a.walk.taken
+  taken_length = ap length a.walk.pairs_are ∙ length_in_order_taken a.walk.taken
 
   pub walk_further : verdict ≡ Further → IsWalk d j m g (record at { at = gap_behind d at.at }) frames more
   walk_further is = let (within, room, e) = taken is in record {
@@ -484,15 +484,15 @@ module _ {layout : Layout} {d : Direction} {k : Known} {m : ℕ} {g : Range} {to
   pub walk_short : length pairs ≤ g.limit
   walk_short =
       let short = scan_short (seen possible.core k) m g d (w.lowest ∷ w.others) w.taken (w.scan possible.core possible.lawful known) in
-      let n = ap length w.pairs_are ∙ length_turned w.taken in omega (arith, short, n)
+      let n = ap length w.pairs_are ∙ length_in_order_taken w.taken in omega (arith, short, n)
 
 -- The loads of a walk
 
-spare_append : (d : Direction) (xs : List Step) (x : Step) → spare_of d (xs ++ x ∷ []) ≡ (2 - (x.count - to_come d x.count (gap_before d x.at))) + spare_of d xs
+spare_append : (d : Direction) (xs : List Step) (x : Step) → entries_until_two d (xs ++ x ∷ []) ≡ (2 - (x.count - to_come d x.count (gap_before d x.at))) + entries_until_two d xs
 spare_append d [] x = refl
 spare_append d (y ∷ xs) x = let e = spare_append d xs x in omega (arith, e)
 
-spare_most : (d : Direction) (xs : List Step) → spare_of d xs ≤ 2 * length xs
+spare_most : (d : Direction) (xs : List Step) → entries_until_two d xs ≤ 2 * length xs
 spare_most d [] = omega arith
 spare_most d (x ∷ xs) = let e = spare_most d xs in omega (arith, e)
 
@@ -503,14 +503,14 @@ paid_first d pairs top frames short = (omega arith, omega (arith, short))
 pub paid_push : (d : Direction) (loads entries head pairs : ℕ) (at : Step) (frames : List Step) (into : Step) (more : List Step) → IsPaid d loads entries pairs (record at { at = gap_before d at.at }) frames → head ≤ 26 →
     into.at ≡ first_gap d into.count → more ≡ frames ++ at ∷ [] → IsPaid d (loads + head) (entries + 1) pairs into more
 paid_push d loads entries head pairs at frames into more (low, paid) few first e =
-    let n = ap length e ∙ length-append frames (at ∷ []) in let spare = ap (spare_of d) e ∙ spare_append d frames at in
+    let n = ap length e ∙ length-append frames (at ∷ []) in let spare = ap (entries_until_two d) e ∙ spare_append d frames at in
     let whole : to_come d into.count into.at ≡ into.count = ap (to_come d into.count) first ∙ come_first d into.count in
     (omega (arith, low, few), omega (arith, paid, n, spare, whole))
 
 pub paid_pop : (d : Direction) (loads entries pairs : ℕ) (top : Step) (frames : List Step) (lower : Step) (rest : List Step) → IsPaid d loads entries pairs top frames → to_come d top.count top.at ≡ 0 → 2 ≤ top.count →
     frames ≡ rest ++ lower ∷ [] → lower.at < lower.count → IsPaid d loads entries pairs (record lower { at = gap_behind d lower.at }) rest
 paid_pop d loads entries pairs top frames lower rest (low, paid) done several e inside =
-    let n = ap length e ∙ length-append rest (lower ∷ []) in let spare = ap (spare_of d) e ∙ spare_append d rest lower in
+    let n = ap length e ∙ length-append rest (lower ∷ []) in let spare = ap (entries_until_two d) e ∙ spare_append d rest lower in
     let one = come_behind d lower.at lower.count inside in let most = come_most d lower.count (gap_before d lower.at) (before_fits d lower.at lower.count inside) in
     (low, omega (arith, paid, done, several, n, spare, one, most))
 
@@ -537,7 +537,7 @@ paid_last {d = d} {g = g} {top = top} {frames = frames} {pairs = pairs} (loads, 
 -- at the end of the way
 pub paid_end : (d : Direction) (loads entries pairs limit : ℕ) (top : Step) (frames : List Step) → IsPaid d loads entries pairs top frames → frames ≡ [] → pairs ≤ limit → AreWalkLoads 0 limit entries loads
 paid_end d loads entries pairs limit top frames (low, paid) none within =
-    let n = ap length none in let spare = ap (spare_of d) none in record { most = omega (arith, paid, n, spare, within); few = omega (arith, low, within) }
+    let n = ap length none in let spare = ap (entries_until_two d) none in record { most = omega (arith, paid, n, spare, within); few = omega (arith, low, within) }
 
 -- Loads of a head and a leaf, one after the other; such loads alone, and before a walk.
 module _ {G : Type 0} {table : TableView} {becomes : G → Event → G → Type 0} {a b : SeatView × G} where
@@ -568,7 +568,7 @@ scans_few {table = table} {becomes = becomes} {a = a} {d = d} limit (loads, entr
 
 module _ (d : Direction) (m : ℕ) (key : Key) where
   beyond_stable : (r gap : ℕ) → IsStable (λ s. IsPastKey d s m key r gap)
-  beyond_stable r gap a b grown h = beyond_on d a b grown m r gap key h
+  beyond_stable r gap a b grown h = beyond_grown d a b grown m r gap key h
 
   pub beyond_append : {k : Known} (xs : List Step) (x : Step) → ArePastKey d k m key xs → Sure k (λ s. IsPastKey d s m key x.number (gap_behind d x.at)) → ArePastKey d k m key (xs ++ x ∷ [])
   beyond_append [] x beyond last = (last, tt)
@@ -604,18 +604,18 @@ module _ (d : Direction) (m : ℕ) (key : Key) where
         more ≡ frames ++ at ∷ [] → IsBound d k m key into more
     bound_push number height placed into same first more e = record {
       there = λ c lawful known. subst (λ n. IsPastKey d (seen c k) m key n into.at) (sym same) (subst (λ n. IsPastKey d (seen c k) m key number n) (sym first)
-          (beyond_down d (seen c k) m at.number at.at number height into.count key (placed c lawful known) (f.there c lawful known)));
+          (beyond_in_child d (seen c k) m at.number at.at number height into.count key (placed c lawful known) (f.there c lawful known)));
       above = subst (ArePastKey d k m key) (sym e) (beyond_append frames at f.above bound_behind);
     }
 
     -- a leaf that stands there
-    pub bound_leaf : {layout : Layout} (number : ℕ) → IsSince k m → Sure k (λ s. IsPlaced s m at.number at.at (Leaf number)) → IsReached d layout k m key number
+    pub bound_leaf : {layout : Layout} (number : ℕ) → IsPinnedSince k m → Sure k (λ s. IsPlaced s m at.number at.at (Leaf number)) → IsReached d layout k m key number
     bound_leaf number pinned placed j l possible z value read =
         let c = possible.core in let r = recalls c j possible.knows in
         let steady = seen_steady possible.lawful r (since_later l pinned) in
         let placed_then = sure_later (placed_stable m at.number at.at (Leaf number)) l placed in
-        no_later d z (beyond_at d (seen c k) m at.number at.at key z (f.there c possible.lawful (recalls_before l r)) (seen c j) (seen_grown c l) steady
-        (fit_leaf (seen c j) m steady at.number at.at number z value (placed_then c possible.lawful r) (read c possible.lawful r)))
+        no_later d z (beyond_at_place d (seen c k) m at.number at.at key z (f.there c possible.lawful (recalls_before l r)) (seen c j) (seen_grown c l) steady
+        (leaf_may_stand (seen c j) m steady at.number at.at number z value (placed_then c possible.lawful r) (read c possible.lawful r)))
       where
         no_later : (d : Direction) (z : Key) → IsEarlier d key z → IsNoLater d key z
         no_later Upwards z low = inr low
@@ -657,12 +657,12 @@ at_first d g key value pairs more verdict v none is t = subst (λ z. IsPairTaken
 module _ (d : Direction) {k j : Known} (g : Range) (number : ℕ) (key : Key) (value : ℕ) (l : IsLater k j) (root : IsAtRoot k (Leaf number)) (same : since j ≡ since k)
     (read : Sure j (λ s. IsRead s (since k) number key value)) where
   rooted : Sure j (λ s. IsRooted s (since k) (Leaf number))
-  rooted c lawful recalls = rooted_on (seen c k) (seen c j) (seen_grown c l) (since k) (Leaf number) (root.1 c lawful (recalls_before l recalls))
+  rooted c lawful recalls = rooted_grown (seen c k) (seen c j) (seen_grown c l) (since k) (Leaf number) (root.1 c lawful (recalls_before l recalls))
 
   fixed : (c : Core) → IsLawful c → Recalls c j → IsSteady (seen c j) (since k)
   fixed c lawful recalls = seen_steady lawful recalls (since_later l root.0)
 
-  answered : {pairs : List (Key × ℕ)} (taken : List Pair) → pairs ≡ turned taken → (more : Bool) → Sure j (λ s. IsAnswer d s (since k) g taken more) → HasScanned d j g pairs more
+  answered : {pairs : List (Key × ℕ)} (taken : List Pair) → pairs ≡ in_order_taken taken → (more : Bool) → Sure j (λ s. IsAnswer d s (since k) g taken more) → HasScanned d j g pairs more
   answered taken e more answer = record { taken = taken; pairs_are = e; answer = subst (λ z. Sure j (λ s. IsAnswer d s z g taken more)) (sym same) answer }
 
   pub leaf_outside : {pairs : List (Key × ℕ)} → pairs ≡ [] → IsBefore key g.from ⊎ IsBefore g.upto key → HasScanned d j g pairs false

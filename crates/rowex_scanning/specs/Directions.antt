@@ -6,9 +6,9 @@ use Rattle.finite_map.specs.Reverse.{IsLawfulReverseScan}
 use Rattle.finite_map.specs.Scans.{IsLawfulScan}
 use Rattle.insert_cases.specs.declared.choice.Step.{Step}
 use Rattle.tries.specs.Keys.{Key, IsAtMost, IsBefore}
-use Rattle.moments.specs.State.{Past}
-use Rattle.rowex_walks.specs.Reverse.{IsBeneath, IsDownComplete, IsDownCut, IsDownScan}
-use Rattle.rowex_walks.specs.Scan.{Pair, Range, IsComplete, IsCut, IsScan, IsOver, Frame as Stage}
+use Rattle.versions.specs.State.{Past}
+use Rattle.rowex_walks.specs.Reverse.{KeysLeftAreBelow, IsDownComplete, IsDownCut, IsDownScan}
+use Rattle.rowex_walks.specs.Scan.{Pair, Range, IsComplete, IsCut, IsScan, KeysFromAreAbove, Frame as Stage}
 use Rattle.rowex_scanning.specs.declared.direction.Direction.{Direction}
 use Rattle.rowex_scanning.specs.declared.direction.Direction.TheVariants.{Upwards, Downwards}
 
@@ -71,8 +71,8 @@ IsAnswer Downwards s m g xs true = IsDownCut s m g xs
 
 -- each key that may stand in the record behind this gap comes later than the key
 abbrev pub IsPastKey : Direction → Past → ℕ → Key → ℕ → ℕ → Type 0
-IsPastKey Upwards s m key r gap = IsOver s m key r gap
-IsPastKey Downwards s m key r gap = IsBeneath s m key r gap
+IsPastKey Upwards s m key r gap = KeysFromAreAbove s m key r gap
+IsPastKey Downwards s m key r gap = KeysLeftAreBelow s m key r gap
 
 -- the scan is lawful while the front `before` grew to `after`
 abbrev pub IsLawfulBy : Direction → List Change → List Change → Key → Key → ℕ → Scan → Type 0

@@ -4,11 +4,11 @@ use Rattle.compound_node.specs.declared.entries.Entry.TheVariants.{Leaf}
 use Rattle.insert_cases.specs.declared.choice.Step.{Step}
 use Rattle.pieces.specs.Piece.{size}
 use Rattle.tries.specs.Keys.{Key}
-use Rattle.tries.specs.Tree.{Page, first_position}
+use Rattle.tries.specs.Tree.{Subtrie, first_position}
 use Rattle.rowex_core.specs.declared.known.Known.{Known}
-use Rattle.rowex_core.specs.Knowing.{IsSince}
+use Rattle.rowex_core.specs.Knowing.{IsPinnedSince}
 use Rattle.record_words.specs.declared.layout.Layout.{Layout}
-use Rattle.rowex_walks.specs.Scan.{Pair, Range, IsInRange, IsRead, IsShaped, turned, Frame as Stage}
+use Rattle.rowex_walks.specs.Scan.{Pair, Range, IsInRange, IsRead, IsShaped, in_order_taken, Frame as Stage}
 use Rattle.rowex_table.specs.Made.{IsLater}
 use Rattle.rowex_reading.specs.Possible.{IsPossible}
 use Rattle.rowex_reading.specs.Seen.{IsLedTo, Sure, since}
@@ -24,7 +24,7 @@ asked_range r = record { from = r.from.now; upto = r.upto.now; limit = r.limit }
 -- the pass is sure of the pairs that a scan gives, since its last load of the root, and of whether there is a further one
 pub record HasScanned (d : Direction) (k : Known) (g : Range) (pairs : List (Key × ℕ)) (more : Bool) : Type 0 where
   pub taken : List Pair
-  pub pairs_are : pairs ≡ turned taken
+  pub pairs_are : pairs ≡ in_order_taken taken
   pub answer : Sure k (λ s. IsAnswer d s (since k) g taken more)
 
 -- the range with another limit
@@ -76,7 +76,7 @@ frames_of (f ∷ fs) = frames_of fs ++ frame f ∷ []
 
 -- The pass went to a node of this height: it has read its forks, and all of its entries are to come.
 pub record IsEntered (d : Direction) (k : Known) (m : ℕ) (n h : ℕ) (top : Step) : Type 0 where
-  pub forks : Page
+  pub forks : Subtrie
   pub top_is : top ≡ frame (record { number = n; height = h; shape = forks; place = first_gap d (size forks) })
   pub room : size forks ≤ 32
   pub shaped : Sure k (λ s. IsShaped s m n forks)
@@ -93,11 +93,11 @@ pub record IsWalk (d : Direction) (k : Known) (m : ℕ) (g : Range) (top : Step)
   pub taken : List Pair
   pub top_is : top ≡ frame lowest
   pub frames_are : frames ≡ frames_of others
-  pub pairs_are : pairs ≡ turned taken
+  pub pairs_are : pairs ≡ in_order_taken taken
   pub room : size lowest.shape ≤ 32
   pub fits : lowest.place ≤ size lowest.shape
   pub inside : AreInside others
-  pub pinned : IsSince k m
+  pub pinned : IsPinnedSince k m
   pub scan : Sure k (λ s. IsScanBy d s m g (lowest ∷ others) taken)
 
 -- The pass is sure that all keys that stand behind the places of these frames come later than this one,

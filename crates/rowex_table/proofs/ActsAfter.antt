@@ -5,11 +5,11 @@ use Rattle.finite_map.specs.declared.Change.{Change}
 use Rattle.finite_map.specs.declared.Note.{Note}
 use Rattle.finite_map.specs.Fronts.{map_of, Fits}
 use Rattle.record_words.specs.declared.layout.Layout.{Layout}
-use Rattle.moments.specs.declared.Rec.{Rec}
-use Rattle.moments.specs.declared.Rec.TheVariants.{Node as a_node}
-use Rattle.moments.specs.declared.Round.{Round}
-use Rattle.moments.specs.State.{IsLived}
-use Rattle.moments.specs.Core.{InTree, life_of}
+use Rattle.versions.specs.declared.Rec.{Rec}
+use Rattle.versions.specs.declared.Rec.TheVariants.{Node as a_node}
+use Rattle.versions.specs.declared.Round.{Round}
+use Rattle.versions.specs.State.{IsLived}
+use Rattle.versions.specs.Core.{InTree, life_of}
 use Rattle.rowex_core.specs.declared.event.Act.TheVariants.{Unlock, Publish, Mark, LoadEpoch}
 use Rattle.rowex_core.specs.declared.event.Spot.{Spot}
 use Rattle.rowex_core.specs.declared.event.Spot.TheVariants.{Root, Slot}
@@ -23,14 +23,14 @@ use Rattle.rowex_core.specs.Sharing.{IsOwned, IsLocked, fate_of}
 use Rattle.rowex_core.proofs.Owning.{knows_all, round_is}
 use Rattle.rowex_core.proofs.Promises.{publish_is_a_step}
 use Rattle.rowex_table.specs.Rule.{MayStep}
-use Rattle.moments.specs.Trades.{IsOf, AreApart, HasTraded}
-use Rattle.rowex_core.specs.Having.{OwnsJust, LocksJust, AreKept, IsAny, IsUnlinked, IsDue}
+use Rattle.versions.specs.Trades.{IsOneOf, AreApart, HasTraded}
+use Rattle.rowex_core.specs.Having.{OwnsJust, LocksJust, AreKept, InAnyWay, IsUnlinked, IsUnlinkedBefore}
 use Rattle.rowex_table.specs.Publishes.{HasPublished, Publishes}
 use Rattle.rowex_table.specs.Runs.{silent}
 use Rattle.rowex_table.specs.Made.{Made, held_as, recs_of, nodes_of}
 use Rattle.rowex_core.specs.declared.known.Holding.TheVariants.{Ready}
-use Rattle.moments.proofs.Members.{all_of, of_map, map_of as has_mapped}
-use Rattle.rowex_core.proofs.Having.{owned_used, node_used, publish_leaves, mark_owns, unlock_locks}
+use Rattle.versions.proofs.Members.{all_of, of_map, map_of as has_mapped}
+use Rattle.rowex_core.proofs.Having.{owned_used, node_used, owned_after_publish, mark_owns, unlock_locks}
 use Rattle.finite_map.specs.Maps.{value_at}
 use Rattle.rowex_core.specs.Events.{IsLegalPublish, next_tree, next_change}
 
@@ -40,17 +40,17 @@ pub record IsPublishOf (c : Core) (q : ℕ) (spot : Spot) (w : ℕ) (x : Change)
   pub legal : IsLegalPublish c q spot w
   pub change : next_change c q spot w ≡ x
   pub was_held : value_at (map_of c.changes) x.key ≡ was
-  pub trade : HasTraded (c.past.moment c.past.now) (next_tree c spot w) new gone
+  pub trade : HasTraded (c.past.version c.past.now) (next_tree c spot w) new gone
 
 -- So in each core of which what the pass knows is true.
 abbrev pub MayPublish : Layout → Known → Spot → ℕ → Change → Option ℕ → List Rec → List Rec → Type 0
 MayPublish layout k spot w x was new gone = (c : Core) → IsLawful c → c.layout ≡ layout → Knows c k → IsPublishOf c k.pass spot w x was new gone
 
 -- what a core says of one of the pass's own records, and of one of its locks
-owned_in : (c : Core) (k : Known) → Knows c k → (o : Owned) → IsOf o k.own → IsOwned k.pass c o
+owned_in : (c : Core) (k : Known) → Knows c k → (o : Owned) → IsOneOf o k.own → IsOwned k.pass c o
 owned_in c k known o i = all_of (IsOwned k.pass c) o k.own (knows_all c k known).own i
 
-locked_in : (c : Core) (k : Known) → Knows c k → (l : Locked) → IsOf l k.locks → IsLocked k.pass c l
+locked_in : (c : Core) (k : Known) → Knows c k → (l : Locked) → IsOneOf l k.locks → IsLocked k.pass c l
 locked_in c k known l i = all_of (IsLocked k.pass c) l k.locks (knows_all c k known).locks i
 
 module _ (layout : Layout) (k : Known) where
@@ -59,7 +59,7 @@ module _ (layout : Layout) (k : Known) where
   pub publishes_step : (spot : Spot) (w : ℕ) (x : Change) (was : Option ℕ) (new gone : List Rec) → MayPublish layout k spot w x was new gone → MayStep layout (λ found. Publish spot w) k
   publishes_step spot w x was new gone may c law at known = (known.pass, (may c law at known).legal)
 
-  pub marks_own : (gone : List Rec) (r : Rec) (epoch : ℕ) → OwnsJust k.own (IsDue k.round.moment) gone → IsOf r gone → epoch ≡ k.round.epoch → MayStep layout (λ found. Mark r epoch) k
+  pub marks_own : (gone : List Rec) (r : Rec) (epoch : ℕ) → OwnsJust k.own (IsUnlinkedBefore k.round.version) gone → IsOneOf r gone → epoch ≡ k.round.epoch → MayStep layout (λ found. Mark r epoch) k
   marks_own gone r epoch has h is c law at known =
       let (o, i, e) = has.each r h in
       let (since, last, held, due) = (has.only o i).1 in
@@ -68,11 +68,11 @@ module _ (layout : Layout) (k : Known) where
         (
           subst (HasRecord c.layout) e (owned_used c law k.pass o owned),
           is ∙ ap (λ (z : Round). z.epoch) (sym (round_is c k known)),
-          (since, last, ap c.fate (sym e) ∙ (owned.0 ∙ ap (fate_of k.pass) held), subst (λ (z : Round). last < z.moment) (sym (round_is c k known)) due),
+          (since, last, ap c.fate (sym e) ∙ (owned.0 ∙ ap (fate_of k.pass) held), subst (λ (z : Round). last < z.version) (sym (round_is c k known)) due),
         ),
       )
 
-  pub unlocks_node : (nodes : List ℕ) (n : ℕ) → LocksJust k.locks nodes → IsOf n nodes → MayStep layout (λ found. Unlock (NodeTarget n)) k
+  pub unlocks_node : (nodes : List ℕ) (n : ℕ) → LocksJust k.locks nodes → IsOneOf n nodes → MayStep layout (λ found. Unlock (NodeTarget n)) k
   unlocks_node nodes n has h c law at known =
       let (l, i, e) = has.each n h in
       let (lock, tree, words) = locked_in c k known l i in
@@ -92,12 +92,12 @@ module _ (layout : Layout) (said : Known → List Note) (k j : Known) where
   )
 
   pub publish_gives : (spot : Spot) (w : ℕ) (x : Change) (was : Option ℕ) (new gone : List Rec) (held kept : List ℕ) → IsEvent layout (Publish spot w) said k j →
-      MayPublish layout k spot w x was new gone → OwnsJust k.own IsAny new → LocksJust k.locks held → AreKept held gone kept → HasPublished k j x was gone kept
+      MayPublish layout k spot w x was new gone → OwnsJust k.own InAnyWay new → LocksJust k.locks held → AreKept held gone kept → HasPublished k j x was gone kept
   publish_gives spot w x was new gone held kept e may own locks keeps =
       let c = e.core in
       let p = may c e.lawful e.layout_is e.knows in
       let (told, by, fits, content) = publish_is_a_step c k.pass spot w e.lawful e.legal in
-      let left = publish_leaves c k spot w e.lawful e.knows new gone held kept p.trade own locks keeps in
+      let left = owned_after_publish c k spot w e.lawful e.knows new gone held kept p.trade own locks keeps in
       record {
         pass = ap (λ (z : Known). z.pass) e.learned_is;
         pin = ap (λ (z : Known). z.pin) e.learned_is;
@@ -114,19 +114,19 @@ module _ (layout : Layout) (said : Known → List Note) (k j : Known) where
 
   -- what it had unlinked is of before the load
   pub epoch_owns : (w : ℕ) (gone : List Rec) → IsEvent layout (LoadEpoch w) said k j → OwnsJust k.own IsUnlinked gone →
-      OwnsJust j.own (IsDue j.round.moment) gone × (w ≡ j.round.epoch)
+      OwnsJust j.own (IsUnlinkedBefore j.round.version) gone × (w ≡ j.round.epoch)
   epoch_owns w gone e has =
       let c = e.core in
       let own : j.own ≡ k.own = ap (λ (z : Known). z.own) e.learned_is in
-      let now : j.round.moment ≡ c.past.now = ap (λ (z : Known). z.round.moment) e.learned_is in
-      let due : (o : Owned) → IsOf o k.own → IsUnlinked o → IsDue c.past.now o = λ o i u. (
+      let now : j.round.version ≡ c.past.now = ap (λ (z : Known). z.round.version) e.learned_is in
+      let due : (o : Owned) → IsOneOf o k.own → IsUnlinked o → IsUnlinkedBefore c.past.now o = λ o i u. (
         u.0,
         u.1,
         u.2,
         (subst (λ f. IsLived c.past.now (life_of f)) ((owned_in c k e.knows o i).0 ∙ ap (fate_of k.pass) u.2) (e.lawful.core.state.lived o.rec)).1,
       ) in (
-        subst (λ z. OwnsJust z (IsDue j.round.moment) gone) (sym own)
-            (subst (λ m. OwnsJust k.own (IsDue m) gone) (sym now) (record { only = λ o i. ((has.only o i).0, due o i (has.only o i).1); each = has.each })),
+        subst (λ z. OwnsJust z (IsUnlinkedBefore j.round.version) gone) (sym own)
+            (subst (λ m. OwnsJust k.own (IsUnlinkedBefore m) gone) (sym now) (record { only = λ o i. ((has.only o i).0, due o i (has.only o i).1); each = has.each })),
         e.legal.1 ∙ sym (ap (λ (z : Known). z.round.epoch) e.learned_is),
       )
 
@@ -159,11 +159,11 @@ module _ (layout : Layout) (said : Known → List Note) (k j : Known) where
 
 -- Lists that are known exactly
 
-pub owns_exact : (k : Known) (news : List Made) → k.own ≡ map (held_as Ready) news → OwnsJust k.own IsAny (recs_of news)
+pub owns_exact : (k : Known) (news : List Made) → k.own ≡ map (held_as Ready) news → OwnsJust k.own InAnyWay (recs_of news)
 owns_exact k news own = record {
-  only = λ o i. (let (m, h, e) = of_map (held_as Ready) o news (subst (IsOf o) own i) in
-      (subst (λ z. IsOf z (recs_of news)) (sym (ap (λ (z : Owned). z.rec) e)) (has_mapped (λ (m : Made). m.rec) m news h), tt));
-  each = λ r i. (let (m, h, e) = of_map (λ (m : Made). m.rec) r news i in (held_as Ready m, subst (IsOf (held_as Ready m)) (sym own) (has_mapped (held_as Ready) m news h), sym e));
+  only = λ o i. (let (m, h, e) = of_map (held_as Ready) o news (subst (IsOneOf o) own i) in
+      (subst (λ z. IsOneOf z (recs_of news)) (sym (ap (λ (z : Owned). z.rec) e)) (has_mapped (λ (m : Made). m.rec) m news h), tt));
+  each = λ r i. (let (m, h, e) = of_map (λ (m : Made). m.rec) r news i in (held_as Ready m, subst (IsOneOf (held_as Ready m)) (sym own) (has_mapped (held_as Ready) m news h), sym e));
 }
 
 pub locks_exact : (locks : List Locked) → LocksJust locks (nodes_of locks)

@@ -10,12 +10,12 @@ use Rattle.finite_map.specs.Fronts.{OthersGoOn}
 use Rattle.record_words.specs.declared.layout.Layout.{Layout}
 use Rattle.record_words.specs.State.{state_word}
 use Rattle.record_words.specs.Entry.{entry_word}
-use Rattle.moments.specs.declared.Rec.{Rec}
-use Rattle.moments.specs.declared.Rec.TheVariants.{Node as a_node}
-use Rattle.moments.specs.declared.Pin.{Pin}
-use Rattle.moments.specs.State.{Past}
-use Rattle.moments.specs.Core.{Fate, Free, Held as HeldBy, Ready as ReadyBy, InTree, Unlinked as UnlinkedBy, Marked}
-use Rattle.moments.proofs.Legal.{same_rec_refl}
+use Rattle.versions.specs.declared.Rec.{Rec}
+use Rattle.versions.specs.declared.Rec.TheVariants.{Node as a_node}
+use Rattle.versions.specs.declared.Pin.{Pin}
+use Rattle.versions.specs.State.{Past}
+use Rattle.versions.specs.Core.{Fate, Free, Held as HeldBy, Ready as ReadyBy, InTree, Unlinked as UnlinkedBy, Marked}
+use Rattle.versions.proofs.Legal.{same_rec_refl}
 use Rattle.rowex_core.specs.declared.event.Act.{Act}
 use Rattle.rowex_core.specs.declared.event.Act.TheVariants.{Claim, Fill, Ready, Release, LoadRef, LoadFixed, Lock, Unlock, Publish, Mark, LoadEpoch, Advance, SetPin, ClearPin, LoadPin, LoadState, GiveBack}
 use Rattle.rowex_core.specs.declared.event.Spot.TheVariants.{Root, Slot}
@@ -33,16 +33,16 @@ use Rattle.rowex_core.specs.Words.{lock_of, lock_tag, tag_of, record_word}
 use Rattle.rowex_core.specs.Events.{target_word, word_of}
 use Rattle.rowex_core.specs.declared.event.Target.{Target}
 use Rattle.record_words.specs.declared.layout.Location.{Location}
-use Rattle.rowex_core.specs.Knowing.{Knows, failed_with, IsFact, IsEvent, facts_with, fill_in, hold_as, without_record, claim_learned, anchor_learned, node_learned, learned_by, learned, taker_at, Recalls}
+use Rattle.rowex_core.specs.Knowing.{Knows, failed_with, IsFact, IsEvent, facts_with, with_filled_word, with_holding, without_record, claim_learned, anchor_learned, node_learned, learned_by, learned, blocking_pass_at, Recalls}
 use Rattle.rowex_core.specs.Sharing.{IsOwned, IsLocked}
 use Rattle.rowex_core.proofs.Owning.{knows_all}
 use Rattle.rowex_table.proofs.Rights.{free_tag, anchor_free}
 use Rattle.rowex_table.specs.Runs.{silent}
 use Rattle.rowex_table.specs.Stays.{KeepsRecall}
-use Rattle.moments.specs.Trades.{IsOf}
+use Rattle.versions.specs.Trades.{IsOneOf}
 use Rattle.rowex_core.proofs.Having.{not_free, other_rec}
 use Rattle.rowex_table.specs.Made.{Made, held_as, recs_of, nodes_of, IsLater}
-use Rattle.moments.proofs.Members.{of_map, map_of, all_of}
+use Rattle.versions.proofs.Members.{of_map, map_of, all_of}
 use Rattle.finite_map.proofs.Growth.{others_on, others_none}
 
 -- the front, the facts and the pin are as before
@@ -73,23 +73,23 @@ recalls_before {k} {j} {c} l h = record {
 
 -- Lists in which one record is changed
 
-same_map : {X : Type 0} (f : X → X) (xs : List X) → ((x : X) → IsOf x xs → f x ≡ x) → map f xs ≡ xs
+same_map : {X : Type 0} (f : X → X) (xs : List X) → ((x : X) → IsOneOf x xs → f x ≡ x) → map f xs ≡ xs
 same_map f [] h = refl
 same_map f (x ∷ xs) h = ap₂ (λ y ys. y ∷ ys) (h x (inl refl)) (same_map f xs (λ y i. h y (inr i)))
 
 -- of records made and held in any way, none of which is r
-unlike : (h : Holding) (ms : List Made) (r : Rec) → (IsOf r (recs_of ms) → ⊥) → (o : Owned) → IsOf o (map (held_as h) ms) → o.rec ≡ r → ⊥
+unlike : (h : Holding) (ms : List Made) (r : Rec) → (IsOneOf r (recs_of ms) → ⊥) → (o : Owned) → IsOneOf o (map (held_as h) ms) → o.rec ≡ r → ⊥
 unlike h ms r not_it o i e =
     let (m, k, z) = of_map (held_as h) o ms i in
-    not_it (subst (λ y. IsOf y (recs_of ms)) (sym (ap (λ (x : Owned). x.rec) z) ∙ e) (map_of (λ (m : Made). m.rec) m ms k))
+    not_it (subst (λ y. IsOneOf y (recs_of ms)) (sym (ap (λ (x : Owned). x.rec) z) ∙ e) (map_of (λ (m : Made). m.rec) m ms k))
 
-hold_others : (h g : Holding) (ms : List Made) (r : Rec) → (IsOf r (recs_of ms) → ⊥) → map (hold_as r h) (map (held_as g) ms) ≡ map (held_as g) ms
-hold_others h g ms r not_it = same_map (hold_as r h) (map (held_as g) ms) (λ o i. rw (other_rec o.rec r (unlike g ms r not_it o i)) refl)
+hold_others : (h g : Holding) (ms : List Made) (r : Rec) → (IsOneOf r (recs_of ms) → ⊥) → map (with_holding r h) (map (held_as g) ms) ≡ map (held_as g) ms
+hold_others h g ms r not_it = same_map (with_holding r h) (map (held_as g) ms) (λ o i. rw (other_rec o.rec r (unlike g ms r not_it o i)) refl)
 
-fill_others : (offset w : ℕ) (g : Holding) (ms : List Made) (r : Rec) → (IsOf r (recs_of ms) → ⊥) → map (fill_in r offset w) (map (held_as g) ms) ≡ map (held_as g) ms
-fill_others offset w g ms r not_it = same_map (fill_in r offset w) (map (held_as g) ms) (λ o i. rw (other_rec o.rec r (unlike g ms r not_it o i)) refl)
+fill_others : (offset w : ℕ) (g : Holding) (ms : List Made) (r : Rec) → (IsOneOf r (recs_of ms) → ⊥) → map (with_filled_word r offset w) (map (held_as g) ms) ≡ map (held_as g) ms
+fill_others offset w g ms r not_it = same_map (with_filled_word r offset w) (map (held_as g) ms) (λ o i. rw (other_rec o.rec r (unlike g ms r not_it o i)) refl)
 
-keep_others : (own : List Owned) (r : Rec) → ((o : Owned) → IsOf o own → o.rec ≡ r → ⊥) → without_record r own ≡ own
+keep_others : (own : List Owned) (r : Rec) → ((o : Owned) → IsOneOf o own → o.rec ≡ r → ⊥) → without_record r own ≡ own
 keep_others [] r not_it = refl
 keep_others (o ∷ own) r not_it = rw (other_rec o.rec r (not_it o (inl refl))) (ap (λ z. o ∷ z) (keep_others own r (λ x i. not_it x (inr i))))
 
@@ -104,7 +104,7 @@ module _ (layout : Layout) (said : Known → List Note) (k j : Known) where
   -- Locks
 
   pub lock_gives_node : (n found : ℕ) → IsEvent layout (Lock (NodeTarget n) found) said k j → found ≡ 2 →
-      (words : List ℕ) × (length words ≡ 57) × (j.locks ≡ record { node = n; words = words } ∷ k.locks) × (IsOf n (nodes_of k.locks) → ⊥)
+      (words : List ℕ) × (length words ≡ 57) × (j.locks ≡ record { node = n; words = words } ∷ k.locks) × (IsOneOf n (nodes_of k.locks) → ⊥)
   lock_gives_node n found e live =
       let c = e.core in (
         c.words (a_node n),
@@ -127,7 +127,7 @@ module _ (layout : Layout) (said : Known → List Note) (k j : Known) where
       unlocked c known loose (Some r) is = absurd (let z : None ≡ Some k.pass = sym loose ∙ ((knows_all c k known).anchor r is).0 in cc)
 
   -- what it loads of a node that it has locked is that of the words
-  pub entry_of_locked : (n i w : ℕ) (words : List ℕ) → IsEvent layout (LoadRef (Slot n i) w) said k j → IsOf (record { node = n; words = words }) k.locks → (w ≡ get_or words (25 + i) 0) × (j.locks ≡ k.locks)
+  pub entry_of_locked : (n i w : ℕ) (words : List ℕ) → IsEvent layout (LoadRef (Slot n i) w) said k j → IsOneOf (record { node = n; words = words }) k.locks → (w ≡ get_or words (25 + i) 0) × (j.locks ≡ k.locks)
   entry_of_locked n i w words e h =
       let c = e.core in
       let (lock, tree, same) = all_of (IsLocked k.pass c) (record { node = n; words = words }) k.locks (knows_all c k e.knows).locks h in
@@ -136,7 +136,7 @@ module _ (layout : Layout) (said : Known → List Note) (k j : Known) where
         ap (λ (z : Known). z.locks) e.learned_is,
       )
 
-  pub fixed_of_locked : (n offset w : ℕ) (words : List ℕ) → IsEvent layout (LoadFixed (a_node n) (suc offset) w) said k j → IsOf (record { node = n; words = words }) k.locks → (w ≡ get_or words offset 0) × (j.locks ≡ k.locks)
+  pub fixed_of_locked : (n offset w : ℕ) (words : List ℕ) → IsEvent layout (LoadFixed (a_node n) (suc offset) w) said k j → IsOneOf (record { node = n; words = words }) k.locks → (w ≡ get_or words offset 0) × (j.locks ≡ k.locks)
   fixed_of_locked n offset w words e h =
       let c = e.core in
       let (lock, tree, same) = all_of (IsLocked k.pass c) (record { node = n; words = words }) k.locks (knows_all c k e.knows).locks h in
@@ -146,7 +146,7 @@ module _ (layout : Layout) (said : Known → List Note) (k j : Known) where
 
   -- one more in front, which none of the others is
   pub claim_gives_one : (r : Rec) (found : ℕ) → IsEvent layout (Claim r found) said k j → found ≡ 0 →
-      (words : List ℕ) × (length words ≡ word_count_of r) × (j.own ≡ record { rec = r; holding = Held; words = words } ∷ k.own) × ((o : Owned) → IsOf o k.own → o.rec ≡ r → ⊥)
+      (words : List ℕ) × (length words ≡ word_count_of r) × (j.own ≡ record { rec = r; holding = Held; words = words } ∷ k.own) × ((o : Owned) → IsOneOf o k.own → o.rec ≡ r → ⊥)
   claim_gives_one r found e none =
       let c = e.core in
       let free : c.fate r ≡ Free = free_tag (lock_of c r) (c.fate r) (sym e.legal.1.1 ∙ none) in (
@@ -171,26 +171,26 @@ module _ (layout : Layout) (said : Known → List Note) (k j : Known) where
 
   -- the first one has the word
   pub fill_gives_first : (r : Rec) (offset w : ℕ) (words : List ℕ) (news : List Made) → IsEvent layout (Fill r offset w) said k j →
-      k.own ≡ record { rec = r; holding = Held; words = words } ∷ map (held_as Held) news → (IsOf r (recs_of news) → ⊥) →
+      k.own ≡ record { rec = r; holding = Held; words = words } ∷ map (held_as Held) news → (IsOneOf r (recs_of news) → ⊥) →
       j.own ≡ record { rec = r; holding = Held; words = set words (offset - 1) w } ∷ map (held_as Held) news
   fill_gives_first r offset w words news e own not_it =
       let o : Owned = record { rec = r; holding = Held; words = words } in
-      let first : fill_in r offset w o ≡ record { rec = r; holding = Held; words = set words (offset - 1) w } = rw (same_rec_refl r) refl in
-      ap (λ (z : Known). z.own) e.learned_is ∙ (ap (map (fill_in r offset w)) own ∙ ap₂ (λ y ys. y ∷ ys) first (fill_others offset w Held news r not_it))
+      let first : with_filled_word r offset w o ≡ record { rec = r; holding = Held; words = set words (offset - 1) w } = rw (same_rec_refl r) refl in
+      ap (λ (z : Known). z.own) e.learned_is ∙ (ap (map (with_filled_word r offset w)) own ∙ ap₂ (λ y ys. y ∷ ys) first (fill_others offset w Held news r not_it))
 
   -- the next one is ready
   pub ready_gives_next : (m : Made) (done todo : List Made) → IsEvent layout (Ready m.rec) said k j → k.own ≡ map (held_as IsReady) done ++ (held_as Held m ∷ map (held_as Held) todo) →
-      (IsOf m.rec (recs_of done) → ⊥) → (IsOf m.rec (recs_of todo) → ⊥) → j.own ≡ map (held_as IsReady) (done ++ m ∷ []) ++ map (held_as Held) todo
+      (IsOneOf m.rec (recs_of done) → ⊥) → (IsOneOf m.rec (recs_of todo) → ⊥) → j.own ≡ map (held_as IsReady) (done ++ m ∷ []) ++ map (held_as Held) todo
   ready_gives_next m done todo e own before behind =
-      let next : hold_as m.rec IsReady (held_as Held m) ≡ held_as IsReady m = rw (same_rec_refl m.rec) refl in
+      let next : with_holding m.rec IsReady (held_as Held m) ≡ held_as IsReady m = rw (same_rec_refl m.rec) refl in
       ap (λ (z : Known). z.own) e.learned_is ∙
-      (ap (map (hold_as m.rec IsReady)) own ∙ (map-append (hold_as m.rec IsReady) (map (held_as IsReady) done) (held_as Held m ∷ map (held_as Held) todo) ∙
+      (ap (map (with_holding m.rec IsReady)) own ∙ (map-append (with_holding m.rec IsReady) (map (held_as IsReady) done) (held_as Held m ∷ map (held_as Held) todo) ∙
       (ap₂ (λ y ys. y ++ ys) (hold_others IsReady IsReady done m.rec before) (ap₂ (λ y ys. y ∷ ys) next (hold_others IsReady Held todo m.rec behind)) ∙
       (sym (append_assoc (map (held_as IsReady) done) (held_as IsReady m ∷ []) (map (held_as Held) todo)) ∙
       ap (λ z. z ++ map (held_as Held) todo) (sym (map-append (held_as IsReady) done (m ∷ [])))))))
 
   -- the first one is given up
-  pub release_gives_rest : (m : Made) (news : List Made) → IsEvent layout (Release m.rec) said k j → k.own ≡ map (held_as Held) (m ∷ news) → (IsOf m.rec (recs_of news) → ⊥) → j.own ≡ map (held_as Held) news
+  pub release_gives_rest : (m : Made) (news : List Made) → IsEvent layout (Release m.rec) said k j → k.own ≡ map (held_as Held) (m ∷ news) → (IsOneOf m.rec (recs_of news) → ⊥) → j.own ≡ map (held_as Held) news
   release_gives_rest m news e own not_it =
       let first : without_record m.rec (held_as Held m ∷ map (held_as Held) news) ≡ without_record m.rec (map (held_as Held) news) = rw (same_rec_refl m.rec) refl in
       ap (λ (z : Known). z.own) e.learned_is ∙ (ap (without_record m.rec) own ∙ (first ∙ keep_others (map (held_as Held) news) m.rec (unlike Held news m.rec not_it)))
@@ -202,7 +202,7 @@ module _ (layout : Layout) (said : Known → List Note) (k j : Known) where
 
   facts_kept : (o : Option Pin) (f : ℕ → Fact) (s : Past) → All (IsFact s) (facts_with o f k.facts) → All (IsFact s) k.facts
   facts_kept None f s a = a
-  facts_kept (Some p) f s a = All-tail (IsFact s) (f p.moment) k.facts a
+  facts_kept (Some p) f s a = All-tail (IsFact s) (f p.version) k.facts a
 
   same : (c : Core) → AreSeen c k
   same c = (refl, refl, others_none k.pass k.front, λ s x. x)
@@ -232,7 +232,7 @@ module _ (layout : Layout) (said : Known → List Note) (k j : Known) where
   act_seen c (LoadRef (Slot n i) w) o t = (refl, refl, o, facts_kept k.pin _)
   act_seen c (LoadFixed r offset w) o t = (refl, refl, o, facts_kept k.pin _)
   act_seen c (Lock Anchor found) o t = anchor_seen c found c.anchor
-  act_seen c (Lock (NodeTarget n) found) o t = one_of (nat_eq found 2) c (record k { locks = record { node = n; words = c.words (a_node n) } ∷ k.locks }) (failed_with k (a_lock (taker_at c (NodeTarget n))) (target_word (NodeTarget n)) found) (same c) (same c)
+  act_seen c (Lock (NodeTarget n) found) o t = one_of (nat_eq found 2) c (record k { locks = record { node = n; words = c.words (a_node n) } ∷ k.locks }) (failed_with k (a_lock (blocking_pass_at c (NodeTarget n))) (target_word (NodeTarget n)) found) (same c) (same c)
   act_seen c (Unlock Anchor) o t = same c
   act_seen c (Unlock (NodeTarget n)) o t = same c
   act_seen c (Mark r epoch) o t = same c
@@ -278,9 +278,9 @@ module _ (layout : Layout) (k j : Known) where
   anchor_held c found (Some q) e ne = refl
 
   pub lock_fails : (target : Target) (found : ℕ) (e : IsEvent layout (Lock target found) silent k j) → (found ≡ 2 → ⊥) →
-      j ≡ record (failed_with k (a_lock (taker_at e.core target)) (target_word target) found) { steps = k.steps + 1 }
-  lock_fails Anchor found e ne = failed_step e.core (Lock Anchor found) (a_lock (taker_at e.core Anchor)) (target_word Anchor) found e.learned_is (anchor_held e.core found e.core.anchor e.legal.1 ne)
-  lock_fails (NodeTarget n) found e ne = failed_step e.core (Lock (NodeTarget n) found) (a_lock (taker_at e.core (NodeTarget n))) (target_word (NodeTarget n)) found e.learned_is (rw (dead found 2 ne) refl)
+      j ≡ record (failed_with k (a_lock (blocking_pass_at e.core target)) (target_word target) found) { steps = k.steps + 1 }
+  lock_fails Anchor found e ne = failed_step e.core (Lock Anchor found) (a_lock (blocking_pass_at e.core Anchor)) (target_word Anchor) found e.learned_is (anchor_held e.core found e.core.anchor e.legal.1 ne)
+  lock_fails (NodeTarget n) found e ne = failed_step e.core (Lock (NodeTarget n) found) (a_lock (blocking_pass_at e.core (NodeTarget n))) (target_word (NodeTarget n)) found e.learned_is (rw (dead found 2 ne) refl)
 
   claim_held : (c : Core) (r : Rec) (found : ℕ) (f : Fate) → found ≡ state_word (tag_of (lock_of c r) f) → (found ≡ 0 → ⊥) → claim_learned c r found f k ≡ failed_with k a_claim (word_of r 0) found
   claim_held c r found Free e ne = absurd (ne e)

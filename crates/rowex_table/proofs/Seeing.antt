@@ -9,7 +9,7 @@ use Rattle.rowex_core.specs.declared.event.Event.{Event}
 use Rattle.rowex_core.specs.declared.event.Spot.TheVariants.{Root, Slot}
 use Rattle.rowex_core.specs.declared.known.Fresh.{Fresh}
 use Rattle.rowex_core.specs.declared.known.Known.{Known}
-use Rattle.rowex_core.specs.Knowing.{IsEvent, SeesAllAtRoot, moment_of}
+use Rattle.rowex_core.specs.Knowing.{IsEvent, SeesAllAtRoot, version_of}
 use Rattle.rowex_core.proofs.Keeping.{seen_by}
 use Rattle.rowex_table.specs.Runs.{Ends, Runs, silent}
 use Rattle.rowex_table.specs.Seats.{TableView, SeatView, IsSame}
@@ -23,7 +23,7 @@ step_more layout act said k j e = ap (λ (z : Known). z.steps) e.learned_is
 -- a load of the root
 pub root_shows : (layout : Layout) (w : ℕ) (said : Known → List Note) (k j : Known) → IsEvent layout (LoadRef Root w) said k j → SeesAllAtRoot layout k j
 root_shows layout w said k j e =
-    let fresh : j.fresh ≡ record { front = e.core.changes; step = k.steps; pinned = moment_of k.pin } = ap (λ (z : Known). z.fresh) e.learned_is in
+    let fresh : j.fresh ≡ record { front = e.core.changes; step = k.steps; pinned = version_of k.pin } = ap (λ (z : Known). z.fresh) e.learned_is in
     let more = step_more layout (LoadRef Root w) said k j e in
     record {
       core = e.core;
@@ -47,7 +47,7 @@ event_shows layout (LoadRef Root w) said k j e = inr (root_shows layout w said k
 event_shows layout (LoadRef (Slot n i) w) said k j e = inl (act_fresh layout k j (LoadRef (Slot n i) w) said e tt)
 event_shows layout act said k j e = inl (act_fresh layout k j act said e tt)
 
--- what was loaded since an earlier moment
+-- what was loaded since an earlier version
 pub sees_since : (layout : Layout) (k i j : Known) → i.pass ≡ k.pass → k.steps ≤ i.steps → SeesAllAtRoot layout i j → SeesAllAtRoot layout k j
 sees_since layout k i j same later s =
     record { core = s.core; lawful = s.lawful; layout_is = s.layout_is; at = s.at; knows = s.knows; pass = s.pass ∙ same; since = le_trans later s.since; until = s.until; fresh = s.fresh; all = s.all }

@@ -1,9 +1,9 @@
 -- New records on their way into the tree, by the whole list of what a pass has, and a pass that has gone on.
 use Rattle.std.specs.Prelude.{◌≡◌, ℕ, List, ◌++◌, map, All}
 use Rattle.finite_map.specs.Fronts.{OthersGoOn}
-use Rattle.moments.specs.State.{Past}
-use Rattle.moments.specs.declared.Rec.{Rec}
-use Rattle.moments.specs.Trades.{AreApart}
+use Rattle.versions.specs.State.{Past}
+use Rattle.versions.specs.declared.Rec.{Rec}
+use Rattle.versions.specs.Trades.{AreApart}
 use Rattle.rowex_core.specs.declared.known.Holding.{Holding}
 use Rattle.rowex_core.specs.declared.known.Holding.TheVariants.{Held, Ready}
 use Rattle.rowex_core.specs.declared.known.Known.{Known}

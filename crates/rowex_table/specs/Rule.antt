@@ -10,7 +10,7 @@ use Rattle.record_words.specs.declared.TheConstants.{MAX_ENTRIES}
 use Rattle.record_words.specs.declared.layout.Layout.{Layout}
 use Rattle.record_words.specs.declared.layout.Location.{Location}
 use Rattle.record_words.specs.Layout.{address, IsInTable}
-use Rattle.moments.specs.declared.Rec.{Rec}
+use Rattle.versions.specs.declared.Rec.{Rec}
 use Rattle.rowex_core.specs.declared.event.Act.{Act}
 use Rattle.rowex_core.specs.declared.event.Act.TheVariants.{Claim, LoadRef, LoadFixed, Lock, LoadEpoch, Advance, LoadPin, LoadState, GiveBack}
 use Rattle.rowex_core.specs.declared.event.Spot.{Spot}
@@ -52,7 +52,7 @@ opening_of q = record {
   locks = [];
   anchor = None;
   pin = None;
-  round = record { epoch = 0; moment = 0; bound = 0; seen = [] };
+  round = record { epoch = 0; version = 0; bound = 0; seen = [] };
 }
 
 -- what a pass's seat knows

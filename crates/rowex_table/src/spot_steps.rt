@@ -3,7 +3,7 @@
 ghost use Rattle.std.specs.Prelude.{◌≡◌, ◌<◌, ◌+◌, ◌*◌, ◌^◌, ℕ, List};
 ghost use Rattle.record_words.specs.Layout.{IsInTable};
 ghost use Rattle.rowex_core.specs.declared.event.Act.TheVariants.{LoadRef, Lock, Unlock, Publish};
-ghost use Rattle.moments.specs.declared.Rec.TheVariants.{Node as a_node};
+ghost use Rattle.versions.specs.declared.Rec.TheVariants.{Node as a_node};
 ghost use Rattle.rowex_core.specs.declared.event.Spot.TheVariants.{Slot};
 ghost use Rattle.rowex_core.specs.Events.{target_word};
 ghost use Rattle.rowex_table.specs.Rule.{HasSpot, IsStartOf, MayStep};

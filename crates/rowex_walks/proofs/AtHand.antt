@@ -1,13 +1,13 @@
 -- What a writer has at hand for a place of the tree.
 use Rattle.std.proofs.Common.{◌≡◌, ◌⊎◌, ℕ, Some}
-use Rattle.tries.specs.Tree.{Fixed, Tree, node, page, IsBuilt, IsFork, IsTip, IsLower, IsFit}
+use Rattle.tries.specs.Tree.{Fixed, Tree, node, subtrie, IsBuilt, IsFork, IsTip, IsLower, IsFit}
 use Rattle.tries.specs.Content.{Item}
 use Rattle.tries.specs.Changes.{IsAdded}
-use Rattle.moments.specs.Heap.{IsShown}
-use Rattle.moments.specs.State.{Links}
-use Rattle.moments.specs.declared.Rec.{Rec}
-use Rattle.moments.specs.declared.Rec.TheVariants.{Node as a_node}
-use Rattle.moments.specs.Core.{Ready, BareCore}
+use Rattle.versions.specs.Heap.{IsShown}
+use Rattle.versions.specs.State.{Links}
+use Rattle.versions.specs.declared.Rec.{Rec}
+use Rattle.versions.specs.declared.Rec.TheVariants.{Node as a_node}
+use Rattle.versions.specs.Core.{Ready, BareCore}
 
 -- For the place of `s` the pass has `r`: its words show it, what it links anew is the pass's and ready, and the nodes
 -- that go are locked by the pass.
@@ -20,10 +20,10 @@ pub record IsAtHand (c : BareCore) (q : ℕ) (s r : Tree) : Type 0 where
 -- A node record that the pass has filled and made ready, with this body.
 pub record IsNewNode (c : BareCore) (q m : ℕ) (x : Fixed) (b : Tree) : Type 0 where
   pub fate : c.fate (a_node m) ≡ Ready q
-  pub words : c.heap.nodes m ≡ record { fixed = x; page = page b }
+  pub words : c.heap.nodes m ≡ record { fixed = x; subtrie = subtrie b }
   pub two : IsFork b
   pub lower : IsLower x.height b
-  pub fit : IsFit x (page b)
+  pub fit : IsFit x (subtrie b)
 
 -- The entry for a half or for a whole body: the one record that it is, or a new node around it.
 pub data IsHalf (c : BareCore) (q : ℕ) (r : Tree) : Tree → Type 0 where

@@ -2,18 +2,18 @@
 use Rattle.std.proofs.Common.{◌≡◌, ◌⊎◌, inl, inr, ℕ, ◌+◌, ◌*◌, ◌<◌, ◌≤◌, List, [], ◌∷◌, length, sym, ◌∙◌, subst, arith, Some, None}
 use Rattle.key_bits.specs.declared.TheConstants.{MAX_BYTES}
 use Rattle.tries.specs.Keys.{IsAtMost, Key, IsBefore}
-use Rattle.tries.specs.Tree.{Tree, leaf, node, fork, page, IsBuilt, IsLower}
+use Rattle.tries.specs.Tree.{Tree, leaf, node, fork, subtrie, IsBuilt, IsLower}
 use Rattle.compound_node.specs.declared.entries.Entry.{Entry}
 use Rattle.compound_node.specs.declared.entries.Entry.TheVariants.{Leaf, Node}
 use Rattle.pieces.specs.Piece.{Place}
-use Rattle.moments.specs.State.{Past, IsSameRecord, IsSteady}
-use Rattle.moments.specs.declared.Rec.TheVariants.{Node as a_node}
+use Rattle.versions.specs.State.{Past, IsSameRecord, IsSteady}
+use Rattle.versions.specs.declared.Rec.TheVariants.{Node as a_node}
 use Rattle.compound_node.specs.Nodes.{height_of}
 use Rattle.tries.specs.Place.{entry_at}
-use Rattle.rowex_walks.specs.Scan.{IsRooted, IsPlaced, IsRead, IsSeen, IsBlank, Frame, IsStack, Range, IsInRange, IsComplete, IsCut}
+use Rattle.rowex_walks.specs.Scan.{IsRooted, IsPlaced, IsRead, EntryStoodSince, IsBlank, Frame, IsStack, Range, IsInRange, IsComplete, IsCut}
 use Rattle.tries.proofs.Tries.{built_within}
-use Rattle.rowex_walks.proofs.Scans.{node_of, on_root, on_leaf, read_held, never_before}
-use Rattle.rowex_walks.proofs.Loads.{lower_at, page_at, rooted_seen, placed_seen, fixed_height}
+use Rattle.rowex_walks.proofs.Scans.{node_of, root_had_key, leaf_had_key, read_held, never_before}
+use Rattle.rowex_walks.proofs.Loads.{lower_at, subtrie_at, rooted_seen, placed_seen, fixed_height}
 
 -- The height of the lowest frame: that of the root's node.
 abbrev pub top_height : ℕ → List Frame → ℕ
@@ -40,7 +40,7 @@ scan_one s m law g n l v root is r room = record {
   within = (r, tt);
   held = (read_held s m n l v is, tt);
   short = omega arith;
-  covered = λ k kept q. inl (on_leaf s m law n k l v (on_root s m k kept (Leaf n) root) is);
+  covered = λ k kept q. inl (leaf_had_key s m law n k l v (root_had_key s m k kept (Leaf n) root) is);
 }
 
 -- The limit is 0.
@@ -63,7 +63,7 @@ scan_outside s m law g n l v root is out = record {
   within = tt;
   held = tt;
   short = omega arith;
-  covered = λ k kept q. go k q (on_leaf s m law n k l v (on_root s m k kept (Leaf n) root) is) out;
+  covered = λ k kept q. go k q (leaf_had_key s m law n k l v (root_had_key s m k kept (Leaf n) root) is) out;
 }
   where
     go : (k : Key) → IsInRange g k → k ≡ l → IsBefore l g.from ⊎ IsBefore g.upto l → ⊥
@@ -71,19 +71,19 @@ scan_outside s m law g n l v root is out = record {
     go k q e (inr y) = never_before g.upto l y (subst (λ z. IsAtMost z g.upto) e q.1)
 
 -- The heights fall along the way.
-pub placed_falls : (s : Past) (m : ℕ) → IsSteady s m → (r h j : ℕ) (e : Entry) → IsSeen s m (Node r h) → IsPlaced s m r j e → height_of e < h
+pub placed_falls : (s : Past) (m : ℕ) → IsSteady s m → (r h j : ℕ) (e : Entry) → EntryStoodSince s m (Node r h) → IsPlaced s m r j e → height_of e < h
 placed_falls s m law r h j e (n, u, lo, hi, sn, pg) (b, st, lt, pe) =
     let o = node_of r h u pg in
     let same : IsSameRecord (node r st.fixed b) u = law.same (a_node r) st.at n (node r st.fixed b) u st.since st.until lo hi st.stands sn in
     let q : st.fixed ≡ o.0 = (subst (λ z. IsSameRecord (node r st.fixed b) z) o.2 same).0 in
-    let built : IsBuilt (node r st.fixed b) = built_within st.stands.within (law.trees st.at st.stands.tree st.until st.stands.is_moment).1 in
-    let f : Place (entry_at (page b) j) ≡ Place e = sym (page_at b j lt) ∙ pe in
-    subst (λ z. height_of z < h) (tip_same f) (subst (λ z. height_of (entry_at (page b) j) < z) (fixed_height q ∙ o.3) (lower_at st.fixed.height b j built.1))
+    let built : IsBuilt (node r st.fixed b) = built_within st.stands.within (law.trees st.at st.stands.tree st.until st.stands.is_version).1 in
+    let f : Place (entry_at (subtrie b) j) ≡ Place e = sym (subtrie_at b j lt) ∙ pe in
+    subst (λ z. height_of z < h) (tip_same f) (subst (λ z. height_of (entry_at (subtrie b) j) < z) (fixed_height q ∙ o.3) (lower_at st.fixed.height b j built.1))
   where
     tip_same : {a b : Entry} → Place a ≡ Place b → a ≡ b
     tip_same e = cc
 
-pub stack_seen : (s : Past) (m : ℕ) (f : Frame) (fs : List Frame) → IsStack s m (f ∷ fs) → IsSeen s m (Node f.number f.height)
+pub stack_seen : (s : Past) (m : ℕ) (f : Frame) (fs : List Frame) → IsStack s m (f ∷ fs) → EntryStoodSince s m (Node f.number f.height)
 stack_seen s m f [] h = rooted_seen s m (Node f.number f.height) h.0
 stack_seen s m f (g ∷ gs) h = placed_seen s m g.number g.place (Node f.number f.height) h.0
 
@@ -104,10 +104,10 @@ some_height h (fork p a b) l = some_height h a l.0
 pub stack_high : (s : Past) (m : ℕ) → IsSteady s m → (f : Frame) (fs : List Frame) → IsStack s m (f ∷ fs) → 0 < f.height
 stack_high s m law f fs h = go (stack_seen s m f fs h)
   where
-    go : IsSeen s m (Node f.number f.height) → 0 < f.height
+    go : EntryStoodSince s m (Node f.number f.height) → 0 < f.height
     go (n, u, lo, hi, st, pg) =
         let o = node_of f.number f.height u pg in
-        let built : IsBuilt (node f.number o.0 o.1) = subst IsBuilt o.2 (built_within st.within (law.trees n st.tree hi st.is_moment).1) in
+        let built : IsBuilt (node f.number o.0 o.1) = subst IsBuilt o.2 (built_within st.within (law.trees n st.tree hi st.is_version).1) in
         subst (λ z. 0 < z) o.3 (some_height o.0.height o.1 built.1)
 
 -- And that is as high as a tree can be.

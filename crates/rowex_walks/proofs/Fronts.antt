@@ -1,4 +1,4 @@
--- From moments to fronts: what a scan took is a lawful scan.
+-- From versions to fronts: what a scan took is a lawful scan.
 use Rattle.std.proofs.Common.{◌≡◌, ◌≢◌, inl, inr, ℕ, suc, zero, ◌+◌, ◌-◌, ◌≤◌, List, [], ◌∷◌, ◌++◌, length, take, drop, fold, refl, ap, sym, ◌∙◌, subst, arith, Some, None, Option, true, false, not, le_refl}
 use Rattle.std.specs.Prelude.{All, Contains, IsTrue, is_some}
 use Rattle.std.proofs.lemmas.Bool.{false≢true, and_parts, not-true}
@@ -26,9 +26,9 @@ use Rattle.tries.proofs.Contents.{holds_has}
 use Rattle.tries.proofs.Maps.{before_less, holds_value, value_holds}
 use Rattle.tries.proofs.Ranges.{has_key, at_most_le, at_most_not_lt, le_at_most, not_lt_at_most, HoldsKey, held_inserted, held_removed}
 use Rattle.rowex_walks.proofs.Scans.{before_trans}
-use Rattle.moments.specs.State.{Past, IsHeldSince, IsKeptSince, IsSteady}
-use Rattle.moments.specs.Told.{content, TellChanges}
-use Rattle.rowex_walks.specs.Scan.{Pair, Every, IsKeyListed, IsFalling, IsUpTo, Range, IsInRange, IsComplete, IsCut, turned}
+use Rattle.versions.specs.State.{Past, IsHeldSince, IsKeptSince, IsSteady}
+use Rattle.versions.specs.Told.{content, TellChanges}
+use Rattle.rowex_walks.specs.Scan.{Pair, Every, IsKeyListed, IsFalling, IsUpTo, Range, IsInRange, IsComplete, IsCut, in_order_taken}
 use Rattle.rowex_walks.specs.Reverse.{IsClimbing, IsDownComplete, IsDownCut, IsDownTo}
 use Rattle.rowex_walks.proofs.Walk.{every_map}
 
@@ -73,20 +73,20 @@ drop_front : (xs ys : List Change) → drop (length xs) (xs ++ ys) ≡ ys
 drop_front [] ys = refl
 drop_front (x ∷ xs) ys = drop_front xs ys
 
--- What moments say of a key, and what the fronts say.
+-- What versions say of a key, and what the fronts say.
 module _ (s : Past) (before rest : List Change) (m : ℕ) (steady : IsSteady s m) (told : TellChanges s (before ++ rest)) where
   held_key : (o : ℕ) (k : Key) (v : ℕ) → IsHeldSince s o k v → IsKey k
   held_key o k v (n, t, lo, hi, e, h) = has_key t (steady.trees n t hi e).0 k (holds_has t k v h)
 
-  -- What was held at a moment is held after so many changes.
+  -- What was held in a version is held after so many changes.
   held_between : (k : Key) (v : ℕ) → IsHeldSince s (length before) k v → IsHeldBetween before (before ++ rest) k v
   held_between k v (n, t, lo, hi, e, h) =
       let c = told.count in
       (n, lo, omega arith, subst (λ (z : Map). value_at z k ≡ Some v) (ap content (sym e) ∙ told.content_is n hi) (holds_value t (steady.trees n t hi e).0 k v h))
 
-  -- A key of the front's map that nothing removes since was held at each moment since.
+  -- A key of the front's map that nothing removes since was held in each version since.
   front_kept : (k : Key) → IsKeptBetween before (before ++ rest) k → IsKeptSince s (length before) k
-  front_kept k h n lo hi = go (s.moment n) (subst (HoldsKey k) (sym (told.content_is n hi)) in_map)
+  front_kept k h n lo hi = go (s.version n) (subst (HoldsKey k) (sym (told.content_is n hi)) in_map)
     where
       unremoved : IsUnremoved k rest
       unremoved = recursion_from_All (λ (x : Change). x.kind ≡ Removed → x.key ≢ k) rest
@@ -106,15 +106,15 @@ module _ (s : Past) (before rest : List Change) (m : ℕ) (steady : IsSteady s m
 
 -- The pairs in the order in which they were taken.
 module _ (P : Key × ℕ → Type 0) where
-  all_turned : (xs : List Pair) → Every (λ x. P (x.key, x.value)) xs → All P (turned xs)
+  all_turned : (xs : List Pair) → Every (λ x. P (x.key, x.value)) xs → All P (in_order_taken xs)
   all_turned [] a = All-from_recursion P [] tt
-  all_turned (x ∷ xs) a = All-append P (turned xs) ((x.key, x.value) ∷ []) (all_turned xs a.1) (All-from_recursion P ((x.key, x.value) ∷ []) (a.0, tt))
+  all_turned (x ∷ xs) a = All-append P (in_order_taken xs) ((x.key, x.value) ∷ []) (all_turned xs a.1) (All-from_recursion P ((x.key, x.value) ∷ []) (a.0, tt))
 
-length_turned : (xs : List Pair) → length (turned xs) ≡ length xs
-length_turned [] = refl
-length_turned (x ∷ xs) =
+length_in_order_taken : (xs : List Pair) → length (in_order_taken xs) ≡ length xs
+length_in_order_taken [] = refl
+length_in_order_taken (x ∷ xs) =
     let e : length xs + 1 ≡ suc (length xs) = omega arith in
-    length-append (turned xs) ((x.key, x.value) ∷ []) ∙ (ap (λ n. n + 1) (length_turned xs) ∙ e)
+    length-append (in_order_taken xs) ((x.key, x.value) ∷ []) ∙ (ap (λ n. n + 1) (length_in_order_taken xs) ∙ e)
 
 -- A sorted list with a later key at its end.
 sorted_push : (order : Key → Key → Ordering) (ks : List Key) (k : Key) → IsStrictlySortedBy order ks → AllByRecursion (λ l. order l k ≡ Less) ks → IsStrictlySortedBy order (ks ++ k ∷ [])
@@ -134,36 +134,36 @@ all_push : (P : Key → Type 0) (ks : List Key) (k : Key) → AllByRecursion P k
 all_push P [] k a h = (h, tt)
 all_push P (l ∷ ks) k a h = (a.0, all_push P ks k a.1 h)
 
-below_turned : (k : Key) (xs : List Pair) → IsKey k → Every (λ x. IsKey x.key) xs → Every (λ x. IsBefore x.key k) xs → AllByRecursion (λ l. key_order l k ≡ Less) (keys_of (turned xs))
+below_turned : (k : Key) (xs : List Pair) → IsKey k → Every (λ x. IsKey x.key) xs → Every (λ x. IsBefore x.key k) xs → AllByRecursion (λ l. key_order l k ≡ Less) (keys_of (in_order_taken xs))
 below_turned k [] i a b = tt
 below_turned k (x ∷ xs) i a b =
-    subst (AllByRecursion (λ l. key_order l k ≡ Less)) (sym (keys_push (turned xs) x.key x.value))
-    (all_push (λ l. key_order l k ≡ Less) (keys_of (turned xs)) x.key (below_turned k xs i a.1 b.1) (before_less x.key k a.0 i b.0))
+    subst (AllByRecursion (λ l. key_order l k ≡ Less)) (sym (keys_push (in_order_taken xs) x.key x.value))
+    (all_push (λ l. key_order l k ≡ Less) (keys_of (in_order_taken xs)) x.key (below_turned k xs i a.1 b.1) (before_less x.key k a.0 i b.0))
 
-turned_rises : (xs : List Pair) → Every (λ x. IsKey x.key) xs → IsFalling xs → IsStrictlySortedBy key_order (keys_of (turned xs))
+turned_rises : (xs : List Pair) → Every (λ x. IsKey x.key) xs → IsFalling xs → IsStrictlySortedBy key_order (keys_of (in_order_taken xs))
 unfolding IsStrictlySortedBy
 turned_rises [] a f = tt
 turned_rises (x ∷ xs) a f =
-    subst (IsStrictlySortedBy key_order) (sym (keys_push (turned xs) x.key x.value))
-    (sorted_push key_order (keys_of (turned xs)) x.key (turned_rises xs a.1 f.1) (below_turned x.key xs a.0 a.1 f.0))
+    subst (IsStrictlySortedBy key_order) (sym (keys_push (in_order_taken xs) x.key x.value))
+    (sorted_push key_order (keys_of (in_order_taken xs)) x.key (turned_rises xs a.1 f.1) (below_turned x.key xs a.0 a.1 f.0))
 
-above_turned : (k : Key) (xs : List Pair) → IsKey k → Every (λ x. IsKey x.key) xs → Every (λ x. IsBefore k x.key) xs → AllByRecursion (λ l. falling_order l k ≡ Less) (keys_of (turned xs))
+above_turned : (k : Key) (xs : List Pair) → IsKey k → Every (λ x. IsKey x.key) xs → Every (λ x. IsBefore k x.key) xs → AllByRecursion (λ l. falling_order l k ≡ Less) (keys_of (in_order_taken xs))
 above_turned k [] i a b = tt
 above_turned k (x ∷ xs) i a b =
-    subst (AllByRecursion (λ l. falling_order l k ≡ Less)) (sym (keys_push (turned xs) x.key x.value))
-    (all_push (λ l. falling_order l k ≡ Less) (keys_of (turned xs)) x.key (above_turned k xs i a.1 b.1) (before_less k x.key i a.0 b.0))
+    subst (AllByRecursion (λ l. falling_order l k ≡ Less)) (sym (keys_push (in_order_taken xs) x.key x.value))
+    (all_push (λ l. falling_order l k ≡ Less) (keys_of (in_order_taken xs)) x.key (above_turned k xs i a.1 b.1) (before_less k x.key i a.0 b.0))
 
-turned_falls : (xs : List Pair) → Every (λ x. IsKey x.key) xs → IsClimbing xs → IsStrictlySortedBy falling_order (keys_of (turned xs))
+turned_falls : (xs : List Pair) → Every (λ x. IsKey x.key) xs → IsClimbing xs → IsStrictlySortedBy falling_order (keys_of (in_order_taken xs))
 unfolding IsStrictlySortedBy
 turned_falls [] a f = tt
 turned_falls (x ∷ xs) a f =
-    subst (IsStrictlySortedBy falling_order) (sym (keys_push (turned xs) x.key x.value))
-    (sorted_push falling_order (keys_of (turned xs)) x.key (turned_falls xs a.1 f.1) (above_turned x.key xs a.0 a.1 f.0))
+    subst (IsStrictlySortedBy falling_order) (sym (keys_push (in_order_taken xs) x.key x.value))
+    (sorted_push falling_order (keys_of (in_order_taken xs)) x.key (turned_falls xs a.1 f.1) (above_turned x.key xs a.0 a.1 f.0))
 
-listed_turned : (k : Key) (xs : List Pair) → IsKeyListed k xs → Contains (keys_of (turned xs)) k
+listed_turned : (k : Key) (xs : List Pair) → IsKeyListed k xs → Contains (keys_of (in_order_taken xs)) k
 listed_turned k [] a = absurd a
-listed_turned k (x ∷ xs) (inl e) = rw (keys_push (turned xs) x.key x.value, e) (Contains-push (keys_of (turned xs)) x.key)
-listed_turned k (x ∷ xs) (inr a) = rw (keys_push (turned xs) x.key x.value) (Contains-append_left (keys_of (turned xs)) (x.key ∷ []) k (listed_turned k xs a))
+listed_turned k (x ∷ xs) (inl e) = rw (keys_push (in_order_taken xs) x.key x.value, e) (Contains-push (keys_of (in_order_taken xs)) x.key)
+listed_turned k (x ∷ xs) (inr a) = rw (keys_push (in_order_taken xs) x.key x.value) (Contains-append_left (keys_of (in_order_taken xs)) (x.key ∷ []) k (listed_turned k xs a))
 
 not_greater : (o : Ordering) → o ≢ Greater → is_le o ≡ true
 not_greater Less n = refl
@@ -176,10 +176,10 @@ at_most_trans a b c (inr h) (inl e) = inr (subst (IsBefore a) e h)
 at_most_trans a b c (inr h) (inr g) = inr (before_trans a b c h g)
 
 -- A key up to that of the last pair is up to that of the newest.
-up_to_newest : (k : Key) (xs : List Pair) → IsKey k → Every (λ x. IsKey x.key) xs → IsFalling xs → IsUpToLast (turned xs) k → IsUpTo k xs
+up_to_newest : (k : Key) (xs : List Pair) → IsKey k → Every (λ x. IsKey x.key) xs → IsFalling xs → IsUpToLast (in_order_taken xs) k → IsUpTo k xs
 up_to_newest k [] i a f (n, e, lt, at, h) = absurd (omega arith)
 up_to_newest k (x ∷ xs) i a f (n, e, lt, at, h) =
-    let y = All-contains (λ z. IsKey z.0 × IsAtMost z.0 x.key) (turned (x ∷ xs)) e
+    let y = All-contains (λ z. IsKey z.0 × IsAtMost z.0 x.key) (in_order_taken (x ∷ xs)) e
     (all_turned (λ z. IsKey z.0 × IsAtMost z.0 x.key) (x ∷ xs) ((a.0, inl refl), every_both xs a.1 f.0)) (n, lt, at) in
     at_most_trans k e.0 x.key (le_at_most k e.0 i y.0 (not_greater (key_order k e.0) h)) y.1
   where
@@ -193,10 +193,10 @@ not_less Equal n = refl
 not_less Greater n = refl
 
 -- A key down to that of the last pair is down to that of the newest.
-down_to_newest : (k : Key) (xs : List Pair) → IsKey k → Every (λ x. IsKey x.key) xs → IsClimbing xs → IsDownToLast (turned xs) k → IsDownTo k xs
+down_to_newest : (k : Key) (xs : List Pair) → IsKey k → Every (λ x. IsKey x.key) xs → IsClimbing xs → IsDownToLast (in_order_taken xs) k → IsDownTo k xs
 down_to_newest k [] i a f (n, e, lt, at, h) = absurd (omega arith)
 down_to_newest k (x ∷ xs) i a f (n, e, lt, at, h) =
-    let y = All-contains (λ z. IsKey z.0 × IsAtMost x.key z.0) (turned (x ∷ xs)) e
+    let y = All-contains (λ z. IsKey z.0 × IsAtMost x.key z.0) (in_order_taken (x ∷ xs)) e
     (all_turned (λ z. IsKey z.0 × IsAtMost x.key z.0) (x ∷ xs) ((a.0, inl refl), every_both xs a.1 f.0)) (n, lt, at) in
     at_most_trans x.key e.0 k y.1 (not_lt_at_most e.0 k y.0 i (not_less (key_order k e.0) h))
   where
@@ -205,24 +205,24 @@ down_to_newest k (x ∷ xs) i a f (n, e, lt, at, h) =
     every_both (y ∷ ys) b c = ((b.0, inr c.0), every_both ys b.1 c.1)
 
 module _ (s : Past) (before rest : List Change) (m : ℕ) (steady : IsSteady s m) (told : TellChanges s (before ++ rest)) (g : Range) (kf : IsKey g.from) (ku : IsKey g.upto)
-    (xs : List Pair) (scan : Scan) (items : scan.pairs.items ≡ turned xs) where
+    (xs : List Pair) (scan : Scan) (items : scan.pairs.items ≡ in_order_taken xs) where
   are_keys : Every (λ x. IsHeldSince s (length before) x.key x.value) xs → Every (λ x. IsKey x.key) xs
   are_keys h = every_map (λ x. IsHeldSince s (length before) x.key x.value) (λ x. IsKey x.key) xs
       (λ x. held_key s before rest m steady told (length before) x.key x.value) h
 
-  all_within : Every (λ x. IsKey x.key) xs → Every (λ x. IsInRange g x.key) xs → All (λ e. IsTrue (is_within g.from g.upto e.0)) (turned xs)
+  all_within : Every (λ x. IsKey x.key) xs → Every (λ x. IsInRange g x.key) xs → All (λ e. IsTrue (is_within g.from g.upto e.0)) (in_order_taken xs)
   all_within a h = all_turned (λ e. IsTrue (is_within g.from g.upto e.0)) xs (go xs a h)
     where
       go : (ys : List Pair) → Every (λ y. IsKey y.key) ys → Every (λ y. IsInRange g y.key) ys → Every (λ y. IsTrue (is_within g.from g.upto y.key)) ys
       go [] b c = tt
       go (y ∷ ys) b c = (within g kf ku y.key b.0 c.0, go ys b.1 c.1)
 
-  all_held : Every (λ x. IsHeldSince s (length before) x.key x.value) xs → All (λ e. IsHeldBetween before (before ++ rest) e.0 e.1) (turned xs)
+  all_held : Every (λ x. IsHeldSince s (length before) x.key x.value) xs → All (λ e. IsHeldBetween before (before ++ rest) e.0 e.1) (in_order_taken xs)
   all_held h = all_turned (λ e. IsHeldBetween before (before ++ rest) e.0 e.1) xs
       (every_map (λ x. IsHeldSince s (length before) x.key x.value) (λ x. IsHeldBetween before (before ++ rest) x.key x.value) xs
       (λ x. held_between s before rest m steady told x.key x.value) h)
 
-  -- A key of the range that was there all along was held at each moment.
+  -- A key of the range that was there all along was held in each version.
   kept_key : (k : Key) → IsKeptBetween before (before ++ rest) k → IsKey k
   kept_key k h =
       let c = told.count in
@@ -236,7 +236,7 @@ module _ (s : Past) (before rest : List Change) (m : ℕ) (steady : IsSteady s m
     begins = (rest, refl);
     ordered = subst (λ (z : Map). IsStrictlySortedBy key_order (keys_of z)) (sym items) (turned_rises xs (are_keys w.held) w.ordered);
     within = subst (All (λ e. IsTrue (is_within g.from g.upto e.0))) (sym items) (all_within (are_keys w.held) w.within);
-    short = subst (λ (z : Map). length z ≤ g.limit) (sym items) (let e = length_turned xs in let l = w.short in omega arith);
+    short = subst (λ (z : Map). length z ≤ g.limit) (sym items) (let e = length_in_order_taken xs in let l = w.short in omega arith);
     held = subst (All (λ e. IsHeldBetween before (before ++ rest) e.0 e.1)) (sym items) (all_held w.held);
     whole = λ e k h o. subst (λ (z : Map). Contains (keys_of z) k) (sym items)
         (listed_turned k xs (w.covered k (front_kept s before rest m steady told k o) (in_range g kf ku k (kept_key k o) h)));
@@ -251,14 +251,14 @@ module _ (s : Past) (before rest : List Change) (m : ℕ) (steady : IsSteady s m
     begins = (rest, refl);
     ordered = subst (λ (z : Map). IsStrictlySortedBy key_order (keys_of z)) (sym items) (turned_rises xs (are_keys w.held) w.ordered);
     within = subst (All (λ e. IsTrue (is_within g.from g.upto e.0))) (sym items) (all_within (are_keys w.held) w.within);
-    short = subst (λ (z : Map). length z ≤ g.limit) (sym items) (let e = length_turned xs in let l = w.full in omega arith);
+    short = subst (λ (z : Map). length z ≤ g.limit) (sym items) (let e = length_in_order_taken xs in let l = w.full in omega arith);
     held = subst (All (λ e. IsHeldBetween before (before ++ rest) e.0 e.1)) (sym items) (all_held w.held);
     whole = λ e. absurd (false≢true (sym e ∙ goes_on));
     part = λ e k h o u. subst (λ (z : Map). Contains (keys_of z) k) (sym items)
         (listed_turned k xs
         (w.covered k (front_kept s before rest m steady told k o) (in_range g kf ku k (kept_key k o) h)
         (up_to_newest k xs (kept_key k o) (are_keys w.held) w.ordered (subst (λ (z : Map). IsUpToLast z k) items u))));
-    full = λ e. subst (λ (z : Map). length z ≡ g.limit) (sym items) (length_turned xs ∙ w.full);
+    full = λ e. subst (λ (z : Map). length z ≡ g.limit) (sym items) (length_in_order_taken xs ∙ w.full);
     further = λ e. more;
   }
     where
@@ -283,7 +283,7 @@ module _ (s : Past) (before rest : List Change) (m : ℕ) (steady : IsSteady s m
     begins = (rest, refl);
     ordered = subst (λ (z : Map). IsStrictlySortedBy falling_order (keys_of z)) (sym items) (turned_falls xs (are_keys w.held) w.ordered);
     within = subst (All (λ e. IsTrue (is_within g.from g.upto e.0))) (sym items) (all_within (are_keys w.held) w.within);
-    short = subst (λ (z : Map). length z ≤ g.limit) (sym items) (let e = length_turned xs in let l = w.short in omega arith);
+    short = subst (λ (z : Map). length z ≤ g.limit) (sym items) (let e = length_in_order_taken xs in let l = w.short in omega arith);
     held = subst (All (λ e. IsHeldBetween before (before ++ rest) e.0 e.1)) (sym items) (all_held w.held);
     whole = λ e k h o. subst (λ (z : Map). Contains (keys_of z) k) (sym items)
         (listed_turned k xs (w.covered k (front_kept s before rest m steady told k o) (in_range g kf ku k (kept_key k o) h)));
@@ -298,14 +298,14 @@ module _ (s : Past) (before rest : List Change) (m : ℕ) (steady : IsSteady s m
     begins = (rest, refl);
     ordered = subst (λ (z : Map). IsStrictlySortedBy falling_order (keys_of z)) (sym items) (turned_falls xs (are_keys w.held) w.ordered);
     within = subst (All (λ e. IsTrue (is_within g.from g.upto e.0))) (sym items) (all_within (are_keys w.held) w.within);
-    short = subst (λ (z : Map). length z ≤ g.limit) (sym items) (let e = length_turned xs in let l = w.full in omega arith);
+    short = subst (λ (z : Map). length z ≤ g.limit) (sym items) (let e = length_in_order_taken xs in let l = w.full in omega arith);
     held = subst (All (λ e. IsHeldBetween before (before ++ rest) e.0 e.1)) (sym items) (all_held w.held);
     whole = λ e. absurd (false≢true (sym e ∙ goes_on));
     part = λ e k h o u. subst (λ (z : Map). Contains (keys_of z) k) (sym items)
         (listed_turned k xs
         (w.covered k (front_kept s before rest m steady told k o) (in_range g kf ku k (kept_key k o) h)
         (down_to_newest k xs (kept_key k o) (are_keys w.held) w.ordered (subst (λ (z : Map). IsDownToLast z k) items u))));
-    full = λ e. subst (λ (z : Map). length z ≡ g.limit) (sym items) (length_turned xs ∙ w.full);
+    full = λ e. subst (λ (z : Map). length z ≡ g.limit) (sym items) (length_in_order_taken xs ∙ w.full);
     further = λ e. more;
   }
     where

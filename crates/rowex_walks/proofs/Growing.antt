@@ -2,25 +2,25 @@
 use Rattle.std.proofs.Common.{◌≡◌, ◌⊎◌, inl, inr, ℕ, refl, ap, ap₂, ◌∙◌, Some}
 use Rattle.tries.specs.Keys.{Key, bit}
 use Rattle.tries.specs.Tree.{Fixed, Tree, node, fork, Has, IsTrie, IsBuilt, Within, here, inside}
-use Rattle.moments.specs.Heap.{IsShown}
-use Rattle.moments.specs.State.{Links, IsLawfulState}
-use Rattle.moments.specs.declared.Rec.{Rec}
-use Rattle.moments.specs.declared.Rec.TheVariants.{Node as a_node}
-use Rattle.moments.specs.Core.{Ready, BareCore, view}
+use Rattle.versions.specs.Heap.{IsShown}
+use Rattle.versions.specs.State.{Links, IsLawfulState}
+use Rattle.versions.specs.declared.Rec.{Rec}
+use Rattle.versions.specs.declared.Rec.TheVariants.{Node as a_node}
+use Rattle.versions.specs.Core.{Ready, BareCore, view}
 use Rattle.tries.specs.Content.{Item}
-use Rattle.tries.proofs.Changes.{put, IsPathBelow, IsFlat}
+use Rattle.tries.proofs.Changes.{put, IsPathBelow, IsInOwnSubtrie}
 use Rattle.rowex_walks.specs.Writer.{IsNewLeaf, IsFoundBelow}
 use Rattle.tries.specs.Affected.{affected, IsPart}
 use Rattle.tries.proofs.Tries.{trie_within, built_within, within_trans}
-use Rattle.moments.proofs.Heaps.{shown_within}
-use Rattle.tries.proofs.Places.{grown, bare}
-use Rattle.tries.proofs.Adding.{added_put, added_bare, added_here}
+use Rattle.versions.proofs.Heaps.{shown_within}
+use Rattle.tries.proofs.Places.{grown, without_marks}
+use Rattle.tries.proofs.Adding.{added_in_whole, added_without_marks, added_here}
 use Rattle.rowex_walks.proofs.Now.{built_now, shown_now, trie_now}
 use Rattle.rowex_walks.proofs.Hands.{hand_stay, hand_around, hand_open, hand_put, hand_grown, added_around, added_open}
 use Rattle.rowex_walks.proofs.Insertions.{found_added, found_away, hand_leaf_in, with_leaf}
 use Rattle.rowex_walks.proofs.AtHand.{IsNewNode, IsHalf, one, many, IsGrowth}
 
-half_bare : (c : BareCore) (q : ℕ) (r s : Tree) → IsHalf c q r s → bare s ≡ bare r
+half_bare : (c : BareCore) (q : ℕ) (r s : Tree) → IsHalf c q r s → without_marks s ≡ without_marks r
 half_bare c q r s (one i) = refl
 half_bare c q r s (many m g new) = refl
 
@@ -62,7 +62,7 @@ module _ (c : BareCore) (q : ℕ) (x : Item) (p : ℕ) where
       comes = comes;
       goes = goes;
     };
-    adds = added_bare s (fork f a b) (fork f d e) x p (ap₂ (fork f) (half_bare c q d a u) (half_bare c q e b v)) z.adds;
+    adds = added_without_marks s (fork f a b) (fork f d e) x p (ap₂ (fork f) (half_bare c q d a u) (half_bare c q e b v)) z.adds;
   }
     where
       comes : (i : Rec) → Links a i ⊎ Links b i → Links s i ⊎ (c.fate i ≡ Ready q)
@@ -76,12 +76,12 @@ module _ (c : BareCore) (q : ℕ) (x : Item) (p : ℕ) where
       goes : (n : ℕ) → Links s (a_node n) → (Links a (a_node n) ⊎ Links b (a_node n)) ⊎ (c.lock n ≡ Some q)
       goes n h = elim (z.hand.goes n h) [ inl y ↦ inl (linked (a_node n) y) | inr y ↦ inr y ]
 
-  -- In the page above: a pull up, where the new tree is a fork; else one entry in another's place.
-  pub growth_put : {s t : Tree} (w : Within s t) → IsFlat w → (r : Tree) → IsTrie t → IsBuilt t → IsShown c.heap t → IsPathBelow p w →
+  -- In the subtrie above: a pull up, where the new tree is a fork; else one entry in another's place.
+  pub growth_put : {s t : Tree} (w : Within s t) → IsInOwnSubtrie w → (r : Tree) → IsTrie t → IsBuilt t → IsShown c.heap t → IsPathBelow p w →
       IsGrowth c q x p s r → IsGrowth c q x p t (put w r)
-  growth_put w f r i b s path a = record { hand = hand_put c q w f r b s a.hand; adds = added_put w r x p i path a.adds }
+  growth_put w f r i b s path a = record { hand = hand_put c q w f r b s a.hand; adds = added_in_whole w r x p i path a.adds }
 
-module _ (c : BareCore) (q : ℕ) (law : IsLawfulState (view c)) (t : Tree) (now : c.past.moment c.past.now ≡ Some t) (since : ℕ) (x : Item) (p : ℕ) (l : Key)
+module _ (c : BareCore) (q : ℕ) (law : IsLawfulState (view c)) (t : Tree) (now : c.past.version c.past.now ≡ Some t) (since : ℕ) (x : Item) (p : ℕ) (l : Key)
     (new : IsNewLeaf c q x) where
   -- The start: the lowest locked node's body with the new leaf.
   pub growth_leaf : {n : ℕ} {y : Fixed} {b : Tree} → Within (node n y b) t → IsFoundBelow c q since x p l n → IsPart (affected p x.key b) →
@@ -100,7 +100,7 @@ module _ (c : BareCore) (q : ℕ) (law : IsLawfulState (view c)) (t : Tree) (now
   }
 
   -- What the next node's body becomes.
-  pub pulled : {o n : ℕ} {z y : Fixed} {d b : Tree} → Within (node o z d) t → (u : Within (node n y b) d) → IsFlat u → IsPathBelow p u → (r : Tree) →
+  pub pulled : {o n : ℕ} {z y : Fixed} {d b : Tree} → Within (node o z d) t → (u : Within (node n y b) d) → IsInOwnSubtrie u → IsPathBelow p u → (r : Tree) →
       IsGrowth c q x p (node n y b) r → IsGrowth c q x p d (put u r)
   pulled v u flat path r a =
       let i = within_trans (inside here) v in

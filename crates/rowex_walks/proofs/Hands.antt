@@ -2,17 +2,17 @@
 use Rattle.std.proofs.Common.{◌≡◌, ◌⊎◌, inl, inr, ℕ, Bool, true, false, ap, ◌∙◌, Some}
 use Rattle.tries.specs.Keys.{Key}
 use Rattle.tries.specs.Tree.{Fixed, Tree, leaf, node, IsBuilt, Within}
-use Rattle.moments.specs.Heap.{IsShown}
-use Rattle.moments.specs.State.{Links}
-use Rattle.moments.specs.declared.Rec.{Rec}
-use Rattle.moments.specs.declared.Rec.TheVariants.{Node as a_node, Leaf as a_leaf}
-use Rattle.moments.specs.Core.{Ready, BareCore}
+use Rattle.versions.specs.Heap.{IsShown}
+use Rattle.versions.specs.State.{Links}
+use Rattle.versions.specs.declared.Rec.{Rec}
+use Rattle.versions.specs.declared.Rec.TheVariants.{Node as a_node, Leaf as a_leaf}
+use Rattle.versions.specs.Core.{Ready, BareCore}
 use Rattle.tries.specs.Content.{Item}
 use Rattle.tries.specs.Changes.{IsAdded}
-use Rattle.tries.proofs.Changes.{put, IsFlat}
+use Rattle.tries.proofs.Changes.{put, IsInOwnSubtrie}
 use Rattle.tries.proofs.Places.{grown}
-use Rattle.tries.proofs.Puts.{built_flat}
-use Rattle.rowex_walks.proofs.Replaced.{links_put, put_links, links_new, links_old, shown_flat}
+use Rattle.tries.proofs.Puts.{built_in_own_subtrie}
+use Rattle.rowex_walks.proofs.Replaced.{linked_after_put, linked_before_put, links_new, links_old, shown_in_own_subtrie}
 use Rattle.rowex_walks.proofs.AtHand.{IsAtHand, IsNewNode}
 
 leaf_node : {n m : ℕ} → a_node n ≡ a_leaf m → ⊥
@@ -52,16 +52,16 @@ module _ (c : BareCore) (q : ℕ) where
       goes o (inl e) = inr (ap c.lock (node_number e) ∙ l)
       goes o (inr z) = h.goes o z
 
-  -- a change at one place of a page
-  pub hand_put : {s t : Tree} (w : Within s t) → IsFlat w → (r : Tree) → IsBuilt t → IsShown c.heap t → IsAtHand c q s r → IsAtHand c q t (put w r)
+  -- a change at one place of a subtrie
+  pub hand_put : {s t : Tree} (w : Within s t) → IsInOwnSubtrie w → (r : Tree) → IsBuilt t → IsShown c.heap t → IsAtHand c q s r → IsAtHand c q t (put w r)
   hand_put w f r b i h = record {
-    built = built_flat w f r b h.built;
-    shown = shown_flat c.heap w f r i h.shown;
-    comes = λ i z. elim (links_put w r i z) [
+    built = built_in_own_subtrie w f r b h.built;
+    shown = shown_in_own_subtrie c.heap w f r i h.shown;
+    comes = λ i z. elim (linked_after_put w r i z) [
       | inl y ↦ inl y
       | inr y ↦ elim (h.comes i y) [ inl e ↦ inl (links_old w i e) | inr e ↦ inr e ]
     ];
-    goes = λ n z. elim (put_links w r (a_node n) z) [
+    goes = λ n z. elim (linked_before_put w r (a_node n) z) [
       | inl y ↦ inl y
       | inr y ↦ elim (h.goes n y) [ inl e ↦ inl (links_new w r (a_node n) e) | inr e ↦ inr e ]
     ];

@@ -4,27 +4,27 @@ use Rattle.tries.specs.Keys.{Key}
 use Rattle.compound_node.specs.declared.entries.Entry.{Entry}
 use Rattle.compound_node.specs.declared.entries.Entry.TheVariants.{Leaf, Node}
 use Rattle.pieces.specs.Piece.{Place}
-use Rattle.tries.specs.Tree.{Fixed, Tree, leaf, node, fork, page, IsTrie, IsTip, Within, here}
+use Rattle.tries.specs.Tree.{Fixed, Tree, leaf, node, fork, subtrie, IsTrie, IsTip, Within, here}
 use Rattle.tries.specs.Search.{child, seek}
-use Rattle.tries.specs.Place.{with_page}
-use Rattle.tries.specs.Affected.{affected, page_affected, IsLowerPage, IsFirstBelow, IsTipPage}
+use Rattle.tries.specs.Place.{with_subtrie}
+use Rattle.tries.specs.Affected.{affected, subtrie_affected, IsLowerSubtrie, FirstForkIsBefore, IsTipSubtrie}
 use Rattle.tries.proofs.Changes.{put, IsPathBelow}
-use Rattle.tries.proofs.Tries.{built_within, page_child}
-use Rattle.tries.proofs.Affected.{affected_page, lower_page}
+use Rattle.tries.proofs.Tries.{built_within, subtrie_child}
+use Rattle.tries.proofs.Affected.{affected_subtrie, lower_subtrie}
 use Rattle.tries.proofs.Fitting.{lower_positive}
-use Rattle.tries.proofs.Spots.{page_spot, with_page_entry}
+use Rattle.tries.proofs.Spots.{subtrie_spot, with_subtrie_entry}
 use Rattle.finite_map.specs.declared.Change.{Change}
-use Rattle.moments.specs.Heap.{Heap}
-use Rattle.moments.proofs.Heaps.{shown_within}
-use Rattle.moments.specs.State.{IsLawfulState}
-use Rattle.moments.specs.Core.{BareCore, view}
-use Rattle.moments.specs.declared.Rec.{Rec}
-use Rattle.moments.specs.declared.Rec.TheVariants.{Leaf as a_leaf}
-use Rattle.moments.specs.Steps.{IsMomentPublish}
-use Rattle.moments.specs.Told.{IsChange}
-use Rattle.moments.specs.Trades.{IsOf}
-use Rattle.rowex_walks.specs.Writer.{IsPageStored}
-use Rattle.rowex_walks.specs.Spots.{IsLockedNode, HoldsSpot, by_anchor, by_node, IsLowAt, page_below, IsAloneAt, IsStoredAt}
+use Rattle.versions.specs.Heap.{Heap}
+use Rattle.versions.proofs.Heaps.{shown_within}
+use Rattle.versions.specs.State.{IsLawfulState}
+use Rattle.versions.specs.Core.{BareCore, view}
+use Rattle.versions.specs.declared.Rec.{Rec}
+use Rattle.versions.specs.declared.Rec.TheVariants.{Leaf as a_leaf}
+use Rattle.versions.specs.Steps.{IsVersionPublish}
+use Rattle.versions.specs.Told.{IsChange}
+use Rattle.versions.specs.Trades.{IsOneOf}
+use Rattle.rowex_walks.specs.Writer.{IsSubtrieStored}
+use Rattle.rowex_walks.specs.Spots.{IsLockedNode, HoldsSpot, by_anchor, by_node, IsLowAt, subtrie_below, AffectsSpotAloneInCore, IsStoredAt}
 use Rattle.rowex_walks.specs.Statements.{IsPublished}
 use Rattle.rowex_walks.proofs.AtHand.{IsAtHand}
 use Rattle.rowex_walks.proofs.Paths.{in_body, put_in_body, path_in_body, path_above}
@@ -32,45 +32,45 @@ use Rattle.rowex_walks.proofs.Differing.{published}
 use Rattle.rowex_walks.proofs.Now.{built_now, shown_now, trie_now}
 use Rattle.rowex_walks.proofs.Replaced.{slot_legal, root_legal}
 use Rattle.rowex_walks.proofs.Scans.{node_of}
-use Rattle.rowex_walks.proofs.Standing.{stands_now, root_page, leaf_of, now_standing, now_rooted}
-use Rattle.rowex_walks.proofs.Trading.{IsTrade, traded_put}
+use Rattle.rowex_walks.proofs.Standing.{stands_now, root_subtrie, leaf_of, newest_tree_if_node, newest_tree_if_rooted}
+use Rattle.rowex_walks.proofs.Trading.{IsTrade, traded_in_whole}
 
-pub is_tip : (u : Tree) → IsTipPage (page u) → IsTip u
+pub is_tip : (u : Tree) → IsTipSubtrie (subtrie u) → IsTip u
 is_tip (leaf n k v) i = tt
 is_tip (node n k v) i = tt
 is_tip (fork n k v) i = i
 
 -- The tree of the present
-pub now_held : (c : BareCore) (q : ℕ) → IsLawfulState (view c) → {k : Key} {d : Entry} → HoldsSpot c q k d → (t : Tree) × (c.past.moment c.past.now ≡ Some t)
-now_held c q law {d = d} (by_anchor lock root) = now_rooted c law d root
-now_held c q law (by_node o locked names) = now_standing c law o locked.linked locked.fate
+pub newest_tree_if_spot_held : (c : BareCore) (q : ℕ) → IsLawfulState (view c) → {k : Key} {d : Entry} → HoldsSpot c q k d → (t : Tree) × (c.past.version c.past.now ≡ Some t)
+newest_tree_if_spot_held c q law {d = d} (by_anchor lock root) = newest_tree_if_rooted c law d root
+newest_tree_if_spot_held c q law (by_node o locked names) = newest_tree_if_node c law o locked.linked locked.fate
 
-module _ (c : BareCore) (q : ℕ) (law : IsLawfulState (view c)) (t : Tree) (now : c.past.moment c.past.now ≡ Some t) where
+module _ (c : BareCore) (q : ℕ) (law : IsLawfulState (view c)) (t : Tree) (now : c.past.version c.past.now ≡ Some t) where
   -- The tree `u` stands at the spot. Where an insertion affects it alone, the forks above are before `p`. Another tree in its place is a
   -- legal publish, if that makes a bit trie, and tells the change that it makes.
   pub record StandsAt (k : Key) (d : Entry) (s : HoldsSpot c q k d) (u : Tree) : Type 0 where
     pub place : Within u t
-    pub shows : page u ≡ Place d
-    pub path : (p : ℕ) → (IsFirstBelow p (page_below c.heap d) → IsPathBelow p place) → IsAloneAt s p → IsPathBelow p place
-    pub legal : (r : Tree) (e : Entry) → page r ≡ Place e → IsLowAt s e → IsAtHand c q u r → IsTrie (put place r) → (ch : Change) → ch.pass ≡ q →
-        IsChange (Some t) ch (Some (put place r)) → (heap : Heap) (top : Option Entry) → IsStoredAt s heap top e → IsMomentPublish c q heap top (Some (put place r)) ch
+    pub shows : subtrie u ≡ Place d
+    pub path : (p : ℕ) → (FirstForkIsBefore p (subtrie_below c.heap d) → IsPathBelow p place) → AffectsSpotAloneInCore s p → IsPathBelow p place
+    pub legal : (r : Tree) (e : Entry) → subtrie r ≡ Place e → IsLowAt s e → IsAtHand c q u r → IsTrie (put place r) → (ch : Change) → ch.pass ≡ q →
+        IsChange (Some t) ch (Some (put place r)) → (heap : Heap) (top : Option Entry) → IsStoredAt s heap top e → IsVersionPublish c q heap top (Some (put place r)) ch
 
   at_top : (k : Key) (d : Entry) (lock : c.anchor ≡ Some q) (root : c.root ≡ Some d) → StandsAt k d (by_anchor lock root) t
   at_top k d lock root = record {
     place = here;
-    shows = root_page c law t now d root;
+    shows = root_subtrie c law t now d root;
     path = λ p f one. tt;
     legal = λ r e pg low hand trie ch pass one heap top st.
-        subst (λ z. IsMomentPublish c q z top (Some r) ch) (sym st.0) (subst (λ z. IsMomentPublish c q c.heap z (Some r) ch) (sym st.1) (root_legal c q law t now r e pg lock hand trie ch pass one));
+        subst (λ z. IsVersionPublish c q z top (Some r) ch) (sym st.0) (subst (λ z. IsVersionPublish c q c.heap z (Some r) ch) (sym st.1) (root_legal c q law t now r e pg lock hand trie ch pass one));
   }
 
-  below_top : (k : Key) (d : Entry) (o : ℕ) (locked : IsLockedNode c q o) (names : seek k (c.heap.nodes o).page ≡ d) → (u : Tree) × StandsAt k d (by_node o locked names) u
+  below_top : (k : Key) (d : Entry) (o : ℕ) (locked : IsLockedNode c q o) (names : seek k (c.heap.nodes o).subtrie ≡ d) → (u : Tree) × StandsAt k d (by_node o locked names) u
   below_top k d o locked names =
       let x : Fixed = (c.heap.nodes o).fixed in
       let (b, v, pg) = stands_now c law t now o locked.linked locked.fate in
-      let (w, flat, pages, alone) = page_spot k b in
-      let shows : page (child k b) ≡ Place d = page_child k b ∙ ap Place (ap (seek k) pg ∙ names) in
-      let tip : IsTip (child k b) = is_tip (child k b) (subst IsTipPage (sym shows) tt) in
+      let (w, flat, subtries, alone) = subtrie_spot k b in
+      let shows : subtrie (child k b) ≡ Place d = subtrie_child k b ∙ ap Place (ap (seek k) pg ∙ names) in
+      let tip : IsTip (child k b) = is_tip (child k b) (subst IsTipSubtrie (sym shows) tt) in
       let same : (r : Tree) → put (in_body v w) r ≡ put v (node o x (put w r)) = put_in_body v w in
       let on : (p : ℕ) → IsPathBelow p w → IsPathBelow p (in_body v w) = λ p h.
       path_in_body p v w (path_above p v w tip (built_within v (built_now c law t now)).0 (trie_now c law t now) h) h in (
@@ -80,14 +80,14 @@ module _ (c : BareCore) (q : ℕ) (law : IsLawfulState (view c)) (t : Tree) (now
           shows = shows;
           path = λ p f one. elim one [
             | inl h ↦ f h
-            | inr h ↦ on p (alone p (is_tip (affected p k b) (subst IsTipPage (ap (page_affected p k) (sym pg) ∙ sym (affected_page p k b)) h)))
+            | inr h ↦ on p (alone p (is_tip (affected p k b) (subst IsTipSubtrie (ap (subtrie_affected p k) (sym pg) ∙ sym (affected_subtrie p k b)) h)))
           ];
           legal = λ r e z low hand trie ch pass one heap top st.
-              let stored : IsPageStored c.heap heap o (page (put w r)) =
-              subst (IsPageStored c.heap heap o)
-              (sym (with_page_entry k e (c.heap.nodes o).page) ∙ (ap (with_page k (Place e)) (sym pg) ∙ (ap (λ y. with_page k y (page b)) (sym z) ∙ sym (pages r)))) st.0 in
-              subst (λ y. IsMomentPublish c q heap top (Some y) ch) (sym (same r)) (subst (λ y. IsMomentPublish c q heap y (Some (put v (node o x (put w r)))) ch) (sym st.1)
-              (slot_legal c q law t now v w flat tip r (is_tip r (subst IsTipPage (sym z) tt)) locked.lock hand (lower_page x.height r (subst (IsLowerPage x.height) (sym z) low))
+              let stored : IsSubtrieStored c.heap heap o (subtrie (put w r)) =
+              subst (IsSubtrieStored c.heap heap o)
+              (sym (with_subtrie_entry k e (c.heap.nodes o).subtrie) ∙ (ap (with_subtrie k (Place e)) (sym pg) ∙ (ap (λ y. with_subtrie k y (subtrie b)) (sym z) ∙ sym (subtries r)))) st.0 in
+              subst (λ y. IsVersionPublish c q heap top (Some y) ch) (sym (same r)) (subst (λ y. IsVersionPublish c q heap y (Some (put v (node o x (put w r)))) ch) (sym st.1)
+              (slot_legal c q law t now v w flat tip r (is_tip r (subst IsTipSubtrie (sym z) tt)) locked.lock hand (lower_subtrie x.height r (subst (IsLowerSubtrie x.height) (sym z) low))
               (subst IsTrie (same r) trie) heap stored ch pass (subst (λ y. IsChange (Some t) ch (Some y)) (same r) one)));
         },
       )
@@ -116,9 +116,9 @@ module _ (c : BareCore) (q : ℕ) (law : IsLawfulState (view c)) (t : Tree) (now
       lower_positive (c.heap.nodes o).fixed.height b (built_within v (built_now c law t now)).1
 
   -- The publish, with what it trades.
-  pub published_at : (k : Key) (d : Entry) (s : HoldsSpot c q k d) (u : Tree) (at : StandsAt k d s u) (r : Tree) (e : Entry) → page r ≡ Place e → IsLowAt s e → IsAtHand c q u r →
-      (n : ℕ) (new gone : List Rec) → IsTrade c q u r new gone → IsOf (a_leaf n) new ⊎ IsOf (a_leaf n) gone → IsTrie (put at.place r) →
+  pub published_at : (k : Key) (d : Entry) (s : HoldsSpot c q k d) (u : Tree) (at : StandsAt k d s u) (r : Tree) (e : Entry) → subtrie r ≡ Place e → IsLowAt s e → IsAtHand c q u r →
+      (n : ℕ) (new gone : List Rec) → IsTrade c q u r new gone → IsOneOf (a_leaf n) new ⊎ IsOneOf (a_leaf n) gone → IsTrie (put at.place r) →
       (ch : Change) → ch.pass ≡ q → IsChange (Some t) ch (Some (put at.place r)) → (heap : Heap) (top : Option Entry) → IsStoredAt s heap top e → IsPublished c q heap top ch new gone
   published_at k d s u at r e pg low hand n new gone tr one trie ch pass told heap top st =
       published c q law t now heap top ch (put at.place r) n new gone (at.legal r e pg low hand trie ch pass told heap top st)
-      (record { trade = traded_put c.heap at.place r new gone (trie_now c law t now) (built_now c law t now) (shown_now c law t now) tr.trade; ready = tr.ready; apart = tr.apart }) one
+      (record { trade = traded_in_whole c.heap at.place r new gone (trie_now c law t now) (built_now c law t now) (shown_now c law t now) tr.trade; ready = tr.ready; apart = tr.apart }) one

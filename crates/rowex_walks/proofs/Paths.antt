@@ -32,7 +32,7 @@ path_rises_node {q = q} (zero_side {p = f} {a = c} {b = d} w) i h =
 path_rises_node {q = q} (one_side {p = f} {a = c} {b = d} w) i h =
     let z : f < q = rises true (within_trans (inside here) w) i.1 (λ k l x y. i.2 k l (inr x) (inr y)) i.4 in (omega arith, path_rises_node w i.1 h)
 
--- Where the place in a node's page is below forks before `p`, the node is.
+-- Where the place in a node's subtrie is below forks before `p`, the node is.
 pub path_above : (p : ℕ) {n : ℕ} {x : Fixed} {b s t : Tree} (v : Within (node n x b) t) (w : Within s b) → IsTip s → IsFork b → IsTrie t → IsPathBelow p w → IsPathBelow p v
 path_above p {b = leaf m k u} v w i f j h = elim f [ ]
 path_above p {b = node m k u} v w i f j h = elim f [ ]

@@ -3,14 +3,14 @@ use Rattle.std.proofs.Common.{◌⊎◌, inl, inr, ℕ, List, [], ◌∷◌, sym
 use Rattle.tries.specs.Keys.{Key}
 use Rattle.compound_node.specs.declared.entries.Entry.{Entry}
 use Rattle.compound_node.specs.declared.entries.Entry.TheVariants.{Node}
-use Rattle.tries.specs.Tree.{Page, Tree}
-use Rattle.moments.specs.State.{Past, IsHeldSince, IsKeptSince}
-use Rattle.moments.specs.declared.Rec.{Rec}
-use Rattle.moments.specs.declared.Rec.TheVariants.{Node as a_node, Leaf as a_leaf}
-use Rattle.moments.specs.Frames.{IsGrown}
-use Rattle.rowex_walks.specs.Scan.{Stood, IsRooted, IsPlaced, IsShaped, IsRead, MayStandAt, IsOn, Frame, IsStack, IsPassed, IsRight, IsAhead, Pair, IsKeyListed, Range, IsScan}
+use Rattle.tries.specs.Tree.{Subtrie, Tree}
+use Rattle.versions.specs.State.{Past, IsHeldSince, IsKeptSince}
+use Rattle.versions.specs.declared.Rec.{Rec}
+use Rattle.versions.specs.declared.Rec.TheVariants.{Node as a_node, Leaf as a_leaf}
+use Rattle.versions.specs.Frames.{IsGrown}
+use Rattle.rowex_walks.specs.Scan.{Stood, IsRooted, IsPlaced, IsShaped, IsRead, MayStandAt, HadKeyBelow, Frame, IsStack, MayStandLeftOfOne, WasRightOfOne, IsAhead, Pair, IsKeyListed, Range, IsScan}
 use Rattle.rowex_walks.proofs.Walk.{every_map}
-use Rattle.moments.proofs.Growth.{stands_grown}
+use Rattle.versions.proofs.Growth.{stands_grown}
 
 stood_on : (a b : Past) → IsGrown a b → (m r : ℕ) (t : Tree) → Stood a m r t → Stood b m r t
 stood_on a b g m r t st = record {
@@ -21,64 +21,64 @@ stood_on a b g m r t st = record {
   stands = stands_grown a b g st.at (a_node r) _ st.until st.stands;
 }
 
-pub rooted_on : (a b : Past) → IsGrown a b → (m : ℕ) (e : Entry) → IsRooted a m e → IsRooted b m e
-rooted_on a b g m e (n, t, lo, hi, q, p) = (n, t, lo, le_trans hi g.longer, g.kept n hi ∙ q, p)
+pub rooted_grown : (a b : Past) → IsGrown a b → (m : ℕ) (e : Entry) → IsRooted a m e → IsRooted b m e
+rooted_grown a b g m e (n, t, lo, hi, q, p) = (n, t, lo, le_trans hi g.longer, g.kept n hi ∙ q, p)
 
-pub placed_on : (a b : Past) → IsGrown a b → (m r j : ℕ) (e : Entry) → IsPlaced a m r j e → IsPlaced b m r j e
-placed_on a b g m r j e (t, st, lt, p) = (t, stood_on a b g m r t st, lt, p)
+pub placed_grown : (a b : Past) → IsGrown a b → (m r j : ℕ) (e : Entry) → IsPlaced a m r j e → IsPlaced b m r j e
+placed_grown a b g m r j e (t, st, lt, p) = (t, stood_on a b g m r t st, lt, p)
 
-pub shaped_on : (a b : Past) → IsGrown a b → (m r : ℕ) (p : Page) → IsShaped a m r p → IsShaped b m r p
-shaped_on a b g m r p (t, st, e) = (t, stood_on a b g m r t st, e)
+pub shaped_grown : (a b : Past) → IsGrown a b → (m r : ℕ) (p : Subtrie) → IsShaped a m r p → IsShaped b m r p
+shaped_grown a b g m r p (t, st, e) = (t, stood_on a b g m r t st, e)
 
-pub read_on : (a b : Past) → IsGrown a b → (m r : ℕ) (k : Key) (v : ℕ) → IsRead a m r k v → IsRead b m r k v
-read_on a b g m r k v (n, lo, hi, st) = (n, lo, le_trans hi g.longer, stands_grown a b g n (a_leaf r) _ hi st)
+pub read_grown : (a b : Past) → IsGrown a b → (m r : ℕ) (k : Key) (v : ℕ) → IsRead a m r k v → IsRead b m r k v
+read_grown a b g m r k v (n, lo, hi, st) = (n, lo, le_trans hi g.longer, stands_grown a b g n (a_leaf r) _ hi st)
 
-pub fit_on : (a b : Past) → IsGrown a b → (m r i : ℕ) (y : Key) → MayStandAt a m r i y → MayStandAt b m r i y
-fit_on a b g m r i y (t, k, st, u, f) = (t, k, stood_on a b g m r t st, u, f)
+pub may_stand_grown : (a b : Past) → IsGrown a b → (m r i : ℕ) (y : Key) → MayStandAt a m r i y → MayStandAt b m r i y
+may_stand_grown a b g m r i y (t, k, st, u, f) = (t, k, stood_on a b g m r t st, u, f)
 
-pub on_on : (a b : Past) → IsGrown a b → (m : ℕ) (k : Key) (r : Rec) → IsOn a m k r → IsOn b m k r
-on_on a b g m k r (n, u, lo, hi, st, h) = (n, u, lo, le_trans hi g.longer, stands_grown a b g n r u hi st, h)
+pub had_key_grown : (a b : Past) → IsGrown a b → (m : ℕ) (k : Key) (r : Rec) → HadKeyBelow a m k r → HadKeyBelow b m k r
+had_key_grown a b g m k r (n, u, lo, hi, st, h) = (n, u, lo, le_trans hi g.longer, stands_grown a b g n r u hi st, h)
 
-pub stack_on : (a b : Past) → IsGrown a b → (m : ℕ) (fs : List Frame) → IsStack a m fs → IsStack b m fs
-stack_on a b g m [] h = h
-stack_on a b g m (f ∷ []) h = (rooted_on a b g m (Node f.number f.height) h.0, shaped_on a b g m f.number f.shape h.1)
-stack_on a b g m (f ∷ e ∷ fs) h = (
-  placed_on a b g m e.number e.place (Node f.number f.height) h.0,
-  shaped_on a b g m f.number f.shape h.1,
-  stack_on a b g m (e ∷ fs) h.2,
+pub stack_grown : (a b : Past) → IsGrown a b → (m : ℕ) (fs : List Frame) → IsStack a m fs → IsStack b m fs
+stack_grown a b g m [] h = h
+stack_grown a b g m (f ∷ []) h = (rooted_grown a b g m (Node f.number f.height) h.0, shaped_grown a b g m f.number f.shape h.1)
+stack_grown a b g m (f ∷ e ∷ fs) h = (
+  placed_grown a b g m e.number e.place (Node f.number f.height) h.0,
+  shaped_grown a b g m f.number f.shape h.1,
+  stack_grown a b g m (e ∷ fs) h.2,
 )
 
-passed_on : (a b : Past) → IsGrown a b → (m : ℕ) (k : Key) (fs : List Frame) → IsPassed a m k fs → IsPassed b m k fs
+passed_on : (a b : Past) → IsGrown a b → (m : ℕ) (k : Key) (fs : List Frame) → MayStandLeftOfOne a m k fs → MayStandLeftOfOne b m k fs
 passed_on a b g m k [] h = h
-passed_on a b g m k (f ∷ fs) (inl (j, lt, x)) = inl (j, lt, fit_on a b g m f.number j k x)
+passed_on a b g m k (f ∷ fs) (inl (j, lt, x)) = inl (j, lt, may_stand_grown a b g m f.number j k x)
 passed_on a b g m k (f ∷ fs) (inr x) = inr (passed_on a b g m k fs x)
 
-right_on : (a b : Past) → IsGrown a b → (m : ℕ) (k : Key) (fs : List Frame) → IsRight a m k fs → IsRight b m k fs
+right_on : (a b : Past) → IsGrown a b → (m : ℕ) (k : Key) (fs : List Frame) → WasRightOfOne a m k fs → WasRightOfOne b m k fs
 right_on a b g m k [] h = h
-right_on a b g m k (f ∷ fs) (inl (x, lt)) = inl (on_on a b g m k (a_node f.number) x, lt)
+right_on a b g m k (f ∷ fs) (inl (x, lt)) = inl (had_key_grown a b g m k (a_node f.number) x, lt)
 right_on a b g m k (f ∷ fs) (inr x) = inr (right_on a b g m k fs x)
 
 ahead_on : (a b : Past) → IsGrown a b → (m : ℕ) (k : Key) (fs : List Frame) → IsAhead a m k fs → IsAhead b m k fs
 ahead_on a b g m k [] h = h
-ahead_on a b g m k (f ∷ fs) (inl (x, lt)) = inl (on_on a b g m k (a_node f.number) x, lt)
+ahead_on a b g m k (f ∷ fs) (inl (x, lt)) = inl (had_key_grown a b g m k (a_node f.number) x, lt)
 ahead_on a b g m k (f ∷ fs) (inr x) = inr (right_on a b g m k fs x)
 
-pub kept_back : (a b : Past) → IsGrown a b → (m : ℕ) (k : Key) → IsKeptSince b m k → IsKeptSince a m k
-kept_back a b g m k h n lo hi = let o = h n lo (le_trans hi g.longer) in (o.0, sym (g.kept n hi) ∙ o.1, o.2)
+pub kept_before_growth : (a b : Past) → IsGrown a b → (m : ℕ) (k : Key) → IsKeptSince b m k → IsKeptSince a m k
+kept_before_growth a b g m k h n lo hi = let o = h n lo (le_trans hi g.longer) in (o.0, sym (g.kept n hi) ∙ o.1, o.2)
 
-pub held_on : (a b : Past) → IsGrown a b → (m : ℕ) (k : Key) (v : ℕ) → IsHeldSince a m k v → IsHeldSince b m k v
-held_on a b g m k v (n, t, lo, hi, e, h) = (n, t, lo, le_trans hi g.longer, g.kept n hi ∙ e, h)
+pub held_grown : (a b : Past) → IsGrown a b → (m : ℕ) (k : Key) (v : ℕ) → IsHeldSince a m k v → IsHeldSince b m k v
+held_grown a b g m k v (n, t, lo, hi, e, h) = (n, t, lo, le_trans hi g.longer, g.kept n hi ∙ e, h)
 
 -- The scan's invariant is stable.
-pub scan_on : (a b : Past) → IsGrown a b → (m : ℕ) (x : Range) (fs : List Frame) (xs : List Pair) → IsScan a m x fs xs → IsScan b m x fs xs
-scan_on a b g m x fs xs w = record {
-  stack = stack_on a b g m fs w.stack;
+pub up_scan_grown : (a b : Past) → IsGrown a b → (m : ℕ) (x : Range) (fs : List Frame) (xs : List Pair) → IsScan a m x fs xs → IsScan b m x fs xs
+up_scan_grown a b g m x fs xs w = record {
+  stack = stack_grown a b g m fs w.stack;
   ordered = w.ordered;
   within = w.within;
-  held = every_map (λ y. IsHeldSince a m y.key y.value) (λ y. IsHeldSince b m y.key y.value) xs (λ y h. held_on a b g m y.key y.value h) w.held;
-  passed = every_map (λ y. IsPassed a m y.key fs) (λ y. IsPassed b m y.key fs) xs (λ y h. passed_on a b g m y.key fs h) w.passed;
+  held = every_map (λ y. IsHeldSince a m y.key y.value) (λ y. IsHeldSince b m y.key y.value) xs (λ y h. held_grown a b g m y.key y.value h) w.held;
+  passed = every_map (λ y. MayStandLeftOfOne a m y.key fs) (λ y. MayStandLeftOfOne b m y.key fs) xs (λ y h. passed_on a b g m y.key fs h) w.passed;
   short = w.short;
-  covered = λ k kept r. go k (w.covered k (kept_back a b g m k kept) r);
+  covered = λ k kept r. go k (w.covered k (kept_before_growth a b g m k kept) r);
 }
   where
     go : (k : Key) → IsKeyListed k xs ⊎ IsAhead a m k fs → IsKeyListed k xs ⊎ IsAhead b m k fs

@@ -5,17 +5,17 @@ use Rattle.tries.specs.Tree.{Tree, leaf, node, fork, Has, Holds, Within, here, i
 use Rattle.compound_node.specs.declared.entries.Entry.{Entry}
 use Rattle.compound_node.specs.declared.entries.Entry.TheVariants.{Leaf}
 use Rattle.tries.specs.Search.{Follows}
-use Rattle.moments.specs.Heap.{LeafWords, IsCopied}
-use Rattle.moments.specs.State.{IsRecord, Spans, last_of, State, Stands, IsSameRecord, IsTop, IsReach, IsLawfulState, IsMissed, IsLed, IsHeldSince}
-use Rattle.moments.specs.declared.Rec.{Rec}
-use Rattle.moments.specs.declared.Rec.TheVariants.{Leaf as a_leaf}
+use Rattle.versions.specs.Heap.{LeafWords, IsCopied}
+use Rattle.versions.specs.State.{IsRecord, Spans, last_of, State, Stands, IsSameRecord, IsTop, IsReach, IsLawfulState, WasAbsentSince, IsLed, IsHeldSince}
+use Rattle.versions.specs.declared.Rec.{Rec}
+use Rattle.versions.specs.declared.Rec.TheVariants.{Leaf as a_leaf}
 use Rattle.tries.proofs.Tries.{same_key}
-use Rattle.moments.proofs.States.{spans_last}
+use Rattle.versions.proofs.States.{spans_last}
 
--- What a record that stood at a moment of its life says of the words as they are now.
-pub now_same : (s : State) → IsLawfulState s → (r : Rec) (n : ℕ) (u : Tree) → Spans s.now (s.life r) n → Stands s.past n r u →
+-- What a record that stood in a version of its life says of the words as they are now.
+pub same_record_now : (s : State) → IsLawfulState s → (r : Rec) (n : ℕ) (u : Tree) → Spans s.now (s.life r) n → Stands s.past n r u →
     (v : Tree) × Stands s.past (last_of s.now (s.life r)) r v × IsSameRecord u v × IsCopied s.heap v
-now_same s law r n u h st =
+same_record_now s law r n u h st =
     let g = spans_last s.now (s.life r) n (law.lived r) h in
     let v = law.alive r (last_of s.now (s.life r)) g in
     (v.0, v.1, law.same r n u v.0 h st v.1, law.frozen r v.0 g v.1)
@@ -27,7 +27,7 @@ leaf_number e = cc
 pub leaf_now : (s : State) → IsLawfulState s → (m : ℕ) → IsReach s m → (n o a : ℕ) (k : Key) (w : ℕ) → m ≤ n → n ≤ s.now →
     Stands s.past n (a_leaf o) (leaf a k w) → s.heap.leaves o ≡ record { key = k; value = w }
 leaf_now s law m reach n o a k w lo hi st =
-    let v = now_same s law (a_leaf o) n (leaf a k w) (reach n lo hi (a_leaf o) (leaf a k w) st) st in
+    let v = same_record_now s law (a_leaf o) n (leaf a k w) (reach n lo hi (a_leaf o) (leaf a k w) st) st in
     go v.0 v.1.is_record v.2 v.3
   where
     go : (v : Tree) → IsRecord (a_leaf o) v → IsSameRecord (leaf a k w) v → IsCopied s.heap v → s.heap.leaves o ≡ record { key = k; value = w }
@@ -35,8 +35,8 @@ leaf_now s law m reach n o a k w lo hi st =
     go (fork c y d) i e f = elim e [ ]
     go (leaf c l y) i e f = ap s.heap.leaves (leaf_number i) ∙ (f ∙ sym (ap₂ (λ a b. let z : LeafWords = record { key = a; value = b } in z) e.0 e.1))
 
-pub begin_empty : (s : State) → IsLawfulState s → (m : ℕ) → m ≤ s.now → (k : Key) → s.root ≡ None → IsMissed s.past m k
-begin_empty s law m lo k h = (s.now, lo, le_refl s.now, go s.root (s.moment s.now) h law.top)
+pub begin_empty : (s : State) → IsLawfulState s → (m : ℕ) → m ≤ s.now → (k : Key) → s.root ≡ None → WasAbsentSince s.past m k
+begin_empty s law m lo k h = (s.now, lo, le_refl s.now, go s.root (s.version s.now) h law.top)
   where
     go : (r : Option Entry) (f : Option Tree) → r ≡ None → IsTop s.heap r f → (t : Tree) → f ≡ Some t → Has t k → ⊥
     go None None h i t e x = absurd cc
@@ -52,14 +52,14 @@ holds_within (one_side w) k v h = inr (holds_within w k v h)
 
 -- At a leaf the key was held with the leaf's value, or it was absent.
 pub end : (s : State) → IsLawfulState s → (m : ℕ) → IsReach s m → (k : Key) (n : ℕ) → IsLed s.past m k (Leaf n) →
-    ((k ≡ (s.heap.leaves n).key) × IsHeldSince s.past m k (s.heap.leaves n).value) ⊎ ((k ≢ (s.heap.leaves n).key) × IsMissed s.past m k)
+    ((k ≡ (s.heap.leaves n).key) × IsHeldSince s.past m k (s.heap.leaves n).value) ⊎ ((k ≢ (s.heap.leaves n).key) × WasAbsentSince s.past m k)
 end s law m reach k n (o, node a x b, lo, hi, st, e, f) = absurd cc
 end s law m reach k n (o, fork a x b, lo, hi, st, e, f) = absurd cc
 end s law m reach k n (o, leaf a l w, lo, hi, st, e, f) =
-    subst (λ (z : LeafWords). ((k ≡ z.key) × IsHeldSince s.past m k z.value) ⊎ ((k ≢ z.key) × IsMissed s.past m k))
+    subst (λ (z : LeafWords). ((k ≡ z.key) × IsHeldSince s.past m k z.value) ⊎ ((k ≢ z.key) × WasAbsentSince s.past m k))
     (sym (leaf_now s law m reach o n a l w lo hi st)) (go (same_key k l) f)
   where
-    go : Dec (k ≡ l) → (Follows k (leaf a l w) ⊎ IsMissed s.past m k) → ((k ≡ l) × IsHeldSince s.past m k w) ⊎ ((k ≢ l) × IsMissed s.past m k)
-    go (yes y) f = inl (y, (o, st.tree, lo, hi, st.is_moment, holds_within st.within k w (y, refl)))
+    go : Dec (k ≡ l) → (Follows k (leaf a l w) ⊎ WasAbsentSince s.past m k) → ((k ≡ l) × IsHeldSince s.past m k w) ⊎ ((k ≢ l) × WasAbsentSince s.past m k)
+    go (yes y) f = inl (y, (o, st.tree, lo, hi, st.is_version, holds_within st.within k w (y, refl)))
     go (no y) (inl z) = absurd (y z)
     go (no y) (inr z) = inr (y, z)

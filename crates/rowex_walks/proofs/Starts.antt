@@ -4,19 +4,19 @@ use Rattle.std.proofs.lemmas.Bool.{cases_lt, ltb-true, ltb-false}
 use Rattle.pieces.proofs.Paths.{size_pos}
 use Rattle.pieces.specs.Piece.{Place, Fork, size}
 use Rattle.compound_node.specs.declared.entries.Entry.TheVariants.{Node}
-use Rattle.tries.specs.Affected.{page_affected}
+use Rattle.tries.specs.Affected.{subtrie_affected}
 use Rattle.tries.specs.Keys.{Key, bit, AgreeBelow, IsParted, IsBefore, IsAtMost}
 use Rattle.tries.specs.Place.{spot, shape}
 use Rattle.tries.specs.Search.{Kin, tips, forks, IsUnder}
-use Rattle.tries.specs.Tree.{Page, Tree, leaf, node, fork, page, IsTrie, IsTip}
+use Rattle.tries.specs.Tree.{Subtrie, Tree, leaf, node, fork, subtrie, IsTrie, IsTip}
 use Rattle.tries.proofs.Places.{spot_below, spot_shape, shape_tips}
 use Rattle.tries.proofs.Tries.{has_under, under_below, kin_tips}
-use Rattle.moments.specs.Frames.{IsGrown}
-use Rattle.moments.specs.State.{Past, IsKeptSince, IsSteady}
-use Rattle.moments.specs.declared.Rec.TheVariants.{Node as a_node}
-use Rattle.rowex_walks.specs.Scan.{IsAlike, IsPlaced, IsShaped, MayStandAt, IsOn, IsOver, Frame, IsStack, IsRight, Range, IsInRange, IsScan}
-use Rattle.rowex_walks.proofs.Persist.{fit_on, placed_on, shaped_on}
-use Rattle.rowex_walks.proofs.Scans.{fit_order, fit_down, on_fit, on_down, on_root, never_before, shaped, stood_kin, stood_trie}
+use Rattle.versions.specs.Frames.{IsGrown}
+use Rattle.versions.specs.State.{Past, IsKeptSince, IsSteady}
+use Rattle.versions.specs.declared.Rec.TheVariants.{Node as a_node}
+use Rattle.rowex_walks.specs.Scan.{AgreeUpToPlace, IsPlaced, IsShaped, MayStandAt, HadKeyBelow, KeysFromAreAbove, Frame, IsStack, WasRightOfOne, Range, IsInRange, IsScan}
+use Rattle.rowex_walks.proofs.Persist.{may_stand_grown, placed_grown, shaped_grown}
+use Rattle.rowex_walks.proofs.Scans.{may_stand_in_order, may_stand_at_child_place, had_key_may_stand, child_had_key, root_had_key, never_before, shaped, stood_kin, stood_trie}
 use Rattle.rowex_walks.proofs.Walk.{stack_shape}
 
 -- The key may stand at the place of each frame.
@@ -24,37 +24,37 @@ abbrev pub AreAt : Past → ℕ → Key → List Frame → Type 0
 AreAt s m k [] = Unit {0}
 AreAt s m k (f ∷ fs) = MayStandAt s m f.number f.place k × AreAt s m k fs
 
--- The first place of the part of a page that an insertion of the key with first mismatch `p` affects.
-abbrev pub affected_from : ℕ → Key → Page → ℕ
+-- The first place of the part of a subtrie that an insertion of the key with first mismatch `p` affects.
+abbrev pub affected_from : ℕ → Key → Subtrie → ℕ
 affected_from p k (Place e) = 0
 affected_from p k (Fork q x y) = if ltb q p then (if bit k q then size x + affected_from p k y else affected_from p k x) else 0
 
--- The place from which on a page has the keys above this one, where a key that differs from it first at `p` was found in it: before
+-- The place from which on a subtrie has the keys above this one, where a key that differs from it first at `p` was found in it: before
 -- the affected part, or behind it.
-abbrev pub start_place : ℕ → Key → Page → ℕ
-start_place p k x = if bit k p then affected_from p k x + size (page_affected p k x) else affected_from p k x
+abbrev pub start_place : ℕ → Key → Subtrie → ℕ
+start_place p k x = if bit k p then affected_from p k x + size (subtrie_affected p k x) else affected_from p k x
 
--- ---- the affected part of a page, by the key
-part_fits : (d : ℕ) (v : Key) (x : Page) → affected_from d v x + size (page_affected d v x) ≤ size x
+-- ---- the affected part of a subtrie, by the key
+part_fits : (d : ℕ) (v : Key) (x : Subtrie) → affected_from d v x + size (subtrie_affected d v x) ≤ size x
 part_fits d v (Place e) = omega arith
 part_fits d v (Fork q x y) = go (ltb q d) (bit v q) (part_fits d v x) (part_fits d v y)
   where
-    go : (u o : Bool) → affected_from d v x + size (page_affected d v x) ≤ size x → affected_from d v y + size (page_affected d v y) ≤ size y →
+    go : (u o : Bool) → affected_from d v x + size (subtrie_affected d v x) ≤ size x → affected_from d v y + size (subtrie_affected d v y) ≤ size y →
         (if u then (if o then size x + affected_from d v y else affected_from d v x) else 0) +
-        size (if u then (if o then page_affected d v y else page_affected d v x) else Fork q x y) ≤ size x + size y
+        size (if u then (if o then subtrie_affected d v y else subtrie_affected d v x) else Fork q x y) ≤ size x + size y
     go true true e f = omega (arith, e, f)
     go true false e f = omega (arith, e, f)
     go false o e f = omega arith
 
-pub start_fits : (d : ℕ) (v : Key) (x : Page) → start_place d v x ≤ size x
+pub start_fits : (d : ℕ) (v : Key) (x : Subtrie) → start_place d v x ≤ size x
 start_fits d v x = go (bit v d) (part_fits d v x)
   where
-    go : (u : Bool) → affected_from d v x + size (page_affected d v x) ≤ size x → (if u then affected_from d v x + size (page_affected d v x) else affected_from d v x) ≤ size x
+    go : (u : Bool) → affected_from d v x + size (subtrie_affected d v x) ≤ size x → (if u then affected_from d v x + size (subtrie_affected d v x) else affected_from d v x) ≤ size x
     go true h = h
     go false h = omega (arith, h)
 
 -- it depends on the forks alone
-from_shape : (d : ℕ) (v : Key) (x : Page) → affected_from d v (shape x) ≡ affected_from d v x
+from_shape : (d : ℕ) (v : Key) (x : Subtrie) → affected_from d v (shape x) ≡ affected_from d v x
 from_shape d v (Place e) = refl
 from_shape d v (Fork q x y) = go (ltb q d) (bit v q) (from_shape d v x) (from_shape d v y)
   where
@@ -64,13 +64,13 @@ from_shape d v (Fork q x y) = go (ltb q d) (bit v q) (from_shape d v x) (from_sh
     go true false e f = e
     go false o e f = refl
 
-count_shape : (d : ℕ) (v : Key) (x : Page) → size (page_affected d v (shape x)) ≡ size (page_affected d v x)
+count_shape : (d : ℕ) (v : Key) (x : Subtrie) → size (subtrie_affected d v (shape x)) ≡ size (subtrie_affected d v x)
 count_shape d v (Place e) = refl
 count_shape d v (Fork q x y) = go (ltb q d) (bit v q) (count_shape d v x) (count_shape d v y)
   where
-    go : (u o : Bool) → size (page_affected d v (shape x)) ≡ size (page_affected d v x) → size (page_affected d v (shape y)) ≡ size (page_affected d v y) →
-        size (if u then (if o then page_affected d v (shape y) else page_affected d v (shape x)) else Fork q (shape x) (shape y)) ≡
-        size (if u then (if o then page_affected d v y else page_affected d v x) else Fork q x y)
+    go : (u o : Bool) → size (subtrie_affected d v (shape x)) ≡ size (subtrie_affected d v x) → size (subtrie_affected d v (shape y)) ≡ size (subtrie_affected d v y) →
+        size (if u then (if o then subtrie_affected d v (shape y) else subtrie_affected d v (shape x)) else Fork q (shape x) (shape y)) ≡
+        size (if u then (if o then subtrie_affected d v y else subtrie_affected d v x) else Fork q x y)
     go true true e f = f
     go true false e f = e
     go false o e f = let t = shape_tips x in let r = shape_tips y in omega (arith, t, r)
@@ -88,20 +88,20 @@ beside_shift d y z f n j m (inr (inl (le, q, low, parted))) = inr (inl (omega (a
 beside_shift d y z f n j m (inr (inr (le, lt, among))) = inr (inr (omega (arith, le), omega (arith, lt), among))
 
 -- the two sides of a fork, by keys that stand there
-bit_zero : (q : ℕ) (a b : Tree) (i : ℕ) (k : Key) → IsTrie (fork q a b) → i < size (page a) → IsUnder (fork q a b) i k → bit k q ≡ false
+bit_zero : (q : ℕ) (a b : Tree) (i : ℕ) (k : Key) → IsTrie (fork q a b) → i < size (subtrie a) → IsUnder (fork q a b) i k → bit k q ≡ false
 bit_zero q a b i k t lt (inl u) = t.3 k (has_under a i k u)
 bit_zero q a b i k t lt (inr (j, e, u)) = absurd (omega (arith, e, lt))
 
-bit_one : (q : ℕ) (a b : Tree) (i j : ℕ) (k : Key) → i ≡ size (page a) + j → IsTrie (fork q a b) → IsUnder (fork q a b) i k → bit k q ≡ true
+bit_one : (q : ℕ) (a b : Tree) (i j : ℕ) (k : Key) → i ≡ size (subtrie a) + j → IsTrie (fork q a b) → IsUnder (fork q a b) i k → bit k q ≡ true
 bit_one q a b i j k e t (inl u) = absurd (let h = under_below a i k u in omega (arith, e, h))
 bit_one q a b i j k e t (inr (o, g, u)) = t.4 k (has_under b o k u)
 
-under_zero : (q : ℕ) (a b : Tree) (i : ℕ) (k : Key) → i < size (page a) → IsUnder (fork q a b) i k → IsUnder a i k
+under_zero : (q : ℕ) (a b : Tree) (i : ℕ) (k : Key) → i < size (subtrie a) → IsUnder (fork q a b) i k → IsUnder a i k
 under_zero q a b i k lt (inl u) = u
 under_zero q a b i k lt (inr (j, e, u)) = absurd (omega (arith, e, lt))
 
-under_one : (q : ℕ) (a b : Tree) (j : ℕ) (k : Key) → IsUnder (fork q a b) (size (page a) + j) k → IsUnder b j k
-under_one q a b j k (inl u) = absurd (let h = under_below a (size (page a) + j) k u in omega (arith, h))
+under_one : (q : ℕ) (a b : Tree) (j : ℕ) (k : Key) → IsUnder (fork q a b) (size (subtrie a) + j) k → IsUnder b j k
+under_one q a b j k (inl u) = absurd (let h = under_below a (size (subtrie a) + j) k u in omega (arith, h))
 under_one q a b j k (inr (o, e, u)) = subst (λ i. IsUnder b i k) (let g : o ≡ j = omega (arith, e) in g) u
 
 tip_place : (e : Tree) (j : ℕ) (l : Key) → IsTip e → IsUnder e j l → j ≡ 0
@@ -110,8 +110,8 @@ tip_place (node n x b) j l t u = u.0
 tip_place (fork q a b) j l t u = elim t [ ]
 
 abbrev PartsIn : (d : ℕ) (v k l y z : Key) → Tree → Tree → ℕ → Type 0
-PartsIn d v k l y z b e j = IsUnder b (spot v (page b)) k → IsAlike (page b) (spot v (page b)) k y → IsUnder e j l → IsAlike (page e) j l z →
-    IsBeside d y z (affected_from d v (page b)) (size (page_affected d v (page b))) j
+PartsIn d v k l y z b e j = IsUnder b (spot v (subtrie b)) k → AgreeUpToPlace (subtrie b) (spot v (subtrie b)) k y → IsUnder e j l → AgreeUpToPlace (subtrie e) j l z →
+    IsBeside d y z (affected_from d v (subtrie b)) (size (subtrie_affected d v (subtrie b))) j
 
 -- Of a key y at the place of v's search, in a body, and z at any place of a body that is kin: v differs from y at d.
 beside : {b e : Tree} → Kin b e → IsTrie b → IsTrie e → (d j : ℕ) (v k l y z : Key) → (bit v d ≡ bit y d → ⊥) → PartsIn d v k l y z b e j
@@ -121,12 +121,12 @@ beside (tips {a = node n h o} {b = e} x y) r s d j v k l u w ne at f there g = l
 beside (forks {p = q} {a = a} {b = b} {c = c} {d = e} agree kin_zero kin_one) r s d j v k l y z ne at f there g =
     go (λ i. beside kin_zero r.0 s.0 d i v k l y z ne) (λ i. beside kin_one r.1 s.1 d i v k l y z ne) (ltb q d) refl (bit v q) refl at f
   where
-    same : size (page a) ≡ size (page c)
+    same : size (subtrie a) ≡ size (subtrie c)
     same = kin_tips kin_zero
 
     -- before the fork they agree
     near : AgreeBelow q k l
-    near = agree k l (has_under (fork q a b) (spot v (page (fork q a b))) k at) (has_under (fork q c e) j l there)
+    near = agree k l (has_under (fork q a b) (spot v (subtrie (fork q a b))) k at) (has_under (fork q c e) j l there)
 
     near_key : AgreeBelow q y z
     near_key o lt = sym (f.0 o (omega (arith, lt))) ∙ (near o lt ∙ g.0 o (omega (arith, lt)))
@@ -140,59 +140,59 @@ beside (forks {p = q} {a = a} {b = b} {c = c} {d = e} agree kin_zero kin_one) r 
     back : AgreeBelow q z y
     back o lt = sym (near_key o lt)
 
-    j_below : j < size (page a) + size (page b)
+    j_below : j < size (subtrie a) + size (subtrie b)
     j_below = let h = under_below (fork q c e) j l there in let t = kin_tips kin_one in omega (arith, h, t, same)
 
-    whole : d ≤ q → bit y q ≡ bit v q → IsBeside d y z 0 (size (page a) + size (page b)) j
+    whole : d ≤ q → bit y q ≡ bit v q → IsBeside d y z 0 (size (subtrie a) + size (subtrie b)) j
     whole le e = inr (inr (omega arith, omega (arith, j_below), inr (λ o lt. near_key o (let h : d < q = ⊎_elim (λ x. x) (λ x. absurd (ne (subst (λ n. bit v n ≡ bit y n) (let w : q ≡ d = omega (arith, le, x) in w) (sym e)))) (cases_lt d q) in omega (arith, lt, h)))))
 
-    at_one : ((i : ℕ) → PartsIn d v k l y z b e i) → q < d → bit v q ≡ true → IsUnder (fork q a b) (size (page a) + spot v (page b)) k → IsAlike (Fork q (page a) (page b)) (size (page a) + spot v (page b)) k y →
-        IsUnder (fork q c e) j l → IsBeside d y z (size (page a) + affected_from d v (page b)) (size (page_affected d v (page b))) j
-    at_one on lt o u h (inl w) = inl (let low = under_below c j l w in omega (arith, low, same), q, lt, (back, z_bit false (s.3 l (has_under c j l w)), y_bit true (bit_one q a b (size (page a) + spot v (page b)) (spot v (page b)) k refl r u)))
+    at_one : ((i : ℕ) → PartsIn d v k l y z b e i) → q < d → bit v q ≡ true → IsUnder (fork q a b) (size (subtrie a) + spot v (subtrie b)) k → AgreeUpToPlace (Fork q (subtrie a) (subtrie b)) (size (subtrie a) + spot v (subtrie b)) k y →
+        IsUnder (fork q c e) j l → IsBeside d y z (size (subtrie a) + affected_from d v (subtrie b)) (size (subtrie_affected d v (subtrie b))) j
+    at_one on lt o u h (inl w) = inl (let low = under_below c j l w in omega (arith, low, same), q, lt, (back, z_bit false (s.3 l (has_under c j l w)), y_bit true (bit_one q a b (size (subtrie a) + spot v (subtrie b)) (spot v (subtrie b)) k refl r u)))
     at_one on lt o u h (inr (i, is, w)) =
-        let here : j ≡ size (page a) + i = omega (arith, is, same) in
-        let shift : size (page a) + spot v (page b) - size (page a) ≡ spot v (page b) = omega arith in
-        let down : j - size (page c) ≡ i = omega (arith, is) in
-        subst (IsBeside d y z (size (page a) + affected_from d v (page b)) (size (page_affected d v (page b)))) (sym here)
-        (beside_shift d y z (affected_from d v (page b)) (size (page_affected d v (page b))) i (size (page a))
-        (on i (under_one q a b (spot v (page b)) k u) (subst (λ n. IsAlike (page b) n k y) shift (h.2 (omega arith))) w (subst (λ n. IsAlike (page e) n l z) down (g.2 (omega (arith, is))))))
+        let here : j ≡ size (subtrie a) + i = omega (arith, is, same) in
+        let shift : size (subtrie a) + spot v (subtrie b) - size (subtrie a) ≡ spot v (subtrie b) = omega arith in
+        let down : j - size (subtrie c) ≡ i = omega (arith, is) in
+        subst (IsBeside d y z (size (subtrie a) + affected_from d v (subtrie b)) (size (subtrie_affected d v (subtrie b)))) (sym here)
+        (beside_shift d y z (affected_from d v (subtrie b)) (size (subtrie_affected d v (subtrie b))) i (size (subtrie a))
+        (on i (under_one q a b (spot v (subtrie b)) k u) (subst (λ n. AgreeUpToPlace (subtrie b) n k y) shift (h.2 (omega arith))) w (subst (λ n. AgreeUpToPlace (subtrie e) n l z) down (g.2 (omega (arith, is))))))
 
-    at_zero : ((i : ℕ) → PartsIn d v k l y z a c i) → q < d → bit v q ≡ false → IsUnder (fork q a b) (spot v (page a)) k → IsAlike (Fork q (page a) (page b)) (spot v (page a)) k y →
-        IsUnder (fork q c e) j l → IsBeside d y z (affected_from d v (page a)) (size (page_affected d v (page a))) j
+    at_zero : ((i : ℕ) → PartsIn d v k l y z a c i) → q < d → bit v q ≡ false → IsUnder (fork q a b) (spot v (subtrie a)) k → AgreeUpToPlace (Fork q (subtrie a) (subtrie b)) (spot v (subtrie a)) k y →
+        IsUnder (fork q c e) j l → IsBeside d y z (affected_from d v (subtrie a)) (size (subtrie_affected d v (subtrie a))) j
     at_zero on lt o u h (inl w) =
         let low = under_below c j l w in
-        on j (under_zero q a b (spot v (page a)) k (spot_below v (page a)) u) (h.1 (spot_below v (page a))) w (g.1 low)
+        on j (under_zero q a b (spot v (subtrie a)) k (spot_below v (subtrie a)) u) (h.1 (spot_below v (subtrie a))) w (g.1 low)
     at_zero on lt o u h (inr (i, is, w)) =
-        let fits = part_fits d v (page a) in
-        inr (inl (omega (arith, is, same, fits), q, lt, (near_key, y_bit false (bit_zero q a b (spot v (page a)) k r (spot_below v (page a)) u), z_bit true (s.4 l (has_under e i l w)))))
+        let fits = part_fits d v (subtrie a) in
+        inr (inl (omega (arith, is, same, fits), q, lt, (near_key, y_bit false (bit_zero q a b (spot v (subtrie a)) k r (spot_below v (subtrie a)) u), z_bit true (s.4 l (has_under e i l w)))))
 
-    go : ((i : ℕ) → PartsIn d v k l y z a c i) → ((i : ℕ) → PartsIn d v k l y z b e i) → (u : Bool) → ltb q d ≡ u → (o : Bool) → bit v q ≡ o → IsUnder (fork q a b) (if o then size (page a) + spot v (page b) else spot v (page a)) k →
-        IsAlike (Fork q (page a) (page b)) (if o then size (page a) + spot v (page b) else spot v (page a)) k y →
-        IsBeside d y z (if u then (if o then size (page a) + affected_from d v (page b) else affected_from d v (page a)) else 0)
-        (size (if u then (if o then page_affected d v (page b) else page_affected d v (page a)) else Fork q (page a) (page b))) j
+    go : ((i : ℕ) → PartsIn d v k l y z a c i) → ((i : ℕ) → PartsIn d v k l y z b e i) → (u : Bool) → ltb q d ≡ u → (o : Bool) → bit v q ≡ o → IsUnder (fork q a b) (if o then size (subtrie a) + spot v (subtrie b) else spot v (subtrie a)) k →
+        AgreeUpToPlace (Fork q (subtrie a) (subtrie b)) (if o then size (subtrie a) + spot v (subtrie b) else spot v (subtrie a)) k y →
+        IsBeside d y z (if u then (if o then size (subtrie a) + affected_from d v (subtrie b) else affected_from d v (subtrie a)) else 0)
+        (size (if u then (if o then subtrie_affected d v (subtrie b) else subtrie_affected d v (subtrie a)) else Fork q (subtrie a) (subtrie b))) j
     go zero one true lt true o u h = at_one one (ltb-true q d lt) o u h there
     go zero one true lt false o u h = at_zero zero (ltb-true q d lt) o u h there
-    go zero one false le true o u h = whole (ltb-false q d le) (y_bit true (bit_one q a b (size (page a) + spot v (page b)) (spot v (page b)) k refl r u) ∙ sym o)
-    go zero one false le false o u h = whole (ltb-false q d le) (y_bit false (bit_zero q a b (spot v (page a)) k r (spot_below v (page a)) u) ∙ sym o)
+    go zero one false le true o u h = whole (ltb-false q d le) (y_bit true (bit_one q a b (size (subtrie a) + spot v (subtrie b)) (spot v (subtrie b)) k refl r u) ∙ sym o)
+    go zero one false le false o u h = whole (ltb-false q d le) (y_bit false (bit_zero q a b (spot v (subtrie a)) k r (spot_below v (subtrie a)) u) ∙ sym o)
 
-abbrev IsSoleIn : (d : ℕ) (v k y : Key) → Page → Type 0
-IsSoleIn d v k y x = size (page_affected d v x) ≡ 1 → IsAlike x (spot v x) k y → IsAlike x (spot v x) k v
+abbrev IsSoleIn : (d : ℕ) (v k y : Key) → Subtrie → Type 0
+IsSoleIn d v k y x = size (subtrie_affected d v x) ≡ 1 → AgreeUpToPlace x (spot v x) k y → AgreeUpToPlace x (spot v x) k v
 
 -- Where one place alone is affected, all forks on the way to it are before d.
-sole_alike : (d : ℕ) (x : Page) (v k y : Key) → AgreeBelow d v y → IsSoleIn d v k y x
+sole_alike : (d : ℕ) (x : Subtrie) (v k y : Key) → AgreeBelow d v y → IsSoleIn d v k y x
 sole_alike d (Place e) v k y agree one f = tt
 sole_alike d (Fork q a b) v k y agree one f = go (sole_alike d a v k y agree) (sole_alike d b v k y agree) (ltb q d) refl (bit v q) one f
   where
     near : q < d → AgreeBelow (suc q) k y → AgreeBelow (suc q) k v
     near lt h o le = h o le ∙ sym (agree o (omega (arith, lt, le)))
 
-    go : IsSoleIn d v k y a → IsSoleIn d v k y b → (u : Bool) → ltb q d ≡ u → (o : Bool) → size (if u then (if o then page_affected d v b else page_affected d v a) else Fork q a b) ≡ 1 →
-        IsAlike (Fork q a b) (if o then size a + spot v b else spot v a) k y → IsAlike (Fork q a b) (if o then size a + spot v b else spot v a) k v
+    go : IsSoleIn d v k y a → IsSoleIn d v k y b → (u : Bool) → ltb q d ≡ u → (o : Bool) → size (if u then (if o then subtrie_affected d v b else subtrie_affected d v a) else Fork q a b) ≡ 1 →
+        AgreeUpToPlace (Fork q a b) (if o then size a + spot v b else spot v a) k y → AgreeUpToPlace (Fork q a b) (if o then size a + spot v b else spot v a) k v
     go zero one true lt true n h =
         let shift : size a + spot v b - size a ≡ spot v b = omega arith in (
           near (ltb-true q d lt) h.0,
           (λ low. absurd (omega (arith, low))),
-          (λ high. subst (λ m. IsAlike b m k v) (sym shift) (one n (subst (λ m. IsAlike b m k y) shift (h.2 high)))),
+          (λ high. subst (λ m. AgreeUpToPlace b m k v) (sym shift) (one n (subst (λ m. AgreeUpToPlace b m k y) shift (h.2 high)))),
         )
     go zero one true lt false n h = (
       near (ltb-true q d lt) h.0,
@@ -202,30 +202,30 @@ sole_alike d (Fork q a b) v k y agree one f = go (sole_alike d a v k y agree) (s
     go zero one false lt o n h = absurd (let l = size_pos a in let r = size_pos b in omega (arith, n, l, r))
 
 -- ---- of a record
-module _ (s : Past) (m : ℕ) (law : IsSteady s m) (r : ℕ) (p : Page) (sh : IsShaped s m r p) (v y : Key) (d : ℕ) (agree : AgreeBelow d v y) (fit : MayStandAt s m r (spot v p) y) where
+module _ (s : Past) (m : ℕ) (law : IsSteady s m) (r : ℕ) (p : Subtrie) (sh : IsShaped s m r p) (v y : Key) (d : ℕ) (agree : AgreeBelow d v y) (fit : MayStandAt s m r (spot v p) y) where
   -- The key v may stand where one place alone is affected.
-  pub fit_sole : size (page_affected d v p) ≡ 1 → MayStandAt s m r (spot v p) v
+  pub fit_sole : size (subtrie_affected d v p) ≡ 1 → MayStandAt s m r (spot v p) v
   fit_sole one = go fit
     where
       go : MayStandAt s m r (spot v p) y → MayStandAt s m r (spot v p) v
       go (b, k, st, u, f) =
-          let e : shape (page b) ≡ p = shaped s m law r p b sh st in
-          let at : spot v p ≡ spot v (page b) = ap (spot v) (sym e) ∙ spot_shape v (page b) in
-          let n : size (page_affected d v (page b)) ≡ 1 = sym (count_shape d v (page b)) ∙ (ap (λ x. size (page_affected d v x)) e ∙ one) in
-          (b, k, st, u, subst (λ i. IsAlike (page b) i k v) (sym at) (sole_alike d (page b) v k y agree n (subst (λ i. IsAlike (page b) i k y) at f)))
+          let e : shape (subtrie b) ≡ p = shaped s m law r p b sh st in
+          let at : spot v p ≡ spot v (subtrie b) = ap (spot v) (sym e) ∙ spot_shape v (subtrie b) in
+          let n : size (subtrie_affected d v (subtrie b)) ≡ 1 = sym (count_shape d v (subtrie b)) ∙ (ap (λ x. size (subtrie_affected d v x)) e ∙ one) in
+          (b, k, st, u, subst (λ i. AgreeUpToPlace (subtrie b) i k v) (sym at) (sole_alike d (subtrie b) v k y agree n (subst (λ i. AgreeUpToPlace (subtrie b) i k y) at f)))
 
   module _ (ne : bit v d ≡ bit y d → ⊥) where
-    stands_beside : (j : ℕ) (z : Key) → MayStandAt s m r j z → IsBeside d y z (affected_from d v p) (size (page_affected d v p)) j
+    stands_beside : (j : ℕ) (z : Key) → MayStandAt s m r j z → IsBeside d y z (affected_from d v p) (size (subtrie_affected d v p)) j
     stands_beside j z = go fit
       where
-        go : MayStandAt s m r (spot v p) y → MayStandAt s m r j z → IsBeside d y z (affected_from d v p) (size (page_affected d v p)) j
+        go : MayStandAt s m r (spot v p) y → MayStandAt s m r j z → IsBeside d y z (affected_from d v p) (size (subtrie_affected d v p)) j
         go (b, k, st, u, f) (c, l, su, w, g) =
-            let e : shape (page b) ≡ p = shaped s m law r p b sh st in
-            let at : spot v p ≡ spot v (page b) = ap (spot v) (sym e) ∙ spot_shape v (page b) in
-            let from : affected_from d v (page b) ≡ affected_from d v p = sym (from_shape d v (page b)) ∙ ap (affected_from d v) e in
-            let count : size (page_affected d v (page b)) ≡ size (page_affected d v p) = sym (count_shape d v (page b)) ∙ ap (λ x. size (page_affected d v x)) e in
-            subst (λ i. IsBeside d y z i (size (page_affected d v p)) j) from (subst (λ i. IsBeside d y z (affected_from d v (page b)) i j) count
-            (beside (stood_kin s m law r b c st su) (stood_trie s m law r b st) (stood_trie s m law r c su) d j v k l y z ne (subst (λ i. IsUnder b i k) at u) (subst (λ i. IsAlike (page b) i k y) at f) w g))
+            let e : shape (subtrie b) ≡ p = shaped s m law r p b sh st in
+            let at : spot v p ≡ spot v (subtrie b) = ap (spot v) (sym e) ∙ spot_shape v (subtrie b) in
+            let from : affected_from d v (subtrie b) ≡ affected_from d v p = sym (from_shape d v (subtrie b)) ∙ ap (affected_from d v) e in
+            let count : size (subtrie_affected d v (subtrie b)) ≡ size (subtrie_affected d v p) = sym (count_shape d v (subtrie b)) ∙ ap (λ x. size (subtrie_affected d v x)) e in
+            subst (λ i. IsBeside d y z i (size (subtrie_affected d v p)) j) from (subst (λ i. IsBeside d y z (affected_from d v (subtrie b)) i j) count
+            (beside (stood_kin s m law r b c st su) (stood_trie s m law r b st) (stood_trie s m law r c su) d j v k l y z ne (subst (λ i. IsUnder b i k) at u) (subst (λ i. AgreeUpToPlace (subtrie b) i k y) at f) w g))
 
     -- a fork before d parts v from z as it parts y from it
     before_left : (q : ℕ) (z : Key) → q < d → IsParted q z y → IsBefore z v
@@ -253,70 +253,70 @@ module _ (s : Past) (m : ℕ) (law : IsSteady s m) (r : ℕ) (p : Page) (sh : Is
     among_below z e f = (d, (λ o lt. sym (f o (omega (arith, lt))) ∙ sym (agree o lt), sym (f d (omega arith)) ∙ is_false (bit y d) (other true e), e))
 
     -- Left of the start place all keys are before v, and from there on after it.
-    pub sides : 2 ≤ size (page_affected d v p) → (j : ℕ) (z : Key) → MayStandAt s m r j z → (j < start_place d v p → IsBefore z v) × (start_place d v p ≤ j → IsBefore v z)
+    pub sides : 2 ≤ size (subtrie_affected d v p) → (j : ℕ) (z : Key) → MayStandAt s m r j z → (j < start_place d v p → IsBefore z v) × (start_place d v p ≤ j → IsBefore v z)
     sides two j z at = go (bit v d) refl (stands_beside j z at)
       where
         n : ℕ
-        n = size (page_affected d v p)
+        n = size (subtrie_affected d v p)
 
         several : (n ≡ 1) ⊎ AgreeBelow (suc d) y z → AgreeBelow (suc d) y z
         several (inl one) = absurd (omega (arith, one, two))
         several (inr f) = f
 
-        go : (u : Bool) → bit v d ≡ u → IsBeside d y z (affected_from d v p) (size (page_affected d v p)) j →
-            (j < (if u then affected_from d v p + size (page_affected d v p) else affected_from d v p) → IsBefore z v) ×
-            ((if u then affected_from d v p + size (page_affected d v p) else affected_from d v p) ≤ j → IsBefore v z)
+        go : (u : Bool) → bit v d ≡ u → IsBeside d y z (affected_from d v p) (size (subtrie_affected d v p)) j →
+            (j < (if u then affected_from d v p + size (subtrie_affected d v p) else affected_from d v p) → IsBefore z v) ×
+            ((if u then affected_from d v p + size (subtrie_affected d v p) else affected_from d v p) ≤ j → IsBefore v z)
         go u e (inl (lt, q, low, parted)) = (λ h. before_left q z low parted, λ h. absurd (below u h))
           where
-            below : (u : Bool) → (if u then affected_from d v p + size (page_affected d v p) else affected_from d v p) ≤ j → ⊥
+            below : (u : Bool) → (if u then affected_from d v p + size (subtrie_affected d v p) else affected_from d v p) ≤ j → ⊥
             below true h = omega (arith, h, lt)
             below false h = omega (arith, h, lt)
         go u e (inr (inl (le, q, low, parted))) = (λ h. absurd (above u h), λ h. before_right q z low parted)
           where
-            above : (u : Bool) → j < (if u then affected_from d v p + size (page_affected d v p) else affected_from d v p) → ⊥
+            above : (u : Bool) → j < (if u then affected_from d v p + size (subtrie_affected d v p) else affected_from d v p) → ⊥
             above true h = omega (arith, h, le)
             above false h = omega (arith, h, le)
         go true e (inr (inr (le, lt, f))) = (λ h. among_below z e (several f), λ h. absurd (omega (arith, h, lt)))
         go false e (inr (inr (le, lt, f))) = (λ h. absurd (omega (arith, h, le)), λ h. among_above z e (several f))
 
 -- So it is, and stays.
-pub sides_over : (s : Past) (m r : ℕ) (p : Page) → IsShaped s m r p → (v y : Key) (d : ℕ) → AgreeBelow d v y → MayStandAt s m r (spot v p) y → (bit v d ≡ bit y d → ⊥) →
-    2 ≤ size (page_affected d v p) → IsOver s m v r (start_place d v p)
-sides_over s m r p sh v y d agree fit ne two t g law j z le at = (sides t m law r p (shaped_on s t g m r p sh) v y d agree (fit_on s t g m r (spot v p) y fit) ne two j z at).1 le
+pub sides_over : (s : Past) (m r : ℕ) (p : Subtrie) → IsShaped s m r p → (v y : Key) (d : ℕ) → AgreeBelow d v y → MayStandAt s m r (spot v p) y → (bit v d ≡ bit y d → ⊥) →
+    2 ≤ size (subtrie_affected d v p) → KeysFromAreAbove s m v r (start_place d v p)
+sides_over s m r p sh v y d agree fit ne two t g law j z le at = (sides t m law r p (shaped_grown s t g m r p sh) v y d agree (may_stand_grown s t g m r (spot v p) y fit) ne two j z at).1 le
 
 -- Where the key itself may stand, those right of it are above.
-pub at_over : (s : Past) (m r i : ℕ) (v : Key) → MayStandAt s m r i v → IsOver s m v r (suc i)
-at_over s m r i v fit t g law j z le at = fit_order t m law r i j (omega (arith, le)) v z (fit_on s t g m r i v fit) at
+pub at_over : (s : Past) (m r i : ℕ) (v : Key) → MayStandAt s m r i v → KeysFromAreAbove s m v r (suc i)
+at_over s m r i v fit t g law j z le at = may_stand_in_order t m law r i j (omega (arith, le)) v z (may_stand_grown s t g m r i v fit) at
 
-pub over_on : (a b : Past) → IsGrown a b → (m r i : ℕ) (v : Key) → IsOver a m v r i → IsOver b m v r i
-over_on a b g m r i v over t h law j z le at = over t (record { longer = omega (arith, g.longer, h.longer); kept = λ n lo. h.kept n (omega (arith, lo, g.longer)) ∙ g.kept n lo }) law j z le at
+pub keys_from_grown : (a b : Past) → IsGrown a b → (m r i : ℕ) (v : Key) → KeysFromAreAbove a m v r i → KeysFromAreAbove b m v r i
+keys_from_grown a b g m r i v over t h law j z le at = over t (record { longer = omega (arith, g.longer, h.longer); kept = λ n lo. h.kept n (omega (arith, lo, g.longer)) ∙ g.kept n lo }) law j z le at
 
-pub over_later : (s : Past) (m r i j : ℕ) (v : Key) → i ≤ j → IsOver s m v r i → IsOver s m v r j
+pub over_later : (s : Past) (m r i j : ℕ) (v : Key) → i ≤ j → KeysFromAreAbove s m v r i → KeysFromAreAbove s m v r j
 over_later s m r i j v le over t g law o z lt at = over t g law o z (omega (arith, le, lt)) at
 
 -- A node at the place is over it too.
-pub over_down : (s : Past) (m r i c h : ℕ) (v : Key) → IsPlaced s m r i (Node c h) → IsOver s m v r i → IsOver s m v c 0
-over_down s m r i c h v placed over t g law j z le at = over t g law i z (le_refl i) (fit_down t m law r i c h j z (placed_on s t g m r i (Node c h) placed) at)
+pub keys_from_in_child : (s : Past) (m r i c h : ℕ) (v : Key) → IsPlaced s m r i (Node c h) → KeysFromAreAbove s m v r i → KeysFromAreAbove s m v c 0
+keys_from_in_child s m r i c h v placed over t g law j z le at = over t g law i z (le_refl i) (may_stand_at_child_place t m law r i c h j z (placed_grown s t g m r i (Node c h) placed) at)
 
 -- ---- the way
 -- If the key may stand at the place of the lowest frame, it may so at each.
 pub stack_at : (s : Past) (m : ℕ) → IsSteady s m → (f : Frame) (fs : List Frame) → IsStack s m (f ∷ fs) → (v : Key) → MayStandAt s m f.number f.place v → AreAt s m v (f ∷ fs)
 stack_at s m law f [] h v at = (at, tt)
-stack_at s m law f (g ∷ gs) h v at = (at, stack_at s m law g gs h.2 v (fit_down s m law g.number g.place f.number f.height f.place v h.0 at))
+stack_at s m law f (g ∷ gs) h v at = (at, stack_at s m law g gs h.2 v (may_stand_at_child_place s m law g.number g.place f.number f.height f.place v h.0 at))
 
 -- A key that was there all the time, not before v, is in the lowest node, or right of a place.
 stack_reaches : (s : Past) (m : ℕ) → IsSteady s m → (f : Frame) (fs : List Frame) → IsStack s m (f ∷ fs) → (v k : Key) → AreAt s m v fs → IsKeptSince s m k → IsAtMost v k →
-    IsOn s m k (a_node f.number) ⊎ IsRight s m k fs
-stack_reaches s m law f [] h v k at kept le = inl (on_root s m k kept (Node f.number f.height) h.0)
+    HadKeyBelow s m k (a_node f.number) ⊎ WasRightOfOne s m k fs
+stack_reaches s m law f [] h v k at kept le = inl (root_had_key s m k kept (Node f.number f.height) h.0)
 stack_reaches s m law f (g ∷ gs) h v k (at, rest) kept le = ⊎_elim here (λ x. inr (inr x)) (stack_reaches s m law g gs h.2 v k rest kept le)
   where
     sh : IsShaped s m g.number g.shape
     sh = stack_shape s m g gs h.2
 
-    here : IsOn s m k (a_node g.number) → IsOn s m k (a_node f.number) ⊎ IsRight s m k (g ∷ gs)
+    here : HadKeyBelow s m k (a_node g.number) → HadKeyBelow s m k (a_node f.number) ⊎ WasRightOfOne s m k (g ∷ gs)
     here on = ⊎_elim (λ lt. inr (inl (on, lt))) (λ ge. ⊎_elim
-        (λ lt. absurd (never_before k v (fit_order s m law g.number (spot k g.shape) g.place lt k v (on_fit s m law g.number g.shape k sh on) at) le))
-        (λ ge2. inl (on_down s m law k kept g.number g.place g.shape (Node f.number f.height) sh on (omega (arith, ge, ge2)) h.0)) (cases_lt (spot k g.shape) g.place))
+        (λ lt. absurd (never_before k v (may_stand_in_order s m law g.number (spot k g.shape) g.place lt k v (had_key_may_stand s m law g.number g.shape k sh on) at) le))
+        (λ ge2. inl (child_had_key s m law k kept g.number g.place g.shape (Node f.number f.height) sh on (omega (arith, ge, ge2)) h.0)) (cases_lt (spot k g.shape) g.place))
         (cases_lt g.place (spot k g.shape))
 
 -- A scan may start where all keys left of its place are before its first.
@@ -332,7 +332,7 @@ scan_start s m law g f fs stack at left = record {
   covered = λ k kept range. inr (⊎_elim (λ on. inl (on, from k range on)) (λ x. inr x) (stack_reaches s m law f fs stack g.from k at kept range.0));
 }
   where
-    from : (k : Key) → IsInRange g k → IsOn s m k (a_node f.number) → f.place ≤ spot k f.shape
+    from : (k : Key) → IsInRange g k → HadKeyBelow s m k (a_node f.number) → f.place ≤ spot k f.shape
     from k range on = ⊎_elim
-        (λ lt. absurd (never_before k g.from (left (spot k f.shape) k lt (on_fit s m law f.number f.shape k (stack_shape s m f fs stack) on)) range.0))
+        (λ lt. absurd (never_before k g.from (left (spot k f.shape) k lt (had_key_may_stand s m law f.number f.shape k (stack_shape s m f fs stack) on)) range.0))
         (λ ge. ge) (cases_lt (spot k f.shape) f.place)

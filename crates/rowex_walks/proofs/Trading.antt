@@ -6,28 +6,28 @@ use Rattle.tries.proofs.Changes.{put}
 use Rattle.tries.specs.Content.{Item, first}
 use Rattle.tries.proofs.Places.{grown}
 use Rattle.tries.proofs.Tries.{has_first, has_within, built_within}
-use Rattle.moments.specs.Heap.{Heap, IsShown, NodeWords, LeafWords}
-use Rattle.moments.specs.State.{Links, IsRecord, IsLawfulState}
-use Rattle.moments.specs.declared.Rec.{Rec}
-use Rattle.moments.specs.declared.Rec.TheVariants.{Node as a_node, Leaf as a_leaf}
-use Rattle.moments.proofs.Stored.{not_above}
-use Rattle.moments.proofs.Publish.{links_within}
-use Rattle.moments.proofs.Heaps.{shown_within, determined}
+use Rattle.versions.specs.Heap.{Heap, IsShown, NodeWords, LeafWords}
+use Rattle.versions.specs.State.{Links, IsRecord, IsLawfulState}
+use Rattle.versions.specs.declared.Rec.{Rec}
+use Rattle.versions.specs.declared.Rec.TheVariants.{Node as a_node, Leaf as a_leaf}
+use Rattle.versions.proofs.Stored.{not_above}
+use Rattle.versions.proofs.Publish.{links_within}
+use Rattle.versions.proofs.Heaps.{shown_within, determined}
 use Rattle.compound_node.specs.declared.entries.Entry.TheVariants.{Node}
 use Rattle.pieces.specs.Piece.{Place}
-use Rattle.rowex_walks.proofs.Replaced.{links_put, put_links, links_new, links_old, linked_fate}
-use Rattle.moments.specs.Trades.{IsOf, AreApart}
+use Rattle.rowex_walks.proofs.Replaced.{linked_after_put, linked_before_put, links_new, links_old, linked_fate}
+use Rattle.versions.specs.Trades.{IsOneOf, AreApart}
 use Rattle.tries.specs.Keys.{Key, bit}
-use Rattle.moments.specs.Core.{BareCore, Ready, InTree, view}
+use Rattle.versions.specs.Core.{BareCore, Ready, InTree, view}
 use Rattle.rowex_walks.specs.Writer.{IsNewLeaf}
 use Rattle.rowex_walks.proofs.Now.{built_now, shown_now}
 
 -- Where `s` was is `r`: it links what `s` linked and the records `new`, but for just the records `gone`.
 pub record IsTraded (s r : Tree) (new gone : List Rec) : Type 0 where
-  pub comes : (i : Rec) → Links r i → Links s i ⊎ IsOf i new
-  pub came : (i : Rec) → IsOf i new → Links r i
-  pub goes : (i : Rec) → Links s i → Links r i ⊎ IsOf i gone
-  pub went : (i : Rec) → IsOf i gone → Links s i × (Links r i → ⊥)
+  pub comes : (i : Rec) → Links r i → Links s i ⊎ IsOneOf i new
+  pub came : (i : Rec) → IsOneOf i new → Links r i
+  pub goes : (i : Rec) → Links s i → Links r i ⊎ IsOneOf i gone
+  pub went : (i : Rec) → IsOneOf i gone → Links s i × (Links r i → ⊥)
 
 -- A record is linked at one place
 
@@ -88,24 +88,24 @@ traded_around s r m x new gone fresh t = record {
 }
 
 -- an old node dissolved
-pub traded_open : (m : Heap) (b r : Tree) (o : ℕ) (x : Fixed) (new gone : List Rec) → IsBuilt (node o x b) → IsShown m (node o x b) → ¬ (IsOf (a_node o) new) →
+pub traded_open : (m : Heap) (b r : Tree) (o : ℕ) (x : Fixed) (new gone : List Rec) → IsBuilt (node o x b) → IsShown m (node o x b) → ¬ (IsOneOf (a_node o) new) →
     IsTraded b r new gone → IsTraded (node o x b) r new (a_node o ∷ gone)
 traded_open m b r o x new gone built shown old t = record {
   comes = λ i h. elim (t.comes i h) [ inl y ↦ inl (inr y) | inr y ↦ inr y ];
   came = t.came;
   goes = λ i h. elim h [ inl e ↦ inr (inl e) | inr y ↦ elim (t.goes i y) [ inl z ↦ inl z | inr z ↦ inr (inr z) ] ];
   went = λ i h. elim h [
-    | inl e ↦ (inl e, λ y. elim (t.comes i y) [ inl z ↦ not_above m o x b built shown (subst (Links b) e z) | inr z ↦ old (subst (λ i. IsOf i new) e z) ])
+    | inl e ↦ (inl e, λ y. elim (t.comes i y) [ inl z ↦ not_above m o x b built shown (subst (Links b) e z) | inr z ↦ old (subst (λ i. IsOneOf i new) e z) ])
     | inr y ↦ let w = t.went i y in (inr w.0, w.1)
   ];
 }
 
 -- a change at one place
-pub traded_put : (m : Heap) {s t : Tree} (w : Within s t) (r : Tree) (new gone : List Rec) → IsTrie t → IsBuilt t → IsShown m t → IsTraded s r new gone → IsTraded t (put w r) new gone
-traded_put m {s} {t} w r new gone f b h a = record {
-  comes = λ i l. elim (links_put w r i l) [ inl y ↦ inl y | inr y ↦ elim (a.comes i y) [ inl z ↦ inl (links_old w i z) | inr z ↦ inr z ] ];
+pub traded_in_whole : (m : Heap) {s t : Tree} (w : Within s t) (r : Tree) (new gone : List Rec) → IsTrie t → IsBuilt t → IsShown m t → IsTraded s r new gone → IsTraded t (put w r) new gone
+traded_in_whole m {s} {t} w r new gone f b h a = record {
+  comes = λ i l. elim (linked_after_put w r i l) [ inl y ↦ inl y | inr y ↦ elim (a.comes i y) [ inl z ↦ inl (links_old w i z) | inr z ↦ inr z ] ];
   came = λ i l. links_new w r i (a.came i l);
-  goes = λ i l. elim (put_links w r i l) [ inl y ↦ inl y | inr y ↦ elim (a.goes i y) [ inl z ↦ inl (links_new w r i z) | inr z ↦ inr z ] ];
+  goes = λ i l. elim (linked_before_put w r i l) [ inl y ↦ inl y | inr y ↦ elim (a.goes i y) [ inl z ↦ inl (links_new w r i z) | inr z ↦ inr z ] ];
   went = λ i l. (let g = a.went i l in (links_old w i g.0, λ o. g.1 (outside m i w r f b h g.0 o)));
 }
 
@@ -127,13 +127,13 @@ traded_grown true p s x fresh = record {
 -- What a pass trades: what it links anew is its own and ready, and no record goes twice.
 pub record IsTrade (c : BareCore) (q : ℕ) (s r : Tree) (new gone : List Rec) : Type 0 where
   pub trade : IsTraded s r new gone
-  pub ready : (n : Rec) → IsOf n new → c.fate n ≡ Ready q
+  pub ready : (n : Rec) → IsOneOf n new → c.fate n ≡ Ready q
   pub apart : AreApart gone
 
 tree_ready : {f q : ℕ} → InTree f ≡ Ready q → ⊥
 tree_ready e = cc
 
-module _ (c : BareCore) (q : ℕ) (law : IsLawfulState (view c)) (t : Tree) (now : c.past.moment c.past.now ≡ Some t) where
+module _ (c : BareCore) (q : ℕ) (law : IsLawfulState (view c)) (t : Tree) (now : c.past.version c.past.now ≡ Some t) where
   -- what is linked now is no new record
   pub old_now : {s : Tree} → Within s t → (i : Rec) → Links s i → ¬ (c.fate i ≡ Ready q)
   old_now w i h e = let f = linked_fate c law t now i (links_old w i h) in tree_ready (sym f.1 ∙ e)

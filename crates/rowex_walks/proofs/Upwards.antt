@@ -4,64 +4,64 @@ use Rattle.std.proofs.lemmas.Bool.{cases_lt, le-ltb}
 use Rattle.tries.specs.Keys.{Key}
 use Rattle.compound_node.specs.declared.entries.Entry.TheVariants.{Node}
 use Rattle.pieces.specs.Piece.{Fork}
-use Rattle.tries.specs.Tree.{Fixed, Page, Tree, leaf, node, fork, page, IsTrie, IsFork, Within, here, inside, zero_side, one_side}
+use Rattle.tries.specs.Tree.{Fixed, Subtrie, Tree, leaf, node, fork, subtrie, IsTrie, IsFork, Within, here, inside, zero_side, one_side}
 use Rattle.tries.specs.Search.{seek}
 use Rattle.tries.proofs.Changes.{IsPathBelow}
-use Rattle.tries.specs.Affected.{page_affected, IsFirstBelow, IsTipPage}
-use Rattle.moments.specs.Heap.{NodeWords}
-use Rattle.moments.specs.State.{IsLawfulState}
-use Rattle.moments.specs.Core.{BareCore, view}
+use Rattle.tries.specs.Affected.{subtrie_affected, FirstForkIsBefore, IsTipSubtrie}
+use Rattle.versions.specs.Heap.{NodeWords}
+use Rattle.versions.specs.State.{IsLawfulState}
+use Rattle.versions.specs.Core.{BareCore, view}
 use Rattle.rowex_walks.specs.Spots.{IsLockedNode}
 use Rattle.rowex_walks.specs.Statements.{UpperGoesOn}
 use Rattle.tries.proofs.Tries.{trie_within, built_within, within_trans}
-use Rattle.tries.proofs.Spots.{IsSpot, page_spot}
+use Rattle.tries.proofs.Spots.{IsSpot, subtrie_spot}
 use Rattle.rowex_walks.proofs.Now.{built_now, trie_now}
 use Rattle.rowex_walks.proofs.Paths.{path_rises_node}
-use Rattle.rowex_walks.proofs.Standing.{stands_now, entry_node, now_standing}
+use Rattle.rowex_walks.proofs.Standing.{stands_now, entry_node, newest_tree_if_node}
 
--- where the affected part of a page is one entry, the page's first fork is before p
-first_below : (p q : ℕ) (k : Key) (x y : Page) → IsTipPage (page_affected p k (Fork q x y)) → q < p
+-- where the affected part of a subtrie is one entry, the subtrie's first fork is before p
+first_below : (p q : ℕ) (k : Key) (x y : Subtrie) → IsTipSubtrie (subtrie_affected p k (Fork q x y)) → q < p
 first_below p q k x y tip = go (cases_lt q p)
   where
     go : (q < p) ⊎ (p ≤ q) → q < p
     go (inl h) = h
-    go (inr h) = absurd (let z : IsTipPage (Fork q x y) = rw (le-ltb q p h) at tip in z)
+    go (inr h) = absurd (let z : IsTipSubtrie (Fork q x y) = rw (le-ltb q p h) at tip in z)
 
-module _ (c : BareCore) (q : ℕ) (law : IsLawfulState (view c)) (t : Tree) (now : c.past.moment c.past.now ≡ Some t) (k : Key) (p : ℕ) where
+module _ (c : BareCore) (q : ℕ) (law : IsLawfulState (view c)) (t : Tree) (now : c.past.version c.past.now ≡ Some t) (k : Key) (p : ℕ) where
   -- what is below p in a node is so in the one above it
-  upper_below : (o n h : ℕ) → IsLockedNode c q o → seek k (c.heap.nodes o).page ≡ Node n h → IsFirstBelow p (c.heap.nodes n).page → IsFirstBelow p (c.heap.nodes o).page
+  upper_below : (o n h : ℕ) → IsLockedNode c q o → seek k (c.heap.nodes o).subtrie ≡ Node n h → FirstForkIsBefore p (c.heap.nodes n).subtrie → FirstForkIsBefore p (c.heap.nodes o).subtrie
   upper_below o n h locked names low = go (stands_now c law t now o locked.linked locked.fate)
     where
-      first : (f : ℕ) (y : Fixed) (b d : Tree) (w : Within (node n y b) d) → IsPathBelow f w → f ≤ p → IsFork d → IsFirstBelow p (page d)
+      first : (f : ℕ) (y : Fixed) (b d : Tree) (w : Within (node n y b) d) → IsPathBelow f w → f ≤ p → IsFork d → FirstForkIsBefore p (subtrie d)
       first f y b (leaf a l v) w h le two = absurd two
       first f y b (node a l v) w h le two = absurd two
       first f y b (fork a l v) (zero_side w) h le two = let z = h.0 in omega arith
       first f y b (fork a l v) (one_side w) h le two = let z = h.0 in omega arith
 
-      rises_on : (y : Fixed) (b d : Tree) (w : Within (node n y b) d) → IsTrie d → IsFork d → IsFirstBelow p (page b) → IsFirstBelow p (page d)
+      rises_on : (y : Fixed) (b d : Tree) (w : Within (node n y b) d) → IsTrie d → IsFork d → FirstForkIsBefore p (subtrie b) → FirstForkIsBefore p (subtrie d)
       rises_on y (leaf a l v) d w i two h = absurd h
       rises_on y (node a l v) d w i two h = absurd h
       rises_on y (fork a l v) d w i two h = first a y (fork a l v) d w (path_rises_node w i (omega arith)) (omega (arith, h)) two
 
-      go : (d : Tree) × Within (node o (c.heap.nodes o).fixed d) t × (page d ≡ (c.heap.nodes o).page) → IsFirstBelow p (c.heap.nodes o).page
+      go : (d : Tree) × Within (node o (c.heap.nodes o).fixed d) t × (subtrie d ≡ (c.heap.nodes o).subtrie) → FirstForkIsBefore p (c.heap.nodes o).subtrie
       go (d, v, pg) =
           let (y, b, is, words) = entry_node c law t now v k n h names in
-          let (w, flat, pages, path) = subst (IsSpot k d) is (page_spot k d) in
-          subst (IsFirstBelow p) pg (rises_on y b d w (trie_within (within_trans (inside here) v) (trie_now c law t now)) (built_within v (built_now c law t now)).0 (subst (IsFirstBelow p) (ap (λ (z : NodeWords). z.page) words) low))
+          let (w, flat, subtries, path) = subst (IsSpot k d) is (subtrie_spot k d) in
+          subst (FirstForkIsBefore p) pg (rises_on y b d w (trie_within (within_trans (inside here) v) (trie_now c law t now)) (built_within v (built_now c law t now)).0 (subst (FirstForkIsBefore p) (ap (λ (z : NodeWords). z.subtrie) words) low))
 
-  tip_below : (o : ℕ) → IsLockedNode c q o → IsTipPage (page_affected p k (c.heap.nodes o).page) → IsFirstBelow p (c.heap.nodes o).page
+  tip_below : (o : ℕ) → IsLockedNode c q o → IsTipSubtrie (subtrie_affected p k (c.heap.nodes o).subtrie) → FirstForkIsBefore p (c.heap.nodes o).subtrie
   tip_below o locked tip = go (stands_now c law t now o locked.linked locked.fate)
     where
-      of_body : (d : Tree) → IsFork d → IsTipPage (page_affected p k (page d)) → IsFirstBelow p (page d)
+      of_body : (d : Tree) → IsFork d → IsTipSubtrie (subtrie_affected p k (subtrie d)) → FirstForkIsBefore p (subtrie d)
       of_body (leaf a l v) two h = absurd two
       of_body (node a l v) two h = absurd two
-      of_body (fork a l v) two h = first_below p a k (page l) (page v) h
+      of_body (fork a l v) two h = first_below p a k (subtrie l) (subtrie v) h
 
-      go : (d : Tree) × Within (node o (c.heap.nodes o).fixed d) t × (page d ≡ (c.heap.nodes o).page) → IsFirstBelow p (c.heap.nodes o).page
+      go : (d : Tree) × Within (node o (c.heap.nodes o).fixed d) t × (subtrie d ≡ (c.heap.nodes o).subtrie) → FirstForkIsBefore p (c.heap.nodes o).subtrie
       go (d, v, pg) =
-          subst (IsFirstBelow p) pg (of_body d (built_within v (built_now c law t now)).0 (subst (λ z. IsTipPage (page_affected p k z)) (sym pg) tip))
+          subst (FirstForkIsBefore p) pg (of_body d (built_within v (built_now c law t now)).0 (subst (λ z. IsTipSubtrie (subtrie_affected p k z)) (sym pg) tip))
 
 pub upper_goes_on : UpperGoesOn
 upper_goes_on c q law k p o n u =
-    let (t, now) = now_standing c law o u.locked.linked u.locked.fate in
+    let (t, now) = newest_tree_if_node c law o u.locked.linked u.locked.fate in
     elim u.path [ inl h ↦ upper_below c q law t now k p o n u.height u.locked u.entry h | inr h ↦ tip_below c q law t now k p o u.locked h ]

@@ -5,14 +5,14 @@ use Rattle.compound_node.specs.declared.entries.Entry.{Entry}
 use Rattle.compound_node.specs.declared.entries.Entry.TheVariants.{Node}
 use Rattle.pieces.specs.Piece.{Place}
 use Rattle.tries.specs.Keys.{Key, bit, AgreeBelow}
-use Rattle.tries.specs.Tree.{Fixed, Page, Tree, leaf, node, fork, page, Has, IsTrie, IsFork, IsBuilt, Within, here, inside, zero_side, one_side, first_position}
+use Rattle.tries.specs.Tree.{Fixed, Subtrie, Tree, leaf, node, fork, subtrie, Has, IsTrie, IsFork, IsBuilt, Within, here, inside, zero_side, one_side, first_position}
 use Rattle.tries.specs.Search.{child, seek, Kin, tips, forks, found}
 use Rattle.tries.specs.Content.{Item, first}
 use Rattle.tries.specs.Place.{spot, shape}
 use Rattle.tries.proofs.Tries.{has_first, has_within, within_trans, trie_within, built_within, rises, within_child}
-use Rattle.moments.specs.State.{Past, Stands, StoodWithKeys, IsSteady}
-use Rattle.moments.specs.declared.Rec.TheVariants.{Node as a_node, Leaf as a_leaf}
-use Rattle.moments.proofs.Stored.{lower_within}
+use Rattle.versions.specs.State.{Past, Stands, StoodWithKeys, IsSteady}
+use Rattle.versions.specs.declared.Rec.TheVariants.{Node as a_node, Leaf as a_leaf}
+use Rattle.versions.proofs.Stored.{lower_within}
 use Rattle.rowex_walks.specs.Scan.{IsRooted, IsBlank, at_place, IsPlaced}
 use Rattle.rowex_walks.specs.Ways.{IsOnWay, IsWayFrom, from_leaf, from_node, WayBegins, WayGoesOn, WayEnds, WayOfLeaf, WayIsBelow, StillRooted, StillPlaced, StillGrows, OneBody, RootedSame, PlacedSame, FoundSame}
 use Rattle.rowex_walks.specs.Writer.{BeganAt, IsWayBelow, at_leaf, below}
@@ -38,7 +38,7 @@ near_placed s m steady r like n h j e (o, u, lo, hi, st, pg, f) (b, stood, low, 
     go : (x : Fixed) × (d : Tree) × (u ≡ node n x d) × (x.height ≡ h) → StoodWithKeys s m (λ y. AgreeBelow r like y) e
     go (x, d, is, high) =
         let su : Stands s o (a_node n) (node n x d) = subst (λ z. Stands s o (a_node n) z) is st in
-        let built : IsBuilt (node n x d) = built_within su.within (steady.trees o su.tree hi su.is_moment).1 in
+        let built : IsBuilt (node n x d) = built_within su.within (steady.trees o su.tree hi su.is_version).1 in
         let kin : Kin d b = (steady.same (a_node n) o stood.at (node n x d) (node n stood.fixed b) lo hi stood.since stood.until su stood.stands).1 in
         let keys : (y : Key) → Has d y → AgreeBelow r like y = λ y a. f y (subst (λ z. Has z y) (sym is) a) in (
           stood.at,
@@ -47,7 +47,7 @@ near_placed s m steady r like n h j e (o, u, lo, hi, st, pg, f) (b, stood, low, 
           stood.until,
           placed_stands s m n j b stood e pe,
           pe,
-          λ y a. kin_like r like kin built.0 (trie_within (within_trans (inside here) su.within) (steady.trees o su.tree hi su.is_moment).0) keys y (has_within (within_at b j) y a),
+          λ y a. kin_like r like kin built.0 (trie_within (within_trans (inside here) su.within) (steady.trees o su.tree hi su.is_version).0) keys y (has_within (within_at b j) y a),
         )
 
 pub way_goes_on : WayGoesOn
@@ -55,7 +55,7 @@ way_goes_on s m steady r a n h j e (like, begun, marked) placed = (like, begun, 
 
 pub way_begins : WayBegins
 way_begins s m steady a h r x (n, u, lo, hi, st, pg) (b, stood, shape_is) first_is =
-    let tree = steady.trees stood.at stood.stands.tree stood.until stood.stands.is_moment in
+    let tree = steady.trees stood.at stood.stands.tree stood.until stood.stands.is_version in
     let built = built_within stood.stands.within tree.1 in
     let (y, d, is, high) = node_of a h u pg in
     let su : Stands s n (a_node a) (node a y d) = subst (λ z. Stands s n (a_node a) z) is st in
@@ -63,7 +63,7 @@ way_begins s m steady a h r x (n, u, lo, hi, st, pg) (b, stood, shape_is) first_
     from_body b stood.stands built.0 (trie_within (within_trans (inside here) stood.stands.within) tree.0) shape_is
     (ap (λ (z : Fixed). z.height) (sym same) ∙ high)
   where
-    from_body : (b : Tree) → Stands s stood.at (a_node a) (node a stood.fixed b) → IsFork b → IsTrie b → shape (page b) ≡ x → stood.fixed.height ≡ h → IsOnWay s m r a (Node a h)
+    from_body : (b : Tree) → Stands s stood.at (a_node a) (node a stood.fixed b) → IsFork b → IsTrie b → shape (subtrie b) ≡ x → stood.fixed.height ≡ h → IsOnWay s m r a (Node a h)
     from_body (leaf i k v) stands two trie is high = absurd two
     from_body (node i k v) stands two trie is high = absurd two
     from_body (fork f c e) stands two trie is high =
@@ -92,14 +92,14 @@ way_ends s m steady r a h j l v (like, begun, (n, u, lo, hi, st, pg, f)) (o, lo2
 pub way_of_leaf : WayOfLeaf
 way_of_leaf s m j l v (n, lo, hi, st) = from_leaf j (n, leaf j l v, lo, hi, st, refl, λ y h. h)
 
-way_at : (s : Past) (m : ℕ) (k : Key) (x : Page) (l : Key) (e : Entry) → seek k x ≡ e → IsWayFrom s m l e → IsWayBelow s m k x l
+way_at : (s : Past) (m : ℕ) (k : Key) (x : Subtrie) (l : Key) (e : Entry) → seek k x ≡ e → IsWayFrom s m l e → IsWayBelow s m k x l
 way_at s m k x l e is (from_leaf j f) = at_leaf j is f
 way_at s m k x l e is (from_node a h r like begun agree) = below a h r like is begun agree
 
 pub way_is_below : WayIsBelow
 way_is_below s m k x l w = way_at s m k x l (seek k x) refl w
 
--- At one moment a node stands at one place
+-- In one version a node stands at one place
 
 -- a key of one side of a fork and one of the other don't agree beyond it
 apart : (p : ℕ) (u : Bool) {q : ℕ} {c d t : Tree} → Within (fork q c d) t → IsTrie t → ((k l : Key) → Has t k → Has t l → AgreeBelow p k l) → ((k : Key) → Has t k → bit k p ≡ u) → (x : Key) →
@@ -159,25 +159,25 @@ place_same e = cc
 pub still_placed : StillPlaced
 still_placed s m steady seen k n h j x e shape_is at (b, stood, low, pe) f same = go (f same)
   where
-    go : (t : Tree) × (u : Tree) × (s.moment m ≡ Some t) × Within u t × (page u ≡ Place (Node n h)) × (found k u ≡ found k t) →
-        (t : Tree) × (u : Tree) × (s.moment m ≡ Some t) × Within u t × (page u ≡ Place e) × (found k u ≡ found k t)
+    go : (t : Tree) × (u : Tree) × (s.version m ≡ Some t) × Within u t × (subtrie u ≡ Place (Node n h)) × (found k u ≡ found k t) →
+        (t : Tree) × (u : Tree) × (s.version m ≡ Some t) × Within u t × (subtrie u ≡ Place e) × (found k u ≡ found k t)
     go (t, u, is, w, pg, o) =
         let (y, d, u_is, high) = node_of n h u pg in
         let v : Within (node n y d) t = subst (λ z. Within z t) u_is w in
         let now : stood.at ≡ m = (let a = stood.since in let c = stood.until in omega arith) in
-        let tree : stood.stands.tree ≡ t = some_same (sym stood.stands.is_moment ∙ (ap s.moment now ∙ is)) in
-        let st : Stands s m (a_node n) (node n y d) = record { tree = t; is_moment = is; within = v; is_record = refl } in
+        let tree : stood.stands.tree ≡ t = some_same (sym stood.stands.is_version ∙ (ap s.version now ∙ is)) in
+        let st : Stands s m (a_node n) (node n y d) = record { tree = t; is_version = is; within = v; is_record = refl } in
         let both = steady.same (a_node n) m stood.at (node n y d) (node n stood.fixed b) (omega arith) seen stood.since stood.until st stood.stands in
         let w2 : Within (node n y b) t = subst (λ z. Within (node n z b) t) (sym both.0) (subst (λ z. Within (node n stood.fixed b) z) tree stood.stands.within) in
         let trees = steady.trees m t seen is in
         let body : d ≡ b = same_body n y d b refl refl v w2 trees.0 trees.1 both.1 in
-        let spot_is : spot k (page b) ≡ j = sym (spot_shape k (page b)) ∙ (ap (spot k) (shaped s m steady n x b shape_is stood) ∙ at) in
+        let spot_is : spot k (subtrie b) ≡ j = sym (spot_shape k (subtrie b)) ∙ (ap (spot k) (shaped s m steady n x b shape_is stood) ∙ at) in
         let child_is : child k d ≡ at_place b j = ap (child k) body ∙ (at_spot k b ∙ ap (at_place b) spot_is) in (
           t,
           child k d,
           is,
           within_trans (within_trans (within_child k d) (inside here)) v,
-          ap page child_is ∙ pe,
+          ap subtrie child_is ∙ pe,
           found_child k d ∙ (ap (found k) (sym u_is) ∙ o),
         )
 
@@ -189,18 +189,18 @@ one_body n x b c t v w trie built kin = same_body n x b c refl refl v w trie bui
 pub still_rooted : StillRooted
 still_rooted s m k e (n, t, lo, hi, is, pg) same =
     let now : n ≡ m = omega arith in
-    (t, t, ap s.moment (sym now) ∙ is, here, pg, refl)
+    (t, t, ap s.version (sym now) ∙ is, here, pg, refl)
 
 pub rooted_same : RootedSame
 rooted_same s m same = (both, not_blank)
   where
-    at_now : (n : ℕ) → m ≤ n → n ≤ s.now → s.moment n ≡ s.moment m
-    at_now n lo hi = let e : n ≡ m = omega arith in ap s.moment e
+    at_now : (n : ℕ) → m ≤ n → n ≤ s.now → s.version n ≡ s.version m
+    at_now n lo hi = let e : n ≡ m = omega arith in ap s.version e
 
     both : (e f : Entry) → IsRooted s m e → IsRooted s m f → e ≡ f
     both e f (n, t, lo, hi, is, pg) (o, u, lo2, hi2, is2, pg2) =
         let one : t ≡ u = some_same (sym is ∙ (at_now n lo hi ∙ (sym (at_now o lo2 hi2) ∙ is2))) in
-        place_same (sym pg ∙ (ap page one ∙ pg2))
+        place_same (sym pg ∙ (ap subtrie one ∙ pg2))
 
     not_blank : (e : Entry) → IsRooted s m e → IsBlank s m → ⊥
     not_blank e (n, t, lo, hi, is, pg) (o, lo2, hi2, none) = some_none (sym is ∙ (at_now n lo hi ∙ (sym (at_now o lo2 hi2) ∙ none)))
@@ -210,12 +210,12 @@ placed_same s m steady same n j e f (b, stood, low, pe) (c, other, low2, pf) =
     let lo = stood.since in let hi = stood.until in let lo2 = other.since in let hi2 = other.until in
     let now : stood.at ≡ m = omega arith in
     let now2 : other.at ≡ m = omega arith in
-    let one : stood.stands.tree ≡ other.stands.tree = some_same (sym stood.stands.is_moment ∙ (ap s.moment (now ∙ sym now2) ∙ other.stands.is_moment)) in
-    let trees = steady.trees stood.at stood.stands.tree stood.until stood.stands.is_moment in
+    let one : stood.stands.tree ≡ other.stands.tree = some_same (sym stood.stands.is_version ∙ (ap s.version (now ∙ sym now2) ∙ other.stands.is_version)) in
+    let trees = steady.trees stood.at stood.stands.tree stood.until stood.stands.is_version in
     let both = steady.same (a_node n) stood.at other.at (node n stood.fixed b) (node n other.fixed c) lo hi lo2 hi2 stood.stands other.stands in
     let there : Within (node n stood.fixed c) stood.stands.tree = subst (λ z. Within (node n z c) stood.stands.tree) (sym both.0) (subst (λ z. Within (node n other.fixed c) z) (sym one) other.stands.within) in
     let body : b ≡ c = same_body n stood.fixed b c refl refl stood.stands.within there trees.0 trees.1 both.1 in
-    place_same (sym pe ∙ (ap (λ z. page (at_place z j)) body ∙ pf))
+    place_same (sym pe ∙ (ap (λ z. subtrie (at_place z j)) body ∙ pf))
 
 pub found_same : FoundSame
 found_same s m same k i j f g =

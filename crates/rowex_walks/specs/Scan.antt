@@ -1,30 +1,30 @@
 -- What a scan knows: facts of the past alone.
 use Rattle.std.specs.Prelude.{◌≡◌, ◌⊎◌, ℕ, suc, ◌<◌, ◌≤◌, ◌-◌, List, [], ◌∷◌, ◌++◌, length, Some, None, if◌then◌else◌, nat_lt}
 use Rattle.tries.specs.Keys.{IsAtMost, Key, AgreeBelow, IsBefore}
-use Rattle.tries.specs.Tree.{Fixed, Page, Tree, leaf, node, fork, page, Has}
+use Rattle.tries.specs.Tree.{Fixed, Subtrie, Tree, leaf, node, fork, subtrie, Has}
 use Rattle.compound_node.specs.declared.entries.Entry.{Entry}
 use Rattle.compound_node.specs.declared.entries.Entry.TheVariants.{Node}
 use Rattle.pieces.specs.Piece.{Place, Fork, size}
 use Rattle.tries.specs.Search.{IsUnder}
-use Rattle.moments.specs.State.{rec_of, Past, Stands, IsHeldSince, IsKeptSince, IsSteady}
-use Rattle.moments.specs.Frames.{IsGrown}
-use Rattle.moments.specs.declared.Rec.{Rec}
-use Rattle.moments.specs.declared.Rec.TheVariants.{Node as a_node, Leaf as a_leaf}
+use Rattle.versions.specs.State.{rec_of, Past, Stands, IsHeldSince, IsKeptSince, IsSteady}
+use Rattle.versions.specs.Frames.{IsGrown}
+use Rattle.versions.specs.declared.Rec.{Rec}
+use Rattle.versions.specs.declared.Rec.TheVariants.{Node as a_node, Leaf as a_leaf}
 use Rattle.tries.specs.Place.{spot, shape}
 
 -- What stands at a place of a body.
 abbrev pub at_place : Tree → ℕ → Tree
 at_place (leaf n k v) i = leaf n k v
 at_place (node n x b) i = node n x b
-at_place (fork p a b) i = if nat_lt i (size (page a)) then at_place a i else at_place b (i - size (page a))
+at_place (fork p a b) i = if nat_lt i (size (subtrie a)) then at_place a i else at_place b (i - size (subtrie a))
 
 -- The keys agree through each fork on the way to a place.
-abbrev pub IsAlike : Page → ℕ → Key → Key → Type 0
-IsAlike (Place e) i x y = Unit {0}
-IsAlike (Fork p a b) i x y =
-    AgreeBelow (suc p) x y × (i < size a → IsAlike a i x y) × (size a ≤ i → IsAlike b (i - size a) x y)
+abbrev pub AgreeUpToPlace : Subtrie → ℕ → Key → Key → Type 0
+AgreeUpToPlace (Place e) i x y = Unit {0}
+AgreeUpToPlace (Fork p a b) i x y =
+    AgreeBelow (suc p) x y × (i < size a → AgreeUpToPlace a i x y) × (size a ≤ i → AgreeUpToPlace b (i - size a) x y)
 
--- At a moment since `m` the node record had this body.
+-- In a version since `m` the node record had this body.
 pub record Stood (s : Past) (m r : ℕ) (b : Tree) : Type 0 where
   pub at : ℕ
   pub since : m ≤ at
@@ -33,17 +33,17 @@ pub record Stood (s : Past) (m r : ℕ) (b : Tree) : Type 0 where
   pub stands : Stands s at (a_node r) (node r fixed b)
 
 -- The four facts that a reader's loads leave.
--- The root's entry at a moment since `m`.
+-- The root's entry in a version since `m`.
 abbrev pub IsRooted : Past → ℕ → Entry → Type 0
-IsRooted s m e = (n : ℕ) × (t : Tree) × (m ≤ n) × (n ≤ s.now) × (s.moment n ≡ Some t) × (page t ≡ Place e)
+IsRooted s m e = (n : ℕ) × (t : Tree) × (m ≤ n) × (n ≤ s.now) × (s.version n ≡ Some t) × (subtrie t ≡ Place e)
 
 -- The entry stood at the record's place.
 abbrev pub IsPlaced : Past → ℕ → ℕ → ℕ → Entry → Type 0
-IsPlaced s m r j e = (b : Tree) × Stood s m r b × (j < size (page b)) × (page (at_place b j) ≡ Place e)
+IsPlaced s m r j e = (b : Tree) × Stood s m r b × (j < size (subtrie b)) × (subtrie (at_place b j) ≡ Place e)
 
 -- The node stood with these forks.
-abbrev pub IsShaped : Past → ℕ → ℕ → Page → Type 0
-IsShaped s m r p = (b : Tree) × Stood s m r b × (shape (page b) ≡ p)
+abbrev pub IsShaped : Past → ℕ → ℕ → Subtrie → Type 0
+IsShaped s m r p = (b : Tree) × Stood s m r b × (shape (subtrie b) ≡ p)
 
 -- The leaf stood with this key and value.
 abbrev pub IsRead : Past → ℕ → ℕ → Key → ℕ → Type 0
@@ -51,22 +51,22 @@ IsRead s m r k v = (n : ℕ) × (m ≤ n) × (n ≤ s.now) × Stands s n (a_leaf
 
 -- A key that may stand at the record's place.
 abbrev pub MayStandAt : Past → ℕ → ℕ → ℕ → Key → Type 0
-MayStandAt s m r i y = (b : Tree) × (k : Key) × Stood s m r b × IsUnder b i k × IsAlike (page b) i k y
+MayStandAt s m r i y = (b : Tree) × (k : Key) × Stood s m r b × IsUnder b i k × AgreeUpToPlace (subtrie b) i k y
 
 -- It may stand left of the place.
 abbrev pub MayStandLeft : Past → ℕ → ℕ → ℕ → Key → Type 0
 MayStandLeft s m r i y = (j : ℕ) × (j < i) × MayStandAt s m r j y
 
 -- The record had the key below it.
-abbrev pub IsOn : Past → ℕ → Key → Rec → Type 0
-IsOn s m k r = (n : ℕ) × (u : Tree) × (m ≤ n) × (n ≤ s.now) × Stands s n r u × Has u k
+abbrev pub HadKeyBelow : Past → ℕ → Key → Rec → Type 0
+HadKeyBelow s m k r = (n : ℕ) × (u : Tree) × (m ≤ n) × (n ≤ s.now) × Stands s n r u × Has u k
 
 -- A node on the way of the scan: its number, its forks, and a place: the next one of the topmost frame, of any other
 -- frame the one in which the scan is.
 pub record Frame : Type 0 where
   pub number : ℕ
   pub height : ℕ
-  pub shape : Page
+  pub shape : Subtrie
   pub place : ℕ
 
 -- The frames, topmost first, are the way from the root.
@@ -77,19 +77,19 @@ IsStack s m (f ∷ g ∷ gs) =
     IsPlaced s m g.number g.place (Node f.number f.height) × IsShaped s m f.number f.shape × IsStack s m (g ∷ gs)
 
 -- The key may stand left of the place of one of the frames.
-abbrev pub IsPassed : Past → ℕ → Key → List Frame → Type 0
-IsPassed s m k [] = ⊥
-IsPassed s m k (f ∷ fs) = MayStandLeft s m f.number f.place k ⊎ IsPassed s m k fs
+abbrev pub MayStandLeftOfOne : Past → ℕ → Key → List Frame → Type 0
+MayStandLeftOfOne s m k [] = ⊥
+MayStandLeftOfOne s m k (f ∷ fs) = MayStandLeft s m f.number f.place k ⊎ MayStandLeftOfOne s m k fs
 
 -- The key was in the node of one of these frames, right of its place.
-abbrev pub IsRight : Past → ℕ → Key → List Frame → Type 0
-IsRight s m k [] = ⊥
-IsRight s m k (f ∷ fs) = (IsOn s m k (a_node f.number) × (f.place < spot k f.shape)) ⊎ IsRight s m k fs
+abbrev pub WasRightOfOne : Past → ℕ → Key → List Frame → Type 0
+WasRightOfOne s m k [] = ⊥
+WasRightOfOne s m k (f ∷ fs) = (HadKeyBelow s m k (a_node f.number) × (f.place < spot k f.shape)) ⊎ WasRightOfOne s m k fs
 
 -- The scan has the key still before it.
 abbrev pub IsAhead : Past → ℕ → Key → List Frame → Type 0
 IsAhead s m k [] = ⊥
-IsAhead s m k (f ∷ fs) = (IsOn s m k (a_node f.number) × (f.place ≤ spot k f.shape)) ⊎ IsRight s m k fs
+IsAhead s m k (f ∷ fs) = (HadKeyBelow s m k (a_node f.number) × (f.place ≤ spot k f.shape)) ⊎ WasRightOfOne s m k fs
 
 pub record Pair : Type 0 where
   pub key : Key
@@ -119,17 +119,17 @@ IsInRange g k = IsAtMost g.from k × IsAtMost k g.upto
 
 -- The loop's invariant: the pairs so far (the newest first) and the way. How the pairs are ordered, which keys the scan has passed and
 -- which are still before it, each direction says for itself.
-pub record IsScanWith (IsOrdered : List Pair → Type 0) (IsBehind IsComing : Past → ℕ → Key → List Frame → Type 0)
+pub record IsScanWith (IsOrdered : List Pair → Type 0) (HasForkBefore IsComing : Past → ℕ → Key → List Frame → Type 0)
     (s : Past) (m : ℕ) (g : Range) (fs : List Frame) (xs : List Pair) : Type 0 where
   pub stack : IsStack s m fs
   pub ordered : IsOrdered xs
   pub within : Every (λ x. IsInRange g x.key) xs
   pub held : Every (λ x. IsHeldSince s m x.key x.value) xs
-  pub passed : Every (λ x. IsBehind s m x.key fs) xs
+  pub passed : Every (λ x. HasForkBefore s m x.key fs) xs
   pub short : length xs ≤ g.limit
   pub covered : (k : Key) → IsKeptSince s m k → IsInRange g k → IsKeyListed k xs ⊎ IsComing s m k fs
 
--- What a scan promises, by moments: complete, or cut at the limit.
+-- What a scan promises, by versions: complete, or cut at the limit.
 pub record IsCompleteWith (IsOrdered : List Pair → Type 0) (s : Past) (m : ℕ) (g : Range) (xs : List Pair) : Type 0 where
   pub ordered : IsOrdered xs
   pub within : Every (λ x. IsInRange g x.key) xs
@@ -149,7 +149,7 @@ pub record IsCutWith (IsOrdered : List Pair → Type 0) (IsReached : Key → Lis
 
 -- Of a scan upwards: the invariant, and what it promises.
 abbrev pub IsScan : Past → ℕ → Range → List Frame → List Pair → Type 0
-IsScan = IsScanWith IsFalling IsPassed IsAhead
+IsScan = IsScanWith IsFalling MayStandLeftOfOne IsAhead
 
 abbrev pub IsComplete : Past → ℕ → Range → List Pair → Type 0
 IsComplete = IsCompleteWith IsFalling
@@ -163,18 +163,18 @@ abbrev pub IsCut : Past → ℕ → Range → List Pair → Type 0
 IsCut = IsCutWith IsFalling IsUpTo IsBefore
 
 -- Each key that may stand at this place of the record, or right of it, is above the key, and stays so while the past grows.
-abbrev pub IsOver : Past → ℕ → Key → ℕ → ℕ → Type 0
-IsOver s m k r i = (t : Past) → IsGrown s t → IsSteady t m → (j : ℕ) (z : Key) → i ≤ j → MayStandAt t m r j z → IsBefore k z
+abbrev pub KeysFromAreAbove : Past → ℕ → Key → ℕ → ℕ → Type 0
+KeysFromAreAbove s m k r i = (t : Past) → IsGrown s t → IsSteady t m → (j : ℕ) (z : Key) → i ≤ j → MayStandAt t m r j z → IsBefore k z
 
--- The entry's record stood at a moment since `m`, with the entry's height.
-abbrev pub IsSeen : Past → ℕ → Entry → Type 0
-IsSeen s m e = (n : ℕ) × (u : Tree) × (m ≤ n) × (n ≤ s.now) × Stands s n (rec_of e) u × (page u ≡ Place e)
+-- The entry's record stood in a version since `m`, with the entry's height.
+abbrev pub EntryStoodSince : Past → ℕ → Entry → Type 0
+EntryStoodSince s m e = (n : ℕ) × (u : Tree) × (m ≤ n) × (n ≤ s.now) × Stands s n (rec_of e) u × (subtrie u ≡ Place e)
 
--- The root was None at a moment since `m`.
+-- The root was None in a version since `m`.
 abbrev pub IsBlank : Past → ℕ → Type 0
-IsBlank s m = (n : ℕ) × (m ≤ n) × (n ≤ s.now) × (s.moment n ≡ None)
+IsBlank s m = (n : ℕ) × (m ≤ n) × (n ≤ s.now) × (s.version n ≡ None)
 
 -- The pairs in the order in which they were taken.
-abbrev pub turned : List Pair → List (Key × ℕ)
-turned [] = []
-turned (x ∷ xs) = turned xs ++ (x.key, x.value) ∷ []
+abbrev pub in_order_taken : List Pair → List (Key × ℕ)
+in_order_taken [] = []
+in_order_taken (x ∷ xs) = in_order_taken xs ++ (x.key, x.value) ∷ []

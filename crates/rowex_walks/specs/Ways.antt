@@ -4,12 +4,12 @@ use Rattle.compound_node.specs.declared.entries.Entry.{Entry}
 use Rattle.compound_node.specs.declared.entries.Entry.TheVariants.{Leaf, Node}
 use Rattle.pieces.specs.Piece.{Place}
 use Rattle.tries.specs.Keys.{Key, AgreeBelow}
-use Rattle.tries.specs.Tree.{Fixed, Page, Tree, node, page, IsTrie, IsBuilt, Within, first_position}
+use Rattle.tries.specs.Tree.{Fixed, Subtrie, Tree, node, subtrie, IsTrie, IsBuilt, Within, first_position}
 use Rattle.tries.specs.Search.{Kin, seek, found}
 use Rattle.tries.specs.Place.{spot}
-use Rattle.moments.specs.State.{Past, StoodWithKeys, IsSteady}
-use Rattle.moments.specs.Frames.{IsGrown}
-use Rattle.rowex_walks.specs.Scan.{IsSeen, IsRooted, IsBlank, IsPlaced, IsShaped, IsRead}
+use Rattle.versions.specs.State.{Past, StoodWithKeys, IsSteady}
+use Rattle.versions.specs.Frames.{IsGrown}
+use Rattle.rowex_walks.specs.Scan.{EntryStoodSince, IsRooted, IsBlank, IsPlaced, IsShaped, IsRead}
 use Rattle.rowex_walks.specs.Writer.{BeganAt, IsWayBelow}
 
 -- From node `a`, whose first fork is at `r`, the descent has come to the entry: before `r` the keys there agree with a key that
@@ -22,17 +22,17 @@ pub data IsWayFrom (s : Past) (m : ℕ) (l : Key) : Entry → Type 0 where
   from_leaf : (j : ℕ) → StoodWithKeys s m (λ y. y ≡ l) (Leaf j) → IsWayFrom s m l (Leaf j)
   from_node : (a h r : ℕ) (like : Key) → BeganAt s m r like a → AgreeBelow r like l → IsWayFrom s m l (Node a h)
 
--- Where no change has been made since moment `m`, the search for the key is at this entry in the newest tree: it stands there, and
+-- Where no change has been made since version `m`, the search for the key is at this entry in the newest tree: it stands there, and
 -- the search below it ends where that of the whole tree does.
 abbrev pub IsStill : Past → ℕ → Key → Entry → Type 0
-IsStill s m k e = m ≡ s.now → (t : Tree) × (u : Tree) × (s.moment m ≡ Some t) × Within u t × (page u ≡ Place e) × (found k u ≡ found k t)
+IsStill s m k e = m ≡ s.now → (t : Tree) × (u : Tree) × (s.version m ≡ Some t) × Within u t × (subtrie u ≡ Place e) × (found k u ≡ found k t)
 
 -- The way of a writer
 
 -- it begins at a node to which it was led, and of which it has read the forks;
 abbrev pub WayBegins : Type 0
 WayBegins =
-    (s : Past) (m : ℕ) → IsSteady s m → (a h r : ℕ) (x : Page) → IsSeen s m (Node a h) → IsShaped s m a x → first_position x ≡ r → IsOnWay s m r a (Node a h)
+    (s : Past) (m : ℕ) → IsSteady s m → (a h r : ℕ) (x : Subtrie) → EntryStoodSince s m (Node a h) → IsShaped s m a x → first_position x ≡ r → IsOnWay s m r a (Node a h)
 
 -- it goes on by an entry that was read, whatever was published in between;
 abbrev pub WayGoesOn : Type 0
@@ -49,7 +49,7 @@ WayOfLeaf = (s : Past) (m j : ℕ) (l : Key) (v : ℕ) → IsRead s m j l v → 
 
 -- From the entry of a locked node on the key's way, it is the way below that node.
 abbrev pub WayIsBelow : Type 0
-WayIsBelow = (s : Past) (m : ℕ) (k : Key) (x : Page) (l : Key) → IsWayFrom s m l (seek k x) → IsWayBelow s m k x l
+WayIsBelow = (s : Past) (m : ℕ) (k : Key) (x : Subtrie) (l : Key) → IsWayFrom s m l (seek k x) → IsWayBelow s m k x l
 
 -- Where nothing has changed
 
@@ -60,14 +60,14 @@ StillRooted = (s : Past) (m : ℕ) (k : Key) (e : Entry) → IsRooted s m e → 
 -- it goes on by an entry that was read;
 abbrev pub StillPlaced : Type 0
 StillPlaced =
-    (s : Past) (m : ℕ) → IsSteady s m → m ≤ s.now → (k : Key) (n h j : ℕ) (x : Page) (e : Entry) → IsShaped s m n x → spot k x ≡ j → IsPlaced s m n j e →
+    (s : Past) (m : ℕ) → IsSteady s m → m ≤ s.now → (k : Key) (n h j : ℕ) (x : Subtrie) (e : Entry) → IsShaped s m n x → spot k x ≡ j → IsPlaced s m n j e →
     IsStill s m k (Node n h) → IsStill s m k e
 
 -- and what is so known stays true.
 abbrev pub StillGrows : Type 0
 StillGrows = (a b : Past) → IsGrown a b → (m : ℕ) (k : Key) (e : Entry) → m ≤ a.now → IsStill a m k e → IsStill b m k e
 
--- At one moment a node stands at one place: two bodies of it that are kin are one.
+-- In one version a node stands at one place: two bodies of it that are kin are one.
 abbrev pub OneBody : Type 0
 OneBody =
     (n : ℕ) (x : Fixed) (b c t : Tree) → Within (node n x b) t → Within (node n x c) t → IsTrie t → IsBuilt t → Kin b c → b ≡ c

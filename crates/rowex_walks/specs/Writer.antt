@@ -2,30 +2,30 @@
 use Rattle.key_bits.specs.Key.{IsKey}
 use Rattle.std.specs.Prelude.{◌≤◌, ◌≡◌, ◌≢◌, ℕ, Some}
 use Rattle.tries.specs.Keys.{Key, bit, AgreeBelow}
-use Rattle.tries.specs.Tree.{Fixed, Page, Tree, node, fork, Has}
+use Rattle.tries.specs.Tree.{Fixed, Subtrie, Tree, node, fork, Has}
 use Rattle.tries.specs.Search.{seek}
 use Rattle.compound_node.specs.declared.entries.Entry.TheVariants.{Leaf, Node}
-use Rattle.moments.specs.Heap.{Heap}
-use Rattle.moments.specs.State.{IsReach, Past, Stands, StoodWithKeys}
-use Rattle.moments.specs.declared.Rec.TheVariants.{Node as a_node, Leaf as a_leaf}
-use Rattle.moments.specs.Core.{Ready, BareCore, view}
+use Rattle.versions.specs.Heap.{Heap}
+use Rattle.versions.specs.State.{IsReach, Past, Stands, StoodWithKeys}
+use Rattle.versions.specs.declared.Rec.TheVariants.{Node as a_node, Leaf as a_leaf}
+use Rattle.versions.specs.Core.{Ready, BareCore, view}
 use Rattle.tries.specs.Content.{Item}
-pub use Rattle.moments.specs.Told.{added_change, replaced_change, removed_change}
+pub use Rattle.versions.specs.Told.{added_change, replaced_change, removed_change}
 
--- From one heap to the next node `n` gets this page, and nothing else changes.
-pub record IsPageStored (m o : Heap) (n : ℕ) (x : Page) : Type 0 where
+-- From one heap to the next node `n` gets this subtrie, and nothing else changes.
+pub record IsSubtrieStored (m o : Heap) (n : ℕ) (x : Subtrie) : Type 0 where
   pub others : (i : ℕ) → i ≢ n → m.nodes i ≡ o.nodes i
   pub leaves : (i : ℕ) → m.leaves i ≡ o.leaves i
-  pub stored : o.nodes n ≡ record { fixed = (m.nodes n).fixed; page = x }
+  pub stored : o.nodes n ≡ record { fixed = (m.nodes n).fixed; subtrie = x }
 
--- At a moment since `m` node `a` stood with its first fork at `r`, and had the key `like`.
+-- In a version since `m` node `a` stood with its first fork at `r`, and had the key `like`.
 abbrev pub BeganAt : Past → ℕ → ℕ → Key → ℕ → Type 0
 BeganAt s m r like a =
     (n : ℕ) × (x : Fixed) × (b : Tree) × (d : Tree) × (m ≤ n) × (n ≤ s.now) × Stands s n (a_node a) (node a x (fork r b d)) × Has (fork r b d) like
 
--- What a pass knows of the way below a locked node with the page `x`: it ended at a leaf with the key `l`. Either the
+-- What a pass knows of the way below a locked node with the subtrie `x`: it ended at a leaf with the key `l`. Either the
 -- node's own entry names the leaf, or it names a node that had a key `like` with which `l` agrees before its first fork.
-pub data IsWayBelow (s : Past) (since : ℕ) (k : Key) (x : Page) (l : Key) : Type 0 where
+pub data IsWayBelow (s : Past) (since : ℕ) (k : Key) (x : Subtrie) (l : Key) : Type 0 where
   at_leaf : (j : ℕ) → seek k x ≡ Leaf j → StoodWithKeys s since (λ y. y ≡ l) (Leaf j) → IsWayBelow s since k x l
   below : (a h r : ℕ) (like : Key) → seek k x ≡ Node a h → BeganAt s since r like a → AgreeBelow r like l → IsWayBelow s since k x l
 
@@ -34,12 +34,12 @@ pub record IsNewLeaf (c : BareCore) (q : ℕ) (x : Item) : Type 0 where
   pub fate : c.fate (a_leaf x.number) ≡ Ready q
   pub words : c.heap.leaves x.number ≡ record { key = x.key; value = x.value }
 
--- What a writer knows: it has locked node `n`, from there on the way that was read since moment `since` ended at a leaf with the key
+-- What a writer knows: it has locked node `n`, from there on the way that was read since version `since` ended at a leaf with the key
 -- `l`, from which the new key differs first at `p`, and what has stood in the tree since then is still in that life.
 pub record IsFoundBelow (c : BareCore) (q since : ℕ) (x : Item) (p : ℕ) (l : Key) (n : ℕ) : Type 0 where
   pub key : IsKey x.key
   pub reach : IsReach (view c) since
   pub lock : c.lock n ≡ Some q
-  pub way : IsWayBelow c.past since x.key (c.heap.nodes n).page l
+  pub way : IsWayBelow c.past since x.key (c.heap.nodes n).subtrie l
   pub agree : AgreeBelow p x.key l
   pub differ : bit x.key p ≢ bit l p

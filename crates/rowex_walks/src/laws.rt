@@ -43,17 +43,17 @@ pub fn found_is_kept()
     ensures { FoundIsKept }
 {}
 
-/// A load of the root tells its entry at a moment.
+/// A load of the root tells its entry in a version.
 pub fn loads_root()
     ensures { LoadsRoot }
 {}
 
-/// A load of an empty root tells that each key was absent at a moment.
+/// A load of an empty root tells that each key was absent in a version.
 pub fn loads_none()
     ensures { LoadsNone }
 {}
 
-/// A load of an entry of a node in reach tells that it stood there at a moment, and that it is lower.
+/// A load of an entry of a node in reach tells that it stood there in a version, and that it is lower.
 pub fn loads_place()
     ensures { LoadsPlace }
 {}
@@ -73,7 +73,7 @@ pub fn led_placed()
     ensures { LedPlaced }
 {}
 
-/// A lookup that came to a leaf stands at a moment since its pin.
+/// A lookup that came to a leaf stands in a version since its pin.
 pub fn get_ends()
     ensures { GetEnds }
 {}
@@ -123,7 +123,7 @@ pub fn way_is_below()
     ensures { WayIsBelow }
 {}
 
-/// If nothing changes after a moment, a search is at the root that was read since,
+/// If nothing changes after a version, a search is at the root that was read since,
 pub fn still_rooted()
     ensures { StillRooted }
 {}
@@ -138,7 +138,7 @@ pub fn still_grows()
     ensures { StillGrows }
 {}
 
-/// At one moment a node stands at one place.
+/// In one version a node stands at one place.
 pub fn one_body()
     ensures { OneBody }
 {}

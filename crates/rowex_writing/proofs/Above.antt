@@ -5,15 +5,15 @@ use Rattle.compound_node.specs.Nodes.{height_of}
 use Rattle.compound_node.specs.declared.entries.Entry.{Entry}
 use Rattle.compound_node.specs.declared.entries.Entry.TheVariants.{Leaf as LeafEntry, Node}
 use Rattle.insert_cases.specs.declared.choice.Step.{Step}
-use Rattle.insert_cases.proofs.Choosing.{same_some}
+use Rattle.insert_cases.proofs.Choosing.{some_injective}
 use Rattle.pieces.specs.Piece.{Place}
 use Rattle.record_words.specs.declared.layout.Layout.{Layout}
-use Rattle.tries.specs.Affected.{IsLowerPage}
+use Rattle.tries.specs.Affected.{IsLowerSubtrie}
 use Rattle.tries.specs.Keys.{Key}
 use Rattle.tries.specs.Search.{seek}
-use Rattle.tries.specs.Tree.{Page}
-use Rattle.moments.specs.Trades.{IsOf}
-use Rattle.moments.proofs.Members.{map_of}
+use Rattle.tries.specs.Tree.{Subtrie}
+use Rattle.versions.specs.Trades.{IsOneOf}
+use Rattle.versions.proofs.Members.{map_of}
 use Rattle.rowex_walks.specs.Spots.{AffectsOne}
 use Rattle.rowex_core.specs.declared.event.Spot.{Spot}
 use Rattle.rowex_core.specs.declared.event.Spot.TheVariants.{Root, Slot}
@@ -23,7 +23,7 @@ use Rattle.rowex_core.specs.Reading.{node_words_of}
 use Rattle.rowex_reading.specs.Possible.{IsPossible}
 use Rattle.rowex_reading.specs.Ways.{IsWayNode, IsWayOf, named}
 use Rattle.rowex_reading.specs.declared.descent.Found.{Found}
-use Rattle.rowex_rights.specs.Spots.{HoldsAt, at_root, in_node, FitsAt, IsAlone, IsPageBelow}
+use Rattle.rowex_rights.specs.Spots.{HoldsAt, at_root, in_node, FitsAt, AffectsSpotAlone, IsSubtrieBelow}
 use Rattle.rowex_writing.specs.Going.{HasLocked}
 use Rattle.rowex_writing.specs.Changes.{IsChecked}
 use Rattle.rowex_writing.specs.Locks.{HasLockedSpan}
@@ -31,10 +31,10 @@ use Rattle.rowex_writing.specs.Putting.{IsSpotAbove}
 use Rattle.rowex_writing.specs.declared.plan.Span.{Span}
 use Rattle.rowex_writing.proofs.Shapes.{IsStepOf, way_node_locked}
 
-in_range : (xs : List Step) (b n i : ℕ) (s : Step) → slice_get xs i ≡ Some s → b ≤ i → i < b + n → IsOf s (take n (drop b xs))
+in_range : (xs : List Step) (b n i : ℕ) (s : Step) → slice_get xs i ≡ Some s → b ≤ i → i < b + n → IsOneOf s (take n (drop b xs))
 in_range [] b n i s at low high = absurd (let z : None ≡ Some s = at in cc)
 in_range (x ∷ xs) zero zero i s at low high = absurd (omega arith)
-in_range (x ∷ xs) zero (suc n) zero s at low high = inl (sym (same_some at))
+in_range (x ∷ xs) zero (suc n) zero s at low high = inl (sym (some_injective at))
 in_range (x ∷ xs) zero (suc n) (suc i) s at low high = inr (in_range xs zero n i s at (omega arith) (omega arith))
 in_range (x ∷ xs) (suc b) n zero s at low high = absurd (omega arith)
 in_range (x ∷ xs) (suc b) n (suc i) s at low high = in_range xs b n i s at (omega arith) (omega arith)
@@ -44,9 +44,9 @@ pub locked_at : (k : Known) (way : List Step) (span : Span) → HasLockedSpan k 
 locked_at k way span locked i s low high at =
     let there = in_range way (span.end - 1) (span.len - (span.end - 1)) i s at (omega arith) (omega arith) in
     let (lock, is, same) = locked.nodes.0.each s.number (map_of (λ (z : Step). z.number) s (take (span.len - (span.end - 1)) (drop (span.end - 1) way)) there) in
-    (lock.words, subst (λ n. IsOf (record { node = n; words = lock.words }) k.locks) same is)
+    (lock.words, subst (λ n. IsOneOf (record { node = n; words = lock.words }) k.locks) same is)
 
-lower_entry : (h : ℕ) (e : Entry) → height_of e < h → IsLowerPage h (Place e)
+lower_entry : (h : ℕ) (e : Entry) → height_of e < h → IsLowerSubtrie h (Place e)
 lower_entry h (LeafEntry n) l = l
 lower_entry h (Node n g) l = l
 
@@ -58,7 +58,7 @@ module _ (layout : Layout) (k : Known) (m : ℕ) (key : Key) (way : List Step) (
     pub at : slice_get way (span.end - 1) ≡ Some s
     pub words : List ℕ
     pub has : HasLocked k s.number words
-    pub entry : seek key (node_words_of words).page ≡ d
+    pub entry : seek key (node_words_of words).subtrie ≡ d
     pub node : IsWayNode layout k m key s d
     pub shows : IsStepOf key s node.forks (node_words_of words)
 
@@ -68,13 +68,13 @@ module _ (layout : Layout) (k : Known) (m : ℕ) (key : Key) (way : List Step) (
       let named_is : named way found (span.end - 1 + 1) ≡ Some d = ap (named way found) next ∙ names in
       let (words, has) = locked_at k way span locked (span.end - 1) s (omega arith) (omega (arith, within)) at in
       let (e, e_is, on) = w.nodes (span.end - 1) s at in
-      let node : IsWayNode layout k m key s d = subst (IsWayNode layout k m key s) (same_some (sym e_is ∙ named_is)) on in
+      let node : IsWayNode layout k m key s d = subst (IsWayNode layout k m key s) (some_injective (sym e_is ∙ named_is)) on in
       record {
         low = low;
         at = at;
         words = words;
         has = has;
-        entry = same_some (sym (checked.entries (span.end - 1) s (omega arith) (omega (arith, within)) at words has) ∙ named_is);
+        entry = some_injective (sym (checked.entries (span.end - 1) s (omega arith) (omega (arith, within)) at words has) ∙ named_is);
         node = node;
         shows = way_node_locked layout k m key s d words possible w.since node has;
       }
@@ -84,7 +84,7 @@ module _ (layout : Layout) (k : Known) (m : ℕ) (key : Key) (way : List Step) (
   pub record HoldsAbove (j : Known) (held : List Locked) (spot : Spot) : Type 0 where
     pub holds : HoldsAt j held key d spot
     pub fits : (e : Entry) → ((s : Step) → IsAbove s → height_of e < s.height) → FitsAt holds e
-    pub alone : (p : ℕ) → ((s : Step) (above : IsAbove s) → (r : Page) × IsPageBelow held d r × AffectsOne p key (node_words_of above.words).page r) → IsAlone holds p
+    pub alone : (p : ℕ) → ((s : Step) (above : IsAbove s) → (r : Subtrie) × IsSubtrieBelow held d r × AffectsOne p key (node_words_of above.words).subtrie r) → AffectsSpotAlone holds p
 
   pub holds_above : (j : Known) (held : List Locked) → held ≡ k.locks → j.anchor ≡ k.anchor → (spot : Spot) → IsSpotAbove way span.end spot → HoldsAbove j held spot
   holds_above j held locks anchor Root top = record {
@@ -94,7 +94,7 @@ module _ (layout : Layout) (k : Known) (m : ℕ) (key : Key) (way : List Step) (
   }
   holds_above j held locks anchor (Slot o i) (s, low, at, number_is, place) =
       let above = above_at s low at in
-      let has : IsOf (record { node = o; words = above.words }) held = subst (λ n. IsOf (record { node = n; words = above.words }) held) (sym number_is) (subst (IsOf (record { node = s.number; words = above.words })) (sym locks) above.has) in
+      let has : IsOneOf (record { node = o; words = above.words }) held = subst (λ n. IsOneOf (record { node = n; words = above.words }) held) (sym number_is) (subst (IsOneOf (record { node = s.number; words = above.words })) (sym locks) above.has) in
       record {
         holds = in_node o i above.words has above.entry (above.shows.at ∙ sym place);
         fits = λ e lower. lower_entry (node_words_of above.words).fixed.height e (let h = lower s above in let g = above.shows.height in omega arith);

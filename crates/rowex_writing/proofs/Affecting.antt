@@ -12,7 +12,7 @@ use Rattle.pieces.proofs.Growing.{affected_fits}
 use Rattle.record_words.specs.declared.layout.Layout.{Layout}
 use Rattle.tries.specs.Keys.{Key}
 use Rattle.tries.specs.Place.{spot}
-use Rattle.tries.specs.Tree.{Page}
+use Rattle.tries.specs.Tree.{Subtrie}
 use Rattle.rowex_core.specs.declared.known.Known.{Known}
 use Rattle.rowex_walks.specs.Scan.{IsShaped}
 use Rattle.rowex_table.specs.Made.{IsLater}
@@ -60,14 +60,14 @@ pub one_level : (way : List Step) (p a b : ℕ) → IsLevel way p a → IsLevel 
 one_level way p a b x y = let u = no_higher way p a b x y in let v = no_higher way p b a y x in omega (arith, u, v)
 
 -- ---- the affected entries
-some_affected : (key : Key) (p : ℕ) (x : Page) → (first : ℕ) × (last : ℕ) × AffectsJust key p first last x
+some_affected : (key : Key) (p : ℕ) (x : Subtrie) → (first : ℕ) × (last : ℕ) × AffectsJust key p first last x
 some_affected key p x =
     let first = affected_first p (spot key x) x in
     let count = affected_count p (spot key x) x in
     let some = (affected_fits p x (spot key x)).1 in
     (first, count + first - 1, record { from = refl; upto = omega (arith, some) })
 
-at_level : (k : Known) (m : ℕ) (key : Key) (way : List Step) (n v p first last level : ℕ) (s : Step) (x : Page) → IsLevel way p level → slice_get way level ≡ Some s →
+at_level : (k : Known) (m : ℕ) (key : Key) (way : List Step) (n v p first last level : ℕ) (s : Step) (x : Subtrie) → IsLevel way p level → slice_get way level ≡ Some s →
     Sure k (λ past. IsShaped past m s.number x) → AffectsJust key p first last x → AreAffected k m key way (Leaf n v (Some p)) first last
 at_level k m key way n v p first last level s x is at shapes affects = λ other t also there.
     let same : t ≡ s = (let z : Some t ≡ Some s = sym there ∙ (ap (slice_get way) (one_level way p other level also is) ∙ at) in cc) in

@@ -17,9 +17,9 @@ use Rattle.insert_cases.specs.declared.choice.Case.{Case}
 use Rattle.insert_cases.specs.declared.choice.Case.TheVariants.{LeafPushdown, NormalInsert, Overflow}
 use Rattle.insert_cases.specs.declared.choice.Step.{Step}
 use Rattle.tries.specs.Keys.{Key}
-use Rattle.moments.specs.State.{IsHeldSince, IsMissed}
+use Rattle.versions.specs.State.{IsHeldSince, WasAbsentSince}
 use Rattle.record_words.specs.declared.layout.Layout.{Layout}
-use Rattle.moments.specs.declared.Rec.TheVariants.{Node as a_node}
+use Rattle.versions.specs.declared.Rec.TheVariants.{Node as a_node}
 use Rattle.rowex_core.specs.declared.event.Event.{Event}
 use Rattle.rowex_core.specs.declared.known.Known.{Known}
 use Rattle.rowex_table.specs.Seats.{TableView, SeatView, IsSeatOf}
@@ -31,7 +31,7 @@ use Rattle.rowex_rights.specs.Ending.{IsAtRest}
 use Rattle.rowex_walks.specs.Scan.{IsShaped}
 use Rattle.rowex_table.specs.Made.{IsLater}
 use Rattle.rowex_reading.specs.Lookups.{HasFound, HasSearched}
-use Rattle.rowex_core.specs.Knowing.{IsSince}
+use Rattle.rowex_core.specs.Knowing.{IsPinnedSince}
 use Rattle.rowex_reading.specs.Seen.{Sure, since}
 use Rattle.rowex_reading.proofs.Seeing.{later_trans, held_stable, missed_stable, shaped_stable, sure_later}
 use Rattle.rowex_writing.specs.Asking.{aim_of, aim_where, reply_to, value_in}
@@ -60,7 +60,7 @@ use Rattle.rowex_writing.proofs.Spans.{met_since}
 -- ---- what was found and planned stays so
 pub found_later : (k j : Known) (key : Key) (value : Option ℕ) → IsLater k j → since j ≡ since k → HasFound k key value → HasFound j key value
 found_later k j key None later same sure =
-    subst (λ m. Sure j (λ s. IsMissed s m key)) (sym same) (sure_later {P = λ s. IsMissed s (since k) key} (missed_stable (since k) key) later sure)
+    subst (λ m. Sure j (λ s. WasAbsentSince s m key)) (sym same) (sure_later {P = λ s. WasAbsentSince s (since k) key} (missed_stable (since k) key) later sure)
 found_later k j key (Some value) later same sure =
     subst (λ m. Sure j (λ s. IsHeldSince s m key value)) (sym same) (sure_later {P = λ s. IsHeldSince s (since k) key value} (held_stable (since k) key value) later sure)
 
@@ -282,8 +282,8 @@ answered_leafless (Remove key) reply = λ is. absurd (cc)
 answered_leafless (RemoveIf key expected) reply = λ is. absurd (cc)
 
 -- the change of a pass that went on before
-pub changed_on : (k i j : Known) (x : Change) (was : Option ℕ) → i.pass ≡ k.pass → OthersGoOn k.pass k.front i.front → HasChanged i j x was → HasChanged k j x was
-changed_on k i j x was pass others c = record {
+pub changed_from_before : (k i j : Known) (x : Change) (was : Option ℕ) → i.pass ≡ k.pass → OthersGoOn k.pass k.front i.front → HasChanged i j x was → HasChanged k j x was
+changed_from_before k i j x was pass others c = record {
   rest = c.rest;
   before = c.before;
   others = others_on k.pass k.front i.front c.before others (subst (λ q. OthersGoOn q i.front c.before) pass c.others);
@@ -294,7 +294,7 @@ changed_on k i j x was pass others c = record {
 }
 
 -- ---- after the search and the plan
--- What the pass knows when it has searched and planned: nothing is its own, and it loaded the root at a moment since the start.
+-- What the pass knows when it has searched and planned: nothing is its own, and it loaded the root at a version since the start.
 pub record Begun {G : Type 0} (table : TableView) (becomes : G → Event → G → Type 0) (a c : SeatView × G) : Type 0 where
   pub run : HasRun table becomes a c
   pub loaded : HasLoadedRoot a.0.known c.0.known
@@ -342,7 +342,7 @@ loaded_steps : (k j : Known) → HasLoadedRoot k j → k.steps ≤ j.steps
 loaded_steps k j l = let x = l.from in let y = l.upto in omega (arith, x, y)
 
 -- ---- refusals
-pub refused_busy : (layout : Layout) (key : Key) (k i j : Known) (m : ℕ) → IsSince i m → HasLoadedRoot k i → IsLater k i → IsLater i j → HasMetLock layout i j ⊎ (m < length j.front) → HasRefused layout key k j Busy
+pub refused_busy : (layout : Layout) (key : Key) (k i j : Known) (m : ℕ) → IsPinnedSince i m → HasLoadedRoot k i → IsLater k i → IsLater i j → HasMetLock layout i j ⊎ (m < length j.front) → HasRefused layout key k j Busy
 refused_busy layout key k i j m (p, pinned, early) loaded first next why = record {
   others = (later_trans first next).front;
   cause = elim why [ inl met ↦ inl (met_since layout k i j j (loaded_steps k i loaded) first.pass refl met) | inr moved ↦ inr (m, (p, (sym first.pin ∙ pinned), early), moved) ];
@@ -381,4 +381,4 @@ answered_change k p i j m key value way call held aim found span deed later key_
     let (x, was, made, changed) = plan_does i j p m key value way aim found span deed planned done in
     let asked = subst (λ h. IsMade i.pass (key_of call) (value_in call) aim h x was) (sym held_is)
     (subst (λ v. IsMade i.pass (key_of call) v aim (value_of found) x was) value_is (subst (λ z. IsMade i.pass z value aim (value_of found) x was) key_is made)) in
-    inr (x, was, subst (λ q. IsChangeOf q call (reply_to call held) x was) later.pass (made_change i.pass x was call held aim e asked), changed_on k i j x was later.pass later.front changed)
+    inr (x, was, subst (λ q. IsChangeOf q call (reply_to call held) x was) later.pass (made_change i.pass x was call held aim e asked), changed_from_before k i j x was later.pass later.front changed)

@@ -12,18 +12,18 @@ use Rattle.insert_cases.specs.declared.choice.Case.TheVariants.{LeafPushdown, No
 use Rattle.insert_cases.specs.declared.choice.Choice.{Choice}
 use Rattle.insert_cases.specs.declared.choice.Step.{Step}
 use Rattle.insert_cases.proofs.Affecting.{key_part}
-use Rattle.insert_cases.proofs.Choosing.{same_some, some_at}
-use Rattle.moments.specs.Heap.{NodeWords}
-use Rattle.moments.specs.Frames.{IsGrown}
-use Rattle.moments.specs.State.{Past}
-use Rattle.moments.specs.declared.Rec.TheVariants.{Node as a_node}
-use Rattle.moments.proofs.Members.{all_of}
+use Rattle.insert_cases.proofs.Choosing.{some_injective, some_at}
+use Rattle.versions.specs.Heap.{NodeWords}
+use Rattle.versions.specs.Frames.{IsGrown}
+use Rattle.versions.specs.State.{Past}
+use Rattle.versions.specs.declared.Rec.TheVariants.{Node as a_node}
+use Rattle.versions.proofs.Members.{all_of}
 use Rattle.pieces.proofs.Paths.{size_pos}
 use Rattle.pieces.specs.Piece.{Place, Fork, size}
 use Rattle.record_words.specs.Leaf.{HasLeafWords}
 use Rattle.record_words.specs.declared.layout.Layout.{Layout}
 use Rattle.rowex_core.specs.Cores.{IsWhole}
-use Rattle.rowex_core.specs.Knowing.{IsSince}
+use Rattle.rowex_core.specs.Knowing.{IsPinnedSince}
 use Rattle.rowex_core.specs.Reading.{IsPacked, node_words_of}
 use Rattle.rowex_core.specs.Sharing.{IsLocked}
 use Rattle.rowex_core.specs.declared.event.Spot.{Spot}
@@ -37,14 +37,14 @@ use Rattle.rowex_rights.specs.Rises.{HasFoundBelow}
 use Rattle.rowex_rights.specs.Stages.{IsLockedAbove, IsSure}
 use Rattle.rowex_rights.proofs.Rising.{above_goes_on}
 use Rattle.rowex_rights.proofs.Sure.{descent_begins, descent_ends, descent_finds, descent_goes_on, seen_is_sure}
-use Rattle.rowex_walks.specs.Scan.{IsSeen, IsPlaced, IsShaped, IsRead}
+use Rattle.rowex_walks.specs.Scan.{EntryStoodSince, IsPlaced, IsShaped, IsRead}
 use Rattle.rowex_walks.specs.Ways.{IsOnWay, IsWayFrom}
-use Rattle.rowex_walks.proofs.Persist.{placed_on, shaped_on, read_on}
+use Rattle.rowex_walks.proofs.Persist.{placed_grown, shaped_grown, read_grown}
 use Rattle.rowex_walks.proofs.Ways.{way_of_leaf}
-use Rattle.tries.specs.Affected.{page_affected, IsFirstBelow, IsPartPage, IsTipPage}
+use Rattle.tries.specs.Affected.{subtrie_affected, FirstForkIsBefore, IsPartSubtrie, IsTipSubtrie}
 use Rattle.tries.specs.Keys.{Key, bit}
 use Rattle.tries.specs.Search.{seek}
-use Rattle.tries.specs.Tree.{Page, first_position}
+use Rattle.tries.specs.Tree.{Subtrie, first_position}
 use Rattle.tries.proofs.Building.{size-piece}
 use Rattle.rowex_writing.specs.Building.{FitsAbove, IsChain}
 use Rattle.rowex_writing.specs.Changes.{AreAffected, IsChecked, IsPlanned}
@@ -125,7 +125,7 @@ case_there way level first last c h is s at = elim (chosen_is way level first la
 ]
   where
     by : (u : Step) (l : ℕ) (b : Bool) → slice_get way l ≡ Some u → c.level ≡ l → c.case ≡ case_of u.height u.count b → c.case ≡ case_of s.height s.count b
-    by u l b e level_is case = let same : u ≡ s = same_some (sym e ∙ (ap (slice_get way) (sym level_is) ∙ at)) in case ∙ ap (λ (z : Step). case_of z.height z.count b) same
+    by u l b e level_is case = let same : u ≡ s = some_injective (sym e ∙ (ap (slice_get way) (sym level_is) ∙ at)) in case ∙ ap (λ (z : Step). case_of z.height z.count b) same
 
 case_room : (h n : ℕ) (b : Bool) → case_of h n b ≡ NormalInsert → n < 32
 case_room h n b is = ltb-true n 32 (go (b && nat_lt 1 h) (nat_lt n 32) is)
@@ -213,54 +213,54 @@ module _ (k : Known) (m : ℕ) (key : Key) (way : List Step) (len end position f
 
 -- ---- the affected part
 -- more than one entry
-part_big : (y : Page) → 1 < size y → IsPartPage y
-part_big (Place e) h = absurd (omega arith)
-part_big (Fork q a b) h = tt
+part_of_two : (y : Subtrie) → 1 < size y → IsPartSubtrie y
+part_of_two (Place e) h = absurd (omega arith)
+part_of_two (Fork q a b) h = tt
 
 -- one entry
-tip_small : (y : Page) → size y ≤ 1 → IsTipPage y
-tip_small (Place e) h = tt
-tip_small (Fork q a b) h = let l = size_pos a in let r = size_pos b in absurd (omega arith)
+tip_of_one_place : (y : Subtrie) → size y ≤ 1 → IsTipSubtrie y
+tip_of_one_place (Place e) h = tt
+tip_of_one_place (Fork q a b) h = let l = size_pos a in let r = size_pos b in absurd (omega arith)
 
 -- which is that of the key's search
-tip_seek : (p : ℕ) (key : Key) (x : Page) → IsTipPage (page_affected p key x) → page_affected p key x ≡ Place (seek key x)
+tip_seek : (p : ℕ) (key : Key) (x : Subtrie) → IsTipSubtrie (subtrie_affected p key x) → subtrie_affected p key x ≡ Place (seek key x)
 tip_seek p key (Place e) h = refl
 tip_seek p key (Fork q x y) h = go (nat_lt q p) (bit key q) (tip_seek p key x) (tip_seek p key y) h
   where
-    go : (u o : Bool) → (IsTipPage (page_affected p key x) → page_affected p key x ≡ Place (seek key x)) → (IsTipPage (page_affected p key y) → page_affected p key y ≡ Place (seek key y)) →
-        IsTipPage (if u then (if o then page_affected p key y else page_affected p key x) else Fork q x y) →
-        (if u then (if o then page_affected p key y else page_affected p key x) else Fork q x y) ≡ Place (if o then seek key y else seek key x)
+    go : (u o : Bool) → (IsTipSubtrie (subtrie_affected p key x) → subtrie_affected p key x ≡ Place (seek key x)) → (IsTipSubtrie (subtrie_affected p key y) → subtrie_affected p key y ≡ Place (seek key y)) →
+        IsTipSubtrie (if u then (if o then subtrie_affected p key y else subtrie_affected p key x) else Fork q x y) →
+        (if u then (if o then subtrie_affected p key y else subtrie_affected p key x) else Fork q x y) ≡ Place (if o then seek key y else seek key x)
     go true true f g h = g h
     go true false f g h = f h
     go false o f g h = elim h [ ]
 
-size_affected : (key : Key) (p first last : ℕ) (x : Page) → AffectsJust key p first last x → size (page_affected p key x) + first ≡ last + 1
+size_affected : (key : Key) (p first last : ℕ) (x : Subtrie) → AffectsJust key p first last x → size (subtrie_affected p key x) + first ≡ last + 1
 size_affected key p first last x a = ap (λ j. j + first) (sym ((key_part key p x).count)) ∙ a.upto
 
--- a page of two entries or more whose first fork is not before the position
-abbrev IsForked : Page → Type 0
+-- a subtrie of two entries or more whose first fork is not before the position
+abbrev IsForked : Subtrie → Type 0
 IsForked (Place e) = ⊥
 IsForked (Fork q a b) = Unit {0}
 
-forked_big : (x : Page) → 2 ≤ size x → IsForked x
+forked_big : (x : Subtrie) → 2 ≤ size x → IsForked x
 forked_big (Place e) h = absurd (omega arith)
 forked_big (Fork q a b) h = tt
 
-whole_part : (key : Key) (p last : ℕ) (x : Page) → IsForked x → p ≤ first_position x → size x ≡ last + 1 → IsPartPage (page_affected p key x) × AffectsJust key p 0 last x
+whole_part : (key : Key) (p last : ℕ) (x : Subtrie) → IsForked x → p ≤ first_position x → size x ≡ last + 1 → IsPartSubtrie (subtrie_affected p key x) × AffectsJust key p 0 last x
 whole_part key p last (Place e) f h n = elim f [ ]
 whole_part key p last (Fork q a b) f h n =
     let e : nat_lt q p ≡ false = le-ltb q p h in
     (rw e tt, record { from = rw e refl; upto = rw e (omega (arith, n)) })
 
-below_first : (p : ℕ) (x : Page) → IsForked x → first_position x < p → IsFirstBelow p x
+below_first : (p : ℕ) (x : Subtrie) → IsForked x → first_position x < p → FirstForkIsBefore p x
 below_first p (Place e) f h = elim f [ ]
 below_first p (Fork q a b) f h = h
 
 -- ---- the rest of the way
-seen_on : (m : ℕ) (e : Entry) (a b : Past) → IsGrown a b → IsSeen a m e → IsSeen b m e
-seen_on m e a b g (n, u, lo, hi, st, is) = (n, u, lo, le_trans hi g.longer, record { tree = st.tree; is_moment = g.kept n hi ∙ st.is_moment; within = st.within; is_record = st.is_record }, is)
+seen_on : (m : ℕ) (e : Entry) (a b : Past) → IsGrown a b → EntryStoodSince a m e → EntryStoodSince b m e
+seen_on m e a b g (n, u, lo, hi, st, is) = (n, u, lo, le_trans hi g.longer, record { tree = st.tree; is_version = g.kept n hi ∙ st.is_version; within = st.within; is_record = st.is_record }, is)
 
-module _ (layout : Layout) (k : Known) (m : ℕ) (key : Key) (number value p : ℕ) (since : IsSince k m) (l : Key) (read : Sure k (λ past. IsRead past m number l value)) where
+module _ (layout : Layout) (k : Known) (m : ℕ) (key : Key) (number value p : ℕ) (since : IsPinnedSince k m) (l : Key) (read : Sure k (λ past. IsRead past m number l value)) where
   abbrev found : Found
   found = Leaf number value (Some p)
 
@@ -272,28 +272,28 @@ module _ (layout : Layout) (k : Known) (m : ℕ) (key : Key) (number value p : �
       let later : suc i + 1 ≡ suc (i + 1) = omega arith in subst (λ z. (e : Entry) × (named (s ∷ way) found z ≡ Some e) × IsWayNode layout k m key u e) later (nodes (suc i) u at)
 
   sure_read : IsSure k (λ s. IsRead s m number l value)
-  sure_read = seen_is_sure k (λ s. IsRead s m number l value) (λ a b g. read_on a b g m number l value) read
+  sure_read = seen_is_sure k (λ s. IsRead s m number l value) (λ a b g. read_grown a b g m number l value) read
 
   -- from a node of the way down to the leaf
   goes_down : (r a : ℕ) (way : List Step) → AreWay way → (e : Entry) → named way found 0 ≡ Some e → IsSure k (λ s. IsOnWay s m r a e) → IsSure k (λ s. IsOnWay s m r a (LeafEntry number))
-  goes_down r a [] nodes e is on = subst (λ z. IsSure k (λ s. IsOnWay s m r a z)) (sym (same_some is)) on
+  goes_down r a [] nodes e is on = subst (λ z. IsSure k (λ s. IsOnWay s m r a z)) (sym (some_injective is)) on
   goes_down r a (s ∷ way) nodes e is on =
       let (next, named_is, node) = nodes 0 s refl in
-      let placed : IsSure k (λ z. IsPlaced z m s.number s.at next) = seen_is_sure k (λ z. IsPlaced z m s.number s.at next) (λ x y g. placed_on x y g m s.number s.at next) node.placed in
+      let placed : IsSure k (λ z. IsPlaced z m s.number s.at next) = seen_is_sure k (λ z. IsPlaced z m s.number s.at next) (λ x y g. placed_grown x y g m s.number s.at next) node.placed in
       goes_down r a way (rest_of s way nodes) next named_is
-      (descent_goes_on k m r a s.number s.height s.at next since (subst (λ z. IsSure k (λ s. IsOnWay s m r a z)) (sym (same_some is)) on) placed)
+      (descent_goes_on k m r a s.number s.height s.at next since (subst (λ z. IsSure k (λ s. IsOnWay s m r a z)) (sym (some_injective is)) on) placed)
 
   -- from what the way names at a level
   pub way_from : (way : List Step) → AreWay way → (i : ℕ) (e : Entry) → named way found i ≡ Some e → IsSure k (λ s. IsWayFrom s m l e)
-  way_from [] nodes i e is = subst (λ z. IsSure k (λ s. IsWayFrom s m l z)) (same_some is) (λ c law recalls. way_of_leaf c.past m number l value (sure_read c law recalls))
+  way_from [] nodes i e is = subst (λ z. IsSure k (λ s. IsWayFrom s m l z)) (some_injective is) (λ c law recalls. way_of_leaf c.past m number l value (sure_read c law recalls))
   way_from (s ∷ way) nodes zero e is =
       let (next, named_is, node) = nodes 0 s refl in
-      let led : IsSure k (λ z. IsSeen z m (Node s.number s.height)) = seen_is_sure k (λ z. IsSeen z m (Node s.number s.height)) (seen_on m (Node s.number s.height)) node.seen in
-      let shaped : IsSure k (λ z. IsShaped z m s.number node.forks) = seen_is_sure k (λ z. IsShaped z m s.number node.forks) (λ x y g. shaped_on x y g m s.number node.forks) node.shaped in
+      let led : IsSure k (λ z. EntryStoodSince z m (Node s.number s.height)) = seen_is_sure k (λ z. EntryStoodSince z m (Node s.number s.height)) (seen_on m (Node s.number s.height)) node.seen in
+      let shaped : IsSure k (λ z. IsShaped z m s.number node.forks) = seen_is_sure k (λ z. IsShaped z m s.number node.forks) (λ x y g. shaped_grown x y g m s.number node.forks) node.shaped in
       let r : ℕ = first_position node.forks in
       let begun = descent_begins k m s.number s.height r node.forks since led shaped refl in
       let down = goes_down r s.number (s ∷ way) nodes (Node s.number s.height) refl begun in
-      subst (λ z. IsSure k (λ s. IsWayFrom s m l z)) (same_some is) (descent_ends k m r s.number s.height number l value since down sure_read)
+      subst (λ z. IsSure k (λ s. IsWayFrom s m l z)) (some_injective is) (descent_ends k m r s.number s.height number l value since down sure_read)
   way_from (s ∷ way) nodes (suc i) e is = way_from way (rest_of s way nodes) i e is
 
 -- ---- the locked nodes of a span
@@ -307,32 +307,32 @@ module _ (layout : Layout) (k : Known) (m : ℕ) (key : Key) (way : List Step) (
   step_at : (i : ℕ) (s : Step) (at : slice_get way i ≡ Some s) (words : List ℕ) → HasLocked k s.number words → IsStepOf key s (w.nodes i s at).2.forks (node_words_of words)
   step_at i s at words h = let n = w.nodes i s at in way_node_locked layout k m key s n.0 words possible w.since n.2 h
 
-  forked : (n : ℕ) (words : List ℕ) → HasLocked k n words → IsForked (node_words_of words).page
+  forked : (n : ℕ) (words : List ℕ) → HasLocked k n words → IsForked (node_words_of words).subtrie
   unfolding IsPacked
   forked n words h =
       let (lock, tree, same) = all_of (IsLocked k.pass possible.core) (record { node = n; words = words }) k.locks (knows_all possible.core k possible.knows).locks h in
       let (view, has, spells) = possible.lawful.records.packed (a_node n) (subst IsWhole (sym tree.1) tt) in
       let shows = node_is view (possible.core.words (a_node n)) (possible.lawful.records.sized (a_node n)).1 has spells in
-      let page_is : (node_words_of words).page ≡ piece view = ap (λ (z : NodeWords). z.page) (ap node_words_of (sym same) ∙ shows) in
-      forked_big (node_words_of words).page (let e = ap size page_is ∙ size-piece view has.lawful in let l = has.lawful.several in omega (arith, e))
+      let subtrie_is : (node_words_of words).subtrie ≡ piece view = ap (λ (z : NodeWords). z.subtrie) (ap node_words_of (sym same) ∙ shows) in
+      forked_big (node_words_of words).subtrie (let e = ap size subtrie_is ∙ size-piece view has.lawful in let l = has.lawful.several in omega (arith, e))
 
   -- the locked node above names the one below, which is lower
   over : (p i : ℕ) (s u : Step) (ws wu : List ℕ) → span.end ≤ i + 1 → i < span.len → slice_get way i ≡ Some s → slice_get way (i + 1) ≡ Some u → HasLocked k s.number ws → HasLocked k u.number wu →
-      IsFirstBelow p (node_words_of wu).page ⊎ IsTipPage (page_affected p key (node_words_of ws).page) → IsLockedAbove k.locks key p s.number u.number
+      FirstForkIsBefore p (node_words_of wu).subtrie ⊎ IsTipSubtrie (subtrie_affected p key (node_words_of ws).subtrie) → IsLockedAbove k.locks key p s.number u.number
   over p i s u ws wu low high at next hs hu path = record {
     upper = ws;
     lower = wu;
     has_upper = hs;
     has_lower = hu;
     height = u.height;
-    entry = same_some (sym (checked.entries i s low high at ws hs) ∙ named_at way found (i + 1) u next);
+    entry = some_injective (sym (checked.entries i s low high at ws hs) ∙ named_at way found (i + 1) u next);
     path = path;
   }
 
   falls : (i : ℕ) (s u : Step) (ws wu : List ℕ) → slice_get way i ≡ Some s → slice_get way (i + 1) ≡ Some u → HasLocked k s.number ws → HasLocked k u.number wu → (node_words_of wu).fixed.height < (node_words_of ws).fixed.height
   falls i s u ws wu at next hs hu =
       let n = w.nodes i s at in
-      let same : n.0 ≡ Node u.number u.height = same_some (sym n.1 ∙ named_at way found (i + 1) u next) in
+      let same : n.0 ≡ Node u.number u.height = some_injective (sym n.1 ∙ named_at way found (i + 1) u next) in
       let high : height_of n.0 ≡ u.height = ap height_of same in
       omega (arith, n.2.below, high, (step_at i s at ws hs).height, (step_at (i + 1) u next wu hu).height)
 
@@ -350,53 +350,53 @@ module _ (layout : Layout) (k : Known) (m : ℕ) (key : Key) (way : List Step) (
   top_below = sym plan.len_is
 
   -- at the level the insertion affects these entries
-  affected_at : (s : Step) → slice_get way plan.level ≡ Some s → (words : List ℕ) → HasLocked k s.number words → AffectsJust key position plan.low plan.high (node_words_of words).page
+  affected_at : (s : Step) → slice_get way plan.level ≡ Some s → (words : List ℕ) → HasLocked k s.number words → AffectsJust key position plan.low plan.high (node_words_of words).subtrie
   affected_at s at words h =
       let (forks, shaped, affects) = plan.affected plan.level s plan.is_level at in
       let n = w.nodes plan.level s at in
       let same = (locked_shape layout k m s.number s.height forks words possible w.since n.2.seen shaped h).0 in
-      shape_affects key position plan.low plan.high (node_words_of words).page forks same affects
+      shape_affects key position plan.low plan.high (node_words_of words).subtrie forks same affects
 
   -- one entry is affected there
-  tip_at : plan.high ≤ plan.low → (s : Step) → slice_get way plan.level ≡ Some s → (words : List ℕ) → HasLocked k s.number words → IsTipPage (page_affected position key (node_words_of words).page)
-  tip_at few s at words h = let count = size_affected key position plan.low plan.high (node_words_of words).page (affected_at s at words h) in tip_small (page_affected position key (node_words_of words).page) (omega (arith, count))
+  tip_at : plan.high ≤ plan.low → (s : Step) → slice_get way plan.level ≡ Some s → (words : List ℕ) → HasLocked k s.number words → IsTipSubtrie (subtrie_affected position key (node_words_of words).subtrie)
+  tip_at few s at words h = let count = size_affected key position plan.low plan.high (node_words_of words).subtrie (affected_at s at words h) in tip_of_one_place (subtrie_affected position key (node_words_of words).subtrie) (omega (arith, count))
 
   -- the chosen node's affected part
-  pub part_at : (s : Step) → slice_get way top ≡ Some s → (words : List ℕ) → HasLocked k s.number words → IsPartPage (page_affected position key (node_words_of words).page) × AffectsJust key position first last (node_words_of words).page
+  pub part_at : (s : Step) → slice_get way top ≡ Some s → (words : List ℕ) → HasLocked k s.number words → IsPartSubtrie (subtrie_affected position key (node_words_of words).subtrie) × AffectsJust key position first last (node_words_of words).subtrie
   part_at s at words h = elim (chosen_is way plan.level plan.low plan.high plan.chosen plan.is_level.within plan.is_chosen) [
     | inl (several, u, there, is) ↦
         let here : slice_get way plan.level ≡ Some s = ap (slice_get way) (sym (ap (λ (c : Choice). c.level) is)) ∙ at in
         let affects = affected_at s here words h in
-        let count = size_affected key position plan.low plan.high (node_words_of words).page affects in
-        (part_big (page_affected position key (node_words_of words).page) (omega (arith, count)), subst_range plan.low plan.high (ap (λ (c : Choice). c.first) is) (ap (λ (c : Choice). c.last) is) words affects)
+        let count = size_affected key position plan.low plan.high (node_words_of words).subtrie affects in
+        (part_of_two (subtrie_affected position key (node_words_of words).subtrie) (omega (arith, count)), subst_range plan.low plan.high (ap (λ (c : Choice). c.first) is) (ap (λ (c : Choice). c.last) is) words affects)
     | inr o ↦ elim o [
       | inl (few, u, there, is) ↦
           let here : slice_get way (plan.level + 1) ≡ Some s = ap (slice_get way) (sym (ap (λ (c : Choice). c.level) is)) ∙ at in
-          let same : u ≡ s = same_some (sym there ∙ here) in
+          let same : u ≡ s = some_injective (sym there ∙ here) in
           let of_step = step_at layout k m key way found span possible own w locked checked (plan.level + 1) s here words h in
           let high = plan.is_level.rest (plan.level + 1) s (omega arith) here in
-          let some = size_pos (node_words_of words).page in
+          let some = size_pos (node_words_of words).subtrie in
           let count : u.count ≡ s.count = ap (λ (z : Step). z.count) same in
-          let (part, affects) = whole_part key position (u.count - 1) (node_words_of words).page (forked layout k m key way found span possible own w locked checked s.number words h) (omega (arith, high, of_step.first)) (omega (arith, some, of_step.count, count)) in
+          let (part, affects) = whole_part key position (u.count - 1) (node_words_of words).subtrie (forked layout k m key way found span possible own w locked checked s.number words h) (omega (arith, high, of_step.first)) (omega (arith, some, of_step.count, count)) in
           (part, subst_range 0 (u.count - 1) (ap (λ (c : Choice). c.first) is) (ap (λ (c : Choice). c.last) is) words affects)
       | inr (few, past, u, there, is) ↦
           let level_is : top ≡ plan.level = ap (λ (c : Choice). c.level) is in
           let here : slice_get way plan.level ≡ Some s = ap (slice_get way) (sym level_is) ∙ at in
           let tip = tip_at few s here words h in
-          let on : page_affected position key (node_words_of words).page ≡ Place (seek key (node_words_of words).page) = tip_seek position key (node_words_of words).page tip in
+          let on : subtrie_affected position key (node_words_of words).subtrie ≡ Place (seek key (node_words_of words).subtrie) = tip_seek position key (node_words_of words).subtrie tip in
           let named_is = checked.entries plan.level s (let u = plan.chain.upto in omega (arith, level_is)) (omega (arith, level_is, top_below)) here words h in
-          let leaf : seek key (node_words_of words).page ≡ LeafEntry plan.number = same_some (sym named_is ∙ (named_end way found (plan.level + 1) past ∙ ap end_of plan.found_is)) in
-          (subst IsPartPage (sym (on ∙ ap (λ e. let z : Page = Place e in z) leaf)) tt, subst_range plan.low plan.high (ap (λ (c : Choice). c.first) is) (ap (λ (c : Choice). c.last) is) words (affected_at s here words h))
+          let leaf : seek key (node_words_of words).subtrie ≡ LeafEntry plan.number = some_injective (sym named_is ∙ (named_end way found (plan.level + 1) past ∙ ap end_of plan.found_is)) in
+          (subst IsPartSubtrie (sym (on ∙ ap (λ e. let z : Subtrie = Place e in z) leaf)) tt, subst_range plan.low plan.high (ap (λ (c : Choice). c.first) is) (ap (λ (c : Choice). c.last) is) words (affected_at s here words h))
     ]
   ]
     where
-      subst_range : (f l : ℕ) → plan.chosen.first ≡ f → plan.chosen.last ≡ l → (words : List ℕ) → AffectsJust key position f l (node_words_of words).page → AffectsJust key position first last (node_words_of words).page
+      subst_range : (f l : ℕ) → plan.chosen.first ≡ f → plan.chosen.last ≡ l → (words : List ℕ) → AffectsJust key position f l (node_words_of words).subtrie → AffectsJust key position first last (node_words_of words).subtrie
       subst_range f l ef el words a =
-          subst (λ z. AffectsJust key position z last (node_words_of words).page) (sym (plan.first_is ∙ ef)) (subst (λ z. AffectsJust key position f z (node_words_of words).page) (sym (plan.last_is ∙ el)) a)
+          subst (λ z. AffectsJust key position z last (node_words_of words).subtrie) (sym (plan.first_is ∙ ef)) (subst (λ z. AffectsJust key position f z (node_words_of words).subtrie) (sym (plan.last_is ∙ el)) a)
 
   -- above the chosen node the insertion affects no more than the place on the way
   last_path : (i : ℕ) (s u : Step) (ws wu : List ℕ) → i + 1 ≡ top → slice_get way i ≡ Some s → slice_get way (i + 1) ≡ Some u → HasLocked k s.number ws → HasLocked k u.number wu →
-      IsFirstBelow position (node_words_of wu).page ⊎ IsTipPage (page_affected position key (node_words_of ws).page)
+      FirstForkIsBefore position (node_words_of wu).subtrie ⊎ IsTipSubtrie (subtrie_affected position key (node_words_of ws).subtrie)
   last_path i s u ws wu next at below hs hu = elim (chosen_is way plan.level plan.low plan.high plan.chosen plan.is_level.within plan.is_chosen) [
     | inl (several, v, there, is) ↦ inl (under (ap (λ (c : Choice). c.level) is))
     | inr o ↦ elim o [
@@ -408,16 +408,16 @@ module _ (layout : Layout) (k : Known) (m : ℕ) (key : Key) (way : List Step) (
     ]
   ]
     where
-      under : top ≡ plan.level → IsFirstBelow position (node_words_of wu).page
+      under : top ≡ plan.level → FirstForkIsBefore position (node_words_of wu).subtrie
       under level_is =
           let same : i + 1 ≡ plan.level = omega (arith, level_is) in
           let here : slice_get way plan.level ≡ Some u = ap (slice_get way) (sym same) ∙ below in
           let low : u.first_position < position = plan.is_level.low (omega (arith, same)) u here in
           let of_step = step_at layout k m key way found span possible own w locked checked plan.level u here wu hu in
-          below_first position (node_words_of wu).page (forked layout k m key way found span possible own w locked checked u.number wu hu) (omega (arith, low, of_step.first))
+          below_first position (node_words_of wu).subtrie (forked layout k m key way found span possible own w locked checked u.number wu hu) (omega (arith, low, of_step.first))
 
   path : (d i : ℕ) (s u : Step) (ws wu : List ℕ) → i + 1 + d ≡ top → span.end ≤ i + 1 → slice_get way i ≡ Some s → slice_get way (i + 1) ≡ Some u → HasLocked k s.number ws → HasLocked k u.number wu →
-      IsFirstBelow position (node_words_of wu).page ⊎ IsTipPage (page_affected position key (node_words_of ws).page)
+      FirstForkIsBefore position (node_words_of wu).subtrie ⊎ IsTipSubtrie (subtrie_affected position key (node_words_of ws).subtrie)
   unfolding over
   path zero i s u ws wu far low at below hs hu = last_path i s u ws wu (omega arith) at below hs hu
   path (suc d) i s u ws wu far low at below hs hu =
@@ -432,10 +432,10 @@ module _ (layout : Layout) (k : Known) (m : ℕ) (key : Key) (way : List Step) (
       over layout k m key way found span possible own w locked checked position i s u ws wu low (omega (arith, top_below)) at below hs hu (path (top - (i + 1)) i s u ws wu (omega arith) low at below hs hu)
 
   -- a full node, where its step says so
-  full_at : (i : ℕ) (s : Step) → slice_get way i ≡ Some s → s.count ≡ 32 → (words : List ℕ) → HasLocked k s.number words → size (node_words_of words).page ≡ 32
+  full_at : (i : ℕ) (s : Step) → slice_get way i ≡ Some s → s.count ≡ 32 → (words : List ℕ) → HasLocked k s.number words → size (node_words_of words).subtrie ≡ 32
   full_at i s at full words h = (step_at layout k m key way found span possible own w locked checked i s at words h).count ∙ full
 
-  pub pulled_full : (i : ℕ) (s : Step) → span.end < i → i ≤ top → slice_get way i ≡ Some s → (words : List ℕ) → HasLocked k s.number words → size (node_words_of words).page ≡ 32
+  pub pulled_full : (i : ℕ) (s : Step) → span.end < i → i ≤ top → slice_get way i ≡ Some s → (words : List ℕ) → HasLocked k s.number words → size (node_words_of words).subtrie ≡ 32
   pulled_full i s low high at words h =
       let next : i - 1 + 1 ≡ i = omega arith in
       let (u, above) = some_at way (i - 1) (omega (arith, top_within)) in
@@ -464,13 +464,13 @@ module _ (layout : Layout) (k : Known) (m : ℕ) (key : Key) (way : List Step) (
         holds = h.holds;
         alone = h.alone position (λ s above. let over_u = over_at (span.end - 1) s u above.words wu (omega arith) (let b = above.low in omega (arith, plan.chain.upto)) above.at
             (let next : span.end ≡ span.end - 1 + 1 = (let b = above.low in omega arith) in subst (λ i. slice_get way i ≡ Some u) next below) above.has hu in
-            ((node_words_of wu).page, (wu, hu, refl), over_u.path));
+            ((node_words_of wu).subtrie, (wu, hu, refl), over_u.path));
         fits = h.fits e (λ s above. ⊎_elim
             (λ room. let l = fits.1 room in let b = above.node.below in omega (arith, l, b, lower.height))
             (λ full. let count : u.count ≡ 32 = let r = lower.room in let c = lower.count in omega (arith, r, c, full) in
             let apart = plan.chain.stops (span.end - 1) u s (let b = above.low in omega arith) below above.at count in
             strictly (height_of e) u.height s.height (let l = fits.0 in omega (arith, l, lower.height)) above.node.below apart)
-            (cases_lt (size (node_words_of wu).page) 32));
+            (cases_lt (size (node_words_of wu).subtrie) 32));
       }
     where
       strictly : (e l h : ℕ) → e ≤ l + 1 → l < h → (h ≡ l + 1 → ⊥) → e < h
@@ -483,5 +483,5 @@ pub found_below : (layout : Layout) (k : Known) (m : ℕ) (key : Key) (way : Lis
 found_below layout k m key way number value p span w checked x given spelled i s words low high at h =
     let (l, read, apart) = w.found_at in
     let named_is = checked.entries i s low high at words h in
-    let from = way_from layout k m key number value p w.since l read way w.nodes (i + 1) (seek key (node_words_of words).page) named_is in
+    let from = way_from layout k m key number value p w.since l read way w.nodes (i + 1) (seek key (node_words_of words).subtrie) named_is in
     (l, descent_finds k k.locks m (item x key given) p l s.number words spelled w.since h from apart.0 apart.1)

@@ -11,21 +11,21 @@ use Rattle.record_words.specs.Entry.{HasEntryWord, entry_word}
 use Rattle.tries.specs.Keys.{Key}
 use Rattle.tries.specs.Place.{entry_at}
 use Rattle.tries.specs.Search.{seek}
-use Rattle.tries.specs.Tree.{Page, Tree, page}
+use Rattle.tries.specs.Tree.{Subtrie, Tree, subtrie}
 use Rattle.tries.proofs.Places.{seek_spot, spot_below}
-use Rattle.moments.specs.Heap.{Heap, NodeWords}
-use Rattle.moments.specs.State.{IsTop}
-use Rattle.moments.specs.declared.Pin.{Pin}
-use Rattle.moments.specs.declared.Rec.TheVariants.{Node as a_node}
-use Rattle.moments.specs.Trades.{IsOf}
-use Rattle.moments.proofs.Members.{all_of, map_of}
+use Rattle.versions.specs.Heap.{Heap, NodeWords}
+use Rattle.versions.specs.State.{IsTop}
+use Rattle.versions.specs.declared.Pin.{Pin}
+use Rattle.versions.specs.declared.Rec.TheVariants.{Node as a_node}
+use Rattle.versions.specs.Trades.{IsOneOf}
+use Rattle.versions.proofs.Members.{all_of, map_of}
 use Rattle.rowex_core.specs.declared.event.Act.TheVariants.{LoadRef}
 use Rattle.rowex_core.specs.declared.event.Spot.TheVariants.{Slot, Root}
 use Rattle.rowex_core.specs.declared.event.Event.{Event}
 use Rattle.rowex_core.specs.declared.known.Fresh.{Fresh}
 use Rattle.rowex_core.specs.declared.known.Known.{Known}
 use Rattle.rowex_core.specs.Cores.{heap_of}
-use Rattle.rowex_core.specs.Knowing.{IsEvent, IsSince, Recalls}
+use Rattle.rowex_core.specs.Knowing.{IsEvent, IsPinnedSince, Recalls}
 use Rattle.rowex_core.specs.Reading.{entry_of, node_words_of}
 use Rattle.rowex_core.specs.Sharing.{IsLocked}
 use Rattle.rowex_core.proofs.Owning.{knows_all, recalls}
@@ -48,7 +48,7 @@ use Rattle.rowex_rights.specs.Loops.{StaysLocked}
 use Rattle.std.proofs.lemmas.List.Elements.{All-cons, All-nil}
 use Rattle.rowex_rights.proofs.Loops.{still_locked}
 use Rattle.rowex_writing.specs.Checks.{EntriesStand}
-use Rattle.rowex_writing.specs.Going.{HasLocked, IsLockedBy, ReadsOn, IsQuiet}
+use Rattle.rowex_writing.specs.Going.{HasLocked, IsLockedBy, ReadsOn, TriesNoLock}
 use Rattle.rowex_writing.specs.Locks.{HasLockedSpan, span_numbers}
 use Rattle.rowex_reading.specs.Ways.{IsWayOf, RootWas, named}
 use Rattle.rowex_reading.specs.declared.descent.Found.{Found}
@@ -61,8 +61,8 @@ some_of : (o : Option Entry) → IsSome o → (e : Entry) × (o ≡ Some e)
 some_of None h = absurd (let e : ⊥ = cc in e)
 some_of (Some e) h = (e, refl)
 
--- the entry at a place, where the page has the place
-placed_in : (p : Page) (i : ℕ) (o : Option Entry) → IsSome o → o ≡ (if nat_lt i (size p) then Some (entry_at p i) else None) → o ≡ Some (entry_at p i)
+-- the entry at a place, where the subtrie has the place
+placed_in : (p : Subtrie) (i : ℕ) (o : Option Entry) → IsSome o → o ≡ (if nat_lt i (size p) then Some (entry_at p i) else None) → o ≡ Some (entry_at p i)
 placed_in p i o some is = go (ltb i (size p)) is
   where
     none : ◌≡◌ {A = Option Entry} o None → ⊥
@@ -75,18 +75,18 @@ placed_in p i o some is = go (ltb i (size p)) is
 -- ---- a load of an entry of a locked node
 module _ {layout : Layout} {k j : Known} (n i w : ℕ) (e : IsEvent layout (LoadRef (Slot n i) w) silent k j) where
   -- the word is that of the entry at the place
-  locked_entry : (words : List ℕ) → HasLocked k n words → i < 32 → entry_of w ≡ (if nat_lt i (size (node_words_of words).page) then Some (entry_at (node_words_of words).page i) else None)
+  locked_entry : (words : List ℕ) → HasLocked k n words → i < 32 → entry_of w ≡ (if nat_lt i (size (node_words_of words).subtrie) then Some (entry_at (node_words_of words).subtrie i) else None)
   locked_entry words h low =
       let (lock, tree, same) = all_of (IsLocked k.pass e.core) (record { node = n; words = words }) k.locks (knows_all e.core k e.knows).locks h in
       let (view, is) = locked_spells e n words h in
       let small = subst (All (λ z. z < 2 ^ 64)) same (e.lawful.records.sized (a_node n)).1 in
       ap entry_of (entry_of_locked layout silent k j n i w words e h).0 ∙ (entry_at_is view words small is.has is.spells i low ∙
-      ap (λ (z : NodeWords). if nat_lt i (size z.page) then Some (entry_at z.page i) else None) (sym is.shows))
+      ap (λ (z : NodeWords). if nat_lt i (size z.subtrie) then Some (entry_at z.subtrie i) else None) (sym is.shows))
 
   module _ (m h : ℕ) (has : HasPlace k m n h i) (o : Option Entry) (word : HasEntryWord o) (spells : entry_word o ≡ w) where
-    pub entry_is : (words : List ℕ) → HasLocked k n words → i < 32 → o ≡ Some (entry_at (node_words_of words).page i)
+    pub entry_is : (words : List ℕ) → HasLocked k n words → i < 32 → o ≡ Some (entry_at (node_words_of words).subtrie i)
     entry_is words locked low =
-        placed_in (node_words_of words).page i o (slot_some layout k j n i w e m h has o word spells) (sym (entry_of_word o word) ∙ (ap entry_of spells ∙ locked_entry words locked low))
+        placed_in (node_words_of words).subtrie i o (slot_some layout k j n i w e m h has o word spells) (sym (entry_of_word o word) ∙ (ap entry_of spells ∙ locked_entry words locked low))
 
     -- Where it isn't the one that was read there since m, something has changed.
     pub entry_changed : (old : Entry) → Sure k (λ past. IsPlaced past m n i old) → o ≢ Some old → m < length j.front
@@ -113,7 +113,7 @@ module _ {G : Type 0} (table : TableView) (becomes : G → Event → G → Type 
   reads_root a b (w, s) = record {
     goes = record {
       acts = LoadRef Root w ∷ [];
-      plain = All-cons IsQuiet (LoadRef Root w) [] tt (All-nil IsQuiet);
+      plain = All-cons TriesNoLock (LoadRef Root w) [] tt (All-nil TriesNoLock);
       steps = runs_one table becomes (LoadRef Root w) a b s;
       stays = still_locked table.layout a.0.known b.0.known (LoadRef Root w) tt tt tt s.event;
     };
@@ -125,11 +125,11 @@ blank_top heap None t is top = refl
 blank_top heap (Some x) None is top = absurd top
 blank_top heap (Some x) (Some u) is top = absurd cc
 
-rooted_top : (heap : Heap) (r : Option Entry) (t : Option Tree) (u : Tree) (e : Entry) → t ≡ Some u → page u ≡ Place e → IsTop heap r t → Some e ≡ r
+rooted_top : (heap : Heap) (r : Option Entry) (t : Option Tree) (u : Tree) (e : Entry) → t ≡ Some u → subtrie u ≡ Place e → IsTop heap r t → Some e ≡ r
 rooted_top heap None None u e is pg top = absurd cc
 rooted_top heap None (Some v) u e is pg top = absurd top
 rooted_top heap (Some x) None u e is pg top = absurd top
-rooted_top heap (Some x) (Some v) u e is pg top = let one : v ≡ u = cc in let both : Place e ≡ Place x = sym pg ∙ (ap page (sym one) ∙ top.0) in cc
+rooted_top heap (Some x) (Some v) u e is pg top = let one : v ≡ u = cc in let both : Place e ≡ Place x = sym pg ∙ (ap subtrie (sym one) ∙ top.0) in cc
 
 module _ {layout : Layout} {k j : Known} (p : Pin) (pinned : k.pin ≡ Some p) (w : ℕ) (e : IsEvent layout (LoadRef Root w) silent k j) where
   fresh_now : since j ≡ length j.front
@@ -145,11 +145,11 @@ module _ {layout : Layout} {k j : Known} (p : Pin) (pinned : k.pin ≡ Some p) (
   root_is None h =
       let (n, lo, hi, blank) = h e.core e.lawful there in
       let now : n ≡ e.core.past.now = let a = fresh_now in let b = front_now in omega arith in
-      blank_top (heap_of e.core.words) e.core.root (e.core.past.moment e.core.past.now) (ap e.core.past.moment (sym now) ∙ blank) e.lawful.core.state.top
+      blank_top (heap_of e.core.words) e.core.root (e.core.past.version e.core.past.now) (ap e.core.past.version (sym now) ∙ blank) e.lawful.core.state.top
   root_is (Some x) h =
       let (n, t, lo, hi, is, pg) = h e.core e.lawful there in
       let now : n ≡ e.core.past.now = let a = fresh_now in let b = front_now in omega arith in
-      rooted_top (heap_of e.core.words) e.core.root (e.core.past.moment e.core.past.now) t x (ap e.core.past.moment (sym now) ∙ is) pg e.lawful.core.state.top
+      rooted_top (heap_of e.core.words) e.core.root (e.core.past.version e.core.past.now) t x (ap e.core.past.version (sym now) ∙ is) pg e.lawful.core.state.top
 
   -- under the anchor's lock it is the one that the pass knows
   pub anchor_is : IsSome k.anchor → (o : Option Entry) → RootIs j o → j.anchor ≡ Some o
@@ -201,18 +201,18 @@ pub none_stand : (layout : Layout) (k : Known) (way : List Step) (found : Found)
 none_stand layout k way found span index is m key w i s low high at words h = absurd (omega arith)
 
 pub more_stand : (layout : Layout) (k : Known) (way : List Step) (found : Found) (span : Span) (index : ℕ) → IsPossible layout k → StandBelow layout k way found span index →
-    ((s : Step) → slice_get way index ≡ Some s → (words : List ℕ) → HasLocked k s.number words → named way found (index + 1) ≡ Some (entry_at (node_words_of words).page s.at)) →
+    ((s : Step) → slice_get way index ≡ Some s → (words : List ℕ) → HasLocked k s.number words → named way found (index + 1) ≡ Some (entry_at (node_words_of words).subtrie s.at)) →
     StandBelow layout k way found span (index + 1)
 more_stand layout k way found span index possible above here m key w i s low high at words h = go (cases_lt i index)
   where
-    go : (i < index) ⊎ (index ≤ i) → named way found (i + 1) ≡ Some (seek key (node_words_of words).page)
+    go : (i < index) ⊎ (index ≤ i) → named way found (i + 1) ≡ Some (seek key (node_words_of words).subtrie)
     go (inl less) = above m key w i s low less at words h
     go (inr more) =
         let one : i ≡ index = omega arith in
         let (e, name, is) = w.nodes i s at in
         let step = way_node_locked layout k m key s e words possible w.since is h in
         ap (λ n. named way found (n + 1)) one ∙ (here s (ap (slice_get way) (sym one) ∙ at) words h ∙
-        ap Some (ap (entry_at (node_words_of words).page) (sym step.at) ∙ sym (seek_spot key (node_words_of words).page)))
+        ap Some (ap (entry_at (node_words_of words).subtrie) (sym step.at) ∙ sym (seek_spot key (node_words_of words).subtrie)))
 
 -- ---- a step of the way, some loads later
 module _ (layout : Layout) (k j : Known) (m : ℕ) (key : Key) (way : List Step) (found : Found) (later : IsLater k j) (w : IsWayOf layout k m key way found) (i : ℕ) (s : Step)
@@ -234,7 +234,7 @@ drop_has [] (suc a) i x low at = absurd cc
 drop_has (y ∷ xs) (suc a) zero x low at = absurd (omega arith)
 drop_has (y ∷ xs) (suc a) (suc i) x low at = let e : suc i - suc a ≡ i - a = omega arith in ap (slice_get (drop a xs)) e ∙ drop_has xs a i x (omega arith) at
 
-take_has : {X : Type 0} (xs : List X) (n i : ℕ) (x : X) → i < n → slice_get xs i ≡ Some x → IsOf x (take n xs)
+take_has : {X : Type 0} (xs : List X) (n i : ℕ) (x : X) → i < n → slice_get xs i ≡ Some x → IsOneOf x (take n xs)
 take_has xs zero i x low at = absurd (omega arith)
 take_has [] (suc n) i x low at = absurd cc
 take_has (y ∷ xs) (suc n) zero x low at = inl (let e : x ≡ y = cc in e)
@@ -246,7 +246,7 @@ pub span_locked : (k j : Known) (way : List Step) (span : Span) → j.locks ≡ 
 span_locked k j way span same locked i s low high at =
     let inside = take_has (drop (span.end - 1) way) (span.len - (span.end - 1)) (i - (span.end - 1)) s (omega arith) (drop_has way (span.end - 1) i s (omega arith) at) in
     let (l, there, is) = locked.nodes.0.each s.number (map_of (λ (z : Step). z.number) s (slice_range way (span.end - 1) span.len) inside) in
-    (l.words, subst (λ locks. IsOf (record { node = s.number; words = l.words }) locks) (sym same) (subst (λ n. IsOf (record { node = n; words = l.words }) k.locks) is there))
+    (l.words, subst (λ locks. IsOneOf (record { node = s.number; words = l.words }) locks) (sym same) (subst (λ n. IsOneOf (record { node = n; words = l.words }) k.locks) is there))
 
 pub span_later : (k j : Known) (way : List Step) (span : Span) → StaysLocked k j → HasLockedSpan k way span → HasLockedSpan j way span
 span_later k j way span (later, locks, anchor) locked = record {
@@ -255,5 +255,5 @@ span_later k j way span (later, locks, anchor) locked = record {
   below = λ z. anchor ∙ locked.below z;
 }
 
-pub since_pinned : (k : Known) (m : ℕ) → IsSince k m → IsSome k.pin
+pub since_pinned : (k : Known) (m : ℕ) → IsPinnedSince k m → IsSome k.pin
 since_pinned k m (p, is, low) = subst (λ a. IsSome a) (sym is) refl

@@ -9,16 +9,16 @@ use Rattle.compound_node.specs.Nodes.{IsEntry}
 use Rattle.compound_node.specs.declared.entries.Entry.{Entry}
 use Rattle.compound_node.specs.declared.entries.Entry.TheVariants.{Leaf as LeafEntry, Node}
 use Rattle.insert_cases.specs.declared.choice.Step.{Step}
-use Rattle.moments.specs.Trades.{IsOf, AreApart}
-use Rattle.moments.specs.declared.Rec.{Rec}
-use Rattle.moments.specs.declared.Rec.TheVariants.{Node as a_node}
-use Rattle.moments.proofs.Members.{map_of, of_append, of_left, of_map, of_right}
+use Rattle.versions.specs.Trades.{IsOneOf, AreApart}
+use Rattle.versions.specs.declared.Rec.{Rec}
+use Rattle.versions.specs.declared.Rec.TheVariants.{Node as a_node}
+use Rattle.versions.proofs.Members.{map_of, of_append, of_left, of_map, of_right}
 use Rattle.pieces.specs.Piece.{Place, places}
 use Rattle.record_words.specs.Entry.{HasEntryWord, entry_word}
 use Rattle.record_words.specs.declared.layout.Layout.{Layout}
 use Rattle.tries.specs.Content.{Item, item}
 use Rattle.tries.specs.Keys.{Key}
-use Rattle.tries.specs.Tree.{Tree, page, IsBuilt}
+use Rattle.tries.specs.Tree.{Tree, subtrie, IsBuilt}
 use Rattle.tries.proofs.Fitting.{children_are}
 use Rattle.rowex_core.specs.Cores.{HasRecord}
 use Rattle.rowex_core.specs.Having.{AreKept, LocksJust}
@@ -27,9 +27,9 @@ use Rattle.rowex_core.specs.declared.event.Spot.TheVariants.{Root, Slot}
 use Rattle.rowex_core.specs.declared.known.Known.{Known}
 use Rattle.rowex_core.specs.declared.known.Locked.{Locked}
 use Rattle.rowex_rights.specs.Spots.{IsSpotOf}
-use Rattle.rowex_rights.specs.Rises.{of_leaf, HasFoundBelow}
+use Rattle.rowex_rights.specs.Rises.{made_of_leaf, HasFoundBelow}
 use Rattle.rowex_rights.specs.Stages.{HasRisen}
-use Rattle.rowex_rights.proofs.Holding.{spot_on}
+use Rattle.rowex_rights.proofs.Holding.{spot_stays}
 use Rattle.rowex_rights.proofs.Inserting.{insertion}
 use Rattle.rowex_rights.proofs.Rising.{risen_stays}
 use Rattle.rowex_table.specs.Made.{IsLater, nodes_of}
@@ -40,7 +40,7 @@ use Rattle.insert_cases.proofs.Choosing.{some_at}
 use Rattle.rowex_core.specs.Reading.{node_words_of}
 use Rattle.rowex_rights.specs.Loops.{StaysLocked}
 use Rattle.rowex_rights.proofs.Sure.{found_stays}
-use Rattle.tries.specs.Affected.{page_affected, IsPartPage}
+use Rattle.tries.specs.Affected.{subtrie_affected, IsPartSubtrie}
 use Rattle.tries.proofs.Places.{spot_below}
 use Rattle.rowex_writing.specs.Remaking.{AffectsJust}
 use Rattle.rowex_writing.specs.Plans.{change}
@@ -54,10 +54,10 @@ use Rattle.rowex_walks.specs.Rise.{entry}
 use Rattle.rowex_walks.specs.Writer.{added_change}
 use Rattle.rowex_core.specs.declared.event.Event.{Event}
 use Rattle.rowex_rights.specs.Ending.{IsAtRest}
-use Rattle.rowex_rights.proofs.Loops.{later_on}
+use Rattle.rowex_rights.proofs.Loops.{later_transitive}
 use Rattle.rowex_writing.specs.declared.plan.Full.TheVariants.{Nodes, Leaves}
-use Rattle.rowex_writing.specs.Building.{FitsAbove, IsBuilding, IsChain, HasRisenTo, gone_unless, gone_with}
-use Rattle.rowex_writing.specs.Changes.{HasNoRoom, HasRun, HasTakenSpan, IsChecked, IsFull, IsPlanned, IsStored, MayEnd}
+use Rattle.rowex_writing.specs.Building.{FitsAbove, IsBuilding, IsChain, HasRisenTo, gone_unless_whole, gone_with_way}
+use Rattle.rowex_writing.specs.Changes.{HasNoRoom, HasRun, HasTakenSpan, IsChecked, IsFull, IsPlanned, IsPutChange, MayPublishOnceReady}
 use Rattle.rowex_writing.specs.Going.{HasLocked, WorksOn}
 use Rattle.rowex_writing.specs.Growths.{HasNumber, MayGrow}
 use Rattle.rowex_writing.specs.Locks.{AreNodes, Works, numbers_of, span_numbers}
@@ -71,17 +71,17 @@ use Rattle.rowex_writing.proofs.Runs.{works_run}
 use Rattle.rowex_writing.proofs.Keeping.{missed_from_on, missed_on}
 use Rattle.rowex_writing.proofs.Spans.{locked_same}
 use Rattle.rowex_writing.proofs.Works.{works_later}
-use Rattle.rowex_writing.proofs.Staging.{risen_page}
+use Rattle.rowex_writing.proofs.Staging.{risen_subtrie}
 
 -- ---- what goes
-gone_list : (way : List Step) (end low : ℕ) → end ≤ low → gone_with way end low [] ≡ map (λ (s : Step). a_node s.number) (slice_range way end low)
+gone_list : (way : List Step) (end low : ℕ) → end ≤ low → gone_with_way way end low [] ≡ map (λ (s : Step). a_node s.number) (slice_range way end low)
 gone_list way end low h =
     let there : end + (low - end) ≡ low = omega arith in
     append-nil (map (λ (s : Step). a_node s.number) (drop end (take low way))) ∙ ap (map (λ (s : Step). a_node s.number)) (ap (λ n. drop end (take n way)) (sym there) ∙ drop-take end (low - end) way)
 
 -- the nodes of the span, without the lowest where that stays
 pub gone_is : (way : List Step) (end top len low : ℕ) (stays : Bool) (s : Step) → end ≤ top → top + 1 ≡ len → low ≡ (if stays then top else len) → slice_get way top ≡ Some s →
-    gone_with way end top (gone_unless stays s.number) ≡ map (λ (s : Step). a_node s.number) (slice_range way end low)
+    gone_with_way way end top (gone_unless_whole stays s.number) ≡ map (λ (s : Step). a_node s.number) (slice_range way end low)
 gone_is way end top len low true s h next low_is at = gone_list way end top h ∙ ap (λ n. map (λ (s : Step). a_node s.number) (slice_range way end n)) (sym low_is)
 gone_is way end top len low false s h next low_is at =
     gone_more way end top len [] s next h at ∙ (gone_list way end len (omega arith) ∙ ap (λ n. map (λ (s : Step). a_node s.number) (slice_range way end n)) (sym low_is))
@@ -91,9 +91,9 @@ apart_right : {X : Type 0} (xs ys : List X) → AreApart (xs ++ ys) → AreApart
 apart_right [] ys a = a
 apart_right (x ∷ xs) ys a = apart_right xs ys a.1
 
-apart_from : {X : Type 0} (x : X) (xs ys : List X) → AreApart (xs ++ ys) → IsOf x xs → IsOf x ys → ⊥
+apart_from : {X : Type 0} (x : X) (xs ys : List X) → AreApart (xs ++ ys) → IsOneOf x xs → IsOneOf x ys → ⊥
 apart_from x [] ys a h i = h
-apart_from x (y ∷ xs) ys a (inl e) i = a.0 (of_right y xs ys (subst (λ z. IsOf z ys) e i))
+apart_from x (y ∷ xs) ys a (inl e) i = a.0 (of_right y xs ys (subst (λ z. IsOneOf z ys) e i))
 apart_from x (y ∷ xs) ys a (inr h) i = apart_from x xs ys a.1 h i
 
 apart_without : {X : Type 0} (xs ys zs : List X) → AreApart (xs ++ (ys ++ zs)) → AreApart (xs ++ zs)
@@ -103,7 +103,7 @@ apart_without (x ∷ xs) ys zs a = (
   apart_without xs ys zs a.1,
 )
 
-node_is_one : (n : ℕ) (steps : List Step) → IsOf (a_node n) (map (λ (s : Step). a_node s.number) steps) → IsOf n (numbers_of steps)
+node_is_one : (n : ℕ) (steps : List Step) → IsOneOf (a_node n) (map (λ (s : Step). a_node s.number) steps) → IsOneOf n (numbers_of steps)
 node_is_one n [] h = absurd h
 node_is_one n (s ∷ steps) (inl e) = inl (ap number_of e)
   where
@@ -112,7 +112,7 @@ node_is_one n (s ∷ steps) (inl e) = inl (ap number_of e)
     number_of r = 0
 node_is_one n (s ∷ steps) (inr h) = inr (node_is_one n steps h)
 
-one_is_node : (n : ℕ) (steps : List Step) → IsOf n (numbers_of steps) → IsOf (a_node n) (map (λ (s : Step). a_node s.number) steps)
+one_is_node : (n : ℕ) (steps : List Step) → IsOneOf n (numbers_of steps) → IsOneOf (a_node n) (map (λ (s : Step). a_node s.number) steps)
 one_is_node n [] h = absurd h
 one_is_node n (s ∷ steps) (inl e) = inl (ap a_node e)
 one_is_node n (s ∷ steps) (inr h) = inr (one_is_node n steps h)
@@ -121,28 +121,28 @@ kept_parts : (locks : List Locked) (us gs cs : List Step) → LocksJust locks (n
     AreKept (nodes_of locks) (map (λ (s : Step). a_node s.number) gs) (numbers_of us ++ numbers_of cs) × AreApart (numbers_of us ++ numbers_of cs)
 kept_parts locks us gs cs just apart = (
   record {
-    only = λ n h. (let (l, there, is) = of_map (λ (l : Locked). l.node) n locks h in sort n (subst (λ z. IsOf z (numbers_of us ++ (numbers_of gs ++ numbers_of cs))) (sym is) (just.only l there)));
+    only = λ n h. (let (l, there, is) = of_map (λ (l : Locked). l.node) n locks h in sort n (subst (λ z. IsOneOf z (numbers_of us ++ (numbers_of gs ++ numbers_of cs))) (sym is) (just.only l there)));
     each = λ n h. (held n h, λ g. outside n h (node_is_one n gs g));
   },
   apart_without (numbers_of us) (numbers_of gs) (numbers_of cs) apart,
 )
   where
-    sort : (n : ℕ) → IsOf n (numbers_of us ++ (numbers_of gs ++ numbers_of cs)) → IsOf n (numbers_of us ++ numbers_of cs) ⊎ IsOf (a_node n) (map (λ (s : Step). a_node s.number) gs)
+    sort : (n : ℕ) → IsOneOf n (numbers_of us ++ (numbers_of gs ++ numbers_of cs)) → IsOneOf n (numbers_of us ++ numbers_of cs) ⊎ IsOneOf (a_node n) (map (λ (s : Step). a_node s.number) gs)
     sort n h = elim (of_append n (numbers_of us) (numbers_of gs ++ numbers_of cs) h) [
       | inl i ↦ inl (of_left n (numbers_of us) (numbers_of cs) i)
       | inr i ↦ elim (of_append n (numbers_of gs) (numbers_of cs) i) [ inl j ↦ inr (one_is_node n gs j) | inr j ↦ inl (of_right n (numbers_of us) (numbers_of cs) j) ]
     ]
 
-    within : (n : ℕ) → IsOf n (numbers_of us ++ numbers_of cs) → IsOf n (numbers_of us ++ (numbers_of gs ++ numbers_of cs))
+    within : (n : ℕ) → IsOneOf n (numbers_of us ++ numbers_of cs) → IsOneOf n (numbers_of us ++ (numbers_of gs ++ numbers_of cs))
     within n h = elim (of_append n (numbers_of us) (numbers_of cs) h) [
       | inl i ↦ of_left n (numbers_of us) (numbers_of gs ++ numbers_of cs) i
       | inr i ↦ of_right n (numbers_of us) (numbers_of gs ++ numbers_of cs) (of_right n (numbers_of gs) (numbers_of cs) i)
     ]
 
-    held : (n : ℕ) → IsOf n (numbers_of us ++ numbers_of cs) → IsOf n (nodes_of locks)
-    held n h = let (l, there, is) = just.each n (within n h) in subst (λ z. IsOf z (nodes_of locks)) is (map_of (λ (z : Locked). z.node) l locks there)
+    held : (n : ℕ) → IsOneOf n (numbers_of us ++ numbers_of cs) → IsOneOf n (nodes_of locks)
+    held n h = let (l, there, is) = just.each n (within n h) in subst (λ z. IsOneOf z (nodes_of locks)) is (map_of (λ (z : Locked). z.node) l locks there)
 
-    outside : (n : ℕ) → IsOf n (numbers_of us ++ numbers_of cs) → IsOf n (numbers_of gs) → ⊥
+    outside : (n : ℕ) → IsOneOf n (numbers_of us ++ numbers_of cs) → IsOneOf n (numbers_of gs) → ⊥
     outside n h g = elim (of_append n (numbers_of us) (numbers_of cs) h) [
       | inl i ↦ apart_from n (numbers_of us) (numbers_of gs ++ numbers_of cs) apart i (of_left n (numbers_of gs) (numbers_of cs) g)
       | inr i ↦ apart_from n (numbers_of gs) (numbers_of cs) (apart_right (numbers_of us) (numbers_of gs ++ numbers_of cs) apart) g i
@@ -185,18 +185,18 @@ pub no_room : {G : Type 0} (table : TableView) (becomes : G → Event → G → 
     IsFull table.layout key a.0.known b.0.known full → HasNoRoom table.layout key a.0.known c.0.known full
 no_room table becomes key a b c full goes works rest missed = record {
   rest = rest;
-  others = (later_on a.0.known b.0.known c.0.known goes.stays.0 (works_later table becomes b c works)).front;
+  others = (later_transitive a.0.known b.0.known c.0.known goes.stays.0 (works_later table becomes b c works)).front;
   full_of = full_on table becomes key a.0.known b c full (works_run table becomes b c works) missed;
 }
 
--- nor since an earlier moment
+-- nor since an earlier version
 pub full_since : (layout : Layout) (key : Key) (a b c : Known) (full : Full) → a.steps ≤ b.steps → IsFull layout key b c full → IsFull layout key a c full
 full_since layout key a b c Nodes count missed = λ q low. (let (step, late, miss) = missed q low in (step, le_trans count late, miss))
 full_since layout key a b c Leaves count missed = λ q low room. (let (step, late, miss) = missed q low room in (step, le_trans count late, miss))
 
 -- ---- the leaf's record is made
 pub may_grow : (table : TableView) (a b : SeatView) (made : List Rec) (m : ℕ) (key : Key) (value : ℕ) (way : List Step) (found : Found) (span : Span) (aim : Aim) (position first last leaf : ℕ) → HasTakenSpan table a m key way found span →
-    IsPlanned a.known m key way aim found (change span.len span.end (Grow position first last)) → StaysLocked a.known b.known → IsBuilding table b made (of_leaf (item leaf key value) ∷ []) → HasLeafWords (key, value) →
+    IsPlanned a.known m key way aim found (change span.len span.end (Grow position first last)) → StaysLocked a.known b.known → IsBuilding table b made (made_of_leaf (item leaf key value) ∷ []) → HasLeafWords (key, value) →
     MayGrow table b made way key value span position first last leaf
 may_grow table a b made m key value way found span aim position first last leaf t planned stays building spelled = record {
   within = (omega (arith, upto, len_is), omega (arith, len_is, within));
@@ -230,9 +230,9 @@ may_grow table a b made m key value way found span aim position first last leaf 
   };
   item_is = refl;
   place = λ u us e spot there locked fits where_it_is.
-      let here : HasLocked a.known u.number us = subst (IsOf (record { node = u.number; words = us })) stays.1 locked in
+      let here : HasLocked a.known u.number us = subst (IsOneOf (record { node = u.number; words = us })) stays.1 locked in
       let (on, is_slot) = place u us e there here fits spot where_it_is in
-      (subst (λ ls. IsSpotOf b.known ls key position u.number e spot) (sym stays.1) (spot_on a.known b.known a.known.locks key position u.number e spot stays.2 on), is_slot);
+      (subst (λ ls. IsSpotOf b.known ls key position u.number e spot) (sym stays.1) (spot_stays a.known b.known a.known.locks key position u.number e spot stays.2 on), is_slot);
 }
   where
     w : IsWayOf table.layout a.known m key way found
@@ -268,7 +268,7 @@ may_grow table a b made m key value way found span aim position first last leaf 
     held : HasLocked a.known s.number words
     held = (locked_at a.known way span t.locked plan.chosen.level s (omega (arith, upto)) (omega (arith, len_is)) at).1
 
-    part : IsPartPage (page_affected position key (node_words_of words).page) × AffectsJust key position first last (node_words_of words).page
+    part : IsPartSubtrie (subtrie_affected position key (node_words_of words).subtrie) × AffectsJust key position first last (node_words_of words).subtrie
     part = part_at table.layout a.known m key way found span t.possible t.own w t.locked t.checked position first last plan s at words held
 
     below : (l : Key) × HasFoundBelow a.known a.known.locks m x position l s.number words
@@ -298,14 +298,14 @@ grow_within table a m key way found span aim position first last t planned =
 
 -- the change is that of a key which was absent
 pub grown_stored : (k : Known) (m : ℕ) (key : Key) (value : ℕ) (way : List Step) (found : Found) (span : Span) (aim : Aim) (position first last leaf : ℕ) →
-    IsPlanned k m key way aim found (change span.len span.end (Grow position first last)) → IsStored k.pass key value found (added_change k.pass (item leaf key value)) None
+    IsPlanned k m key way aim found (change span.len span.end (Grow position first last)) → IsPutChange k.pass key value found (added_change k.pass (item leaf key value)) None
 grown_stored k m key value way found span aim position first last leaf planned =
     let plan = grow_plan k m key way span.len span.end position first last aim found planned in
-    subst (λ f. IsStored k.pass key value f (added_change k.pass (item leaf key value)) None) (sym plan.found_is) (refl, refl)
+    subst (λ f. IsPutChange k.pass key value f (added_change k.pass (item leaf key value)) None) (sym plan.found_is) (refl, refl)
 
 -- ---- the store
 -- the entry for a tree has a word
-tip_word : (e : Entry) (t : Tree) → page t ≡ Place e → IsBuilt t → IsEntry e
+tip_word : (e : Entry) (t : Tree) → subtrie t ≡ Place e → IsBuilt t → IsEntry e
 tip_word e t h b = subst (λ x. All IsEntry (places x)) h (children_are t b) 0 e (omega arith)
 
 entry_has : (e : Entry) → HasNumber e → IsEntry e → HasEntryWord (Some e)
@@ -314,7 +314,7 @@ entry_has (Node n h) low is = (omega (arith, low), omega (arith, is.0), omega (a
 
 module _ (table : TableView) (a b : SeatView) (made after : List Rec) (way : List Step) (key : Key) (value : ℕ) (span : Span) (position first last leaf : ℕ)
     (may : MayGrow table a made way key value span position first last leaf) (later : IsLater a.known b.known) (locks : b.known.locks ≡ a.known.locks) (anchor : b.known.anchor ≡ a.known.anchor) (e : Entry) (number : HasNumber e) (stays : Bool)
-    (risen : HasRisenTo table b after way may.growing.lowest.since may.growing.lowest.item position may.growing.lowest.like span.end (gone_with way span.end (span.len - 1) (gone_unless stays may.growing.step.number)) e)
+    (risen : HasRisenTo table b after way may.growing.lowest.since may.growing.lowest.item position may.growing.lowest.like span.end (gone_with_way way span.end (span.len - 1) (gone_unless_whole stays may.growing.step.number)) e)
     (low : (s : Step) (words : List ℕ) → slice_get way span.end ≡ Some s → HasLocked a.known s.number words → FitsAbove words e) where
   -- the words of the topmost node
   top_words : (words : List ℕ) × HasLocked a.known risen.1.number words
@@ -323,8 +323,8 @@ module _ (table : TableView) (a b : SeatView) (made after : List Rec) (way : Lis
   pub grown_spot : (spot : Spot) → IsSpotAbove way span.end spot → IsSpotOf a.known a.known.locks key position risen.1.number e spot
   grown_spot spot at = (may.place risen.1 top_words.0 e spot risen.2 top_words.1 (low risen.1 top_words.0 risen.2 top_words.1) at).0
 
-  pub grown_ends : (spot : Spot) (gone : List Rec) → IsSpotAbove way span.end spot → gone ≡ gone_with way span.end (span.len - 1) (gone_unless stays may.growing.step.number) →
-      MayEnd table b after spot (entry_word (Some e)) (added_change a.known.pass (item leaf key value)) None gone
+  pub grown_ends : (spot : Spot) (gone : List Rec) → IsSpotAbove way span.end spot → gone ≡ gone_with_way way span.end (span.len - 1) (gone_unless_whole stays may.growing.step.number) →
+      MayPublishOnceReady table b after spot (entry_word (Some e)) (added_change a.known.pass (item leaf key value)) None gone
   grown_ends spot gone at gone_is = record {
     news = risen.0;
     building = risen.3.building;
@@ -332,17 +332,17 @@ module _ (table : TableView) (a b : SeatView) (made after : List Rec) (way : Lis
         let b_risen = risen.3 in
         let x = may.growing.lowest.item in
         let key_is : x.key ≡ key = ap (λ (z : Item). z.key) may.item_is in
-        let here : HasLocked b.known risen.1.number top_words.0 = subst (IsOf (record { node = risen.1.number; words = top_words.0 })) (sym locks) top_words.1 in
-        let (t, page_is, trie, built) = risen_page table.layout b.known risen.0 (gone_with way span.end (span.len - 1) (gone_unless stays may.growing.step.number)) may.growing.lowest.since x position may.growing.lowest.like entry risen.1.number top_words.0
+        let here : HasLocked b.known risen.1.number top_words.0 = subst (IsOneOf (record { node = risen.1.number; words = top_words.0 })) (sym locks) top_words.1 in
+        let (t, subtrie_is, trie, built) = risen_subtrie table.layout b.known risen.0 (gone_with_way way span.end (span.len - 1) (gone_unless_whole stays may.growing.step.number)) may.growing.lowest.since x position may.growing.lowest.like entry risen.1.number top_words.0
         (Place e) b_risen.building.possible b_risen.building.holds b_risen.building.packed b_risen.leaf here b_risen.risen in
         let still : HasRisen table.layout j b.known.locks risen.0 may.growing.lowest.since x position may.growing.lowest.like entry risen.1.number (Place e) gone =
         subst (HasRisen table.layout j b.known.locks risen.0 may.growing.lowest.since x position may.growing.lowest.like entry risen.1.number (Place e)) (sym gone_is)
-        (risen_stays table.layout b.known j on b.known.locks risen.0 (gone_with way span.end (span.len - 1) (gone_unless stays may.growing.step.number)) may.growing.lowest.since x position may.growing.lowest.like entry risen.1.number (Place e)
+        (risen_stays table.layout b.known j on b.known.locks risen.0 (gone_with_way way span.end (span.len - 1) (gone_unless_whole stays may.growing.step.number)) may.growing.lowest.since x position may.growing.lowest.like entry risen.1.number (Place e)
         b_risen.risen) in
         let place : IsSpotOf j b.known.locks x.key position risen.1.number e spot =
         subst (λ k. IsSpotOf j b.known.locks k position risen.1.number e spot) (sym key_is)
-        (subst (λ held. IsSpotOf j held key position risen.1.number e spot) (sym locks) (spot_on a.known j a.known.locks key position risen.1.number e spot (same ∙ anchor) (grown_spot spot at))) in
+        (subst (λ held. IsSpotOf j held key position risen.1.number e spot) (sym locks) (spot_stays a.known j a.known.locks key position risen.1.number e spot (same ∙ anchor) (grown_spot spot at))) in
         subst (λ y. Publishes table.layout j spot (entry_word (Some e)) y None gone) (ap₂ added_change (on.pass ∙ later.pass) may.item_is)
         (insertion table.layout j b.known.locks risen.0 gone ready may.growing.lowest.since x position may.growing.lowest.like risen.1.number (entry_word (Some e)) e spot still b_risen.leaf place
-        (entry_has e number (tip_word e t page_is built), refl));
+        (entry_has e number (tip_word e t subtrie_is built), refl));
   }

@@ -9,11 +9,11 @@ use Rattle.finite_map.specs.Fronts.{OthersGoOn}
 use Rattle.insert_cases.specs.declared.choice.Step.{Step}
 use Rattle.record_words.specs.declared.layout.Layout.{Layout}
 use Rattle.tries.specs.Keys.{Key}
-use Rattle.moments.specs.declared.Rec.{Rec}
-use Rattle.moments.specs.declared.Rec.TheVariants.{Node as a_node, Leaf as a_leaf}
-use Rattle.moments.specs.Core.{Fate, Free}
-use Rattle.moments.specs.Trades.{IsOf, AreApart}
-use Rattle.moments.proofs.Members.{all_of, map_of, of_map, of_append, apart_push}
+use Rattle.versions.specs.declared.Rec.{Rec}
+use Rattle.versions.specs.declared.Rec.TheVariants.{Node as a_node, Leaf as a_leaf}
+use Rattle.versions.specs.Core.{Fate, Free}
+use Rattle.versions.specs.Trades.{IsOneOf, AreApart}
+use Rattle.versions.proofs.Members.{all_of, map_of, of_map, of_append, apart_push}
 use Rattle.rowex_core.specs.declared.event.Act.{Act}
 use Rattle.rowex_core.specs.declared.event.Act.TheVariants.{Claim, Lock, LoadState}
 use Rattle.rowex_core.specs.declared.event.Event.{Event}
@@ -25,7 +25,7 @@ use Rattle.rowex_core.specs.declared.known.Known.{Known}
 use Rattle.rowex_core.specs.declared.known.Owned.{Owned}
 use Rattle.rowex_core.specs.Cores.{Core, HasRecord}
 use Rattle.rowex_core.specs.Events.{target_word, word_of}
-use Rattle.rowex_core.specs.Knowing.{IsEvent, failed_with, claim_learned, anchor_learned, node_learned, state_learned, taker_at}
+use Rattle.rowex_core.specs.Knowing.{IsEvent, failed_with, claim_learned, anchor_learned, node_learned, state_learned, blocking_pass_at}
 use Rattle.rowex_core.specs.Sharing.{IsOwned}
 use Rattle.rowex_core.proofs.Having.{owned_used}
 use Rattle.rowex_core.proofs.Owning.{knows_all}
@@ -60,7 +60,7 @@ module _ (c : Core) (k : Known) (x : Failed) (h : Contains k.failed x) where
   node_failed : (n found : ℕ) → Contains (node_learned c n found k).failed x
   node_failed n found = go (nat_eq found 2)
     where
-      go : (b : Bool) → Contains (if b then record k { locks = record { node = n; words = c.words (a_node n) } ∷ k.locks } else failed_with k (a_lock (taker_at c (NodeTarget n))) (target_word (NodeTarget n)) found).failed x
+      go : (b : Bool) → Contains (if b then record k { locks = record { node = n; words = c.words (a_node n) } ∷ k.locks } else failed_with k (a_lock (blocking_pass_at c (NodeTarget n))) (target_word (NodeTarget n)) found).failed x
       go true = h
       go false = one_more k.failed _ x h
 
@@ -102,44 +102,44 @@ all_reversed : {X : Type 0} (P : X → Type 0) (xs : List X) → All P xs → Al
 all_reversed P [] all = All-nil P
 all_reversed P (x ∷ xs) all = subst (All P) (sym (reverse_more x xs)) (All-push P (reverse xs) x (all_reversed P xs (All-tail P x xs all)) (All-head P x xs all))
 
-reversed_has : {X : Type 0} (x : X) (xs : List X) → IsOf x xs → Contains (reverse xs) x
+reversed_has : {X : Type 0} (x : X) (xs : List X) → IsOneOf x xs → Contains (reverse xs) x
 reversed_has x (y ∷ xs) (inl e) = subst (λ z. Contains z x) (sym (reverse_more y xs)) (subst (λ z. Contains (reverse xs ++ z ∷ []) x) e (Contains-push (reverse xs) x))
 reversed_has x (y ∷ xs) (inr h) = subst (λ z. Contains z x) (sym (reverse_more y xs)) (Contains-append_left (reverse xs) (y ∷ []) x (reversed_has x xs h))
 reversed_has x [] h = absurd h
 
-all_ofs : {X : Type 0} (P : X → Type 0) (xs : List X) → ((x : X) → IsOf x xs → P x) → All P xs
+all_ofs : {X : Type 0} (P : X → Type 0) (xs : List X) → ((x : X) → IsOneOf x xs → P x) → All P xs
 all_ofs P [] f = All-nil P
 all_ofs P (x ∷ xs) f = All-cons P x xs (f x (inl refl)) (all_ofs P xs (λ y h. f y (inr h)))
 
-of_reversed : {X : Type 0} (x : X) (xs : List X) → IsOf x (reverse xs) → IsOf x xs
+of_reversed : {X : Type 0} (x : X) (xs : List X) → IsOneOf x (reverse xs) → IsOneOf x xs
 of_reversed x [] h = h
 of_reversed x (y ∷ xs) h =
-    elim (of_append x (reverse xs) (y ∷ []) (subst (IsOf x) (reverse_more y xs) h)) [ inl i ↦ inr (of_reversed x xs i) | inr i ↦ elim i [ inl e ↦ inl e | inr j ↦ absurd j ] ]
+    elim (of_append x (reverse xs) (y ∷ []) (subst (IsOneOf x) (reverse_more y xs) h)) [ inl i ↦ inr (of_reversed x xs i) | inr i ↦ elim i [ inl e ↦ inl e | inr j ↦ absurd j ] ]
 
 apart_reversed : {X : Type 0} (xs : List X) → AreApart xs → AreApart (reverse xs)
 apart_reversed [] apart = tt
 apart_reversed (x ∷ xs) apart = subst AreApart (sym (reverse_more x xs)) (apart_push (reverse xs) x (apart_reversed xs apart.1) (λ h. apart.0 (of_reversed x xs h)))
 
 module _ (table : TableView) (a : SeatView) (made : List Rec) (news : List Made) (b : IsBuilding table a made news) where
-  owned : (m : Made) → IsOf m news → IsOf (held_as Held m) a.known.own
-  owned m h = subst (IsOf (held_as Held m)) (sym b.holds.0) (map_of (held_as Held) m news h)
+  owned : (m : Made) → IsOneOf m news → IsOneOf (held_as Held m) a.known.own
+  owned m h = subst (IsOneOf (held_as Held m)) (sym b.holds.0) (map_of (held_as Held) m news h)
 
-  is_owned : (m : Made) → IsOf m news → IsOwned a.known.pass b.possible.core (held_as Held m)
+  is_owned : (m : Made) → IsOneOf m news → IsOwned a.known.pass b.possible.core (held_as Held m)
   is_owned m h = all_of (IsOwned a.known.pass b.possible.core) (held_as Held m) a.known.own (knows_all b.possible.core a.known b.possible.knows).own (owned m h)
 
   -- each is the table's
-  pub made_record : (m : Made) → IsOf m news → HasRecord table.layout m.rec
+  pub made_record : (m : Made) → IsOneOf m news → HasRecord table.layout m.rec
   made_record m h = subst (λ z. HasRecord z m.rec) b.possible.layout_is (owned_used b.possible.core b.possible.lawful a.known.pass (held_as Held m) (is_owned m h))
 
-  contains : (o : Owned) → IsOf o a.known.own → Contains a.known.own o
+  contains : (o : Owned) → IsOneOf o a.known.own → Contains a.known.own o
   contains o h = all_of (Contains a.known.own) o a.known.own (all_ofs (Contains a.known.own) a.known.own (λ y i. has_it y a.known.own i)) h
     where
-      has_it : (y : Owned) (ys : List Owned) → IsOf y ys → Contains ys y
+      has_it : (y : Owned) (ys : List Owned) → IsOneOf y ys → Contains ys y
       has_it y [] i = absurd i
       has_it y (z ∷ ys) (inl e) = (0, omega arith, sym e)
       has_it y (z ∷ ys) (inr i) = one_more ys z y (has_it y ys i)
 
-  claimed : (r : Rec) → IsOf r (recs_of news) → IsClaimed a.known r
+  claimed : (r : Rec) → IsOneOf r (recs_of news) → IsClaimed a.known r
   claimed r h =
       let (m, at, is) = of_map (λ (m : Made). m.rec) r news h in
       let o = is_owned m at in
@@ -148,7 +148,7 @@ module _ (table : TableView) (a : SeatView) (made : List Rec) (news : List Made)
   pub made_held : HoldsJust a.known made
   made_held = subst (HoldsJust a.known) (sym b.listed) (record {
     only = all_ofs (λ o. (o.holding ≡ Held) × Contains (reverse (recs_of news)) o.rec) a.known.own
-        (λ o h. (let (m, at, is) = of_map (held_as Held) o news (subst (IsOf o) b.holds.0 h) in
+        (λ o h. (let (m, at, is) = of_map (held_as Held) o news (subst (IsOneOf o) b.holds.0 h) in
         (ap (λ (z : Owned). z.holding) is, subst (Contains (reverse (recs_of news))) (sym (ap (λ (z : Owned). z.rec) is)) (reversed_has m.rec (recs_of news) (map_of (λ (m : Made). m.rec) m news at)))));
     each = all_reversed (IsClaimed a.known) (recs_of news) (all_ofs (IsClaimed a.known) (recs_of news) claimed);
     apart = apart_reversed (recs_of news) b.holds.1;
@@ -163,7 +163,7 @@ module _ (table : TableView) (a : SeatView) (made : List Rec) (news : List Made)
 pub step_nodes : (layout : Layout) (k : Known) (m : ℕ) (key : Key) (way : List Step) (found : Found) → IsWayOf layout k m key way found → AreNodes layout way
 step_nodes layout k m key way found w = λ n d low. (w.nodes n (get_or way n d) (slice_get-get_or way n d low)).2.range
 
--- ---- what is seen since an earlier moment
+-- ---- what is seen since an earlier version
 pub changed_since : (a b c : Known) (x : Change) (was : Option ℕ) → IsLater a b → HasChanged b c x was → HasChanged a c x was
 changed_since a b c x was later changed = record {
   rest = changed.rest;

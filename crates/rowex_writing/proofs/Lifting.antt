@@ -10,7 +10,7 @@ use Rattle.compound_node.specs.declared.entries.Entry.TheVariants.{Leaf, Node}
 use Rattle.compound_node.specs.declared.halves.Half.{Half}
 use Rattle.compound_node.specs.declared.halves.Half.TheVariants.{One, Many, Same}
 use Rattle.insert_cases.specs.Grown.{GrownShows, keeps_node, is_whole}
-use Rattle.insert_cases.specs.Risen.{page_of}
+use Rattle.insert_cases.specs.Risen.{subtrie_of}
 use Rattle.insert_cases.specs.declared.growth.Grown.{Grown}
 use Rattle.insert_cases.specs.declared.growth.Grown.TheVariants.{One as Single, Two}
 use Rattle.insert_cases.specs.declared.raising.Risen.{Risen}
@@ -19,16 +19,16 @@ use Rattle.pieces.specs.Changes.{AtRootFork}
 use Rattle.pieces.specs.Piece.{Place, Fork, size}
 use Rattle.insert_cases.specs.declared.choice.Step.{Step}
 use Rattle.tries.proofs.Building.{size-piece}
-use Rattle.tries.specs.Affected.{page_grown}
+use Rattle.tries.specs.Affected.{subtrie_grown}
 use Rattle.tries.specs.Content.{Item}
 use Rattle.tries.specs.Keys.{Key}
-use Rattle.tries.specs.Place.{with_page}
-use Rattle.tries.specs.Tree.{Page}
-use Rattle.moments.specs.Heap.{NodeWords}
-use Rattle.moments.specs.Trades.{IsOf}
-use Rattle.moments.specs.declared.Rec.{Rec}
-use Rattle.moments.proofs.Members.{of_right}
-use Rattle.moments.specs.declared.Rec.TheVariants.{Node as a_node}
+use Rattle.tries.specs.Place.{with_subtrie}
+use Rattle.tries.specs.Tree.{Subtrie}
+use Rattle.versions.specs.Heap.{NodeWords}
+use Rattle.versions.specs.Trades.{IsOneOf}
+use Rattle.versions.specs.declared.Rec.{Rec}
+use Rattle.versions.proofs.Members.{of_right}
+use Rattle.versions.specs.declared.Rec.TheVariants.{Node as a_node}
 use Rattle.rowex_walks.specs.Rise.{Side, body, entry}
 use Rattle.rowex_core.specs.declared.event.Event.{Event}
 use Rattle.rowex_core.specs.Reading.{node_words_of}
@@ -36,16 +36,16 @@ use Rattle.rowex_table.specs.Made.{Made}
 use Rattle.rowex_table.specs.Seats.{TableView, SeatView}
 use Rattle.rowex_rights.specs.Stages.{HasLeaf, HasRisen, IsLockedAbove}
 use Rattle.rowex_rights.proofs.Rising.{risen_stays, rises_pulled, rises_wrapped, rise_grows}
-use Rattle.rowex_rights.specs.Rises.{of_view, of_leaf, IsSide, anew, HasFoundBelow}
-use Rattle.rowex_writing.specs.Building.{IsBuilding, IsHalfMade, IsMadeFrom, IsRaising, IsBelow, IsLevelRisen, IsLowest, IsLowRisen, IsNextTo, IsRisenAt, IsSingle, IsSplit, FitsAbove, IsChain, IsUp, IsGrowing, IsGrownFrom, HasNotMade, HasRisenTo, gone_unless, gone_with}
+use Rattle.rowex_rights.specs.Rises.{made_of_node, made_of_leaf, IsSide, anew, HasFoundBelow}
+use Rattle.rowex_writing.specs.Building.{IsBuilding, IsHalfMade, IsMadeFrom, IsRaising, IsBelow, IsLevelRisen, IsLowest, IsLowRisen, IsNextTo, IsRisenAt, IsSingle, IsSplit, FitsAbove, IsChain, IsRisingOn, IsGrowing, IsGrownFrom, HasNotMade, HasRisenTo, gone_unless_whole, gone_with_way}
 use Rattle.rowex_writing.specs.Going.{WorksOn, ReadsOn, HasLocked, IsNodeOf}
-use Rattle.rowex_writing.specs.Remaking.{IsTreePage, AffectsJust, IsLowHalf, IsNoHigher, page_with}
+use Rattle.rowex_writing.specs.Remaking.{IsSubtrieOfTree, AffectsJust, IsLowHalf, IsNoHigher, subtrie_with_leaf}
 use Rattle.rowex_writing.specs.declared.remaking.NewLeaf.{NewLeaf}
 use Rattle.rowex_writing.proofs.Remade.{built_low}
 use Rattle.rowex_writing.proofs.Making.{building_on}
 use Rattle.rowex_writing.proofs.Raising.{rises_made, rises_kept}
 use Rattle.rowex_writing.proofs.Locking.{goes_more}
-use Rattle.rowex_writing.proofs.Staging.{risen_page}
+use Rattle.rowex_writing.proofs.Staging.{risen_subtrie}
 use Rattle.insert_cases.proofs.Pairs.{IsPairOf, pair_facts}
 
 -- ---- heights
@@ -61,21 +61,21 @@ made_low was h (Two cut) (Whole e) before after tall low made = elim made [ ]
 made_low was h (Two cut) (Split q z o) before after tall low made = (half_made_low was h cut.zero z made.0 tall low.0 made.3, half_made_low was h cut.one o made.1 tall low.1 made.4)
 
 -- what was made before stays made
-pub made_keeps : (was : Entry) (g : Grown) (risen : Risen) (before after : List Made) → IsMadeFrom was g risen before after → (y : Made) → IsOf y before → IsOf y after
-made_keeps was (Single v) (Whole e) before after (m, is, made, has) y h = subst (IsOf y) (sym made) (inr h)
+pub made_keeps : (was : Entry) (g : Grown) (risen : Risen) (before after : List Made) → IsMadeFrom was g risen before after → (y : Made) → IsOneOf y before → IsOneOf y after
+made_keeps was (Single v) (Whole e) before after (m, is, made, has) y h = subst (IsOneOf y) (sym made) (inr h)
 made_keeps was (Single v) (Split q z o) before after made y h = elim made [ ]
 made_keeps was (Two cut) (Whole e) before after made y h = elim made [ ]
-made_keeps was (Two cut) (Split q z o) before after (lower, upper, is, low, high, made) y h = subst (IsOf y) (sym made) (of_right y lower (upper ++ before) (of_right y upper before h))
+made_keeps was (Two cut) (Split q z o) before after (lower, upper, is, low, high, made) y h = subst (IsOneOf y) (sym made) (of_right y lower (upper ++ before) (of_right y upper before h))
 
 -- ---- what has risen stays
 module _ {G : Type 0} (table : TableView) (becomes : G → Event → G → Type 0) where
-  risen_on : (a m : SeatView × G) (news : List Made) (gone : List Rec) (since : ℕ) (x : Item) (p : ℕ) (l : Key) (d : Side) (n : ℕ) (r : Page) → WorksOn table becomes a m →
+  risen_on : (a m : SeatView × G) (news : List Made) (gone : List Rec) (since : ℕ) (x : Item) (p : ℕ) (l : Key) (d : Side) (n : ℕ) (r : Subtrie) → WorksOn table becomes a m →
       HasRisen table.layout a.0.known a.0.known.locks news since x p l d n r gone → HasRisen table.layout m.0.known m.0.known.locks news since x p l d n r gone
   risen_on a m news gone since x p l d n r goes risen =
       subst (λ held. HasRisen table.layout m.0.known held news since x p l d n r gone) (sym goes.stays.1)
       (risen_stays table.layout a.0.known m.0.known goes.stays.0 a.0.known.locks news gone since x p l d n r risen)
 
-  pub raising_on : (a m : SeatView × G) (made : List Rec) (news : List Made) (gone : List Rec) (since : ℕ) (x : Item) (p : ℕ) (l : Key) (d : Side) (n : ℕ) (r : Page) → ReadsOn table becomes a m →
+  pub raising_on : (a m : SeatView × G) (made : List Rec) (news : List Made) (gone : List Rec) (since : ℕ) (x : Item) (p : ℕ) (l : Key) (d : Side) (n : ℕ) (r : Subtrie) → ReadsOn table becomes a m →
       IsRaising table a.0 made news gone since x p l d n r → IsRaising table m.0 made news gone since x p l d n r
   raising_on a m made news gone since x p l d n r reads i = record {
     building = building_on table becomes a m made news reads.goes reads.own i.building;
@@ -89,42 +89,42 @@ module _ {G : Type 0} (table : TableView) (becomes : G → Event → G → Type 
     is_node : IsNodeOf b.over.upper node
     is_node = shown b.over.upper b.over.has_upper
 
-    page_is : (node_words_of b.over.upper).page ≡ piece node
-    page_is = ap (λ (z : NodeWords). z.page) is_node.shows
+    subtrie_is : (node_words_of b.over.upper).subtrie ≡ piece node
+    subtrie_is = ap (λ (z : NodeWords). z.subtrie) is_node.shows
 
     height_is : (node_words_of b.over.upper).fixed.height ≡ node.height
     height_is = ap (λ (z : NodeWords). z.fixed.height) is_node.shows
 
-    fork : Page
+    fork : Subtrie
     fork = Fork position (Place zero) (Place one)
 
     now : IsRaising table m.0 made b.here.news b.here.gone b.here.since b.here.item b.here.mismatch b.here.like entry b.lower (Fork position (Place zero) (Place one))
     now = raising_on a m made b.here.news b.here.gone b.here.since b.here.item b.here.mismatch b.here.like entry b.lower (Fork position (Place zero) (Place one)) reads b.here.raising
 
-    upper_locked : IsOf (record { node = above; words = b.over.upper }) m.0.known.locks
-    upper_locked = subst (IsOf (record { node = above; words = b.over.upper })) (sym reads.goes.stays.1) b.over.has_upper
+    upper_locked : IsOneOf (record { node = above; words = b.over.upper }) m.0.known.locks
+    upper_locked = subst (IsOneOf (record { node = above; words = b.over.upper })) (sym reads.goes.stays.1) b.over.has_upper
 
     still_over : IsLockedAbove m.0.known.locks b.here.item.key b.here.mismatch above b.lower
     still_over = record {
       upper = b.over.upper;
       lower = b.over.lower;
       has_upper = upper_locked;
-      has_lower = subst (IsOf (record { node = b.lower; words = b.over.lower })) (sym reads.goes.stays.1) b.over.has_lower;
+      has_lower = subst (IsOneOf (record { node = b.lower; words = b.over.lower })) (sym reads.goes.stays.1) b.over.has_lower;
       height = b.over.height;
       entry = b.over.entry;
       path = b.over.path;
     }
 
-    body_risen : HasRisen table.layout m.0.known m.0.known.locks b.here.news b.here.since b.here.item b.here.mismatch b.here.like body above (with_page b.here.item.key (Fork position (Place zero) (Place one)) (piece node)) b.here.gone
+    body_risen : HasRisen table.layout m.0.known m.0.known.locks b.here.news b.here.since b.here.item b.here.mismatch b.here.like body above (with_subtrie b.here.item.key (Fork position (Place zero) (Place one)) (piece node)) b.here.gone
     unfolding still_over
     body_risen =
-        subst (λ y. HasRisen table.layout m.0.known m.0.known.locks b.here.news b.here.since b.here.item b.here.mismatch b.here.like body above (with_page b.here.item.key (Fork position (Place zero) (Place one)) y) b.here.gone) page_is
+        subst (λ y. HasRisen table.layout m.0.known m.0.known.locks b.here.news b.here.since b.here.item b.here.mismatch b.here.like body above (with_subtrie b.here.item.key (Fork position (Place zero) (Place one)) y) b.here.gone) subtrie_is
         (rises_pulled table.layout m.0.known m.0.known.locks b.here.news b.here.gone b.here.since b.here.item b.here.mismatch b.here.like above b.lower (Fork position (Place zero) (Place one)) still_over now.risen)
 
-    pub lift_tree : IsTreePage (with_page key (Fork position (Place zero) (Place one)) (piece node))
+    pub lift_tree : IsSubtrieOfTree (with_subtrie key (Fork position (Place zero) (Place one)) (piece node))
     lift_tree =
-        subst (λ k. IsTreePage (with_page k (Fork position (Place zero) (Place one)) (piece node))) (sym b.key_is)
-        (risen_page table.layout m.0.known b.here.news b.here.gone b.here.since b.here.item b.here.mismatch b.here.like body above b.over.upper (with_page b.here.item.key (Fork position (Place zero) (Place one)) (piece node))
+        subst (λ k. IsSubtrieOfTree (with_subtrie k (Fork position (Place zero) (Place one)) (piece node))) (sym b.key_is)
+        (risen_subtrie table.layout m.0.known b.here.news b.here.gone b.here.since b.here.item b.here.mismatch b.here.like body above b.over.upper (with_subtrie b.here.item.key (Fork position (Place zero) (Place one)) (piece node))
         now.building.possible now.building.holds now.building.packed now.leaf upper_locked body_risen)
 
     pub lift_zero : height_of zero < node.height
@@ -137,21 +137,21 @@ module _ {G : Type 0} (table : TableView) (becomes : G → Event → G → Type 
     lift_building = now.building
 
     -- the node's own records
-    pub lifted : (c : SeatView × G) (after_made : List Rec) (was : Entry) (g : Grown) (answer : Option Risen) → GrownShows node g (with_page key (Fork position (Place zero) (Place one)) (piece node)) → keeps_node g ≡ false →
+    pub lifted : (c : SeatView × G) (after_made : List Rec) (was : Entry) (g : Grown) (answer : Option Risen) → GrownShows node g (with_subtrie key (Fork position (Place zero) (Place one)) (piece node)) → keeps_node g ≡ false →
         WorksOn table becomes m c →
         MatchOption answer (HasNotMade table c.0 after_made) (λ risen. (after : List Made) × IsMadeFrom was g risen b.here.news after × IsBuilding table c.0 after_made after) →
         MatchOption answer (HasNotMade table c.0 after_made)
-        (λ risen. (after : List Made) × IsRaising table c.0 after_made after (a_node above ∷ b.here.gone) b.here.since b.here.item b.here.mismatch b.here.like entry above (page_of risen))
+        (λ risen. (after : List Made) × IsRaising table c.0 after_made after (a_node above ∷ b.here.gone) b.here.since b.here.item b.here.mismatch b.here.like entry above (subtrie_of risen))
     lifted c after_made was g None shows fresh goes made = made
     lifted c after_made was g (Some risen) shows fresh goes (after, made, building) = (
       after,
       record {
         building = building;
         leaf = (made_keeps was g risen b.here.news after made _ now.leaf.0, now.leaf.1);
-        risen = risen_on m c after (a_node above ∷ b.here.gone) b.here.since b.here.item b.here.mismatch b.here.like entry above (page_of risen) goes
+        risen = risen_on m c after (a_node above ∷ b.here.gone) b.here.since b.here.item b.here.mismatch b.here.like entry above (subtrie_of risen) goes
             (rises_made table.layout m.0.known m.0.known.locks b.here.news after b.here.gone b.here.since b.here.item b.here.mismatch b.here.like now.leaf above b.over.upper upper_locked node was g risen
-            (with_page b.here.item.key (Fork position (Place zero) (Place one)) (piece node))
-            (subst (λ k. GrownShows node g (with_page k (Fork position (Place zero) (Place one)) (piece node))) b.key_is shows) fresh made body_risen);
+            (with_subtrie b.here.item.key (Fork position (Place zero) (Place one)) (piece node))
+            (subst (λ k. GrownShows node g (with_subtrie k (Fork position (Place zero) (Place one)) (piece node))) b.key_is shows) fresh made body_risen);
       },
     )
 
@@ -165,84 +165,84 @@ module _ {G : Type 0} (table : TableView) (becomes : G → Event → G → Type 
   low_node : IsNodeOf b.words node
   low_node = shown b.words b.found.locked
 
-  low_page : (node_words_of b.words).page ≡ piece node
-  low_page = ap (λ (z : NodeWords). z.page) low_node.shows
+  low_subtrie : (node_words_of b.words).subtrie ≡ piece node
+  low_subtrie = ap (λ (z : NodeWords). z.subtrie) low_node.shows
 
-  low_grown : HasRisen table.layout a.0.known a.0.known.locks (of_leaf b.item ∷ []) b.since b.item position b.like body number (page_grown position b.item.key (Leaf b.item.number) (piece node)) []
+  low_grown : HasRisen table.layout a.0.known a.0.known.locks (made_of_leaf b.item ∷ []) b.since b.item position b.like body number (subtrie_grown position b.item.key (Leaf b.item.number) (piece node)) []
   low_grown =
-      subst (λ y. HasRisen table.layout a.0.known a.0.known.locks (of_leaf b.item ∷ []) b.since b.item position b.like body number (page_grown position b.item.key (Leaf b.item.number) y) []) low_page
+      subst (λ y. HasRisen table.layout a.0.known a.0.known.locks (made_of_leaf b.item ∷ []) b.since b.item position b.like body number (subtrie_grown position b.item.key (Leaf b.item.number) y) []) low_subtrie
       (rise_grows table.layout a.0.known a.0.known.locks b.since b.item position b.like number b.words b.found b.part)
 
-  low_leaf : HasLeaf (of_leaf b.item ∷ []) b.item
+  low_leaf : HasLeaf (made_of_leaf b.item ∷ []) b.item
   low_leaf = (inl refl, b.found.leaf)
 
-  same_page : page_grown position b.item.key (Leaf b.item.number) (piece node) ≡ page_grown position key (Leaf leaf) (piece node)
-  same_page = ap₂ (λ k n. page_grown position k (Leaf n) (piece node)) (sym b.key_is) (sym b.leaf_is)
+  same_subtrie : subtrie_grown position b.item.key (Leaf b.item.number) (piece node) ≡ subtrie_grown position key (Leaf leaf) (piece node)
+  same_subtrie = ap₂ (λ k n. subtrie_grown position k (Leaf n) (piece node)) (sym b.key_is) (sym b.leaf_is)
 
-  pub low_tree : IsTreePage (page_grown position key (Leaf leaf) (piece node))
+  pub low_tree : IsSubtrieOfTree (subtrie_grown position key (Leaf leaf) (piece node))
   low_tree =
-      subst IsTreePage same_page
-      (risen_page table.layout a.0.known (of_leaf b.item ∷ []) [] b.since b.item position b.like body number b.words (page_grown position b.item.key (Leaf b.item.number) (piece node))
+      subst IsSubtrieOfTree same_subtrie
+      (risen_subtrie table.layout a.0.known (made_of_leaf b.item ∷ []) [] b.since b.item position b.like body number b.words (subtrie_grown position b.item.key (Leaf b.item.number) (piece node))
       b.building.possible b.building.holds b.building.packed low_leaf b.found.locked low_grown)
 
   pub low_affects : AffectsJust key position first last (piece node)
-  low_affects = subst (λ k. AffectsJust k position first last (piece node)) (sym b.key_is) (subst (AffectsJust b.item.key position first last) low_page b.affects)
+  low_affects = subst (λ k. AffectsJust k position first last (piece node)) (sym b.key_is) (subst (AffectsJust b.item.key position first last) low_subtrie b.affects)
 
-  pub low_building : IsBuilding table m.0 made (of_leaf b.item ∷ [])
-  low_building = building_on table becomes a m made (of_leaf b.item ∷ []) reads.goes reads.own b.building
+  pub low_building : IsBuilding table m.0 made (made_of_leaf b.item ∷ [])
+  low_building = building_on table becomes a m made (made_of_leaf b.item ∷ []) reads.goes reads.own b.building
 
-  pub lowered : (c : SeatView × G) (after_made : List Rec) (g : Grown) (stays : Bool) (risen : Risen) → GrownShows node g (page_grown position key (Leaf leaf) (piece node)) → stays ≡ keeps_node g →
-      (keeps_node g ≡ true → AtRootFork (λ q x y. position < q) (piece node)) → WorksOn table becomes m c → (after : List Made) → IsMadeFrom (Node number node.height) g risen (of_leaf b.item ∷ []) after →
-      IsBuilding table c.0 after_made after → IsRaising table c.0 after_made after (gone_unless stays number) b.since b.item position b.like entry number (page_of risen)
+  pub lowered : (c : SeatView × G) (after_made : List Rec) (g : Grown) (stays : Bool) (risen : Risen) → GrownShows node g (subtrie_grown position key (Leaf leaf) (piece node)) → stays ≡ keeps_node g →
+      (keeps_node g ≡ true → AtRootFork (λ q x y. position < q) (piece node)) → WorksOn table becomes m c → (after : List Made) → IsMadeFrom (Node number node.height) g risen (made_of_leaf b.item ∷ []) after →
+      IsBuilding table c.0 after_made after → IsRaising table c.0 after_made after (gone_unless_whole stays number) b.since b.item position b.like entry number (subtrie_of risen)
   lowered c after_made g stays risen shows is before goes after made building = go (kept_or_not stays)
     where
-      here : GrownShows node g (page_grown position b.item.key (Leaf b.item.number) (piece node))
-      here = subst (GrownShows node g) (sym same_page) shows
+      here : GrownShows node g (subtrie_grown position b.item.key (Leaf b.item.number) (piece node))
+      here = subst (GrownShows node g) (sym same_subtrie) shows
 
       all : WorksOn table becomes a c
       all = goes_more table becomes a m c reads.goes goes
 
       leaf_stays : HasLeaf after b.item
-      leaf_stays = (made_keeps (Node number node.height) g risen (of_leaf b.item ∷ []) after made _ (inl refl), b.found.leaf)
+      leaf_stays = (made_keeps (Node number node.height) g risen (made_of_leaf b.item ∷ []) after made _ (inl refl), b.found.leaf)
 
-      go : (stays ≡ true) ⊎ (stays ≡ false) → IsRaising table c.0 after_made after (gone_unless stays number) b.since b.item position b.like entry number (page_of risen)
+      go : (stays ≡ true) ⊎ (stays ≡ false) → IsRaising table c.0 after_made after (gone_unless_whole stays number) b.since b.item position b.like entry number (subtrie_of risen)
       go (inl whole) =
           let keeps : keeps_node g ≡ true = sym is ∙ whole in
-          let (kept, same) = rises_kept table.layout a.0.known a.0.known.locks after b.since b.item position b.like number b.words b.found node low_page (ap (λ (z : NodeWords). z.fixed.height) low_node.shows) g risen here keeps (before keeps) made in
-          subst (λ z. IsRaising table c.0 after_made after (gone_unless z number) b.since b.item position b.like entry number (page_of risen)) (sym whole)
-          (record { building = building; leaf = leaf_stays; risen = risen_on table becomes a c after [] b.since b.item position b.like entry number (page_of risen) all kept })
+          let (kept, same) = rises_kept table.layout a.0.known a.0.known.locks after b.since b.item position b.like number b.words b.found node low_subtrie (ap (λ (z : NodeWords). z.fixed.height) low_node.shows) g risen here keeps (before keeps) made in
+          subst (λ z. IsRaising table c.0 after_made after (gone_unless_whole z number) b.since b.item position b.like entry number (subtrie_of risen)) (sym whole)
+          (record { building = building; leaf = leaf_stays; risen = risen_on table becomes a c after [] b.since b.item position b.like entry number (subtrie_of risen) all kept })
       go (inr cut) =
           let fresh : keeps_node g ≡ false = sym is ∙ cut in
-          subst (λ z. IsRaising table c.0 after_made after (gone_unless z number) b.since b.item position b.like entry number (page_of risen)) (sym cut)
+          subst (λ z. IsRaising table c.0 after_made after (gone_unless_whole z number) b.since b.item position b.like entry number (subtrie_of risen)) (sym cut)
           (record {
             building = building;
             leaf = leaf_stays;
-            risen = risen_on table becomes a c after (a_node number ∷ []) b.since b.item position b.like entry number (page_of risen) all
-                (rises_made table.layout a.0.known a.0.known.locks (of_leaf b.item ∷ []) after [] b.since b.item position b.like low_leaf number b.words b.found.locked node (Node number node.height) g risen
-                (page_grown position b.item.key (Leaf b.item.number) (piece node)) here fresh made low_grown);
+            risen = risen_on table becomes a c after (a_node number ∷ []) b.since b.item position b.like entry number (subtrie_of risen) all
+                (rises_made table.layout a.0.known a.0.known.locks (made_of_leaf b.item ∷ []) after [] b.since b.item position b.like low_leaf number b.words b.found.locked node (Node number node.height) g risen
+                (subtrie_grown position b.item.key (Leaf b.item.number) (piece node)) here fresh made low_grown);
           })
 
   -- the same, or no record for it
   pub lowest_made : (c : SeatView × G) (after_made : List Rec) (h : ℕ) → h ≡ node.height → (answer : Option (Risen × Bool)) → WorksOn table becomes m c →
       MatchOption answer (HasNotMade table c.0 after_made)
-      (λ r. (after : List Made) × IsGrownFrom (Node number h) node (page_grown position key (Leaf leaf) (piece node)) position r.0 r.1 (of_leaf b.item ∷ []) after × IsBuilding table c.0 after_made after) →
-      MatchOption answer (HasNotMade table c.0 after_made) (λ r. (after : List Made) × IsRaising table c.0 after_made after (gone_unless r.1 number) b.since b.item position b.like entry number (page_of r.0))
+      (λ r. (after : List Made) × IsGrownFrom (Node number h) node (subtrie_grown position key (Leaf leaf) (piece node)) position r.0 r.1 (made_of_leaf b.item ∷ []) after × IsBuilding table c.0 after_made after) →
+      MatchOption answer (HasNotMade table c.0 after_made) (λ r. (after : List Made) × IsRaising table c.0 after_made after (gone_unless_whole r.1 number) b.since b.item position b.like entry number (subtrie_of r.0))
   lowest_made c after_made h tall None goes made = made
   lowest_made c after_made h tall (Some r) goes (after, grown, building) =
-      (after, lowered c after_made grown.grown r.1 r.0 grown.shows grown.keeps grown.above goes after (subst (λ z. IsMadeFrom (Node number z) grown.grown r.0 (of_leaf b.item ∷ []) after) tall grown.made) building)
+      (after, lowered c after_made grown.grown r.1 r.0 grown.shows grown.keeps grown.above goes after (subst (λ z. IsMadeFrom (Node number z) grown.grown r.0 (made_of_leaf b.item ∷ []) after) tall grown.made) building)
 
 -- so of the node that was read
 pub grown_for : {view node : NodeView} → view ≡ node → (number : ℕ) (new : NewLeaf) (risen : Risen) (stays : Bool) (before after : List Made) →
-    IsGrownFrom (Node number view.height) view (page_with new (piece view)) new.position risen stays before after → IsGrownFrom (Node number node.height) node (page_with new (piece node)) new.position risen stays before after
-grown_for same number new risen stays before after grown = subst (λ v. IsGrownFrom (Node number v.height) v (page_with new (piece v)) new.position risen stays before after) same grown
+    IsGrownFrom (Node number view.height) view (subtrie_with_leaf new (piece view)) new.position risen stays before after → IsGrownFrom (Node number node.height) node (subtrie_with_leaf new (piece node)) new.position risen stays before after
+grown_for same number new risen stays before after grown = subst (λ v. IsGrownFrom (Node number v.height) v (subtrie_with_leaf new (piece v)) new.position risen stays before after) same grown
 
 -- ---- without a leaf
-pub left_over : (table : TableView) (c : SeatView) (after_made : List Rec) (shown : Page) (view : NodeView) (answer : Option Entry) → IsBuiltFrom view shown → HasNodeWords view →
-    MatchOption answer (HasNotMade table c after_made) (λ e. (m : ℕ) × (e ≡ Node m view.height) × IsBuilding table c after_made (of_view m view ∷ [])) →
+pub left_over : (table : TableView) (c : SeatView) (after_made : List Rec) (shown : Subtrie) (view : NodeView) (answer : Option Entry) → IsBuiltFrom view shown → HasNodeWords view →
+    MatchOption answer (HasNotMade table c after_made) (λ e. (m : ℕ) × (e ≡ Node m view.height) × IsBuilding table c after_made (made_of_node m view ∷ [])) →
     MatchOption answer (HasNotMade table c after_made) (λ e. (news : List Made) × IsSide shown e news × IsBuilding table c after_made news)
 left_over table c after_made shown view None built has made = made
 left_over table c after_made shown view (Some e) built has (m, is, building) =
-    (of_view m view ∷ [], subst (λ z. IsSide shown z (of_view m view ∷ [])) (sym is) (anew m view (has, built.height_is) built.shows_it), building)
+    (made_of_node m view ∷ [], subst (λ z. IsSide shown z (made_of_node m view ∷ [])) (sym is) (anew m view (has, built.height_is) built.shows_it), building)
 
 pub left_low : (view : NodeView) (height : ℕ) (answer : Option Entry) (None_made : Type 0) (Q : ℕ → Type 0) → view.height ≤ height → MatchOption answer None_made (λ e. (m : ℕ) × (e ≡ Node m view.height) × Q m) →
     IfSome answer (λ e. height_of e ≤ height)
@@ -250,48 +250,48 @@ left_low view height None none Q low made = tt
 left_low view height (Some e) none Q low (m, is, rest) = let same = ap height_of is in omega (arith, low)
 
 -- ---- a pair
-pub paired : (table : TableView) (a c : SeatView) (after_made : List Rec) (news : List Made) (view : NodeView) (shown : Page) (answer : Option Entry) → IsBuiltFrom view shown →
-    MatchOption answer (HasNotMade table c after_made) (λ e. (m : ℕ) × (e ≡ Node m view.height) × HasNodeWords view × IsBuilding table c after_made (of_view m view ∷ news)) →
+pub paired : (table : TableView) (a c : SeatView) (after_made : List Rec) (news : List Made) (view : NodeView) (shown : Subtrie) (answer : Option Entry) → IsBuiltFrom view shown →
+    MatchOption answer (HasNotMade table c after_made) (λ e. (m : ℕ) × (e ≡ Node m view.height) × HasNodeWords view × IsBuilding table c after_made (made_of_node m view ∷ news)) →
     MatchOption answer (HasNotMade table c after_made) (λ e. (more : List Made) × IsSide shown e more × IsBuilding table c after_made (more ++ news))
 paired table a c after_made news view shown None built made = made
 paired table a c after_made news view shown (Some e) built (m, is, has, building) =
-    (of_view m view ∷ [], subst (λ z. IsSide shown z (of_view m view ∷ [])) (sym is) (anew m view (has, built.height_is) built.shows_it), building)
+    (made_of_node m view ∷ [], subst (λ z. IsSide shown z (made_of_node m view ∷ [])) (sym is) (anew m view (has, built.height_is) built.shows_it), building)
 
 -- ---- the topmost node
 fork_risen : (table : TableView) (a : SeatView) (made : List Rec) (number q : ℕ) (z o : Entry) (risen : Risen) → risen ≡ Split q z o → (b : IsRisenAt table a made number risen) →
     HasRisen table.layout a.known a.known.locks b.news b.since b.item b.mismatch b.like entry number (Fork q (Place z) (Place o)) b.gone
 fork_risen table a made number q z o risen is b =
-    subst (λ (y : Risen). HasRisen table.layout a.known a.known.locks b.news b.since b.item b.mismatch b.like entry number (page_of y) b.gone) is b.raising.risen
+    subst (λ (y : Risen). HasRisen table.layout a.known a.known.locks b.news b.since b.item b.mismatch b.like entry number (subtrie_of y) b.gone) is b.raising.risen
 
 -- what a fork of two entries that has risen owes
-pub settle_owed : (table : TableView) (a : SeatView) (made : List Rec) (number q : ℕ) (z o : Entry) (risen : Risen) → risen ≡ Split q z o → IsRisenAt table a made number risen → IsPairOf q z o
-settle_owed table a made number q z o risen is b =
+pub risen_fork_is_pair : (table : TableView) (a : SeatView) (made : List Rec) (number q : ℕ) (z o : Entry) (risen : Risen) → risen ≡ Split q z o → IsRisenAt table a made number risen → IsPairOf q z o
+risen_fork_is_pair table a made number q z o risen is b =
     let i = b.raising in
-    let (t, page_is, trie, built) = risen_page table.layout a.known b.news b.gone b.since b.item b.mismatch b.like entry number b.words (Fork q (Place z) (Place o)) i.building.possible i.building.holds i.building.packed i.leaf b.locked
+    let (t, subtrie_is, trie, built) = risen_subtrie table.layout a.known b.news b.gone b.since b.item b.mismatch b.like entry number b.words (Fork q (Place z) (Place o)) i.building.possible i.building.holds i.building.packed i.leaf b.locked
     (fork_risen table a made number q z o risen is b) in
-    pair_facts q z o t page_is trie built
+    pair_facts q z o t subtrie_is trie built
 
 pub settled : {G : Type 0} (table : TableView) (becomes : G → Event → G → Type 0) (a c : SeatView × G) (made after_made : List Rec) (number q : ℕ) (z o : Entry) (risen : Risen) → risen ≡ Split q z o →
     (b : IsRisenAt table a.0 made number risen) (view : NodeView) → IsBuiltFrom view (Fork q (Place z) (Place o)) → WorksOn table becomes a c → (answer : Option Entry) →
-    MatchOption answer (HasNotMade table c.0 after_made) (λ e. (m : ℕ) × (e ≡ Node m view.height) × HasNodeWords view × IsBuilding table c.0 after_made (of_view m view ∷ b.news)) →
+    MatchOption answer (HasNotMade table c.0 after_made) (λ e. (m : ℕ) × (e ≡ Node m view.height) × HasNodeWords view × IsBuilding table c.0 after_made (made_of_node m view ∷ b.news)) →
     MatchOption answer (HasNotMade table c.0 after_made) (λ e. (after : List Made) × IsRaising table c.0 after_made after b.gone b.since b.item b.mismatch b.like entry number (Place e))
 settled table becomes a c made after_made number q z o risen is b view built goes None answer = answer
 settled table becomes a c made after_made number q z o risen is b view built goes (Some e) (m, e_is, has, building) =
     let i = b.raising in
     let here = subst (λ y. HasRisen table.layout a.0.known a.0.known.locks b.news b.since b.item b.mismatch b.like entry number y b.gone) (sym built.shows_it) (fork_risen table a.0 made number q z o risen is b) in
     let wrapped = rises_wrapped table.layout a.0.known a.0.known.locks b.news b.gone b.since b.item b.mismatch b.like i.leaf number b.words b.locked m view (has, built.height_is) here in (
-      of_view m view ∷ b.news,
+      made_of_node m view ∷ b.news,
       record {
         building = building;
         leaf = (inr i.leaf.0, i.leaf.1);
-        risen = risen_on table becomes a c (of_view m view ∷ b.news) b.gone b.since b.item b.mismatch b.like entry number (Place e) goes
-            (subst (λ y. HasRisen table.layout a.0.known a.0.known.locks (of_view m view ∷ b.news) b.since b.item b.mismatch b.like entry number (Place y) b.gone) (sym e_is) wrapped);
+        risen = risen_on table becomes a c (made_of_node m view ∷ b.news) b.gone b.since b.item b.mismatch b.like entry number (Place e) goes
+            (subst (λ y. HasRisen table.layout a.0.known a.0.known.locks (made_of_node m view ∷ b.news) b.since b.item b.mismatch b.like entry number (Place y) b.gone) (sym e_is) wrapped);
       },
     )
 
 pub settled_whole : (table : TableView) (a : SeatView) (made : List Rec) (number : ℕ) (e : Entry) (risen : Risen) → risen ≡ Whole e → (b : IsRisenAt table a made number risen) →
     (after : List Made) × IsRaising table a made after b.gone b.since b.item b.mismatch b.like entry number (Place e)
-settled_whole table a made number e risen is b = (b.news, subst (λ (y : Risen). IsRaising table a made b.news b.gone b.since b.item b.mismatch b.like entry number (page_of y)) is b.raising)
+settled_whole table a made number e risen is b = (b.news, subst (λ (y : Risen). IsRaising table a made b.news b.gone b.since b.item b.mismatch b.like entry number (subtrie_of y)) is b.raising)
 
 -- ---- a full node gives a fork
 split_made : (was : Entry) (g : Grown) (risen : Risen) (before after : List Made) → ¬ (IsTrue (is_whole g)) → IsMadeFrom was g risen before after → IsSplit risen
@@ -309,7 +309,7 @@ single_made was (Two cut) risen before after whole made = absurd (let z : false 
 level_made : (words : List ℕ) (node : NodeView) (was : Entry) (g : Grown) (risen : Risen) (before after : List Made) → IsNodeOf words node → height_of was ≡ node.height → IsNoHigher node.height g →
     (IsTrue (is_whole g) ↔ (length node.entries < 32)) → IsMadeFrom was g risen before after → IsLevelRisen words risen
 level_made words node was g risen before after is tall low whole made =
-    let long : length node.entries ≡ size (node_words_of words).page = sym (size-piece node is.has.lawful) ∙ ap size (sym (ap (λ (z : NodeWords). z.page) is.shows)) in
+    let long : length node.entries ≡ size (node_words_of words).subtrie = sym (size-piece node is.has.lawful) ∙ ap size (sym (ap (λ (z : NodeWords). z.subtrie) is.shows)) in
     record {
       low = subst (λ h. IsLowRisen h risen) (sym (ap (λ (z : NodeWords). z.fixed.height) is.shows)) (made_low was node.height g risen before after tall low made);
       split = λ full. split_made was g risen before after (λ t. absurd (let l = whole.0 t in omega (arith, long, full))) made;
@@ -321,7 +321,7 @@ pub fork_level : (words : List ℕ) (node : NodeView) (was : Entry) (g : Grown) 
 fork_level words node was g None none before Q is tall low whole made = tt
 fork_level words node was g (Some risen) none before Q is tall low whole (after, made, rest) = level_made words node was g risen before after is tall low whole made
 
-pub leaf_level : (words : List ℕ) (node : NodeView) (was : Entry) (shown : Page) (p : ℕ) (answer : Option (Risen × Bool)) (None_made : Type 0) (before : List Made) (Q : List Made → Type 0) → IsNodeOf words node → height_of was ≡ node.height →
+pub leaf_level : (words : List ℕ) (node : NodeView) (was : Entry) (shown : Subtrie) (p : ℕ) (answer : Option (Risen × Bool)) (None_made : Type 0) (before : List Made) (Q : List Made → Type 0) → IsNodeOf words node → height_of was ≡ node.height →
     MatchOption answer None_made (λ r. (after : List Made) × IsGrownFrom was node shown p r.0 r.1 before after × Q after) → IfSome answer (λ r. IsLevelRisen words r.0)
 leaf_level words node was shown p None none before Q is tall made = tt
 leaf_level words node was shown p (Some r) none before Q is tall (after, grown, rest) = level_made words node was grown.grown r.0 before after is tall grown.low grown.whole grown.made
@@ -340,7 +340,7 @@ split_height h q z o risen view none has rest (Some e) is low built (m, e_is, sp
     (omega (arith, tall, same), λ s. absurd (let f : IsSingle (Split q z o) = subst IsSingle is s in f))
 
 -- so beside the node with these words, which gave one entry where it had room
-pub fits_above : (words : List ℕ) (risen : Risen) (answer : Option Entry) → (size (node_words_of words).page < 32 → IsSingle risen) → IfSome answer (IsNextTo (node_words_of words).fixed.height risen) → IfSome answer (FitsAbove words)
+pub fits_above : (words : List ℕ) (risen : Risen) (answer : Option Entry) → (size (node_words_of words).subtrie < 32 → IsSingle risen) → IfSome answer (IsNextTo (node_words_of words).fixed.height risen) → IfSome answer (FitsAbove words)
 fits_above words risen None single low = tt
 fits_above words risen (Some e) single low = (low.0, λ room. low.1 (single room))
 
@@ -356,11 +356,11 @@ risen_as table a made n m risen then same is here = record {
   like = here.like;
   words = here.words;
   locked = subst (λ k. HasLocked a.known k here.words) same here.locked;
-  raising = subst (λ (y : Risen). IsRaising table a made here.news here.gone here.since here.item here.mismatch here.like entry m (page_of y)) is
-      (subst (λ k. IsRaising table a made here.news here.gone here.since here.item here.mismatch here.like entry k (page_of risen)) same here.raising);
+  raising = subst (λ (y : Risen). IsRaising table a made here.news here.gone here.since here.item here.mismatch here.like entry m (subtrie_of y)) is
+      (subst (λ k. IsRaising table a made here.news here.gone here.since here.item here.mismatch here.like entry k (subtrie_of risen)) same here.raising);
 }
 
-module _ (table : TableView) (a : SeatView) (made : List Rec) (way : List Step) (key : Key) (end level : ℕ) (risen : Risen) (up : IsUp table a made way key end level risen) (above : ℕ) (next : above + 1 ≡ level)
+module _ (table : TableView) (a : SeatView) (made : List Rec) (way : List Step) (key : Key) (end level : ℕ) (risen : Risen) (up : IsRisingOn table a made way key end level risen) (above : ℕ) (next : above + 1 ≡ level)
     (upto : end ≤ above) (s : Step) (at : slice_get way above ≡ Some s) where
   abbrev pub up_over : (over : IsLockedAbove a.known.locks up.here.item.key up.here.mismatch s.number up.step.number) × ((node_words_of over.lower).fixed.height < (node_words_of over.upper).fixed.height)
   up_over = up.chain.above above s up.step upto (omega arith) at (ap (slice_get way) next ∙ up.at)
@@ -382,10 +382,10 @@ module _ (table : TableView) (a : SeatView) (made : List Rec) (way : List Step) 
       }
 
   abbrev pub up_next : (m : SeatView) (made_then : List Rec) (then : Risen) → m.known.locks ≡ a.known.locks → (after : List Made) →
-      IsRaising table m made_then after (a_node s.number ∷ up.here.gone) up.here.since up.here.item up.here.mismatch up.here.like entry s.number (page_of then) →
-      ((words : List ℕ) → HasLocked a.known s.number words → IsLevelRisen words then) → IsUp table m made_then way key end above then
+      IsRaising table m made_then after (a_node s.number ∷ up.here.gone) up.here.since up.here.item up.here.mismatch up.here.like entry s.number (subtrie_of then) →
+      ((words : List ℕ) → HasLocked a.known s.number words → IsLevelRisen words then) → IsRisingOn table m made_then way key end above then
   up_next m made_then then locks after raising rises =
-      let before : (words : List ℕ) → HasLocked m.known s.number words → HasLocked a.known s.number words = λ words. subst (IsOf (record { node = s.number; words = words })) locks in
+      let before : (words : List ℕ) → HasLocked m.known s.number words → HasLocked a.known s.number words = λ words. subst (IsOneOf (record { node = s.number; words = words })) locks in
       record {
         step = s;
         at = at;
@@ -398,7 +398,7 @@ module _ (table : TableView) (a : SeatView) (made : List Rec) (way : List Step) 
           mismatch = up.here.mismatch;
           like = up.here.like;
           words = up_over.0.upper;
-          locked = subst (IsOf (record { node = s.number; words = up_over.0.upper })) (sym locks) up_over.0.has_upper;
+          locked = subst (IsOneOf (record { node = s.number; words = up_over.0.upper })) (sym locks) up_over.0.has_upper;
           raising = raising;
         };
         key_is = up.key_is;
@@ -413,7 +413,7 @@ module _ (table : TableView) (a : SeatView) (made : List Rec) (way : List Step) 
       }
 
 -- the nodes that go, one more
-pub gone_more : (way : List Step) (end above level : ℕ) (gone : List Rec) (s : Step) → above + 1 ≡ level → end ≤ above → slice_get way above ≡ Some s → gone_with way end above (a_node s.number ∷ gone) ≡ gone_with way end level gone
+pub gone_more : (way : List Step) (end above level : ℕ) (gone : List Rec) (s : Step) → above + 1 ≡ level → end ≤ above → slice_get way above ≡ Some s → gone_with_way way end above (a_node s.number ∷ gone) ≡ gone_with_way way end level gone
 gone_more way end above level gone s next upto at =
     let within : above < length way = slice_get_within way above s at in
     let f : Step → Rec = λ (z : Step). a_node z.number in
@@ -422,34 +422,34 @@ gone_more way end above level gone s next upto at =
     let parts : drop end (take level way) ≡ drop end (take above way) ++ s ∷ [] = ap (drop end) all ∙ drop-append-le end (take above way) (s ∷ []) long in
     sym (ap (λ z. map f z ++ gone) parts ∙ (ap (λ z. z ++ gone) (map-append f (drop end (take above way)) (s ∷ [])) ∙ append_assoc (map f (drop end (take above way))) (a_node s.number ∷ []) gone))
 
-pub gone_none : (way : List Step) (end : ℕ) (gone : List Rec) → gone_with way end end gone ≡ gone
-gone_none way end gone =
+pub gone_with_no_node : (way : List Step) (end : ℕ) (gone : List Rec) → gone_with_way way end end gone ≡ gone
+gone_with_no_node way end gone =
     let zero : end + 0 ≡ end = omega arith in
     ap (λ z. map (λ (s : Step). a_node s.number) z ++ gone) (ap (λ n. drop end (take n way)) (sym zero) ∙ drop-take end 0 way)
 
 -- the end of the way up, and one level of it
-abbrev pub up_end : (table : TableView) (a : SeatView) (made : List Rec) (way : List Step) (key : Key) (end level number : ℕ) (risen : Risen) → (up : IsUp table a made way key end level risen) → number ≡ up.step.number →
+abbrev pub rising_on_at_end : (table : TableView) (a : SeatView) (made : List Rec) (way : List Step) (key : Key) (end level number : ℕ) (risen : Risen) → (up : IsRisingOn table a made way key end level risen) → number ≡ up.step.number →
     IsRisenAt table a made number risen
-up_end table a made way key end level number risen up is = risen_as table a made up.step.number number risen risen (sym is) refl up.here
+rising_on_at_end table a made way key end level number risen up is = risen_as table a made up.step.number number risen risen (sym is) refl up.here
 
 pub up_done : {G : Type 0} (table : TableView) (becomes : G → Event → G → Type 0) (a m c : SeatView × G) (made : List Rec) (way : List Step) (since : ℕ) (x : Item) (p : ℕ) (l : Key) (end above level : ℕ) (gone : List Rec) (s : Step) →
     above + 1 ≡ level → end ≤ above → slice_get way above ≡ Some s → WorksOn table becomes a m → (answer : Option Entry) →
-    MatchOption answer (HasNotMade table c.0 made) (HasRisenTo table c.0 made way since x p l end (gone_with way end above (a_node s.number ∷ gone))) →
-    MatchOption answer (HasNotMade table c.0 made) (HasRisenTo table c.0 made way since x p l end (gone_with way end level gone))
+    MatchOption answer (HasNotMade table c.0 made) (HasRisenTo table c.0 made way since x p l end (gone_with_way way end above (a_node s.number ∷ gone))) →
+    MatchOption answer (HasNotMade table c.0 made) (HasRisenTo table c.0 made way since x p l end (gone_with_way way end level gone))
 up_done table becomes a m c made way since x p l end above level gone s next upto at goes None answer = answer
 up_done table becomes a m c made way since x p l end above level gone s next upto at goes (Some e) answer =
     subst (λ g. HasRisenTo table c.0 made way since x p l end g e) (gone_more way end above level gone s next upto at) answer
 
-pub settled_up : (table : TableView) (a c : SeatView) (made after_made : List Rec) (way : List Step) (key : Key) (end level number : ℕ) (risen : Risen) (same : level ≡ end) (up : IsUp table a made way key end level risen) (is : number ≡ up.step.number) → (answer : Option Entry) →
+pub settled_at_end : (table : TableView) (a c : SeatView) (made after_made : List Rec) (way : List Step) (key : Key) (end level number : ℕ) (risen : Risen) (same : level ≡ end) (up : IsRisingOn table a made way key end level risen) (is : number ≡ up.step.number) → (answer : Option Entry) →
     MatchOption answer (HasNotMade table c after_made) (λ e. (after : List Made) × IsRaising table c after_made after up.here.gone up.here.since up.here.item up.here.mismatch up.here.like entry number (Place e)) →
-    MatchOption answer (HasNotMade table c after_made) (HasRisenTo table c after_made way up.here.since up.here.item up.here.mismatch up.here.like end (gone_with way end level up.here.gone))
-settled_up table a c made after_made way key end level number risen same up is None answer = answer
-settled_up table a c made after_made way key end level number risen same up is (Some e) (after, raising) =
-    let gone : gone_with way end level up.here.gone ≡ up.here.gone = ap (λ n. gone_with way end n up.here.gone) same ∙ gone_none way end up.here.gone in (
+    MatchOption answer (HasNotMade table c after_made) (HasRisenTo table c after_made way up.here.since up.here.item up.here.mismatch up.here.like end (gone_with_way way end level up.here.gone))
+settled_at_end table a c made after_made way key end level number risen same up is None answer = answer
+settled_at_end table a c made after_made way key end level number risen same up is (Some e) (after, raising) =
+    let gone : gone_with_way way end level up.here.gone ≡ up.here.gone = ap (λ n. gone_with_way way end n up.here.gone) same ∙ gone_with_no_node way end up.here.gone in (
       after,
       up.step,
       ap (slice_get way) (sym same) ∙ up.at,
-      subst (λ n. IsRaising table c after_made after (gone_with way end level up.here.gone) up.here.since up.here.item up.here.mismatch up.here.like entry n (Place e)) is
+      subst (λ n. IsRaising table c after_made after (gone_with_way way end level up.here.gone) up.here.since up.here.item up.here.mismatch up.here.like entry n (Place e)) is
           (subst (λ y. IsRaising table c after_made after y up.here.since up.here.item up.here.mismatch up.here.like entry number (Place e)) (sym gone) raising),
     )
 
@@ -470,25 +470,25 @@ module _ (table : TableView) (a : SeatView) (made : List Rec) (way : List Step) 
   }
 
   abbrev pub up_first : (m : SeatView) (made_then : List Rec) (then : Risen) (stays : Bool) → m.known.locks ≡ a.known.locks → (after : List Made) →
-      IsRaising table m made_then after (gone_unless stays number) b.lowest.since b.lowest.item position b.lowest.like entry number (page_of then) →
-      ((words : List ℕ) → HasLocked a.known number words → IsLevelRisen words then) → IsUp table m made_then way key end top then
+      IsRaising table m made_then after (gone_unless_whole stays number) b.lowest.since b.lowest.item position b.lowest.like entry number (subtrie_of then) →
+      ((words : List ℕ) → HasLocked a.known number words → IsLevelRisen words then) → IsRisingOn table m made_then way key end top then
   up_first m made_then then stays locks after raising rises =
       let before : (words : List ℕ) → HasLocked m.known b.step.number words → HasLocked a.known number words =
-      λ words h. subst (λ n. HasLocked a.known n words) (sym is) (subst (IsOf (record { node = b.step.number; words = words })) locks h) in
+      λ words h. subst (λ n. HasLocked a.known n words) (sym is) (subst (IsOneOf (record { node = b.step.number; words = words })) locks h) in
       record {
         step = b.step;
         at = b.at;
         upto = b.upto;
         here = record {
           news = after;
-          gone = gone_unless stays number;
+          gone = gone_unless_whole stays number;
           since = b.lowest.since;
           item = b.lowest.item;
           mismatch = position;
           like = b.lowest.like;
           words = b.lowest.words;
-          locked = subst (IsOf (record { node = b.step.number; words = b.lowest.words })) (sym locks) b.lowest.found.locked;
-          raising = subst (λ n. IsRaising table m made_then after (gone_unless stays number) b.lowest.since b.lowest.item position b.lowest.like entry n (page_of then)) is raising;
+          locked = subst (IsOneOf (record { node = b.step.number; words = b.lowest.words })) (sym locks) b.lowest.found.locked;
+          raising = subst (λ n. IsRaising table m made_then after (gone_unless_whole stays number) b.lowest.since b.lowest.item position b.lowest.like entry n (subtrie_of then)) is raising;
         };
         key_is = b.lowest.key_is;
         low = λ other h. (rises other (before other h)).low;

@@ -10,7 +10,7 @@ use Rattle.record_words.proofs.Nodes.{length-node_words}
 use Rattle.record_words.proofs.Spelled.{entries_counted}
 use Rattle.record_words.proofs.Unused.{zero_in}
 use Rattle.record_words.proofs.Written.{no_entry_word}
-use Rattle.moments.specs.declared.Rec.TheVariants.{Node as a_node}
+use Rattle.versions.specs.declared.Rec.TheVariants.{Node as a_node}
 use Rattle.rowex_core.specs.declared.event.Act.{Act}
 use Rattle.rowex_core.specs.declared.event.Act.TheVariants.{LoadRef, LoadFixed}
 use Rattle.rowex_core.specs.declared.event.Event.{Event}
@@ -24,23 +24,23 @@ use Rattle.rowex_core.proofs.Owning.{knows_all}
 use Rattle.rowex_table.specs.Runs.{Steps, silent}
 use Rattle.rowex_table.specs.Seats.{TableView, SeatView, IsSeatOf}
 use Rattle.rowex_table.proofs.Running.{runs_one, runs_append, runs_same}
-use Rattle.moments.specs.Trades.{IsOf}
+use Rattle.versions.specs.Trades.{IsOneOf}
 use Rattle.rowex_table.proofs.ActsBefore.{entry_of_locked, fixed_of_locked}
-use Rattle.rowex_rights.proofs.Loops.{later_same, later_on, still_locked}
-use Rattle.moments.proofs.Members.{all_of}
-use Rattle.rowex_writing.specs.Going.{WorksOn, ReadsOn, HasLocked, IsNodeOf, IsQuiet}
+use Rattle.rowex_rights.proofs.Loops.{later_if_same, later_transitive, still_locked}
+use Rattle.versions.proofs.Members.{all_of}
+use Rattle.rowex_writing.specs.Going.{WorksOn, ReadsOn, HasLocked, IsNodeOf, TriesNoLock}
 
 -- ---- one after the other
 module _ {G : Type 0} (table : TableView) (becomes : G → Event → G → Type 0) where
   pub goes_none : (a : SeatView × G) → WorksOn table becomes a a
-  goes_none a = record { acts = []; plain = λ i d low. absurd (omega arith); steps = refl; stays = (later_same a.0.known a.0.known refl, refl, refl) }
+  goes_none a = record { acts = []; plain = λ i d low. absurd (omega arith); steps = refl; stays = (later_if_same a.0.known a.0.known refl, refl, refl) }
 
   pub goes_more : (a m b : SeatView × G) → WorksOn table becomes a m → WorksOn table becomes m b → WorksOn table becomes a b
   goes_more a m b first second = record {
     acts = first.acts ++ second.acts;
-    plain = All-append IsQuiet first.acts second.acts first.plain second.plain;
+    plain = All-append TriesNoLock first.acts second.acts first.plain second.plain;
     steps = runs_append table becomes first.acts second.acts a m b first.steps second.steps;
-    stays = (later_on a.0.known m.0.known b.0.known first.stays.0 second.stays.0, second.stays.1 ∙ first.stays.1, second.stays.2 ∙ first.stays.2);
+    stays = (later_transitive a.0.known m.0.known b.0.known first.stays.0 second.stays.0, second.stays.1 ∙ first.stays.1, second.stays.2 ∙ first.stays.2);
   }
 
   -- the seat is one of the table still
@@ -58,7 +58,7 @@ module _ {G : Type 0} (table : TableView) (becomes : G → Event → G → Type 
   reads_fixed n offset w a b s = record {
     goes = record {
       acts = LoadFixed (a_node n) offset w ∷ [];
-      plain = All-cons IsQuiet (LoadFixed (a_node n) offset w) [] tt (λ i d low. absurd (omega arith));
+      plain = All-cons TriesNoLock (LoadFixed (a_node n) offset w) [] tt (λ i d low. absurd (omega arith));
       steps = runs_one table becomes (LoadFixed (a_node n) offset w) a b s;
       stays = still_locked table.layout a.0.known b.0.known (LoadFixed (a_node n) offset w) tt tt tt s.event;
     };
@@ -69,7 +69,7 @@ module _ {G : Type 0} (table : TableView) (becomes : G → Event → G → Type 
   reads_entry n i w a b s = record {
     goes = record {
       acts = LoadRef (Slot n i) w ∷ [];
-      plain = All-cons IsQuiet (LoadRef (Slot n i) w) [] tt (λ i d low. absurd (omega arith));
+      plain = All-cons TriesNoLock (LoadRef (Slot n i) w) [] tt (λ i d low. absurd (omega arith));
       steps = runs_one table becomes (LoadRef (Slot n i) w) a b s;
       stays = still_locked table.layout a.0.known b.0.known (LoadRef (Slot n i) w) tt tt tt s.event;
     };
@@ -120,7 +120,7 @@ slots_fit loaded words those = let (view, is, told) = slots_told loaded words th
 
 -- what was locked is
 pub locked_on : (k j : Known) (n : ℕ) (words : List ℕ) → j.locks ≡ k.locks → HasLocked k n words → HasLocked j n words
-locked_on k j n words same h = subst (λ locks. IsOf (record { node = n; words = words }) locks) (sym same) h
+locked_on k j n words same h = subst (λ locks. IsOneOf (record { node = n; words = words }) locks) (sym same) h
 
 -- what was loaded is the node that the lock's words spell
 pub words_shown : (k : Known) (n : ℕ) {loaded : List ℕ} → ((words : List ℕ) → HasLocked k n words → loaded ≡ words) → (view : NodeView) → IsNodeOf loaded view → (words : List ℕ) → HasLocked k n words → IsNodeOf words view

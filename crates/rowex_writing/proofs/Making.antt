@@ -11,12 +11,12 @@ use Rattle.compound_node.specs.declared.halves.Half.TheVariants.{Many}
 use Rattle.rowex_table.proofs.ActsLeave.{act_leaves}
 use Rattle.record_words.specs.Node.{HasNodeWords}
 use Rattle.record_words.specs.declared.TheConstants.{FIRST_ENTRY}
-use Rattle.tries.specs.Tree.{Page}
-use Rattle.moments.specs.Trades.{IsOf}
-use Rattle.moments.specs.declared.Rec.{Rec}
-use Rattle.moments.specs.declared.Rec.TheVariants.{Node as a_node, Leaf as a_leaf}
-use Rattle.moments.proofs.Legal.{same_rec_refl}
-use Rattle.moments.proofs.Members.{all_of, of_map, map_of}
+use Rattle.tries.specs.Tree.{Subtrie}
+use Rattle.versions.specs.Trades.{IsOneOf}
+use Rattle.versions.specs.declared.Rec.{Rec}
+use Rattle.versions.specs.declared.Rec.TheVariants.{Node as a_node, Leaf as a_leaf}
+use Rattle.versions.proofs.Legal.{same_rec_refl}
+use Rattle.versions.proofs.Members.{all_of, of_map, map_of}
 use Rattle.rowex_core.specs.declared.event.Act.{Act}
 use Rattle.rowex_core.specs.declared.event.Act.TheVariants.{Claim, Fill, LoadFixed, LoadRef, LoadState}
 use Rattle.rowex_core.specs.declared.event.Spot.TheVariants.{Slot}
@@ -31,61 +31,61 @@ use Rattle.rowex_table.specs.Runs.{Runs, Does, InTurn}
 use Rattle.rowex_table.specs.Seats.{TableView, SeatView, IsSeatOf}
 use Rattle.rowex_table.proofs.Running.{runs_same}
 use Rattle.rowex_records.specs.Claims.{claiming, wrapped, Misses, MissesOne, MissesNumber, HoldsOneMore, ClaimsOne, FindsNone, Claims}
-use Rattle.rowex_records.specs.Records.{fill_with, looking, mending, owning, SetsAll, SetsWord}
+use Rattle.rowex_records.specs.Records.{fill_with, load_of_word, fill_unless_found, owning, SetsAll, SetsWord}
 use Rattle.rowex_records.proofs.Filled.{fill_beside}
-use Rattle.rowex_rights.specs.Rises.{of_view}
+use Rattle.rowex_rights.specs.Rises.{made_of_node}
 use Rattle.rowex_reading.specs.Possible.{IsPossible}
 use Rattle.rowex_reading.proofs.Later.{event_possible}
 use Rattle.rowex_writing.specs.Building.{IsBuilding, IsHalfMade, HasNotMade}
-use Rattle.rowex_writing.specs.Going.{WorksOn, IsQuiet}
+use Rattle.rowex_writing.specs.Going.{WorksOn, TriesNoLock}
 use Rattle.rowex_writing.proofs.Locking.{goes_none, goes_more}
 use Rattle.rowex_table.proofs.ActsBefore.{same_later}
 
 -- ---- steps that change what the pass owns
 -- steps in turn, each part of which is plain
-pub in_turn_plain : (Parts : ℕ → List Act → Type 0) → ((i : ℕ) (acts : List Act) → Parts i acts → All IsQuiet acts) → (n : ℕ) (acts : List Act) → InTurn Parts n acts → All IsQuiet acts
-in_turn_plain Parts each zero acts none = subst (All IsQuiet) (sym none) (λ i d low. absurd (omega arith))
+pub in_turn_plain : (Parts : ℕ → List Act → Type 0) → ((i : ℕ) (acts : List Act) → Parts i acts → All TriesNoLock acts) → (n : ℕ) (acts : List Act) → InTurn Parts n acts → All TriesNoLock acts
+in_turn_plain Parts each zero acts none = subst (All TriesNoLock) (sym none) (λ i d low. absurd (omega arith))
 in_turn_plain Parts each (suc n) acts (before, last, first, second, is) =
-    subst (All IsQuiet) (sym is) (All-append IsQuiet before last (in_turn_plain Parts each n before first) (each n last second))
+    subst (All TriesNoLock) (sym is) (All-append TriesNoLock before last (in_turn_plain Parts each n before first) (each n last second))
 
 -- a load of a state, and a claim after it
-look_plain : (r : Rec) (word : ℕ) → All IsQuiet (LoadState r word ∷ [])
-look_plain r word = All-cons IsQuiet (LoadState r word) [] tt (λ i d low. absurd (omega arith))
+look_plain : (r : Rec) (word : ℕ) → All TriesNoLock (LoadState r word ∷ [])
+look_plain r word = All-cons TriesNoLock (LoadState r word) [] tt (λ i d low. absurd (omega arith))
 
-try_plain : (r : Rec) (word : ℕ) → All IsQuiet (LoadState r 0 ∷ Claim r word ∷ [])
-try_plain r word = All-cons IsQuiet (LoadState r 0) (Claim r word ∷ []) tt (All-cons IsQuiet (Claim r word) [] tt (λ i d low. absurd (omega arith)))
+try_plain : (r : Rec) (word : ℕ) → All TriesNoLock (LoadState r 0 ∷ Claim r word ∷ [])
+try_plain r word = All-cons TriesNoLock (LoadState r 0) (Claim r word ∷ []) tt (All-cons TriesNoLock (Claim r word) [] tt (λ i d low. absurd (omega arith)))
 
-miss_plain : (r : Rec) (acts : List Act) → Misses r acts → All IsQuiet acts
-miss_plain r acts (word, low, inl is) = subst (All IsQuiet) (sym is) (look_plain r word)
-miss_plain r acts (word, low, inr is) = subst (All IsQuiet) (sym is) (try_plain r word)
+miss_plain : (r : Rec) (acts : List Act) → Misses r acts → All TriesNoLock acts
+miss_plain r acts (word, low, inl is) = subst (All TriesNoLock) (sym is) (look_plain r word)
+miss_plain r acts (word, low, inr is) = subst (All TriesNoLock) (sym is) (try_plain r word)
 
-misses_plain : (kind : ℕ → Rec) (n from m : ℕ) (acts : List Act) → InTurn (λ i. Misses (kind (wrapped n from i))) m acts → All IsQuiet acts
+misses_plain : (kind : ℕ → Rec) (n from m : ℕ) (acts : List Act) → InTurn (λ i. Misses (kind (wrapped n from i))) m acts → All TriesNoLock acts
 misses_plain kind n from m acts turn = in_turn_plain (λ i. Misses (kind (wrapped n from i))) (λ i. miss_plain (kind (wrapped n from i))) m acts turn
 
-sets_plain : (r : Rec) (words : List ℕ) (n : ℕ) (acts : List Act) → InTurn (λ i. SetsWord r (i + 1) (get_or words i 0)) n acts → All IsQuiet acts
+sets_plain : (r : Rec) (words : List ℕ) (n : ℕ) (acts : List Act) → InTurn (λ i. SetsWord r (i + 1) (get_or words i 0)) n acts → All TriesNoLock acts
 sets_plain r words n acts turn = in_turn_plain (λ i. SetsWord r (i + 1) (get_or words i 0)) (λ i. plain (i + 1) (get_or words i 0)) n acts turn
   where
-    stored : (offset word : ℕ) → All IsQuiet (Fill r offset word ∷ [])
-    stored offset word = All-cons IsQuiet (Fill r offset word) [] tt (λ i d low. absurd (omega arith))
+    stored : (offset word : ℕ) → All TriesNoLock (Fill r offset word ∷ [])
+    stored offset word = All-cons TriesNoLock (Fill r offset word) [] tt (λ i d low. absurd (omega arith))
 
-    looked : (s : Rec) (offset found : ℕ) → IsQuiet (looking s offset found)
+    looked : (s : Rec) (offset found : ℕ) → TriesNoLock (load_of_word s offset found)
     looked (a_leaf n) offset found = tt
     looked (a_node n) offset found = either (nat_lt offset FIRST_ENTRY)
       where
-        either : (b : Bool) → IsQuiet (if b then LoadFixed (a_node n) offset found else LoadRef (Slot n (offset - FIRST_ENTRY)) found)
+        either : (b : Bool) → TriesNoLock (if b then LoadFixed (a_node n) offset found else LoadRef (Slot n (offset - FIRST_ENTRY)) found)
         either true = tt
         either false = tt
 
-    mended : (offset word : ℕ) (b : Bool) → All IsQuiet (if b then [] else Fill r offset word ∷ [])
+    mended : (offset word : ℕ) (b : Bool) → All TriesNoLock (if b then [] else Fill r offset word ∷ [])
     mended offset word true = λ i d low. absurd (omega arith)
     mended offset word false = stored offset word
 
-    plain : (offset word : ℕ) (acts : List Act) → SetsWord r offset word acts → All IsQuiet acts
-    plain offset word acts (inl (used, is)) = subst (All IsQuiet) (sym is) (stored offset word)
-    plain offset word acts (inr (unused, found, is)) = subst (All IsQuiet) (sym is) (All-cons IsQuiet (looking r offset found) (mending r offset word found) (looked r offset found) (mended offset word (nat_eq found word)))
+    plain : (offset word : ℕ) (acts : List Act) → SetsWord r offset word acts → All TriesNoLock acts
+    plain offset word acts (inl (used, is)) = subst (All TriesNoLock) (sym is) (stored offset word)
+    plain offset word acts (inr (unused, found, is)) = subst (All TriesNoLock) (sym is) (All-cons TriesNoLock (load_of_word r offset found) (fill_unless_found r offset word found) (looked r offset found) (mended offset word (nat_eq found word)))
 
 module _ {G : Type 0} (table : TableView) (becomes : G → Event → G → Type 0) where
-  pub claims_on : (acts : List Act) (a b : SeatView × G) → All IsQuiet acts → Does table becomes claiming acts a b → WorksOn table becomes a b
+  pub claims_on : (acts : List Act) (a b : SeatView × G) → All TriesNoLock acts → Does table becomes claiming acts a b → WorksOn table becomes a b
   claims_on acts a b plain does = let r = does.rest in record {
     acts = acts;
     plain = plain;
@@ -93,7 +93,7 @@ module _ {G : Type 0} (table : TableView) (becomes : G → Event → G → Type 
     stays = (same_later a.0.known b.0.known (ap (λ (z : Known). z.pass) r) (ap (λ (z : Known). z.pin) r) (ap (λ (z : Known). z.front) r) (ap (λ (z : Known). z.facts) r), ap (λ (z : Known). z.locks) r, ap (λ (z : Known). z.anchor) r);
   }
 
-  pub owns_on : (acts : List Act) (a b : SeatView × G) → All IsQuiet acts → Does table becomes owning acts a b → WorksOn table becomes a b
+  pub owns_on : (acts : List Act) (a b : SeatView × G) → All TriesNoLock acts → Does table becomes owning acts a b → WorksOn table becomes a b
   owns_on acts a b plain does = let r = does.rest in record {
     acts = acts;
     plain = plain;
@@ -161,7 +161,7 @@ module _ {G : Type 0} (table : TableView) (becomes : G → Event → G → Type 
           own,
           (
             λ h. (let (y, at, is) = of_map (λ (y : Made). y.rec) r news h in
-                all_of (λ (o : Owned). o.rec ≢ r) (held_as Held y) a.0.known.own held.apart (subst (IsOf (held_as Held y)) (sym was.holds.0) (map_of (held_as Held) y news at)) (sym is)),
+                all_of (λ (o : Owned). o.rec ≢ r) (held_as Held y) a.0.known.own held.apart (subst (IsOneOf (held_as Held y)) (sym was.holds.0) (map_of (held_as Held) y news at)) (sym is)),
             was.holds.1,
           ),
         );
@@ -187,23 +187,23 @@ not_made table becomes a b made more news goes own same was = record { news = ne
 -- ---- a node's record
 -- a node that is made has words
 pub has_made : (table : TableView) (b : SeatView) (made : List Rec) (news : List Made) (view : NodeView) (answer : Option Entry) → HasNodeWords view →
-    MatchOption answer (HasNotMade table b made) (λ e. (m : ℕ) × (e ≡ Node m view.height) × IsBuilding table b made (of_view m view ∷ news)) →
-    MatchOption answer (HasNotMade table b made) (λ e. (m : ℕ) × (e ≡ Node m view.height) × HasNodeWords view × IsBuilding table b made (of_view m view ∷ news))
+    MatchOption answer (HasNotMade table b made) (λ e. (m : ℕ) × (e ≡ Node m view.height) × IsBuilding table b made (made_of_node m view ∷ news)) →
+    MatchOption answer (HasNotMade table b made) (λ e. (m : ℕ) × (e ≡ Node m view.height) × HasNodeWords view × IsBuilding table b made (made_of_node m view ∷ news))
 has_made table b made news view None has h = h
 has_made table b made news view (Some e) has (m, entry, building) = (m, entry, has, building)
 
--- and so has one that was built for a page
-pub low_made : (table : TableView) (b : SeatView) (made : List Rec) (news : List Made) (view : NodeView) (shown : Page) (answer : Option Entry) → HasNodeWords view → IsBuiltFrom view shown →
-    MatchOption answer (HasNotMade table b made) (λ e. (m : ℕ) × (e ≡ Node m view.height) × IsBuilding table b made (of_view m view ∷ news)) →
+-- and so has one that was built for a subtrie
+pub low_made : (table : TableView) (b : SeatView) (made : List Rec) (news : List Made) (view : NodeView) (shown : Subtrie) (answer : Option Entry) → HasNodeWords view → IsBuiltFrom view shown →
+    MatchOption answer (HasNotMade table b made) (λ e. (m : ℕ) × (e ≡ Node m view.height) × IsBuilding table b made (made_of_node m view ∷ news)) →
     MatchOption answer (HasNotMade table b made)
-    (λ e. (after : NodeView) × IsBuiltFrom after shown × (m : ℕ) × (e ≡ Node m after.height) × HasNodeWords after × IsBuilding table b made (of_view m after ∷ news))
+    (λ e. (after : NodeView) × IsBuiltFrom after shown × (m : ℕ) × (e ≡ Node m after.height) × HasNodeWords after × IsBuilding table b made (made_of_node m after ∷ news))
 low_made table b made news view shown None has built h = h
 low_made table b made news view shown (Some e) has built (m, entry, building) = (view, built, m, entry, has, building)
 
 -- ---- halves
 pub half_of_node : (table : TableView) (a b : SeatView) (made : List Rec) (news : List Made) (old : Entry) (half : Half) (view : NodeView) (answer : Option Entry) → half ≡ Many view →
-    MatchOption answer (HasNotMade table b made) (λ e. (m : ℕ) × (e ≡ Node m view.height) × HasNodeWords view × IsBuilding table b made (of_view m view ∷ news)) →
+    MatchOption answer (HasNotMade table b made) (λ e. (m : ℕ) × (e ≡ Node m view.height) × HasNodeWords view × IsBuilding table b made (made_of_node m view ∷ news)) →
     MatchOption answer (HasNotMade table b made) (λ e. (more : List Made) × IsHalfMade old half e more × IsBuilding table b made (more ++ news))
 half_of_node table a b made news old half view None is h = h
 half_of_node table a b made news old half view (Some e) is (m, entry, has, building) =
-    (of_view m view ∷ [], subst (λ z. IsHalfMade old z e (of_view m view ∷ [])) (sym is) (m, entry, refl, has), building)
+    (made_of_node m view ∷ [], subst (λ z. IsHalfMade old z e (made_of_node m view ∷ [])) (sym is) (m, entry, refl, has), building)

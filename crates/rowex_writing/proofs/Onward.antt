@@ -17,8 +17,8 @@ use Rattle.rowex_table.specs.Seats.{TableView, SeatView, IsSeatOf}
 use Rattle.rowex_table.specs.Stays.{LeavesPin}
 use Rattle.rowex_table.proofs.Running.{runs_same}
 use Rattle.rowex_writing.specs.Changes.{HasRun, HasTried}
-use Rattle.rowex_writing.specs.Going.{IsQuiet}
-use Rattle.rowex_writing.proofs.Tried.{quiet_tries_none}
+use Rattle.rowex_writing.specs.Going.{TriesNoLock}
+use Rattle.rowex_writing.proofs.Tried.{no_lock_is_tried}
 use Rattle.rowex_table.specs.Made.{IsLater}
 
 -- a load below the root leaves the pin
@@ -29,11 +29,11 @@ below_pin (LoadFixed r offset w) below = tt
 below_pin _ below = absurd below
 
 -- and tries no lock
-below_quiet : (act : Act) → IsBelowRoot act → IsQuiet act
-below_quiet (LoadRef Root w) below = absurd below
-below_quiet (LoadRef (Slot n i) w) below = tt
-below_quiet (LoadFixed r offset w) below = tt
-below_quiet _ below = absurd below
+below_tries_no_lock : (act : Act) → IsBelowRoot act → TriesNoLock act
+below_tries_no_lock (LoadRef Root w) below = absurd below
+below_tries_no_lock (LoadRef (Slot n i) w) below = tt
+below_tries_no_lock (LoadFixed r offset w) below = tt
+below_tries_no_lock _ below = absurd below
 
 module _ {G : Type 0} (table : TableView) (becomes : G → Event → G → Type 0) where
   runs_possible : (acts : List Act) (a b : SeatView × G) → Runs table becomes acts a b → IsPossible table.layout a.0.known → IsPossible table.layout b.0.known
@@ -42,13 +42,13 @@ module _ {G : Type 0} (table : TableView) (becomes : G → Event → G → Type 
 
   -- ---- runs
   pub reads_run : (e n : ℕ) (a b : SeatView × G) → Reads table becomes e n a b → HasRun table becomes a b
-  reads_run e n a b r = record { acts = r.acts; each = All-weaker IsBelowRoot LeavesPin below_pin r.acts r.below; tried_are = quiet_tries_none r.acts (All-weaker IsBelowRoot IsQuiet below_quiet r.acts r.below); steps = r.steps }
+  reads_run e n a b r = record { acts = r.acts; each = All-weaker IsBelowRoot LeavesPin below_pin r.acts r.below; tried_are = no_lock_is_tried r.acts (All-weaker IsBelowRoot TriesNoLock below_tries_no_lock r.acts r.below); steps = r.steps }
 
   pub looks_run : (e n : ℕ) (a b : SeatView × G) → Looks table becomes e n a b → HasRun table becomes a b
   looks_run e n a b l = record {
     acts = LoadRef Root l.root.0 ∷ l.rest.acts;
     each = All-cons LeavesPin (LoadRef Root l.root.0) l.rest.acts tt (All-weaker IsBelowRoot LeavesPin below_pin l.rest.acts l.rest.below);
-    tried_are = quiet_tries_none l.rest.acts (All-weaker IsBelowRoot IsQuiet below_quiet l.rest.acts l.rest.below);
+    tried_are = no_lock_is_tried l.rest.acts (All-weaker IsBelowRoot TriesNoLock below_tries_no_lock l.rest.acts l.rest.below);
     steps = (l.at, l.root.1, l.rest.steps);
   }
 

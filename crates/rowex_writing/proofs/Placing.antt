@@ -20,16 +20,16 @@ use Rattle.pieces.specs.Piece.{Place, Fork, size, places}
 use Rattle.pieces.proofs.Paths.{size_pos}
 use Rattle.record_words.specs.Entry.{entry_word}
 use Rattle.record_words.specs.Leaf.{HasLeafWords}
-use Rattle.tries.specs.Affected.{page_affected, page_forked, IsTipPage}
+use Rattle.tries.specs.Affected.{subtrie_affected, subtrie_forked, IsTipSubtrie}
 use Rattle.tries.specs.Content.{Item, item}
 use Rattle.tries.specs.Keys.{Key, bit}
 use Rattle.tries.specs.Place.{shape}
 use Rattle.tries.specs.Search.{seek}
-use Rattle.tries.specs.Tree.{Page, leaf}
+use Rattle.tries.specs.Tree.{Subtrie, leaf}
 use Rattle.tries.proofs.Tries.{trie_within}
-use Rattle.moments.specs.declared.Rec.{Rec}
-use Rattle.moments.specs.declared.Rec.TheVariants.{Leaf as a_leaf}
-use Rattle.moments.specs.Trades.{IsOf}
+use Rattle.versions.specs.declared.Rec.{Rec}
+use Rattle.versions.specs.declared.Rec.TheVariants.{Leaf as a_leaf}
+use Rattle.versions.specs.Trades.{IsOneOf}
 use Rattle.rowex_walks.specs.Scan.{IsRead}
 use Rattle.rowex_walks.specs.Writer.{added_change, replaced_change}
 use Rattle.rowex_core.specs.declared.event.Spot.{Spot}
@@ -46,14 +46,14 @@ use Rattle.rowex_reading.specs.Seen.{Sure}
 use Rattle.rowex_reading.proofs.Seeing.{read_stable, seen_within, since_later, stands_in}
 use Rattle.rowex_reading.proofs.Standing.{led_in_table}
 use Rattle.rowex_rights.specs.Cases.{IsWord}
-use Rattle.rowex_rights.specs.Rises.{of_leaf, of_view, IsAnew, IsSide, one, anew}
+use Rattle.rowex_rights.specs.Rises.{made_of_leaf, made_of_node, IsBuiltAnew, IsSide, one, anew}
 use Rattle.rowex_rights.specs.Stages.{IsLeafThere, IsSure}
 use Rattle.rowex_rights.proofs.Inserting.{first_made, pair}
-use Rattle.rowex_rights.proofs.Loops.{later_on}
+use Rattle.rowex_rights.proofs.Loops.{later_transitive}
 use Rattle.rowex_rights.proofs.Replacing.{leaf_stays, upsert}
 use Rattle.rowex_rights.proofs.Sure.{seen_is_sure, sure_stays}
 use Rattle.rowex_writing.specs.Building.{IsBuilding}
-use Rattle.rowex_writing.specs.Changes.{AreAffected, HasTakenSpan, IsPlanned, IsStored, MayEnd}
+use Rattle.rowex_writing.specs.Changes.{AreAffected, HasTakenSpan, IsPlanned, IsPutChange, MayPublishOnceReady}
 use Rattle.rowex_writing.specs.Going.{HasLocked}
 use Rattle.rowex_writing.specs.Plans.{change, IsCase, IsNewLeafPlan, IsPlan}
 use Rattle.rowex_writing.specs.Putting.{IsSpotAbove, leaf_found}
@@ -125,7 +125,7 @@ put_was (Leaf number held None) = Some held
 put_was found = None
 
 pub put_stored : (q number : ℕ) (key : Key) (value : ℕ) (way : List Step) (found : Found) (len end : ℕ) → IsPutAt way found len end →
-    IsStored q key value found (put_change q (item number key value) found) (put_was found)
+    IsPutChange q key value found (put_change q (item number key value) found) (put_was found)
 put_stored q number key value way Nothing len end at = (refl, refl)
 put_stored q number key value way (Leaf n held None) len end at = (refl, refl)
 put_stored q number key value way (Leaf n held (Some p)) len end at = absurd at
@@ -237,41 +237,41 @@ none_named (s ∷ way) Is each =
 
 -- ---- one entry that is affected
 -- it is the one to which the key's search leads
-pub alone : (p : ℕ) (k : Key) (x : Page) → size (page_affected p k (shape x)) ≤ 1 → page_affected p k x ≡ Place (seek k x)
+pub alone : (p : ℕ) (k : Key) (x : Subtrie) → size (subtrie_affected p k (shape x)) ≤ 1 → subtrie_affected p k x ≡ Place (seek k x)
 alone p k (Place e) h = refl
 alone p k (Fork q x y) h = go (nat_lt q p) (bit k q) (alone p k x) (alone p k y) h
   where
-    go : (t u : Bool) → (size (page_affected p k (shape x)) ≤ 1 → page_affected p k x ≡ Place (seek k x)) → (size (page_affected p k (shape y)) ≤ 1 → page_affected p k y ≡ Place (seek k y)) →
-        size (if t then (if u then page_affected p k (shape y) else page_affected p k (shape x)) else Fork q (shape x) (shape y)) ≤ 1 →
-        (if t then (if u then page_affected p k y else page_affected p k x) else Fork q x y) ≡ Place (if u then seek k y else seek k x)
+    go : (t u : Bool) → (size (subtrie_affected p k (shape x)) ≤ 1 → subtrie_affected p k x ≡ Place (seek k x)) → (size (subtrie_affected p k (shape y)) ≤ 1 → subtrie_affected p k y ≡ Place (seek k y)) →
+        size (if t then (if u then subtrie_affected p k (shape y) else subtrie_affected p k (shape x)) else Fork q (shape x) (shape y)) ≤ 1 →
+        (if t then (if u then subtrie_affected p k y else subtrie_affected p k x) else Fork q x y) ≡ Place (if u then seek k y else seek k x)
     go true true f g h = g h
     go true false f g h = f h
     go false u f g h = absurd (omega (arith, h, size_pos (shape x), size_pos (shape y)))
 
 -- ---- entry words
-two_high : (u : Bool) (p a b : ℕ) → greatest_height (places (page_forked u p (LeafEntry a) (Place (LeafEntry b)))) ≡ 0
+two_high : (u : Bool) (p a b : ℕ) → greatest_height (places (subtrie_forked u p (LeafEntry a) (Place (LeafEntry b)))) ≡ 0
 two_high true p a b = refl
 two_high false p a b = refl
 
-pub pair_height : (u : Bool) (p a b : ℕ) (view : NodeView) → IsAnew view → piece view ≡ page_forked u p (LeafEntry a) (Place (LeafEntry b)) → view.height ≡ 1
+pub pair_height : (u : Bool) (p a b : ℕ) (view : NodeView) → IsBuiltAnew view → piece view ≡ subtrie_forked u p (LeafEntry a) (Place (LeafEntry b)) → view.height ≡ 1
 pair_height u p a b view (has, is) shows =
     let entries : greatest_height view.entries ≡ 0 = ap greatest_height has.lawful.shows.entries_are ∙ (ap (λ y. greatest_height (places y)) shows ∙ two_high u p a b) in
     omega arith
 
-no_single : (u : Bool) (p : ℕ) (a : Entry) (y : Page) (e : Entry) → page_forked u p a y ≡ Place e → ⊥
+no_single : (u : Bool) (p : ℕ) (a : Entry) (y : Subtrie) (e : Entry) → subtrie_forked u p a y ≡ Place e → ⊥
 no_single true p a y e is = cc
 no_single false p a y e is = cc
 
 module _ (table : TableView) (a : SeatView) (made : List Rec) (news : List Made) (b : IsBuilding table a made news) where
-  pub leaf_word : (x : Item) → IsOf (of_leaf x) news → IsWord (LeafEntry x.number) (4 * x.number + 1)
+  pub leaf_word : (x : Item) → IsOneOf (made_of_leaf x) news → IsWord (LeafEntry x.number) (4 * x.number + 1)
   leaf_word x h =
-      let low : x.number < table.layout.leaves = made_record table a made news b (of_leaf x) h in
+      let low : x.number < table.layout.leaves = made_record table a made news b (made_of_leaf x) h in
       let few : table.layout.leaves < 4294967296 = table.layout.leaves_in_range.1 in
       (omega arith, refl)
 
-  pub node_word : (m : ℕ) (view : NodeView) → IsOf (of_view m view) news → IsAnew view → IsWord (NodeEntry m view.height) (entry_word (Some (NodeEntry m view.height)))
+  pub node_word : (m : ℕ) (view : NodeView) → IsOneOf (made_of_node m view) news → IsBuiltAnew view → IsWord (NodeEntry m view.height) (entry_word (Some (NodeEntry m view.height)))
   node_word m view h (has, is) =
-      let low : m < table.layout.nodes = made_record table a made news b (of_view m view) h in
+      let low : m < table.layout.nodes = made_record table a made news b (made_of_node m view) h in
       let few : table.layout.nodes < 4294967296 = table.layout.nodes_in_range.1 in
       let bound = has.lawful.bound in
       ((omega arith, omega arith, omega arith), refl)
@@ -346,7 +346,7 @@ module _ (table : TableView) (a : SeatView) (m : ℕ) (key : Key) (way : List St
         let recall = recalls c a.known t.possible.knows in
         let (i, lo, hi, st) = leaf_at.1 c t.possible.lawful recall in
         let stands = stands_in c a.known st in
-        trie_within stands.within (t.possible.lawful.core.state.trees i stands.tree (le_trans hi (seen_within t.possible.lawful recall)) stands.is_moment).0
+        trie_within stands.within (t.possible.lawful.core.state.trees i stands.tree (le_trans hi (seen_within t.possible.lawful recall)) stands.is_version).0
 
   -- what goes is the table's
   pub found_records : AreInTable table.layout (leaf_found found)
@@ -363,18 +363,18 @@ module _ (table : TableView) (a : SeatView) (m : ℕ) (key : Key) (way : List St
   -- ---- the store, once the records are made
   module _ (b : SeatView) (made : List Rec) (number value : ℕ) (later : IsLater a.known b.known) (locks : b.known.locks ≡ a.known.locks) (anchor : b.known.anchor ≡ a.known.anchor) (spelled : HasLeafWords (key, value)) where
     -- a new leaf alone
-    pub put_may : IsBuilding table b made (of_leaf (item number key value) ∷ []) → IsPutAt way found span.len span.end → (spot : Spot) → IsSpotAbove way span.end spot →
-        MayEnd table b made spot (4 * number + 1) (put_change a.known.pass (item number key value) found) (put_was found) (leaf_found found)
+    pub put_may : IsBuilding table b made (made_of_leaf (item number key value) ∷ []) → IsPutAt way found span.len span.end → (spot : Spot) → IsSpotAbove way span.end spot →
+        MayPublishOnceReady table b made spot (4 * number + 1) (put_change a.known.pass (item number key value) found) (put_was found) (leaf_found found)
     put_may building at spot over = go found refl at spot over
       where
         news : List Made
-        news = of_leaf (item number key value) ∷ []
+        news = made_of_leaf (item number key value) ∷ []
 
         word : IsWord (LeafEntry number) (4 * number + 1)
-        word = leaf_word table b made (of_leaf (item number key value) ∷ []) building (item number key value) (inl refl)
+        word = leaf_word table b made (made_of_leaf (item number key value) ∷ []) building (item number key value) (inl refl)
 
         go : (f : Found) → found ≡ f → IsPutAt way f span.len span.end → (spot : Spot) → IsSpotAbove way span.end spot →
-            MayEnd table b made spot (4 * number + 1) (put_change a.known.pass (item number key value) f) (put_was f) (leaf_found f)
+            MayPublishOnceReady table b made spot (4 * number + 1) (put_change a.known.pass (item number key value) f) (put_was f) (leaf_found f)
         go Nothing is (l, e) Root over = record {
           news = news;
           building = building;
@@ -393,13 +393,13 @@ module _ (table : TableView) (a : SeatView) (m : ℕ) (key : Key) (way : List St
               subst (λ q. Publishes table.layout j spot (4 * number + 1) (replaced_change q (item number key value)) (Some v) (a_leaf n ∷ [])) (on.pass ∙ later.pass)
               (upsert table.layout j b.known.locks (item number key value) n (4 * number + 1) v spot ready spelled h.holds (h.fits (LeafEntry number) (λ s above. above.node.below))
               (subst (λ z. IsLeafThere table.layout j b.known.locks news n z v) (sym (leaf_at n v None is).2)
-              (there_still n v None is j b.known.locks news (later_on a.known b.known j later on))) word);
+              (there_still n v None is j b.known.locks news (later_transitive a.known b.known j later on))) word);
         }
         go (Leaf n v (Some p)) is at spot over = absurd at
 
     -- a new node of the found leaf and the new one
-    pub pair_may : (p n : ℕ) (here : IsPairHere a.known m key way found span n p) (e : Entry) (more : List Made) → IsSide (page_forked (bit key p) p (LeafEntry number) (Place (LeafEntry n))) e more →
-        IsBuilding table b made (more ++ of_leaf (item number key value) ∷ []) → (spot : Spot) → IsSpotAbove way span.end spot → MayEnd table b made spot (entry_word (Some e)) (added_change a.known.pass (item number key value)) None []
+    pub pair_may : (p n : ℕ) (here : IsPairHere a.known m key way found span n p) (e : Entry) (more : List Made) → IsSide (subtrie_forked (bit key p) p (LeafEntry number) (Place (LeafEntry n))) e more →
+        IsBuilding table b made (more ++ made_of_leaf (item number key value) ∷ []) → (spot : Spot) → IsSpotAbove way span.end spot → MayPublishOnceReady table b made spot (entry_word (Some e)) (added_change a.known.pass (item number key value)) None []
     pair_may p n here e more (one f is) building spot over = absurd (no_single (bit key p) p (LeafEntry number) (Place (LeafEntry n)) f is)
     pair_may p n here e more (anew o view built shows) building spot over = record {
       news = news;
@@ -411,14 +411,14 @@ module _ (table : TableView) (a : SeatView) (m : ℕ) (key : Key) (way : List St
           (pair table.layout j b.known.locks (item number key value) p n o (entry_word (Some e)) here.value leaf.0 view spot ready spelled h.holds
           (h.alone p (λ s above. (Place (LeafEntry n), refl, inr (alone_at s above.words above.low above.at above.has))))
           (h.fits e (λ s above. let high = (lowest above.low).high s (level_at s above.low above.at) in omega (arith, one_high, high)))
-          (there_still n here.value (Some p) here.is_found j b.known.locks news (later_on a.known b.known j later on)) leaf.2.0 leaf.2.1 built shows word);
+          (there_still n here.value (Some p) here.is_found j b.known.locks news (later_transitive a.known b.known j later on)) leaf.2.0 leaf.2.1 built shows word);
     }
       where
         news : List Made
-        news = of_view o view ∷ of_leaf (item number key value) ∷ []
+        news = made_of_node o view ∷ made_of_leaf (item number key value) ∷ []
 
         word : IsWord (NodeEntry o view.height) (entry_word (Some (NodeEntry o view.height)))
-        word = node_word table b made (of_view o view ∷ of_leaf (item number key value) ∷ []) building o view (inl refl) built
+        word = node_word table b made (made_of_node o view ∷ made_of_leaf (item number key value) ∷ []) building o view (inl refl) built
 
         leaf : (l : Key) × Sure a.known (λ past. IsRead past m n l here.value) × IsMismatch key l (Some p)
         leaf = leaf_at n here.value (Some p) here.is_found
@@ -432,10 +432,10 @@ module _ (table : TableView) (a : SeatView) (m : ℕ) (key : Key) (way : List St
         level_at : (s : Step) (low : 0 < span.end) → slice_get way (span.end - 1) ≡ Some s → slice_get way (lowest low).level ≡ Some s
         level_at s low at = (let e : span.end - 1 ≡ (lowest low).level = (let is = (lowest low).is_last in omega (arith, is, here.upto)) in subst (λ z. slice_get way z ≡ Some s) e at)
 
-        alone_at : (s : Step) (words : List ℕ) (low : 0 < span.end) → slice_get way (span.end - 1) ≡ Some s → HasLocked a.known s.number words → IsTipPage (page_affected p key (node_words_of words).page)
+        alone_at : (s : Step) (words : List ℕ) (low : 0 < span.end) → slice_get way (span.end - 1) ≡ Some s → HasLocked a.known s.number words → IsTipSubtrie (subtrie_affected p key (node_words_of words).subtrie)
         alone_at s words low at has =
             let (forks, shaped, just) = (subst (λ f. AreAffected a.known m key way f here.first here.last) here.is_found here.affected) (lowest low).level s (lowest low).is_level (level_at s low at) in
             let node = (t.way_of.nodes (span.end - 1) s at).2 in
             let shape_is = (locked_shape table.layout a.known m s.number s.height forks words t.possible t.way_of.since node.seen shaped has).0 in
-            let few : size (page_affected p key forks) ≤ 1 = (let single = (lowest low).single in omega (arith, just.upto, single, (key_part key p forks).count, just.from)) in
-            subst IsTipPage (sym (alone p key (node_words_of words).page (subst (λ z. size (page_affected p key z) ≤ 1) (sym shape_is) few))) tt
+            let few : size (subtrie_affected p key forks) ≤ 1 = (let single = (lowest low).single in omega (arith, just.upto, single, (key_part key p forks).count, just.from)) in
+            subst IsTipSubtrie (sym (alone p key (node_words_of words).subtrie (subst (λ z. size (subtrie_affected p key z) ≤ 1) (sym shape_is) few))) tt

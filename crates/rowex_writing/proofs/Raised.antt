@@ -5,10 +5,10 @@ use Rattle.std.proofs.lemmas.Bool.{eqb-true}
 use Rattle.std.proofs.lemmas.List.{length-append, length-map}
 use Rattle.std.proofs.lemmas.List.Elements.{All-append}
 use Rattle.insert_cases.specs.declared.choice.Step.{Step}
-use Rattle.moments.specs.Trades.{IsOf, AreApart}
-use Rattle.moments.specs.declared.Rec.{Rec}
-use Rattle.moments.specs.declared.Rec.TheVariants.{Node as a_node}
-use Rattle.moments.proofs.Members.{of_append, of_left}
+use Rattle.versions.specs.Trades.{IsOneOf, AreApart}
+use Rattle.versions.specs.declared.Rec.{Rec}
+use Rattle.versions.specs.declared.Rec.TheVariants.{Node as a_node}
+use Rattle.versions.proofs.Members.{of_append, of_left}
 use Rattle.record_words.specs.declared.layout.Layout.{Layout}
 use Rattle.tries.specs.Keys.{Key}
 use Rattle.tries.proofs.Places.{spot_below}
@@ -27,8 +27,8 @@ use Rattle.rowex_table.specs.Seats.{TableView, SeatView}
 use Rattle.rowex_walks.specs.Writer.{added_change, removed_change}
 use Rattle.tries.specs.Content.{item}
 use Rattle.rowex_writing.specs.Building.{IsBuilding}
-use Rattle.rowex_writing.specs.Changes.{IsFull, IsStored, IsTaken}
-use Rattle.rowex_writing.specs.Deeds.{HasNoneFree, HasRaised, MayReplace, gone_for, kept_for, leaf_gone}
+use Rattle.rowex_writing.specs.Changes.{IsFull, IsPutChange, IsTakeChange}
+use Rattle.rowex_writing.specs.Deeds.{HasNoneFree, HasRaised, MayReplace, gone_of_span, kept_of_span, leaf_gone}
 use Rattle.rowex_writing.specs.declared.deeds.Job.{Job}
 use Rattle.rowex_writing.specs.declared.plan.Deed.TheVariants.{Grow, Take}
 use Rattle.rowex_writing.specs.declared.plan.Full.{Full}
@@ -43,7 +43,7 @@ use Rattle.rowex_writing.proofs.Growths.{full_since, kept_span, range_records, t
 use Rattle.rowex_writing.proofs.Spans.{slice_none}
 
 -- ---- what goes
-no_node : (leaf : Option ℕ) (n : ℕ) → IsOf (a_node n) (leaf_gone leaf) → ⊥
+no_node : (leaf : Option ℕ) (n : ℕ) → IsOneOf (a_node n) (leaf_gone leaf) → ⊥
 no_node None n h = h
 no_node (Some number) n (inl e) = cc
 no_node (Some number) n (inr h) = h
@@ -59,29 +59,29 @@ pub none_in_table : (layout : Layout) → AreInTable layout []
 none_in_table layout = λ i d low. absurd (omega arith)
 
 -- where no node goes
-pub leaf_alone : (way : List Step) (end low : ℕ) (leaf : Option ℕ) → low ≡ end → map (λ (s : Step). a_node s.number) (slice_range way end low) ++ leaf_gone leaf ≡ leaf_gone leaf
-leaf_alone way end low leaf same = ap (λ (steps : List Step). map (λ (s : Step). a_node s.number) steps ++ leaf_gone leaf) (ap (slice_range way end) same ∙ slice_none way end)
+pub just_leaf_gone : (way : List Step) (end low : ℕ) (leaf : Option ℕ) → low ≡ end → map (λ (s : Step). a_node s.number) (slice_range way end low) ++ leaf_gone leaf ≡ leaf_gone leaf
+just_leaf_gone way end low leaf same = ap (λ (steps : List Step). map (λ (s : Step). a_node s.number) steps ++ leaf_gone leaf) (ap (slice_range way end) same ∙ slice_none way end)
 
 module _ (way : List Step) (span : Span) (raised : Raised) where
-  pub gone_few : length (gone_for way span raised) ≤ raised.low - span.end + length (leaf_gone raised.leaf)
+  pub gone_few : length (gone_of_span way span raised) ≤ raised.low - span.end + length (leaf_gone raised.leaf)
   gone_few =
       let nodes = map (λ (s : Step). a_node s.number) (slice_range way span.end raised.low) in
       omega (arith, length-append nodes (leaf_gone raised.leaf), length-map (slice_range way span.end raised.low) (λ (s : Step). a_node s.number), slice_few way span.end raised.low)
 
-  pub kept_few : length (kept_for way span raised) ≤ span.end - (span.end - 1) + (span.len - raised.low)
+  pub kept_few : length (kept_of_span way span raised) ≤ span.end - (span.end - 1) + (span.len - raised.low)
   kept_few = omega (arith, length-append (slice_range way (span.end - 1) span.end) (slice_range way raised.low span.len), slice_few way (span.end - 1) span.end, slice_few way raised.low span.len)
 
-  pub gone_records : (layout : Layout) → AreNodes layout way → AreInTable layout (leaf_gone raised.leaf) → AreInTable layout (gone_for way span raised)
+  pub gone_records : (layout : Layout) → AreNodes layout way → AreInTable layout (leaf_gone raised.leaf) → AreInTable layout (gone_of_span way span raised)
   gone_records layout nodes leaf = All-append (HasRecord layout) (map (λ (s : Step). a_node s.number) (slice_range way span.end raised.low)) (leaf_gone raised.leaf) (range_records layout way span.end raised.low nodes) leaf
 
-  pub kept_nodes : (layout : Layout) → AreNodes layout way → AreNodes layout (kept_for way span raised)
+  pub kept_nodes : (layout : Layout) → AreNodes layout way → AreNodes layout (kept_of_span way span raised)
   kept_nodes layout nodes = two_nodes layout way (span.end - 1) span.end raised.low span.len nodes
 
   pub kept_raised : (k : Known) → HasLockedSpan k way span → span.end ≤ raised.low → raised.low ≤ span.len →
-      AreKept (nodes_of k.locks) (gone_for way span raised) (numbers_of (kept_for way span raised)) × AreApart (numbers_of (kept_for way span raised))
+      AreKept (nodes_of k.locks) (gone_of_span way span raised) (numbers_of (kept_of_span way span raised)) × AreApart (numbers_of (kept_of_span way span raised))
   kept_raised k locked from upto =
       let (kept, apart) = kept_span k.locks way span.end raised.low span.len from upto locked.nodes.0 locked.nodes.1 in
-      (with_leaf (nodes_of k.locks) (map (λ (s : Step). a_node s.number) (slice_range way span.end raised.low)) (numbers_of (kept_for way span raised)) raised.leaf kept, apart)
+      (with_leaf (nodes_of k.locks) (map (λ (s : Step). a_node s.number) (slice_range way span.end raised.low)) (numbers_of (kept_of_span way span raised)) raised.leaf kept, apart)
 
 -- ---- where it is stored
 above_zero : (n : ℕ) → nat_eq n 0 ≡ false → 0 < n
@@ -104,7 +104,7 @@ spot_there layout k m key way found w end (Slot n i) (s, low, at, number, place)
 
 -- ---- what is raised for a deed
 pub grown_raised : (table : TableView) (a m : Known) (b : SeatView) (made : List Rec) (job : Job) (position first last leaf : ℕ) (r : Result Raised Full) → IsLater a m →
-    IsStored a.pass job.key.now job.value job.found (added_change a.pass (item leaf job.key.now job.value)) None →
+    IsPutChange a.pass job.key.now job.value job.found (added_change a.pass (item leaf job.key.now job.value)) None →
     IfOk r (λ raised. MayReplace table b made job.way.now job.span raised (added_change m.pass (item leaf job.key.now job.value)) None) → IfOk r (HasRaised table a b made job (Grow position first last))
 grown_raised table a m b made job position first last leaf (Ok raised) later stored may = (
   added_change a.pass (item leaf job.key.now job.value),
@@ -119,12 +119,12 @@ pub taken_raised : (table : TableView) (a : Known) (b : SeatView) (made : List R
 taken_raised table a b made job number value (Ok raised) is may = (
   removed_change a.pass (item number job.key.now value),
   Some value,
-  subst (λ f. IsTaken a.pass job.key.now f (removed_change a.pass (item number job.key.now value)) (Some value)) (sym is) (refl, refl),
+  subst (λ f. IsTakeChange a.pass job.key.now f (removed_change a.pass (item number job.key.now value)) (Some value)) (sym is) (refl, refl),
   may,
 )
 taken_raised table a b made job number value (Err full) is may = tt
 
--- none was free since an earlier moment
+-- none was free since an earlier version
 pub none_free_since : (table : TableView) (a m : Known) (b : SeatView) (made : List Rec) (job : Job) (r : Result Raised Full) → a.steps ≤ m.steps → IfErr r (HasNoneFree table m b made job) → IfErr r (HasNoneFree table a b made job)
 none_free_since table a m b made job (Ok raised) count none = tt
 none_free_since table a m b made job (Err full) count none = record {

@@ -7,7 +7,7 @@ use Rattle.compound_node.specs.declared.entries.Entry.TheVariants.{Leaf, Node}
 use Rattle.compound_node.specs.declared.halves.Half.{Half}
 use Rattle.compound_node.specs.declared.halves.Half.TheVariants.{One, Many, Same}
 use Rattle.insert_cases.specs.Grown.{GrownShows, SidesShow, is_same, keeps_node}
-use Rattle.insert_cases.specs.Risen.{page_of}
+use Rattle.insert_cases.specs.Risen.{subtrie_of}
 use Rattle.insert_cases.specs.declared.growth.Grown.{Grown}
 use Rattle.insert_cases.specs.declared.growth.Grown.TheVariants.{One as Single, Two}
 use Rattle.insert_cases.specs.declared.raising.Risen.{Risen}
@@ -16,34 +16,34 @@ use Rattle.pieces.specs.Changes.{AtRootFork}
 use Rattle.pieces.specs.Piece.{Place, Fork}
 use Rattle.record_words.specs.declared.layout.Layout.{Layout}
 use Rattle.tries.specs.Content.{Item}
-use Rattle.tries.specs.Affected.{page_forked, page_grown}
+use Rattle.tries.specs.Affected.{subtrie_forked, subtrie_grown}
 use Rattle.tries.specs.Keys.{Key, bit}
-use Rattle.tries.specs.Tree.{Page}
-use Rattle.moments.specs.Trades.{IsOf}
-use Rattle.moments.specs.declared.Rec.{Rec}
-use Rattle.moments.specs.declared.Rec.TheVariants.{Node as a_node}
+use Rattle.tries.specs.Tree.{Subtrie}
+use Rattle.versions.specs.Trades.{IsOneOf}
+use Rattle.versions.specs.declared.Rec.{Rec}
+use Rattle.versions.specs.declared.Rec.TheVariants.{Node as a_node}
 use Rattle.rowex_walks.specs.Rise.{body, entry}
-use Rattle.moments.specs.State.{IsFrom}
+use Rattle.versions.specs.State.{FirstForkIsFrom}
 use Rattle.rowex_core.specs.Reading.{node_words_of}
 use Rattle.std.proofs.lemmas.Bool.{le-ltb}
 use Rattle.rowex_core.specs.declared.known.Known.{Known}
 use Rattle.rowex_core.specs.declared.known.Locked.{Locked}
 use Rattle.rowex_table.specs.Made.{Made}
-use Rattle.rowex_rights.specs.Rises.{of_leaf, IsSide, one, anew, HasFoundBelow}
+use Rattle.rowex_rights.specs.Rises.{made_of_leaf, IsSide, one, anew, HasFoundBelow}
 use Rattle.rowex_rights.specs.Stages.{HasLeaf, HasRisen}
 use Rattle.rowex_rights.proofs.Rising.{rises_copied, rises_halved, rise_whole}
 use Rattle.rowex_writing.specs.Building.{IsHalfMade, IsMadeFrom}
 
 -- a half that was made is a side
-pub side_made : (old e : Entry) (half : Half) (part : Page) (news : List Made) → HalfShows half part → IsHalfMade old half e news → IsSide part e news
+pub side_made : (old e : Entry) (half : Half) (part : Subtrie) (news : List Made) → HalfShows half part → IsHalfMade old half e news → IsSide part e news
 side_made old e (One alone) part news shows (is, none) =
-    subst (IsSide part e) (sym none) (one e (shows.0 ∙ ap (λ z. let x : Page = Place z in x) (sym is)))
+    subst (IsSide part e) (sym none) (one e (shows.0 ∙ ap (λ z. let x : Subtrie = Place z in x) (sym is)))
 side_made old e (Many view) part news shows (m, is, made, has) =
     subst (λ z. IsSide part z news) (sym is) (subst (IsSide part (Node m view.height)) (sym made) (anew m view (has, shows.height_is) shows.shows_it))
 side_made old e Same part news shows made = elim shows [ ]
 
 -- neither side is the old node
-sides_anew : (old : NodeView) (z o : Half) (a b : Page) → is_same z || is_same o ≡ false → SidesShow old z o a b → HalfShows z a × HalfShows o b
+sides_anew : (old : NodeView) (z o : Half) (a b : Subtrie) → is_same z || is_same o ≡ false → SidesShow old z o a b → HalfShows z a × HalfShows o b
 sides_anew old (One e) (One f) a b n s = s
 sides_anew old (One e) (Many v) a b n s = s
 sides_anew old (Many v) (One e) a b n s = s
@@ -53,10 +53,10 @@ sides_anew old (Many v) Same a b n s = absurd cc
 sides_anew old Same o a b n s = absurd cc
 
 module _ (layout : Layout) (k : Known) (held : List Locked) (before after : List Made) (gone : List Rec) (since : ℕ) (x : Item) (p : ℕ) (l : Key) (leaf : HasLeaf before x)
-    (n : ℕ) (words : List ℕ) (at : IsOf (record { node = n; words = words }) held) (old : NodeView) (was : Entry) where
+    (n : ℕ) (words : List ℕ) (at : IsOneOf (record { node = n; words = words }) held) (old : NodeView) (was : Entry) where
   -- the node's body has records
-  pub rises_made : (g : Grown) (risen : Risen) (r : Page) → GrownShows old g r → keeps_node g ≡ false → IsMadeFrom was g risen before after →
-      HasRisen layout k held before since x p l body n r gone → HasRisen layout k held after since x p l entry n (page_of risen) (a_node n ∷ gone)
+  pub rises_made : (g : Grown) (risen : Risen) (r : Subtrie) → GrownShows old g r → keeps_node g ≡ false → IsMadeFrom was g risen before after →
+      HasRisen layout k held before since x p l body n r gone → HasRisen layout k held after since x p l entry n (subtrie_of risen) (a_node n ∷ gone)
   rises_made (Single view) (Whole e) r shows fresh (m, is, made, has) below =
       let copied = rises_copied layout k held before gone since x p l leaf n words at m view (has, shows.height_is) (subst (λ z. HasRisen layout k held before since x p l body n z gone) (sym shows.shows_it) below) in
       subst (λ z. HasRisen layout k held after since x p l entry n (Place z) (a_node n ∷ gone)) (sym is)
@@ -72,17 +72,17 @@ module _ (layout : Layout) (k : Known) (held : List Locked) (before after : List
 
 -- ---- the node stays whole
 -- before its first fork, the new one is above all of it
-above_all : (p : ℕ) (k : Key) (e : Entry) (y : Page) → AtRootFork (λ q a b. p < q) y → (page_grown p k e y ≡ page_forked (bit k p) p e y) × IsFrom p y
+above_all : (p : ℕ) (k : Key) (e : Entry) (y : Subtrie) → AtRootFork (λ q a b. p < q) y → (subtrie_grown p k e y ≡ subtrie_forked (bit k p) p e y) × FirstForkIsFrom p y
 above_all p k e (Place d) h = elim h [ ]
 above_all p k e (Fork q a b) h = (rw (le-ltb q p (omega arith)) refl, omega arith)
 
-no_place : (p : ℕ) (y : Page) (e : Entry) → AtRootFork (λ q a b. p < q) y → y ≡ Place e → ⊥
+no_place : (p : ℕ) (y : Subtrie) (e : Entry) → AtRootFork (λ q a b. p < q) y → y ≡ Place e → ⊥
 no_place p (Place d) e h is = elim h [ ]
 no_place p (Fork q a b) e h is = cc
 
 kept_halves : (u : Bool) (p m : ℕ) (was : Entry) (old : NodeView) → AtRootFork (λ q a b. p < q) (piece old) → (c : ℕ) (first second : Half) → is_same first || is_same second ≡ true →
-    AtRootFork (λ f a b. (c ≡ f) × SidesShow old first second a b) (page_forked u p (Leaf m) (piece old)) → (q : ℕ) (z o : Entry) (lower upper : List Made) → q ≡ c →
-    IsHalfMade was first z lower → IsHalfMade was second o upper → (Fork q (Place z) (Place o) ≡ page_forked u p (Leaf m) (Place was)) × (lower ≡ []) × (upper ≡ [])
+    AtRootFork (λ f a b. (c ≡ f) × SidesShow old first second a b) (subtrie_forked u p (Leaf m) (piece old)) → (q : ℕ) (z o : Entry) (lower upper : List Made) → q ≡ c →
+    IsHalfMade was first z lower → IsHalfMade was second o upper → (Fork q (Place z) (Place o) ≡ subtrie_forked u p (Leaf m) (Place was)) × (lower ≡ []) × (upper ≡ [])
 kept_halves true p m was old h c Same (One f) same s q z o lower upper is low high = (cc, low.1, high.1)
 kept_halves false p m was old h c (One f) Same same s q z o lower upper is low high = (cc, low.1, high.1)
 kept_halves true p m was old h c (One f) Same same s q z o lower upper is low high = absurd (no_place p (piece old) f h s.1.0)
@@ -99,17 +99,17 @@ kept_halves u p m was old h c (Many v) (One e) same s q z o lower upper is low h
 kept_halves u p m was old h c (Many v) (Many w) same s q z o lower upper is low high = absurd cc
 
 module _ (layout : Layout) (k : Known) (held : List Locked) (after : List Made) (since : ℕ) (x : Item) (p : ℕ) (l : Key) (n : ℕ) (words : List ℕ) (found : HasFoundBelow k held since x p l n words)
-    (old : NodeView) (shown : (node_words_of words).page ≡ piece old) (height : (node_words_of words).fixed.height ≡ old.height) where
-  pub rises_kept : (g : Grown) (risen : Risen) → GrownShows old g (page_grown p x.key (Leaf x.number) (piece old)) → keeps_node g ≡ true → AtRootFork (λ q a b. p < q) (piece old) →
-      IsMadeFrom (Node n old.height) g risen (of_leaf x ∷ []) after → HasRisen layout k held after since x p l entry n (page_of risen) [] × (after ≡ of_leaf x ∷ [])
+    (old : NodeView) (shown : (node_words_of words).subtrie ≡ piece old) (height : (node_words_of words).fixed.height ≡ old.height) where
+  pub rises_kept : (g : Grown) (risen : Risen) → GrownShows old g (subtrie_grown p x.key (Leaf x.number) (piece old)) → keeps_node g ≡ true → AtRootFork (λ q a b. p < q) (piece old) →
+      IsMadeFrom (Node n old.height) g risen (made_of_leaf x ∷ []) after → HasRisen layout k held after since x p l entry n (subtrie_of risen) [] × (after ≡ made_of_leaf x ∷ [])
   rises_kept (Single view) risen shows kept before made = absurd cc
   rises_kept (Two cut) (Whole e) shows kept before made = elim made [ ]
   rises_kept (Two cut) (Split q z o) shows kept before (lower, upper, is, low, high, made) =
       let u = bit x.key p in
       let all = above_all p x.key (Leaf x.number) (piece old) before in
-      let (page, none, nor) = kept_halves u p x.number (Node n old.height) old before cut.position cut.zero cut.one kept
+      let (subtrie, none, nor) = kept_halves u p x.number (Node n old.height) old before cut.position cut.zero cut.one kept
       (subst (GrownShows old (Two cut)) all.0 shows) q z o lower upper is low high in
-      let same : after ≡ of_leaf x ∷ [] = made ∙ (ap (λ y. y ++ (upper ++ of_leaf x ∷ [])) none ∙ ap (λ y. y ++ of_leaf x ∷ []) nor) in
-      let whole = rise_whole layout k held since x p l n words found (subst (IsFrom p) (sym shown) all.1) in
-      let tall : page_forked u p (Leaf x.number) (Place (Node n (node_words_of words).fixed.height)) ≡ Fork q (Place z) (Place o) = ap (λ h. page_forked u p (Leaf x.number) (Place (Node n h))) height ∙ sym page in
-      (subst (λ y. HasRisen layout k held after since x p l entry n y []) tall (subst (λ y. HasRisen layout k held y since x p l entry n (page_forked u p (Leaf x.number) (Place (Node n (node_words_of words).fixed.height))) []) (sym same) whole), same)
+      let same : after ≡ made_of_leaf x ∷ [] = made ∙ (ap (λ y. y ++ (upper ++ made_of_leaf x ∷ [])) none ∙ ap (λ y. y ++ made_of_leaf x ∷ []) nor) in
+      let whole = rise_whole layout k held since x p l n words found (subst (FirstForkIsFrom p) (sym shown) all.1) in
+      let tall : subtrie_forked u p (Leaf x.number) (Place (Node n (node_words_of words).fixed.height)) ≡ Fork q (Place z) (Place o) = ap (λ h. subtrie_forked u p (Leaf x.number) (Place (Node n h))) height ∙ sym subtrie in
+      (subst (λ y. HasRisen layout k held after since x p l entry n y []) tall (subst (λ y. HasRisen layout k held y since x p l entry n (subtrie_forked u p (Leaf x.number) (Place (Node n (node_words_of words).fixed.height))) []) (sym same) whole), same)

@@ -4,9 +4,9 @@ use Rattle.std.specs.Prelude.{Contains}
 use Rattle.std.proofs.lemmas.List.{append-nil, drop_all, drop_more, get_or-map, get_or-reverse, length-map, length-reverse, take_all, take_more}
 use Rattle.std.proofs.lemmas.List.Elements.{All-cons, Contains-append_right}
 use Rattle.record_words.specs.declared.layout.Layout.{Layout}
-use Rattle.moments.specs.declared.Rec.{Rec}
-use Rattle.moments.specs.Trades.{IsOf}
-use Rattle.moments.proofs.Members.{all_of, of_right}
+use Rattle.versions.specs.declared.Rec.{Rec}
+use Rattle.versions.specs.Trades.{IsOneOf}
+use Rattle.versions.proofs.Members.{all_of, of_right}
 use Rattle.rowex_core.specs.declared.event.Act.TheVariants.{Ready}
 use Rattle.rowex_core.specs.declared.event.Event.{Event}
 use Rattle.rowex_core.specs.declared.known.Holding.TheVariants.{Held, Ready as IsReady}
@@ -25,7 +25,7 @@ use Rattle.rowex_rights.specs.Stages.{HasReady}
 use Rattle.rowex_rights.proofs.Loops.{ready_next}
 use Rattle.rowex_reading.specs.Possible.{IsPossible}
 use Rattle.rowex_writing.specs.Building.{AreMadePacked, IsBuilding}
-use Rattle.rowex_writing.specs.Going.{WorksOn, IsQuiet}
+use Rattle.rowex_writing.specs.Going.{WorksOn, TriesNoLock}
 use Rattle.rowex_writing.proofs.Locking.{goes_more}
 use Rattle.rowex_writing.proofs.Making.{goes_possible, owns_on}
 
@@ -67,7 +67,7 @@ module _ (layout : Layout) (k : Known) (done todo : List Made) (m : Made) (has :
 
   held_record : IsPossible layout k → HasRecord layout m.rec
   held_record possible =
-      let here : IsOf (held_as Held m) k.own = subst (IsOf (held_as Held m)) (sym has.0) (of_right (held_as Held m) (map (held_as IsReady) done) (held_as Held m ∷ map (held_as Held) todo) (inl refl)) in
+      let here : IsOneOf (held_as Held m) k.own = subst (IsOneOf (held_as Held m)) (sym has.0) (of_right (held_as Held m) (map (held_as IsReady) done) (held_as Held m ∷ map (held_as Held) todo) (inl refl)) in
       let owned = all_of (IsOwned k.pass possible.core) (held_as Held m) k.own (knows_all possible.core k possible.knows).own here in
       subst (λ z. HasRecord z m.rec) possible.layout_is (owned_used possible.core possible.lawful k.pass (held_as Held m) owned)
 
@@ -96,7 +96,7 @@ module _ {G : Type 0} (table : TableView) (becomes : G → Event → G → Type 
     -- it is made ready
     module _ (e : SeatView × G) (made_ready : Readies table becomes (get_or made (left - 1) d) b e) where
       pub readied_goes : WorksOn table becomes a e
-      readied_goes = goes_more table becomes a b e goes (owns_on table becomes (Ready (get_or made (left - 1) d) ∷ []) b e (All-cons IsQuiet (Ready (get_or made (left - 1) d)) [] tt (λ i d low. absurd (omega arith))) made_ready.does)
+      readied_goes = goes_more table becomes a b e goes (owns_on table becomes (Ready (get_or made (left - 1) d) ∷ []) b e (All-cons TriesNoLock (Ready (get_or made (left - 1) d)) [] tt (λ i d low. absurd (omega arith))) made_ready.does)
 
       pub readied_more : AreReadied a.0 e.0 made (left - 1)
       readied_more news i =

@@ -1,4 +1,4 @@
--- What the page of a lawful tree tells of the fork that it got, and how high the nodes of a page are.
+-- What the subtrie of a lawful tree tells of the fork that it got, and how high the nodes of a subtrie are.
 use Rattle.std.proofs.Common.{◌≡◌, inl, inr, ℕ, suc, Option, ◌+◌, ◌*◌, ◌<◌, ◌≤◌, Bool, true, false, List, [], ◌∷◌, ◌++◌, max, ap, sym, ◌∙◌, subst, arith, if◌then◌else◌, nat_lt}
 use Rattle.std.specs.Prelude.{All}
 use Rattle.key_bits.specs.Bits.{bit_of}
@@ -14,11 +14,11 @@ use Rattle.compound_node.specs.declared.entries.Entry.{Entry}
 use Rattle.compound_node.specs.declared.entries.Entry.TheVariants.{Leaf}
 use Rattle.compound_node.specs.declared.halves.Half.{Half}
 use Rattle.compound_node.specs.declared.halves.Half.TheVariants.{One, Many, Same}
-use Rattle.tries.specs.Affected.{page_affected, page_forked, page_grown}
+use Rattle.tries.specs.Affected.{subtrie_affected, subtrie_forked, subtrie_grown}
 use Rattle.tries.specs.Content.{first}
 use Rattle.tries.specs.Keys.{Key, bit}
-use Rattle.tries.specs.Place.{spot, with_page, joined, page_without}
-use Rattle.tries.specs.Tree.{Page, Tree, fork, page, IsTrie, Within, here, zero_side, one_side}
+use Rattle.tries.specs.Place.{spot, with_subtrie, joined, subtrie_without}
+use Rattle.tries.specs.Tree.{Subtrie, Tree, fork, subtrie, IsTrie, Within, here, zero_side, one_side}
 use Rattle.tries.proofs.Building.{bit_below, greatest-append}
 use Rattle.tries.proofs.Places.{leads_spot, spot_below}
 use Rattle.tries.proofs.Ranges.{has_key}
@@ -27,48 +27,48 @@ use Rattle.tries.proofs.Tries.{has_first, rises, trie_within, built_within}
 use Rattle.insert_cases.specs.Grown.{GrownShows, SidesShow}
 use Rattle.insert_cases.specs.declared.growth.Grown.{Grown}
 use Rattle.insert_cases.specs.declared.growth.Grown.TheVariants.{One as Whole, Two}
-use Rattle.insert_cases.proofs.Affecting.{RootNot, key_part}
-use Rattle.insert_cases.proofs.Choosing.{root_not}
+use Rattle.insert_cases.proofs.Affecting.{FirstForkIsNot, key_part}
+use Rattle.insert_cases.proofs.Choosing.{first_fork_is_not}
 use Rattle.insert_cases.proofs.Pairs.{IsPairOf, pair_facts}
 use Rattle.insert_cases.proofs.NodeFacts.{height_positive}
 use Rattle.record_words.specs.Node.{CanTakeLeaf, HasNodeWords, CanGrowAt, SpellLeft, node_words}
 use Rattle.record_words.specs.Reading.{IsSpelledBy}
-use Rattle.rowex_writing.specs.Remaking.{IsTreePage, AffectsJust, IsLowHalf, IsNoHigher, AwaitsLeaf}
+use Rattle.rowex_writing.specs.Remaking.{IsSubtrieOfTree, AffectsJust, IsLowHalf, IsNoHigher, AwaitsLeaf}
 use Rattle.rowex_writing.specs.declared.remaking.NewLeaf.{NewLeaf}
 use Rattle.rowex_walks.proofs.Rising.{fork_parts}
 
 -- ---- a new leaf
 -- the position is one of keys, and it is not that of the part's first fork
-abbrev IsApart : ℕ → Page → Type 0
-IsApart p part = (p < 9 * MAX_BYTES) × RootNot p part
+abbrev IsApart : ℕ → Subtrie → Type 0
+IsApart p part = (p < 9 * MAX_BYTES) × FirstForkIsNot p part
 
 fork_position : (p : ℕ) (s r : Tree) → IsTrie (fork p s r) → p < 9 * MAX_BYTES
 fork_position p s r i = bit_below (first r) p (has_key r i.1 (first r) (has_first r)) (i.4 (first r) (has_first r))
 
-forked_facts : (u : Bool) (p : ℕ) (e : Entry) (x : Page) (t : Tree) → page t ≡ page_forked u p e x → IsTrie t → IsApart p x
+forked_facts : (u : Bool) (p : ℕ) (e : Entry) (x : Subtrie) (t : Tree) → subtrie t ≡ subtrie_forked u p e x → IsTrie t → IsApart p x
 forked_facts true p e x t is trie =
     let (s, r, z, a, b) = fork_parts t p x (Place e) is in
     let i : IsTrie (fork p s r) = subst IsTrie z trie in
-    (fork_position p s r i, subst (RootNot p) a (root_not p false s i.0 i.3))
+    (fork_position p s r i, subst (FirstForkIsNot p) a (first_fork_is_not p false s i.0 i.3))
 forked_facts false p e x t is trie =
     let (s, r, z, a, b) = fork_parts t p (Place e) x is in
     let i : IsTrie (fork p s r) = subst IsTrie z trie in
-    (fork_position p s r i, subst (RootNot p) b (root_not p true r i.1 i.4))
+    (fork_position p s r i, subst (FirstForkIsNot p) b (first_fork_is_not p true r i.1 i.4))
 
-pub grown_facts : (p : ℕ) (k : Key) (e : Entry) (x : Page) (t : Tree) → page t ≡ page_grown p k e x → IsTrie t → IsApart p (page_affected p k x)
+pub grown_facts : (p : ℕ) (k : Key) (e : Entry) (x : Subtrie) (t : Tree) → subtrie t ≡ subtrie_grown p k e x → IsTrie t → IsApart p (subtrie_affected p k x)
 grown_facts p k e (Place d) t is trie = forked_facts (bit k p) p e (Place d) t is trie
 grown_facts p k e (Fork q x y) t is trie = go (nat_lt q p) (bit k q) (grown_facts p k e x) (grown_facts p k e y) is
   where
-    go : (u o : Bool) → ((s : Tree) → page s ≡ page_grown p k e x → IsTrie s → IsApart p (page_affected p k x)) →
-        ((s : Tree) → page s ≡ page_grown p k e y → IsTrie s → IsApart p (page_affected p k y)) →
-        page t ≡ (if u then (if o then Fork q x (page_grown p k e y) else Fork q (page_grown p k e x) y) else page_forked (bit k p) p e (Fork q x y)) →
-        IsApart p (if u then (if o then page_affected p k y else page_affected p k x) else Fork q x y)
-    go true true f g is = let (s, r, z, a, b) = fork_parts t q x (page_grown p k e y) is in g r b (let i : IsTrie (fork q s r) = subst IsTrie z trie in i.1)
-    go true false f g is = let (s, r, z, a, b) = fork_parts t q (page_grown p k e x) y is in f s a (let i : IsTrie (fork q s r) = subst IsTrie z trie in i.0)
+    go : (u o : Bool) → ((s : Tree) → subtrie s ≡ subtrie_grown p k e x → IsTrie s → IsApart p (subtrie_affected p k x)) →
+        ((s : Tree) → subtrie s ≡ subtrie_grown p k e y → IsTrie s → IsApart p (subtrie_affected p k y)) →
+        subtrie t ≡ (if u then (if o then Fork q x (subtrie_grown p k e y) else Fork q (subtrie_grown p k e x) y) else subtrie_forked (bit k p) p e (Fork q x y)) →
+        IsApart p (if u then (if o then subtrie_affected p k y else subtrie_affected p k x) else Fork q x y)
+    go true true f g is = let (s, r, z, a, b) = fork_parts t q x (subtrie_grown p k e y) is in g r b (let i : IsTrie (fork q s r) = subst IsTrie z trie in i.1)
+    go true false f g is = let (s, r, z, a, b) = fork_parts t q (subtrie_grown p k e x) y is in f s a (let i : IsTrie (fork q s r) = subst IsTrie z trie in i.0)
     go false o f g is = forked_facts (bit k p) p e (Fork q x y) t is trie
 
 -- the range of the new leaf's place
-leaf_range : (k : Key) (p first last : ℕ) (e : Entry) (x : Page) → AffectsJust k p first last x → IsTreePage (page_grown p k e x) → IsAffected x p first last
+leaf_range : (k : Key) (p first last : ℕ) (e : Entry) (x : Subtrie) → AffectsJust k p first last x → IsSubtrieOfTree (subtrie_grown p k e x) → IsAffected x p first last
 leaf_range k p first last e x a (t, is, trie, built) =
     let again = affected_again p x (spot k x) (spot_below k x) in
     let apart = grown_facts p k e x t is trie in
@@ -78,41 +78,41 @@ leaf_range k p first last e x a (t, is, trie, built) =
       fresh = subst (λ j. IsFresh p j x) a.from ((key_part k p x).fresh apart.1);
     }
 
-leaf_position : (k : Key) (p : ℕ) (e : Entry) (x : Page) → IsTreePage (page_grown p k e x) → p < 9 * MAX_BYTES
+leaf_position : (k : Key) (p : ℕ) (e : Entry) (x : Subtrie) → IsSubtrieOfTree (subtrie_grown p k e x) → p < 9 * MAX_BYTES
 leaf_position k p e x (t, is, trie, built) = (grown_facts p k e x t is trie).0
 
 -- the leaf goes to the side of its bit at the position
-pub leaf_page : {k : Key} {p first last : ℕ} {x : Page} {u : Bool} (e : Entry) → AffectsJust k p first last x → u ≡ bit_of k p → grown p u e first x ≡ page_grown p k e x
+pub leaf_subtrie : {k : Key} {p first last : ℕ} {x : Subtrie} {u : Bool} (e : Entry) → AffectsJust k p first last x → u ≡ bit_of k p → grown p u e first x ≡ subtrie_grown p k e x
 unfolding bit
-leaf_page {k} {p} {first} {last} {x} {u} e affects is = ap (λ o. grown p o e first x) is ∙ (ap (λ j. grown p (bit k p) e j x) (sym affects.from) ∙ (key_part k p x).grows e)
+leaf_subtrie {k} {p} {first} {last} {x} {u} e affects is = ap (λ o. grown p o e first x) is ∙ (ap (λ j. grown p (bit k p) e j x) (sym affects.from) ∙ (key_part k p x).grows e)
 
 -- ---- a fork in the place of an entry
 -- the tree that the fork begins
-pub record IsHung (q : ℕ) (a b : Page) (t : Tree) : Type 0 where
+pub record IsHung (q : ℕ) (a b : Subtrie) (t : Tree) : Type 0 where
   pub tree : Tree
   pub within : Within tree t
-  pub is : page tree ≡ Fork q a b
+  pub is : subtrie tree ≡ Fork q a b
 
-pub hung : (k : Key) (q : ℕ) (a b x : Page) (t : Tree) → page t ≡ with_page k (Fork q a b) x → IsTrie t → IsHung q a b t × IsAbovePath q (spot k x) x
+pub hung : (k : Key) (q : ℕ) (a b x : Subtrie) (t : Tree) → subtrie t ≡ with_subtrie k (Fork q a b) x → IsTrie t → IsHung q a b t × IsAbovePath q (spot k x) x
 hung k q a b (Place e) t is trie = (record { tree = t; within = here; is = is }, tt)
 hung k q a b (Fork f y z) t is trie = go (bit k f) (hung k q a b y) (hung k q a b z) is
   where
     below : {s : Tree} (h : IsHung q a b s) → (v : Tree) × (w : Tree) × Within (fork q v w) s
     below h = let (v, w, z, c, d) = fork_parts h.tree q a b h.is in (v, w, subst (λ y. Within y _) z h.within)
 
-    go : (o : Bool) → ((s : Tree) → page s ≡ with_page k (Fork q a b) y → IsTrie s → IsHung q a b s × IsAbovePath q (spot k y) y) →
-        ((s : Tree) → page s ≡ with_page k (Fork q a b) z → IsTrie s → IsHung q a b s × IsAbovePath q (spot k z) z) →
-        page t ≡ (if o then Fork f y (with_page k (Fork q a b) z) else Fork f (with_page k (Fork q a b) y) z) →
+    go : (o : Bool) → ((s : Tree) → subtrie s ≡ with_subtrie k (Fork q a b) y → IsTrie s → IsHung q a b s × IsAbovePath q (spot k y) y) →
+        ((s : Tree) → subtrie s ≡ with_subtrie k (Fork q a b) z → IsTrie s → IsHung q a b s × IsAbovePath q (spot k z) z) →
+        subtrie t ≡ (if o then Fork f y (with_subtrie k (Fork q a b) z) else Fork f (with_subtrie k (Fork q a b) y) z) →
         IsHung q a b t × IsAbovePath q (if o then size y + spot k z else spot k y) (Fork f y z)
     go true g h is =
-        let (s, r, e, c, d) = fork_parts t f y (with_page k (Fork q a b) z) is in
+        let (s, r, e, c, d) = fork_parts t f y (with_subtrie k (Fork q a b) z) is in
         let i : IsTrie (fork f s r) = subst IsTrie e trie in
         let (u, path) = h r d i.1 in
         let (v, w, at) = below u in
         let low : f < q = rises true at i.1 (λ m n l o. i.2 m n (inr l) (inr o)) i.4 in
         (record { tree = u.tree; within = subst (Within u.tree) (sym e) (one_side u.within); is = u.is }, path_high q f y z (spot k z) low path)
     go false g h is =
-        let (s, r, e, c, d) = fork_parts t f (with_page k (Fork q a b) y) z is in
+        let (s, r, e, c, d) = fork_parts t f (with_subtrie k (Fork q a b) y) z is in
         let i : IsTrie (fork f s r) = subst IsTrie e trie in
         let (u, path) = g s c i.0 in
         let (v, w, at) = below u in
@@ -120,48 +120,48 @@ hung k q a b (Fork f y z) t is trie = go (bit k f) (hung k q a b y) (hung k q a 
         (record { tree = u.tree; within = subst (Within u.tree) (sym e) (zero_side u.within); is = u.is }, path_low q f y z (spot k y) (spot_below k y) low path)
 
 -- what is owed for the fork in the entry's place
-pub fork_owed : (k : Key) (q : ℕ) (z o : Entry) (x : Page) → IsTreePage (with_page k (Fork q (Place z) (Place o)) x) → IsPairOf q z o × IsAbovePath q (spot k x) x
-fork_owed k q z o x (t, is, trie, built) =
+pub fork_is_pair : (k : Key) (q : ℕ) (z o : Entry) (x : Subtrie) → IsSubtrieOfTree (with_subtrie k (Fork q (Place z) (Place o)) x) → IsPairOf q z o × IsAbovePath q (spot k x) x
+fork_is_pair k q z o x (t, is, trie, built) =
     let (h, path) = hung k q (Place z) (Place o) x t is trie in
     (pair_facts q z o h.tree h.is (trie_within h.within trie) (built_within h.within built), path)
 
 -- a leaf beside an entry
-pub pair_owed : (u : Bool) (q : ℕ) (new old : Entry) → IsTreePage (page_forked u q new (Place old)) → (q < 9 * MAX_BYTES) × IsEntry old
-pair_owed true q new old (t, is, trie, built) = let f = pair_facts q old new t is trie built in (f.position, f.zero)
-pair_owed false q new old (t, is, trie, built) = let f = pair_facts q new old t is trie built in (f.position, f.one)
+pub pair_is_lawful : (u : Bool) (q : ℕ) (new old : Entry) → IsSubtrieOfTree (subtrie_forked u q new (Place old)) → (q < 9 * MAX_BYTES) × IsEntry old
+pair_is_lawful true q new old (t, is, trie, built) = let f = pair_facts q old new t is trie built in (f.position, f.zero)
+pair_is_lawful false q new old (t, is, trie, built) = let f = pair_facts q new old t is trie built in (f.position, f.one)
 
 -- ---- heights
 pub greatest_under : (es : List Entry) (h : ℕ) → 0 < h → All (λ e. height_of e < h) es → greatest_height es < h
 greatest_under [] h l a = l
 greatest_under (e ∷ es) h l a = let x = a 0 e (omega arith) in let y = greatest_under es h l (λ i d o. a (suc i) d (omega arith)) in omega arith
 
--- the entries of a lawful node's page are lower than it
+-- the entries of a lawful node's subtrie are lower than it
 pub entries_under : (v : NodeView) → IsLawfulNode v → greatest_height (places (piece v)) < v.height
 entries_under v l = subst (λ es. greatest_height es < v.height) l.shows.entries_are (greatest_under v.entries v.height (height_positive v l) l.above)
 
-greatest_forked : (u : Bool) (p : ℕ) (e : Entry) (x : Page) → greatest_height (places (page_forked u p e x)) ≤ max (height_of e) (greatest_height (places x))
+greatest_forked : (u : Bool) (p : ℕ) (e : Entry) (x : Subtrie) → greatest_height (places (subtrie_forked u p e x)) ≤ max (height_of e) (greatest_height (places x))
 greatest_forked true p e x = omega (arith, greatest-append (places x) (e ∷ []))
 greatest_forked false p e x = omega arith
 
-greatest_leaf : (p : ℕ) (k : Key) (e : Entry) (x : Page) → greatest_height (places (page_grown p k e x)) ≤ max (height_of e) (greatest_height (places x))
+greatest_leaf : (p : ℕ) (k : Key) (e : Entry) (x : Subtrie) → greatest_height (places (subtrie_grown p k e x)) ≤ max (height_of e) (greatest_height (places x))
 greatest_leaf p k e (Place d) = greatest_forked (bit k p) p e (Place d)
 greatest_leaf p k e (Fork q x y) = go (nat_lt q p) (bit k q) (greatest_leaf p k e x) (greatest_leaf p k e y)
   where
-    go : (u o : Bool) → greatest_height (places (page_grown p k e x)) ≤ max (height_of e) (greatest_height (places x)) →
-        greatest_height (places (page_grown p k e y)) ≤ max (height_of e) (greatest_height (places y)) →
-        greatest_height (places (if u then (if o then Fork q x (page_grown p k e y) else Fork q (page_grown p k e x) y) else page_forked (bit k p) p e (Fork q x y))) ≤
+    go : (u o : Bool) → greatest_height (places (subtrie_grown p k e x)) ≤ max (height_of e) (greatest_height (places x)) →
+        greatest_height (places (subtrie_grown p k e y)) ≤ max (height_of e) (greatest_height (places y)) →
+        greatest_height (places (if u then (if o then Fork q x (subtrie_grown p k e y) else Fork q (subtrie_grown p k e x) y) else subtrie_forked (bit k p) p e (Fork q x y))) ≤
         max (height_of e) (greatest_height (places x ++ places y))
-    go true true f g = omega (arith, g, greatest-append (places x) (places y), greatest-append (places x) (places (page_grown p k e y)))
-    go true false f g = omega (arith, f, greatest-append (places x) (places y), greatest-append (places (page_grown p k e x)) (places y))
+    go true true f g = omega (arith, g, greatest-append (places x) (places y), greatest-append (places x) (places (subtrie_grown p k e y)))
+    go true false f g = omega (arith, f, greatest-append (places x) (places y), greatest-append (places (subtrie_grown p k e x)) (places y))
     go false o f g = greatest_forked (bit k p) p e (Fork q x y)
 
--- a new leaf's range and position at a node, and that all entries of the page with it are lower than the node
+-- a new leaf's range and position at a node, and that all entries of the subtrie with it are lower than the node
 pub record FitsLeaf (k : Key) (p first last n : ℕ) (v : NodeView) : Type 0 where
   pub range : IsAffected (piece v) p first last
   pub position : p < 9 * MAX_BYTES
-  pub low : greatest_height (places (page_grown p k (Leaf n) (piece v))) < v.height
+  pub low : greatest_height (places (subtrie_grown p k (Leaf n) (piece v))) < v.height
 
-pub fits_leaf : {k : Key} {p first last : ℕ} {v : NodeView} (n : ℕ) → IsLawfulNode v → AffectsJust k p first last (piece v) → IsTreePage (page_grown p k (Leaf n) (piece v)) → FitsLeaf k p first last n v
+pub fits_leaf : {k : Key} {p first last : ℕ} {v : NodeView} (n : ℕ) → IsLawfulNode v → AffectsJust k p first last (piece v) → IsSubtrieOfTree (subtrie_grown p k (Leaf n) (piece v)) → FitsLeaf k p first last n v
 fits_leaf {k} {p} {first} {last} {v} n l affects tree = record {
   range = leaf_range k p first last (Leaf n) (piece v) affects tree;
   position = leaf_position k p (Leaf n) (piece v) tree;
@@ -184,49 +184,49 @@ takes_same spelled node new takes = spelled.only node takes.is.has takes.is.spel
 pub takes_read : {words : List ℕ} {view : NodeView} → IsSpelledBy HasNodeWords node_words words view → (node : NodeView) (new : NewLeaf) → AwaitsLeaf words node new → AwaitsLeaf words view new
 takes_read {words} spelled node new takes = subst (λ v. AwaitsLeaf words v new) (sym (takes_same spelled node new takes)) takes
 
-pub greatest_put : (k : Key) (r x : Page) → greatest_height (places (with_page k r x)) ≤ max (greatest_height (places r)) (greatest_height (places x))
+pub greatest_put : (k : Key) (r x : Subtrie) → greatest_height (places (with_subtrie k r x)) ≤ max (greatest_height (places r)) (greatest_height (places x))
 greatest_put k r (Place d) = omega arith
 greatest_put k r (Fork q x y) = go (bit k q) (greatest_put k r x) (greatest_put k r y)
   where
-    go : (o : Bool) → greatest_height (places (with_page k r x)) ≤ max (greatest_height (places r)) (greatest_height (places x)) →
-        greatest_height (places (with_page k r y)) ≤ max (greatest_height (places r)) (greatest_height (places y)) →
-        greatest_height (places (if o then Fork q x (with_page k r y) else Fork q (with_page k r x) y)) ≤ max (greatest_height (places r)) (greatest_height (places x ++ places y))
-    go true f g = omega (arith, g, greatest-append (places x) (places y), greatest-append (places x) (places (with_page k r y)))
-    go false f g = omega (arith, f, greatest-append (places x) (places y), greatest-append (places (with_page k r x)) (places y))
+    go : (o : Bool) → greatest_height (places (with_subtrie k r x)) ≤ max (greatest_height (places r)) (greatest_height (places x)) →
+        greatest_height (places (with_subtrie k r y)) ≤ max (greatest_height (places r)) (greatest_height (places y)) →
+        greatest_height (places (if o then Fork q x (with_subtrie k r y) else Fork q (with_subtrie k r x) y)) ≤ max (greatest_height (places r)) (greatest_height (places x ++ places y))
+    go true f g = omega (arith, g, greatest-append (places x) (places y), greatest-append (places x) (places (with_subtrie k r y)))
+    go false f g = omega (arith, f, greatest-append (places x) (places y), greatest-append (places (with_subtrie k r x)) (places y))
 
-greatest_joined : (q : ℕ) (o : Bool) (x y r : Page) → greatest_height (places r) ≤ greatest_height (places (if o then y else x)) →
+greatest_joined : (q : ℕ) (o : Bool) (x y r : Subtrie) → greatest_height (places r) ≤ greatest_height (places (if o then y else x)) →
     greatest_height (places (joined q o x y r)) ≤ greatest_height (places x ++ places y)
 greatest_joined q true x (Place e) r h = omega (arith, greatest-append (places x) (e ∷ []))
 greatest_joined q true x (Fork p a b) r h = omega (arith, h, greatest-append (places x) (places (Fork p a b)), greatest-append (places x) (places r))
 greatest_joined q false (Place e) y r h = omega (arith, greatest-append (e ∷ []) (places y))
 greatest_joined q false (Fork p a b) y r h = omega (arith, h, greatest-append (places (Fork p a b)) (places y), greatest-append (places r) (places y))
 
-pub greatest_without : (k : Key) (x : Page) → greatest_height (places (page_without k x)) ≤ greatest_height (places x)
+pub greatest_without : (k : Key) (x : Subtrie) → greatest_height (places (subtrie_without k x)) ≤ greatest_height (places x)
 greatest_without k (Place e) = omega arith
 greatest_without k (Fork q x y) = go (bit k q) (greatest_without k x) (greatest_without k y)
   where
-    go : (o : Bool) → greatest_height (places (page_without k x)) ≤ greatest_height (places x) → greatest_height (places (page_without k y)) ≤ greatest_height (places y) →
-        greatest_height (places (joined q o x y (if o then page_without k y else page_without k x))) ≤ greatest_height (places x ++ places y)
-    go true f g = greatest_joined q true x y (page_without k y) g
-    go false f g = greatest_joined q false x y (page_without k x) f
+    go : (o : Bool) → greatest_height (places (subtrie_without k x)) ≤ greatest_height (places x) → greatest_height (places (subtrie_without k y)) ≤ greatest_height (places y) →
+        greatest_height (places (joined q o x y (if o then subtrie_without k y else subtrie_without k x))) ≤ greatest_height (places x ++ places y)
+    go true f g = greatest_joined q true x y (subtrie_without k y) g
+    go false f g = greatest_joined q false x y (subtrie_without k x) f
 
 -- what is left of a lawful node's words
-pub left_page : (k : Key) (v : NodeView) (words : List ℕ) (answer : Option Entry) → SpellLeft words answer (without (leads_to (bit_of k) (piece v)) (piece v)) → SpellLeft words answer (page_without k (piece v))
-left_page k v words answer left = subst (SpellLeft words answer) (ap (λ j. without j (piece v)) (leads_spot k (piece v)) ∙ without_spot k (piece v)) left
+pub left_subtrie : (k : Key) (v : NodeView) (words : List ℕ) (answer : Option Entry) → SpellLeft words answer (without (leads_to (bit_of k) (piece v)) (piece v)) → SpellLeft words answer (subtrie_without k (piece v))
+left_subtrie k v words answer left = subst (SpellLeft words answer) (ap (λ j. without j (piece v)) (leads_spot k (piece v)) ∙ without_spot k (piece v)) left
 
-pub left_under : (k : Key) (v : NodeView) → IsLawfulNode v → greatest_height (places (page_without k (piece v))) < v.height
+pub left_under : (k : Key) (v : NodeView) → IsLawfulNode v → greatest_height (places (subtrie_without k (piece v))) < v.height
 left_under k v l = omega (arith, greatest_without k (piece v), entries_under v l)
 
--- a node that was built for a page of lower entries
-pub built_low : (v : NodeView) (part : Page) (h : ℕ) → IsBuiltFrom v part → greatest_height (places part) < h → v.height ≤ h
+-- a node that was built for a subtrie of lower entries
+pub built_low : (v : NodeView) (part : Subtrie) (h : ℕ) → IsBuiltFrom v part → greatest_height (places part) < h → v.height ≤ h
 built_low v part h i l = let e : greatest_height v.entries ≡ greatest_height (places part) = ap greatest_height i.lawful.shows.entries_are ∙ ap (λ x. greatest_height (places x)) i.shows_it in omega (arith, i.height_is)
 
-pub half_low : (half : Half) (part : Page) (h : ℕ) → HalfShows half part → greatest_height (places part) < h → IsLowHalf h half
+pub half_low : (half : Half) (part : Subtrie) (h : ℕ) → HalfShows half part → greatest_height (places part) < h → IsLowHalf h half
 half_low (One e) part h s l = let g = ap (λ x. greatest_height (places x)) s.0 in omega arith
 half_low (Many v) part h s l = built_low v part h s l
 half_low Same part h s l = tt
 
-sides_low : (old : NodeView) (z o : Half) (a b : Page) (h : ℕ) → SidesShow old z o a b → greatest_height (places a) < h → greatest_height (places b) < h → IsLowHalf h z × IsLowHalf h o
+sides_low : (old : NodeView) (z o : Half) (a b : Subtrie) (h : ℕ) → SidesShow old z o a b → greatest_height (places a) < h → greatest_height (places b) < h → IsLowHalf h z × IsLowHalf h o
 sides_low old (One e) (One f) a b h s l m = (half_low (One e) a h s.0 l, half_low (One f) b h s.1 m)
 sides_low old (One e) (Many v) a b h s l m = (half_low (One e) a h s.0 l, half_low (Many v) b h s.1 m)
 sides_low old (One e) Same a b h s l m = (half_low (One e) a h (s.0, s.2) l, tt)
@@ -237,7 +237,7 @@ sides_low old Same (One e) a b h s l m = (tt, half_low (One e) b h (s.1, s.2) m)
 sides_low old Same (Many v) a b h s l m = absurd s.0
 sides_low old Same Same a b h s l m = absurd s.0
 
-pub grown_low : (old : NodeView) (g : Grown) (r : Page) (h : ℕ) → GrownShows old g r → greatest_height (places r) < h → IsNoHigher h g
+pub grown_low : (old : NodeView) (g : Grown) (r : Subtrie) (h : ℕ) → GrownShows old g r → greatest_height (places r) < h → IsNoHigher h g
 grown_low old (Whole v) r h s l = built_low v r h s l
 grown_low old (Two cut) (Place e) h s l = elim s [ ]
 grown_low old (Two cut) (Fork q a b) h s l =

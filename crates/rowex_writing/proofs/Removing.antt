@@ -8,19 +8,19 @@ use Rattle.compound_node.specs.declared.entries.Entry.{Entry}
 use Rattle.compound_node.specs.declared.entries.Entry.TheVariants.{Leaf as LeafEntry, Node}
 use Rattle.finite_map.specs.declared.Change.{Change as MapChange}
 use Rattle.insert_cases.specs.declared.choice.Step.{Step}
-use Rattle.insert_cases.proofs.Choosing.{same_some}
+use Rattle.insert_cases.proofs.Choosing.{some_injective}
 use Rattle.pieces.specs.Piece.{Place, Fork, places}
 use Rattle.record_words.specs.declared.layout.Layout.{Layout}
 use Rattle.record_words.specs.Entry.{HasEntryWord, entry_word}
 use Rattle.tries.specs.Keys.{Key, bit}
-use Rattle.tries.specs.Place.{joined, page_without, spot}
+use Rattle.tries.specs.Place.{joined, subtrie_without, spot}
 use Rattle.tries.specs.Search.{seek}
-use Rattle.tries.specs.Tree.{Page, leaf}
-use Rattle.moments.specs.Heap.{NodeWords}
-use Rattle.moments.specs.declared.Rec.{Rec}
-use Rattle.moments.specs.declared.Rec.TheVariants.{Node as a_node, Leaf as a_leaf}
-use Rattle.moments.specs.Trades.{IsOf}
-use Rattle.moments.proofs.Members.{all_of, none_of, of_append, of_left, of_right}
+use Rattle.tries.specs.Tree.{Subtrie, leaf}
+use Rattle.versions.specs.Heap.{NodeWords}
+use Rattle.versions.specs.declared.Rec.{Rec}
+use Rattle.versions.specs.declared.Rec.TheVariants.{Node as a_node, Leaf as a_leaf}
+use Rattle.versions.specs.Trades.{IsOneOf}
+use Rattle.versions.proofs.Members.{all_of, none_of, of_append, of_left, of_right}
 use Rattle.rowex_core.specs.declared.event.Spot.{Spot}
 use Rattle.rowex_core.specs.declared.event.Spot.TheVariants.{Root, Slot}
 use Rattle.rowex_core.specs.declared.known.Known.{Known}
@@ -42,11 +42,11 @@ use Rattle.rowex_reading.proofs.Standing.{led_in_table}
 use Rattle.rowex_rights.specs.Loops.{StaysLocked}
 use Rattle.rowex_rights.specs.Rises.{IsSide, one, anew}
 use Rattle.rowex_rights.specs.Stages.{HasReady, IsLeafThere}
-use Rattle.rowex_rights.proofs.Loops.{later_on}
+use Rattle.rowex_rights.proofs.Loops.{later_transitive}
 use Rattle.rowex_rights.proofs.Replacing.{leaf_stays, remove, remove_the_last}
 use Rattle.rowex_rights.proofs.Sure.{seen_is_sure, sure_stays}
 use Rattle.rowex_writing.specs.Building.{IsBuilding}
-use Rattle.rowex_writing.specs.Changes.{HasTakenSpan, IsPlanned, MayEnd}
+use Rattle.rowex_writing.specs.Changes.{HasTakenSpan, IsPlanned, MayPublishOnceReady}
 use Rattle.rowex_writing.specs.Plans.{change, IsCase, IsNewLeafPlan, IsPlan}
 use Rattle.rowex_writing.specs.declared.plan.Aim.{Aim}
 use Rattle.rowex_writing.specs.declared.plan.Aim.TheVariants.{Insert, Upsert, Remove}
@@ -85,7 +85,7 @@ leaf_record layout k number key value possible (m, pinned, read) =
 
 -- ---- the root's only leaf
 module _ (table : TableView) (a : SeatView) (number : ℕ) (key : Key) (value : ℕ) (o : HasOnlyLeaf table a number key value) where
-  pub may_empty : (way : List Step) (end : ℕ) → end ≡ 0 → (spot : Spot) → IsSpotAbove way end spot → MayEnd table a [] spot 0 (removed_change a.known.pass (item number key value)) (Some value) (a_leaf number ∷ [])
+  pub may_empty : (way : List Step) (end : ℕ) → end ≡ 0 → (spot : Spot) → IsSpotAbove way end spot → MayPublishOnceReady table a [] spot 0 (removed_change a.known.pass (item number key value)) (Some value) (a_leaf number ∷ [])
   may_empty way end top (Slot n i) (s, low, there, number_is, place) = absurd (omega (arith, top, low))
   may_empty way end top Root over = record {
     news = [];
@@ -172,10 +172,10 @@ module _ (table : TableView) (a : SeatView) (m : ℕ) (key : Key) (way : List St
   pub take_below : 0 < span.len → HasLeafBelow table a m key way number value span
   take_below some = record { taken = found_span; len = the_plan.len_is; last = (let e = the_plan.end_is in let n = the_plan.len_is in omega (arith, e, n, some)) }
 
-  no_locks : (n : ℕ) → span.len ≡ 0 → IsOf n (numbers_of (slice_range way (span.end - 1) span.len)) → ⊥
+  no_locks : (n : ℕ) → span.len ≡ 0 → IsOneOf n (numbers_of (slice_range way (span.end - 1) span.len)) → ⊥
   no_locks n low i =
       let none : span.len - (span.end - 1) ≡ 0 = omega (arith, low) in
-      absurd (subst (λ z. IsOf n (numbers_of (take z (drop (span.end - 1) way)))) none i)
+      absurd (subst (λ z. IsOneOf n (numbers_of (take z (drop (span.end - 1) way)))) none i)
 
   -- a way of none
   pub take_only : span.len ≤ 0 → HasOnlyLeaf table a number key value × (span.end ≡ 0) × (span.len ≡ 0)
@@ -209,41 +209,41 @@ entry_raised : (e : Entry) → IsEntry e → IsRaised e
 entry_raised (LeafEntry n) h = tt
 entry_raised (Node n g) h = h.0
 
--- what is left of a page was on it
-joined_of : (q : ℕ) (b : Bool) (x y r : Page) (e : Entry) → (IsOf e (places r) → IsOf e (places (if b then y else x))) → IsOf e (places (joined q b x y r)) → IsOf e (places x ++ places y)
+-- what is left of a subtrie was on it
+joined_of : (q : ℕ) (b : Bool) (x y r : Subtrie) (e : Entry) → (IsOneOf e (places r) → IsOneOf e (places (if b then y else x))) → IsOneOf e (places (joined q b x y r)) → IsOneOf e (places x ++ places y)
 joined_of q true x (Place d) r e f h = of_left e (places x) (d ∷ []) h
 joined_of q true x (Fork p a b) r e f h = elim (of_append e (places x) (places r) h) [ inl i ↦ of_left e (places x) (places a ++ places b) i | inr i ↦ of_right e (places x) (places a ++ places b) (f i) ]
 joined_of q false (Place d) y r e f h = of_right e (d ∷ []) (places y) h
 joined_of q false (Fork p a b) y r e f h = elim (of_append e (places r) (places y) h) [ inl i ↦ of_left e (places a ++ places b) (places y) (f i) | inr i ↦ of_right e (places a ++ places b) (places y) i ]
 
-left_of : (k : Key) (x : Page) (e : Entry) → IsOf e (places (page_without k x)) → IsOf e (places x)
+left_of : (k : Key) (x : Subtrie) (e : Entry) → IsOneOf e (places (subtrie_without k x)) → IsOneOf e (places x)
 left_of k (Place d) e h = h
 left_of k (Fork q x y) e h = sides (left_of k x e) (left_of k y e) (bit k q) h
   where
-    sides : (IsOf e (places (page_without k x)) → IsOf e (places x)) → (IsOf e (places (page_without k y)) → IsOf e (places y)) → (b : Bool) →
-        IsOf e (places (joined q b x y (if b then page_without k y else page_without k x))) → IsOf e (places x ++ places y)
-    sides f g true h = joined_of q true x y (page_without k y) e g h
-    sides f g false h = joined_of q false x y (page_without k x) e f h
+    sides : (IsOneOf e (places (subtrie_without k x)) → IsOneOf e (places x)) → (IsOneOf e (places (subtrie_without k y)) → IsOneOf e (places y)) → (b : Bool) →
+        IsOneOf e (places (joined q b x y (if b then subtrie_without k y else subtrie_without k x))) → IsOneOf e (places x ++ places y)
+    sides f g true h = joined_of q true x y (subtrie_without k y) e g h
+    sides f g false h = joined_of q false x y (subtrie_without k x) e f h
 
 -- the words of a locked node are those of one
-pub locked_view : (layout : Layout) (k : Known) (n : ℕ) (words : List ℕ) → IsPossible layout k → HasLocked k n words → (view : NodeView) × All IsEntry (places (piece view)) × ((node_words_of words).page ≡ piece view)
+pub locked_view : (layout : Layout) (k : Known) (n : ℕ) (words : List ℕ) → IsPossible layout k → HasLocked k n words → (view : NodeView) × All IsEntry (places (piece view)) × ((node_words_of words).subtrie ≡ piece view)
 unfolding IsPacked
 locked_view layout k n words possible h =
     let c = possible.core in
     let (lock, tree, same) = all_of (IsLocked k.pass c) (record { node = n; words = words }) k.locks (knows_all c k possible.knows).locks h in
     let (view, has, spells) = possible.lawful.records.packed (a_node n) (subst IsWhole (sym tree.1) tt) in
     let shows = node_is view (c.words (a_node n)) (possible.lawful.records.sized (a_node n)).1 has spells in
-    (view, subst (All IsEntry) has.lawful.shows.entries_are has.lawful.children, ap (λ (z : NodeWords). z.page) (ap node_words_of (sym same) ∙ shows))
+    (view, subst (All IsEntry) has.lawful.shows.entries_are has.lawful.children, ap (λ (z : NodeWords). z.subtrie) (ap node_words_of (sym same) ∙ shows))
 
-side_raised : (k : Key) (view : NodeView) (e : Entry) (news : List Made) → All IsEntry (places (piece view)) → IsSide (page_without k (piece view)) e news → IsRaised e
-side_raised k view e news all (one d is) = entry_raised e (all_of IsEntry e (places (piece view)) all (left_of k (piece view) e (subst (λ (z : Page). IsOf e (places z)) (sym is) (inl refl))))
+side_raised : (k : Key) (view : NodeView) (e : Entry) (news : List Made) → All IsEntry (places (piece view)) → IsSide (subtrie_without k (piece view)) e news → IsRaised e
+side_raised k view e news all (one d is) = entry_raised e (all_of IsEntry e (places (piece view)) all (left_of k (piece view) e (subst (λ (z : Subtrie). IsOneOf e (places z)) (sym is) (inl refl))))
 side_raised k view e news all (anew m made is shows) = let high = is.1 in omega (arith, high)
 
 -- so the entry for what is left has a height
-pub left_raised : (layout : Layout) (k : Known) (n : ℕ) (words : List ℕ) (key : Key) (e : Entry) (news : List Made) → IsPossible layout k → HasLocked k n words → IsSide (page_without key (node_words_of words).page) e news → IsRaised e
+pub left_raised : (layout : Layout) (k : Known) (n : ℕ) (words : List ℕ) (key : Key) (e : Entry) (news : List Made) → IsPossible layout k → HasLocked k n words → IsSide (subtrie_without key (node_words_of words).subtrie) e news → IsRaised e
 left_raised layout k n words key e news possible h side =
-    let (view, all, page_is) = locked_view layout k n words possible h in
-    side_raised key view e news all (subst (λ (z : Page). IsSide (page_without key z) e news) page_is side)
+    let (view, all, subtrie_is) = locked_view layout k n words possible h in
+    side_raised key view e news all (subst (λ (z : Subtrie). IsSide (subtrie_without key z) e news) subtrie_is side)
 
 -- ---- the node that names the leaf
 module _ (table : TableView) (a : SeatView) (m : ℕ) (key : Key) (way : List Step) (number value : ℕ) (span : Span) (b : HasLeafBelow table a m key way number value span) (s : Step) (at : slice_get way span.end ≡ Some s) where
@@ -259,12 +259,12 @@ module _ (table : TableView) (a : SeatView) (m : ℕ) (key : Key) (way : List St
   pub lowest_locked : IsLockedBy a.known s.number
   lowest_locked = locked_at a.known way span b.taken.locked span.end s (omega arith) (let e = b.last in omega (arith, e)) at
 
-  low_names : (words : List ℕ) → HasLocked a.known s.number words → seek key (node_words_of words).page ≡ LeafEntry number
+  low_names : (words : List ℕ) → HasLocked a.known s.number words → seek key (node_words_of words).subtrie ≡ LeafEntry number
   low_names words h =
       let e = b.last in
       let n = b.len in
       let checked = b.taken.checked.entries span.end s (omega arith) (omega (arith, e)) at words h in
-      same_some (sym checked ∙ named_end way found (span.end + 1) (omega (arith, e, n)))
+      some_injective (sym checked ∙ named_end way found (span.end + 1) (omega (arith, e, n)))
 
   pub leaf_gone_record : AreInTable table.layout (a_leaf number ∷ [])
   leaf_gone_record = All-cons (HasRecord table.layout) (a_leaf number) [] (leaf_record table.layout a.known number key value b.taken.possible has_read) (λ i d low. absurd (omega arith))
@@ -280,7 +280,7 @@ module _ (table : TableView) (a : SeatView) (m : ℕ) (key : Key) (way : List St
 
   -- what is left may take the node's place
   module _ (c : SeatView) (made : List Rec) (news : List Made) (words : List ℕ) (h : HasLocked a.known s.number words) (e : Entry) (stays : StaysLocked a.known c.known) (building : IsBuilding table c made news)
-      (side : IsSide (page_without key (node_words_of words).page) e news) (low : height_of e ≤ (node_words_of words).fixed.height) (word : HasEntryWord (Some e)) where
+      (side : IsSide (subtrie_without key (node_words_of words).subtrie) e news) (low : height_of e ≤ (node_words_of words).fixed.height) (word : HasEntryWord (Some e)) where
     abbrev gone : List Rec
     gone = a_node s.number ∷ a_leaf number ∷ []
 
@@ -293,11 +293,11 @@ module _ (table : TableView) (a : SeatView) (m : ℕ) (key : Key) (way : List St
         let above = holds_above table.layout a.known m key way found span t.possible w t.locked t.checked t.within.0 (Node s.number s.height) (named_at way found span.end s at) j c.known.locks stays.1 (anchor ∙ stays.2) spot is in
         let (f, f_is, own) = w.nodes span.end s at in
         let node = way_node_locked table.layout a.known m key s f words t.possible w.since own h in
-        remove table.layout j c.known.locks news key s.number number s.height (entry_word (Some e)) value e words spot ready side (subst (IsOf (record { node = s.number; words = words })) (sym stays.1) h) (low_names words h)
+        remove table.layout j c.known.locks news key s.number number s.height (entry_word (Some e)) value e words spot ready side (subst (IsOneOf (record { node = s.number; words = words })) (sym stays.1) h) (low_names words h)
         above.holds (above.fits e (λ u on. let falls = on.node.below in omega (arith, low, falls, node.height)))
-        (leaf_there table.layout a.known j c.known.locks news number key value (later_on a.known c.known j stays.0 later) has_read) (word, refl)
+        (leaf_there table.layout a.known j c.known.locks news number key value (later_transitive a.known c.known j stays.0 later) has_read) (word, refl)
 
-    pub may_remake : (spot : Spot) → IsSpotAbove way span.end spot → MayEnd table c made spot (entry_word (Some e)) (gone_change c.known.pass) (Some value) gone
+    pub may_remake : (spot : Spot) → IsSpotAbove way span.end spot → MayPublishOnceReady table c made spot (entry_word (Some e)) (gone_change c.known.pass) (Some value) gone
     may_remake spot is = record {
       news = news;
       building = building;

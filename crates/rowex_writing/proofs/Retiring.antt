@@ -4,14 +4,14 @@ use Rattle.std.specs.Prelude.{All}
 use Rattle.std.proofs.lemmas.List.{drop_more, drop_all}
 use Rattle.std.proofs.lemmas.List.Elements.{All-cons}
 use Rattle.record_words.specs.declared.layout.Layout.{Layout}
-use Rattle.moments.specs.declared.Rec.{Rec}
-use Rattle.moments.specs.declared.Round.{Round}
-use Rattle.moments.specs.Trades.{IsOf}
-use Rattle.moments.proofs.Members.{none_of}
+use Rattle.versions.specs.declared.Rec.{Rec}
+use Rattle.versions.specs.declared.Round.{Round}
+use Rattle.versions.specs.Trades.{IsOneOf}
+use Rattle.versions.proofs.Members.{none_of}
 use Rattle.rowex_core.specs.declared.event.Act.TheVariants.{LoadEpoch, Mark, Release}
 use Rattle.rowex_core.specs.declared.event.Event.{Event}
 use Rattle.rowex_core.specs.declared.known.Known.{Known}
-use Rattle.rowex_core.specs.Having.{OwnsJust, IsDue, LocksJust}
+use Rattle.rowex_core.specs.Having.{OwnsJust, IsUnlinkedBefore, LocksJust}
 use Rattle.rowex_core.specs.Knowing.{IsEvent}
 use Rattle.rowex_table.specs.Runs.{silent}
 use Rattle.rowex_table.specs.Seats.{TableView, SeatView}
@@ -19,14 +19,14 @@ use Rattle.rowex_table.proofs.ActsAfter.{epoch_owns, mark_gives}
 use Rattle.rowex_table.proofs.ActsLeave.{act_leaves}
 use Rattle.rowex_records.specs.Records.{GivesUpAll}
 use Rattle.rowex_writing.proofs.Spans.{locked_same}
-use Rattle.rowex_writing.specs.Locks.{HasJustLocked, IsPlain, Works, targets_of}
+use Rattle.rowex_writing.specs.Locks.{HasJustLocked, LoadsNoRoot, Works, targets_of}
 use Rattle.rowex_writing.specs.Retiring.{HasJustPublished, HasToMark}
 
 pub first_due : (k : Known) (epoch : ℕ) (recs : List Rec) (i : ℕ) (d : Rec) → i < length recs → HasToMark k epoch (drop i recs) → HasToMark k epoch (get_or recs i d ∷ drop (i + 1) recs)
 first_due k epoch recs i d low h = subst (HasToMark k epoch) (drop_more recs i d low) h
 
 pub none_due : (k : Known) (epoch : ℕ) (recs : List Rec) (i : ℕ) → length recs ≤ i → HasToMark k epoch (drop i recs) → k.own ≡ []
-none_due k epoch recs i past h = none_of k.own (λ o there. subst (λ (z : List Rec). IsOf o.rec z) (drop_all i recs past) (h.own.only o there).0)
+none_due k epoch recs i past h = none_of k.own (λ o there. subst (λ (z : List Rec). IsOneOf o.rec z) (drop_all i recs past) (h.own.only o there).0)
 
 module _ (layout : Layout) (k j : Known) where
   -- the first is marked
@@ -34,7 +34,7 @@ module _ (layout : Layout) (k j : Known) where
   due_less epoch r rs e h =
       let round = (act_leaves layout k j (Mark r epoch) e).round tt in
       record {
-        own = subst (λ (z : Round). OwnsJust j.own (IsDue z.moment) rs) (sym round) (mark_gives layout silent k j (IsDue k.round.moment) r rs epoch e h.own h.apart);
+        own = subst (λ (z : Round). OwnsJust j.own (IsUnlinkedBefore z.version) rs) (sym round) (mark_gives layout silent k j (IsUnlinkedBefore k.round.version) r rs epoch e h.own h.apart);
         apart = h.apart.1;
         epoch_is = h.epoch_is ∙ ap (λ (z : Round). z.epoch) (sym round);
       }
@@ -48,9 +48,9 @@ module _ (layout : Layout) (k j : Known) where
       )
 
 -- ---- records given up
-all_plain : (recs : List Rec) → All IsPlain (map (λ r. Release r) recs)
+all_plain : (recs : List Rec) → All LoadsNoRoot (map (λ r. Release r) recs)
 all_plain [] = λ i d low. absurd (omega arith)
-all_plain (r ∷ recs) = All-cons IsPlain (Release r) (map (λ r. Release r) recs) tt (all_plain recs)
+all_plain (r ∷ recs) = All-cons LoadsNoRoot (Release r) (map (λ r. Release r) recs) tt (all_plain recs)
 
 none_tried : (recs : List Rec) → targets_of (map (λ r. Release r) recs) ≡ []
 none_tried [] = refl

@@ -5,7 +5,7 @@ use Rattle.std.proofs.lemmas.List.Elements.{All-head, All-tail, All-weaker}
 use Rattle.finite_map.specs.Fronts.{BeginsWith}
 use Rattle.finite_map.proofs.Growth.{begins_itself, begins_on, begins_push}
 use Rattle.record_words.specs.declared.layout.Layout.{Layout}
-use Rattle.moments.specs.Trades.{AreApart}
+use Rattle.versions.specs.Trades.{AreApart}
 use Rattle.rowex_core.specs.declared.event.Act.{Act}
 use Rattle.rowex_core.specs.declared.event.Act.TheVariants.{Claim, Fill, Ready, Release, LoadRef, LoadFixed, Lock, Unlock, Publish, Mark, LoadEpoch, Advance, SetPin, ClearPin, LoadPin, LoadState, GiveBack}
 use Rattle.rowex_core.specs.declared.event.Event.{Event}
@@ -14,23 +14,23 @@ use Rattle.rowex_core.specs.declared.event.Target.{Target}
 use Rattle.rowex_core.specs.declared.known.Fresh.{Fresh}
 use Rattle.rowex_core.specs.declared.known.Known.{Known}
 use Rattle.rowex_core.specs.Events.{next_change}
-use Rattle.rowex_core.specs.Knowing.{IsEvent, moment_of}
+use Rattle.rowex_core.specs.Knowing.{IsEvent, version_of}
 use Rattle.rowex_table.specs.Runs.{Runs, Steps, silent}
 use Rattle.rowex_table.specs.Seats.{TableView, SeatView}
 use Rattle.rowex_table.specs.Stays.{KeepsRecall, LeavesFresh, LeavesFront, LeavesPin}
 use Rattle.rowex_table.proofs.ActsLeave.{act_leaves}
 use Rattle.rowex_writing.specs.Attempts.{HasLoadedRoot}
 use Rattle.rowex_writing.specs.Changes.{HasRun, HasTried, HasTriedOnce}
-use Rattle.rowex_writing.specs.Going.{IsQuiet, WorksOn}
-use Rattle.rowex_writing.specs.Locks.{IsPlain, Tries, TriesOnce, Works, targets_of}
-use Rattle.rowex_writing.proofs.Tried.{once_then, then_once, quiet_tries_none, tries_more, tries_none, tries_one}
+use Rattle.rowex_writing.specs.Going.{TriesNoLock, WorksOn}
+use Rattle.rowex_writing.specs.Locks.{LoadsNoRoot, Tries, TriesOnce, Works, targets_of}
+use Rattle.rowex_writing.proofs.Tried.{once_then, then_once, no_lock_is_tried, tries_more, tries_none, tries_one}
 
 -- ---- kinds of steps
-pub plain_recalls : (act : Act) → IsPlain act → KeepsRecall act
+pub plain_recalls : (act : Act) → LoadsNoRoot act → KeepsRecall act
 plain_recalls (LoadRef Root w) t = absurd t
 plain_recalls _ t = t
 
-plain_fresh : (act : Act) → IsPlain act → LeavesFresh act
+plain_fresh : (act : Act) → LoadsNoRoot act → LeavesFresh act
 plain_fresh (LoadRef Root w) t = t
 plain_fresh _ t = tt
 
@@ -39,7 +39,7 @@ recalls_pin (SetPin w) t = absurd t
 recalls_pin ClearPin t = absurd t
 recalls_pin _ t = tt
 
-pub quiet_recalls : (act : Act) → IsQuiet act → KeepsRecall act
+pub quiet_recalls : (act : Act) → TriesNoLock act → KeepsRecall act
 quiet_recalls (Lock target found) t = absurd t
 quiet_recalls _ t = t
 
@@ -95,7 +95,7 @@ module _ (layout : Layout) (k j : Known) where
 
         loaded : (act : Act) → (LeavesFresh act → j.fresh ≡ k.fresh) → IsEvent layout act silent k j → HasLoadedRoot first j
         loaded (LoadRef Root w) is e =
-            let now : j.fresh ≡ record { front = e.core.changes; step = k.steps; pinned = moment_of k.pin } = ap (λ (z : Known). z.fresh) e.learned_is in
+            let now : j.fresh ≡ record { front = e.core.changes; step = k.steps; pinned = version_of k.pin } = ap (λ (z : Known). z.fresh) e.learned_is in
             let seen : j.front ≡ e.core.changes = ap (λ (z : Known). z.front) e.learned_is in
             let f = e.knows.seen.front in
             record {
@@ -156,18 +156,18 @@ module _ {G : Type 0} (table : TableView) (becomes : G → Event → G → Type 
   none_once a b r = ([], r, subst AreApart (sym r.tried_are) tt, refl)
 
   pub works_run : {tried : List Target} (a b : SeatView × G) → Tries table becomes tried a b → HasTried table becomes tried a b
-  works_run a b w = record { acts = w.acts; each = All-weaker IsPlain LeavesPin (λ act t. recalls_pin act (plain_recalls act t)) w.acts w.each; tried_are = w.tried_are; steps = w.steps }
+  works_run a b w = record { acts = w.acts; each = All-weaker LoadsNoRoot LeavesPin (λ act t. recalls_pin act (plain_recalls act t)) w.acts w.each; tried_are = w.tried_are; steps = w.steps }
 
   pub tries_once : {locks : ℕ} (a b : SeatView × G) → TriesOnce table becomes locks a b → HasTriedOnce table becomes locks a b
   unfolding works_run
   tries_once a b (tried, run, once, count) = (tried, works_run a b run, once, count)
 
   pub goes_run : (a b : SeatView × G) → WorksOn table becomes a b → HasRun table becomes a b
-  goes_run a b w = record { acts = w.acts; each = All-weaker IsQuiet LeavesPin (λ act t. recalls_pin act (quiet_recalls act t)) w.acts w.plain; tried_are = quiet_tries_none w.acts w.plain; steps = w.steps }
+  goes_run a b w = record { acts = w.acts; each = All-weaker TriesNoLock LeavesPin (λ act t. recalls_pin act (quiet_recalls act t)) w.acts w.plain; tried_are = no_lock_is_tried w.acts w.plain; steps = w.steps }
 
   -- what they leave
   pub works_fresh : (a b : SeatView × G) → Works table becomes a b → b.0.known.fresh ≡ a.0.known.fresh
-  works_fresh a b w = runs_fresh w.acts a b (All-weaker IsPlain LeavesFresh plain_fresh w.acts w.each) w.steps
+  works_fresh a b w = runs_fresh w.acts a b (All-weaker LoadsNoRoot LeavesFresh plain_fresh w.acts w.each) w.steps
 
   pub run_count : {tried : List Target} (a b : SeatView × G) → HasTried table becomes tried a b → a.0.known.steps ≤ b.0.known.steps
   run_count a b r = runs_count r.acts a b r.steps

@@ -6,9 +6,9 @@ use Rattle.std.proofs.lemmas.List.Elements.{All-cons, All-drop, All-take, All-we
 use Rattle.record_words.specs.declared.layout.Layout.{Layout}
 use Rattle.insert_cases.specs.declared.choice.Step.{Step}
 use Rattle.compound_node.specs.declared.entries.Entry.TheVariants.{Node}
-use Rattle.rowex_walks.specs.Scan.{IsSeen}
-use Rattle.moments.specs.Trades.{IsOf}
-use Rattle.moments.proofs.Members.{map_of, none_of, of_map}
+use Rattle.rowex_walks.specs.Scan.{EntryStoodSince}
+use Rattle.versions.specs.Trades.{IsOneOf}
+use Rattle.versions.proofs.Members.{map_of, none_of, of_map}
 use Rattle.rowex_core.specs.declared.known.Known.{Known}
 use Rattle.rowex_core.specs.declared.known.Locked.{Locked}
 use Rattle.rowex_core.specs.Having.{LocksJust}
@@ -28,21 +28,21 @@ slice_none xs i = let e : i - i ≡ 0 = omega arith in ap (λ n. take n (drop i 
 
 -- ---- nodes that are locked
 pub none_taken : (k : Known) → k.locks ≡ [] → HasJustLocked k []
-none_taken k e = (record { only = λ l i. subst (λ z. IsOf l z) e i; each = λ n i. absurd i }, tt)
+none_taken k e = (record { only = λ l i. subst (λ z. IsOneOf l z) e i; each = λ n i. absurd i }, tt)
 
 -- one more
 pub locked_more : (k j : Known) (n : ℕ) (ns : List ℕ) → LocksOne n k j → HasJustLocked k ns → HasJustLocked j (n ∷ ns)
 locked_more k j n ns ((words, locks), new, own, anchor) (just, apart) = (record { only = only; each = each }, (not_there, apart))
   where
-    only : (l : Locked) → IsOf l j.locks → IsOf l.node (n ∷ ns)
-    only l i = elim (subst (λ z. IsOf l z) locks i) [ inl e ↦ inl (ap (λ (z : Locked). z.node) e) | inr older ↦ inr (just.only l older) ]
+    only : (l : Locked) → IsOneOf l j.locks → IsOneOf l.node (n ∷ ns)
+    only l i = elim (subst (λ z. IsOneOf l z) locks i) [ inl e ↦ inl (ap (λ (z : Locked). z.node) e) | inr older ↦ inr (just.only l older) ]
 
-    each : (m : ℕ) → IsOf m (n ∷ ns) → (l : Locked) × IsOf l j.locks × (l.node ≡ m)
-    each m (inl e) = (record { node = n; words = words }, subst (λ z. IsOf (record { node = n; words = words }) z) (sym locks) (inl refl), sym e)
-    each m (inr i) = let (l, there, is) = just.each m i in (l, subst (λ z. IsOf l z) (sym locks) (inr there), is)
+    each : (m : ℕ) → IsOneOf m (n ∷ ns) → (l : Locked) × IsOneOf l j.locks × (l.node ≡ m)
+    each m (inl e) = (record { node = n; words = words }, subst (λ z. IsOneOf (record { node = n; words = words }) z) (sym locks) (inl refl), sym e)
+    each m (inr i) = let (l, there, is) = just.each m i in (l, subst (λ z. IsOneOf l z) (sym locks) (inr there), is)
 
-    not_there : IsOf n ns → ⊥
-    not_there i = let (l, there, is) = just.each n i in new (subst (λ z. IsOf z (nodes_of k.locks)) is (map_of (λ (z : Locked). z.node) l k.locks there))
+    not_there : IsOneOf n ns → ⊥
+    not_there i = let (l, there, is) = just.each n i in new (subst (λ z. IsOneOf z (nodes_of k.locks)) is (map_of (λ (z : Locked). z.node) l k.locks there))
 
 -- the same, where the locks are
 pub locked_same : (k j : Known) (ns : List ℕ) → j.locks ≡ k.locks → HasJustLocked k ns → HasJustLocked j ns
@@ -55,14 +55,14 @@ first_locked k steps i d low h = subst (λ (z : List Step). HasJustLocked k (num
 
 -- none is left
 pub none_locked : (k : Known) (steps : List Step) (i : ℕ) → length steps ≤ i → HasJustLocked k (numbers_of (drop i steps)) → k.locks ≡ []
-none_locked k steps i past (just, apart) = none_of k.locks (λ l there. subst (λ (z : List Step). IsOf l.node (numbers_of z)) (drop_all i steps past) (just.only l there))
+none_locked k steps i past (just, apart) = none_of k.locks (λ l there. subst (λ (z : List Step). IsOneOf l.node (numbers_of z)) (drop_all i steps past) (just.only l there))
 
 -- ---- nodes to which the pass was led
-pub led_on : (layout : Layout) (k j : Known) (s : Step) → IsLater k j → IsLedStep layout k s → IsLedStep layout j s
-led_on layout k j s later (low, (m, h, (pin, pinned, early), sure)) = (low, (m, h, (pin, later.pin ∙ pinned, early), sure_stays k j (λ past. IsSeen past m (Node s.number h)) later sure))
+pub led_step_later : (layout : Layout) (k j : Known) (s : Step) → IsLater k j → IsLedStep layout k s → IsLedStep layout j s
+led_step_later layout k j s later (low, (m, h, (pin, pinned, early), sure)) = (low, (m, h, (pin, later.pin ∙ pinned, early), sure_stays k j (λ past. EntryStoodSince past m (Node s.number h)) later sure))
 
 pub led_one : (layout : Layout) (k j : Known) (way : List Step) (i : ℕ) (d : Step) → i < length way → IsLater k j → AreLed layout k way → AreLed layout j (get_or way i d ∷ [])
-led_one layout k j way i d low later led = All-cons (IsLedStep layout j) (get_or way i d) [] (led_on layout k j (get_or way i d) later (led i d low)) (λ o e l. absurd (omega arith))
+led_one layout k j way i d low later led = All-cons (IsLedStep layout j) (get_or way i d) [] (led_step_later layout k j (get_or way i d) later (led i d low)) (λ o e l. absurd (omega arith))
 
 pub led_nodes : (layout : Layout) (k : Known) (way : List Step) (i j : ℕ) → AreLed layout k way → AreNodes layout (slice_range way i j)
 led_nodes layout k way i j led =
@@ -70,9 +70,9 @@ led_nodes layout k way i j led =
     (All-weaker (IsLedStep layout k) (λ (s : Step). s.number < layout.nodes) (λ s h. h.0) way led))
 
 -- a node that is none of those is not locked
-pub not_locked : (k : Known) (n : ℕ) (ns : List ℕ) → HasJustLocked k ns → ¬ (IsOf n ns) → ¬ (IsOf n (nodes_of k.locks))
+pub not_locked : (k : Known) (n : ℕ) (ns : List ℕ) → HasJustLocked k ns → ¬ (IsOneOf n ns) → ¬ (IsOneOf n (nodes_of k.locks))
 not_locked k n ns (just, apart) new i =
-    let (l, there, same) = of_map (λ (z : Locked). z.node) n k.locks i in new (subst (λ m. IsOf m ns) (sym same) (just.only l there))
+    let (l, there, same) = of_map (λ (z : Locked). z.node) n k.locks i in new (subst (λ m. IsOneOf m ns) (sym same) (just.only l there))
 
 -- ---- a lock that was refused some time ago
 pub met_since : (layout : Layout) (k i j h : Known) → k.steps ≤ i.steps → i.pass ≡ k.pass → h.failed ≡ j.failed → HasMetLock layout i j → HasMetLock layout k h

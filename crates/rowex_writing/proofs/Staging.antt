@@ -1,16 +1,16 @@
--- The records that a pass holds, as if it had made them ready: then what has risen is the page of a lawful tree.
+-- The records that a pass holds, as if it had made them ready: then what has risen is the subtrie of a lawful tree.
 use Rattle.std.proofs.Common.{ℕ, List, [], ◌∷◌, ◌++◌, refl}
 use Rattle.record_words.specs.declared.layout.Layout.{Layout}
 use Rattle.tries.specs.Content.{Item}
 use Rattle.tries.specs.Keys.{Key}
-use Rattle.tries.specs.Tree.{Page}
-use Rattle.moments.specs.Trades.{IsOf}
+use Rattle.tries.specs.Tree.{Subtrie}
+use Rattle.versions.specs.Trades.{IsOneOf}
 use Rattle.rowex_walks.specs.Rise.{Side}
 use Rattle.rowex_core.specs.declared.event.Act.TheVariants.{Ready}
 use Rattle.rowex_core.specs.declared.known.Known.{Known}
 use Rattle.rowex_core.specs.Cores.{Core}
 use Rattle.rowex_core.specs.Knowing.{IsEvent, learned}
-use Rattle.moments.specs.declared.Rec.{Rec}
+use Rattle.versions.specs.declared.Rec.{Rec}
 use Rattle.rowex_table.specs.Made.{Made, HoldsMade, HasReadied}
 use Rattle.rowex_table.specs.Runs.{silent}
 use Rattle.rowex_rights.specs.Loops.{ReadiesEach}
@@ -22,7 +22,7 @@ use Rattle.rowex_rights.proofs.Stages.{stage_of}
 use Rattle.rowex_reading.specs.Possible.{IsPossible}
 use Rattle.rowex_reading.proofs.Later.{event_possible}
 use Rattle.rowex_writing.specs.Building.{AreMadePacked}
-use Rattle.rowex_writing.specs.Remaking.{IsTreePage}
+use Rattle.rowex_writing.specs.Remaking.{IsSubtrieOfTree}
 
 module _ (layout : Layout) where
   -- all of them, one after the other
@@ -49,9 +49,9 @@ module _ (layout : Layout) where
       let stage : IsStage layout j k.locks news last.core = stage_of layout j k.locks news (record { locks = stays.1; own = own }) last.core last.lawful last.layout_is last.knows in
       (last.core, stage_earlier layout k j stays.0 k.locks news last.core stage)
 
-  -- so what has risen is the page of a lawful tree
-  pub risen_page : (k : Known) (news : List Made) (gone : List Rec) (since : ℕ) (x : Item) (p : ℕ) (l : Key) (d : Side) (n : ℕ) (words : List ℕ) (r : Page) → IsPossible layout k → HoldsMade k news → AreMadePacked layout news →
-      HasLeaf news x → IsOf (record { node = n; words = words }) k.locks → HasRisen layout k k.locks news since x p l d n r gone → IsTreePage r
-  risen_page k news gone since x p l d n words r possible holds packed leaf at risen =
+  -- so what has risen is the subtrie of a lawful tree
+  pub risen_subtrie : (k : Known) (news : List Made) (gone : List Rec) (since : ℕ) (x : Item) (p : ℕ) (l : Key) (d : Side) (n : ℕ) (words : List ℕ) (r : Subtrie) → IsPossible layout k → HoldsMade k news → AreMadePacked layout news →
+      HasLeaf news x → IsOneOf (record { node = n; words = words }) k.locks → HasRisen layout k k.locks news since x p l d n r gone → IsSubtrieOfTree r
+  risen_subtrie k news gone since x p l d n words r possible holds packed leaf at risen =
       let (c, stage) = stage_of_held k news possible holds packed in
       tree_risen layout k k.locks news c stage since x p l d n words leaf at r (risen c stage).0

@@ -8,8 +8,8 @@ use Rattle.finite_map.specs.Fronts.{BeginsWith, OthersGoOn}
 use Rattle.finite_map.proofs.Growth.{begins_on, others_on}
 use Rattle.record_words.specs.Entry.{HasEntryWord}
 use Rattle.record_words.specs.declared.layout.Layout.{Layout}
-use Rattle.moments.specs.declared.Rec.{Rec}
-use Rattle.moments.specs.Trades.{AreApart}
+use Rattle.versions.specs.declared.Rec.{Rec}
+use Rattle.versions.specs.Trades.{AreApart}
 use Rattle.rowex_core.specs.declared.event.Act.TheVariants.{Publish}
 use Rattle.rowex_core.specs.declared.event.Event.{Event}
 use Rattle.rowex_core.specs.declared.event.Spot.{Spot}
@@ -28,7 +28,7 @@ use Rattle.rowex_rights.specs.Ending.{IsAtRest}
 use Rattle.rowex_rights.specs.Stages.{HasReady}
 use Rattle.rowex_reading.specs.Possible.{IsPossible}
 use Rattle.rowex_writing.specs.Building.{IsBuilding}
-use Rattle.rowex_writing.specs.Changes.{HasChanged, MayEnd}
+use Rattle.rowex_writing.specs.Changes.{HasChanged, MayPublishOnceReady}
 use Rattle.rowex_writing.specs.Going.{WorksOn}
 use Rattle.rowex_writing.specs.Retiring.{HasJustPublished, IsAnchored}
 use Rattle.rowex_writing.proofs.Making.{goes_possible}
@@ -59,7 +59,7 @@ word_published layout spot v w k j same e = subst (λ z. IsEvent layout (Publish
 
 module _ {G : Type 0} (table : TableView) (becomes : G → Event → G → Type 0) (a b : SeatView × G) (made : List Rec) (spot : Spot) (w : ℕ) (gone : List Rec) (goes : WorksOn table becomes a b) where
   -- all that it has made is ready
-  module _ (x : Change) (was : Option ℕ) (m : MayEnd table a.0 made spot w x was gone) (ready : HasReady b.0.known a.0.known.locks m.news) where
+  module _ (x : Change) (was : Option ℕ) (m : MayPublishOnceReady table a.0 made spot w x was gone) (ready : HasReady b.0.known a.0.known.locks m.news) where
     pub now_publishes : Publishes table.layout b.0.known spot w x was gone
     now_publishes = m.publishes b.0.known goes.stays.0 ready goes.stays.2
 

@@ -4,8 +4,8 @@ use Rattle.std.specs.Prelude.{All, slice_range}
 use Rattle.std.proofs.lemmas.List.{append-nil, length-append}
 use Rattle.std.proofs.lemmas.List.Elements.{All-append, All-cons, All-head, All-nil, All-tail}
 use Rattle.insert_cases.specs.declared.choice.Step.{Step}
-use Rattle.moments.specs.Trades.{AreApart, IsOf}
-use Rattle.moments.proofs.Members.{of_append, of_map}
+use Rattle.versions.specs.Trades.{AreApart, IsOneOf}
+use Rattle.versions.proofs.Members.{of_append, of_map}
 use Rattle.rowex_core.specs.declared.event.Act.{Act}
 use Rattle.rowex_core.specs.declared.event.Act.TheVariants.{Lock}
 use Rattle.rowex_core.specs.declared.event.Event.{Event}
@@ -14,7 +14,7 @@ use Rattle.rowex_core.specs.declared.event.Target.TheVariants.{Anchor, Node as N
 use Rattle.rowex_table.specs.Runs.{Steps}
 use Rattle.rowex_table.specs.Seats.{TableView, SeatView}
 use Rattle.rowex_table.proofs.Running.{runs_append, runs_one}
-use Rattle.rowex_writing.specs.Going.{IsQuiet}
+use Rattle.rowex_writing.specs.Going.{TriesNoLock}
 use Rattle.rowex_writing.specs.Locks.{Tries, TriesBy, TriesOnceBy, TriesLocksOnce, TriesOnce, numbers_of, targets_of}
 use Rattle.rowex_writing.proofs.Spans.{slice_more}
 
@@ -32,20 +32,20 @@ once_before xs ys once none = subst AreApart (sym (targets_append xs ys ∙ (ap 
 pub once_after : (xs ys : List Act) → targets_of xs ≡ [] → TriesLocksOnce ys → TriesLocksOnce (xs ++ ys)
 once_after xs ys none once = subst AreApart (sym (targets_append xs ys ∙ ap (λ z. z ++ targets_of ys) none)) once
 
-pub quiet_tries_none : (acts : List Act) → All IsQuiet acts → targets_of acts ≡ []
-quiet_tries_none [] all = refl
-quiet_tries_none (Lock target found ∷ acts) all = absurd (All-head IsQuiet (Lock target found) acts all)
-quiet_tries_none (act ∷ acts) all = quiet_tries_none acts (All-tail IsQuiet act acts all)
+pub no_lock_is_tried : (acts : List Act) → All TriesNoLock acts → targets_of acts ≡ []
+no_lock_is_tried [] all = refl
+no_lock_is_tried (Lock target found ∷ acts) all = absurd (All-head TriesNoLock (Lock target found) acts all)
+no_lock_is_tried (act ∷ acts) all = no_lock_is_tried acts (All-tail TriesNoLock act acts all)
 
 -- ---- lists in which none stands twice
-apart_end : {X : Type 0} (x : X) (xs : List X) → AreApart xs → (IsOf x xs → ⊥) → AreApart (xs ++ x ∷ [])
+apart_end : {X : Type 0} (x : X) (xs : List X) → AreApart xs → (IsOneOf x xs → ⊥) → AreApart (xs ++ x ∷ [])
 apart_end x [] apart new = ((λ i. i), tt)
 apart_end x (y ∷ xs) apart new = (
   λ i. elim (of_append y xs (x ∷ []) i) [ inl older ↦ apart.0 older | inr last ↦ elim last [ inl e ↦ new (inl (sym e)) | inr none ↦ none ] ],
   apart_end x xs apart.1 (λ i. new (inr i)),
 )
 
-of_take : (n number : ℕ) (way : List Step) → IsOf number (numbers_of (take n way)) → IsOf number (numbers_of way)
+of_take : (n number : ℕ) (way : List Step) → IsOneOf number (numbers_of (take n way)) → IsOneOf number (numbers_of way)
 of_take zero number way i = absurd i
 of_take (suc n) number [] i = i
 of_take (suc n) number (s ∷ way) (inl e) = inl e
@@ -62,7 +62,7 @@ apart_drop (suc n) [] apart = tt
 apart_drop (suc n) (s ∷ way) apart = apart_drop n way apart.1
 
 -- a node of a way is none of those that follow
-pub number_new : (way : List Step) (i j : ℕ) (d : Step) → i < j → j ≤ length way → AreApart (numbers_of way) → IsOf (get_or way i d).number (numbers_of (slice_range way (i + 1) j)) → ⊥
+pub number_new : (way : List Step) (i j : ℕ) (d : Step) → i < j → j ≤ length way → AreApart (numbers_of way) → IsOneOf (get_or way i d).number (numbers_of (slice_range way (i + 1) j)) → ⊥
 number_new way i j d low high apart =
     (subst (λ z. AreApart (numbers_of z)) (slice_more way i j d low high) (apart_take (j - i) (drop i way) (apart_drop i way apart))).0
 
@@ -106,7 +106,7 @@ module _ {G : Type 0} (table : TableView) (becomes : G → Event → G → Type 
     pub run : Tries table becomes tried a b
     pub once : TriesLocksOnce run.acts
     pub count : length tried ≡ length nodes
-    pub among : (t : Target) → IsOf t tried → IsOf t (map NodeTarget nodes)
+    pub among : (t : Target) → IsOneOf t tried → IsOneOf t (map NodeTarget nodes)
 
   pub nodes_none : (a : SeatView × G) → TriesNodes [] a a
   unfolding tries_none
@@ -116,19 +116,19 @@ module _ {G : Type 0} (table : TableView) (becomes : G → Event → G → Type 
   nodes_once ns a b h = (h.tried, h.run, h.once, h.count)
 
   -- a lock more, which is none of those before
-  apart_more : (target : Target) (tried : List Target) (a b : SeatView × G) (run : Tries table becomes tried a b) → TriesLocksOnce run.acts → (IsOf target tried → ⊥) → AreApart (tried ++ target ∷ [])
+  apart_more : (target : Target) (tried : List Target) (a b : SeatView × G) (run : Tries table becomes tried a b) → TriesLocksOnce run.acts → (IsOneOf target tried → ⊥) → AreApart (tried ++ target ∷ [])
   apart_more target tried a b run once new = apart_end target tried (subst AreApart run.tried_are once) new
 
   -- of a node
-  pub nodes_more : (n : ℕ) (ns : List ℕ) (a m b : SeatView × G) → (IsOf n ns → ⊥) → TriesNodes ns a m → Tries table becomes (NodeTarget n ∷ []) m b → TriesNodes (n ∷ ns) a b
+  pub nodes_more : (n : ℕ) (ns : List ℕ) (a m b : SeatView × G) → (IsOneOf n ns → ⊥) → TriesNodes ns a m → Tries table becomes (NodeTarget n ∷ []) m b → TriesNodes (n ∷ ns) a b
   nodes_more n ns a m b new h lock =
       let all = tries_more table becomes a m b h.run lock in
       record { tried = h.tried ++ NodeTarget n ∷ []; run = all; once = subst AreApart (sym all.tried_are) (apart_more (NodeTarget n) h.tried a m h.run h.once none); count = omega (arith, length-append h.tried (NodeTarget n ∷ []), h.count); among = within }
     where
-      none : IsOf (NodeTarget n) h.tried → ⊥
-      none i = let (x, there, e) = of_map NodeTarget (NodeTarget n) ns (h.among (NodeTarget n) i) in new (subst (λ z. IsOf z ns) (sym (same_number n x e)) there)
+      none : IsOneOf (NodeTarget n) h.tried → ⊥
+      none i = let (x, there, e) = of_map NodeTarget (NodeTarget n) ns (h.among (NodeTarget n) i) in new (subst (λ z. IsOneOf z ns) (sym (same_number n x e)) there)
 
-      within : (t : Target) → IsOf t (h.tried ++ NodeTarget n ∷ []) → IsOf t (map NodeTarget (n ∷ ns))
+      within : (t : Target) → IsOneOf t (h.tried ++ NodeTarget n ∷ []) → IsOneOf t (map NodeTarget (n ∷ ns))
       within t i = elim (of_append t h.tried (NodeTarget n ∷ []) i) [ inl older ↦ inr (h.among t older) | inr last ↦ elim last [ inl e ↦ inl e | inr nothing ↦ absurd nothing ] ]
 
   -- of the anchor
@@ -136,5 +136,5 @@ module _ {G : Type 0} (table : TableView) (becomes : G → Event → G → Type 
   anchor_more ns a m b h lock =
       let all = tries_more table becomes a m b h.run lock in (h.tried ++ Anchor ∷ [], all, subst AreApart (sym all.tried_are) (apart_more Anchor h.tried a m h.run h.once none), omega (arith, length-append h.tried (Anchor ∷ []), h.count))
     where
-      none : IsOf Anchor h.tried → ⊥
+      none : IsOneOf Anchor h.tried → ⊥
       none i = let (x, there, e) = of_map NodeTarget Anchor ns (h.among Anchor i) in cc

@@ -9,16 +9,16 @@ use Rattle.compound_node.specs.declared.entries.Entry.TheVariants.{Node}
 use Rattle.record_words.specs.declared.layout.Layout.{Layout}
 use Rattle.tries.specs.Keys.{Key}
 use Rattle.tries.specs.Tree.{Fixed, node as node_tree}
-use Rattle.moments.specs.declared.Rec.TheVariants.{Node as a_node}
-use Rattle.moments.specs.State.{Stands}
-use Rattle.moments.specs.Trades.{AreApart, IsOf}
-use Rattle.moments.proofs.Members.{of_map}
-use Rattle.moments.proofs.States.{steady}
+use Rattle.versions.specs.declared.Rec.TheVariants.{Node as a_node}
+use Rattle.versions.specs.State.{Stands}
+use Rattle.versions.specs.Trades.{AreApart, IsOneOf}
+use Rattle.versions.proofs.Members.{of_map}
+use Rattle.versions.proofs.States.{steady}
 use Rattle.rowex_core.proofs.Loading.{view}
-use Rattle.rowex_core.specs.Knowing.{IsSince}
+use Rattle.rowex_core.specs.Knowing.{IsPinnedSince}
 use Rattle.rowex_core.proofs.Owning.{recalls}
 use Rattle.rowex_core.specs.declared.known.Known.{Known}
-use Rattle.rowex_walks.specs.Scan.{IsSeen}
+use Rattle.rowex_walks.specs.Scan.{EntryStoodSince}
 use Rattle.rowex_walks.proofs.Scans.{node_of as node_named}
 use Rattle.rowex_reading.specs.Possible.{IsPossible}
 use Rattle.rowex_reading.specs.Seen.{Sure, seen}
@@ -30,15 +30,15 @@ use Rattle.rowex_reading.specs.Ways.{IsWayOf, IsWayNode, named}
 use Rattle.rowex_reading.specs.declared.descent.Found.{Found}
 
 -- a record to which the pass was led since its pin has one height
-one_height : (layout : Layout) (k : Known) (m n g h : ℕ) → IsPossible layout k → IsSince k m → Sure k (λ past. IsSeen past m (Node n g)) → Sure k (λ past. IsSeen past m (Node n h)) → g ≡ h
+one_height : (layout : Layout) (k : Known) (m n g h : ℕ) → IsPossible layout k → IsPinnedSince k m → Sure k (λ past. EntryStoodSince past m (Node n g)) → Sure k (λ past. EntryStoodSince past m (Node n h)) → g ≡ h
 one_height layout k m n g h possible since one other =
     let c = possible.core in
     let law = possible.lawful in
     let known = recalls c k possible.knows in
     let grown = seen_past law known in
-    let (o, u, lo, hi, stands, page_is) = seen_stable m (Node n g) (seen c k) c.past grown (one c law known) in
+    let (o, u, lo, hi, stands, subtrie_is) = seen_stable m (Node n g) (seen c k) c.past grown (one c law known) in
     let (p, v, low, high, there, same) = seen_stable m (Node n h) (seen c k) c.past grown (other c law known) in
-    let (x, d, is, first) = node_named n g u page_is in
+    let (x, d, is, first) = node_named n g u subtrie_is in
     let (y, e, eq, second) = node_named n h v same in
     let fixed = (steady (view c) law.core.state m (reach_since k m since c law known)).same (a_node n) o p (node_tree n x d) (node_tree n y e) lo hi low high
     (subst (λ z. Stands c.past o (a_node n) z) is stands) (subst (λ z. Stands c.past p (a_node n) z) eq there) in
@@ -53,28 +53,28 @@ module _ (layout : Layout) (k : Known) (m : ℕ) (key : Key) (found : Found) whe
   named_rest s way nodes i t at = nodes (suc i) t at
 
   -- below an entry the nodes are no higher than it
-  lower : (way : List Step) (e : Entry) → AreNamed way → named way found 0 ≡ Some e → (t : Step) → IsOf t way → (t.height ≤ height_of e) × Sure k (λ past. IsSeen past m (Node t.number t.height))
+  lower : (way : List Step) (e : Entry) → AreNamed way → named way found 0 ≡ Some e → (t : Step) → IsOneOf t way → (t.height ≤ height_of e) × Sure k (λ past. EntryStoodSince past m (Node t.number t.height))
   lower [] e nodes first t i = absurd i
   lower (s ∷ way) e nodes first t (inl is) =
       let (f, next, node) = nodes 0 s refl in
       let high : s.height ≡ height_of e = cc in
-      subst (λ (z : Step). (z.height ≤ height_of e) × Sure k (λ past. IsSeen past m (Node z.number z.height))) (sym is) (omega (arith, high), node.seen)
+      subst (λ (z : Step). (z.height ≤ height_of e) × Sure k (λ past. EntryStoodSince past m (Node z.number z.height))) (sym is) (omega (arith, high), node.seen)
   lower (s ∷ way) e nodes first t (inr i) =
       let (f, next, node) = nodes 0 s refl in
       let high : s.height ≡ height_of e = cc in
       let rest = lower way f (named_rest s way nodes) next t i in
       (omega (arith, rest.0, node.below, high), rest.1)
 
-  way_differs : IsPossible layout k → IsSince k m → (way : List Step) → AreNamed way → AreApart (numbers_of way)
+  way_differs : IsPossible layout k → IsPinnedSince k m → (way : List Step) → AreNamed way → AreApart (numbers_of way)
   way_differs possible since [] nodes = tt
   way_differs possible since (s ∷ way) nodes = (new, way_differs possible since way (named_rest s way nodes))
     where
-      new : IsOf s.number (numbers_of way) → ⊥
+      new : IsOneOf s.number (numbers_of way) → ⊥
       new i =
           let (t, there, same) = of_map (λ (z : Step). z.number) s.number way i in
           let (e, next, node) = nodes 0 s refl in
           let below = lower way e (named_rest s way nodes) next t there in
-          let high = one_height layout k m s.number t.height s.height possible since (subst (λ n. Sure k (λ past. IsSeen past m (Node n t.height))) (sym same) below.1) node.seen in
+          let high = one_height layout k m s.number t.height s.height possible since (subst (λ n. Sure k (λ past. EntryStoodSince past m (Node n t.height))) (sym same) below.1) node.seen in
           omega (arith, below.0, node.below, high)
 
   pub way_apart : (way : List Step) → IsPossible layout k → IsWayOf layout k m key way found → AreApart (numbers_of way)
@@ -84,6 +84,6 @@ module _ (layout : Layout) (k : Known) (m : ℕ) (key : Key) (found : Found) whe
 pub way_led : (layout : Layout) (k : Known) (m : ℕ) (key : Key) (way : List Step) (found : Found) → IsWayOf layout k m key way found → AreLed layout k way
 way_led layout k m key way found w i d low =
     let s : Step = get_or way i d in let (e, is, node) = w.nodes i s (slice_get-get_or way i d low) in
-    let seen : IsSure k (λ past. IsSeen past m (Node s.number s.height)) =
-    seen_is_sure k (λ past. IsSeen past m (Node s.number s.height)) (seen_stable m (Node s.number s.height)) node.seen in
+    let seen : IsSure k (λ past. EntryStoodSince past m (Node s.number s.height)) =
+    seen_is_sure k (λ past. EntryStoodSince past m (Node s.number s.height)) (seen_stable m (Node s.number s.height)) node.seen in
     (node.range, (m, s.height, w.since, seen))

@@ -14,7 +14,7 @@ use Rattle.rowex_core.specs.declared.event.Act.TheVariants.{LoadRef}
 use Rattle.rowex_core.specs.declared.event.Event.{Event}
 use Rattle.rowex_core.specs.declared.event.Spot.TheVariants.{Root}
 use Rattle.rowex_core.specs.declared.known.Known.{Known}
-use Rattle.rowex_core.specs.Knowing.{IsSince}
+use Rattle.rowex_core.specs.Knowing.{IsPinnedSince}
 use Rattle.rowex_reading.specs.Lookups.{HasFound}
 use Rattle.rowex_reading.specs.Reads.{IsBelowRoot, entries_in}
 use Rattle.rowex_table.specs.Runs.{Runs}
@@ -60,7 +60,8 @@ pub record HasLoadedRoot (k j : Known) : Type 0 where
   pub old : BeginsWith j.fresh.front k.front
   pub new : BeginsWith j.front j.fresh.front
 
--- what a call found that changed nothing: its reply is that of a key with this value, or none, at a moment since its last load of the root
+-- what a call found that changed nothing: its reply is that of a key with this value, or none, in a version since its last load of the
+-- root
 abbrev pub HasLooked : Known → Call → Reply → Type 0
 HasLooked j call reply = (held : Option ℕ) × HasFound j (key_of call) held × (reply ≡ reply_to call held) × (effect_of call reply ≡ None)
 
@@ -91,7 +92,7 @@ IsLeafless leaves call result = Unit {0}
 -- why it was refused: a lock of it found taken by another pass what it wanted to lock, or the pass has seen a change that was made
 -- since its pin; or no node record was free, or no leaf record with room for its key
 abbrev pub IsAttemptCause : Layout → Key → Known → Known → TryFault → Type 0
-IsAttemptCause layout key k j Busy = HasMetLock layout k j ⊎ ((m : ℕ) × IsSince k m × (m < length j.front))
+IsAttemptCause layout key k j Busy = HasMetLock layout k j ⊎ ((m : ℕ) × IsPinnedSince k m × (m < length j.front))
 IsAttemptCause layout key k j FullNodes = IsFull layout key k j Nodes
 IsAttemptCause layout key k j FullLeaves = IsFull layout key k j Leaves
 

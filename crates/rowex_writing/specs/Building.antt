@@ -8,29 +8,29 @@ use Rattle.compound_node.specs.declared.halves.Half.TheVariants.{One, Many, Same
 use Rattle.insert_cases.specs.declared.growth.Grown.{Grown}
 use Rattle.insert_cases.specs.declared.growth.Grown.TheVariants.{One as Single, Two}
 use Rattle.insert_cases.specs.Grown.{GrownShows, is_whole, keeps_node}
-use Rattle.insert_cases.specs.Risen.{page_of}
+use Rattle.insert_cases.specs.Risen.{subtrie_of}
 use Rattle.insert_cases.specs.declared.raising.Risen.{Risen}
 use Rattle.insert_cases.specs.declared.raising.Risen.TheVariants.{Whole, Split}
 use Rattle.pieces.specs.Changes.{AtRootFork}
 use Rattle.pieces.specs.Piece.{Place, size}
 use Rattle.insert_cases.specs.declared.choice.Step.{Step}
-use Rattle.moments.specs.Trades.{IsOf}
+use Rattle.versions.specs.Trades.{IsOneOf}
 use Rattle.rowex_core.specs.declared.known.Locked.{Locked}
 use Rattle.record_words.specs.declared.layout.Layout.{Layout}
 use Rattle.record_words.specs.Node.{HasNodeWords}
 use Rattle.tries.specs.Content.{Item}
-use Rattle.tries.specs.Affected.{page_affected, IsPartPage}
+use Rattle.tries.specs.Affected.{subtrie_affected, IsPartSubtrie}
 use Rattle.tries.specs.Keys.{Key}
-use Rattle.tries.specs.Tree.{Page}
+use Rattle.tries.specs.Tree.{Subtrie}
 use Rattle.rowex_walks.specs.Rise.{Side, entry}
-use Rattle.moments.specs.declared.Rec.{Rec}
-use Rattle.moments.specs.declared.Rec.TheVariants.{Node as a_node}
+use Rattle.versions.specs.declared.Rec.{Rec}
+use Rattle.versions.specs.declared.Rec.TheVariants.{Node as a_node}
 use Rattle.rowex_core.specs.Cores.{FitsIn}
 use Rattle.rowex_core.specs.Reading.{IsPacked, node_words_of}
 use Rattle.rowex_table.specs.Made.{Made, recs_of, HoldsMade}
 use Rattle.rowex_table.specs.Seats.{TableView, SeatView, IsSeatOf}
 use Rattle.rowex_reading.specs.Possible.{IsPossible}
-use Rattle.rowex_rights.specs.Rises.{of_view, of_leaf, HasFoundBelow}
+use Rattle.rowex_rights.specs.Rises.{made_of_node, made_of_leaf, HasFoundBelow}
 use Rattle.rowex_rights.specs.Stages.{HasLeaf, HasRisen, IsLockedAbove}
 use Rattle.rowex_writing.specs.Going.{HasLocked}
 use Rattle.rowex_writing.specs.Remaking.{AffectsJust, IsNoHigher}
@@ -48,13 +48,13 @@ AreMadePacked layout (m ∷ news) = (IsPacked m.rec m.words × FitsIn layout m.r
 -- whole is named as before.
 abbrev pub IsHalfMade : Entry → Half → Entry → List Made → Type 0
 IsHalfMade old (One alone) e news = (e ≡ alone) × (news ≡ [])
-IsHalfMade old (Many view) e news = (m : ℕ) × (e ≡ Node m view.height) × (news ≡ of_view m view ∷ []) × HasNodeWords view
+IsHalfMade old (Many view) e news = (m : ℕ) × (e ≡ Node m view.height) × (news ≡ made_of_node m view ∷ []) × HasNodeWords view
 IsHalfMade old Same e news = (e ≡ old) × (news ≡ [])
 
 -- What comes in the place of the node of the old entry, and the records made for it in front of those before, the last one first:
 -- of a cut the upper side is made first.
 abbrev pub IsMadeFrom : Entry → Grown → Risen → List Made → List Made → Type 0
-IsMadeFrom old (Single view) (Whole e) before after = (m : ℕ) × (e ≡ Node m view.height) × (after ≡ of_view m view ∷ before) × HasNodeWords view
+IsMadeFrom old (Single view) (Whole e) before after = (m : ℕ) × (e ≡ Node m view.height) × (after ≡ made_of_node m view ∷ before) × HasNodeWords view
 IsMadeFrom old (Two cut) (Split position zero one) before after =
     (lower : List Made) × (upper : List Made) × (position ≡ cut.position) × IsHalfMade old cut.zero zero lower × IsHalfMade old cut.one one upper ×
     (after ≡ lower ++ (upper ++ before))
@@ -62,7 +62,7 @@ IsMadeFrom old grown risen before after = ⊥
 
 -- What comes in the place of a node that gets a new leaf at the position, and the records made for it: one entry where the node
 -- has room. It stays whole, as told, only where the position is before its first fork.
-pub record IsGrownFrom (old : Entry) (was : NodeView) (shown : Page) (position : ℕ) (risen : Risen) (stays : Bool) (before after : List Made) : Type 0 where
+pub record IsGrownFrom (old : Entry) (was : NodeView) (shown : Subtrie) (position : ℕ) (risen : Risen) (stays : Bool) (before after : List Made) : Type 0 where
   pub grown : Grown
   pub shows : GrownShows was grown shown
   pub whole : IsTrue (is_whole grown) ↔ (length was.entries < 32)
@@ -88,7 +88,7 @@ pub record HasNotMade (table : TableView) (b : SeatView) (made : List Rec) : Typ
 -- ---- on the way up
 -- The change adds x, of which the record is made: this is what comes in the place of node n's body or entry, and those go.
 pub record IsRaising (table : TableView) (a : SeatView) (made : List Rec) (news : List Made) (gone : List Rec) (since : ℕ) (x : Item) (p : ℕ) (l : Key)
-    (d : Side) (n : ℕ) (r : Page) : Type 0 where
+    (d : Side) (n : ℕ) (r : Subtrie) : Type 0 where
   pub building : IsBuilding table a made news
   pub leaf : HasLeaf news x
   pub risen : HasRisen table.layout a.known a.known.locks news since x p l d n r gone
@@ -103,7 +103,7 @@ pub record IsRisenAt (table : TableView) (a : SeatView) (made : List Rec) (numbe
   pub like : Key
   pub words : List ℕ
   pub locked : HasLocked a.known number words
-  pub raising : IsRaising table a made news gone since item mismatch like entry number (page_of risen)
+  pub raising : IsRaising table a made news gone since item mismatch like entry number (subtrie_of risen)
 
 -- What has risen so far, a fork of two entries, is to take the place of the entry that names the node below, in the locked node
 -- above, which is higher than both.
@@ -132,8 +132,8 @@ IsSingle (Split position zero one) = ⊥
 -- What has risen from the node with these words: no higher than it, a fork where it was full, one entry where it had room.
 pub record IsLevelRisen (words : List ℕ) (risen : Risen) : Type 0 where
   pub low : IsLowRisen (node_words_of words).fixed.height risen
-  pub split : size (node_words_of words).page ≡ 32 → IsSplit risen
-  pub single : size (node_words_of words).page < 32 → IsSingle risen
+  pub split : size (node_words_of words).subtrie ≡ 32 → IsSplit risen
+  pub single : size (node_words_of words).subtrie < 32 → IsSingle risen
 
 -- the entry is at most one higher than this, and no higher where what has risen is one entry
 abbrev pub IsNextTo : ℕ → Risen → Entry → Type 0
@@ -141,7 +141,7 @@ IsNextTo height risen e = (height_of e ≤ height + 1) × (IsSingle risen → he
 
 -- the entry is at most one higher than the node with these words, and no higher where that has room
 abbrev pub FitsAbove : List ℕ → Entry → Type 0
-FitsAbove words e = (height_of e ≤ (node_words_of words).fixed.height + 1) × (size (node_words_of words).page < 32 → height_of e ≤ (node_words_of words).fixed.height)
+FitsAbove words e = (height_of e ≤ (node_words_of words).fixed.height + 1) × (size (node_words_of words).subtrie < 32 → height_of e ≤ (node_words_of words).fixed.height)
 
 -- ---- at the lower end
 -- The leaf of x is made and nothing else, and the locked node is where it goes: beside these entries.
@@ -152,18 +152,18 @@ pub record IsLowest (table : TableView) (a : SeatView) (made : List Rec) (key : 
   pub words : List ℕ
   pub key_is : key ≡ item.key
   pub leaf_is : leaf ≡ item.number
-  pub building : IsBuilding table a made (of_leaf item ∷ [])
+  pub building : IsBuilding table a made (made_of_leaf item ∷ [])
   pub found : HasFoundBelow a.known a.known.locks since item position like number words
-  pub part : IsPartPage (page_affected position item.key (node_words_of words).page)
-  pub affects : AffectsJust item.key position first last (node_words_of words).page
+  pub part : IsPartSubtrie (subtrie_affected position item.key (node_words_of words).subtrie)
+  pub affects : AffectsJust item.key position first last (node_words_of words).subtrie
 
 -- so for a new leaf
 abbrev pub GetsLeaf : TableView → SeatView → List Rec → ℕ → NewLeaf → Type 0
 GetsLeaf table a made number new = IsLowest table a made new.key.now number new.position new.first new.last new.number
 
 -- the node goes, where it doesn't stay whole
-abbrev pub gone_unless : Bool → ℕ → List Rec
-gone_unless stays n = if stays then [] else a_node n ∷ []
+abbrev pub gone_unless_whole : Bool → ℕ → List Rec
+gone_unless_whole stays n = if stays then [] else a_node n ∷ []
 
 -- ---- a span
 -- Of the locked nodes of the way from `end` to `level` each is named by the one above it, which is higher, and an insertion at p
@@ -173,10 +173,10 @@ pub record IsChain (nodes : ℕ) (held : List Locked) (way : List Step) (key : K
   pub above : (i : ℕ) (s u : Step) → end ≤ i → i < level → slice_get way i ≡ Some s → slice_get way (i + 1) ≡ Some u →
       (over : IsLockedAbove held key p s.number u.number) × ((node_words_of over.lower).fixed.height < (node_words_of over.upper).fixed.height)
   pub full : (i : ℕ) (s : Step) → end < i → i < level → slice_get way i ≡ Some s →
-      (words : List ℕ) → IsOf (record { node = s.number; words = words }) held → size (node_words_of words).page ≡ 32
+      (words : List ℕ) → IsOneOf (record { node = s.number; words = words }) held → size (node_words_of words).subtrie ≡ 32
 
 -- What has risen comes in the place of the entry of the node at this level, and it is to rise on to `end`.
-pub record IsUp (table : TableView) (a : SeatView) (made : List Rec) (way : List Step) (key : Key) (end level : ℕ) (risen : Risen) : Type 0 where
+pub record IsRisingOn (table : TableView) (a : SeatView) (made : List Rec) (way : List Step) (key : Key) (end level : ℕ) (risen : Risen) : Type 0 where
   pub step : Step
   pub at : slice_get way level ≡ Some step
   pub upto : end ≤ level
@@ -184,12 +184,12 @@ pub record IsUp (table : TableView) (a : SeatView) (made : List Rec) (way : List
   pub key_is : key ≡ here.item.key
   pub low : (other : List ℕ) → HasLocked a.known step.number other → IsLowRisen (node_words_of other).fixed.height risen
   pub split : end < level → IsSplit risen
-  pub single : (other : List ℕ) → HasLocked a.known step.number other → size (node_words_of other).page < 32 → IsSingle risen
+  pub single : (other : List ℕ) → HasLocked a.known step.number other → size (node_words_of other).subtrie < 32 → IsSingle risen
   pub chain : IsChain table.layout.nodes a.known.locks way here.item.key here.mismatch end level
 
 -- the nodes of the way from `end` on, before `level`, go too
-abbrev pub gone_with : List Step → (end level : ℕ) → List Rec → List Rec
-gone_with way end level gone = map (λ (s : Step). a_node s.number) (drop end (take level way)) ++ gone
+abbrev pub gone_with_way : List Step → (end level : ℕ) → List Rec → List Rec
+gone_with_way way end level gone = map (λ (s : Step). a_node s.number) (drop end (take level way)) ++ gone
 
 -- one entry has risen to the place of the entry of the node at `end`
 abbrev pub HasRisenTo : (table : TableView) (a : SeatView) (made : List Rec) (way : List Step) (since : ℕ) (x : Item) (p : ℕ) (l : Key) →
@@ -204,7 +204,7 @@ pub record IsGrowing (table : TableView) (a : SeatView) (made : List Rec) (way :
   pub upto : end ≤ top
   pub low : step.number < table.layout.nodes
   pub lowest : IsLowest table a made key step.number position first last leaf
-  pub full : end < top → size (node_words_of lowest.words).page ≡ 32
+  pub full : end < top → size (node_words_of lowest.words).subtrie ≡ 32
   pub chain : IsChain table.layout.nodes a.known.locks way lowest.item.key position end top
 
 -- so for a new leaf
@@ -216,4 +216,4 @@ abbrev pub GetsFork : TableView → SeatView → List Rec → ℕ → Fork → T
 GetsFork table a made above fork = IsBelow table a made fork.key.now above fork.position fork.zero fork.one
 
 abbrev pub Rises : TableView → SeatView → List Rec → List Step → Rise → Type 0
-Rises table a made way rise = IsUp table a made way rise.key.now rise.end rise.level rise.risen
+Rises table a made way rise = IsRisingOn table a made way rise.key.now rise.end rise.level rise.risen

@@ -9,10 +9,10 @@ use Rattle.insert_cases.specs.Levels.{IsLevel}
 use Rattle.record_words.specs.declared.layout.Layout.{Layout}
 use Rattle.tries.specs.Keys.{Key}
 use Rattle.tries.specs.Search.{seek}
-use Rattle.tries.specs.Tree.{Page}
-use Rattle.moments.specs.declared.Rec.{Rec}
+use Rattle.tries.specs.Tree.{Subtrie}
+use Rattle.versions.specs.declared.Rec.{Rec}
 use Rattle.record_words.specs.Leaf.{words_for}
-use Rattle.moments.specs.declared.Rec.TheVariants.{Node as a_node}
+use Rattle.versions.specs.declared.Rec.TheVariants.{Node as a_node}
 use Rattle.rowex_core.specs.declared.event.Event.{Event}
 use Rattle.rowex_core.specs.declared.event.Spot.{Spot}
 use Rattle.rowex_core.specs.declared.event.Target.{Target}
@@ -63,14 +63,14 @@ HasTriedOnce table becomes locks a b = TriesOnceBy LeavesPin table becomes locks
 -- where a new leaf goes into a node of the way, these are the entries that its position affects there, by the forks that were read
 abbrev pub AreAffected : Known → ℕ → Key → List Step → Found → (first last : ℕ) → Type 0
 AreAffected k m key way (Leaf number value (Some p)) first last = (level : ℕ) (s : Step) → IsLevel way p level → slice_get way level ≡ Some s →
-    (forks : Page) × Sure k (λ past. IsShaped past m s.number forks) × AffectsJust key p first last forks
+    (forks : Subtrie) × Sure k (λ past. IsShaped past m s.number forks) × AffectsJust key p first last forks
 AreAffected k m key way found first last = Unit {0}
 
 -- what the call does, by its way
 abbrev pub IsPlanned : Known → ℕ → Key → List Step → Aim → Found → Plan → Type 0
 IsPlanned k m key way aim found plan = (first : ℕ) × (last : ℕ) × IsPlan way first last aim found plan × AreAffected k m key way found first last
 
--- so for a job and a deed, by a search since a moment
+-- so for a job and a deed, by a search since a version
 abbrev pub HasPlanned : Layout → Known → Job → Deed → Type 0
 HasPlanned layout k job deed =
     (m : ℕ) × (aim : Aim) × IsJobFrom layout k m job × IsPlanned k m job.key.now job.way.now aim job.found (change job.span.len job.span.end deed)
@@ -80,7 +80,7 @@ HasPlanned layout k job deed =
 pub record IsChecked (k : Known) (key : Key) (way : List Step) (found : Found) (span : Span) : Type 0 where
   pub root : span.end ≡ 0 → k.anchor ≡ Some (named way found 0)
   pub entries : (i : ℕ) (s : Step) → span.end ≤ i + 1 → i < span.len → slice_get way i ≡ Some s →
-      (words : List ℕ) → HasLocked k s.number words → named way found (i + 1) ≡ Some (seek key (node_words_of words).page)
+      (words : List ℕ) → HasLocked k s.number words → named way found (i + 1) ≡ Some (seek key (node_words_of words).subtrie)
 
 -- The pass holds the locks of a span of its way, and has nothing else; and what it has found still stands.
 pub record HasTakenSpan (table : TableView) (a : SeatView) (m : ℕ) (key : Key) (way : List Step) (found : Found) (span : Span) : Type 0 where
@@ -100,7 +100,7 @@ HasTakenPlan table a job deed =
 
 -- ---- the store
 -- Once the records that it has made are ready, the pass may publish the change by a store of the word at the spot.
-pub record MayEnd (table : TableView) (a : SeatView) (made : List Rec) (spot : Spot) (w : ℕ) (x : Change) (was : Option ℕ) (gone : List Rec) : Type 0 where
+pub record MayPublishOnceReady (table : TableView) (a : SeatView) (made : List Rec) (spot : Spot) (w : ℕ) (x : Change) (was : Option ℕ) (gone : List Rec) : Type 0 where
   pub news : List Made
   pub building : IsBuilding table a made news
   pub publishes : (j : Known) → IsLater a.known j → HasReady j a.known.locks news → j.anchor ≡ a.known.anchor → Publishes table.layout j spot w x was gone
@@ -129,16 +129,16 @@ pub record HasNoRoom (layout : Layout) (key : Key) (k j : Known) (full : Full) :
   pub full_of : IsFull layout key k j full
 
 -- the change that gives the key this value, by what was found of it
-abbrev pub IsStored : ℕ → Key → ℕ → Found → Change → Option ℕ → Type 0
-IsStored q key value (Leaf number held None) x was = (x ≡ record { pass = q; key = key; value = value; kind = Replaced }) × (was ≡ Some held)
-IsStored q key value found x was = (x ≡ record { pass = q; key = key; value = value; kind = Added }) × (was ≡ None)
+abbrev pub IsPutChange : ℕ → Key → ℕ → Found → Change → Option ℕ → Type 0
+IsPutChange q key value (Leaf number held None) x was = (x ≡ record { pass = q; key = key; value = value; kind = Replaced }) × (was ≡ Some held)
+IsPutChange q key value found x was = (x ≡ record { pass = q; key = key; value = value; kind = Added }) × (was ≡ None)
 
 -- the change that takes the found key away
-abbrev pub IsTaken : ℕ → Key → Found → Change → Option ℕ → Type 0
-IsTaken q key (Leaf number held None) x was = (x ≡ record { pass = q; key = key; value = held; kind = Removed }) × (was ≡ Some held)
-IsTaken q key found x was = ⊥
+abbrev pub IsTakeChange : ℕ → Key → Found → Change → Option ℕ → Type 0
+IsTakeChange q key (Leaf number held None) x was = (x ≡ record { pass = q; key = key; value = held; kind = Removed }) × (was ≡ Some held)
+IsTakeChange q key found x was = ⊥
 
 -- the change of a deed: the key gets the value, or is taken away
 abbrev pub IsDeedChange : ℕ → Deed → Key → ℕ → Found → Change → Option ℕ → Type 0
-IsDeedChange q Take key value found x was = IsTaken q key found x was
-IsDeedChange q deed key value found x was = IsStored q key value found x was
+IsDeedChange q Take key value found x was = IsTakeChange q key found x was
+IsDeedChange q deed key value found x was = IsPutChange q key value found x was

@@ -13,4 +13,4 @@ use Rattle.rowex_writing.specs.declared.plan.Span.{Span}
 -- each node that is locked for the span has on the key's way, by the words under its lock, the entry that the search took there
 abbrev pub EntriesStand : Known → Key → List Step → Found → Span → Type 0
 EntriesStand k key way found span = (i : ℕ) (s : Step) → span.end ≤ i + 1 → i < span.len → slice_get way i ≡ Some s →
-    (words : List ℕ) → HasLocked k s.number words → named way found (i + 1) ≡ Some (seek key (node_words_of words).page)
+    (words : List ℕ) → HasLocked k s.number words → named way found (i + 1) ≡ Some (seek key (node_words_of words).subtrie)

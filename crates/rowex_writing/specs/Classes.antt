@@ -1,6 +1,6 @@
 -- Claims of leaf records of one class after the other.
 use Rattle.std.specs.Prelude.{ℕ, ◌<◌, ◌≤◌, List}
-use Rattle.moments.specs.declared.Rec.TheVariants.{Leaf as a_leaf}
+use Rattle.versions.specs.declared.Rec.TheVariants.{Leaf as a_leaf}
 use Rattle.rowex_core.specs.declared.known.Failed.{Failed}
 use Rattle.rowex_records.specs.Claims.{HasMissedSince}
 

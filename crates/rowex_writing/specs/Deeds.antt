@@ -2,15 +2,15 @@
 use Rattle.std.specs.Prelude.{ℕ, ◌+◌, ◌-◌, ◌*◌, ◌≤◌, List, [], ◌∷◌, ◌++◌, map, length, slice_range, Option, Some, None, Result, IfOk, IfErr}
 use Rattle.finite_map.specs.declared.Change.{Change}
 use Rattle.insert_cases.specs.declared.choice.Step.{Step}
-use Rattle.moments.specs.declared.Rec.{Rec}
-use Rattle.moments.specs.declared.Rec.TheVariants.{Node as a_node, Leaf as a_leaf}
+use Rattle.versions.specs.declared.Rec.{Rec}
+use Rattle.versions.specs.declared.Rec.TheVariants.{Node as a_node, Leaf as a_leaf}
 use Rattle.record_words.specs.Entry.{entry_word}
 use Rattle.rowex_core.specs.declared.event.Event.{Event}
 use Rattle.rowex_core.specs.declared.event.Spot.{Spot}
 use Rattle.rowex_core.specs.declared.known.Known.{Known}
 use Rattle.rowex_table.specs.Seats.{TableView, SeatView}
 use Rattle.rowex_writing.specs.Building.{HasNotMade}
-use Rattle.rowex_writing.specs.Changes.{IsDeedChange, IsFull, MayEnd}
+use Rattle.rowex_writing.specs.Changes.{IsDeedChange, IsFull, MayPublishOnceReady}
 use Rattle.rowex_writing.specs.Counts.{deed_steps}
 use Rattle.rowex_writing.specs.Going.{WorksOn}
 use Rattle.rowex_writing.specs.Locks.{locks_of}
@@ -28,12 +28,12 @@ leaf_gone None = []
 leaf_gone (Some number) = a_leaf number ∷ []
 
 -- the records that go: the nodes of the span before `low`, and the leaf
-abbrev pub gone_for : List Step → Span → Raised → List Rec
-gone_for way span raised = map (λ (s : Step). a_node s.number) (slice_range way span.end raised.low) ++ leaf_gone raised.leaf
+abbrev pub gone_of_span : List Step → Span → Raised → List Rec
+gone_of_span way span raised = map (λ (s : Step). a_node s.number) (slice_range way span.end raised.low) ++ leaf_gone raised.leaf
 
 -- the locked nodes that stay: the one above the span, and those of the span from `low` on
-abbrev pub kept_for : List Step → Span → Raised → List Step
-kept_for way span raised = slice_range way (span.end - 1) span.end ++ slice_range way raised.low span.len
+abbrev pub kept_of_span : List Step → Span → Raised → List Step
+kept_of_span way span raised = slice_range way (span.end - 1) span.end ++ slice_range way raised.low span.len
 
 -- All nodes of the span go, or all but the lowest. Once the records that the pass has made are ready, it may make this change by a
 -- store of what is raised above the span.
@@ -42,7 +42,7 @@ pub record MayReplace (table : TableView) (a : SeatView) (made : List Rec) (way 
   pub upto : raised.low ≤ span.len
   pub most : span.len ≤ raised.low + 1
   pub leaf : AreInTable table.layout (leaf_gone raised.leaf)
-  pub ends : (spot : Spot) → IsSpotAbove way span.end spot → MayEnd table a made spot (entry_word raised.entry) x was (gone_for way span raised)
+  pub ends : (spot : Spot) → IsSpotAbove way span.end spot → MayPublishOnceReady table a made spot (entry_word raised.entry) x was (gone_of_span way span raised)
   pub few : length made + length (leaf_gone raised.leaf) ≤ 2 * locks_of span
 
 -- the pass has made what the deed asks for, since it knew k

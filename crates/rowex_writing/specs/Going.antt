@@ -2,7 +2,7 @@
 use Rattle.std.specs.Prelude.{◌≡◌, ℕ, List, All}
 use Rattle.compound_node.specs.Nodes.{NodeView, head_of, piece}
 use Rattle.record_words.specs.Node.{HasNodeWords, node_words}
-use Rattle.moments.specs.Trades.{IsOf}
+use Rattle.versions.specs.Trades.{IsOneOf}
 use Rattle.rowex_core.specs.Reading.{node_words_of}
 use Rattle.rowex_core.specs.declared.event.Act.{Act}
 use Rattle.rowex_core.specs.declared.event.Act.TheVariants.{Lock}
@@ -14,14 +14,14 @@ use Rattle.rowex_table.specs.Stays.{KeepsRecall}
 use Rattle.rowex_rights.specs.Loops.{StaysLocked}
 
 -- a step that tries no lock, and after which the pass recalls all that it did before
-abbrev pub IsQuiet : Act → Type 0
-IsQuiet (Lock target found) = ⊥
-IsQuiet act = KeepsRecall act
+abbrev pub TriesNoLock : Act → Type 0
+TriesNoLock (Lock target found) = ⊥
+TriesNoLock act = KeepsRecall act
 
 -- The pass makes steps of which the gate is told, and tries no lock; it recalls all that it did, and has locked what it had locked.
 pub record WorksOn {G : Type 0} (table : TableView) (becomes : G → Event → G → Type 0) (a b : SeatView × G) : Type 0 where
   pub acts : List Act
-  pub plain : All IsQuiet acts
+  pub plain : All TriesNoLock acts
   pub steps : Runs table becomes acts a b
   pub stays : StaysLocked a.0.known b.0.known
 
@@ -32,7 +32,7 @@ pub record ReadsOn {G : Type 0} (table : TableView) (becomes : G → Event → G
 
 -- the pass has locked the node, which has these words
 abbrev pub HasLocked : Known → ℕ → List ℕ → Type 0
-HasLocked k n words = IsOf (record { node = n; words = words }) k.locks
+HasLocked k n words = IsOneOf (record { node = n; words = words }) k.locks
 
 -- it has locked the node
 abbrev pub IsLockedBy : Known → ℕ → Type 0
@@ -42,4 +42,4 @@ IsLockedBy k n = (words : List ℕ) × HasLocked k n words
 pub record IsNodeOf (words : List ℕ) (view : NodeView) : Type 0 where
   pub has : HasNodeWords view
   pub spells : node_words view ≡ words
-  pub shows : node_words_of words ≡ record { fixed = head_of view; page = piece view }
+  pub shows : node_words_of words ≡ record { fixed = head_of view; subtrie = piece view }

@@ -4,7 +4,7 @@ use Rattle.compound_node.specs.declared.entries.Entry.{Entry}
 use Rattle.compound_node.specs.declared.entries.Entry.TheVariants.{Leaf, Node}
 use Rattle.insert_cases.specs.declared.choice.Step.{Step}
 use Rattle.key_bits.specs.declared.TheConstants.{MAX_BYTES}
-use Rattle.moments.specs.declared.Rec.{Rec}
+use Rattle.versions.specs.declared.Rec.{Rec}
 use Rattle.tries.specs.Keys.{Key}
 use Rattle.rowex_core.specs.declared.event.Spot.{Spot}
 use Rattle.rowex_rights.specs.Spots.{IsSpotOf}

@@ -12,7 +12,7 @@ use Rattle.rowex_writing.specs.declared.deeds.Job.{Job}
 abbrev pub IsWithinWay : Job → Type 0
 IsWithinWay job = (job.span.end ≤ job.span.len) × (job.span.len ≤ length job.way.now)
 
--- its way and what that ends at are what a search for its key has found, which loaded the root at moment m
+-- its way and what that ends at are what a search for its key has found, which loaded the root at version m
 abbrev pub IsJobFrom : Layout → Known → ℕ → Job → Type 0
 IsJobFrom layout k m job = IsWayOf layout k m job.key.now job.way.now job.found
 

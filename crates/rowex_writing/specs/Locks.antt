@@ -6,9 +6,9 @@ use Rattle.compound_node.specs.declared.entries.Entry.TheVariants.{Node}
 use Rattle.record_words.specs.declared.layout.Layout.{Layout}
 use Rattle.record_words.specs.declared.state.Tag.TheVariants.{Locked as LockedTag, Obsolete}
 use Rattle.record_words.specs.State.{state_word}
-use Rattle.moments.specs.declared.Pin.{Pin}
-use Rattle.moments.specs.Trades.{IsOf, AreApart}
-use Rattle.rowex_walks.specs.Scan.{IsSeen}
+use Rattle.versions.specs.declared.Pin.{Pin}
+use Rattle.versions.specs.Trades.{IsOneOf, AreApart}
+use Rattle.rowex_walks.specs.Scan.{EntryStoodSince}
 use Rattle.rowex_core.specs.declared.event.Act.{Act}
 use Rattle.rowex_core.specs.declared.event.Act.TheVariants.{LoadRef, Lock}
 use Rattle.rowex_core.specs.declared.event.Event.{Event}
@@ -19,7 +19,7 @@ use Rattle.rowex_core.specs.declared.known.FailedAct.TheVariants.{Lock as a_lock
 use Rattle.rowex_core.specs.declared.known.Known.{Known}
 use Rattle.rowex_core.specs.Events.{target_word}
 use Rattle.rowex_core.specs.Having.{LocksJust}
-use Rattle.rowex_core.specs.Knowing.{IsSince}
+use Rattle.rowex_core.specs.Knowing.{IsPinnedSince}
 use Rattle.rowex_table.specs.Made.{nodes_of}
 use Rattle.rowex_table.specs.Stays.{KeepsRecall}
 use Rattle.rowex_table.specs.Runs.{Runs}
@@ -28,9 +28,9 @@ use Rattle.rowex_rights.specs.Stages.{IsSure}
 use Rattle.rowex_writing.specs.declared.plan.Span.{Span}
 
 -- a step that is no load of the root, and after which the pass recalls all that it did before
-abbrev pub IsPlain : Act → Type 0
-IsPlain (LoadRef Root w) = ⊥
-IsPlain act = KeepsRecall act
+abbrev pub LoadsNoRoot : Act → Type 0
+LoadsNoRoot (LoadRef Root w) = ⊥
+LoadsNoRoot act = KeepsRecall act
 
 -- what these acts try to lock, in order
 abbrev pub targets_of : List Act → List Target
@@ -55,7 +55,7 @@ TriesOnceBy Is table becomes locks a b = (tried : List Target) × (run : TriesBy
 
 -- The steps load no root, and after each the pass recalls all that it did before. It tries these locks,
 abbrev pub Tries : {G : Type 0} → TableView → (G → Event → G → Type 0) → List Target → SeatView × G → SeatView × G → Type 0
-Tries table becomes tried a b = TriesBy IsPlain table becomes tried a b
+Tries table becomes tried a b = TriesBy LoadsNoRoot table becomes tried a b
 
 -- none,
 abbrev pub Works : {G : Type 0} → TableView → (G → Event → G → Type 0) → SeatView × G → SeatView × G → Type 0
@@ -63,7 +63,7 @@ Works table becomes a b = Tries table becomes [] a b
 
 -- or so many, each once.
 abbrev pub TriesOnce : {G : Type 0} → TableView → (G → Event → G → Type 0) → ℕ → SeatView × G → SeatView × G → Type 0
-TriesOnce table becomes locks a b = TriesOnceBy IsPlain table becomes locks a b
+TriesOnce table becomes locks a b = TriesOnceBy LoadsNoRoot table becomes locks a b
 
 -- no node is locked by the pass, and the anchor is not
 abbrev pub HasNoLock : Known → Type 0
@@ -82,7 +82,7 @@ AreNodes layout steps = All (λ (s : Step). s.number < layout.nodes) steps
 
 -- the pass was led to the node of the step, which is one of the table's; and so to each of a way
 abbrev pub IsLedStep : Layout → Known → Step → Type 0
-IsLedStep layout k s = (s.number < layout.nodes) × ((m : ℕ) × (h : ℕ) × IsSince k m × IsSure k (λ past. IsSeen past m (Node s.number h)))
+IsLedStep layout k s = (s.number < layout.nodes) × ((m : ℕ) × (h : ℕ) × IsPinnedSince k m × IsSure k (λ past. EntryStoodSince past m (Node s.number h)))
 
 abbrev pub AreLed : Layout → Known → List Step → Type 0
 AreLed layout k steps = All (IsLedStep layout k) steps
@@ -124,19 +124,19 @@ abbrev pub HasMetLock : Layout → Known → Known → Type 0
 HasMetLock layout k j = HasMetTaken layout k.pass k.steps j.failed
 
 -- from place m on no change of the list is by pass q
-abbrev pub NoneFrom : ℕ → ℕ → List Change → Type 0
-NoneFrom q m changes = (i : ℕ) (d : Change) → m ≤ i → i < length changes → (get_or changes i d).pass ≢ q
+abbrev pub NoChangeFrom : ℕ → ℕ → List Change → Type 0
+NoChangeFrom q m changes = (i : ℕ) (d : Change) → m ≤ i → i < length changes → (get_or changes i d).pass ≢ q
 
 -- since its pin the pass has made no change
 abbrev pub HasMadeNoChange : Known → Type 0
-HasMadeNoChange k = (p : Pin) → k.pin ≡ Some p → NoneFrom k.pass p.moment k.front
+HasMadeNoChange k = (p : Pin) → k.pin ≡ Some p → NoChangeFrom k.pass p.version k.front
 
 -- The parts
 
 -- the pass has locked one node more, in front of the others
 abbrev pub LocksOne : ℕ → Known → Known → Type 0
 LocksOne n k j =
-    ((words : List ℕ) × (j.locks ≡ record { node = n; words = words } ∷ k.locks)) × ¬ (IsOf n (nodes_of k.locks)) × (j.own ≡ k.own) × (j.anchor ≡ k.anchor)
+    ((words : List ℕ) × (j.locks ≡ record { node = n; words = words } ∷ k.locks)) × ¬ (IsOneOf n (nodes_of k.locks)) × (j.own ≡ k.own) × (j.anchor ≡ k.anchor)
 
 -- it has locked the anchor
 abbrev pub LocksAnchor : Known → Known → Type 0
@@ -147,5 +147,5 @@ abbrev pub IsRefusedLock : Layout → Known → Known → Type 0
 IsRefusedLock layout k j = HasMetLock layout k j × (j.locks ≡ k.locks) × (j.anchor ≡ k.anchor) × (j.own ≡ k.own)
 
 -- what it knows of its records, of the anchor, of changes, of its round and of failed steps is the same
-abbrev pub LeavesRest : Known → Known → Type 0
-LeavesRest k j = (j.own ≡ k.own) × (j.anchor ≡ k.anchor) × (j.front ≡ k.front) × (j.round ≡ k.round) × (j.failed ≡ k.failed)
+abbrev pub KnowsSameButLocks : Known → Known → Type 0
+KnowsSameButLocks k j = (j.own ≡ k.own) × (j.anchor ≡ k.anchor) × (j.front ≡ k.front) × (j.round ≡ k.round) × (j.failed ≡ k.failed)

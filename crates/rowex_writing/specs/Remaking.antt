@@ -11,33 +11,33 @@ use Rattle.rowex_writing.specs.declared.remaking.Fork.{Fork}
 use Rattle.rowex_writing.specs.declared.remaking.NewLeaf.{NewLeaf}
 use Rattle.pieces.specs.Piece.{Place, Fork as Branch}
 use Rattle.pieces.specs.Growth.{affected_first, affected_count}
-use Rattle.tries.specs.Affected.{page_grown}
+use Rattle.tries.specs.Affected.{subtrie_grown}
 use Rattle.tries.specs.Keys.{Key}
-use Rattle.tries.specs.Place.{spot, with_page}
-use Rattle.tries.specs.Tree.{Page, Tree, page, IsTrie, IsBuilt}
+use Rattle.tries.specs.Place.{spot, with_subtrie}
+use Rattle.tries.specs.Tree.{Subtrie, Tree, subtrie, IsTrie, IsBuilt}
 
--- some tree that is a bit trie of lawful nodes begins with this page
-abbrev pub IsTreePage : Page → Type 0
-IsTreePage shown = (t : Tree) × (page t ≡ shown) × IsTrie t × IsBuilt t
+-- some tree that is a bit trie of lawful nodes begins with this subtrie
+abbrev pub IsSubtrieOfTree : Subtrie → Type 0
+IsSubtrieOfTree shown = (t : Tree) × (subtrie t ≡ shown) × IsTrie t × IsBuilt t
 
--- an insertion of the key at the position affects the entries from first to last of the page
-pub record AffectsJust (key : Key) (position first last : ℕ) (shown : Page) : Type 0 where
+-- an insertion of the key at the position affects the entries from first to last of the subtrie
+pub record AffectsJust (key : Key) (position first last : ℕ) (shown : Subtrie) : Type 0 where
   pub from : affected_first position (spot key shown) shown ≡ first
   pub upto : affected_count position (spot key shown) shown + first ≡ last + 1
 
--- the page with the new leaf
-abbrev pub page_with : NewLeaf → Page → Page
-page_with new shown = page_grown new.position new.key.now (Leaf new.number) shown
+-- the subtrie with the new leaf
+abbrev pub subtrie_with_leaf : NewLeaf → Subtrie → Subtrie
+subtrie_with_leaf new shown = subtrie_grown new.position new.key.now (Leaf new.number) shown
 
--- the words spell this node, which an insertion affects at the leaf's place, and a tree begins with its page with the leaf
+-- the words spell this node, which an insertion affects at the leaf's place, and a tree begins with its subtrie with the leaf
 pub record AwaitsLeaf (words : List ℕ) (node : NodeView) (new : NewLeaf) : Type 0 where
   pub is : IsNodeOf words node
   pub affects : AffectsJust new.key.now new.position new.first new.last (piece node)
-  pub tree : IsTreePage (page_with new (piece node))
+  pub tree : IsSubtrieOfTree (subtrie_with_leaf new (piece node))
 
--- the page with the fork in the place of the entry of its key's search
-abbrev pub page_forking : Fork → Page → Page
-page_forking fork shown = with_page fork.key.now (Branch fork.position (Place fork.zero) (Place fork.one)) shown
+-- the subtrie with the fork in the place of the entry of its key's search
+abbrev pub subtrie_with_fork : Fork → Subtrie → Subtrie
+subtrie_with_fork fork shown = with_subtrie fork.key.now (Branch fork.position (Place fork.zero) (Place fork.one)) shown
 
 -- a half of a cut is no higher than this; the node that stays whole is left out
 abbrev pub IsLowHalf : ℕ → Half → Type 0

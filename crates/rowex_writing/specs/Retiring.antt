@@ -2,11 +2,11 @@
 use Rattle.std.specs.Prelude.{◌≡◌, ℕ, Bool, true, false, List, All, Option, None, IsSome}
 use Rattle.finite_map.specs.declared.Change.{Change}
 use Rattle.record_words.specs.declared.layout.Layout.{Layout}
-use Rattle.moments.specs.declared.Rec.{Rec}
-use Rattle.moments.specs.Trades.{AreApart}
+use Rattle.versions.specs.declared.Rec.{Rec}
+use Rattle.versions.specs.Trades.{AreApart}
 use Rattle.rowex_core.specs.declared.known.Known.{Known}
 use Rattle.rowex_core.specs.Cores.{HasRecord}
-use Rattle.rowex_core.specs.Having.{OwnsJust, IsDue}
+use Rattle.rowex_core.specs.Having.{OwnsJust, IsUnlinkedBefore}
 use Rattle.rowex_table.specs.Publishes.{HasPublished}
 
 -- the records are the table's
@@ -20,7 +20,7 @@ HasJustPublished j gone kept = (k : Known) × (x : Change) × (was : Option ℕ)
 
 -- Just these records are the pass's own, each listed once and unlinked before its last load of the epoch, which found this one.
 pub record HasToMark (k : Known) (epoch : ℕ) (recs : List Rec) : Type 0 where
-  pub own : OwnsJust k.own (IsDue k.round.moment) recs
+  pub own : OwnsJust k.own (IsUnlinkedBefore k.round.version) recs
   pub apart : AreApart recs
   pub epoch_is : epoch ≡ k.round.epoch
 

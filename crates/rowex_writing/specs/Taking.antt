@@ -4,7 +4,7 @@ use Rattle.compound_node.specs.declared.entries.Entry.TheVariants.{Leaf as LeafE
 use Rattle.insert_cases.specs.declared.choice.Step.{Step}
 use Rattle.tries.specs.Keys.{Key}
 use Rattle.rowex_core.specs.declared.known.Known.{Known}
-use Rattle.rowex_core.specs.Knowing.{IsSince}
+use Rattle.rowex_core.specs.Knowing.{IsPinnedSince}
 use Rattle.rowex_table.specs.Seats.{TableView, SeatView, IsSeatOf}
 use Rattle.rowex_reading.specs.Possible.{IsPossible}
 use Rattle.rowex_reading.specs.Seen.{Sure}
@@ -13,9 +13,9 @@ use Rattle.rowex_writing.specs.Changes.{HasTakenSpan}
 use Rattle.rowex_reading.specs.declared.descent.Found.TheVariants.{Leaf}
 use Rattle.rowex_writing.specs.declared.plan.Span.{Span}
 
--- the pass has read the leaf since a moment to which its pin goes back: it has the key, and this value
+-- the pass has read the leaf since a version to which its pin goes back: it has the key, and this value
 abbrev pub HasReadLeaf : Known → (number : ℕ) (key : Key) (value : ℕ) → Type 0
-HasReadLeaf k number key value = (m : ℕ) × IsSince k m × Sure k (λ past. IsRead past m number key value)
+HasReadLeaf k number key value = (m : ℕ) × IsPinnedSince k m × Sure k (λ past. IsRead past m number key value)
 
 -- The leaf is all of the tree. The pass has locked the anchor, and has nothing else.
 pub record HasOnlyLeaf (table : TableView) (a : SeatView) (number : ℕ) (key : Key) (value : ℕ) : Type 0 where

@@ -1,8 +1,8 @@
 -- The walk of a change over the records of a kind, which its claims go on with one after the other.
 use Rattle.std.specs.Prelude.{◌≡◌, ◌⊎◌, ℕ, ◌+◌, ◌*◌, ◌<◌, ◌≤◌, List, length, Contains, MatchOption, Option, Some, None}
 use Rattle.record_words.specs.declared.layout.Layout.{Layout}
-use Rattle.moments.specs.declared.Rec.{Rec}
-use Rattle.moments.specs.declared.Rec.TheVariants.{Node as a_node}
+use Rattle.versions.specs.declared.Rec.{Rec}
+use Rattle.versions.specs.declared.Rec.TheVariants.{Node as a_node}
 use Rattle.rowex_core.specs.declared.known.Known.{Known}
 use Rattle.rowex_records.specs.Claims.{AllMissed, HasMissedSince, begin_of, wrapped}
 use Rattle.rowex_writing.specs.declared.building.Build.{Build}

@@ -5,17 +5,17 @@ ghost use Rattle.insert_cases.specs.declared.choice.Step.{Step as StepView};
 ghost use Rattle.record_words.specs.Node.{CanTakeLeaf, HasNodeWords, node_words};
 ghost use Rattle.record_words.specs.Reading.{IsSpelling};
 ghost use Rattle.rowex_table.specs.Made.{Made};
-ghost use Rattle.rowex_rights.specs.Rises.{of_view, IsSide};
-ghost use Rattle.rowex_writing.specs.Building.{IsBuilding, IsGrowingBy, IsGrownFrom, IsHalfMade, IsLevelRisen, IsLowRisen, IsMadeFrom, IsNextTo, IsRaising, IsRisenAt, Rises, GetsFork, GetsLeaf, FitsAbove, HasNotMade, HasRisenTo, gone_unless, gone_with};
+ghost use Rattle.rowex_rights.specs.Rises.{made_of_node, IsSide};
+ghost use Rattle.rowex_writing.specs.Building.{IsBuilding, IsGrowingBy, IsGrownFrom, IsHalfMade, IsLevelRisen, IsLowRisen, IsMadeFrom, IsNextTo, IsRaising, IsRisenAt, Rises, GetsFork, GetsLeaf, FitsAbove, HasNotMade, HasRisenTo, gone_unless_whole, gone_with_way};
 ghost use Rattle.rowex_writing.specs.Going.{WorksOn, HasLocked, IsLockedBy};
 ghost use Rattle.rowex_writing.specs.Locks.{locks_of};
-ghost use Rattle.rowex_writing.specs.Remaking.{AwaitsLeaf, page_with};
+ghost use Rattle.rowex_writing.specs.Remaking.{AwaitsLeaf, subtrie_with_leaf};
 ghost use Rattle.compound_node.specs.Nodes.{IsBuiltFrom, NodeView, height_of, piece};
 ghost use Rattle.insert_cases.specs.Grown.{keeps_node, is_same as is_the_same};
 ghost use Rattle.pieces.specs.Piece.{Place as At};
-ghost use Rattle.tries.specs.Place.{page_without};
-ghost use Rattle.insert_cases.specs.Risen.{page_of};
-ghost use Rattle.moments.specs.declared.Rec.TheVariants.{Node as a_node};
+ghost use Rattle.tries.specs.Place.{subtrie_without};
+ghost use Rattle.insert_cases.specs.Risen.{subtrie_of};
+ghost use Rattle.versions.specs.declared.Rec.TheVariants.{Node as a_node};
 ghost use Rattle.rowex_core.specs.Reading.{node_words_of};
 ghost use Rattle.rowex_walks.specs.Rise.{entry};
 ghost use Rattle.rowex_writing.specs.Counts.{level_steps, node_steps};
@@ -71,7 +71,7 @@ pub(crate) fn make_node<G: Gate>(
     ensures made { (news : List Made) → IsBuilding table.now seat.old build.old.made.items news → MatchOption result
         (HasNotMade table.now seat.new build.new.made.items)
         (λ e. (number : ℕ) × (e ≡ Entry.Node number node.now.height) × HasNodeWords node.now ×
-        IsBuilding table.now seat.new build.new.made.items (of_view number node.now ∷ news)) }
+        IsBuilding table.now seat.new build.new.made.items (made_of_node number node.now ∷ news)) }
     ensures more { length build.new.made.items ≤ length build.old.made.items + 1 }
     ensures walk { WalksOn table.now.layout seat.old.known build.old seat.new.known build.new result }
     ensures few { Spends node_steps seat.old.known build.old seat.new.known build.new result }
@@ -94,7 +94,7 @@ fn make_words<G: Gate>(
     ensures goes { WorksOn table.now G.becomes (seat.old, gate.old) (seat.new, gate.new) }
     ensures made { (news : List Made) (node : NodeView) → HasNodeWords node → node_words node ≡ words.now → IsBuilding table.now seat.old build.old.made.items news →
         MatchOption result (HasNotMade table.now seat.new build.new.made.items)
-        (λ e. (number : ℕ) × (e ≡ Entry.Node number node.height) × IsBuilding table.now seat.new build.new.made.items (of_view number node ∷ news)) }
+        (λ e. (number : ℕ) × (e ≡ Entry.Node number node.height) × IsBuilding table.now seat.new build.new.made.items (made_of_node number node ∷ news)) }
     ensures more { length build.new.made.items ≤ length build.old.made.items + 1 }
     ensures walk { WalksOn table.now.layout seat.old.known build.old seat.new.known build.new result }
     ensures few { Spends node_steps seat.old.known build.old seat.new.known build.new result }
@@ -134,8 +134,8 @@ fn make_low<G: Gate>(
     ensures goes { WorksOn table.now G.becomes (seat.old, gate.old) (seat.new, gate.new) }
     ensures made { (news : List Made) (node : NodeView) → AwaitsLeaf words.old node new.now → CanTakeLeaf node → IsBuilding table.now seat.old build.old.made.items news →
         MatchOption result (HasNotMade table.now seat.new build.new.made.items)
-        (λ e. (after : NodeView) × IsBuiltFrom after (page_with new.now (piece node)) × (number : ℕ) × (e ≡ Entry.Node number after.height) × HasNodeWords after ×
-        IsBuilding table.now seat.new build.new.made.items (of_view number after ∷ news)) }
+        (λ e. (after : NodeView) × IsBuiltFrom after (subtrie_with_leaf new.now (piece node)) × (number : ℕ) × (e ≡ Entry.Node number after.height) × HasNodeWords after ×
+        IsBuilding table.now seat.new build.new.made.items (made_of_node number after ∷ news)) }
     ensures more { length build.new.made.items ≤ length build.old.made.items + 1 }
     ensures walk { WalksOn table.now.layout seat.old.known build.old seat.new.known build.new result }
     ensures few { Spends node_steps seat.old.known build.old seat.new.known build.new result }
@@ -225,7 +225,7 @@ fn raise_level<G: Gate>(
         (HasNotMade table.now seat.new build.new.made.items)
         (λ risen. (after : List Made) ×
         IsRaising table.now seat.new build.new.made.items after (a_node number ∷ b.here.gone)
-        b.here.since b.here.item b.here.mismatch b.here.like entry number (page_of risen)) }
+        b.here.since b.here.item b.here.mismatch b.here.like entry number (subtrie_of risen)) }
     ensures level { (words : List ℕ) → HasLocked seat.old.known number words → IfSome result (IsLevelRisen words) }
     ensures more { length build.new.made.items ≤ length build.old.made.items + 2 }
     ensures walk { WalksOn table.now.layout seat.old.known build.old seat.new.known build.new result }
@@ -254,7 +254,7 @@ fn make_by_value<G: Gate>(
     ensures made { (news : List Made) (node : NodeView) → AwaitsLeaf words.now node new.now → IsBuilding table.now seat.old build.old.made.items news → MatchOption result
         (HasNotMade table.now seat.new build.new.made.items)
         (λ r. (after : List Made) ×
-        IsGrownFrom (Entry.Node number node.height) node (page_with new.now (piece node)) new.now.position r.0 r.1 news after ×
+        IsGrownFrom (Entry.Node number node.height) node (subtrie_with_leaf new.now (piece node)) new.now.position r.0 r.1 news after ×
         IsBuilding table.now seat.new build.new.made.items after) }
     ensures more { length build.new.made.items ≤ length build.old.made.items + 2 }
     ensures walk { WalksOn table.now.layout seat.old.known build.old seat.new.known build.new result }
@@ -291,7 +291,7 @@ fn make_grown<G: Gate>(
     ensures made { (news : List Made) (node : NodeView) → AwaitsLeaf words.old node new.now → IsBuilding table.now seat.old build.old.made.items news → MatchOption result
         (HasNotMade table.now seat.new build.new.made.items)
         (λ r. (after : List Made) ×
-        IsGrownFrom (Entry.Node number node.height) node (page_with new.now (piece node)) new.now.position r.0 r.1 news after ×
+        IsGrownFrom (Entry.Node number node.height) node (subtrie_with_leaf new.now (piece node)) new.now.position r.0 r.1 news after ×
         IsBuilding table.now seat.new build.new.made.items after) }
     ensures more { length build.new.made.items ≤ length build.old.made.items + 2 }
     ensures walk { WalksOn table.now.layout seat.old.known build.old seat.new.known build.new result }
@@ -320,7 +320,7 @@ fn raise_lowest<G: Gate>(
     ensures made { (b : GetsLeaf table.now seat.old build.old.made.items number new.now) → MatchOption result
         (HasNotMade table.now seat.new build.new.made.items)
         (λ r. (after : List Made) ×
-        IsRaising table.now seat.new build.new.made.items after (gone_unless r.1 number) b.since b.item new.now.position b.like entry number (page_of r.0)) }
+        IsRaising table.now seat.new build.new.made.items after (gone_unless_whole r.1 number) b.since b.item new.now.position b.like entry number (subtrie_of r.0)) }
     ensures level { (words : List ℕ) → HasLocked seat.old.known number words → IfSome result (λ r. IsLevelRisen words r.0) }
     ensures more { length build.new.made.items ≤ length build.old.made.items + 2 }
     ensures walk { WalksOn table.now.layout seat.old.known build.old seat.new.known build.new result }
@@ -408,7 +408,7 @@ fn raise_on<G: Gate>(
     ensures made { (b : Rises table.now seat.old build.old.made.items way.now rise.now) → MatchOption result
         (HasNotMade table.now seat.new build.new.made.items)
         (HasRisenTo table.now seat.new build.new.made.items way.now b.here.since b.here.item b.here.mismatch b.here.like rise.now.end
-        (gone_with way.now rise.now.end rise.now.level b.here.gone)) }
+        (gone_with_way way.now rise.now.end rise.now.level b.here.gone)) }
     ensures low { (s : StepView) (words : List ℕ) → slice_get way.now rise.now.end ≡ Some s → HasLocked seat.old.known s.number words → IfSome result (FitsAbove words) }
     ensures more { length build.new.made.items ≤ length build.old.made.items + 2 * (rise.now.level - rise.now.end) + 1 }
     ensures walk { WalksOn table.now.layout seat.old.known build.old seat.new.known build.new result }
@@ -463,7 +463,7 @@ pub(crate) fn raise_grown<G: Gate>(
     ensures made { (b : IsGrowingBy table.now seat.old build.old.made.items job.now.way.now job.now.span new.now) → MatchOption result
         (HasNotMade table.now seat.new build.new.made.items)
         (λ r. HasRisenTo table.now seat.new build.new.made.items job.now.way.now b.lowest.since b.lowest.item new.now.position b.lowest.like job.now.span.end
-        (gone_with job.now.way.now job.now.span.end (job.now.span.len - 1) (gone_unless r.1 b.step.number)) r.0) }
+        (gone_with_way job.now.way.now job.now.span.end (job.now.span.len - 1) (gone_unless_whole r.1 b.step.number)) r.0) }
     ensures low { (s : StepView) (words : List ℕ) → slice_get job.now.way.now job.now.span.end ≡ Some s → HasLocked seat.old.known s.number words →
         IfSome result (λ r. FitsAbove words r.0) }
     ensures more { length build.new.made.items ≤ length build.old.made.items + 2 * (job.now.span.len - 1 - job.now.span.end) + 3 }
@@ -501,7 +501,7 @@ pub(crate) fn raise_without<G: Gate>(
     ensures goes { WorksOn table.now G.becomes (seat.old, gate.old) (seat.new, gate.new) }
     ensures made { (words : List ℕ) → HasLocked seat.old.known number words → MatchOption result
         (HasNotMade table.now seat.new build.new.made.items)
-        (λ e. (news : List Made) × IsSide (page_without key.now (node_words_of words).page) e news × IsBuilding table.now seat.new build.new.made.items news) }
+        (λ e. (news : List Made) × IsSide (subtrie_without key.now (node_words_of words).subtrie) e news × IsBuilding table.now seat.new build.new.made.items news) }
     ensures low { (words : List ℕ) → HasLocked seat.old.known number words → IfSome result (λ e. height_of e ≤ (node_words_of words).fixed.height) }
     ensures more { length build.new.made.items ≤ length build.old.made.items + 1 }
     ensures walk { WalksOn table.now.layout seat.old.known build.old seat.new.known build.new result }

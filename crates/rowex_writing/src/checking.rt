@@ -123,7 +123,7 @@ fn entry_stands<G: Gate>(
     requires locked { IsLockedBy seat.old.known step.number }
     ensures reads { ReadsOn table.now G.becomes (seat.old, gate.old) (seat.new, gate.new) }
     ensures possible { IsPossible table.now.layout seat.new.known }
-    ensures same { result ≡ true → (words : List ℕ) → HasLocked seat.old.known step.number words → entry ≡ Some (entry_at (node_words_of words).page step.at) }
+    ensures same { result ≡ true → (words : List ℕ) → HasLocked seat.old.known step.number words → entry ≡ Some (entry_at (node_words_of words).subtrie step.at) }
     ensures changed { (m h : ℕ) (e : EntryValue) → HasPlace seat.old.known m step.number h step.at → entry ≡ Some e →
         Sure seat.old.known (λ past. IsPlaced past m step.number step.at e) → result ≡ false → m < length seat.new.known.front }
     ensures few { seat.new.known.steps ≤ seat.old.known.steps + 1 }

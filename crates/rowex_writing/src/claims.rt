@@ -3,7 +3,7 @@
 ghost use Rattle.std.specs.Prelude.{◌≡◌, ◌<◌, ◌≤◌, ◌+◌, ◌-◌, ◌*◌, MatchOption};
 ghost use Rattle.record_words.specs.Layout.{leaf_size};
 ghost use Rattle.record_words.specs.declared.TheConstants.{LEAF_WORDS};
-ghost use Rattle.moments.specs.declared.Rec.TheVariants.{Leaf as a_leaf};
+ghost use Rattle.versions.specs.declared.Rec.TheVariants.{Leaf as a_leaf};
 ghost use Rattle.rowex_table.specs.Seats.{IsSeatOf};
 ghost use Rattle.rowex_records.specs.Claims.{AllMissed, AllMissedFrom, HoldsOneMore, IsKindOf, count_of, record_of};
 ghost use Rattle.rowex_writing.specs.Classes.{AllMissedBetween};

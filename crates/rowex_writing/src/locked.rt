@@ -2,7 +2,7 @@
 
 ghost use Rattle.std.specs.Prelude.{◌≡◌, ◌<◌, ℕ, List, get_or, replicate, ◌≤◌, ◌+◌};
 ghost use Rattle.compound_node.specs.Nodes.{NodeView};
-ghost use Rattle.moments.specs.declared.Rec.TheVariants.{Node as a_node};
+ghost use Rattle.versions.specs.declared.Rec.TheVariants.{Node as a_node};
 ghost use Rattle.rowex_table.specs.Rule.{IsStartOf};
 ghost use Rattle.rowex_table.specs.Seats.{IsSeatOf};
 ghost use Rattle.rowex_writing.specs.Going.{ReadsOn, HasLocked, IsLockedBy, IsNodeOf};

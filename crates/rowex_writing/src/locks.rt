@@ -1,10 +1,10 @@
 //! The locks of a writer: those of a span of the way, taken upwards, and given back.
 
 ghost use Rattle.std.specs.Prelude.{◌≡◌, ◌<◌, ◌≤◌, ℕ, [], ◌∷◌, length, true, false, None, ◌+◌, ◌*◌};
-ghost use Rattle.moments.specs.Trades.{AreApart, IsOf};
+ghost use Rattle.versions.specs.Trades.{AreApart, IsOneOf};
 ghost use Rattle.rowex_table.specs.Made.{nodes_of};
 ghost use Rattle.rowex_table.specs.Seats.{IsSeatOf};
-ghost use Rattle.rowex_writing.specs.Locks.{AreLed, AreNodes, HasJustLocked, HasLockedSpan, HasMadeNoChange, HasMetLock, HasNoLock, IsRefusedLock, LeavesRest, LocksAnchor, LocksOne, Tries, TriesOnce, Works, locks_of, numbers_of};
+ghost use Rattle.rowex_writing.specs.Locks.{AreLed, AreNodes, HasJustLocked, HasLockedSpan, HasMadeNoChange, HasMetLock, HasNoLock, IsRefusedLock, KnowsSameButLocks, LocksAnchor, LocksOne, Tries, TriesOnce, Works, locks_of, numbers_of};
 
 use crate::plan::Span;
 use insert_cases::Step;
@@ -60,7 +60,7 @@ pub(crate) fn lock_span<G: Gate>(
 fn lock_node<G: Gate>(table: &HotTable, seat: &mut TableSeat, gate: &mut G, step: Step) -> bool
     requires own { IsSeatOf table.now seat.old }
     requires led { AreLed table.now.layout seat.old.known (step ∷ []) }
-    requires free { ¬ (IsOf step.number (nodes_of seat.old.known.locks)) }
+    requires free { ¬ (IsOneOf step.number (nodes_of seat.old.known.locks)) }
     requires none { seat.old.known.own ≡ [] }
     requires quiet { HasMadeNoChange seat.old.known }
     ensures tries { Tries table.now G.becomes (Target.Node step.number ∷ []) (seat.old, gate.old) (seat.new, gate.new) }
@@ -97,7 +97,7 @@ pub(crate) fn unlock_nodes<G: Gate>(
     requires locked { HasJustLocked seat.old.known (numbers_of steps.now) }
     ensures works { Works table.now G.becomes (seat.old, gate.old) (seat.new, gate.new) }
     ensures free { seat.new.known.locks ≡ [] }
-    ensures rest { LeavesRest seat.old.known seat.new.known }
+    ensures rest { KnowsSameButLocks seat.old.known seat.new.known }
     ensures few { seat.new.known.steps ≤ seat.old.known.steps + length steps.now }
 {
     for index in 0..steps.len() {

@@ -6,13 +6,13 @@ ghost use Rattle.insert_cases.specs.declared.choice.Step.{Step as StepView};
 ghost use Rattle.key_bits.specs.Key.{IsKey};
 ghost use Rattle.record_words.specs.Entry.{HasEntryWord, entry_word};
 ghost use Rattle.record_words.specs.Leaf.{HasLeafWords, words_for};
-ghost use Rattle.moments.specs.declared.Rec.TheVariants.{Node as a_node};
+ghost use Rattle.versions.specs.declared.Rec.TheVariants.{Node as a_node};
 ghost use Rattle.rowex_core.specs.Reading.{entry_of};
 ghost use Rattle.rowex_table.specs.Made.{Made};
 ghost use Rattle.rowex_table.specs.Seats.{IsSeatOf};
 ghost use Rattle.rowex_reading.specs.Possible.{IsPossible};
 ghost use Rattle.rowex_records.specs.Claims.{AllMissedFrom};
-ghost use Rattle.rowex_rights.specs.Rises.{of_leaf};
+ghost use Rattle.rowex_rights.specs.Rises.{made_of_leaf};
 ghost use Rattle.rowex_rights.specs.Stages.{HasReady};
 ghost use Rattle.tries.specs.Content.{item};
 ghost use Rattle.rowex_writing.specs.Building.{IsBuilding};
@@ -56,7 +56,7 @@ pub(crate) fn make_leaf<G: Gate>(
     ensures leaf { HasLeafWords (key.now, value) }
     ensures made { MatchOption result
         (IsBuilding table.now seat.new build.new.made.items [] × AllMissedFrom table.now.layout (words_for (length key.now)) seat.new.known.failed seat.old.known.steps)
-        (λ n. IsBuilding table.now seat.new build.new.made.items (of_leaf (item n key.now value) ∷ [])) }
+        (λ n. IsBuilding table.now seat.new build.new.made.items (made_of_leaf (item n key.now value) ∷ [])) }
     ensures few { seat.new.known.steps ≤ seat.old.known.steps + leaf_steps table.now.layout }
 {
     build.made.clear();

@@ -4,10 +4,10 @@ ghost use Rattle.std.specs.Prelude.{◌≡◌, ◌↔◌, ◌<◌, ◌≤◌, Is
 ghost use Rattle.pieces.specs.Changes.{AtRootFork};
 ghost use Rattle.pieces.specs.Piece.{Place as At};
 ghost use Rattle.compound_node.specs.Nodes.{piece, height_of, IsBuiltFrom};
-ghost use Rattle.tries.specs.Affected.{page_forked};
+ghost use Rattle.tries.specs.Affected.{subtrie_forked};
 ghost use Rattle.tries.specs.Keys.{bit};
 ghost use Rattle.insert_cases.specs.Grown.{GrownShows, is_whole, keeps_node};
-ghost use Rattle.rowex_writing.specs.Remaking.{IsTreePage, AffectsJust, IsNoHigher, page_forking, page_with};
+ghost use Rattle.rowex_writing.specs.Remaking.{IsSubtrieOfTree, AffectsJust, IsNoHigher, subtrie_with_fork, subtrie_with_leaf};
 
 use compound_node::{Entry, Node};
 use insert_cases::{Grown, grow_full, pull_up};
@@ -28,8 +28,8 @@ pub(crate) struct NewLeaf<'a> {
 pub(crate) fn add_leaf(node: &mut Node, new: &NewLeaf<'_>)
     requires room { length node.old.entries < 32 }
     requires affects { AffectsJust new.now.key.now new.now.position new.now.first new.now.last (piece node.old) }
-    requires tree { IsTreePage (page_with new.now (piece node.old)) }
-    ensures shows { IsBuiltFrom node.new (page_with new.now (piece node.old)) }
+    requires tree { IsSubtrieOfTree (subtrie_with_leaf new.now (piece node.old)) }
+    ensures shows { IsBuiltFrom node.new (subtrie_with_leaf new.now (piece node.old)) }
     ensures low { node.new.height ≤ node.old.height }
 {
     prove!(node.count() < 32);
@@ -48,8 +48,8 @@ pub(crate) fn add_leaf(node: &mut Node, new: &NewLeaf<'_>)
 pub(crate) fn full_with_leaf(node: &Node, new: &NewLeaf<'_>) -> Grown
     requires full { length node.now.entries ≡ 32 }
     requires affects { AffectsJust new.now.key.now new.now.position new.now.first new.now.last (piece node.now) }
-    requires tree { IsTreePage (page_with new.now (piece node.now)) }
-    ensures shows { GrownShows node.now result (page_with new.now (piece node.now)) }
+    requires tree { IsSubtrieOfTree (subtrie_with_leaf new.now (piece node.now)) }
+    ensures shows { GrownShows node.now result (subtrie_with_leaf new.now (piece node.now)) }
     ensures whole { is_whole result ≡ false }
     ensures same { IsTrue (keeps_node result) ↔ AtRootFork (λ p zero one. new.now.position < p) (piece node.now) }
     ensures low { IsNoHigher node.now.height result }
@@ -77,10 +77,10 @@ pub(crate) struct Fork<'a> {
 
 /// The node with the fork. A full node gives the two sides of its first fork.
 pub(crate) fn with_fork(node: &Node, fork: &Fork<'_>) -> Grown
-    requires tree { IsTreePage (page_forking fork.now (piece node.now)) }
+    requires tree { IsSubtrieOfTree (subtrie_with_fork fork.now (piece node.now)) }
     requires zero { height_of fork.now.zero < node.now.height }
     requires one { height_of fork.now.one < node.now.height }
-    ensures shows { GrownShows node.now result (page_forking fork.now (piece node.now)) }
+    ensures shows { GrownShows node.now result (subtrie_with_fork fork.now (piece node.now)) }
     ensures whole { IsTrue (is_whole result) ↔ (length node.now.entries < 32) }
     ensures same { keeps_node result ≡ false }
     ensures low { IsNoHigher node.now.height result }
@@ -92,8 +92,8 @@ pub(crate) fn with_fork(node: &Node, fork: &Fork<'_>) -> Grown
 
 /// A node of an entry and a new leaf for the key, with a fork at the position.
 pub(crate) fn pair_with_leaf(key: &Key, position: u16, old: Entry, leaf: u32) -> Node
-    requires { IsTreePage (page_forked (bit key.now position) position (Entry.Leaf leaf) (At old)) }
-    ensures { IsBuiltFrom result (page_forked (bit key.now position) position (Entry.Leaf leaf) (At old)) }
+    requires { IsSubtrieOfTree (subtrie_forked (bit key.now position) position (Entry.Leaf leaf) (At old)) }
+    ensures { IsBuiltFrom result (subtrie_forked (bit key.now position) position (Entry.Leaf leaf) (At old)) }
 {
     let new = Entry::Leaf(leaf);
     if key.bit(position) {

@@ -1,8 +1,8 @@
 //! Claims of node records: those of one change share one walk over all of them.
 
 ghost use Rattle.std.specs.Prelude.{◌≡◌, ◌<◌, ◌≤◌, ◌+◌, ◌*◌, ◌++◌, ◌∷◌, [], List, ℕ, Contains, MatchOption, length};
-ghost use Rattle.moments.specs.declared.Rec.{Rec as Record};
-ghost use Rattle.moments.specs.declared.Rec.TheVariants.{Node as a_node};
+ghost use Rattle.versions.specs.declared.Rec.{Rec as Record};
+ghost use Rattle.versions.specs.declared.Rec.TheVariants.{Node as a_node};
 ghost use Rattle.rowex_table.specs.Made.{Made};
 ghost use Rattle.rowex_table.specs.Seats.{IsSeatOf};
 ghost use Rattle.rowex_records.specs.Claims.{AllMissed, HasMissedSince, HoldsOneMore};

@@ -7,7 +7,7 @@ use Rattle.finite_map.specs.declared.Change.{Change}
 use Rattle.finite_map.specs.declared.Kind.TheVariants.{Added}
 use Rattle.finite_map.specs.Fronts.{OthersGoOn}
 use Rattle.record_words.specs.declared.layout.Layout.{Layout}
-use Rattle.moments.specs.declared.Pin.{Pin}
+use Rattle.versions.specs.declared.Pin.{Pin}
 use Rattle.rowex_core.specs.declared.event.Act.{Act}
 use Rattle.rowex_core.specs.declared.event.Act.TheVariants.{LoadRef}
 use Rattle.rowex_core.specs.declared.event.Event.{Event}
@@ -16,7 +16,7 @@ use Rattle.rowex_core.specs.declared.event.Target.{Target}
 use Rattle.rowex_core.specs.declared.known.Failed.{Failed}
 use Rattle.rowex_core.specs.declared.known.Fresh.{Fresh}
 use Rattle.rowex_core.specs.declared.known.Known.{Known}
-use Rattle.rowex_core.specs.Knowing.{IsEvent, IsSince, moment_of}
+use Rattle.rowex_core.specs.Knowing.{IsEvent, IsPinnedSince, version_of}
 use Rattle.rowex_table.specs.Runs.{Runs, silent}
 use Rattle.rowex_table.specs.Seats.{SeatView, TableView}
 use Rattle.rowex_table.specs.Stays.{LeavesPin}
@@ -25,53 +25,53 @@ use Rattle.epochs.specs.Runs.{Pins}
 use Rattle.rowex_writing.specs.Attempts.{HasLoadedRoot}
 use Rattle.rowex_writing.specs.Changes.{HasTried}
 use Rattle.rowex_writing.specs.Locks.{HasMadeNoChange, HasMetTaken}
-use Rattle.rowex_writing.proofs.Works.{none_on}
+use Rattle.rowex_writing.proofs.Works.{no_change_from_later}
 use Rattle.seat_calls.specs.Answers.{HasConflict, IsOvertaken}
 use Rattle.seat_calls.specs.Passes.{AreByPasses, PassView, pass_of}
 
 -- ---- the pin of an attempt
 -- a pass that has just set its pin has made no change since
-pub pins_quiet : {G : Type 0} {table : TableView} {becomes : G → Event → G → Type 0} {a b : SeatView × G} → Pins table becomes a b → HasMadeNoChange b.0.known
-pins_quiet {b = b} pins p is i d late low =
+pub no_change_since_pins : {G : Type 0} {table : TableView} {becomes : G → Event → G → Type 0} {a b : SeatView × G} → Pins table becomes a b → HasMadeNoChange b.0.known
+no_change_since_pins {b = b} pins p is i d late low =
     let m = pins.1.steps.0 in
     let n = pins.1.steps.2.0 in
     let e = pins.1.steps.2.1.event in
     let same : b ≡ n = pins.1.steps.2.2 in
-    let then_ : p.moment ≡ e.core.past.now = sym (ap moment_of (sym (ap (λ (z : SeatView × _). z.0.known.pin) same ∙ ap (λ (z : Known). z.pin) e.learned_is) ∙ is)) in
+    let then_ : p.version ≡ e.core.past.now = sym (ap version_of (sym (ap (λ (z : SeatView × _). z.0.known.pin) same ∙ ap (λ (z : Known). z.pin) e.learned_is) ∙ is)) in
     let front : b.0.known.front ≡ m.0.known.front = ap (λ (z : SeatView × _). z.0.known.front) same ∙ ap (λ (z : Known). z.front) e.learned_is in
     let all = e.knows.seen.front in
     let count = length-append m.0.known.front all.0 in
     absurd (omega (arith, late, low, then_, ap length front, ap length all.1, count, e.lawful.core.told.count))
 
--- the moment of the pin is kept with a load of the root
-event_pinned : (layout : Layout) (act : Act) (k j : Known) → IsEvent layout act silent k j → (j.fresh ≡ k.fresh) ⊎ (j.fresh.pinned ≡ moment_of k.pin)
+-- the version of the pin is kept with a load of the root
+event_pinned : (layout : Layout) (act : Act) (k j : Known) → IsEvent layout act silent k j → (j.fresh ≡ k.fresh) ⊎ (j.fresh.pinned ≡ version_of k.pin)
 event_pinned layout (LoadRef Root w) k j e = inr (ap (λ (z : Known). z.fresh.pinned) e.learned_is)
 event_pinned layout (LoadRef (Slot n i) w) k j e = inl (act_fresh layout k j (LoadRef (Slot n i) w) silent e tt)
 event_pinned layout act k j e = inl (act_fresh layout k j act silent e tt)
 
 module _ {G : Type 0} (table : TableView) (becomes : G → Event → G → Type 0) where
-  runs_pinned : (acts : List Act) (a b : SeatView × G) → All LeavesPin acts → Runs table becomes acts a b → (b.0.known.fresh ≡ a.0.known.fresh) ⊎ (b.0.known.fresh.pinned ≡ moment_of a.0.known.pin)
+  runs_pinned : (acts : List Act) (a b : SeatView × G) → All LeavesPin acts → Runs table becomes acts a b → (b.0.known.fresh ≡ a.0.known.fresh) ⊎ (b.0.known.fresh.pinned ≡ version_of a.0.known.pin)
   runs_pinned [] a b leave e = inl (ap (λ (z : SeatView × G). z.0.known.fresh) e)
   runs_pinned (act ∷ acts) a b leave (m, s, more) =
       let pin : m.0.known.pin ≡ a.0.known.pin = (act_leaves table.layout a.0.known m.0.known act s.event).pin (All-head LeavesPin act acts leave) in
       ⊎_elim
       (λ (same : b.0.known.fresh ≡ m.0.known.fresh). ⊎_elim
       (λ (first : m.0.known.fresh ≡ a.0.known.fresh). inl (same ∙ first))
-      (λ (new : m.0.known.fresh.pinned ≡ moment_of a.0.known.pin). inr (ap (λ (z : Fresh). z.pinned) same ∙ new))
+      (λ (new : m.0.known.fresh.pinned ≡ version_of a.0.known.pin). inr (ap (λ (z : Fresh). z.pinned) same ∙ new))
       (event_pinned table.layout act a.0.known m.0.known s.event))
-      (λ (late : b.0.known.fresh.pinned ≡ moment_of m.0.known.pin). inr (late ∙ ap moment_of pin))
+      (λ (late : b.0.known.fresh.pinned ≡ version_of m.0.known.pin). inr (late ∙ ap version_of pin))
       (runs_pinned acts m b (All-tail LeavesPin act acts leave) more)
 
 -- ---- an attempt that was overtaken
 module _ {G : Type 0} {table : TableView} {becomes : G → Event → G → Type 0} {locks : List Target} {a b c : SeatView × G} (pins : Pins table becomes a b) (run : HasTried table becomes locks b c)
     (loaded : HasLoadedRoot b.0.known c.0.known) (before : b.0.known.fresh.step < b.0.known.steps) where
-  under_pin : (p : Pin) → b.0.known.pin ≡ Some p → c.0.known.fresh.pinned ≡ p.moment
+  under_pin : (p : Pin) → b.0.known.pin ≡ Some p → c.0.known.fresh.pinned ≡ p.version
   under_pin p is = ⊎_elim
       (λ (same : c.0.known.fresh ≡ b.0.known.fresh). let step = ap (λ (z : Fresh). z.step) same in let late = loaded.from in absurd (omega (arith, step, late, before)))
-      (λ (new : c.0.known.fresh.pinned ≡ moment_of b.0.known.pin). new ∙ ap moment_of is)
+      (λ (new : c.0.known.fresh.pinned ≡ version_of b.0.known.pin). new ∙ ap version_of is)
       (runs_pinned table becomes run.acts b c run.each run.steps)
 
-  pub overtaken : OthersGoOn b.0.known.pass b.0.known.front c.0.known.front → AreByPasses table.layout c.0.known.front → c.0.known.pass ≡ b.0.known.pass → (m : ℕ) → IsSince b.0.known m → m < length c.0.known.front →
+  pub overtaken : OthersGoOn b.0.known.pass b.0.known.front c.0.known.front → AreByPasses table.layout c.0.known.front → c.0.known.pass ≡ b.0.known.pass → (m : ℕ) → IsPinnedSince b.0.known m → m < length c.0.known.front →
       IsOvertaken table.layout (pass_of b.0) (pass_of c.0)
   overtaken others makers pass m (p, pinned, early) low =
       let d : Change = record { pass = 0; key = []; value = 0; kind = Added } in
@@ -82,13 +82,13 @@ module _ {G : Type 0} {table : TableView} {becomes : G → Event → G → Type 
         place = m;
         is = slice_get-get_or c.0.known.front m d low;
         since = subst (λ z. z ≤ m) (sym (under_pin p pinned)) early;
-        another = subst (λ q. x.pass ≢ q) (sym pass) (none_on b.0.known.pass p.moment b.0.known.front c.0.known.front (pins_quiet pins p pinned) others m d early low);
+        another = subst (λ q. x.pass ≢ q) (sym pass) (no_change_from_later b.0.known.pass p.version b.0.known.front c.0.known.front (no_change_since_pins pins p pinned) others m d early low);
         below = makers m d low;
       }
 
 -- ---- a part of a call, after which the pass had no further failed step, saw no further change and loaded no root
-pub conflict_on : (layout : Layout) (k j h i : PassView) → k.steps ≤ j.steps → i.number ≡ h.number → i.failed ≡ h.failed → i.front ≡ h.front → i.fresh ≡ h.fresh → HasConflict layout j h → HasConflict layout k i
-conflict_on layout k j h i steps number failed front fresh conflict = record {
+pub conflict_from_before : (layout : Layout) (k j h i : PassView) → k.steps ≤ j.steps → i.number ≡ h.number → i.failed ≡ h.failed → i.front ≡ h.front → i.fresh ≡ h.fresh → HasConflict layout j h → HasConflict layout k i
+conflict_from_before layout k j h i steps number failed front fresh conflict = record {
   pass = subst (λ q. q < layout.passes) (sym number) conflict.pass;
   met = ⊎_elim
       (λ (met : HasMetTaken layout h.number j.steps h.failed). inl (record {

@@ -10,9 +10,9 @@ use Rattle.record_words.specs.declared.state.Tag.TheVariants.{Free, Held, Live, 
 use Rattle.record_words.specs.Layout.{word_count}
 use Rattle.record_words.specs.Reading.{IsSpelling}
 use Rattle.record_words.specs.State.{HasStateWord, state_word}
-use Rattle.moments.specs.declared.Rec.{Rec}
-use Rattle.moments.specs.declared.Rec.TheVariants.{Node as a_node, Leaf as a_leaf}
-use Rattle.moments.specs.Core.{Fate, Free as FreeFate, Held as HeldFate, Ready, InTree, Unlinked, Marked}
+use Rattle.versions.specs.declared.Rec.{Rec}
+use Rattle.versions.specs.declared.Rec.TheVariants.{Node as a_node, Leaf as a_leaf}
+use Rattle.versions.specs.Core.{Fate, Free as FreeFate, Held as HeldFate, Ready, InTree, Unlinked, Marked}
 use Rattle.rowex_core.specs.declared.event.Act.{Act}
 use Rattle.rowex_core.specs.declared.event.Act.TheVariants.{LoadState}
 use Rattle.rowex_core.specs.declared.event.Event.{Event}

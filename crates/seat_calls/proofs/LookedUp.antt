@@ -19,7 +19,7 @@ use Rattle.rowex_core.specs.declared.event.Event.{Event}
 use Rattle.rowex_core.specs.declared.event.Spot.TheVariants.{Root, Slot}
 use Rattle.rowex_core.specs.declared.known.Fresh.{Fresh}
 use Rattle.rowex_core.specs.declared.known.Known.{Known}
-use Rattle.rowex_core.specs.Knowing.{IsEvent, moment_of}
+use Rattle.rowex_core.specs.Knowing.{IsEvent, version_of}
 use Rattle.rowex_table.specs.Runs.{Runs, silent}
 use Rattle.rowex_table.specs.Seats.{IsSame, IsSeatOf, SeatView, TableView}
 use Rattle.rowex_table.proofs.Running.{runs_append, runs_same, same_more}
@@ -34,7 +34,7 @@ use Rattle.rowex_reading.proofs.Seeing.{later_trans}
 use Rattle.key_bits.specs.declared.TheConstants.{MAX_BYTES}
 use Rattle.tries.specs.Keys.{Key}
 use Rattle.seat_calls.specs.Answers.{got}
-use Rattle.seat_calls.specs.Many.{AreRight, HasLookedUp, IsLook, LooksOn, gets}
+use Rattle.seat_calls.specs.Many.{AreRight, HasLookedUp, IsLook, GoesOnLooking, gets}
 use Rattle.seat_calls.proofs.Noting.{found_right, longer}
 
 pub begins_more : (a b c : List Change) → BeginsWith c b → BeginsWith b a → BeginsWith c a
@@ -63,7 +63,7 @@ module _ {layout : Layout} (n : ℕ) (k i j : Known) (at : HasLookedAt n k i) wh
 
   look_more : (act : Act) → IsLook act → IsEvent layout act silent i j → HasLookedAt (n + 1) k j
   look_more (LoadRef Root w) look e =
-      let fresh : j.fresh ≡ record { front = e.core.changes; step = i.steps; pinned = moment_of i.pin } = ap (λ (z : Known). z.fresh) e.learned_is in
+      let fresh : j.fresh ≡ record { front = e.core.changes; step = i.steps; pinned = version_of i.pin } = ap (λ (z : Known). z.fresh) e.learned_is in
       let steps : i.steps ≡ k.steps + (1 + n) = ap (λ (z : Known). z.steps) at.sees in
       record {
         sees = sees_one n k i j at (root_sees layout i j w e);
@@ -85,18 +85,18 @@ module _ {G : Type 0} (table : TableView) (becomes : G → Event → G → Type 
       (looks_then acts (n + 1) a run.0 b (All-tail IsLook act acts looks) (look_more n a.0.known x.0.known run.0.0.known at act (All-head IsLook act acts looks) run.1.event) run.2)
 
 module _ {G : Type 0} {table : TableView} {becomes : G → Event → G → Type 0} where
-  pub looked_on : {e n : ℕ} {a b : SeatView × G} → LooksOn table becomes e n a b → HasLookedAt n a.0.known b.0.known
+  pub looked_on : {e n : ℕ} {a b : SeatView × G} → GoesOnLooking table becomes e n a b → HasLookedAt n a.0.known b.0.known
   looked_on {n = n} {a = a} {b = b} x =
       subst (λ m. HasLookedAt m a.0.known b.0.known) (let c = x.count in let e : 0 + length x.loads ≡ n = omega (arith, c) in e)
       (looks_then table becomes x.loads 0 a x.at b x.looks (looked_at (looks_first x.root)) x.rest)
 
-  pub on_same : {e n : ℕ} {a b : SeatView × G} → LooksOn table becomes e n a b → IsSame a.0 b.0
+  pub on_same : {e n : ℕ} {a b : SeatView × G} → GoesOnLooking table becomes e n a b → IsSame a.0 b.0
   on_same {a = a} {b = b} x = same_more a.0 x.at.0 b.0 x.root.1.seat (runs_same table becomes x.loads x.at b x.rest)
 
-  on_first : {a b : SeatView × G} → ReadsRoot table becomes a b → LooksOn table becomes 0 0 a b
+  on_first : {a b : SeatView × G} → ReadsRoot table becomes a b → GoesOnLooking table becomes 0 0 a b
   on_first {b = b} root = record { at = b; root = root; loads = []; looks = All-nil IsLook; count = refl; entries_are = refl; rest = refl }
 
-  on_more : {e n f m : ℕ} {a b c : SeatView × G} → LooksOn table becomes e n a b → Looks table becomes f m b c → LooksOn table becomes (e + f) (n + (1 + m)) a c
+  on_more : {e n f m : ℕ} {a b c : SeatView × G} → GoesOnLooking table becomes e n a b → Looks table becomes f m b c → GoesOnLooking table becomes (e + f) (n + (1 + m)) a c
   on_more {e} {n} {f} {m} {a} {b} {c} x y = record {
     at = x.at;
     root = x.root;
@@ -156,7 +156,7 @@ pub record HasGone {G : Type 0} (table : TableView) (becomes : G → Event → G
   pub loaded : ℕ
   pub low : entries ≤ count * (9 * MAX_BYTES) + MOST_TURNS * gone
   pub few : loaded ≤ 33 * count + gone + 29 * entries
-  pub looks : LooksOn table becomes entries loaded a b
+  pub looks : GoesOnLooking table becomes entries loaded a b
   pub right : AreRight b.0.known.front (length looks.at.0.known.front) calls
 
 module _ {G : Type 0} {table : TableView} {becomes : G → Event → G → Type 0} where

@@ -20,7 +20,7 @@ use Rattle.tries.specs.Keys.{Key}
 use Rattle.tries.specs.Tree.{Tree, Has, IsTrie}
 use Rattle.tries.proofs.Contents.{holds_has}
 use Rattle.tries.proofs.Maps.{holds_value, value_holds}
-use Rattle.moments.specs.Told.{content}
+use Rattle.versions.specs.Told.{content}
 use Rattle.rowex_core.specs.declared.event.Act.{Act}
 use Rattle.rowex_core.specs.declared.event.Act.TheVariants.{ClearPin}
 use Rattle.rowex_core.specs.declared.event.Event.{Event}
@@ -61,16 +61,16 @@ reply_is Absent Absent e = refl
 reply_is (Removed v) (Removed w) e = ap Removed (is_same v w e)
 reply_is _ _ e = absurd (false≢true e)
 
-pub itself : (r : Reply) → same_reply r r ≡ true
-itself Inserted = refl
-itself (Exists v) = eq-eqb v v refl
-itself New = refl
-itself (Was v) = eq-eqb v v refl
-itself Exchanged = refl
-itself (Differs v) = eq-eqb v v refl
-itself (Value v) = eq-eqb v v refl
-itself Absent = refl
-itself (Removed v) = eq-eqb v v refl
+pub same_reply_reflexive : (r : Reply) → same_reply r r ≡ true
+same_reply_reflexive Inserted = refl
+same_reply_reflexive (Exists v) = eq-eqb v v refl
+same_reply_reflexive New = refl
+same_reply_reflexive (Was v) = eq-eqb v v refl
+same_reply_reflexive Exchanged = refl
+same_reply_reflexive (Differs v) = eq-eqb v v refl
+same_reply_reflexive (Value v) = eq-eqb v v refl
+same_reply_reflexive Absent = refl
+same_reply_reflexive (Removed v) = eq-eqb v v refl
 
 -- The place
 
@@ -106,7 +106,7 @@ pub right_place : (k : Known) (call : Call) (reply : Reply) → WasRight k call 
 unfolding place_of
 right_place k call reply (n, lo, hi, e) =
     let test = answers_so k.front call reply in
-    let f = first_is test (since k) (length k.front - since k) n lo (omega arith) (ap (λ r. same_reply r reply) e ∙ itself reply) in
+    let f = first_is test (since k) (length k.front - since k) n lo (omega arith) (ap (λ r. same_reply r reply) e ∙ same_reply_reflexive reply) in
     record { least = f.least; most = let h = f.most in omega arith; right = sym (reply_is _ reply f.passes) }
 
 -- What a search found
@@ -135,7 +135,7 @@ pub found_had : (k : Known) (key : Key) (o : Option ℕ) → HasFound k key o �
 found_had k key None found c lawful recalls =
     let f = found c lawful recalls in
     let told = (seen_told lawful recalls).content_is f.0 f.2 in
-    (f.0, f.1, f.2, ap (λ (z : Map). value_at z key) (sym told) ∙ absent_at (c.past.moment f.0) key f.3)
+    (f.0, f.1, f.2, ap (λ (z : Map). value_at z key) (sym told) ∙ absent_at (c.past.version f.0) key f.3)
 found_had k key (Some v) found c lawful recalls =
     let f = found c lawful recalls in
     let told = (seen_told lawful recalls).content_is f.0 f.3 in
@@ -275,13 +275,13 @@ noted layout call reply s i t settled looks event right quiet = (told, settles s
 
 -- A get
 
-pub get_quiet : (key : Key) (o : Option ℕ) (p : ℕ) → is_change (record { place = p; call = Get key; reply = got o }) ≡ false
-get_quiet key None p = refl
-get_quiet key (Some v) p = refl
+pub get_changes_nothing : (key : Key) (o : Option ℕ) (p : ℕ) → is_change (record { place = p; call = Get key; reply = got o }) ≡ false
+get_changes_nothing key None p = refl
+get_changes_nothing key (Some v) p = refl
 
 module _ {G : Type 0} {table : TableView} {becomes : G → Event → G → Type 0} {a b c d : SeatView × G} (key : Key) (o : Option ℕ) (pins : Pins table becomes a b) (search : HasSearched table becomes b c)
     (end : StepsWith table becomes ClearPin (note_of (Get key) (got o)) c d) where
   -- the get is noted, and the pass has settled again
   pub get_noted : IsSettled a.0.known → HasFound c.0.known key o → IsNoted table.layout (pass_of a.0) (pass_of d.0) (Get key) (got o) × IsSettled d.0.known
   get_noted settled found =
-      noted table.layout (Get key) (got o) a.0 c.0.known d.0 settled (looked settled pins search.looks) end.event (found_right c.0.known key o found) (get_quiet key o)
+      noted table.layout (Get key) (got o) a.0 c.0.known d.0 settled (looked settled pins search.looks) end.event (found_right c.0.known key o found) (get_changes_nothing key o)

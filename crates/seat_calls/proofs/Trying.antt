@@ -17,8 +17,8 @@ use Rattle.finite_map.proofs.Growth.{begins_on, legal_front_part}
 use Rattle.finite_map.proofs.Legal.{legal_change, legal_longer}
 use Rattle.record_words.specs.declared.layout.Layout.{Layout}
 use Rattle.tries.specs.Keys.{Key}
-use Rattle.moments.specs.declared.Rec.{Rec}
-use Rattle.moments.specs.declared.Rec.TheVariants.{Node as a_node, Leaf as a_leaf}
+use Rattle.versions.specs.declared.Rec.{Rec}
+use Rattle.versions.specs.declared.Rec.TheVariants.{Node as a_node, Leaf as a_leaf}
 use Rattle.rowex_core.specs.declared.event.Act.{Act}
 use Rattle.rowex_core.specs.declared.event.Act.TheVariants.{ClearPin}
 use Rattle.rowex_core.specs.declared.event.Event.{Event}
@@ -26,7 +26,7 @@ use Rattle.rowex_core.specs.declared.event.Target.{Target}
 use Rattle.rowex_core.specs.declared.known.Failed.{Failed}
 use Rattle.rowex_core.specs.declared.known.Known.{Known}
 use Rattle.rowex_core.specs.Cores.{Core, IsLawful}
-use Rattle.rowex_core.specs.Knowing.{IsEvent, IsSince, Recalls}
+use Rattle.rowex_core.specs.Knowing.{IsEvent, IsPinnedSince, Recalls}
 use Rattle.rowex_table.specs.Runs.{Runs, StepsWith}
 use Rattle.rowex_table.specs.Seats.{IsSame, SeatView, TableView}
 use Rattle.rowex_table.specs.Stays.{LeavesPin}
@@ -53,7 +53,7 @@ use Rattle.seat_calls.specs.Noting.{change_notes, place_by}
 use Rattle.seat_calls.specs.Passes.{IsSettled, Owns, PassView, pass_of}
 use Rattle.seat_calls.specs.Traces.{AreAttempts, AreTries, HasMade, HasStepped, HasTold, IsAttempt, Tidies, is_full, untold}
 use Rattle.seat_calls.proofs.Noting.{HasGoneOn, HasLooked, WasRight, event_makers, found_had, goes_on, legal_front, longer, noted, settles, note_of}
-use Rattle.seat_calls.proofs.Conflicts.{conflict_on, overtaken}
+use Rattle.seat_calls.proofs.Conflicts.{conflict_from_before, overtaken}
 use Rattle.seat_calls.proofs.Collected.{round_unnoted, small_few, small_later, small_unnoted}
 use Rattle.seat_calls.proofs.Scanned.{scan_refused, scan_settled}
 use Rattle.seat_calls.proofs.Tracing.{ended_once, ended_tidied, got_untold, has_made, has_told, made_untold}
@@ -89,8 +89,8 @@ looked_right j call reply (held, found, is, quiet) c l r =
     let f = found_had j (key_of call) held found c l r in (f.0, f.1, f.2, replies_so call (map_of (take f.0 j.front)) held f.3 ∙ sym is)
 
 -- and its call told of no change
-looked_quiet : (j : Known) (call : Call) (reply : Reply) → tries.HasLooked j call reply → is_some (effect_of call reply) ≡ false
-looked_quiet j call reply (held, found, is, quiet) = ap is_some quiet
+looked_changes_nothing : (j : Known) (call : Call) (reply : Reply) → tries.HasLooked j call reply → is_some (effect_of call reply) ≡ false
+looked_changes_nothing j call reply (held, found, is, quiet) = ap is_some quiet
 
 -- The call with this reply tells of the change x, and a map where the key has this value, or none, replies so.
 record Tells (q : ℕ) (call : Call) (reply : Reply) (x : Change) (was : Option ℕ) : Type 0 where
@@ -170,11 +170,11 @@ missed_on kind n tried more since later le same all q low =
 
 -- a cause of a part of a call, after which the pass had no further failed step, saw no further change and loaded no root, is one of
 -- the call
-pub cause_on : (layout : Layout) (key : Key) (k j h i : PassView) (fault : TryFault) → k.steps ≤ j.steps → i.number ≡ h.number → i.failed ≡ h.failed → i.front ≡ h.front → i.fresh ≡ h.fresh →
+pub cause_from_before : (layout : Layout) (key : Key) (k j h i : PassView) (fault : TryFault) → k.steps ≤ j.steps → i.number ≡ h.number → i.failed ≡ h.failed → i.front ≡ h.front → i.fresh ≡ h.fresh →
     IsCause layout key j h fault → IsCause layout key k i fault
-cause_on layout key k j h i Busy steps number failed front fresh conflict = conflict_on layout k j h i steps number failed front fresh conflict
-cause_on layout key k j h i FullNodes steps number failed front fresh all = missed_on a_node layout.nodes h.failed i.failed k.steps j.steps steps failed all
-cause_on layout key k j h i FullLeaves steps number failed front fresh all = λ q low room.
+cause_from_before layout key k j h i Busy steps number failed front fresh conflict = conflict_from_before layout k j h i steps number failed front fresh conflict
+cause_from_before layout key k j h i FullNodes steps number failed front fresh all = missed_on a_node layout.nodes h.failed i.failed k.steps j.steps steps failed all
+cause_from_before layout key k j h i FullLeaves steps number failed front fresh all = λ q low room.
     let one = all q low room in (one.0, le_trans steps one.1, subst (λ (z : List Failed). HasMissed z (a_leaf q) one.0) (sym failed) one.2)
 
 -- A part of a call that was not noted, and the rest of the call
@@ -190,7 +190,7 @@ module _ (layout : Layout) (k j i : PassView) (first : IsUnnoted layout k j) (st
   }
 
   refused_then : (call : Call) (fault : TryFault) → IsRefused layout call j i fault → IsRefused layout call k i fault
-  refused_then call fault r = record { unnoted = unnoted_then r.unnoted; cause = cause_on layout (key_of call) k j i i fault steps refl refl refl refl r.cause }
+  refused_then call fault r = record { unnoted = unnoted_then r.unnoted; cause = cause_from_before layout (key_of call) k j i i fault steps refl refl refl refl r.cause }
 
   noted_then : (call : Call) (reply : Reply) → IsNoted layout j i call reply → IsNoted layout k i call reply
   noted_then call reply n = record {
@@ -255,9 +255,9 @@ abbrev pub HasWaited : Layout → PassView → PassView → Type 0
 HasWaited layout k j = (j ≡ k) ⊎ (IsUnnoted layout k j × (k.steps ≤ j.steps))
 
 -- it has been refused once more
-pub waited_on : (layout : Layout) (k j i : PassView) → HasWaited layout k j → IsUnnoted layout j i → j.steps ≤ i.steps → HasWaited layout k i
-waited_on layout k j i (inl none) next steps = inr (subst (λ (z : PassView). IsUnnoted layout z i × (z.steps ≤ i.steps)) none (next, steps))
-waited_on layout k j i (inr some) next steps = inr (unnoted_then layout k j i some.0 some.1 next, le_trans some.1 steps)
+pub waited_from_before : (layout : Layout) (k j i : PassView) → HasWaited layout k j → IsUnnoted layout j i → j.steps ≤ i.steps → HasWaited layout k i
+waited_from_before layout k j i (inl none) next steps = inr (subst (λ (z : PassView). IsUnnoted layout z i × (z.steps ≤ i.steps)) none (next, steps))
+waited_from_before layout k j i (inr some) next steps = inr (unnoted_then layout k j i some.0 some.1 next, le_trans some.1 steps)
 
 -- the outcome of the last try is that of the call
 pub waited_out : (table : TableView) (s m t : SeatView) (call : Call) (r : Result Reply TryFault) → HasWaited table.layout (pass_of s) (pass_of m) → HasReplied table call r m t → HasReplied table call r s t
@@ -334,7 +334,7 @@ module _ {G : Type 0} {table : TableView} {becomes : G → Event → G → Type 
   when_looked : (call : Call) (reply : Reply) → tries.HasLooked c.0.known call reply → OthersGoOn b.0.known.pass b.0.known.front c.0.known.front →
       IsEvent table.layout ClearPin (change_notes {F = TryFault} call (Ok reply)) c.0.known d.0.known → Leaves call (Ok reply)
   when_looked call reply found h event =
-      let no = looked_quiet c.0.known call reply found in
+      let no = looked_changes_nothing c.0.known call reply found in
       let silent : change_notes {F = TryFault} call (Ok reply) ≡ note_of call reply = ap (λ t k. record { place = place_by t call reply k; call = call; reply = reply } ∷ []) no in
       let n =
       noted table.layout call reply a.0 c.0.known d.0 settled (quiet h) (subst (λ s. IsEvent table.layout ClearPin s c.0.known d.0.known) silent event)
@@ -361,7 +361,7 @@ module _ {G : Type 0} {table : TableView} {becomes : G → Event → G → Type 
     pass = subst (λ (z : Layout). c.0.known.pass < z.passes) event.layout_is event.knows.pass;
     met = ⊎_elim
         (λ (met : HasMetLock table.layout b.0.known c.0.known). inl (subst (λ q. HasMetTaken table.layout q b.0.known.steps c.0.known.failed) (sym same) met))
-        (λ (moved : (m : ℕ) × IsSince b.0.known m × (m < length c.0.known.front)). inr (overtaken pins run loaded before others (event_makers event) same moved.0 moved.1 moved.2))
+        (λ (moved : (m : ℕ) × IsPinnedSince b.0.known m × (m < length c.0.known.front)). inr (overtaken pins run loaded before others (event_makers event) same moved.0 moved.1 moved.2))
         h;
   }
     where
@@ -380,7 +380,7 @@ module _ {G : Type 0} {table : TableView} {becomes : G → Event → G → Type 
     where
       cause : IsCause table.layout (key_of call) (pass_of a.0) (pass_of d.0) fault
       cause =
-          cause_on table.layout (key_of call) (pass_of a.0) (pass_of b.0) (pass_of c.0) (pass_of d.0) fault counted (ap (λ (z : Known). z.pass) event.learned_is) (ap (λ (z : Known). z.failed) event.learned_is)
+          cause_from_before table.layout (key_of call) (pass_of a.0) (pass_of b.0) (pass_of c.0) (pass_of d.0) fault counted (ap (λ (z : Known). z.pass) event.learned_is) (ap (λ (z : Known). z.failed) event.learned_is)
           (ap (λ (z : Known). z.front) event.learned_is) (ap (λ (z : Known). z.fresh) event.learned_is) (cause_seen (key_of call) fault event h.others h.cause)
 
   -- whatever came of it

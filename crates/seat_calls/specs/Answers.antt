@@ -15,7 +15,7 @@ use Rattle.finite_map.specs.Weaves.{LegalHistory, weave}
 use Rattle.tries.specs.Keys.{Key}
 use Rattle.record_words.specs.declared.layout.Layout.{Layout}
 use Rattle.record_words.specs.Leaf.{words_for}
-use Rattle.moments.specs.declared.Rec.TheVariants.{Node as a_node}
+use Rattle.versions.specs.declared.Rec.TheVariants.{Node as a_node}
 use Rattle.rowex_records.specs.Claims.{AllMissed, AllMissedFrom}
 use Rattle.rowex_writing.specs.Locks.{HasMetTaken}
 use Rattle.rowex_writing.specs.declared.attempts.TryFault.{TryFault}
@@ -85,8 +85,8 @@ IsListed = IsListedBy IsLawfulScan
 abbrev pub IsListedInPart : Layout → PassView → PassView → Key → Key → ℕ → List (Key × ℕ) → Type 0
 IsListedInPart = IsListedInPartBy IsLawfulScan
 
--- A scan was refused memory, which it needed for a pair: the limit allows one, and a key of the range was in the index at a moment from
--- the last load of the root to what the pass has seen now.
+-- A scan was refused memory, which it needed for a pair: the limit allows one, and a key of the range was in the index in a version
+-- from the last load of the root to what the pass has seen now.
 pub record HasFoundPair (layout : Layout) (k j : PassView) (from upto : Key) (limit : ℕ) : Type 0 where
   pub on : GoesOn layout k j
   pub room : 0 < limit

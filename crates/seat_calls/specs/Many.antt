@@ -50,7 +50,7 @@ IsLook act = ⊥
 
 -- The pass loads the root, and then makes n such loads, of which so many are of entries, and no other step; and the gate is told each
 -- load.
-pub record LooksOn {G : Type 0} (table : TableView) (becomes : G → Event → G → Type 0) (entries n : ℕ) (a b : SeatView × G) : Type 0 where
+pub record GoesOnLooking {G : Type 0} (table : TableView) (becomes : G → Event → G → Type 0) (entries n : ℕ) (a b : SeatView × G) : Type 0 where
   pub at : SeatView × G
   pub root : ReadsRoot table becomes a at
   pub loads : List Act
@@ -75,7 +75,7 @@ pub record HasLookedUp {G : Type 0} (table : TableView) (becomes : G → Event �
   pub loaded : ℕ
   pub low : entries ≤ count * most_entries
   pub few : loaded ≤ 34 * count + 29 * entries
-  pub looks : LooksOn table becomes entries loaded a b
+  pub looks : GoesOnLooking table becomes entries loaded a b
   pub right : AreRight b.0.known.front (length looks.at.0.known.front) calls
 
 -- The call pins the pass, loads the root, looks so many keys up, and clears the pin: these steps lead from the very seat that the pass has

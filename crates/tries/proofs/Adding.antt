@@ -7,12 +7,12 @@ use Rattle.tries.specs.Content.{Item, items, IsMore, exchanged, first}
 use Rattle.tries.specs.Changes.{IsAdded}
 use Rattle.tries.proofs.Changes.{put, IsPathBelow, IsExchanged}
 use Rattle.tries.proofs.Contents.{put_more, put_exchange, put_trie, put_has, within_has}
-use Rattle.tries.proofs.Places.{has_bare, items_bare, trie_bare, bare_trie, grown, grown_more, grown_trie, bare}
+use Rattle.tries.proofs.Places.{has_bare, items_bare, trie_bare, bare_trie, grown, grown_more, grown_trie, without_marks}
 use Rattle.tries.proofs.Tries.{has_first, trie_within}
 
 -- One leaf more at a place is one leaf more in the whole.
-pub added_put : {s t : Tree} (w : Within s t) (r : Tree) (x : Item) (p : ℕ) → IsTrie t → IsPathBelow p w → IsAdded x p s r → IsAdded x p t (put w r)
-added_put w r x p i b a = record {
+pub added_in_whole : {s t : Tree} (w : Within s t) (r : Tree) (x : Item) (p : ℕ) → IsTrie t → IsPathBelow p w → IsAdded x p s r → IsAdded x p t (put w r)
+added_in_whole w r x p i b a = record {
   trie = put_trie w r i a.trie p x.key a.like a.has_like b a.agree a.keys;
   more = put_more w r x a.more;
   keys = put_has w r x.key a.keys;
@@ -22,8 +22,8 @@ added_put w r x p i b a = record {
 }
 
 -- The marks of the new tree don't matter.
-pub added_bare : (s r o : Tree) (x : Item) (p : ℕ) → bare r ≡ bare o → IsAdded x p s o → IsAdded x p s r
-added_bare s r o x p e a = record {
+pub added_without_marks : (s r o : Tree) (x : Item) (p : ℕ) → without_marks r ≡ without_marks o → IsAdded x p s o → IsAdded x p s r
+added_without_marks s r o x p e a = record {
   trie = bare_trie r (subst IsTrie (sym e) (trie_bare o a.trie));
   more = subst (IsMore x (items s)) (sym (items_bare o) ∙ (ap items (sym e) ∙ items_bare r)) a.more;
   keys = λ k h. a.keys k (subst (λ (f : Key → Type 0). f k) (has_bare o) (subst (λ z. Has z k) e (subst (λ (f : Key → Type 0). f k) (sym (has_bare r)) h)));
@@ -52,9 +52,9 @@ added_here s x p i g f = record {
 -- So a tree that is, but for marks, the old one with the new leaf at the affected part, has one leaf more.
 pub added : {d s : Tree} (w : Within d s) (x : Item) (p : ℕ) (r : Tree) → IsTrie s → IsKey x.key → IsPathBelow p w →
     ((k : Key) → Has d k → AgreeBelow p x.key k × (bit k p ≡ (if bit x.key p then false else true))) →
-    bare r ≡ bare (put w (grown (bit x.key p) p d x)) → IsAdded x p s r
+    without_marks r ≡ without_marks (put w (grown (bit x.key p) p d x)) → IsAdded x p s r
 added {d} {s} w x p r i g b f e =
-    added_bare s r (put w (grown (bit x.key p) p d x)) x p e (added_put w (grown (bit x.key p) p d x) x p i b (added_here d x p (trie_within w i) g f))
+    added_without_marks s r (put w (grown (bit x.key p) p d x)) x p e (added_in_whole w (grown (bit x.key p) p d x) x p i b (added_here d x p (trie_within w i) g f))
 
 -- Each path has an end.
 path_more : {s t : Tree} (w : Within s t) (m n : ℕ) → m ≤ n → IsPathBelow m w → IsPathBelow n w
@@ -83,8 +83,8 @@ has_less (zero_side w) r f k (inr h) = inr h
 has_less (one_side w) r f k (inl h) = inl h
 has_less (one_side w) r f k (inr h) = inr (has_less w r f k h)
 
-pub exchanged_put : {s t : Tree} (w : Within s t) (r : Tree) (y x : Item) → IsTrie t → IsExchanged y x s r → IsExchanged y x t (put w r)
-exchanged_put w r y x i a = record {
+pub exchanged_in_whole : {s t : Tree} (w : Within s t) (r : Tree) (y x : Item) → IsTrie t → IsExchanged y x s r → IsExchanged y x t (put w r)
+exchanged_in_whole w r y x i a = record {
   trie = put_less w r i a.trie a.keys;
   exchange = put_exchange w r y x a.exchange;
   keys = has_less w r a.keys;

@@ -5,12 +5,12 @@ use Rattle.tries.specs.Keys.{Key, bit, AgreeBelow}
 use Rattle.compound_node.specs.declared.entries.Entry.{Entry}
 use Rattle.compound_node.specs.declared.entries.Entry.TheVariants.{Leaf}
 use Rattle.pieces.specs.Piece.{Fork}
-use Rattle.tries.specs.Tree.{page, IsLower, Tree, leaf, node, fork, Has, IsTrie, Within, here, inside, zero_side, one_side}
+use Rattle.tries.specs.Tree.{subtrie, IsLower, Tree, leaf, node, fork, Has, IsTrie, Within, here, inside, zero_side, one_side}
 use Rattle.tries.specs.Search.{Follows, child}
 use Rattle.tries.specs.Content.{Item, first}
-use Rattle.tries.proofs.Changes.{put, IsPathBelow, IsFlat}
+use Rattle.tries.proofs.Changes.{put, IsPathBelow, IsInOwnSubtrie}
 use Rattle.tries.proofs.Places.{grown}
-use Rattle.tries.specs.Affected.{affected, IsPart, page_affected, page_forked, page_grown, IsPartPage, IsLowerPage}
+use Rattle.tries.specs.Affected.{affected, IsPart, subtrie_affected, subtrie_forked, subtrie_grown, IsPartSubtrie, IsLowerSubtrie}
 use Rattle.tries.proofs.Tries.{has_first, has_within, within_trans, within_child, rises}
 
 -- A key that follows a stem within a side agrees with the side's keys before the fork, and takes that side.
@@ -33,27 +33,27 @@ other false true n = refl
 other false false n = absurd (n refl)
 
 -- What a writer has to know of a key of the affected part.
-abbrev pub IsAway : ℕ → Key → Key → Type 0
-IsAway p k y = AgreeBelow p k y × (bit y p ≡ (if bit k p then false else true))
+abbrev pub DifferFirstAt : ℕ → Key → Key → Type 0
+DifferFirstAt p k y = AgreeBelow p k y × (bit y p ≡ (if bit k p then false else true))
 
-pub away : (p : ℕ) (k l y : Key) → AgreeBelow p k l → bit k p ≢ bit l p → AgreeBelow p l y → bit l p ≡ bit y p → IsAway p k y
-away p k l y g d a e = ((λ q x. g q x ∙ a q x), sym e ∙ other (bit k p) (bit l p) d)
+pub differ_first_through : (p : ℕ) (k l y : Key) → AgreeBelow p k l → bit k p ≢ bit l p → AgreeBelow p l y → bit l p ≡ bit y p → DifferFirstAt p k y
+differ_first_through p k l y g d a e = ((λ q x. g q x ∙ a q x), sym e ∙ other (bit k p) (bit l p) d)
 
-pub part_away : (p : ℕ) (k l : Key) → AgreeBelow p k l → bit k p ≢ bit l p → (b : Tree) → IsTrie b → IsPart (affected p k b) → Follows l (child k b) →
-    (y : Key) → Has (affected p k b) y → IsAway p k y
-part_away p k l g d (leaf n m v) i h f y z =
-    away p k l y g d (λ q x. ap (λ o. bit o q) (f ∙ sym z)) (ap (λ o. bit o p) (f ∙ sym z))
-part_away p k l g d (node n x b) i h f y z = elim h [ ]
-part_away p k l g d (fork q a b) i h f y z =
-    go (ltb q p) refl (part_away p k l g d a i.0) (part_away p k l g d b i.1) h z
+pub part_differs_first : (p : ℕ) (k l : Key) → AgreeBelow p k l → bit k p ≢ bit l p → (b : Tree) → IsTrie b → IsPart (affected p k b) → Follows l (child k b) →
+    (y : Key) → Has (affected p k b) y → DifferFirstAt p k y
+part_differs_first p k l g d (leaf n m v) i h f y z =
+    differ_first_through p k l y g d (λ q x. ap (λ o. bit o q) (f ∙ sym z)) (ap (λ o. bit o p) (f ∙ sym z))
+part_differs_first p k l g d (node n x b) i h f y z = elim h [ ]
+part_differs_first p k l g d (fork q a b) i h f y z =
+    go (ltb q p) refl (part_differs_first p k l g d a i.0) (part_differs_first p k l g d b i.1) h z
   where
-    behind : p ≤ q → (u : Bool) → bit k q ≡ u → Follows l (if u then child k b else child k a) → Has a y ⊎ Has b y → IsAway p k y
+    behind : p ≤ q → (u : Bool) → bit k q ≡ u → Follows l (if u then child k b else child k a) → Has a y ⊎ Has b y → DifferFirstAt p k y
     behind le true e f z =
         let x = follows_agree q (child k b) true (within_child k b) i.1 (λ m n s t. i.2 m n (inr s) (inr t)) i.4 l f (first b) (has_first b) in
         let j : AgreeBelow q l y = λ r s. x.0 r s ∙ i.2 (first b) y (inr (has_first b)) z r s in
         elim (cases_order p q) [
           | inl o ↦ absurd (d (ap (bit k) o ∙ (e ∙ (sym x.1 ∙ ap (bit l) (sym o)))))
-          | inr (inl o) ↦ away p k l y g d (λ r s. j r (lt_trans s o)) (j p o)
+          | inr (inl o) ↦ differ_first_through p k l y g d (λ r s. j r (lt_trans s o)) (j p o)
           | inr (inr o) ↦ absurd (omega arith)
         ]
     behind le false e f z =
@@ -61,33 +61,33 @@ part_away p k l g d (fork q a b) i h f y z =
         let j : AgreeBelow q l y = λ r s. x.0 r s ∙ i.2 (first a) y (inl (has_first a)) z r s in
         elim (cases_order p q) [
           | inl o ↦ absurd (d (ap (bit k) o ∙ (e ∙ (sym x.1 ∙ ap (bit l) (sym o)))))
-          | inr (inl o) ↦ away p k l y g d (λ r s. j r (lt_trans s o)) (j p o)
+          | inr (inl o) ↦ differ_first_through p k l y g d (λ r s. j r (lt_trans s o)) (j p o)
           | inr (inr o) ↦ absurd (omega arith)
         ]
 
-    down : (u : Bool) → (IsPart (affected p k a) → Follows l (child k a) → (y : Key) → Has (affected p k a) y → IsAway p k y) →
-        (IsPart (affected p k b) → Follows l (child k b) → (y : Key) → Has (affected p k b) y → IsAway p k y) →
+    down : (u : Bool) → (IsPart (affected p k a) → Follows l (child k a) → (y : Key) → Has (affected p k a) y → DifferFirstAt p k y) →
+        (IsPart (affected p k b) → Follows l (child k b) → (y : Key) → Has (affected p k b) y → DifferFirstAt p k y) →
         IsPart (if u then affected p k b else affected p k a) → Follows l (if u then child k b else child k a) →
-        Has (if u then affected p k b else affected p k a) y → IsAway p k y
+        Has (if u then affected p k b else affected p k a) y → DifferFirstAt p k y
     down true r s h f z = s h f y z
     down false r s h f z = r h f y z
 
-    go : (u : Bool) → ltb q p ≡ u → (IsPart (affected p k a) → Follows l (child k a) → (y : Key) → Has (affected p k a) y → IsAway p k y) →
-        (IsPart (affected p k b) → Follows l (child k b) → (y : Key) → Has (affected p k b) y → IsAway p k y) →
+    go : (u : Bool) → ltb q p ≡ u → (IsPart (affected p k a) → Follows l (child k a) → (y : Key) → Has (affected p k a) y → DifferFirstAt p k y) →
+        (IsPart (affected p k b) → Follows l (child k b) → (y : Key) → Has (affected p k b) y → DifferFirstAt p k y) →
         IsPart (if u then (if bit k q then affected p k b else affected p k a) else fork q a b) →
-        Has (if u then (if bit k q then affected p k b else affected p k a) else fork q a b) y → IsAway p k y
+        Has (if u then (if bit k q then affected p k b else affected p k a) else fork q a b) y → DifferFirstAt p k y
     go true e r s h z = down (bit k q) r s h f z
     go false e r s h z = behind (ltb-false q p e) (bit k q) refl f z
 
--- The part's place: in the record's own page, below forks before `p` alone; and the page with a new leaf there.
+-- The part's place: in the record's own subtrie, below forks before `p` alone; and the subtrie with a new leaf there.
 abbrev pub at_part : ℕ → Key → (Tree → Tree) → Tree → Tree
 at_part p k r (leaf n l v) = r (leaf n l v)
 at_part p k r (node n x b) = r (node n x b)
 at_part p k r (fork q a b) = if ltb q p then (if bit k q then fork q a (at_part p k r b) else fork q (at_part p k r a) b) else r (fork q a b)
 
 abbrev pub IsPlace : ℕ → Key → Tree → Tree → Type 0
-IsPlace p k s b = (w : Within s b) × IsFlat w × IsPathBelow p w ×
-    ((e : Entry) (r : Tree) → page r ≡ page_forked (bit k p) p e (page s) → page (put w r) ≡ page_grown p k e (page b)) × ((r : Tree → Tree) → put w (r s) ≡ at_part p k r b)
+IsPlace p k s b = (w : Within s b) × IsInOwnSubtrie w × IsPathBelow p w ×
+    ((e : Entry) (r : Tree) → subtrie r ≡ subtrie_forked (bit k p) p e (subtrie s) → subtrie (put w r) ≡ subtrie_grown p k e (subtrie b)) × ((r : Tree → Tree) → put w (r s) ≡ at_part p k r b)
 
 pub part_place : (p : ℕ) (k : Key) (b : Tree) → IsPlace p k (affected p k b) b
 part_place p k (leaf n m v) = (here, tt, tt, λ e r h. h, λ r. refl)
@@ -95,44 +95,44 @@ part_place p k (node n x b) = (here, tt, tt, λ e r h. h, λ r. refl)
 part_place p k (fork q a b) = go (ltb q p) refl (bit k q) (part_place p k a) (part_place p k b)
   where
     go : (u : Bool) → ltb q p ≡ u → (o : Bool) → IsPlace p k (affected p k a) a → IsPlace p k (affected p k b) b →
-        (w : Within (if u then (if o then affected p k b else affected p k a) else fork q a b) (fork q a b)) × IsFlat w × IsPathBelow p w ×
-        ((e : Entry) (r : Tree) → page r ≡ page_forked (bit k p) p e (page (if u then (if o then affected p k b else affected p k a) else fork q a b)) →
-        page (put w r) ≡ (if u then (if o then Fork q (page a) (page_grown p k e (page b)) else Fork q (page_grown p k e (page a)) (page b)) else
-        page_forked (bit k p) p e (Fork q (page a) (page b)))) ×
+        (w : Within (if u then (if o then affected p k b else affected p k a) else fork q a b) (fork q a b)) × IsInOwnSubtrie w × IsPathBelow p w ×
+        ((e : Entry) (r : Tree) → subtrie r ≡ subtrie_forked (bit k p) p e (subtrie (if u then (if o then affected p k b else affected p k a) else fork q a b)) →
+        subtrie (put w r) ≡ (if u then (if o then Fork q (subtrie a) (subtrie_grown p k e (subtrie b)) else Fork q (subtrie_grown p k e (subtrie a)) (subtrie b)) else
+        subtrie_forked (bit k p) p e (Fork q (subtrie a) (subtrie b)))) ×
         ((r : Tree → Tree) → put w (r (if u then (if o then affected p k b else affected p k a) else fork q a b)) ≡
         (if u then (if o then fork q a (at_part p k r b) else fork q (at_part p k r a) b) else r (fork q a b)))
-    go true e true x y = (one_side y.0, y.1, (ltb-true q p e, y.2), λ f r h. ap (Fork q (page a)) (y.3 f r h), λ r. ap (fork q a) (y.4 r))
-    go true e false x y = (zero_side x.0, x.1, (ltb-true q p e, x.2), λ f r h. ap (λ z. Fork q z (page b)) (x.3 f r h), λ r. ap (λ z. fork q z b) (x.4 r))
+    go true e true x y = (one_side y.0, y.1, (ltb-true q p e, y.2), λ f r h. ap (Fork q (subtrie a)) (y.3 f r h), λ r. ap (fork q a) (y.4 r))
+    go true e false x y = (zero_side x.0, x.1, (ltb-true q p e, x.2), λ f r h. ap (λ z. Fork q z (subtrie b)) (x.3 f r h), λ r. ap (λ z. fork q z b) (x.4 r))
     go false e o x y = (here, tt, tt, λ f r h. h, λ r. refl)
 
-pub affected_page : (p : ℕ) (k : Key) (b : Tree) → page (affected p k b) ≡ page_affected p k (page b)
-affected_page p k (leaf n l v) = refl
-affected_page p k (node n x b) = refl
-affected_page p k (fork q a b) = go (ltb q p) (bit k q) (affected_page p k a) (affected_page p k b)
+pub affected_subtrie : (p : ℕ) (k : Key) (b : Tree) → subtrie (affected p k b) ≡ subtrie_affected p k (subtrie b)
+affected_subtrie p k (leaf n l v) = refl
+affected_subtrie p k (node n x b) = refl
+affected_subtrie p k (fork q a b) = go (ltb q p) (bit k q) (affected_subtrie p k a) (affected_subtrie p k b)
   where
-    go : (u o : Bool) → page (affected p k a) ≡ page_affected p k (page a) → page (affected p k b) ≡ page_affected p k (page b) →
-        page (if u then (if o then affected p k b else affected p k a) else fork q a b) ≡
-        (if u then (if o then page_affected p k (page b) else page_affected p k (page a)) else Fork q (page a) (page b))
+    go : (u o : Bool) → subtrie (affected p k a) ≡ subtrie_affected p k (subtrie a) → subtrie (affected p k b) ≡ subtrie_affected p k (subtrie b) →
+        subtrie (if u then (if o then affected p k b else affected p k a) else fork q a b) ≡
+        (if u then (if o then subtrie_affected p k (subtrie b) else subtrie_affected p k (subtrie a)) else Fork q (subtrie a) (subtrie b))
     go true true e f = f
     go true false e f = e
     go false o e f = refl
 
-pub part_page : (u : Tree) → IsPartPage (page u) → IsPart u
-part_page (leaf n l v) i = tt
-part_page (node n l v) i = i
-part_page (fork n l v) i = tt
+pub part_subtrie : (u : Tree) → IsPartSubtrie (subtrie u) → IsPart u
+part_subtrie (leaf n l v) i = tt
+part_subtrie (node n l v) i = i
+part_subtrie (fork n l v) i = tt
 
-pub lower_page : (h : ℕ) (u : Tree) → IsLowerPage h (page u) → IsLower h u
-lower_page h (leaf n l v) i = i
-lower_page h (node n l v) i = i
-lower_page h (fork n a b) i = (lower_page h a i.0, lower_page h b i.1)
+pub lower_subtrie : (h : ℕ) (u : Tree) → IsLowerSubtrie h (subtrie u) → IsLower h u
+lower_subtrie h (leaf n l v) i = i
+lower_subtrie h (node n l v) i = i
+lower_subtrie h (fork n a b) i = (lower_subtrie h a i.0, lower_subtrie h b i.1)
 
-pub grown_page : (u : Bool) (p : ℕ) (s : Tree) (x : Item) → page (grown u p s x) ≡ page_forked u p (Leaf x.number) (page s)
-grown_page false p s x = refl
-grown_page true p s x = refl
+pub grown_subtrie : (u : Bool) (p : ℕ) (s : Tree) (x : Item) → subtrie (grown u p s x) ≡ subtrie_forked u p (Leaf x.number) (subtrie s)
+grown_subtrie false p s x = refl
+grown_subtrie true p s x = refl
 
--- The page of the body with the new leaf.
-pub place_page : (p : ℕ) (x : Item) (b : Tree) →
-    page (put (part_place p x.key b).0 (grown (bit x.key p) p (affected p x.key b) x)) ≡ page_grown p x.key (Leaf x.number) (page b)
-place_page p x b =
-    (part_place p x.key b).3 (Leaf x.number) (grown (bit x.key p) p (affected p x.key b) x) (grown_page (bit x.key p) p (affected p x.key b) x)
+-- The subtrie of the body with the new leaf.
+pub place_subtrie : (p : ℕ) (x : Item) (b : Tree) →
+    subtrie (put (part_place p x.key b).0 (grown (bit x.key p) p (affected p x.key b) x)) ≡ subtrie_grown p x.key (Leaf x.number) (subtrie b)
+place_subtrie p x b =
+    (part_place p x.key b).3 (Leaf x.number) (grown (bit x.key p) p (affected p x.key b) x) (grown_subtrie (bit x.key p) p (affected p x.key b) x)

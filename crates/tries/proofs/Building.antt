@@ -9,7 +9,7 @@ use Rattle.partial_keys.specs.Shows.{ShowsPiece}
 use Rattle.pieces.specs.Piece.{places, size}
 use Rattle.pieces.proofs.Paths.{length-places}
 use Rattle.tries.specs.Keys.{Key, bit, AgreeBelow}
-use Rattle.tries.specs.Tree.{Tree, leaf, node, fork, page, Has, IsTrie, IsBuilt, IsFork, IsLower, first_position, Within, here, inside}
+use Rattle.tries.specs.Tree.{Tree, leaf, node, fork, subtrie, Has, IsTrie, IsBuilt, IsFork, IsLower, first_position, Within, here, inside}
 use Rattle.tries.specs.Content.{first}
 use Rattle.tries.proofs.Tries.{has_first, rises}
 use Rattle.tries.proofs.Ranges.{has_key}
@@ -19,29 +19,29 @@ fork_of (leaf n l v) f = elim f [ ]
 fork_of (node n x b) f = elim f [ ]
 fork_of (fork q a c) f = (q, a, c, refl)
 
-pub fork_big : (b : Tree) → 2 ≤ size (page b) → IsFork b
-fork_big (leaf n k v) h = absurd (omega arith)
-fork_big (node n x b) h = absurd (omega arith)
-fork_big (fork p a c) h = tt
+pub fork_of_two_places : (b : Tree) → 2 ≤ size (subtrie b) → IsFork b
+fork_of_two_places (leaf n k v) h = absurd (omega arith)
+fork_of_two_places (node n x b) h = absurd (omega arith)
+fork_of_two_places (fork p a c) h = tt
 
 pub greatest-append : (xs ys : List Entry) → greatest_height (xs ++ ys) ≡ max (greatest_height xs) (greatest_height ys)
 greatest-append [] ys = omega arith
 greatest-append (x ∷ xs) ys = ap (max (height_of x)) (greatest-append xs ys) ∙ omega arith
 
 -- The entries are below a height where the greatest of their heights is, and the other way round.
-pub lower_from : (h : ℕ) (b : Tree) → greatest_height (places (page b)) < h → IsLower h b
-lower_from h (leaf n k v) l = omega arith
-lower_from h (node n x b) l = omega arith
-lower_from h (fork p a c) l =
-    let e = greatest-append (places (page a)) (places (page c)) in
-    (lower_from h a (omega arith), lower_from h c (omega arith))
+pub lower_by_greatest : (h : ℕ) (b : Tree) → greatest_height (places (subtrie b)) < h → IsLower h b
+lower_by_greatest h (leaf n k v) l = omega arith
+lower_by_greatest h (node n x b) l = omega arith
+lower_by_greatest h (fork p a c) l =
+    let e = greatest-append (places (subtrie a)) (places (subtrie c)) in
+    (lower_by_greatest h a (omega arith), lower_by_greatest h c (omega arith))
 
-pub lower_to : (h : ℕ) (b : Tree) → IsLower h b → greatest_height (places (page b)) < h
-lower_to h (leaf n k v) l = omega arith
-lower_to h (node n x b) l = omega arith
-lower_to h (fork p a c) l =
-    let x = lower_to h a l.0 in let y = lower_to h c l.1 in
-    omega (arith, greatest-append (places (page a)) (places (page c)))
+pub greatest_if_lower : (h : ℕ) (b : Tree) → IsLower h b → greatest_height (places (subtrie b)) < h
+greatest_if_lower h (leaf n k v) l = omega arith
+greatest_if_lower h (node n x b) l = omega arith
+greatest_if_lower h (fork p a c) l =
+    let x = greatest_if_lower h a l.0 in let y = greatest_if_lower h c l.1 in
+    omega (arith, greatest-append (places (subtrie a)) (places (subtrie c)))
 
 -- A bit that is 1 is one of the key's.
 pub bit_below : (k : Key) (q : ℕ) → IsKey k → bit k q ≡ true → q < 9 * MAX_BYTES
@@ -50,28 +50,28 @@ bit_below k q i e = let h : q / 9 < length k = ltb-true (q / 9) (length k) (and_
 
 -- The entries below a fork are so low that a node around it is within the bound,
 tips_low : (q : ℕ) (u : Bool) (s : Tree) → IsTrie s → IsBuilt s → ((k l : Key) → Has s k → Has s l → AgreeBelow q k l) → ((k : Key) → Has s k → bit k q ≡ u) →
-    q < 9 * MAX_BYTES → greatest_height (places (page s)) + q < 9 * MAX_BYTES
+    q < 9 * MAX_BYTES → greatest_height (places (subtrie s)) + q < 9 * MAX_BYTES
 tips_low q u (leaf n k v) i b f g h = omega arith
 tips_low q u (node n x b) i bu f g h =
     let c = fork_of b bu.0 in
     let w : Within (fork c.0 c.1 c.2) (node n x b) = subst (λ z. Within (fork c.0 c.1 c.2) (node n x z)) (sym c.3) (inside here) in
     let less : q < c.0 = rises u w i f g in
-    let first : first_position (page b) ≡ c.0 = ap (λ z. first_position (page z)) c.3 in
+    let first : first_position (subtrie b) ≡ c.0 = ap (λ z. first_position (subtrie z)) c.3 in
     omega (arith, bu.3.bound)
 tips_low q u (fork r a c) i b f g h =
     let x = tips_low q u a i.0 b.0 (λ k l y z. f k l (inl y) (inl z)) (λ k y. g k (inl y)) h in
     let y = tips_low q u c i.1 b.1 (λ k l y z. f k l (inr y) (inr z)) (λ k y. g k (inr y)) h in
-    omega (arith, greatest-append (places (page a)) (places (page c)))
+    omega (arith, greatest-append (places (subtrie a)) (places (subtrie c)))
 
 -- where its height is one above the greatest of theirs.
-pub new_bound : (q : ℕ) (a c : Tree) → IsTrie (fork q a c) → IsBuilt (fork q a c) → 1 + greatest_height (places (page (fork q a c))) + q ≤ 9 * MAX_BYTES
+pub new_bound : (q : ℕ) (a c : Tree) → IsTrie (fork q a c) → IsBuilt (fork q a c) → 1 + greatest_height (places (subtrie (fork q a c))) + q ≤ 9 * MAX_BYTES
 new_bound q a c i b =
     let h : q < 9 * MAX_BYTES = bit_below (first c) q (has_key c i.1 (first c) (has_first c)) (i.4 (first c) (has_first c)) in
     let x = tips_low q false a i.0 b.0 (λ k l y z. i.2 k l (inl y) (inl z)) i.3 h in
     let y = tips_low q true c i.1 b.1 (λ k l y z. i.2 k l (inr y) (inr z)) i.4 h in
-    omega (arith, greatest-append (places (page a)) (places (page c)))
+    omega (arith, greatest-append (places (subtrie a)) (places (subtrie c)))
 
-pub body_bound : (b : Tree) → IsFork b → IsTrie b → IsBuilt b → 1 + greatest_height (places (page b)) + first_position (page b) ≤ 9 * MAX_BYTES
+pub body_bound : (b : Tree) → IsFork b → IsTrie b → IsBuilt b → 1 + greatest_height (places (subtrie b)) + first_position (subtrie b) ≤ 9 * MAX_BYTES
 body_bound (leaf n k v) f i built = elim f [ ]
 body_bound (node n x b) f i built = elim f [ ]
 body_bound (fork q a c) f i built = new_bound q a c i built
@@ -80,12 +80,12 @@ pub size-piece : (n : NodeView) → IsLawfulNode n → size (piece n) ≡ length
 size-piece n l = sym (length-places (piece n)) ∙ ap length (sym l.shows.entries_are)
 
 -- A node that shows a body, with a height that is within the bound, is built around it.
-pub node_built : (v : NodeView) (n : ℕ) (b : Tree) → IsLawfulNode v → piece v ≡ page b → IsBuilt b → greatest_height (places (page b)) < v.height →
-    v.height + first_position (page b) ≤ 9 * MAX_BYTES → IsBuilt (node n (head_of v) b)
+pub node_built : (v : NodeView) (n : ℕ) (b : Tree) → IsLawfulNode v → piece v ≡ subtrie b → IsBuilt b → greatest_height (places (subtrie b)) < v.height →
+    v.height + first_position (subtrie b) ≤ 9 * MAX_BYTES → IsBuilt (node n (head_of v) b)
 node_built v n b l e built low bound =
     let big : size (piece v) ≡ length v.entries = size-piece v l in (
-      fork_big b (let s = ap size e in omega (arith, l.several)),
-      lower_from v.height b low,
+      fork_of_two_places b (let s = ap size e in omega (arith, l.several)),
+      lower_by_greatest v.height b low,
       built,
       record {
         positions = l.positions;
@@ -96,9 +96,9 @@ node_built v n b l e built low bound =
     )
 
 -- So is one that was built to show it.
-pub node_built_from : (v : NodeView) (n : ℕ) (b : Tree) → IsBuiltFrom v (page b) → IsTrie b → IsBuilt b → IsBuilt (node n (head_of v) b)
+pub node_built_from : (v : NodeView) (n : ℕ) (b : Tree) → IsBuiltFrom v (subtrie b) → IsTrie b → IsBuilt b → IsBuilt (node n (head_of v) b)
 node_built_from v n b i trie built =
-    let e : greatest_height v.entries ≡ greatest_height (places (page b)) = ap greatest_height i.lawful.shows.entries_are ∙ ap (λ x. greatest_height (places x)) i.shows_it in
-    let s : size (piece v) ≡ size (page b) = ap size i.shows_it in
-    let f : IsFork b = fork_big b (omega (arith, i.lawful.several, size-piece v i.lawful)) in
+    let e : greatest_height v.entries ≡ greatest_height (places (subtrie b)) = ap greatest_height i.lawful.shows.entries_are ∙ ap (λ x. greatest_height (places x)) i.shows_it in
+    let s : size (piece v) ≡ size (subtrie b) = ap size i.shows_it in
+    let f : IsFork b = fork_of_two_places b (omega (arith, i.lawful.several, size-piece v i.lawful)) in
     node_built v n b i.lawful i.shows_it built (omega (arith, i.height_is)) (omega (arith, i.height_is, body_bound b f trie built))

@@ -18,12 +18,12 @@ IsPathBelow m (inside w) = IsPathBelow m w
 IsPathBelow m (zero_side {p = p} w) = (p < m) × IsPathBelow m w
 IsPathBelow m (one_side {p = p} w) = (p < m) × IsPathBelow m w
 
--- The place is in the record's own page.
-abbrev pub IsFlat : {s t : Tree} → Within s t → Type 0
-IsFlat here = Unit {0}
-IsFlat (inside w) = ⊥
-IsFlat (zero_side w) = IsFlat w
-IsFlat (one_side w) = IsFlat w
+-- The place is in the record's own subtrie.
+abbrev pub IsInOwnSubtrie : {s t : Tree} → Within s t → Type 0
+IsInOwnSubtrie here = Unit {0}
+IsInOwnSubtrie (inside w) = ⊥
+IsInOwnSubtrie (zero_side w) = IsInOwnSubtrie w
+IsInOwnSubtrie (one_side w) = IsInOwnSubtrie w
 
 -- The second tree is the first with one leaf in another's place, of the same key.
 pub record IsExchanged (y x : Item) (s r : Tree) : Type 0 where

@@ -1,4 +1,4 @@
--- A node's fixed part fits its page whatever entries stand at the places, and the nodes of a tree are lawful nodes.
+-- A node's fixed part fits its subtrie whatever entries stand at the places, and the nodes of a tree are lawful nodes.
 use Rattle.std.proofs.Common.{◌≡◌, ℕ, ◌+◌, ◌*◌, ◌<◌, ◌≤◌, arith, true, List, ◌∷◌, ◌++◌, Bool, refl, ap, ◌∙◌, subst, []}
 use Rattle.std.specs.Prelude.{map, ◌||◌, eqb}
 use Rattle.key_bits.specs.declared.TheConstants.{MAX_BYTES}
@@ -10,40 +10,40 @@ use Rattle.std.proofs.lemmas.List.Elements.{All-append, All-from_recursion}
 use Rattle.compound_node.specs.Nodes.{IsEntry, height_of}
 use Rattle.compound_node.specs.declared.entries.Entry.TheVariants.{Leaf, Node}
 use Rattle.pieces.specs.Piece.{places}
-use Rattle.tries.specs.Tree.{Page, Fixed, first_position, IsFit, Tree, leaf, node, fork, page, IsLower, IsBuilt}
+use Rattle.tries.specs.Tree.{Subtrie, Fixed, first_position, IsFit, Tree, leaf, node, fork, subtrie, IsLower, IsBuilt}
 use Rattle.tries.specs.Place.{Swap, swap, in_zero, in_one}
 
-size_swap : {x y : Page} → Swap x y → size x ≡ size y
+size_swap : {x y : Subtrie} → Swap x y → size x ≡ size y
 size_swap swap = refl
 size_swap (in_zero {b = b} s) = ap (λ n. n + size b) (size_swap s)
 size_swap (in_one {a = a} s) = ap (λ n. size a + n) (size_swap s)
 
-paths_swap : {x y : Page} → Swap x y → paths x ≡ paths y
+paths_swap : {x y : Subtrie} → Swap x y → paths x ≡ paths y
 paths_swap swap = refl
 paths_swap (in_zero {p = p} {b = b} s) = ap (λ (u : List (List ℕ)). u ++ map (λ path. p ∷ path) (paths b)) (paths_swap s)
 paths_swap (in_one {p = p} {a = a} s) = ap (λ (u : List (List ℕ)). paths a ++ map (λ path. p ∷ path) u) (paths_swap s)
 
-uses_swap : {x y : Page} → Swap x y → uses x ≡ uses y
+uses_swap : {x y : Subtrie} → Swap x y → uses x ≡ uses y
 uses_swap swap = refl
 uses_swap (in_zero {p = p} {b = b} s) = ap (λ (u : ℕ → Bool). λ q. eqb p q || (u q || uses b q)) (uses_swap s)
 uses_swap (in_one {p = p} {a = a} s) = ap (λ (u : ℕ → Bool). λ q. eqb p q || (uses a q || u q)) (uses_swap s)
 
-only_swap : {x y : Page} → Swap x y → (ps : List ℕ) → UsesOnly ps x → UsesOnly ps y
+only_swap : {x y : Subtrie} → Swap x y → (ps : List ℕ) → UsesOnly ps x → UsesOnly ps y
 only_swap swap ps u = tt
 only_swap (in_zero s) ps u = (u.0, only_swap s ps u.1, u.2)
 only_swap (in_one s) ps u = (u.0, u.1, only_swap s ps u.2)
 
-rises_swap : {x y : Page} → Swap x y → (low : ℕ) → RisesFrom low x → RisesFrom low y
+rises_swap : {x y : Subtrie} → Swap x y → (low : ℕ) → RisesFrom low x → RisesFrom low y
 rises_swap swap low r = tt
 rises_swap (in_zero {p = p} s) low r = (r.0, rises_swap s (p + 1) r.1, r.2)
 rises_swap (in_one {p = p} s) low r = (r.0, r.1, rises_swap s (p + 1) r.2)
 
-first_swap : {x y : Page} → Swap x y → first_position x ≡ first_position y
+first_swap : {x y : Subtrie} → Swap x y → first_position x ≡ first_position y
 first_swap swap = refl
 first_swap (in_zero s) = refl
 first_swap (in_one s) = refl
 
-pub fit_swap : {x y : Page} → Swap x y → (f : Fixed) → IsFit f x → IsFit f y
+pub fit_swap : {x y : Subtrie} → Swap x y → (f : Fixed) → IsFit f x → IsFit f y
 fit_swap {x} {y} s f i = record {
   positions = i.positions;
   shows = record {
@@ -66,14 +66,14 @@ lower_positive h (node n x b) l = omega (arith, l)
 lower_positive h (fork p a b) l = lower_positive h a l.0
 
 -- What stands at the places of a built tree are entries, and lower than the tree is.
-pub children_are : (b : Tree) → IsBuilt b → All IsEntry (places (page b))
+pub children_are : (b : Tree) → IsBuilt b → All IsEntry (places (subtrie b))
 children_are (leaf n k v) i = All-from_recursion IsEntry (Leaf n ∷ []) (tt, tt)
 children_are (node n x b) i =
     let l = lower_positive x.height b i.1 in let h = i.3.bound in let m : MAX_BYTES ≡ 240 = refl in
     All-from_recursion IsEntry (Node n x.height ∷ []) ((l, omega arith), tt)
-children_are (fork p a b) i = All-append IsEntry (places (page a)) (places (page b)) (children_are a i.0) (children_are b i.1)
+children_are (fork p a b) i = All-append IsEntry (places (subtrie a)) (places (subtrie b)) (children_are a i.0) (children_are b i.1)
 
-pub all_above : (h : ℕ) (b : Tree) → IsLower h b → All (λ e. height_of e < h) (places (page b))
+pub all_above : (h : ℕ) (b : Tree) → IsLower h b → All (λ e. height_of e < h) (places (subtrie b))
 all_above h (leaf n k v) l = All-from_recursion (λ e. height_of e < h) (Leaf n ∷ []) (l, tt)
 all_above h (node n x b) l = All-from_recursion (λ e. height_of e < h) (Node n x.height ∷ []) (l, tt)
-all_above h (fork p a b) l = All-append (λ e. height_of e < h) (places (page a)) (places (page b)) (all_above h a l.0) (all_above h b l.1)
+all_above h (fork p a b) l = All-append (λ e. height_of e < h) (places (subtrie a)) (places (subtrie b)) (all_above h a l.0) (all_above h b l.1)

@@ -1,29 +1,29 @@
--- The places of a page; the bit trie without marks; one key more.
+-- The places of a subtrie; the bit trie without marks; one key more.
 use Rattle.key_bits.specs.Key.{IsKey}
 use Rattle.key_bits.specs.Bits.{bit_of}
 use Rattle.std.proofs.Common.{◌≡◌, ◌⊎◌, inl, inr, ℕ, ◌+◌, ◌-◌, ◌<◌, List, [], ◌∷◌, ◌++◌, Bool, true, false, refl, ap, ap₂, sym, ◌∙◌, subst, arith, if◌then◌else◌, ltb}
 use Rattle.std.proofs.lemmas.Bool.{cond-true, cond-false, lt-ltb, le-ltb}
 use Rattle.tries.specs.Keys.{Key, bit, AgreeBelow}
-use Rattle.tries.specs.Tree.{Page, Tree, leaf, node, fork, Has, IsTrie}
+use Rattle.tries.specs.Tree.{Subtrie, Tree, leaf, node, fork, Has, IsTrie}
 use Rattle.pieces.specs.Piece.{Place, Fork, size, leads_to}
 use Rattle.tries.specs.Search.{seek}
 use Rattle.tries.specs.Place.{spot, entry_at, shape}
 use Rattle.tries.specs.Content.{Item, items, IsMore, added, behind}
 
 -- The tree without the marks of its nodes: the bit trie alone.
-abbrev pub bare : Tree → Tree
-bare (leaf n k v) = leaf n k v
-bare (node n x b) = bare b
-bare (fork p a b) = fork p (bare a) (bare b)
+abbrev pub without_marks : Tree → Tree
+without_marks (leaf n k v) = leaf n k v
+without_marks (node n x b) = without_marks b
+without_marks (fork p a b) = fork p (without_marks a) (without_marks b)
 
-pub spot_below : (k : Key) (x : Page) → spot k x < size x
+pub spot_below : (k : Key) (x : Subtrie) → spot k x < size x
 spot_below k (Place e) = omega arith
 spot_below k (Fork p x y) =
     let l = spot_below k x in let r = spot_below k y in
     elim (bit k p) as (λ u. (if u then size x + spot k y else spot k x) < size x + size y) [ true ↦ omega arith | false ↦ omega arith ]
 
 -- The search of pieces leads to that place.
-pub leads_spot : (k : Key) (x : Page) → leads_to (bit_of k) x ≡ spot k x
+pub leads_spot : (k : Key) (x : Subtrie) → leads_to (bit_of k) x ≡ spot k x
 unfolding bit
 leads_spot k (Place e) = refl
 leads_spot k (Fork p x y) =
@@ -32,16 +32,16 @@ leads_spot k (Fork p x y) =
       | false ↦ leads_spot k x
     ]
 
-low_entry : (p : ℕ) (x y : Page) (i : ℕ) → i < size x → entry_at (Fork p x y) i ≡ entry_at x i
+low_entry : (p : ℕ) (x y : Subtrie) (i : ℕ) → i < size x → entry_at (Fork p x y) i ≡ entry_at x i
 low_entry p x y i h = cond-true (ltb i (size x)) _ _ (lt-ltb i (size x) h)
 
-high_entry : (p : ℕ) (x y : Page) (i j : ℕ) → i ≡ size x + j → entry_at (Fork p x y) i ≡ entry_at y j
+high_entry : (p : ℕ) (x y : Subtrie) (i j : ℕ) → i ≡ size x + j → entry_at (Fork p x y) i ≡ entry_at y j
 high_entry p x y i j e =
     let d : i - size x ≡ j = omega arith in
     cond-false (ltb i (size x)) _ _ (le-ltb i (size x) (omega arith)) ∙ ap (entry_at y) d
 
 -- A search takes the entry at the place to which the forks lead.
-pub seek_spot : (k : Key) (x : Page) → seek k x ≡ entry_at x (spot k x)
+pub seek_spot : (k : Key) (x : Subtrie) → seek k x ≡ entry_at x (spot k x)
 seek_spot k (Place e) = refl
 seek_spot k (Fork p x y) =
     elim (bit k p) as (λ u. (if u then seek k y else seek k x) ≡ entry_at (Fork p x y) (if u then size x + spot k y else spot k x)) [
@@ -49,11 +49,11 @@ seek_spot k (Fork p x y) =
       | false ↦ seek_spot k x ∙ sym (low_entry p x y (spot k x) (spot_below k x))
     ]
 
-pub shape_tips : (x : Page) → size (shape x) ≡ size x
+pub shape_tips : (x : Subtrie) → size (shape x) ≡ size x
 shape_tips (Place e) = refl
 shape_tips (Fork p x y) = ap₂ (λ a b. a + b) (shape_tips x) (shape_tips y)
 
-pub spot_shape : (k : Key) (x : Page) → spot k (shape x) ≡ spot k x
+pub spot_shape : (k : Key) (x : Subtrie) → spot k (shape x) ≡ spot k x
 spot_shape k (Place e) = refl
 spot_shape k (Fork p x y) =
     let f = spot_shape k x in let g = spot_shape k y in let t = shape_tips x in
@@ -63,36 +63,36 @@ spot_shape k (Fork p x y) =
     ]
 
 -- The marks change neither keys nor order.
-pub has_bare : (t : Tree) → Has (bare t) ≡ Has t
+pub has_bare : (t : Tree) → Has (without_marks t) ≡ Has t
 has_bare (leaf n k v) = refl
 has_bare (node n x b) = has_bare b
 has_bare (fork p a b) = ap₂ (λ (f g : Key → Type 0). λ l. f l ⊎ g l) (has_bare a) (has_bare b)
 
-pub items_bare : (t : Tree) → items (bare t) ≡ items t
+pub items_bare : (t : Tree) → items (without_marks t) ≡ items t
 items_bare (leaf n k v) = refl
 items_bare (node n x b) = items_bare b
 items_bare (fork p a b) = ap₂ (λ x y. x ++ y) (items_bare a) (items_bare b)
 
-pub trie_bare : (t : Tree) → IsTrie t → IsTrie (bare t)
+pub trie_bare : (t : Tree) → IsTrie t → IsTrie (without_marks t)
 trie_bare (leaf n k v) i = i
 trie_bare (node n x b) i = trie_bare b i
 trie_bare (fork p a b) i = (
   trie_bare a i.0,
   trie_bare b i.1,
-  subst (λ (f : Key → Type 0). (k l : Key) → f k ⊎ Has (bare b) k → f l ⊎ Has (bare b) l → AgreeBelow p k l) (sym (has_bare a))
+  subst (λ (f : Key → Type 0). (k l : Key) → f k ⊎ Has (without_marks b) k → f l ⊎ Has (without_marks b) l → AgreeBelow p k l) (sym (has_bare a))
       (subst (λ (f : Key → Type 0). (k l : Key) → Has a k ⊎ f k → Has a l ⊎ f l → AgreeBelow p k l) (sym (has_bare b)) i.2),
   subst (λ (f : Key → Type 0). (k : Key) → f k → bit k p ≡ false) (sym (has_bare a)) i.3,
   subst (λ (f : Key → Type 0). (k : Key) → f k → bit k p ≡ true) (sym (has_bare b)) i.4,
 )
 
-pub bare_trie : (t : Tree) → IsTrie (bare t) → IsTrie t
+pub bare_trie : (t : Tree) → IsTrie (without_marks t) → IsTrie t
 bare_trie (leaf n k v) i = i
 bare_trie (node n x b) i = bare_trie b i
 bare_trie (fork p a b) i = (
   bare_trie a i.0,
   bare_trie b i.1,
   subst (λ (f : Key → Type 0). (k l : Key) → f k ⊎ Has b k → f l ⊎ Has b l → AgreeBelow p k l) (has_bare a)
-      (subst (λ (f : Key → Type 0). (k l : Key) → Has (bare a) k ⊎ f k → Has (bare a) l ⊎ f l → AgreeBelow p k l) (has_bare b) i.2),
+      (subst (λ (f : Key → Type 0). (k l : Key) → Has (without_marks a) k ⊎ f k → Has (without_marks a) l ⊎ f l → AgreeBelow p k l) (has_bare b) i.2),
   subst (λ (f : Key → Type 0). (k : Key) → f k → bit k p ≡ false) (has_bare a) i.3,
   subst (λ (f : Key → Type 0). (k : Key) → f k → bit k p ≡ true) (has_bare b) i.4,
 )

@@ -1,8 +1,8 @@
--- Laws of the tree of one moment.
+-- Laws of the tree of one version.
 use Rattle.std.proofs.Common.{◌≡◌, ◌⊎◌, inl, inr, ℕ, ◌+◌, ◌<◌, ◌≤◌, Bool, true, false, if◌then◌else◌, refl, ap, sym, ◌∙◌, subst, arith, ◌-◌, ltb, ap₂}
 use Rattle.std.proofs.lemmas.Bool.{false≢true, cases_order, cond-true, cond-false, lt-ltb, le-ltb}
 use Rattle.tries.specs.Keys.{Key, bit, AgreeBelow, IsParted}
-use Rattle.tries.specs.Tree.{Page, Tree, leaf, node, fork, page, Has, IsTrie, IsFork, IsBuilt, Within, here, inside, zero_side, one_side}
+use Rattle.tries.specs.Tree.{Subtrie, Tree, leaf, node, fork, subtrie, Has, IsTrie, IsFork, IsBuilt, Within, here, inside, zero_side, one_side}
 use Rattle.pieces.specs.Piece.{Place, Fork, size}
 use Rattle.tries.specs.Search.{Follows, child, seek, Kin, tips, forks, between, IsUnder}
 use mathlib.Core.List.{List-discrete}
@@ -119,11 +119,11 @@ within_child k (fork p a b) =
     elim (bit k p) as (λ u. Within (if u then child k b else child k a) (fork p a b)) [ true ↦ one_side (within_child k b) | false ↦ zero_side (within_child k a) ]
 
 -- The search in what a node shows finds the entry of the child.
-pub page_child : (k : Key) (t : Tree) → page (child k t) ≡ Place (seek k (page t))
-page_child k (leaf n l v) = refl
-page_child k (node n h b) = refl
-page_child k (fork p a b) =
-    elim (bit k p) as (λ u. page (if u then child k b else child k a) ≡ Place (if u then seek k (page b) else seek k (page a))) [ true ↦ page_child k b | false ↦ page_child k a ]
+pub subtrie_child : (k : Key) (t : Tree) → subtrie (child k t) ≡ Place (seek k (subtrie t))
+subtrie_child k (leaf n l v) = refl
+subtrie_child k (node n h b) = refl
+subtrie_child k (fork p a b) =
+    elim (bit k p) as (λ u. subtrie (if u then child k b else child k a) ≡ Place (if u then seek k (subtrie b) else seek k (subtrie a))) [ true ↦ subtrie_child k b | false ↦ subtrie_child k a ]
 
 -- One step down: the key follows the child's stem, or the whole trie lacks it.
 pub descend : {s t : Tree} → Within s t → IsTrie t → (k : Key) → Follows k s → Follows k (child k s) ⊎ ¬ (Has t k)
@@ -152,7 +152,7 @@ pub kin_sym : {a b : Tree} → Kin a b → Kin b a
 kin_sym (tips x y) = tips y x
 kin_sym (forks e x y) = forks (λ k l hk hl q b. sym (e l k hl hk q b)) (kin_sym x) (kin_sym y)
 
-pub kin_tips : {a b : Tree} → Kin a b → size (page a) ≡ size (page b)
+pub kin_tips : {a b : Tree} → Kin a b → size (subtrie a) ≡ size (subtrie b)
 kin_tips (tips {a = leaf n k v} {b = leaf m l w} x y) = refl
 kin_tips (tips {a = leaf n k v} {b = node m l w} x y) = refl
 kin_tips (tips {a = node n k v} {b = leaf m l w} x y) = refl
@@ -161,8 +161,8 @@ kin_tips (tips {a = fork n k v} {b = t} x y) = elim x [ ]
 kin_tips (tips {a = leaf n k v} {b = fork m l w} x y) = elim y [ ]
 kin_tips (tips {a = node n k v} {b = fork m l w} x y) = elim y [ ]
 kin_tips (forks {a = a} {b = b} {c = c} {d = d} e x y) =
-    let p : size (page a) ≡ size (page c) = kin_tips x in
-    let q : size (page b) ≡ size (page d) = kin_tips y in cc
+    let p : size (subtrie a) ≡ size (subtrie c) = kin_tips x in
+    let q : size (subtrie b) ≡ size (subtrie d) = kin_tips y in cc
 
 pub has_under : (t : Tree) (i : ℕ) (k : Key) → IsUnder t i k → Has t k
 has_under (leaf n l v) i k u = u.1
@@ -170,44 +170,44 @@ has_under (node n h b) i k u = u.1
 has_under (fork p a b) i k (inl u) = inl (has_under a i k u)
 has_under (fork p a b) i k (inr (j, e, u)) = inr (has_under b j k u)
 
-pub under_below : (t : Tree) (i : ℕ) (k : Key) → IsUnder t i k → i < size (page t)
+pub under_below : (t : Tree) (i : ℕ) (k : Key) → IsUnder t i k → i < size (subtrie t)
 under_below (leaf n l v) i k u = let e : i ≡ 0 = u.0 in omega arith
 under_below (node n h b) i k u = let e : i ≡ 0 = u.0 in omega arith
 under_below (fork p a b) i k (inl u) = let h = under_below a i k u in omega arith
 under_below (fork p a b) i k (inr (j, e, u)) = let h = under_below b j k u in omega arith
 
-pub between_low : (p : ℕ) (x y : Page) (i j : ℕ) → j < size x → between x i j ≡ between (Fork p x y) i j
+pub between_low : (p : ℕ) (x y : Subtrie) (i j : ℕ) → j < size x → between x i j ≡ between (Fork p x y) i j
 between_low p x y i j h = sym (cond-true (ltb j (size x)) _ _ (lt-ltb j (size x) h))
 
-pub between_mid : (p : ℕ) (x y : Page) (i j : ℕ) → i < size x → size x ≤ j → p ≡ between (Fork p x y) i j
+pub between_mid : (p : ℕ) (x y : Subtrie) (i j : ℕ) → i < size x → size x ≤ j → p ≡ between (Fork p x y) i j
 between_mid p x y i j h g =
     sym (cond-false (ltb j (size x)) _ _ (le-ltb j (size x) g) ∙ cond-true (ltb i (size x)) _ _ (lt-ltb i (size x) h))
 
-pub between_high : (p : ℕ) (x y : Page) (i j z w : ℕ) → i ≡ size x + z → j ≡ size x + w → between y z w ≡ between (Fork p x y) i j
+pub between_high : (p : ℕ) (x y : Subtrie) (i j z w : ℕ) → i ≡ size x + z → j ≡ size x + w → between y z w ≡ between (Fork p x y) i j
 between_high p x y i j z w e f =
     let c : i - size x ≡ z = omega arith in
     let d : j - size x ≡ w = omega arith in
     sym (cond-false (ltb j (size x)) _ _ (le-ltb j (size x) (omega arith)) ∙
     (cond-false (ltb i (size x)) _ _ (le-ltb i (size x) (omega arith)) ∙ ap₂ (between y) c d))
 
--- Keys below two entries of a record part at the fork between them, whichever moments of its life they come from.
+-- Keys below two entries of a record part at the fork between them, whichever versions of its life they come from.
 pub parting : {b c : Tree} → Kin b c → IsTrie b → IsTrie c → (i j : ℕ) → i < j → (k l : Key) → IsUnder b i k → IsUnder c j l →
-    IsParted (between (page b) i j) k l
+    IsParted (between (subtrie b) i j) k l
 parting (tips {a = fork p b d} {b = c} x y) r s i j h k l u v = elim x [ ]
 parting (tips {a = b} {b = fork p a d} x y) r s i j h k l u v = elim y [ ]
 parting (tips {a = b} {b = leaf n g w} x y) r s i j h k l u v = let e : j ≡ 0 = v.0 in absurd (omega arith)
 parting (tips {a = b} {b = node n g w} x y) r s i j h k l u v = let e : j ≡ 0 = v.0 in absurd (omega arith)
 parting (forks {p = p} {a = a} {b = b} {c = c} {d = d} e x y) r s i j h k l (inl u) (inl v) =
-    subst (λ z. IsParted z k l) (between_low p (page a) (page b) i j (rw (kin_tips x) (under_below c j l v)))
+    subst (λ z. IsParted z k l) (between_low p (subtrie a) (subtrie b) i j (rw (kin_tips x) (under_below c j l v)))
     (parting x r.0 s.0 i j h k l u v)
 parting (forks {p = p} {a = a} {b = b} {c = c} {d = d} e x y) r s i j h k l (inl u) (inr (w, q, v)) =
-    let t : size (page a) ≡ size (page c) = kin_tips x in
-    subst (λ z. IsParted z k l) (between_mid p (page a) (page b) i j (under_below a i k u) (omega arith))
+    let t : size (subtrie a) ≡ size (subtrie c) = kin_tips x in
+    subst (λ z. IsParted z k l) (between_mid p (subtrie a) (subtrie b) i j (under_below a i k u) (omega arith))
     (e k l (inl (has_under a i k u)) (inr (has_under d w l v)), r.3 k (has_under a i k u), s.4 l (has_under d w l v))
 parting (forks {p = p} {a = a} {b = b} {c = c} {d = d} e x y) r s i j h k l (inr (z, o, u)) (inl v) =
-    let t : size (page a) ≡ size (page c) = kin_tips x in
+    let t : size (subtrie a) ≡ size (subtrie c) = kin_tips x in
     let g = under_below c j l v in absurd (omega arith)
 parting (forks {p = p} {a = a} {b = b} {c = c} {d = d} e x y) r s i j h k l (inr (z, o, u)) (inr (w, q, v)) =
-    let t : size (page a) ≡ size (page c) = kin_tips x in
-    subst (λ v. IsParted v k l) (between_high p (page a) (page b) i j z w o (omega arith))
+    let t : size (subtrie a) ≡ size (subtrie c) = kin_tips x in
+    subst (λ v. IsParted v k l) (between_high p (subtrie a) (subtrie b) i j z w o (omega arith))
     (parting y r.1 s.1 z w (omega arith) k l u v)

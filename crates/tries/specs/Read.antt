@@ -1,8 +1,8 @@
--- The tree that a page shows, where each of its entries shows one or nothing.
+-- The tree that a subtrie shows, where each of its entries shows one or nothing.
 use Rattle.std.specs.Prelude.{ℕ, Option, Some, None}
 use Rattle.compound_node.specs.declared.entries.Entry.{Entry}
 use Rattle.pieces.specs.Piece.{Place, Fork}
-use Rattle.tries.specs.Tree.{Fixed, Page, Tree, node, fork}
+use Rattle.tries.specs.Tree.{Fixed, Subtrie, Tree, node, fork}
 
 abbrev pub join_fork : ℕ → Option Tree → Option Tree → Option Tree
 join_fork p (Some a) (Some b) = Some (fork p a b)
@@ -13,7 +13,7 @@ abbrev pub join_node : ℕ → Fixed → Option Tree → Option Tree
 join_node n x (Some b) = Some (node n x b)
 join_node n x None = None
 
--- What a page shows, where each entry shows what `f` says.
-abbrev pub read_page : (Entry → Option Tree) → Page → Option Tree
-read_page f (Place e) = f e
-read_page f (Fork p x y) = join_fork p (read_page f x) (read_page f y)
+-- What a subtrie shows, where each entry shows what `f` says.
+abbrev pub read_subtrie : (Entry → Option Tree) → Subtrie → Option Tree
+read_subtrie f (Place e) = f e
+read_subtrie f (Fork p x y) = join_fork p (read_subtrie f x) (read_subtrie f y)

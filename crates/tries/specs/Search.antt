@@ -1,7 +1,7 @@
--- Where a search leads; stems; the bodies of one record at two moments.
+-- Where a search leads; stems; the bodies of one record in two versions.
 use Rattle.std.specs.Prelude.{◌≡◌, ◌⊎◌, ℕ, ◌+◌, ◌-◌, if◌then◌else◌, nat_lt}
 use Rattle.tries.specs.Keys.{Key, bit, AgreeBelow}
-use Rattle.tries.specs.Tree.{Page, Tree, leaf, node, fork, page, Has, IsTip}
+use Rattle.tries.specs.Tree.{Subtrie, Tree, leaf, node, fork, subtrie, Has, IsTip}
 use Rattle.pieces.specs.Piece.{Place, Fork, size}
 use Rattle.compound_node.specs.declared.entries.Entry.{Entry}
 use Rattle.tries.specs.Content.{Item}
@@ -25,18 +25,18 @@ found k (node n x b) = found k b
 found k (fork p a b) = if bit k p then found k b else found k a
 
 -- The same search in what a node shows.
-abbrev pub seek : Key → Page → Entry
+abbrev pub seek : Key → Subtrie → Entry
 seek k (Place e) = e
 seek k (Fork p a b) = if bit k p then seek k b else seek k a
 
--- Two bodies of one record at two moments: the same forks with the same stems.
+-- Two bodies of one record in two versions: the same forks with the same stems.
 pub data Kin : Tree → Tree → Type 0 where
   tips : {a b : Tree} → IsTip a → IsTip b → Kin a b
   forks : {p : ℕ} {a b c d : Tree} → ((k l : Key) → Has a k ⊎ Has b k → Has c l ⊎ Has d l → AgreeBelow p k l) →
       Kin a c → Kin b d → Kin (fork p a b) (fork p c d)
 
--- The position of the fork between two places of a page, the first below the second.
-abbrev pub between : Page → ℕ → ℕ → ℕ
+-- The position of the fork between two places of a subtrie, the first below the second.
+abbrev pub between : Subtrie → ℕ → ℕ → ℕ
 between (Place e) i j = 0
 between (Fork p x y) i j =
     if nat_lt j (size x) then between x i j
@@ -46,4 +46,4 @@ between (Fork p x y) i j =
 abbrev pub IsUnder : Tree → ℕ → Key → Type 0
 IsUnder (leaf n k v) i l = (i ≡ 0) × Has (leaf n k v) l
 IsUnder (node n h b) i l = (i ≡ 0) × Has (node n h b) l
-IsUnder (fork p a b) i l = IsUnder a i l ⊎ ((j : ℕ) × (i ≡ size (page a) + j) × IsUnder b j l)
+IsUnder (fork p a b) i l = IsUnder a i l ⊎ ((j : ℕ) × (i ≡ size (subtrie a) + j) × IsUnder b j l)

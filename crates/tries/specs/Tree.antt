@@ -1,4 +1,4 @@
--- The tree of one moment: a bit trie with marks at which records begin.
+-- The tree of one version: a bit trie with marks at which records begin.
 use Rattle.key_bits.specs.Key.{IsKey}
 use Rattle.std.specs.Prelude.{◌≡◌, ◌⊎◌, ℕ, ◌<◌, true, false, ◌+◌, ◌*◌, ◌≤◌}
 use Rattle.tries.specs.Keys.{Key, bit, AgreeBelow}
@@ -11,8 +11,8 @@ use Rattle.compound_node.specs.declared.entries.Entry.{Entry}
 use Rattle.compound_node.specs.declared.entries.Entry.TheVariants.{Leaf, Node}
 
 -- What a node shows: forks, and the entry that stands at each place.
-abbrev pub Page : Type 0
-Page = Piece Entry
+abbrev pub Subtrie : Type 0
+Subtrie = Piece Entry
 
 -- What stays of a node while it is in use: all but its state and its entries.
 abbrev pub Fixed : Type 0
@@ -25,10 +25,10 @@ pub data Tree : Type 0 where
   fork : (position : ℕ) (zero one : Tree) → Tree
 
 -- What the record that a tree begins with, or a body, has at its places.
-abbrev pub page : Tree → Page
-page (leaf n k v) = Place (Leaf n)
-page (node n x b) = Place (Node n x.height)
-page (fork p a b) = Fork p (page a) (page b)
+abbrev pub subtrie : Tree → Subtrie
+subtrie (leaf n k v) = Place (Leaf n)
+subtrie (node n x b) = Place (Node n x.height)
+subtrie (fork p a b) = Fork p (subtrie a) (subtrie b)
 
 -- A leaf of the tree has the key.
 abbrev pub Has : Tree → Key → Type 0
@@ -62,23 +62,23 @@ IsLower h (leaf n k v) = 0 < h
 IsLower h (node n x b) = x.height < h
 IsLower h (fork p a b) = IsLower h a × IsLower h b
 
--- The first position of a page, or 0 for a page of one place.
-abbrev pub first_position : Page → ℕ
+-- The first position of a subtrie, or 0 for a subtrie of one place.
+abbrev pub first_position : Subtrie → ℕ
 first_position (Place e) = 0
 first_position (Fork p a b) = p
 
--- A node's fixed part fits its page: the rows show it, there is room for its places, and height and first position add
+-- A node's fixed part fits its subtrie: the rows show it, there is room for its places, and height and first position add
 -- up to at most the number of positions that a key has.
-pub record IsFit (x : Fixed) (p : Page) : Type 0 where
+pub record IsFit (x : Fixed) (p : Subtrie) : Type 0 where
   pub positions : IsColumns x.columns
   pub shows : ShowsPiece x.columns x.rows (places p) p
   pub room : size p ≤ 32
   pub bound : x.height + first_position p ≤ 9 * MAX_BYTES
 
--- Each node has two entries or more, a height above theirs, and a fixed part that fits its page.
+-- Each node has two entries or more, a height above theirs, and a fixed part that fits its subtrie.
 abbrev pub IsBuilt : Tree → Type 0
 IsBuilt (leaf n k v) = Unit {0}
-IsBuilt (node n x b) = IsFork b × IsLower x.height b × IsBuilt b × IsFit x (page b)
+IsBuilt (node n x b) = IsFork b × IsLower x.height b × IsBuilt b × IsFit x (subtrie b)
 IsBuilt (fork p a b) = IsBuilt a × IsBuilt b
 
 -- The tree stands in the other one.

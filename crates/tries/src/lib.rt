@@ -1,4 +1,4 @@
-//! The tree of a moment: a bit trie with marks at which records begin. Definitions and laws alone.
+//! The tree of a version: a bit trie with marks at which records begin. Definitions and laws alone.
 #![tactic(auto)]
 
 pub mod laws;

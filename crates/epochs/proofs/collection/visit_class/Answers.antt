@@ -1,7 +1,7 @@
 -- One record more, and all of them.
 use Rattle.std.proofs.Common.{rules, arith, subst, sym, ◌∙◌, ◌≡◌}
-use Rattle.moments.specs.declared.Rec.TheVariants.{Leaf as a_leaf}
-use Rattle.epochs.specs.Rounds.{is_given, VisitsOn}
+use Rattle.versions.specs.declared.Rec.TheVariants.{Leaf as a_leaf}
+use Rattle.epochs.specs.Rounds.{is_given, GoesOnVisiting}
 use Rattle.epochs.proofs.Visiting.{next_start, one_most, visits_more}
 use Rattle.epochs.proofs.collection.visit_class.Goals as goal
 
@@ -28,5 +28,5 @@ loop-number-preserved g c = record {
 pub returns-clause-steps : goal.returns-clause-steps
 returns-clause-steps g c =
     let done : c.loop-number.number ≡ c.args.end = omega arith in
-    subst (λ n. VisitsOn c.args.table.now g.G.Gate.becomes c.args.bound a_leaf c.args.first c.args.before.given n c.loop-number.tally.given (c.args.seat.now, c.args.gate.now) (c.loop-number.seat, c.loop-number.gate)) done
+    subst (λ n. GoesOnVisiting c.args.table.now g.G.Gate.becomes c.args.bound a_leaf c.args.first c.args.before.given n c.loop-number.tally.given (c.args.seat.now, c.args.gate.now) (c.loop-number.seat, c.loop-number.gate)) done
     c.loop-number.invariant.steps

@@ -1,9 +1,9 @@
 -- The records of the class below the number have been visited, and the next begins where the last one ends.
 use Rattle.std.specs.Prelude.{◌≡◌, ◌≤◌}
 use Rattle.record_words.specs.Layout.{leaf_start}
-use Rattle.moments.specs.declared.Rec.TheVariants.{Leaf as a_leaf}
+use Rattle.versions.specs.declared.Rec.TheVariants.{Leaf as a_leaf}
 use Rattle.rowex_table.specs.Seats.{IsSeatOf}
-use Rattle.epochs.specs.Rounds.{VisitsOn}
+use Rattle.epochs.specs.Rounds.{GoesOnVisiting}
 use Rattle.epochs.proofs.collection.visit_class.Given as goal
 
 abbrev pub invariant-loop-number : goal.invariant-loop-number
@@ -12,5 +12,5 @@ invariant-loop-number g l = record {
   same : (l.seat.known.pin ≡ l.fn.seat.known.pin) × (l.seat.known.round ≡ l.fn.seat.known.round);
   start : l.start ≡ leaf_start l.table.layout l.number;
   few : l.tally.given ≤ l.number;
-  steps : VisitsOn l.table g.G.Gate.becomes l.bound a_leaf l.first l.fn.before.given l.number l.tally.given (l.fn.seat, l.fn.gate) (l.seat, l.gate);
+  steps : GoesOnVisiting l.table g.G.Gate.becomes l.bound a_leaf l.first l.fn.before.given l.number l.tally.given (l.fn.seat, l.fn.gate) (l.seat, l.gate);
 }

@@ -7,12 +7,12 @@ use Rattle.compound_node.specs.Nodes.{piece, height_of}
 use Rattle.compound_node.specs.declared.entries.Entry.TheVariants.{Node}
 use Rattle.tries.specs.Place.{spot}
 use Rattle.tries.specs.Search.{child, seek}
-use Rattle.tries.specs.Tree.{Tree, page}
-use Rattle.plain_records.specs.Adding.{IsStanding, IsBehind}
+use Rattle.tries.specs.Tree.{Tree, subtrie}
+use Rattle.plain_records.specs.Adding.{IsStanding, HasForkBefore}
 use Rattle.plain_records.specs.Cases.{IsLevelDone, IsByCase, is_split}
 use Rattle.plain_records.specs.Heights.{KeepsHeights}
 use Rattle.plain_records.specs.Rising.{IsRaised, IsAddable}
-use Rattle.insert_cases.specs.Risen.{page_of}
+use Rattle.insert_cases.specs.Risen.{subtrie_of}
 use Rattle.plain_records.proofs.Below.{IsAt, search_at, standing_to, standing_node, child_lower, within_standing, ends_above, absent_above, addable_above, here_above, way_above, behind_within, behind_first, risen_here}
 use Rattle.plain_records.proofs.Cases.{above_by_case, node_by_case}
 use Rattle.plain_records.proofs.Climbing.{addable_to, here_lifting, child_held, here_spot, old_at}
@@ -78,7 +78,7 @@ lifted-requires-clause-place t c =
       r.position,
       u.fixed,
       u.body,
-      here_lifting u c.search-at.result (height_of c.entry-child.result) c.entry-child.result c.added.new.nodes.items (page_of c.in-Below.risen)
+      here_lifting u c.search-at.result (height_of c.entry-child.result) c.entry-child.result c.added.new.nodes.items (subtrie_of c.in-Below.risen)
           (way_above a.whole a.node us k c.args.value (length ls) r.position r.leaves c.entry-child.result r.addable r.behind) (here_spot u v c.index-node.ensures c.search-at.result c.search-at.ensures.leads) a.is refl r.raised,
     )
 
@@ -91,7 +91,7 @@ lifted-requires-clause-child t c = λ old at.
     let n = length c.args.leaves.now.items in
     let r = c.in-Below.ensures.adds _ a.below in
     let u = here_above a.whole a.node us k c.args.value n r.position r.leaves c.entry-child.result r.addable in
-    let l = here_lifting u c.search-at.result (height_of c.entry-child.result) c.entry-child.result c.added.new.nodes.items (page_of c.in-Below.risen)
+    let l = here_lifting u c.search-at.result (height_of c.entry-child.result) c.entry-child.result c.added.new.nodes.items (subtrie_of c.in-Below.risen)
     (way_above a.whole a.node us k c.args.value n r.position r.leaves c.entry-child.result r.addable r.behind) (here_spot u v c.index-node.ensures c.search-at.result c.search-at.ensures.leads) a.is refl r.raised in
     child_held c.args.nodes.now.items c.added.new.nodes.items c.in-Node.number c.search-at.result l.shown.0.view v old c.entry-child.result
     l.shown.0.at c.index-node.ensures (old_at l) at c.count.ensures.lawful c.entry-child.ensures.entry
@@ -121,13 +121,13 @@ returns-then-first_position-position-clause-adds t c = λ tree stands.
     let i = addable_above a.whole a.node us k c.args.value n p left.leaves c.entry-child.result left.addable in
     let new = read_at c.added.new.nodes.items c.in-Node.number a.node.stored.view c.index.result.now (ap (λ xs. slice_get xs c.in-Node.number) left.nodes ∙ a.node.stored.at) c.index.ensures in
     let root = subst (AtRootFork (λ r zero one. c.first_position.result ≡ r)) (ap piece new ∙ a.node.stored.shows) c.first_position.ensures.root in
-    let behind : IsBehind p tree = subst (IsBehind p) (sym a.node.is) (behind_first p c.in-Node.number c.first_position.result a.node.fixed a.node.body a.node.built.0 root c.if-first_position-position.true) in
+    let behind : HasForkBefore p tree = subst (HasForkBefore p) (sym a.node.is) (behind_first p c.in-Node.number c.first_position.result a.node.fixed a.node.body a.node.built.0 root c.if-first_position-position.true) in
     let there = subst (λ xs. IsAddable xs us (item n k c.args.value) p (Node c.in-Node.number c.in-Node.height) tree) (sym left.nodes) i in
     let up = c.raised.ensures.raised us c.args.value tree there in
     let high = let w = a.node.built.1 in lower_positive a.node.fixed.height a.node.body w in
     let by_case = node_by_case c.added.new.nodes.items c.raised.new.nodes.items k p n (Node c.in-Node.number c.in-Node.height) tree (is_split c.raised.result) there.head (omega (arith, high, a.node.high)) (c.raised.ensures.case us c.args.value tree there) in
     risen_here ns c.added.new.nodes.items c.raised.new.nodes.items c.args.leaves.now.items us k c.args.value n p c.args.entry tree c.raised.result left.nodes left.leaves left.number (addable_to (sym c.in-Node.is) i) behind
-    (subst (λ e. IsRaised c.added.new.nodes.items c.raised.new.nodes.items us (item n k c.args.value) p tree (suc (height_of e)) (page_of c.raised.result)) (sym c.in-Node.is) up) by_case
+    (subst (λ e. IsRaised c.added.new.nodes.items c.raised.new.nodes.items us (item n k c.args.value) p tree (suc (height_of e)) (subtrie_of c.raised.result)) (sym c.in-Node.is) up) by_case
 
 pub returns-then-first_position-position-clause-heights : goal.returns-then-first_position-position-clause-heights
 returns-then-first_position-position-clause-heights t c =
@@ -159,16 +159,16 @@ returns-in-Below-clause-adds t c = λ tree stands.
     let r = c.in-Below.ensures.adds _ a.below in
     let x = item n k c.args.value in
     let u = here_above a.whole a.node us k c.args.value n r.position r.leaves c.entry-child.result r.addable in
-    let l = here_lifting u c.search-at.result (height_of c.entry-child.result) c.entry-child.result c.added.new.nodes.items (page_of c.in-Below.risen)
+    let l = here_lifting u c.search-at.result (height_of c.entry-child.result) c.entry-child.result c.added.new.nodes.items (subtrie_of c.in-Below.risen)
     (way_above a.whole a.node us k c.args.value n r.position r.leaves c.entry-child.result r.addable r.behind) (here_spot u v c.index-node.ensures c.search-at.result c.search-at.ensures.leads) a.is refl r.raised in
     let up = c.lifted.ensures.raised ns us x r.position u.fixed u.body l in
     let way = way_above a.whole a.node us k c.args.value n r.position r.leaves c.entry-child.result r.addable r.behind in
     let still : slice_get c.added.new.nodes.items c.in-Node.number ≡ Some a.node.stored.view =
-    old_stays ns us c.in-Node.number u.fixed u.body u.trie u.built u.shown c.added.new.nodes.items x r.position (suc (height_of c.entry-child.result)) (page_of c.in-Below.risen) way r.raised
+    old_stays ns us c.in-Node.number u.fixed u.body u.trie u.built u.shown c.added.new.nodes.items x r.position (suc (height_of c.entry-child.result)) (subtrie_of c.in-Below.risen) way r.raised
     (omega (arith, child_lower a.whole a.node k c.entry-child.result a.is, a.node.high)) in
     let takes = c.lifted.ensures.takes a.node.stored.view still in
-    let does : IsLevelDone (height_of (seek k (page a.node.body))) (is_split c.in-Below.risen) a.node.stored.view takes.0 (spot k (page a.node.body)) (is_split c.lifted.result) =
-    subst (λ d. IsLevelDone (height_of d) (is_split c.in-Below.risen) a.node.stored.view takes.0 (spot k (page a.node.body)) (is_split c.lifted.result)) a.is
+    let does : IsLevelDone (height_of (seek k (subtrie a.node.body))) (is_split c.in-Below.risen) a.node.stored.view takes.0 (spot k (subtrie a.node.body)) (is_split c.lifted.result) =
+    subst (λ d. IsLevelDone (height_of d) (is_split c.in-Below.risen) a.node.stored.view takes.0 (spot k (subtrie a.node.body)) (is_split c.lifted.result)) a.is
     (subst (λ j. IsLevelDone (height_of c.entry-child.result) (is_split c.in-Below.risen) a.node.stored.view takes.0 j (is_split c.lifted.result))
     (here_spot u v c.index-node.ensures c.search-at.result c.search-at.ensures.leads) takes.2) in
     record {
@@ -176,8 +176,8 @@ returns-in-Below-clause-adds t c = λ tree stands.
       position = r.position;
       addable = addable_to (sym c.in-Node.is) (addable_above a.whole a.node us k c.args.value n r.position r.leaves c.entry-child.result r.addable);
       behind = behind_within r.position (within_standing a.whole a.node k) r.behind;
-      raised = subst (λ h. IsRaised ns ms us x r.position tree (suc h) (page_of c.lifted.result)) (sym (ap height_of c.in-Node.is))
-          (subst (λ y. IsRaised ns ms us x r.position y (suc c.in-Node.height) (page_of c.lifted.result)) (sym a.node.is) up);
+      raised = subst (λ h. IsRaised ns ms us x r.position tree (suc h) (subtrie_of c.lifted.result)) (sym (ap height_of c.in-Node.is))
+          (subst (λ y. IsRaised ns ms us x r.position y (suc c.in-Node.height) (subtrie_of c.lifted.result)) (sym a.node.is) up);
       by_case = subst (λ y. IsByCase ns ms k r.position n y (is_split c.lifted.result)) (sym a.node.is)
           (above_by_case ns c.added.new.nodes.items ms k r.position n c.in-Node.number a.node.fixed a.node.body (is_split c.in-Below.risen) (is_split c.lifted.result)
           (not_below ns us c.in-Node.number u.fixed u.body u.trie u.built u.shown) way c.lifted.ensures.others
@@ -193,7 +193,7 @@ returns-in-Below-clause-heights t c =
     let n = length c.args.leaves.now.items in
     let r = c.in-Below.ensures.adds _ a.below in
     let u = here_above a.whole a.node us k c.args.value n r.position r.leaves c.entry-child.result r.addable in
-    let l = here_lifting u c.search-at.result (height_of c.entry-child.result) c.entry-child.result c.added.new.nodes.items (page_of c.in-Below.risen)
+    let l = here_lifting u c.search-at.result (height_of c.entry-child.result) c.entry-child.result c.added.new.nodes.items (subtrie_of c.in-Below.risen)
     (way_above a.whole a.node us k c.args.value n r.position r.leaves c.entry-child.result r.addable r.behind) (here_spot u v c.index-node.ensures c.search-at.result c.search-at.ensures.leads) a.is refl r.raised in
     heights_over c.args.nodes.now.items c.added.new.nodes.items c.lifted.new.nodes.items c.added.ensures.heights c.lifted.ensures.heights
     c.in-Node.number l.shown.0.view l.shown.0.at (old_at l) c.lifted.ensures.others

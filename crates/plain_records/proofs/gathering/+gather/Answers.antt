@@ -12,7 +12,7 @@ use Rattle.compound_node.specs.declared.entries.Entry.{Entry}
 use Rattle.compound_node.specs.declared.entries.Entry.TheVariants.{Leaf, Node}
 use Rattle.tries.specs.Content.{Item, items}
 use Rattle.tries.specs.Place.{spot}
-use Rattle.tries.specs.Tree.{Page, Fixed, Tree, node, page}
+use Rattle.tries.specs.Tree.{Subtrie, Fixed, Tree, node, subtrie}
 use Rattle.tries.proofs.Places.{leads_spot}
 use Rattle.plain_records.specs.declared.leaf.LeafRecord.{LeafRecord}
 use Rattle.plain_records.specs.declared.gathering.Progress.TheVariants.{On}
@@ -25,18 +25,18 @@ use Rattle.plain_records.proofs.Starting.{gathered_ended, gathered_from, gathere
 use Rattle.plain_records.proofs.gathering.+gather.Goals as goal
 use Rattle.plain_records.proofs.gathering.+gather.Goals.{In-Leaf, In-Node, After-lt, After-start_in, After-entry}
 
-at_entry : (u : Tree) (e f : Entry) → page u ≡ Place e → e ≡ f → page u ≡ Place f
-at_entry u e f h is = h ∙ ap (λ (z : Entry). let y : Page = Place z in y) is
+at_entry : (u : Tree) (e f : Entry) → subtrie u ≡ Place e → e ≡ f → subtrie u ≡ Place f
+at_entry u e f h is = h ∙ ap (λ (z : Entry). let y : Subtrie = Place z in y) is
 
-leaf_of : (t : ℕ) (c : In-Leaf t) (u : Tree) → page u ≡ Place c.args.entry → ShowsSound c.args.nodes.now.items c.args.records.now.items u → IsLeafAt c.args.nodes.now.items c.args.records.now.items c.in-Leaf.number u
+leaf_of : (t : ℕ) (c : In-Leaf t) (u : Tree) → subtrie u ≡ Place c.args.entry → ShowsSound c.args.nodes.now.items c.args.records.now.items u → IsLeafAt c.args.nodes.now.items c.args.records.now.items c.in-Leaf.number u
 leaf_of t c u e i = leaf_at c.args.nodes.now.items c.args.records.now.items c.in-Leaf.number u (at_entry u c.args.entry (Leaf c.in-Leaf.number) e c.in-Leaf.is) i
 
-node_of : (t : ℕ) (c : In-Node t) (u : Tree) → page u ≡ Place c.args.entry → ShowsSound c.args.nodes.now.items c.args.records.now.items u → IsNodeAt c.args.nodes.now.items c.args.records.now.items c.in-Node.number c.in-Node.height u
+node_of : (t : ℕ) (c : In-Node t) (u : Tree) → subtrie u ≡ Place c.args.entry → ShowsSound c.args.nodes.now.items c.args.records.now.items u → IsNodeAt c.args.nodes.now.items c.args.records.now.items c.in-Node.number c.in-Node.height u
 node_of t c u e i = node_at c.args.nodes.now.items c.args.records.now.items c.in-Node.number c.in-Node.height u (at_entry u c.args.entry (Node c.in-Node.number c.in-Node.height) e c.in-Node.is) i
 
 -- the node shows its body, and the place to which the search leads
 starts : (t : ℕ) (c : After-start_in t) (x : Fixed) (b : Tree) → ShowsSound c.args.nodes.now.items c.args.records.now.items (node c.in-Node.number x b) →
-    (piece c.index-node.result.now ≡ page b) × (c.search-at.result ≡ spot c.args.range.from.now (page b))
+    (piece c.index-node.result.now ≡ subtrie b) × (c.search-at.result ≡ spot c.args.range.from.now (subtrie b))
 starts t c x b i =
     let shows = node_shows c.args.nodes.now.items c.args.records.now.items c.in-Node.number x b i c.index-node.result.now c.index-node.ensures in
     (shows, c.search-at.ensures.leads ∙ (leads_spot c.args.range.from.now (piece c.index-node.result.now) ∙ ap (spot c.args.range.from.now) shows))

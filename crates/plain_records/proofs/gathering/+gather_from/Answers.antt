@@ -10,7 +10,7 @@ use Rattle.compound_node.specs.declared.entries.Entry.{Entry}
 use Rattle.compound_node.specs.declared.entries.Entry.TheVariants.{Leaf, Node}
 use Rattle.tries.specs.Content.{Item, items}
 use Rattle.tries.proofs.Contents.{IsRising}
-use Rattle.tries.specs.Tree.{Page, Fixed, Tree, node, page}
+use Rattle.tries.specs.Tree.{Subtrie, Fixed, Tree, node, subtrie}
 use Rattle.tries.proofs.Maps.{AreKeys}
 use Rattle.plain_records.specs.declared.leaf.LeafRecord.{LeafRecord}
 use Rattle.plain_records.specs.declared.gathering.Progress.TheVariants.{On}
@@ -31,8 +31,8 @@ at_place t c x b i =
     part_at c.args.nodes.now.items c.args.records.now.items c.args.number x b i c.index-node.result.now c.index-node.ensures c.count-place-end.ensures.lawful c.loop-place.place c.entry.result
     c.entry.ensures.entry
 
-head_entry : (ns : List NodeView) (ls : List LeafRecord) (b : Tree) (i : ℕ) (e f : Entry) → IsPartAt ns ls b i e → e ≡ f → page (get_or (parts b) i no_tree) ≡ Place f
-head_entry ns ls b i e f p is = p.head ∙ ap (λ (z : Entry). let y : Page = Place z in y) is
+head_entry : (ns : List NodeView) (ls : List LeafRecord) (b : Tree) (i : ℕ) (e f : Entry) → IsPartAt ns ls b i e → e ≡ f → subtrie (get_or (parts b) i no_tree) ≡ Place f
+head_entry ns ls b i e f p is = p.head ∙ ap (λ (z : Entry). let y : Subtrie = Place z in y) is
 
 -- the leaves of one place more
 gathered : (t : ℕ) (c : Joined-entry t) (x : Fixed) (b : Tree) → ShowsSound c.args.nodes.now.items c.args.records.now.items (node c.args.number x b) → c.args.start ≤ length (parts b) →

@@ -11,10 +11,10 @@ use Rattle.tries.specs.Affected.{affected, IsPart}
 use Rattle.tries.specs.Keys.{Key, bit}
 use Rattle.tries.specs.Place.{spot}
 use Rattle.tries.specs.Search.{child, found}
-use Rattle.tries.specs.Tree.{Page, Tree, IsTrie, Has, page}
+use Rattle.tries.specs.Tree.{Subtrie, Tree, IsTrie, Has, subtrie}
 use Rattle.tries.proofs.Places.{spot_below}
 use Rattle.plain_records.specs.Gathered.{IsFirstMismatch}
-use Rattle.insert_cases.proofs.Choosing.{agrees, has_found, part_big, size_affected, tip_small}
+use Rattle.insert_cases.proofs.Choosing.{agrees, has_found, part_of_two, size_affected, tip_of_one_place}
 use Rattle.plain_records.proofs.Cutting.{IsCutAround, alone, cut_around, part_beyond_of, part_floor_of, start_before, start_behind, start_within}
 use Rattle.plain_records.proofs.gathering.start_in.Goals as goal
 use Rattle.plain_records.proofs.gathering.start_in.Goals.{After-affected-first}
@@ -39,15 +39,15 @@ returns-in_default c b i e at m =
     let a = alone k b in
     start_within k m.0 a.0 b (cut_around k m.0 a.0 (found k b).key (λ q h. ap (λ z. bit z q) (none_is k b c.args.difference c.in_default.is m)) b i (has_end k b)) a.1
 
-module _ (c : After-affected-first) (b : Tree) (e : piece c.args.node.now ≡ page b) (at : c.args.at ≡ spot c.args.from.now (page b)) where
+module _ (c : After-affected-first) (b : Tree) (e : piece c.args.node.now ≡ subtrie b) (at : c.args.at ≡ spot c.args.from.now (subtrie b)) where
   -- the affected places
-  first_is : affected_first c.in-Some.position (spot c.args.from.now (page b)) (page b) ≡ c.affected-first.result.0
-  first_is = ap₂ (λ (j : ℕ) (x : Page). affected_first c.in-Some.position j x) (sym at) (sym e) ∙ c.affected-first.ensures.from
+  first_is : affected_first c.in-Some.position (spot c.args.from.now (subtrie b)) (subtrie b) ≡ c.affected-first.result.0
+  first_is = ap₂ (λ (j : ℕ) (x : Subtrie). affected_first c.in-Some.position j x) (sym at) (sym e) ∙ c.affected-first.ensures.from
 
-  count_is : size (page (affected c.in-Some.position c.args.from.now b)) + c.affected-first.result.0 ≡ c.affected-first.result.1 + 1
+  count_is : size (subtrie (affected c.in-Some.position c.args.from.now b)) + c.affected-first.result.0 ≡ c.affected-first.result.1 + 1
   count_is =
-      let n : affected_count c.in-Some.position c.args.at (piece c.args.node.now) ≡ size (page (affected c.in-Some.position c.args.from.now b)) =
-      ap₂ (λ (j : ℕ) (x : Page). affected_count c.in-Some.position j x) at e ∙ size_affected c.args.from.now c.in-Some.position b in
+      let n : affected_count c.in-Some.position c.args.at (piece c.args.node.now) ≡ size (subtrie (affected c.in-Some.position c.args.from.now b)) =
+      ap₂ (λ (j : ℕ) (x : Subtrie). affected_count c.in-Some.position j x) at e ∙ size_affected c.args.from.now c.in-Some.position b in
       let u = c.affected-first.ensures.upto in omega arith
 
   -- what stands on both sides of them
@@ -60,14 +60,14 @@ module _ (c : After-affected-first) (b : Tree) (e : piece c.args.node.now ≡ pa
   several : c.affected-first.result.0 ≢ c.affected-first.result.1 → IsPart (affected c.in-Some.position c.args.from.now b)
   several n =
       let part : Tree = affected c.in-Some.position c.args.from.now b in
-      (part_big part (omega (arith, count_is, spot_below c.args.from.now (page part)))).0
+      (part_of_two part (omega (arith, count_is, spot_below c.args.from.now (subtrie part)))).0
 
 pub returns-then-first-last : goal.returns-then-first-last
 returns-then-first-last c b i e at m =
     let d = (goal.at.returns-then-first-last c).After-affected-first in
     let k = c.args.from.now in
-    let one : size (page (affected c.in-Some.position k b)) ≡ 1 = (let u = count_is d b e at in let s = c.if-first-last.true in omega arith) in
-    start_within k m.0 c.in-Some.position b (around d b e at i m) (tip_small (affected c.in-Some.position k b) (omega arith))
+    let one : size (subtrie (affected c.in-Some.position k b)) ≡ 1 = (let u = count_is d b e at in let s = c.if-first-last.true in omega arith) in
+    start_within k m.0 c.in-Some.position b (around d b e at i m) (tip_of_one_place (affected c.in-Some.position k b) (omega arith))
 
 pub prove-unreachable-requires : goal.prove-unreachable-requires
 prove-unreachable-requires c =

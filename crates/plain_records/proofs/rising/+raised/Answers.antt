@@ -6,15 +6,15 @@ use Rattle.pieces.specs.Growth.{grown}
 use Rattle.compound_node.specs.Nodes.{NodeView, piece, height_of}
 use Rattle.compound_node.specs.declared.entries.Entry.{Entry}
 use Rattle.compound_node.specs.declared.entries.Entry.TheVariants.{Leaf}
-use Rattle.tries.specs.Affected.{page_forked}
+use Rattle.tries.specs.Affected.{subtrie_forked}
 use Rattle.tries.specs.Keys.{bit}
 use Rattle.tries.specs.Place.{spot}
 use Rattle.tries.specs.Search.{child, seek}
 use Rattle.pieces.specs.Piece.{Place, Fork}
-use Rattle.tries.specs.Tree.{Tree, Fixed, node, page}
+use Rattle.tries.specs.Tree.{Tree, Fixed, node, subtrie}
 use Rattle.plain_records.specs.declared.leaf.LeafRecord.{LeafRecord}
 use Rattle.plain_records.specs.Rising.{IsAddable, IsLifting, IsRaised}
-use Rattle.insert_cases.specs.Risen.{page_of}
+use Rattle.insert_cases.specs.Risen.{subtrie_of}
 use Rattle.insert_cases.specs.declared.raising.Risen.{Risen}
 use Rattle.plain_records.specs.Cases.{AddsByCase, DoesCase, IsLevelDone, IsPutBetween, TakesLeaf, is_split}
 use Rattle.plain_records.specs.Risen.{RisenShows}
@@ -79,7 +79,7 @@ returns-then-takes_leaf-clause-raised t c = λ leaves value s a.
     first_is at_bit in
     let shows = subst (λ f. RisenShows c.grown_at.new.nodes.items u.shown.0.view c.grown_at.result (grown c.args.position (bit c.args.key.now c.args.position) (Leaf c.args.leaf) first f))
     u.shown.0.shows at_first in
-    subst (λ h. IsRaised c.args.nodes.now.items c.grown_at.new.nodes.items leaves x c.args.position s (suc h) (page_of c.grown_at.result)) (sym (ap height_of c.in-Node.is))
+    subst (λ h. IsRaised c.args.nodes.now.items c.grown_at.new.nodes.items leaves x c.args.position s (suc h) (subtrie_of c.grown_at.result)) (sym (ap height_of c.in-Node.is))
     (here_raised i u first last from upto whole c.grown_at.new.nodes.items c.grown_at.result c.grown_at.ensures.others shows)
 
 pub returns-then-takes_leaf-clause-len : goal.returns-then-takes_leaf-clause-len
@@ -101,7 +101,7 @@ raised-risen-requires t c =
 lifts : (t : ℕ) (c : After-raised-risen t) (leaves : List LeafRecord) (value : ℕ) (s : Tree) →
     IsAddable c.args.nodes.now.items leaves (item c.args.leaf c.args.key.now value) c.args.position c.args.entry s →
     (y : Fixed) × (b : Tree) × (s ≡ node c.in-Node.number y b) × IsLifting c.args.nodes.now.items c.raised-risen.new.nodes.items leaves (item c.args.leaf c.args.key.now value) c.args.position
-    c.in-Node.number c.in-Node.height c.search-at.result (height_of c.entry-child.result) y b (page_of c.raised-risen.result)
+    c.in-Node.number c.in-Node.height c.search-at.result (height_of c.entry-child.result) y b (subtrie_of c.raised-risen.result)
 lifts t c leaves value s a =
     let i = addable_to c.in-Node.is a in
     let u = node_here i in
@@ -114,7 +114,7 @@ lifts t c leaves value s a =
     let upto = here_upto u v c.index-node.ensures at first last leads c.affected-first.ensures.upto in
     let is = here_entry u v c.index-node.ensures at c.entry-child.result c.count.ensures.lawful leads c.entry-child.ensures.entry in
     let up = c.raised-risen.ensures.raised leaves value _ (child_addable i u c.entry-child.result is) in
-    let l = here_lifting u at (height_of c.entry-child.result) c.entry-child.result c.raised-risen.new.nodes.items (page_of c.raised-risen.result) (way_below i u first last from upto (passed c.step_at-step.result.height c.step_at-step.result.count first last c.entry-child.result c.choice_at-choice.result c.choice_at-choice.ensures (λ z. false≢true (c.if-takes_leaf.ensures.1 z))))
+    let l = here_lifting u at (height_of c.entry-child.result) c.entry-child.result c.raised-risen.new.nodes.items (subtrie_of c.raised-risen.result) (way_below i u first last from upto (passed c.step_at-step.result.height c.step_at-step.result.count first last c.entry-child.result c.choice_at-choice.result c.choice_at-choice.ensures (λ z. false≢true (c.if-takes_leaf.ensures.1 z))))
     (here_spot u v c.index-node.ensures at leads) is refl up in
     (u.fixed, u.body, u.is, l)
 
@@ -150,18 +150,18 @@ returns-in-Leaf-clause-raised t c = λ leaves value s a.
     let x = item c.args.leaf c.args.key.now value in
     let nodes = c.args.nodes.now.items in
     let r = beside_raised nodes leaves x c.args.position c.in-Leaf.field-0 s i in
-    let page_is = c.beside.ensures ∙ (ap (λ o. page_forked o c.args.position (Leaf c.args.leaf) (Place c.args.entry)) c.bit.ensures ∙
-    ap (λ e. page_forked (bit c.args.key.now c.args.position) c.args.position (Leaf c.args.leaf) (Place e)) c.in-Leaf.is) in
-    subst (λ h. IsRaised nodes nodes leaves x c.args.position s (suc h) (page_of c.beside.result)) (sym (ap height_of c.in-Leaf.is))
-    (subst (IsRaised nodes nodes leaves x c.args.position s 1) (sym page_is) r)
+    let subtrie_is = c.beside.ensures ∙ (ap (λ o. subtrie_forked o c.args.position (Leaf c.args.leaf) (Place c.args.entry)) c.bit.ensures ∙
+    ap (λ e. subtrie_forked (bit c.args.key.now c.args.position) c.args.position (Leaf c.args.leaf) (Place e)) c.in-Leaf.is) in
+    subst (λ h. IsRaised nodes nodes leaves x c.args.position s (suc h) (subtrie_of c.beside.result)) (sym (ap height_of c.in-Leaf.is))
+    (subst (IsRaised nodes nodes leaves x c.args.position s 1) (sym subtrie_is) r)
 
 pub returns-else-takes_leaf-clause-raised : goal.returns-else-takes_leaf-clause-raised
 returns-else-takes_leaf-clause-raised t c = λ leaves value s a.
     let x = item c.args.leaf c.args.key.now value in
     let (y, b, is, l) = lifts t (goal.at.returns-else-takes_leaf-clause-raised t c).After-raised-risen leaves value s a in
     let r = c.lifted.ensures.raised c.args.nodes.now.items leaves x c.args.position y b l in
-    subst (λ h. IsRaised c.args.nodes.now.items c.lifted.new.nodes.items leaves x c.args.position s (suc h) (page_of c.lifted.result)) (sym (ap height_of c.in-Node.is))
-    (subst (λ z. IsRaised c.args.nodes.now.items c.lifted.new.nodes.items leaves x c.args.position z (suc c.in-Node.height) (page_of c.lifted.result)) (sym is) r)
+    subst (λ h. IsRaised c.args.nodes.now.items c.lifted.new.nodes.items leaves x c.args.position s (suc h) (subtrie_of c.lifted.result)) (sym (ap height_of c.in-Node.is))
+    (subst (λ z. IsRaised c.args.nodes.now.items c.lifted.new.nodes.items leaves x c.args.position z (suc c.in-Node.height) (subtrie_of c.lifted.result)) (sym is) r)
 
 pub returns-else-takes_leaf-clause-heights : goal.returns-else-takes_leaf-clause-heights
 returns-else-takes_leaf-clause-heights t c =
@@ -178,8 +178,8 @@ returns-else-takes_leaf-clause-len t c =
 
 -- ---- the case
 -- the fork of a leaf and the new one, on either side
-forked_between : (ms us : List NodeView) (n at : ℕ) (view : NodeView) (risen : Risen) (p l : ℕ) (e : Entry) (b : Bool) → page_of risen ≡ page_forked b p (Leaf l) (Place e) →
-    ((z o : Entry) → page_of risen ≡ Fork p (Place z) (Place o) → IsPutBetween ms us n at view (Fork p (Place z) (Place o))) → IsPutBetween ms us n at view (page_forked b p (Leaf l) (Place e))
+forked_between : (ms us : List NodeView) (n at : ℕ) (view : NodeView) (risen : Risen) (p l : ℕ) (e : Entry) (b : Bool) → subtrie_of risen ≡ subtrie_forked b p (Leaf l) (Place e) →
+    ((z o : Entry) → subtrie_of risen ≡ Fork p (Place z) (Place o) → IsPutBetween ms us n at view (Fork p (Place z) (Place o))) → IsPutBetween ms us n at view (subtrie_forked b p (Leaf l) (Place e))
 forked_between ms us n at view risen p l e true is put = put e (Leaf l) is
 forked_between ms us n at view risen p l e false is put = put (Leaf l) e is
 
@@ -240,13 +240,13 @@ returns-else-takes_leaf-clause-case t c = λ leaves value s a.
     let rose = is_split c.raised-risen.result in
     let up = is_split c.lifted.result in
     let still : slice_get ms n ≡ Some u.shown.0.view =
-    old_stays ns leaves n u.fixed u.body u.trie u.built u.shown ms (item l k value) p (suc (height_of e)) (page_of c.raised-risen.result) (way_below i u first last from upto few)
+    old_stays ns leaves n u.fixed u.body u.trie u.built u.shown ms (item l k value) p (suc (height_of e)) (subtrie_of c.raised-risen.result) (way_below i u first last from upto few)
     (c.raised-risen.ensures.raised leaves value (child k u.body) b) (omega (arith, child_low u e is, u.high)) in
     let takes = c.lifted.ensures.takes u.shown.0.view still in
     subst (λ z. AddsByCase ns us k p l z up) (sym u.is) (elim (cases_lt 0 (height_of e)) [
       | inl high ↦
-          let does : IsLevelDone (height_of (seek k (page u.body))) rose u.shown.0.view takes.0 (spot k (page u.body)) up =
-          subst (λ d. IsLevelDone (height_of d) rose u.shown.0.view takes.0 (spot k (page u.body)) up) is
+          let does : IsLevelDone (height_of (seek k (subtrie u.body))) rose u.shown.0.view takes.0 (spot k (subtrie u.body)) up =
+          subst (λ d. IsLevelDone (height_of d) rose u.shown.0.view takes.0 (spot k (subtrie u.body)) up) is
           (subst (λ j. IsLevelDone (height_of e) rose u.shown.0.view takes.0 j up) (here_spot u v c.index-node.ensures at leads) takes.2) in
           above_by_case ns ms us k p l n u.fixed u.body rose up (not_below ns leaves n u.fixed u.body u.trie u.built u.shown) (way_below i u first last from upto few) c.lifted.ensures.others
           (record { before = u.shown.0.view; after = takes.0; old_at = u.shown.0.at; new_at = takes.1; does = does })
@@ -258,7 +258,7 @@ returns-else-takes_leaf-clause-case t c = λ leaves value s a.
           c.choice_at-choice.result c.choice_at-choice.ensures passes zero_high is c.entry-child.ensures.stands.0 in
           let far : height_of e + 1 < c.in-Node.height = omega arith in
           let within = (c.affected-first.ensures.range at (omega (arith, c.search-at.ensures.in_range))).0 (λ j g h. refl) in
-          let put : IsPutBetween ms us n at u.shown.0.view (page_forked r.1 p (Leaf l) (Place e)) =
+          let put : IsPutBetween ms us n at u.shown.0.view (subtrie_forked r.1 p (Leaf l) (Place e)) =
           forked_between ms us n at u.shown.0.view c.raised-risen.result p l e r.1 r.2 (λ z o f. c.lifted.ensures.between u.shown.0.view p z o still f far) in
           let forked : rose ≡ true = forked_split c.raised-risen.result r.1 p l e r.2 in
           let above : IsLevelDone (height_of e) true u.shown.0.view takes.0 at up = subst (λ o. IsLevelDone (height_of e) o u.shown.0.view takes.0 at up) forked takes.2 in

@@ -6,7 +6,7 @@ use Rattle.pieces.specs.Piece.{Place, Fork, size}
 use Rattle.compound_node.specs.Nodes.{NodeView, piece, IsLawfulNode}
 use Rattle.pieces.specs.Grafts.{grafted, IsAbovePath}
 use Rattle.insert_cases.specs.Grown.{GrownShows, is_whole}
-use Rattle.insert_cases.proofs.Choosing.{same_some}
+use Rattle.insert_cases.proofs.Choosing.{some_injective}
 use Rattle.tries.proofs.Building.{size-piece}
 use Rattle.plain_records.proofs.Searching.{read_at}
 use Rattle.plain_records.proofs.Steady.{pull_steady, size-grafted}
@@ -37,7 +37,7 @@ returns-clause-shows c = λ old at.
     let o = c.requires.place in
     let v = c.index-node.result.now in
     let same : v ≡ old = read_at c.args.nodes.now.items c.args.number old v at c.index-node.ensures in
-    let high : old.height ≡ c.args.height = ap (λ (w : NodeView). w.height) (same_some (sym at ∙ o.1)) ∙ o.2 in
+    let high : old.height ≡ c.args.height = ap (λ (w : NodeView). w.height) (some_injective (sym at ∙ o.1)) ∙ o.2 in
     c.stored.ensures.shows old _ at high (subst IsLawfulNode same c.count.ensures.lawful) (rw same at c.pull_up-grown.ensures.shows)
 
 pub returns-clause-heights : goal.returns-clause-heights

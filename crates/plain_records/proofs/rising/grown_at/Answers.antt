@@ -8,7 +8,7 @@ use Rattle.compound_node.specs.Nodes.{IsBuiltFrom, IsLawfulNode, NodeView, piece
 use Rattle.compound_node.specs.declared.entries.Entry.TheVariants.{Leaf}
 use Rattle.insert_cases.specs.Grown.{GrownShows}
 use Rattle.insert_cases.specs.declared.choice.Case.{Case}
-use Rattle.insert_cases.proofs.Choosing.{same_some}
+use Rattle.insert_cases.proofs.Choosing.{some_injective}
 use Rattle.plain_records.proofs.Heights.{heights_whole}
 use Rattle.plain_records.proofs.Searching.{read_at}
 use Rattle.plain_records.proofs.Steady.{add_steady, full_steady}
@@ -30,7 +30,7 @@ pub returns-in-Overflow-clause-shows : goal.returns-in-Overflow-clause-shows
 returns-in-Overflow-clause-shows c = λ old at.
     let o = c.requires.place in
     let same : c.index-node.result.now ≡ old = read_at c.args.nodes.now.items c.args.number old c.index-node.result.now at c.index-node.ensures in
-    let high : old.height ≡ c.args.height = ap (λ (w : NodeView). w.height) (same_some (sym at ∙ o.1)) ∙ o.2 in
+    let high : old.height ≡ c.args.height = ap (λ (w : NodeView). w.height) (some_injective (sym at ∙ o.1)) ∙ o.2 in
     c.stored.ensures.shows old _ at high (subst IsLawfulNode same c.count-in-Overflow.ensures.lawful) (rw same at c.grow_full-grown.ensures.shows)
 
 pub returns-in-Overflow-clause-heights : goal.returns-in-Overflow-clause-heights

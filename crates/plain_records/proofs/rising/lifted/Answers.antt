@@ -5,10 +5,10 @@ use Rattle.compound_node.specs.Nodes.{NodeView, height_of, piece, IsBuiltFrom}
 use Rattle.compound_node.specs.declared.entries.Entry.TheVariants.{Node}
 use Rattle.pieces.specs.Changes.{replaced}
 use Rattle.pieces.specs.Piece.{Place, Fork}
-use Rattle.insert_cases.specs.Risen.{page_of}
+use Rattle.insert_cases.specs.Risen.{subtrie_of}
 use Rattle.insert_cases.specs.declared.raising.Risen.TheVariants.{Whole}
 use Rattle.plain_records.proofs.Climbing.{old_at, old_high, at_within, above_path, pair_here, stands_here, lift, between, piece-same, replaced_named}
-use Rattle.insert_cases.proofs.Choosing.{same_some}
+use Rattle.insert_cases.proofs.Choosing.{some_injective}
 use Rattle.plain_records.proofs.Heights.{heights_new, heights_over}
 use Rattle.plain_records.proofs.Storing.{push_old}
 use Rattle.plain_records.proofs.rising.lifted.Goals as goal
@@ -16,26 +16,26 @@ use Rattle.plain_records.proofs.rising.lifted.Goals as goal
 pub replaced-requires : goal.replaced-requires
 replaced-requires c =
     let i = c.requires.place.6 in
-    (i.shown.0.view, old_at i, at_within i, stands_here i c.in-Whole.entry (ap page_of c.in-Whole.is))
+    (i.shown.0.view, old_at i, at_within i, stands_here i c.in-Whole.entry (ap subtrie_of c.in-Whole.is))
 
 pub forked_at-requires-clause-place : goal.forked_at-requires-clause-place
 forked_at-requires-clause-place c =
     let i = c.requires.place.6 in
-    (i.shown.0.view, old_at i, old_high i, at_within i, above_path i c.in-Split.position c.in-Split.zero c.in-Split.one (ap page_of c.in-Split.is))
+    (i.shown.0.view, old_at i, old_high i, at_within i, above_path i c.in-Split.position c.in-Split.zero c.in-Split.one (ap subtrie_of c.in-Split.is))
 
 pub forked_at-requires-clause-position : goal.forked_at-requires-clause-position
 forked_at-requires-clause-position c =
-    let p = pair_here c.requires.place.6 c.in-Split.position c.in-Split.zero c.in-Split.one (ap page_of c.in-Split.is) in omega (arith, p.position)
+    let p = pair_here c.requires.place.6 c.in-Split.position c.in-Split.zero c.in-Split.one (ap subtrie_of c.in-Split.is) in omega (arith, p.position)
 
 pub forked_at-requires-clause-zero : goal.forked_at-requires-clause-zero
-forked_at-requires-clause-zero c = (pair_here c.requires.place.6 c.in-Split.position c.in-Split.zero c.in-Split.one (ap page_of c.in-Split.is)).zero
+forked_at-requires-clause-zero c = (pair_here c.requires.place.6 c.in-Split.position c.in-Split.zero c.in-Split.one (ap subtrie_of c.in-Split.is)).zero
 
 pub forked_at-requires-clause-one : goal.forked_at-requires-clause-one
-forked_at-requires-clause-one c = (pair_here c.requires.place.6 c.in-Split.position c.in-Split.zero c.in-Split.one (ap page_of c.in-Split.is)).one
+forked_at-requires-clause-one c = (pair_here c.requires.place.6 c.in-Split.position c.in-Split.zero c.in-Split.one (ap subtrie_of c.in-Split.is)).one
 
 pub settled-entry-requires : goal.settled-entry-requires
 settled-entry-requires c =
-    let p = pair_here c.requires.place.6 c.in-Split.position c.in-Split.zero c.in-Split.one (ap page_of c.in-Split.is) in
+    let p = pair_here c.requires.place.6 c.in-Split.position c.in-Split.zero c.in-Split.one (ap subtrie_of c.in-Split.is) in
     record { room = c.requires.room; small = c.requires.small; position = omega (arith, p.position); zero = p.zero; one = p.one }
 
 pub replaced-requires-in_default : goal.replaced-requires-in_default
@@ -43,7 +43,7 @@ replaced-requires-in_default c =
     let i = c.requires.place.6 in
     let ne : c.args.height ≢ height_of c.args.child + 1 = λ e. c.in_default.not-PullUp (c.place.ensures.pull_up.1 (ap Some (e ∙ ap (λ h. h + 1) (sym c.height.ensures)))) in
     let far : suc (height_of c.args.child) < c.args.height = omega (arith, i.lower) in
-    let o = between i c.settled-entry.new.nodes.items c.in-Split.position c.in-Split.zero c.in-Split.one c.settled-entry.result (ap page_of c.in-Split.is) c.settled-entry.ensures.new far in
+    let o = between i c.settled-entry.new.nodes.items c.in-Split.position c.in-Split.zero c.in-Split.one c.settled-entry.result (ap subtrie_of c.in-Split.is) c.settled-entry.ensures.new far in
     (o.shown.0.view, old_at o, at_within o, stands_here o c.settled-entry.result refl)
 
 pub returns-else-eq-clause-raised : goal.returns-else-eq-clause-raised
@@ -60,7 +60,7 @@ returns-then-eq-clause-raised c = λ ns leaves x p y b i.
     (λ old at.
     let held = c.requires.child old at in
     let shows : piece old ≡ replaced c.args.at c.in-Whole.entry (piece old) = sym (piece-same old c.args.at c.in-Whole.entry held.0 (held.1 ∙ ap Some same)) in
-    let high : old.height ≡ c.args.height = ap (λ (v : NodeView). v.height) (same_some (sym at ∙ old_at i)) ∙ old_high i in
+    let high : old.height ≡ c.args.height = ap (λ (v : NodeView). v.height) (some_injective (sym at ∙ old_at i)) ∙ old_high i in
     rw (c.in-Whole.is, ← high) (replaced_named nodes c.args.number c.args.at c.in-Whole.entry old old at held.0 refl shows))
 
 pub returns-in-PullUp-clause-raised : goal.returns-in-PullUp-clause-raised
@@ -72,7 +72,7 @@ pub returns-in_default-clause-raised : goal.returns-in_default-clause-raised
 returns-in_default-clause-raised c = λ ns leaves x p y b i.
     let ne : c.args.height ≢ height_of c.args.child + 1 = λ e. c.in_default.not-PullUp (c.place.ensures.pull_up.1 (ap Some (e ∙ ap (λ h. h + 1) (sym c.height.ensures)))) in
     let far : suc (height_of c.args.child) < c.args.height = omega (arith, i.lower) in
-    lift (between i c.settled-entry.new.nodes.items c.in-Split.position c.in-Split.zero c.in-Split.one c.settled-entry.result (ap page_of c.in-Split.is) c.settled-entry.ensures.new far)
+    lift (between i c.settled-entry.new.nodes.items c.in-Split.position c.in-Split.zero c.in-Split.one c.settled-entry.result (ap subtrie_of c.in-Split.is) c.settled-entry.ensures.new far)
     c.replaced-in_default.new.nodes.items (Whole c.replaced-in_default.result) c.replaced-in_default.ensures.others c.replaced-in_default.ensures.shows
 
 pub returns-in_default-clause-heights : goal.returns-in_default-clause-heights
@@ -91,13 +91,13 @@ returns-in_default-clause-others c = λ m v ne at.
 
 -- where a new node was put between
 pub returns-then-eq-clause-between : goal.returns-then-eq-clause-between
-returns-then-eq-clause-between c = λ old p zero one at is far. absurd (let e : page_of (Whole c.in-Whole.entry) ≡ page_of c.args.risen = ap page_of (sym c.in-Whole.is) in cc)
+returns-then-eq-clause-between c = λ old p zero one at is far. absurd (let e : subtrie_of (Whole c.in-Whole.entry) ≡ subtrie_of c.args.risen = ap subtrie_of (sym c.in-Whole.is) in cc)
 
 pub returns-else-eq-clause-between : goal.returns-else-eq-clause-between
-returns-else-eq-clause-between c = λ old p zero one at is far. absurd (let e : page_of (Whole c.in-Whole.entry) ≡ page_of c.args.risen = ap page_of (sym c.in-Whole.is) in cc)
+returns-else-eq-clause-between c = λ old p zero one at is far. absurd (let e : subtrie_of (Whole c.in-Whole.entry) ≡ subtrie_of c.args.risen = ap subtrie_of (sym c.in-Whole.is) in cc)
 
 pub returns-in-PullUp-clause-between : goal.returns-in-PullUp-clause-between
-returns-in-PullUp-clause-between c = λ old p zero one at is far. absurd (let e = same_some (c.place.ensures.pull_up.0 c.in-PullUp.is) in omega (arith, e, c.height.ensures, far))
+returns-in-PullUp-clause-between c = λ old p zero one at is far. absurd (let e = some_injective (c.place.ensures.pull_up.0 c.in-PullUp.is) in omega (arith, e, c.height.ensures, far))
 
 pub returns-in_default-clause-between : goal.returns-in_default-clause-between
 returns-in_default-clause-between c = λ old p zero one at is far.
@@ -105,7 +105,7 @@ returns-in_default-clause-between c = λ old p zero one at is far.
     let us = c.settled-entry.new.nodes.items in
     let new = c.settled-entry.ensures.new in
     let still : slice_get us c.args.number ≡ Some old = ap (λ (vs : List NodeView). slice_get vs c.args.number) new.added ∙ push_old ms _ c.args.number old at in
-    let shown : Fork c.in-Split.position (Place c.in-Split.zero) (Place c.in-Split.one) ≡ Fork p (Place zero) (Place one) = sym (ap page_of c.in-Split.is) ∙ is in
+    let shown : Fork c.in-Split.position (Place c.in-Split.zero) (Place c.in-Split.one) ≡ Fork p (Place zero) (Place one) = sym (ap subtrie_of c.in-Split.is) ∙ is in
     record {
       view = new.view;
       built = subst (IsBuiltFrom new.view) shown new.built;
@@ -123,8 +123,8 @@ returns-else-eq-clause-takes c = λ old at. rw c.in-Whole.is (_, c.replaced.ensu
 pub returns-in-PullUp-clause-takes : goal.returns-in-PullUp-clause-takes
 returns-in-PullUp-clause-takes c = λ old at.
     let i = c.requires.place.6 in
-    let high : old.height ≡ c.args.height = ap (λ (v : NodeView). v.height) (same_some (sym at ∙ old_at i)) ∙ old_high i in
-    let pulled : old.height ≡ height_of c.args.child + 1 = omega (arith, high, same_some (c.place.ensures.pull_up.0 c.in-PullUp.is), c.height.ensures) in
+    let high : old.height ≡ c.args.height = ap (λ (v : NodeView). v.height) (some_injective (sym at ∙ old_at i)) ∙ old_high i in
+    let pulled : old.height ≡ height_of c.args.child + 1 = omega (arith, high, some_injective (c.place.ensures.pull_up.0 c.in-PullUp.is), c.height.ensures) in
     let f = c.forked_at.ensures.takes old at in
     rw c.in-Split.is (f.0, f.1, (λ e. f.2, λ ne. absurd (ne pulled)))
 
@@ -133,7 +133,7 @@ returns-in_default-clause-takes c = λ old at.
     let i = c.requires.place.6 in
     let ms = c.args.nodes.now.items in
     let us = c.settled-entry.new.nodes.items in
-    let high : old.height ≡ c.args.height = ap (λ (v : NodeView). v.height) (same_some (sym at ∙ old_at i)) ∙ old_high i in
+    let high : old.height ≡ c.args.height = ap (λ (v : NodeView). v.height) (some_injective (sym at ∙ old_at i)) ∙ old_high i in
     let ne : old.height ≡ height_of c.args.child + 1 → ⊥ = λ e. c.in_default.not-PullUp (c.place.ensures.pull_up.1 (ap Some (sym high ∙ (e ∙ ap (λ h. h + 1) (sym c.height.ensures))))) in
     let still : slice_get us c.args.number ≡ Some old = ap (λ (vs : List NodeView). slice_get vs c.args.number) c.settled-entry.ensures.new.added ∙ push_old ms _ c.args.number old at in
     rw c.in-Split.is (_, c.replaced-in_default.ensures.fields old still, (λ e. absurd (ne e), λ f. ((_, _, ap (λ e. let w : NodeView = record old { entries = slice_set old.entries c.args.at e } in w) c.settled-entry.ensures.new.is), refl)))

@@ -5,22 +5,22 @@ use Rattle.std.specs.Vec.{vec_len}
 use Rattle.insert_cases.specs.declared.raising.Risen.{Risen}
 use Rattle.plain_records.specs.Cases.{IsNewNode, is_split}
 use Rattle.plain_records.specs.Rising.{IsRaised}
-use Rattle.insert_cases.specs.Risen.{page_of}
+use Rattle.insert_cases.specs.Risen.{subtrie_of}
 use Rattle.insert_cases.proofs.Pairs.{pair_facts}
-use Rattle.plain_records.proofs.Climbing.{settle}
+use Rattle.plain_records.proofs.Climbing.{raised_in_new_node}
 use Rattle.plain_records.proofs.Keeping.{lower_more}
 use Rattle.plain_records.proofs.rising.rooted.Goals as goal
 
 pub settled-requires : goal.settled-requires
 settled-requires c =
     let u = c.requires.place.6 in
-    let p = pair_facts c.in-Split.position c.in-Split.zero c.in-Split.one u.tree (u.begins ∙ ap page_of c.in-Split.is) u.adds.trie u.built in
+    let p = pair_facts c.in-Split.position c.in-Split.zero c.in-Split.one u.tree (u.begins ∙ ap subtrie_of c.in-Split.is) u.adds.trie u.built in
     record { room = c.requires.room; small = c.requires.small; position = omega (arith, p.position); zero = p.zero; one = p.one }
 
 pub returns-in-Whole-clause-raised : goal.returns-in-Whole-clause-raised
 returns-in-Whole-clause-raised c = λ ns leaves x p t h u. record {
   tree = u.tree;
-  begins = u.begins ∙ ap page_of c.in-Whole.is;
+  begins = u.begins ∙ ap subtrie_of c.in-Whole.is;
   adds = u.adds;
   built = u.built;
   lower = lower_more c.args.nodes.now.items h (suc h) u.tree u.lower (omega arith);
@@ -30,8 +30,8 @@ returns-in-Whole-clause-raised c = λ ns leaves x p t h u. record {
 
 pub returns-in-Split-clause-raised : goal.returns-in-Split-clause-raised
 returns-in-Split-clause-raised c = λ ns leaves x p t h u.
-    settle ns c.args.nodes.now.items c.settled.new.nodes.items leaves x p t h c.in-Split.position c.in-Split.zero c.in-Split.one c.settled.result
-    (subst (IsRaised ns c.args.nodes.now.items leaves x p t h) (ap page_of c.in-Split.is) u) c.settled.ensures.new
+    raised_in_new_node ns c.args.nodes.now.items c.settled.new.nodes.items leaves x p t h c.in-Split.position c.in-Split.zero c.in-Split.one c.settled.result
+    (subst (IsRaised ns c.args.nodes.now.items leaves x p t h) (ap subtrie_of c.in-Split.is) u) c.settled.ensures.new
 
 pub returns-in-Whole-clause-new : goal.returns-in-Whole-clause-new
 returns-in-Whole-clause-new c = λ up. absurd (false≢true (subst (λ (r : Risen). is_split r ≡ true) c.in-Whole.is up))

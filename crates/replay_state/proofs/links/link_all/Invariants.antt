@@ -1,6 +1,6 @@
 -- What stays true in the loop of `link_all`.
 use Rattle.std.proofs.Common.{◌≡◌, ℕ, ◌<◌, ◌≤◌, get_or, slice_get, false, Some}
-use Rattle.moments.specs.Steps.{next_fate}
+use Rattle.versions.specs.Steps.{next_fate}
 use Rattle.replay_state.specs.declared.fate.Fate.{Fate}
 use Rattle.replay_state.specs.Fates.{stored_fate}
 use Rattle.replay_state.proofs.links.link_all.Given as goal

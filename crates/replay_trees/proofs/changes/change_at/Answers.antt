@@ -2,11 +2,11 @@
 use Rattle.std.proofs.Common.{◌∷◌, [], refl, sym, subst}
 use Rattle.std.specs.declared.cmp.Ordering.TheVariants.{Less, Equal, Greater}
 use Rattle.std.specs.Prelude.{map}
-use Rattle.replay_trees.specs.Moments.{read_item}
+use Rattle.replay_trees.specs.Versions.{read_item}
 use Rattle.replay_trees.specs.Changed.{IsMade}
 use Rattle.replay_trees.proofs.Between.{removal_found, addition_found, exchange_found, apart_change, found_at, no_items}
 use Rattle.replay_trees.proofs.changes.change_at.Goals as goal
-use Rattle.moments.specs.Told.{added_change, removed_change}
+use Rattle.versions.specs.Told.{added_change, removed_change}
 
 pub returns-in-None-Some : goal.returns-in-None-Some
 returns-in-None-Some c =

@@ -1,7 +1,7 @@
 -- Behind the common front the first leaves differ.
 use Rattle.std.proofs.Common.{ℕ, ◌-◌, List, length, take, drop, map, sym, ◌∙◌, ap, subst, ◌≡◌, arith}
 use Rattle.std.proofs.lemmas.List.{length-map, drop-map, take_rest}
-use Rattle.replay_trees.specs.Moments.{read_item}
+use Rattle.replay_trees.specs.Versions.{read_item}
 use Rattle.replay_trees.specs.declared.trees.Item.{Item}
 use Rattle.rowex_core.specs.Events.{AreSame}
 use Rattle.replay_trees.specs.Changed.{BeginApart, IsFoundChange}

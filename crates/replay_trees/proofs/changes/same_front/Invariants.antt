@@ -1,6 +1,6 @@
 -- The numbers so far are the same.
 use Rattle.std.proofs.Common.{◌≡◌, ℕ, ◌<◌, map, get_or}
-use Rattle.replay_trees.specs.Moments.{read_item}
+use Rattle.replay_trees.specs.Versions.{read_item}
 use Rattle.replay_trees.specs.Changed.{numbers}
 use Rattle.replay_trees.proofs.changes.same_front.Given as goal
 

@@ -1,7 +1,7 @@
 -- The records are those of the table, and have these words.
 use Rattle.std.proofs.Common.{◌≡◌, arith, subst}
 use Rattle.compound_node.specs.declared.entries.Entry.TheVariants.{Leaf, Node}
-use Rattle.moments.specs.declared.Rec.TheVariants.{Leaf as a_leaf, Node as a_node}
+use Rattle.versions.specs.declared.Rec.TheVariants.{Leaf as a_leaf, Node as a_node}
 use Rattle.rowex_core.specs.declared.event.Act.TheVariants.{LoadFixed}
 use Rattle.rowex_reading.specs.Turns.{IsWayTip}
 use Rattle.rowex_reading.proofs.Led.{reads_one, reads_trans}

@@ -4,7 +4,7 @@ use Rattle.std.proofs.lemmas.List.{length-set}
 use Rattle.compound_node.specs.Nodes.{HeadView, IsLawfulNode, leaves, node_of}
 use Rattle.compound_node.specs.declared.entries.Entry.TheVariants.{Node}
 use Rattle.compound_node.proofs.Lawful.{same_count, with_leaves}
-use Rattle.moments.specs.declared.Rec.TheVariants.{Node as a_node}
+use Rattle.versions.specs.declared.Rec.TheVariants.{Node as a_node}
 use Rattle.record_words.specs.declared.TheConstants.{HEAD_WORDS}
 use Rattle.record_words.specs.Node.{head_words}
 use Rattle.record_words.proofs.Spelled.{spells_head}

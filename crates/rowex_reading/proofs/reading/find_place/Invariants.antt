@@ -1,6 +1,6 @@
 -- The words so far are loaded.
 use Rattle.std.proofs.Common.{◌≡◌, ℕ, ◌<◌, length}
-use Rattle.moments.specs.declared.Rec.TheVariants.{Node as a_node}
+use Rattle.versions.specs.declared.Rec.TheVariants.{Node as a_node}
 use Rattle.record_words.specs.declared.TheConstants.{HEAD_WORDS}
 use Rattle.rowex_reading.specs.Reads.{IsReader, Reads}
 use Rattle.rowex_reading.proofs.Wording.{AreLoaded}

@@ -1,7 +1,7 @@
 -- None of the row yet, one more that is not free, and one that is.
 use Rattle.std.proofs.Common.{rules, arith, ◌≡◌, ◌+◌, ◌∙◌, ap, sym, subst, add-zero}
 use Rattle.std.specs.Prelude.{None}
-use Rattle.rowex_records.specs.Claims.{TriesOn, count_of, record_of}
+use Rattle.rowex_records.specs.Claims.{GoesOnTrying, count_of, record_of}
 use Rattle.rowex_records.proofs.Claimed.{has_index, row_none, row_more, row_claims, starts_at}
 use Rattle.rowex_records.proofs.claiming.claim_in_row.Goals as goal
 
@@ -33,5 +33,5 @@ returns-then-try_record-clause-tries g c =
 pub returns-clause-tries : goal.returns-clause-tries
 returns-clause-tries g c =
     let done : c.loop-index.index ≡ c.args.count = omega arith in
-    subst (λ z. TriesOn c.args.table.now g.G.Gate.becomes (record_of c.args.kind) (count_of c.args.kind c.args.table.now.layout) c.args.number z None (c.args.seat.now, c.args.gate.now) (c.loop-index.seat, c.loop-index.gate)) done
+    subst (λ z. GoesOnTrying c.args.table.now g.G.Gate.becomes (record_of c.args.kind) (count_of c.args.kind c.args.table.now.layout) c.args.number z None (c.args.seat.now, c.args.gate.now) (c.loop-index.seat, c.loop-index.gate)) done
     c.loop-index.invariant.tries

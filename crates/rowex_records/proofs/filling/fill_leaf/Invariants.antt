@@ -1,6 +1,6 @@
 -- The words below the index stand.
 use Rattle.std.proofs.Common.{◌-◌, ◌<◌, ◌≤◌}
-use Rattle.moments.specs.declared.Rec.TheVariants.{Leaf}
+use Rattle.versions.specs.declared.Rec.TheVariants.{Leaf}
 use Rattle.record_words.specs.Leaf.{leaf_words}
 use Rattle.rowex_records.proofs.SetAll.{SetsSome}
 use Rattle.rowex_records.proofs.filling.fill_leaf.Given as goal

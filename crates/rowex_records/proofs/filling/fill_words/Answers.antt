@@ -1,6 +1,6 @@
 -- No word yet, one more, of the head and then of the entries, and all of them, which spell the node.
 use Rattle.std.proofs.Common.{rules, arith, subst, length, ◌≡◌}
-use Rattle.moments.specs.declared.Rec.TheVariants.{Node as a_node}
+use Rattle.versions.specs.declared.Rec.TheVariants.{Node as a_node}
 use Rattle.rowex_core.specs.Reading.{IsPacked}
 use Rattle.rowex_records.proofs.SetAll.{SetsSome, sets_none, sets_more, sets_node, sets_count, sets_give}
 use Rattle.rowex_records.proofs.filling.fill_words.Goals as goal

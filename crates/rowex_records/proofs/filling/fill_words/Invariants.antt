@@ -1,5 +1,5 @@
 -- The words below the index stand.
-use Rattle.moments.specs.declared.Rec.TheVariants.{Node}
+use Rattle.versions.specs.declared.Rec.TheVariants.{Node}
 use Rattle.rowex_records.proofs.SetAll.{SetsSome}
 use Rattle.rowex_records.proofs.filling.fill_words.Given as goal
 

@@ -1,6 +1,6 @@
 -- The word is not 0, or a 0 is stored in another's place, or it stands there.
 use Rattle.std.proofs.Common.{rules, subst}
-use Rattle.moments.specs.declared.Rec.TheVariants.{Leaf as a_leaf}
+use Rattle.versions.specs.declared.Rec.TheVariants.{Leaf as a_leaf}
 use Rattle.rowex_records.specs.Records.{Sets}
 use Rattle.rowex_table.proofs.Rights.{fills}
 use Rattle.rowex_records.proofs.SetAll.{load_claimed, sets_stored, sets_found, sets_mended}

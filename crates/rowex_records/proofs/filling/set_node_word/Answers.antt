@@ -1,7 +1,7 @@
 -- The word is used, or an unused one is stored in another's place, or it stands there.
 use Rattle.std.proofs.Common.{◌≡◌, ◌∙◌, subst, sym}
-use Rattle.moments.specs.declared.Rec.TheVariants.{Node as a_node}
-use Rattle.rowex_records.specs.Records.{looking, unused_word}
+use Rattle.versions.specs.declared.Rec.TheVariants.{Node as a_node}
+use Rattle.rowex_records.specs.Records.{load_of_word, unused_word}
 use Rattle.rowex_table.specs.Runs.{Steps}
 use Rattle.rowex_table.proofs.Rights.{fills}
 use Rattle.rowex_records.proofs.SetAll.{load_claimed, sets_stored, sets_found, sets_mended}
@@ -30,4 +30,4 @@ pub returns-else-load_node_word-word : goal.returns-else-load_node_word-word
 returns-else-load_node_word-word g c =
     let unused : c.args.word ≡ unused_word (a_node c.args.number) c.args.offset = c.if-word-unused_in_node.false ∙ c.unused_in_node.ensures c.args.number in
     sets_found _ _ (a_node c.args.number) c.args.offset c.args.word _ _ unused
-    (subst (λ w. Steps c.args.table.now g.G.Gate.becomes (looking (a_node c.args.number) c.args.offset w) (c.args.seat.now, c.args.gate.now) (c.load_node_word.new.seat, c.load_node_word.new.gate)) c.if-load_node_word-word.false c.load_node_word.ensures)
+    (subst (λ w. Steps c.args.table.now g.G.Gate.becomes (load_of_word (a_node c.args.number) c.args.offset w) (c.args.seat.now, c.args.gate.now) (c.load_node_word.new.seat, c.load_node_word.new.gate)) c.if-load_node_word-word.false c.load_node_word.ensures)

@@ -10,7 +10,7 @@ use Rattle.rowex_writing.proofs.Attempting.{aimless_looked, answered_change, ans
 use Rattle.rowex_writing.proofs.Attempted.{attempted, attempted_few, tried_after}
 use Rattle.rowex_writing.proofs.Onward.{reads_run}
 use Rattle.rowex_writing.proofs.Runs.{none_once, run_loaded, run_none}
-use Rattle.rowex_writing.proofs.Works.{quiet_on}
+use Rattle.rowex_writing.proofs.Works.{no_change_made_later}
 use Rattle.rowex_writing.proofs.attempts.attempt.Goals as goal
 
 pub find_plan-requires-clause-own : goal.find_plan-requires-clause-own
@@ -79,7 +79,7 @@ pub try_change-requires-clause-quiet : goal.try_change-requires-clause-quiet
 try_change-requires-clause-quiet g c =
     let b = begun_on c.args.table.now g.G.Gate.becomes c.find_plan.ensures.reads.0 c.find_plan.ensures.reads.1 (c.args.seat.now, c.args.gate.now) (c.search_way-found.new.seat, c.search_way-found.new.gate) (c.find_plan.new.seat, c.find_plan.new.gate)
     (searched c.args.table.now g.G.Gate.becomes (c.args.seat.now, c.args.gate.now) (c.search_way-found.new.seat, c.search_way-found.new.gate) c.search_way-found.ensures.searched c.search_way-found.ensures.possible c.requires.own c.requires.rest) c.find_plan.ensures.reads.2 in
-    quiet_on c.args.seat.now.known c.find_plan.new.seat.known b.later c.requires.quiet
+    no_change_made_later c.args.seat.now.known c.find_plan.new.seat.known b.later c.requires.quiet
 
 pub returns-in-Err-clause-run : goal.returns-in-Err-clause-run
 returns-in-Err-clause-run g c =

@@ -3,12 +3,12 @@ use Rattle.std.proofs.Common.{◌≡◌, ◌≢◌, ℕ, ◌+◌, ◌-◌, ◌<�
 use Rattle.std.specs.Prelude.{slice_get}
 use Rattle.std.proofs.lemmas.Option.{slice_get-get_or, slice_get_within, get_or_from_slice_get}
 use Rattle.insert_cases.specs.declared.choice.Step.{Step}
-use Rattle.insert_cases.proofs.Choosing.{same_some}
-use Rattle.moments.specs.Trades.{IsOf}
+use Rattle.insert_cases.proofs.Choosing.{some_injective}
+use Rattle.versions.specs.Trades.{IsOneOf}
 use Rattle.rowex_core.specs.Reading.{node_words_of}
 use Rattle.rowex_writing.specs.Going.{HasLocked}
 use Rattle.rowex_writing.proofs.Locking.{goes_more}
-use Rattle.rowex_writing.proofs.Lifting.{fits_above, up_there, up_below, up_next, up_end, settled_up, up_done}
+use Rattle.rowex_writing.proofs.Lifting.{fits_above, up_there, up_below, up_next, rising_on_at_end, settled_at_end, up_done}
 use Rattle.rowex_writing.proofs.building.+raise_on.Goals as goal
 
 abbrev no_step : Step
@@ -33,14 +33,14 @@ upto level end ne le = omega (arith, ne)
 pub settle-requires-clause-risen : goal.settle-requires-clause-risen
 settle-requires-clause-risen g t c =
     let up = c.requires.up in
-    up_end c.args.table.now c.args.seat.now c.args.build.now.made.items c.args.way.now c.args.rise.now.key.now c.args.rise.now.end c.args.rise.now.level _ c.args.rise.now.risen up
+    rising_on_at_end c.args.table.now c.args.seat.now c.args.build.now.made.items c.args.way.now c.args.rise.now.key.now c.args.rise.now.end c.args.rise.now.level _ c.args.rise.now.risen up
     (ap (λ (z : Step). z.number) (get_or_from_slice_get c.args.way.now c.args.rise.now.level up.step no_step up.at))
 
 pub returns-then-level-end-clause-made : goal.returns-then-level-end-clause-made
 returns-then-level-end-clause-made g t c = λ b.
-    settled_up c.args.table.now c.args.seat.now c.settle.new.seat c.args.build.now.made.items c.settle.new.build.made.items c.args.way.now c.args.rise.now.key.now c.args.rise.now.end c.args.rise.now.level _ c.args.rise.now.risen c.if-level-end.true b
+    settled_at_end c.args.table.now c.args.seat.now c.settle.new.seat c.args.build.now.made.items c.settle.new.build.made.items c.args.way.now c.args.rise.now.key.now c.args.rise.now.end c.args.rise.now.level _ c.args.rise.now.risen c.if-level-end.true b
     (ap (λ (z : Step). z.number) (get_or_from_slice_get c.args.way.now c.args.rise.now.level b.step no_step b.at)) c.settle.result
-    (c.settle.ensures.made (up_end c.args.table.now c.args.seat.now c.args.build.now.made.items c.args.way.now c.args.rise.now.key.now c.args.rise.now.end c.args.rise.now.level _ c.args.rise.now.risen b
+    (c.settle.ensures.made (rising_on_at_end c.args.table.now c.args.seat.now c.args.build.now.made.items c.args.way.now c.args.rise.now.key.now c.args.rise.now.end c.args.rise.now.level _ c.args.rise.now.risen b
     (ap (λ (z : Step). z.number) (get_or_from_slice_get c.args.way.now c.args.rise.now.level b.step no_step b.at))))
 
 pub offset_bounds-way-above : goal.offset_bounds-way-above
@@ -101,9 +101,9 @@ returns-clause-made g t c = λ up.
 pub returns-then-level-end-clause-low : goal.returns-then-level-end-clause-low
 returns-then-level-end-clause-low g t c = λ s words at h.
     let b = c.requires.up in
-    let same : s ≡ b.step = same_some (sym at ∙ (ap (slice_get c.args.way.now) (sym c.if-level-end.true) ∙ b.at)) in
+    let same : s ≡ b.step = some_injective (sym at ∙ (ap (slice_get c.args.way.now) (sym c.if-level-end.true) ∙ b.at)) in
     let here = subst (λ (z : Step). HasLocked c.args.seat.now.known z.number words) same h in
     fits_above words c.args.rise.now.risen c.settle.result (b.single words here) (c.settle.ensures.low (node_words_of words).fixed.height (b.low words here))
 
 pub returns-clause-low : goal.returns-clause-low
-returns-clause-low g t c = λ s words at h. c.raise_on.ensures.low s words at (subst (IsOf (record { node = s.number; words = words })) (sym c.in_ok-next-in-Split.ensures.goes.stays.1) h)
+returns-clause-low g t c = λ s words at h. c.raise_on.ensures.low s words at (subst (IsOneOf (record { node = s.number; words = words })) (sym c.in_ok-next-in-Split.ensures.goes.stays.1) h)

@@ -3,7 +3,7 @@ use Rattle.std.proofs.Common.{◌≡◌, false, true, refl}
 use Rattle.compound_node.specs.Nodes.{piece}
 use Rattle.insert_cases.specs.declared.growth.Grown.TheVariants.{One as Single}
 use Rattle.record_words.specs.Node.{CanTakeLeaf}
-use Rattle.rowex_writing.specs.Remaking.{page_with}
+use Rattle.rowex_writing.specs.Remaking.{subtrie_with_leaf}
 use Rattle.rowex_writing.proofs.Remade.{built_low, fits_leaf}
 use Rattle.rowex_writing.proofs.building.make_grown.Goals as goal
 
@@ -23,7 +23,7 @@ returns-then-can_take_leaf-clause-made g c = λ news node takes b.
         whole = (λ t. can.1, λ t. refl);
         keeps = refl;
         above = λ t. absurd (let z : false ≡ true = t in cc);
-        low = built_low view (page_with c.args.new.now (piece node)) node.height built (fits_leaf c.args.new.now.number takes.is.has.lawful takes.affects takes.tree).low;
+        low = built_low view (subtrie_with_leaf c.args.new.now (piece node)) node.height built (fits_leaf c.args.new.now.number takes.is.has.lawful takes.affects takes.tree).low;
         made = (m, is, refl, has);
       },
       building,

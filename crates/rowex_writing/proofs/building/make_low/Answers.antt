@@ -3,9 +3,9 @@ use Rattle.std.proofs.Common.{arith, subst}
 use Rattle.compound_node.specs.Nodes.{piece}
 use Rattle.compound_node.specs.declared.entries.Entry.TheVariants.{Leaf}
 use Rattle.record_words.specs.Node.{SpellBuilt}
-use Rattle.rowex_writing.specs.Remaking.{page_with}
+use Rattle.rowex_writing.specs.Remaking.{subtrie_with_leaf}
 use Rattle.rowex_writing.proofs.Making.{low_made}
-use Rattle.rowex_writing.proofs.Remade.{fits_leaf, growing_leaf, leaf_page}
+use Rattle.rowex_writing.proofs.Remade.{fits_leaf, growing_leaf, leaf_subtrie}
 use Rattle.rowex_writing.proofs.building.make_low.Goals as goal
 
 pub add_leaf-requires-clause-growing : goal.add_leaf-requires-clause-growing
@@ -24,8 +24,8 @@ make_words-requires-clause-spelling g c =
 
 pub returns-clause-made : goal.returns-clause-made
 returns-clause-made g c = λ news node takes can b.
-    let built : SpellBuilt c.add_leaf.new.words (page_with c.args.new.now (piece node)) =
-    subst (SpellBuilt c.add_leaf.new.words) (leaf_page (Leaf c.args.new.now.number) takes.affects c.bit-bit.ensures)
+    let built : SpellBuilt c.add_leaf.new.words (subtrie_with_leaf c.args.new.now (piece node)) =
+    subst (SpellBuilt c.add_leaf.new.words) (leaf_subtrie (Leaf c.args.new.now.number) takes.affects c.bit-bit.ensures)
     (c.add_leaf.ensures node (growing_leaf c.args.words.now node c.args.new.now takes can)) in
     low_made c.args.table.now c.make_words.new.seat c.make_words.new.build.made.items news built.node _ c.make_words.result built.has built.built
     (c.make_words.ensures.made news built.node built.has built.spells b)

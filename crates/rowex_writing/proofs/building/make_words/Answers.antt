@@ -1,9 +1,9 @@
 -- A claim and its fills are one record more.
 use Rattle.std.proofs.Common.{◌∷◌, [], ◌++◌, List, ℕ, ap, sym, subst, ◌∙◌, arith}
 use Rattle.compound_node.specs.declared.entries.Entry.TheVariants.{Node}
-use Rattle.moments.specs.declared.Rec.TheVariants.{Node as a_node}
+use Rattle.versions.specs.declared.Rec.TheVariants.{Node as a_node}
 use Rattle.record_words.proofs.Growing.{first_told}
-use Rattle.rowex_rights.specs.Rises.{of_view}
+use Rattle.rowex_rights.specs.Rises.{made_of_node}
 use Rattle.rowex_writing.specs.Building.{IsBuilding}
 use Rattle.rowex_writing.specs.Walks.{IsClaimWalk}
 use Rattle.rowex_writing.proofs.Locking.{goes_more, seat_of}
@@ -35,7 +35,7 @@ pub returns-clause-made : goal.returns-clause-made
 returns-clause-made g c = λ news node has spells b. (
   c.in_ok-number.number,
   ap (Node c.in_ok-number.number) (first_told node c.args.words.now has spells).1,
-  subst (λ z. IsBuilding c.args.table.now c.fill_words.new.seat z (of_view c.in_ok-number.number node ∷ news)) (sym (c.push.ensures.items ∙ ap (λ z. z ++ a_node c.in_ok-number.number ∷ []) c.claim_node.ensures.made))
+  subst (λ z. IsBuilding c.args.table.now c.fill_words.new.seat z (made_of_node c.in_ok-number.number node ∷ news)) (sym (c.push.ensures.items ∙ ap (λ z. z ++ a_node c.in_ok-number.number ∷ []) c.claim_node.ensures.made))
       (subst (λ (ws : List ℕ). IsBuilding c.args.table.now c.fill_words.new.seat (c.args.build.now.made.items ++ a_node c.in_ok-number.number ∷ []) (record { rec = a_node c.in_ok-number.number; words = ws } ∷ news)) (sym spells)
       (building_more c.args.table.now g.G.Gate.becomes (a_node c.in_ok-number.number) c.args.words.now (c.args.seat.now, c.args.gate.now) (c.claim_node.new.seat, c.claim_node.new.gate) _
       c.args.build.now.made.items news c.claim_node.ensures.goes c.in_ok-number.ensures.claims.1 (set_on c.args.table.now g.G.Gate.becomes _ _ _ _ c.fill_words.ensures.fills)

@@ -3,8 +3,8 @@ use Rattle.std.proofs.Common.{◌≡◌, ◌-◌, ℕ, List, get_or, ap, sym, su
 use Rattle.std.specs.Prelude.{slice_get}
 use Rattle.std.proofs.lemmas.Option.{get_or_from_slice_get}
 use Rattle.insert_cases.specs.declared.choice.Step.{Step}
-use Rattle.moments.specs.Trades.{IsOf}
-use Rattle.rowex_writing.specs.Building.{HasRisenTo, gone_unless, gone_with}
+use Rattle.versions.specs.Trades.{IsOneOf}
+use Rattle.rowex_writing.specs.Building.{HasRisenTo, gone_unless_whole, gone_with_way}
 use Rattle.rowex_writing.proofs.Locking.{goes_more}
 use Rattle.rowex_writing.proofs.Lifting.{low_at, up_first}
 use Rattle.rowex_writing.proofs.building.raise_grown.Goals as goal
@@ -48,10 +48,10 @@ pub returns-clause-made : goal.returns-clause-made
 returns-clause-made g c = λ b.
     let (after, raising) = c.in_ok-risen.ensures.made (low_at c.args.table.now c.args.seat.now c.args.build.now.made.items c.args.job.now.way.now c.args.new.now.key.now c.args.job.now.span.end (c.args.job.now.span.len - 1) c.args.new.now.position c.args.new.now.first c.args.new.now.last c.args.new.now.number b (step_at c.args.job.now.way.now (c.args.job.now.span.len - 1)).number
     (number_is c.args.job.now.way.now (c.args.job.now.span.len - 1) b.step b.at)) in
-    subst (λ n. HasRisenTo c.args.table.now c.raise_on.new.seat c.raise_on.new.build.made.items c.args.job.now.way.now b.lowest.since b.lowest.item c.args.new.now.position b.lowest.like c.args.job.now.span.end (gone_with c.args.job.now.way.now c.args.job.now.span.end (c.args.job.now.span.len - 1) (gone_unless c.in_ok-risen.stays n)) c.in_ok-entry.entry)
+    subst (λ n. HasRisenTo c.args.table.now c.raise_on.new.seat c.raise_on.new.build.made.items c.args.job.now.way.now b.lowest.since b.lowest.item c.args.new.now.position b.lowest.like c.args.job.now.span.end (gone_with_way c.args.job.now.way.now c.args.job.now.span.end (c.args.job.now.span.len - 1) (gone_unless_whole c.in_ok-risen.stays n)) c.in_ok-entry.entry)
     (number_is c.args.job.now.way.now (c.args.job.now.span.len - 1) b.step b.at)
     (c.in_ok-entry.ensures.made (up_first c.args.table.now c.args.seat.now c.args.build.now.made.items c.args.job.now.way.now c.args.new.now.key.now c.args.job.now.span.end (c.args.job.now.span.len - 1) c.args.new.now.position c.args.new.now.first c.args.new.now.last c.args.new.now.number b (step_at c.args.job.now.way.now (c.args.job.now.span.len - 1)).number
     (number_is c.args.job.now.way.now (c.args.job.now.span.len - 1) b.step b.at) c.raise_lowest.new.seat c.raise_lowest.new.build.made.items c.in_ok-risen.risen c.in_ok-risen.stays c.in_ok-risen.ensures.goes.stays.1 after raising c.in_ok-risen.ensures.level))
 
 pub returns-clause-low : goal.returns-clause-low
-returns-clause-low g c = λ s words at h. c.in_ok-entry.ensures.low s words at (subst (IsOf (record { node = s.number; words = words })) (sym c.in_ok-risen.ensures.goes.stays.1) h)
+returns-clause-low g c = λ s words at h. c.in_ok-entry.ensures.low s words at (subst (IsOneOf (record { node = s.number; words = words })) (sym c.in_ok-risen.ensures.goes.stays.1) h)

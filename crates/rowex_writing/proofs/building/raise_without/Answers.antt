@@ -2,18 +2,18 @@
 use Rattle.std.proofs.Common.{◌∷◌, [], List, Some, None, ap, arith, subst, sym}
 use Rattle.std.specs.Prelude.{MatchOption}
 use Rattle.compound_node.specs.Nodes.{greatest_height, piece}
-use Rattle.moments.specs.Heap.{NodeWords}
+use Rattle.versions.specs.Heap.{NodeWords}
 use Rattle.pieces.specs.Piece.{places}
 use Rattle.rowex_core.specs.Reading.{node_words_of}
-use Rattle.rowex_rights.specs.Rises.{IsSide, of_view, one}
+use Rattle.rowex_rights.specs.Rises.{IsSide, made_of_node, one}
 use Rattle.rowex_table.specs.Made.{Made}
-use Rattle.tries.specs.Place.{page_without}
-use Rattle.tries.specs.Tree.{Page}
+use Rattle.tries.specs.Place.{subtrie_without}
+use Rattle.tries.specs.Tree.{Subtrie}
 use Rattle.rowex_writing.specs.Building.{HasNotMade, IsBuilding}
 use Rattle.rowex_writing.proofs.Locking.{goes_more, words_shown}
 use Rattle.rowex_writing.proofs.Lifting.{left_over, left_low}
 use Rattle.rowex_writing.proofs.Making.{building_on}
-use Rattle.rowex_writing.proofs.Remade.{built_low, left_page, left_under}
+use Rattle.rowex_writing.proofs.Remade.{built_low, left_subtrie, left_under}
 use Rattle.rowex_writing.proofs.Walked.{walks_later}
 use Rattle.rowex_writing.proofs.building.raise_without.Goals as goal
 
@@ -24,9 +24,9 @@ pub returns-in-Some-clause-made : goal.returns-in-Some-clause-made
 returns-in-Some-clause-made g c = λ words h.
     let (view, is) = c.load_words.ensures.node in
     let shown = words_shown c.args.seat.now.known c.args.number c.load_words.ensures.words view is words h in
-    let left = left_page c.args.key.now view c.drop_entry.new.words (Some c.in-Some.entry) (c.in-Some.ensures view is.has is.spells) in (
+    let left = left_subtrie c.args.key.now view c.drop_entry.new.words (Some c.in-Some.entry) (c.in-Some.ensures view is.has is.spells) in (
       [],
-      subst (λ y. IsSide (page_without c.args.key.now y) c.in-Some.entry []) (sym (ap (λ (z : NodeWords). z.page) shown.shows)) (one c.in-Some.entry left.0),
+      subst (λ y. IsSide (subtrie_without c.args.key.now y) c.in-Some.entry []) (sym (ap (λ (z : NodeWords). z.subtrie) shown.shows)) (one c.in-Some.entry left.0),
       building_on c.args.table.now g.G.Gate.becomes (c.args.seat.now, c.args.gate.now) (c.load_words.new.seat, c.load_words.new.gate) c.args.build.now.made.items [] c.load_words.ensures.reads.goes c.load_words.ensures.reads.own c.requires.building,
     )
 
@@ -34,9 +34,9 @@ pub returns-in-Some-clause-low : goal.returns-in-Some-clause-low
 returns-in-Some-clause-low g c = λ words h.
     let (view, is) = c.load_words.ensures.node in
     let shown = words_shown c.args.seat.now.known c.args.number c.load_words.ensures.words view is words h in
-    let left = left_page c.args.key.now view c.drop_entry.new.words (Some c.in-Some.entry) (c.in-Some.ensures view is.has is.spells) in
+    let left = left_subtrie c.args.key.now view c.drop_entry.new.words (Some c.in-Some.entry) (c.in-Some.ensures view is.has is.spells) in
     let tall = ap (λ (z : NodeWords). z.fixed.height) shown.shows in
-    let alone = ap (λ (x : Page). greatest_height (places x)) left.0 in
+    let alone = ap (λ (x : Subtrie). greatest_height (places x)) left.0 in
     omega (arith, left_under c.args.key.now view is.has.lawful, tall, alone)
 
 pub returns-in-Some-clause-walk : goal.returns-in-Some-clause-walk
@@ -63,23 +63,23 @@ pub returns-clause-made : goal.returns-clause-made
 returns-clause-made g c = λ words h.
     let (view, is) = c.load_words.ensures.node in
     let shown = words_shown c.args.seat.now.known c.args.number c.load_words.ensures.words view is words h in
-    let built = left_page c.args.key.now view c.drop_entry.new.words None (c.in_default.ensures view is.has is.spells) in
+    let built = left_subtrie c.args.key.now view c.drop_entry.new.words None (c.in_default.ensures view is.has is.spells) in
     let b = building_on c.args.table.now g.G.Gate.becomes (c.args.seat.now, c.args.gate.now) (c.load_words.new.seat, c.load_words.new.gate) c.args.build.now.made.items [] c.load_words.ensures.reads.goes c.load_words.ensures.reads.own c.requires.building in
-    subst (λ (y : Page). MatchOption c.make_words.result (HasNotMade c.args.table.now c.make_words.new.seat c.make_words.new.build.made.items)
-    (λ e. (news : List Made) × IsSide (page_without c.args.key.now y) e news × IsBuilding c.args.table.now c.make_words.new.seat c.make_words.new.build.made.items news))
-    (sym (ap (λ (z : NodeWords). z.page) shown.shows))
-    (left_over c.args.table.now c.make_words.new.seat c.make_words.new.build.made.items (page_without c.args.key.now (piece view)) built.node c.make_words.result built.built built.has
+    subst (λ (y : Subtrie). MatchOption c.make_words.result (HasNotMade c.args.table.now c.make_words.new.seat c.make_words.new.build.made.items)
+    (λ e. (news : List Made) × IsSide (subtrie_without c.args.key.now y) e news × IsBuilding c.args.table.now c.make_words.new.seat c.make_words.new.build.made.items news))
+    (sym (ap (λ (z : NodeWords). z.subtrie) shown.shows))
+    (left_over c.args.table.now c.make_words.new.seat c.make_words.new.build.made.items (subtrie_without c.args.key.now (piece view)) built.node c.make_words.result built.built built.has
     (c.make_words.ensures.made [] built.node built.has built.spells b))
 
 pub returns-clause-low : goal.returns-clause-low
 returns-clause-low g c = λ words h.
     let (view, is) = c.load_words.ensures.node in
     let shown = words_shown c.args.seat.now.known c.args.number c.load_words.ensures.words view is words h in
-    let built = left_page c.args.key.now view c.drop_entry.new.words None (c.in_default.ensures view is.has is.spells) in
+    let built = left_subtrie c.args.key.now view c.drop_entry.new.words None (c.in_default.ensures view is.has is.spells) in
     let b = building_on c.args.table.now g.G.Gate.becomes (c.args.seat.now, c.args.gate.now) (c.load_words.new.seat, c.load_words.new.gate) c.args.build.now.made.items [] c.load_words.ensures.reads.goes c.load_words.ensures.reads.own c.requires.building in
     let tall = ap (λ (z : NodeWords). z.fixed.height) shown.shows in
-    let low = built_low built.node (page_without c.args.key.now (piece view)) view.height built.built (left_under c.args.key.now view is.has.lawful) in
-    left_low built.node (node_words_of words).fixed.height c.make_words.result _ (λ m. IsBuilding c.args.table.now c.make_words.new.seat c.make_words.new.build.made.items (of_view m built.node ∷ []))
+    let low = built_low built.node (subtrie_without c.args.key.now (piece view)) view.height built.built (left_under c.args.key.now view is.has.lawful) in
+    left_low built.node (node_words_of words).fixed.height c.make_words.result _ (λ m. IsBuilding c.args.table.now c.make_words.new.seat c.make_words.new.build.made.items (made_of_node m built.node ∷ []))
     (omega (arith, tall, low)) (c.make_words.ensures.made [] built.node built.has built.spells b)
 
 pub returns-clause-walk : goal.returns-clause-walk

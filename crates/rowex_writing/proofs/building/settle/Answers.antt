@@ -1,20 +1,20 @@
 -- An entry is its own; a fork gets a node.
 use Rattle.std.proofs.Common.{◌∷◌, arith}
 use Rattle.record_words.specs.Node.{HasNodeWords}
-use Rattle.rowex_rights.specs.Rises.{of_view}
+use Rattle.rowex_rights.specs.Rises.{made_of_node}
 use Rattle.rowex_writing.specs.Building.{IsBuilding, HasNotMade}
-use Rattle.rowex_writing.proofs.Lifting.{settle_owed, settled, settled_whole, split_height, whole_height}
+use Rattle.rowex_writing.proofs.Lifting.{risen_fork_is_pair, settled, settled_whole, split_height, whole_height}
 use Rattle.rowex_writing.proofs.building.settle.Goals as goal
 
 pub pair-node-requires-clause-below : goal.pair-node-requires-clause-below
 pair-node-requires-clause-below g c =
-    let h = (settle_owed c.args.table.now c.args.seat.now c.args.build.now.made.items c.args.number c.in-Split.position c.in-Split.zero c.in-Split.one c.args.risen c.in-Split.is c.requires.risen).position in omega arith
+    let h = (risen_fork_is_pair c.args.table.now c.args.seat.now c.args.build.now.made.items c.args.number c.in-Split.position c.in-Split.zero c.in-Split.one c.args.risen c.in-Split.is c.requires.risen).position in omega arith
 
 pub pair-node-requires-clause-zero : goal.pair-node-requires-clause-zero
-pair-node-requires-clause-zero g c = (settle_owed c.args.table.now c.args.seat.now c.args.build.now.made.items c.args.number c.in-Split.position c.in-Split.zero c.in-Split.one c.args.risen c.in-Split.is c.requires.risen).zero
+pair-node-requires-clause-zero g c = (risen_fork_is_pair c.args.table.now c.args.seat.now c.args.build.now.made.items c.args.number c.in-Split.position c.in-Split.zero c.in-Split.one c.args.risen c.in-Split.is c.requires.risen).zero
 
 pub pair-node-requires-clause-one : goal.pair-node-requires-clause-one
-pair-node-requires-clause-one g c = (settle_owed c.args.table.now c.args.seat.now c.args.build.now.made.items c.args.number c.in-Split.position c.in-Split.zero c.in-Split.one c.args.risen c.in-Split.is c.requires.risen).one
+pair-node-requires-clause-one g c = (risen_fork_is_pair c.args.table.now c.args.seat.now c.args.build.now.made.items c.args.number c.in-Split.position c.in-Split.zero c.in-Split.one c.args.risen c.in-Split.is c.requires.risen).one
 
 pub make_node-requires-clause-building : goal.make_node-requires-clause-building
 make_node-requires-clause-building g c = (c.requires.risen.news, c.requires.risen.raising.building)
@@ -34,4 +34,4 @@ pub returns-in-Split-clause-low : goal.returns-in-Split-clause-low
 returns-in-Split-clause-low g c = λ h low.
     let b = c.requires.risen in
     split_height h c.in-Split.position c.in-Split.zero c.in-Split.one c.args.risen c.pair-node.result (HasNotMade c.args.table.now c.make_node.new.seat c.make_node.new.build.made.items)
-    (HasNodeWords c.pair-node.result) (λ m. IsBuilding c.args.table.now c.make_node.new.seat c.make_node.new.build.made.items (of_view m c.pair-node.result ∷ b.news)) c.make_node.result c.in-Split.is low c.pair-node.ensures (c.make_node.ensures.made b.news b.raising.building)
+    (HasNodeWords c.pair-node.result) (λ m. IsBuilding c.args.table.now c.make_node.new.seat c.make_node.new.build.made.items (made_of_node m c.pair-node.result ∷ b.news)) c.make_node.result c.in-Split.is low c.pair-node.ensures (c.make_node.ensures.made b.news b.raising.building)

@@ -77,7 +77,7 @@ loop-index-preserved g c =
           (λ s at words h.
           let same : get_or c.args.job.now.way.now c.loop-index.index no_step ≡ s = get_or_from_slice_get c.args.job.now.way.now c.loop-index.index s no_step at in
           let locked = locked_on c.args.seat.now.known c.loop-index.seat.known s.number words i.reads.goes.stays.1 h in
-          sym c.named_at-entry.ensures ∙ subst (λ (z : Step). HasLocked c.loop-index.seat.known z.number words → c.named_at-entry.result ≡ Some (entry_at (node_words_of words).page z.at)) same
+          sym c.named_at-entry.ensures ∙ subst (λ (z : Step). HasLocked c.loop-index.seat.known z.number words → c.named_at-entry.result ≡ Some (entry_at (node_words_of words).subtrie z.at)) same
           (e.same c.if-not-entry_stands.false words) locked);
     }
 

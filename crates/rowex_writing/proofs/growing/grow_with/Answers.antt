@@ -4,7 +4,7 @@ use Rattle.std.specs.Prelude.{slice_range}
 use Rattle.std.proofs.lemmas.List.{append-nil}
 use Rattle.insert_cases.specs.declared.choice.Step.{Step}
 use Rattle.record_words.specs.declared.layout.Layout.{Layout}
-use Rattle.moments.specs.declared.Rec.TheVariants.{Node as a_node}
+use Rattle.versions.specs.declared.Rec.TheVariants.{Node as a_node}
 use Rattle.rowex_writing.specs.Counts.{level_steps}
 use Rattle.rowex_writing.specs.Locks.{locks_of}
 use Rattle.rowex_writing.proofs.Counting.{made_one}

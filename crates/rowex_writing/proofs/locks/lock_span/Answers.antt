@@ -3,10 +3,10 @@ use Rattle.std.proofs.Common.{◌≡◌, ◌∷◌, ◌+◌, ◌-◌, true, fals
 use Rattle.std.specs.Prelude.{slice_range}
 use Rattle.insert_cases.specs.declared.choice.Step.{Step}
 use Rattle.rowex_writing.specs.Locks.{HasJustLocked, numbers_of}
-use Rattle.moments.specs.Trades.{IsOf}
+use Rattle.versions.specs.Trades.{IsOneOf}
 use Rattle.rowex_writing.proofs.Counting.{numbers_few, slice_few}
 use Rattle.rowex_writing.proofs.Tried.{TriesNodes, anchor_more, nodes_more, nodes_none, nodes_once, number_new, once_then}
-use Rattle.rowex_writing.proofs.Works.{works_seat, works_later, works_count, quiet_on}
+use Rattle.rowex_writing.proofs.Works.{works_seat, works_later, works_count, no_change_made_later}
 use Rattle.rowex_writing.proofs.Spans.{slice_more, slice_none, none_taken, locked_more, locked_same, led_one, led_nodes, met_since, not_locked}
 use Rattle.rowex_writing.proofs.locks.lock_span.Goals as goal
 
@@ -44,7 +44,7 @@ lock_node-requires-clause-none g c = c.loop-index.invariant.same ∙ c.requires.
 
 pub lock_node-requires-clause-quiet : goal.lock_node-requires-clause-quiet
 lock_node-requires-clause-quiet g c =
-    quiet_on c.args.seat.now.known c.loop-index.seat.known
+    no_change_made_later c.args.seat.now.known c.loop-index.seat.known
     (works_later c.args.table.now g.G.Gate.becomes (c.args.seat.now, c.args.gate.now) (c.loop-index.seat, c.loop-index.gate) c.loop-index.invariant.tries.run) c.requires.quiet
 
 pub unlock_nodes-requires-clause-own : goal.unlock_nodes-requires-clause-own
@@ -100,7 +100,7 @@ loop-index-preserved g c =
     let part = slice_more c.args.way.now (c.loop-index.index - 1) c.args.span.len d (omega (arith, c.loop-index-test.true, i.range.1)) c.requires.span.1 ∙
     ap (λ n. get_or c.args.way.now (c.loop-index.index - 1) d ∷ slice_range c.args.way.now n c.args.span.len) at in
     let fresh = number_new c.args.way.now (c.loop-index.index - 1) c.args.span.len d (omega (arith, c.loop-index-test.true, i.range.1)) c.requires.span.1 c.requires.apart in
-    let new = subst (λ n. IsOf (get_or c.args.way.now (c.loop-index.index - 1) d).number (numbers_of (slice_range c.args.way.now n c.args.span.len)) → ⊥) at fresh in
+    let new = subst (λ n. IsOneOf (get_or c.args.way.now (c.loop-index.index - 1) d).number (numbers_of (slice_range c.args.way.now n c.args.span.len)) → ⊥) at fresh in
     record {
       few = omega (arith, i.few, i.range.1, c.loop-index-test.true, c.lock_node.ensures.few);
       own = works_seat c.args.table.now g.G.Gate.becomes (c.loop-index.seat, c.loop-index.gate) (c.lock_node.new.seat, c.lock_node.new.gate) c.lock_node.ensures.tries i.own;

@@ -2,17 +2,17 @@
 use Rattle.std.proofs.Common.{◌≡◌, ◌≤◌, ◌+◌, ◌*◌, [], ◌∷◌, Some, None, refl, sym, ap, subst, arith, length}
 use Rattle.record_words.specs.Entry.{entry_word}
 use Rattle.record_words.specs.declared.layout.Layout.{Layout}
-use Rattle.moments.specs.declared.Rec.TheVariants.{Node as a_node}
-use Rattle.rowex_rights.specs.Rises.{of_leaf}
+use Rattle.versions.specs.declared.Rec.TheVariants.{Node as a_node}
+use Rattle.rowex_rights.specs.Rises.{made_of_leaf}
 use Rattle.compound_node.specs.declared.entries.Entry.TheVariants.{Leaf as LeafEntry}
 use Rattle.pieces.specs.Piece.{Place}
-use Rattle.tries.specs.Affected.{page_forked}
+use Rattle.tries.specs.Affected.{subtrie_forked}
 use Rattle.tries.specs.Keys.{bit}
 use Rattle.rowex_walks.specs.Writer.{added_change}
-use Rattle.rowex_writing.specs.Changes.{IsStored, MayEnd}
+use Rattle.rowex_writing.specs.Changes.{IsPutChange, MayPublishOnceReady}
 use Rattle.rowex_writing.specs.Counts.{node_steps}
 use Rattle.rowex_writing.proofs.Counting.{made_one}
-use Rattle.rowex_writing.proofs.Raised.{leaf_alone, no_leaf_free, none_in_table}
+use Rattle.rowex_writing.proofs.Raised.{just_leaf_gone, no_leaf_free, none_in_table}
 use Rattle.rowex_writing.proofs.Growths.{full_since}
 use Rattle.rowex_writing.proofs.Lifting.{paired}
 use Rattle.rowex_writing.proofs.Locking.{goes_more}
@@ -55,7 +55,7 @@ returns-in_default-make_node g c = record {
         (walk_begins a_node c.args.table.now.layout.nodes c.make_leaf.new.seat.known c.make_leaf.new.build.made.items c.make_leaf.new.build.nodes.next c.layout.result.nodes c.args.table.now.layout.nodes_in_range.0 (ap (λ (z : Layout). z.nodes) c.layout.ensures)) in
         let rise = steps_rise c.args.table.now g.G.Gate.becomes c.make_leaf.ensures.goes.acts (c.args.seat.now, c.args.gate.now) (c.make_leaf.new.seat, c.make_leaf.new.gate) c.make_leaf.ensures.goes.steps in
         record {
-          not_made = c.in_default-make_node.ensures.made (of_leaf (item c.in-Some.leaf c.args.job.now.key.now c.args.job.now.value) ∷ []) c.in-Some.ensures.made;
+          not_made = c.in_default-make_node.ensures.made (made_of_leaf (item c.in-Some.leaf c.args.job.now.key.now c.args.job.now.value) ∷ []) c.in-Some.ensures.made;
           few = omega (arith, made_one c.in-Some.ensures.made, c.make_node.ensures.more);
           full_of = full_since c.args.table.now.layout c.args.job.now.key.now c.args.seat.now.known c.make_leaf.new.seat.known c.make_node.new.seat.known Nodes rise missed;
         });
@@ -74,20 +74,20 @@ returns g c = record {
         let (m, aim, t, planned) = c.requires.taken in
         let here = pair_here c.args.seat.now.known m job.key.now job.way.now aim job.found job.span c.args.position planned c.in-Leaf.old _ _ c.in-Leaf.is in
         let goes = goes_more c.args.table.now g.G.Gate.becomes (c.args.seat.now, c.args.gate.now) (c.make_leaf.new.seat, c.make_leaf.new.gate) (c.make_node.new.seat, c.make_node.new.gate) c.make_leaf.ensures.goes c.make_node.ensures.goes in
-        let news = of_leaf (item c.in-Some.leaf job.key.now job.value) ∷ [] in
+        let news = made_of_leaf (item c.in-Some.leaf job.key.now job.value) ∷ [] in
         let (more, side, building) = paired c.args.table.now c.make_leaf.new.seat c.make_node.new.seat c.make_node.new.build.made.items news c.pair_with_leaf-pair.result
-        (page_forked (bit job.key.now c.args.position) c.args.position (LeafEntry c.in-Some.leaf) (Place (LeafEntry c.in-Leaf.old))) (Some c.in-Some-make_node.entry) c.pair_with_leaf-pair.ensures (c.in-Some-make_node.ensures.made news c.in-Some.ensures.made) in
+        (subtrie_forked (bit job.key.now c.args.position) c.args.position (LeafEntry c.in-Some.leaf) (Place (LeafEntry c.in-Leaf.old))) (Some c.in-Some-make_node.entry) c.pair_with_leaf-pair.ensures (c.in-Some-make_node.ensures.made news c.in-Some.ensures.made) in
         let x = added_change c.args.seat.now.known.pass (item c.in-Some.leaf job.key.now job.value) in (
           x,
           None,
-          subst (λ f. IsStored c.args.seat.now.known.pass job.key.now job.value f x None) (sym here.is_found) (refl, refl),
+          subst (λ f. IsPutChange c.args.seat.now.known.pass job.key.now job.value f x None) (sym here.is_found) (refl, refl),
           record {
             from = omega (arith, here.len);
             upto = omega arith;
             most = omega arith;
             leaf = none_in_table c.args.table.now.layout;
             ends = λ spot over.
-                subst (MayEnd c.args.table.now c.make_node.new.seat c.make_node.new.build.made.items spot (entry_word (Some c.in-Some-make_node.entry)) x None) (sym (leaf_alone job.way.now job.span.end job.span.len None here.len))
+                subst (MayPublishOnceReady c.args.table.now c.make_node.new.seat c.make_node.new.build.made.items spot (entry_word (Some c.in-Some-make_node.entry)) x None) (sym (just_leaf_gone job.way.now job.span.end job.span.len None here.len))
                 (pair_may c.args.table.now c.args.seat.now m job.key.now job.way.now job.found job.span t c.make_node.new.seat c.make_node.new.build.made.items c.in-Some.leaf job.value goes.stays.0 goes.stays.1 goes.stays.2
                 c.make_leaf.ensures.leaf c.args.position c.in-Leaf.old here c.in-Some-make_node.entry more side building spot over);
             few = omega (arith, made_one c.in-Some.ensures.made, c.make_node.ensures.more);

@@ -3,10 +3,10 @@ use Rattle.std.proofs.Common.{◌∷◌, [], ◌++◌, subst, sym, ap, ◌∙◌
 use Rattle.record_words.specs.Layout.{leaf_size}
 use Rattle.record_words.specs.Leaf.{leaf_words, words_for}
 use Rattle.record_words.proofs.Leaves.{leaf_words_parts}
-use Rattle.moments.specs.declared.Rec.TheVariants.{Leaf as a_leaf}
+use Rattle.versions.specs.declared.Rec.TheVariants.{Leaf as a_leaf}
 use Rattle.rowex_core.specs.Cores.{FitsIn}
 use Rattle.rowex_records.specs.Claims.{AllMissedFrom}
-use Rattle.rowex_rights.specs.Rises.{of_leaf}
+use Rattle.rowex_rights.specs.Rises.{made_of_leaf}
 use Rattle.rowex_writing.specs.Building.{IsBuilding}
 use Rattle.rowex_writing.proofs.Locking.{goes_more, seat_of}
 use Rattle.rowex_writing.proofs.Making.{set_on, building_none, building_on, building_more}
@@ -43,7 +43,7 @@ returns-clause-made g c =
     let size = (leaf_words_parts (c.args.key.now, c.args.value) leaf refl).size in
     let room : words_for (length c.args.key.now) ≤ leaf_size c.args.table.now.layout n = omega (arith, c.in_ok-number.ensures.claims.1, c.words_for.ensures.words) in
     let fit : FitsIn c.args.table.now.layout (a_leaf n) leaf = subst (λ z. words_for z ≤ leaf_size c.args.table.now.layout n) (sym size) room in
-    subst (λ z. IsBuilding c.args.table.now c.fill_leaf.new.seat z (of_leaf (item n c.args.key.now c.args.value) ∷ [])) (sym (c.push.ensures.items ∙ ap (λ z. z ++ a_leaf n ∷ []) c.clear.ensures))
+    subst (λ z. IsBuilding c.args.table.now c.fill_leaf.new.seat z (made_of_leaf (item n c.args.key.now c.args.value) ∷ [])) (sym (c.push.ensures.items ∙ ap (λ z. z ++ a_leaf n ∷ []) c.clear.ensures))
     (building_more c.args.table.now g.G.Gate.becomes (a_leaf n) leaf (c.args.seat.now, c.args.gate.now) (c.claim_leaf.new.seat, c.claim_leaf.new.gate) _ [] []
     c.claim_leaf.ensures.goes c.in_ok-number.ensures.claims.2
     (set_on c.args.table.now g.G.Gate.becomes _ _ _ _ c.fill_leaf.ensures.fills) c.fill_leaf.ensures.fills.own c.fill_leaf.ensures.filled.1 fit

@@ -5,7 +5,7 @@ use Rattle.rowex_core.specs.declared.event.Act.TheVariants.{Publish}
 use Rattle.rowex_table.specs.Rule.{MayStep}
 use Rattle.rowex_table.proofs.ActsLeave.{act_leaves}
 use Rattle.rowex_writing.specs.Building.{IsBuilding}
-use Rattle.rowex_writing.specs.Deeds.{gone_for, kept_for}
+use Rattle.rowex_writing.specs.Deeds.{gone_of_span, kept_of_span}
 use Rattle.rowex_writing.specs.Locks.{AreNodes, numbers_of}
 use Rattle.rowex_writing.specs.Retiring.{AreInTable, HasJustPublished}
 use Rattle.rowex_writing.proofs.Counting.{slice_few}
@@ -33,7 +33,7 @@ stored_word-requires g c =
     let (x, was, may) = c.requires.may in
     let m = may.ends c.spot_above-spot.result c.spot_above-spot.ensures in
     now_spells c.args.table.now g.G.Gate.becomes (c.args.seat.now, c.args.gate.now) (c.ready_all.new.seat, c.ready_all.new.gate) c.args.build.now.made.items c.spot_above-spot.result (entry_word c.args.raised.entry)
-    (gone_for c.args.job.now.way.now c.args.job.now.span c.args.raised) c.ready_all.ensures.goes x was m
+    (gone_of_span c.args.job.now.way.now c.args.job.now.span c.args.raised) c.ready_all.ensures.goes x was m
     (all_ready c.args.table.now c.args.seat.now c.ready_all.new.seat c.as_slice.result.now c.args.build.now.made.items m.news (c.as_slice.ensures.value ∙ c.name_gone.ensures.made) c.ready_all.ensures.ready m.building)
 
 pub publish-requires-clause-own : goal.publish-requires-clause-own
@@ -50,7 +50,7 @@ publish-requires-clause-may g c =
     let m = may.ends c.spot_above-spot.result c.spot_above-spot.ensures in
     subst (λ w. MayStep c.args.table.now.layout (λ found. Publish c.spot_above-spot.result w) c.ready_all.new.seat.known) (sym c.stored_word.ensures)
     (now_publishes c.args.table.now g.G.Gate.becomes (c.args.seat.now, c.args.gate.now) (c.ready_all.new.seat, c.ready_all.new.gate) c.args.build.now.made.items c.spot_above-spot.result (entry_word c.args.raised.entry)
-    (gone_for c.args.job.now.way.now c.args.job.now.span c.args.raised) c.ready_all.ensures.goes x was m
+    (gone_of_span c.args.job.now.way.now c.args.job.now.span c.args.raised) c.ready_all.ensures.goes x was m
     (all_ready c.args.table.now c.args.seat.now c.ready_all.new.seat c.as_slice.result.now c.args.build.now.made.items m.news (c.as_slice.ensures.value ∙ c.name_gone.ensures.made) c.ready_all.ensures.ready m.building)).may
 
 pub retire-requires-clause-own : goal.retire-requires-clause-own
@@ -76,11 +76,11 @@ retire-requires-clause-published g c =
     let m = may.ends c.spot_above-spot.result c.spot_above-spot.ensures in
     let (kept, apart) = kept_raised c.args.job.now.way.now c.args.job.now.span c.args.raised c.args.seat.now.known c.requires.held.locked may.from may.upto in
     subst (λ z. HasJustPublished c.publish.new.seat.known c.as_slice-2.result.now (numbers_of z)) (sym (c.as_slice-3.ensures.value ∙ c.kept_steps-kept.ensures))
-    (subst (λ z. HasJustPublished c.publish.new.seat.known z (numbers_of (kept_for c.args.job.now.way.now c.args.job.now.span c.args.raised))) (sym (c.as_slice-2.ensures.value ∙ c.name_gone.ensures.gone))
+    (subst (λ z. HasJustPublished c.publish.new.seat.known z (numbers_of (kept_of_span c.args.job.now.way.now c.args.job.now.span c.args.raised))) (sym (c.as_slice-2.ensures.value ∙ c.name_gone.ensures.gone))
     (just_published c.args.table.now g.G.Gate.becomes (c.args.seat.now, c.args.gate.now) (c.ready_all.new.seat, c.ready_all.new.gate) c.args.build.now.made.items c.spot_above-spot.result (entry_word c.args.raised.entry)
-    (gone_for c.args.job.now.way.now c.args.job.now.span c.args.raised) c.ready_all.ensures.goes x was m
+    (gone_of_span c.args.job.now.way.now c.args.job.now.span c.args.raised) c.ready_all.ensures.goes x was m
     (all_ready c.args.table.now c.args.seat.now c.ready_all.new.seat c.as_slice.result.now c.args.build.now.made.items m.news (c.as_slice.ensures.value ∙ c.name_gone.ensures.made) c.ready_all.ensures.ready m.building)
-    (numbers_of (kept_for c.args.job.now.way.now c.args.job.now.span c.args.raised)) kept c.publish.new.seat.known
+    (numbers_of (kept_of_span c.args.job.now.way.now c.args.job.now.span c.args.raised)) kept c.publish.new.seat.known
     (word_published c.args.table.now.layout c.spot_above-spot.result c.stored_word.result (entry_word c.args.raised.entry) c.ready_all.new.seat.known c.publish.new.seat.known c.stored_word.ensures c.publish.ensures.event) apart))
 
 pub retire-requires-clause-anchored : goal.retire-requires-clause-anchored
@@ -89,9 +89,9 @@ retire-requires-clause-anchored g c =
     let m = may.ends c.spot_above-spot.result c.spot_above-spot.ensures in
     let (kept, apart) = kept_raised c.args.job.now.way.now c.args.job.now.span c.args.raised c.args.seat.now.known c.requires.held.locked may.from may.upto in
     still_anchored c.args.table.now g.G.Gate.becomes (c.args.seat.now, c.args.gate.now) (c.ready_all.new.seat, c.ready_all.new.gate) c.args.build.now.made.items c.spot_above-spot.result (entry_word c.args.raised.entry)
-    (gone_for c.args.job.now.way.now c.args.job.now.span c.args.raised) c.ready_all.ensures.goes x was m
+    (gone_of_span c.args.job.now.way.now c.args.job.now.span c.args.raised) c.ready_all.ensures.goes x was m
     (all_ready c.args.table.now c.args.seat.now c.ready_all.new.seat c.as_slice.result.now c.args.build.now.made.items m.news (c.as_slice.ensures.value ∙ c.name_gone.ensures.made) c.ready_all.ensures.ready m.building)
-    (numbers_of (kept_for c.args.job.now.way.now c.args.job.now.span c.args.raised)) kept c.publish.new.seat.known
+    (numbers_of (kept_of_span c.args.job.now.way.now c.args.job.now.span c.args.raised)) kept c.publish.new.seat.known
     (word_published c.args.table.now.layout c.spot_above-spot.result c.stored_word.result (entry_word c.args.raised.entry) c.ready_all.new.seat.known c.publish.new.seat.known c.stored_word.ensures c.publish.ensures.event) _
     (span_anchor c.args.seat.now.known c.args.job.now.way.now c.args.job.now.span c.requires.held.locked)
 
@@ -108,9 +108,9 @@ returns-clause-changed g c = λ x was may.
     let m = may.ends c.spot_above-spot.result c.spot_above-spot.ensures in
     let (kept, apart) = kept_raised c.args.job.now.way.now c.args.job.now.span c.args.raised c.args.seat.now.known c.requires.held.locked may.from may.upto in
     has_changed c.args.table.now g.G.Gate.becomes (c.args.seat.now, c.args.gate.now) (c.ready_all.new.seat, c.ready_all.new.gate) c.args.build.now.made.items c.spot_above-spot.result (entry_word c.args.raised.entry)
-    (gone_for c.args.job.now.way.now c.args.job.now.span c.args.raised) c.ready_all.ensures.goes x was m
+    (gone_of_span c.args.job.now.way.now c.args.job.now.span c.args.raised) c.ready_all.ensures.goes x was m
     (all_ready c.args.table.now c.args.seat.now c.ready_all.new.seat c.as_slice.result.now c.args.build.now.made.items m.news (c.as_slice.ensures.value ∙ c.name_gone.ensures.made) c.ready_all.ensures.ready m.building)
-    (numbers_of (kept_for c.args.job.now.way.now c.args.job.now.span c.args.raised)) kept c.publish.new.seat.known
+    (numbers_of (kept_of_span c.args.job.now.way.now c.args.job.now.span c.args.raised)) kept c.publish.new.seat.known
     (word_published c.args.table.now.layout c.spot_above-spot.result c.stored_word.result (entry_word c.args.raised.entry) c.ready_all.new.seat.known c.publish.new.seat.known c.stored_word.ensures c.publish.ensures.event) c.retire.new.seat.known
     c.retire.ensures.rest c.retire.ensures.front (works_fresh c.args.table.now g.G.Gate.becomes (c.publish.new.seat, c.publish.new.gate) (c.retire.new.seat, c.retire.new.gate) c.retire.ensures.works)
 

@@ -1,9 +1,9 @@
 -- The store is that of a first key, or of another value.
 use Rattle.std.proofs.Common.{◌+◌, ◌*◌, sym, ap, subst, ◌∙◌, arith, length}
-use Rattle.rowex_writing.specs.Changes.{MayEnd}
+use Rattle.rowex_writing.specs.Changes.{MayPublishOnceReady}
 use Rattle.rowex_writing.specs.Retiring.{AreInTable}
 use Rattle.rowex_writing.proofs.Counting.{found_few, made_one}
-use Rattle.rowex_writing.proofs.Raised.{leaf_alone, no_leaf_free}
+use Rattle.rowex_writing.proofs.Raised.{just_leaf_gone, no_leaf_free}
 use Rattle.rowex_writing.proofs.Placing.{found_records, put_change, put_len, put_may, put_stored, put_was}
 use Rattle.rowex_writing.proofs.putting.put_leaf.Goals as goal
 use Rattle.tries.specs.Content.{item}
@@ -26,7 +26,7 @@ returns g c = record {
         let (m, aim, t, planned) = c.requires.taken in
         let (at, same, upto) = put_len c.args.seat.now.known m job.key.now job.way.now aim job.found job.span planned in
         let goes = c.make_leaf.ensures.goes in
-        let gone = leaf_alone job.way.now job.span.end job.span.len c.found_leaf.result same ∙ c.found_leaf.ensures in (
+        let gone = just_leaf_gone job.way.now job.span.end job.span.len c.found_leaf.result same ∙ c.found_leaf.ensures in (
           put_change c.args.seat.now.known.pass (item c.in-Some.number job.key.now job.value) job.found,
           put_was job.found,
           put_stored c.args.seat.now.known.pass c.in-Some.number job.key.now job.value job.way.now job.found job.span.len job.span.end at,
@@ -36,7 +36,7 @@ returns g c = record {
             most = omega arith;
             leaf = subst (AreInTable c.args.table.now.layout) (sym c.found_leaf.ensures) (found_records c.args.table.now c.args.seat.now m job.key.now job.way.now job.found job.span t);
             ends = λ spot over.
-                subst (MayEnd c.args.table.now c.make_leaf.new.seat c.make_leaf.new.build.made.items spot (4 * c.in-Some.number + 1) (put_change c.args.seat.now.known.pass (item c.in-Some.number job.key.now job.value) job.found) (put_was job.found)) (sym gone)
+                subst (MayPublishOnceReady c.args.table.now c.make_leaf.new.seat c.make_leaf.new.build.made.items spot (4 * c.in-Some.number + 1) (put_change c.args.seat.now.known.pass (item c.in-Some.number job.key.now job.value) job.found) (put_was job.found)) (sym gone)
                 (put_may c.args.table.now c.args.seat.now m job.key.now job.way.now job.found job.span t c.make_leaf.new.seat c.make_leaf.new.build.made.items c.in-Some.number job.value goes.stays.0 goes.stays.1 goes.stays.2
                 c.make_leaf.ensures.leaf c.in-Some.ensures.made at spot over);
             few = omega (arith, made_one c.in-Some.ensures.made, ap length c.found_leaf.ensures, found_few job.found);

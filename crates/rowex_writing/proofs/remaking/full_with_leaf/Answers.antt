@@ -1,10 +1,10 @@
--- The position affects the range, and the page of the tree tells the rest.
+-- The position affects the range, and the subtrie of the tree tells the rest.
 use Rattle.std.proofs.Common.{subst, arith}
 use Rattle.compound_node.specs.Nodes.{piece}
 use Rattle.compound_node.specs.declared.entries.Entry.TheVariants.{Leaf}
-use Rattle.tries.specs.Affected.{page_grown}
+use Rattle.tries.specs.Affected.{subtrie_grown}
 use Rattle.insert_cases.specs.Grown.{GrownShows}
-use Rattle.rowex_writing.proofs.Remade.{fits_leaf, leaf_page, grown_low}
+use Rattle.rowex_writing.proofs.Remade.{fits_leaf, leaf_subtrie, grown_low}
 use Rattle.rowex_writing.proofs.remaking.full_with_leaf.Goals as goal
 
 pub grow_full-requires-clause-range : goal.grow_full-requires-clause-range
@@ -14,9 +14,9 @@ pub grow_full-requires-clause-position : goal.grow_full-requires-clause-position
 grow_full-requires-clause-position c = let h = (fits_leaf c.args.new.now.number c.count.ensures.lawful c.requires.affects c.requires.tree).position in omega arith
 
 pub returns-clause-shows : goal.returns-clause-shows
-returns-clause-shows c = subst (GrownShows c.args.node.now c.grow_full.result) (leaf_page (Leaf c.args.new.now.number) c.requires.affects c.bit-bit.ensures) c.grow_full.ensures.shows
+returns-clause-shows c = subst (GrownShows c.args.node.now c.grow_full.result) (leaf_subtrie (Leaf c.args.new.now.number) c.requires.affects c.bit-bit.ensures) c.grow_full.ensures.shows
 
 pub returns-clause-low : goal.returns-clause-low
 returns-clause-low c =
-    grown_low c.args.node.now c.grow_full.result (page_grown c.args.new.now.position c.args.new.now.key.now (Leaf c.args.new.now.number) (piece c.args.node.now)) c.args.node.now.height (returns-clause-shows c)
+    grown_low c.args.node.now c.grow_full.result (subtrie_grown c.args.new.now.position c.args.new.now.key.now (Leaf c.args.new.now.number) (piece c.args.node.now)) c.args.node.now.height (returns-clause-shows c)
     (fits_leaf c.args.new.now.number c.count.ensures.lawful c.requires.affects c.requires.tree).low

@@ -3,35 +3,35 @@ use Rattle.std.proofs.Common.{◌≡◌, ap, ◌∙◌, sym, subst, arith}
 use Rattle.pieces.specs.Grafts.{grafted, IsAbovePath}
 use Rattle.pieces.specs.Piece.{Place, Fork}
 use Rattle.compound_node.specs.Nodes.{piece}
-use Rattle.tries.specs.Place.{with_page}
+use Rattle.tries.specs.Place.{with_subtrie}
 use Rattle.tries.proofs.Places.{leads_spot}
 use Rattle.tries.proofs.Spots.{grafted_spot}
 use Rattle.insert_cases.specs.Grown.{GrownShows}
-use Rattle.rowex_writing.proofs.Remade.{fork_owed, entries_under, greatest_put, grown_low}
+use Rattle.rowex_writing.proofs.Remade.{fork_is_pair, entries_under, greatest_put, grown_low}
 use Rattle.rowex_writing.proofs.remaking.with_fork.Goals as goal
 
 pub pull_up-requires-clause-path : goal.pull_up-requires-clause-path
 pull_up-requires-clause-path c =
     let k = c.args.fork.now.key.now in
     let x = piece c.args.node.now in
-    let owed = fork_owed k c.args.fork.now.position c.args.fork.now.zero c.args.fork.now.one x c.requires.tree in
+    let owed = fork_is_pair k c.args.fork.now.position c.args.fork.now.zero c.args.fork.now.one x c.requires.tree in
     subst (λ j. IsAbovePath c.args.fork.now.position j x) (sym (c.search-at.ensures.leads ∙ leads_spot k x)) owed.1
 
 pub pull_up-requires-clause-position : goal.pull_up-requires-clause-position
-pull_up-requires-clause-position c = let h = (fork_owed c.args.fork.now.key.now c.args.fork.now.position c.args.fork.now.zero c.args.fork.now.one (piece c.args.node.now) c.requires.tree).0.position in omega arith
+pull_up-requires-clause-position c = let h = (fork_is_pair c.args.fork.now.key.now c.args.fork.now.position c.args.fork.now.zero c.args.fork.now.one (piece c.args.node.now) c.requires.tree).0.position in omega arith
 
 pub pull_up-requires-clause-zero : goal.pull_up-requires-clause-zero
-pull_up-requires-clause-zero c = (fork_owed c.args.fork.now.key.now c.args.fork.now.position c.args.fork.now.zero c.args.fork.now.one (piece c.args.node.now) c.requires.tree).0.zero
+pull_up-requires-clause-zero c = (fork_is_pair c.args.fork.now.key.now c.args.fork.now.position c.args.fork.now.zero c.args.fork.now.one (piece c.args.node.now) c.requires.tree).0.zero
 
 pub pull_up-requires-clause-one : goal.pull_up-requires-clause-one
-pull_up-requires-clause-one c = (fork_owed c.args.fork.now.key.now c.args.fork.now.position c.args.fork.now.zero c.args.fork.now.one (piece c.args.node.now) c.requires.tree).0.one
+pull_up-requires-clause-one c = (fork_is_pair c.args.fork.now.key.now c.args.fork.now.position c.args.fork.now.zero c.args.fork.now.one (piece c.args.node.now) c.requires.tree).0.one
 
 pub returns-clause-shows : goal.returns-clause-shows
 returns-clause-shows c =
     let k = c.args.fork.now.key.now in
     let x = piece c.args.node.now in
     let r = Fork c.args.fork.now.position (Place c.args.fork.now.zero) (Place c.args.fork.now.one) in
-    let same : grafted c.search-at.result r x ≡ with_page k r x = ap (λ j. grafted j r x) (c.search-at.ensures.leads ∙ leads_spot k x) ∙ grafted_spot k r x in
+    let same : grafted c.search-at.result r x ≡ with_subtrie k r x = ap (λ j. grafted j r x) (c.search-at.ensures.leads ∙ leads_spot k x) ∙ grafted_spot k r x in
     subst (GrownShows c.args.node.now c.pull_up.result) same c.pull_up.ensures.shows
 
 pub returns-clause-low : goal.returns-clause-low
@@ -39,4 +39,4 @@ returns-clause-low c =
     let v = c.args.node.now in
     let r = Fork c.args.fork.now.position (Place c.args.fork.now.zero) (Place c.args.fork.now.one) in
     let g = greatest_put c.args.fork.now.key.now r (piece v) in
-    grown_low v c.pull_up.result (with_page c.args.fork.now.key.now r (piece v)) v.height (returns-clause-shows c) (omega (arith, g, entries_under v c.count.ensures.lawful, c.requires.zero, c.requires.one))
+    grown_low v c.pull_up.result (with_subtrie c.args.fork.now.key.now r (piece v)) v.height (returns-clause-shows c) (omega (arith, g, entries_under v c.count.ensures.lawful, c.requires.zero, c.requires.one))

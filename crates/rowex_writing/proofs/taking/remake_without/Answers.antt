@@ -3,9 +3,9 @@ use Rattle.std.proofs.Common.{rules, ◌≡◌, ◌≤◌, ◌+◌, ◌*◌, [],
 use Rattle.insert_cases.specs.declared.choice.Step.{Step}
 use Rattle.record_words.specs.Entry.{HasEntryWord, entry_word}
 use Rattle.record_words.specs.declared.layout.Layout.{Layout}
-use Rattle.moments.specs.declared.Rec.TheVariants.{Node as a_node, Leaf as a_leaf}
+use Rattle.versions.specs.declared.Rec.TheVariants.{Node as a_node, Leaf as a_leaf}
 use Rattle.rowex_walks.specs.Writer.{removed_change}
-use Rattle.rowex_writing.specs.Changes.{MayEnd}
+use Rattle.rowex_writing.specs.Changes.{MayPublishOnceReady}
 use Rattle.rowex_writing.specs.Counts.{level_steps}
 use Rattle.rowex_writing.proofs.Removing.{IsRaised, last_one, left_raised, leaf_gone_record, low_step, lowest_locked, may_remake, no_step}
 use Rattle.rowex_writing.proofs.Walked.{walk_begins}
@@ -57,8 +57,8 @@ returns-clause-raised g c = λ m value b.
       most = omega arith;
       leaf = leaf_gone_record table c.args.seat.now m job.key.now job.way.now c.args.number value job.span b _ at;
       ends = λ spot over.
-          subst (MayEnd table c.raise_without.new.seat c.raise_without.new.build.made.items spot (entry_word (Some c.in-Some.entry)) (removed_change c.args.seat.now.known.pass (item c.args.number job.key.now value)) (Some value)) (sym gone)
-          (subst (λ y. MayEnd table c.raise_without.new.seat c.raise_without.new.build.made.items spot (entry_word (Some c.in-Some.entry)) y (Some value) (a_node (get_or job.way.now job.span.end no_step).number ∷ a_leaf c.args.number ∷ [])) now
+          subst (MayPublishOnceReady table c.raise_without.new.seat c.raise_without.new.build.made.items spot (entry_word (Some c.in-Some.entry)) (removed_change c.args.seat.now.known.pass (item c.args.number job.key.now value)) (Some value)) (sym gone)
+          (subst (λ y. MayPublishOnceReady table c.raise_without.new.seat c.raise_without.new.build.made.items spot (entry_word (Some c.in-Some.entry)) y (Some value) (a_node (get_or job.way.now job.span.end no_step).number ∷ a_leaf c.args.number ∷ [])) now
           (may_remake table c.args.seat.now m job.key.now job.way.now c.args.number value job.span b _ at c.raise_without.new.seat c.raise_without.new.build.made.items news words h c.in-Some.entry
           c.raise_without.ensures.goes.stays building side (c.in-Some.ensures.low words h) word spot over));
       few = omega (arith, ap length c.requires.made, c.raise_without.ensures.more);

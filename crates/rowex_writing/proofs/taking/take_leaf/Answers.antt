@@ -1,11 +1,11 @@
 -- The way has a node, or none.
 use Rattle.std.proofs.Common.{[], ◌∷◌, Some, refl, sym, ap, subst, arith, length}
-use Rattle.moments.specs.declared.Rec.TheVariants.{Leaf as a_leaf}
+use Rattle.versions.specs.declared.Rec.TheVariants.{Leaf as a_leaf}
 use Rattle.rowex_walks.specs.Writer.{removed_change}
-use Rattle.rowex_writing.specs.Changes.{IsTaken, MayEnd}
+use Rattle.rowex_writing.specs.Changes.{IsTakeChange, MayPublishOnceReady}
 use Rattle.std.proofs.lemmas.Result.{IfErr-weaker}
 use Rattle.rowex_writing.proofs.Locking.{goes_none}
-use Rattle.rowex_writing.proofs.Raised.{leaf_alone, nodes_alone, taken_raised}
+use Rattle.rowex_writing.proofs.Raised.{just_leaf_gone, nodes_alone, taken_raised}
 use Rattle.rowex_writing.proofs.Removing.{found_key, may_empty, only_records, take_below, take_only}
 use Rattle.rowex_writing.proofs.taking.take_leaf.Goals as goal
 use Rattle.tries.specs.Content.{item}
@@ -41,15 +41,15 @@ returns-clause-done g c = record {
       let x = removed_change c.args.seat.now.known.pass (item c.in-Leaf.number job.key.now c.in-Leaf.value) in (
         x,
         Some c.in-Leaf.value,
-        subst (λ f. IsTaken c.args.seat.now.known.pass job.key.now f x (Some c.in-Leaf.value)) (sym same) (refl, refl),
+        subst (λ f. IsTakeChange c.args.seat.now.known.pass job.key.now f x (Some c.in-Leaf.value)) (sym same) (refl, refl),
         record {
           from = omega (arith, top);
           upto = omega arith;
           most = omega (arith, low);
           leaf = only_records c.args.table.now c.args.seat.now c.in-Leaf.number job.key.now c.in-Leaf.value only;
           ends = λ spot over.
-              subst (MayEnd c.args.table.now c.args.seat.now c.clear.new.self.items spot 0 x (Some c.in-Leaf.value)) (sym (leaf_alone job.way.now job.span.end 0 (Some c.in-Leaf.number) (sym top)))
-              (subst (λ made. MayEnd c.args.table.now c.args.seat.now made spot 0 x (Some c.in-Leaf.value) (a_leaf c.in-Leaf.number ∷ [])) (sym c.clear.ensures)
+              subst (MayPublishOnceReady c.args.table.now c.args.seat.now c.clear.new.self.items spot 0 x (Some c.in-Leaf.value)) (sym (just_leaf_gone job.way.now job.span.end 0 (Some c.in-Leaf.number) (sym top)))
+              (subst (λ made. MayPublishOnceReady c.args.table.now c.args.seat.now made spot 0 x (Some c.in-Leaf.value) (a_leaf c.in-Leaf.number ∷ [])) (sym c.clear.ensures)
               (may_empty c.args.table.now c.args.seat.now c.in-Leaf.number job.key.now c.in-Leaf.value only job.way.now job.span.end top spot over));
           few = omega (arith, ap length c.clear.ensures);
         },

@@ -1,7 +1,7 @@
 -- The spare record was not free, or there was none; then one of all records is claimed, or none was free.
 use Rattle.std.proofs.Common.{◌∙◌, arith}
 use Rattle.std.proofs.lemmas.List.Elements.{Contains-append_left}
-use Rattle.moments.specs.declared.Rec.TheVariants.{Node as a_node}
+use Rattle.versions.specs.declared.Rec.TheVariants.{Node as a_node}
 use Rattle.rowex_records.proofs.Claimed.{claims_holds, more_since}
 use Rattle.rowex_writing.proofs.Counting.{claims_count, none_count}
 use Rattle.rowex_writing.proofs.Locking.{goes_more, seat_of}

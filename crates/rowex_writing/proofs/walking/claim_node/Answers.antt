@@ -1,6 +1,6 @@
 -- A record is claimed; or none was free, and those that are made are looked at.
 use Rattle.std.proofs.Common.{◌∙◌, sym, subst, Contains}
-use Rattle.moments.specs.declared.Rec.TheVariants.{Node as a_node}
+use Rattle.versions.specs.declared.Rec.TheVariants.{Node as a_node}
 use Rattle.rowex_records.proofs.Claimed.{missed_earlier}
 use Rattle.rowex_writing.specs.Building.{IsBuilding}
 use Rattle.rowex_writing.proofs.Locking.{goes_more}

@@ -1,6 +1,6 @@
 -- One record more.
 use Rattle.std.proofs.Common.{rules, arith}
-use Rattle.moments.specs.declared.Rec.TheVariants.{Leaf as a_leaf}
+use Rattle.versions.specs.declared.Rec.TheVariants.{Leaf as a_leaf}
 use Rattle.seat_calls.proofs.Counted.{counts_few, counts_more, counts_none, found_tag}
 use Rattle.seat_calls.proofs.census.count_leaves.Goals as goal
 

@@ -1,6 +1,6 @@
 -- The records below the number have been counted.
 use Rattle.std.specs.Prelude.{◌≡◌}
-use Rattle.moments.specs.declared.Rec.TheVariants.{Node as a_node}
+use Rattle.versions.specs.declared.Rec.TheVariants.{Node as a_node}
 use Rattle.seat_calls.specs.Census.{CountsFrom}
 use Rattle.seat_calls.proofs.census.count_nodes.Given as goal
 

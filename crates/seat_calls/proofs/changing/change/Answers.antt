@@ -4,7 +4,7 @@ use Rattle.seat_calls.specs.Answers.{fault_of}
 use Rattle.seat_calls.specs.Asked.{HasReplied}
 use Rattle.seat_calls.specs.Passes.{pass_of}
 use Rattle.seat_calls.proofs.Tracing.{ran_on, ran_out}
-use Rattle.seat_calls.proofs.Trying.{waited_on, waited_out}
+use Rattle.seat_calls.proofs.Trying.{waited_from_before, waited_out}
 use Rattle.seat_calls.proofs.changing.change.Goals as goal
 
 pub returns-in-Ok-clause-replied : goal.returns-in-Ok-clause-replied
@@ -25,7 +25,7 @@ loop-preserved g c =
     let o = c.in-Err.ensures.asked in
     record {
       idle = o.replied.idle;
-      waited = waited_on c.args.table.now.layout (pass_of c.args.seat.now) (pass_of c.loop.seat) (pass_of c.try_change.new.seat) c.loop.invariant.waited o.replied.refused.unnoted o.later;
+      waited = waited_from_before c.args.table.now.layout (pass_of c.args.seat.now) (pass_of c.loop.seat) (pass_of c.try_change.new.seat) c.loop.invariant.waited o.replied.refused.unnoted o.later;
       ran = ran_on c.args.table.now g.G.Gate.becomes _ _ _ c.loop.invariant.ran o.ended;
     }
 

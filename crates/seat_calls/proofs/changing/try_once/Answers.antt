@@ -1,14 +1,14 @@
 -- An attempt is noted as its pass clears the pin, and has settled then.
 use Rattle.std.proofs.Common.{rules, ◌≡◌, ◌+◌, ◌∙◌, ap, arith}
 use Rattle.rowex_core.specs.declared.known.Known.{Known}
-use Rattle.seat_calls.proofs.Conflicts.{pins_quiet}
+use Rattle.seat_calls.proofs.Conflicts.{no_change_since_pins}
 use Rattle.seat_calls.proofs.Noting.{fits_then}
 use Rattle.seat_calls.proofs.Tracing.{attempt_ended, attempt_run}
 use Rattle.seat_calls.proofs.Trying.{run_pinned, run_same, tried, tried_later, tried_loaded}
 use Rattle.seat_calls.proofs.changing.try_once.Goals as goal
 
 pub attempt-outcome-requires-clause-quiet : goal.attempt-outcome-requires-clause-quiet
-attempt-outcome-requires-clause-quiet g c = pins_quiet c.pin.ensures.steps
+attempt-outcome-requires-clause-quiet g c = no_change_since_pins c.pin.ensures.steps
 
 pub end_try-requires : goal.end_try-requires
 end_try-requires g c =

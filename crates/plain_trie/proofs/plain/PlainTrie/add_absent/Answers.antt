@@ -13,7 +13,7 @@ use Rattle.plain_records.specs.Rising.{IsAddable}
 use Rattle.plain_trie.specs.Views.{PlainView, ShowsSoundTree, IsHeldInLeaf, trie_map}
 use Rattle.plain_records.specs.declared.leaf.LeafRecord.{LeafRecord}
 use Rattle.plain_trie.specs.declared.plain.PlainTrie.TheInside.{Inside}
-use Rattle.insert_cases.proofs.Choosing.{same_some}
+use Rattle.insert_cases.proofs.Choosing.{some_injective}
 use Rattle.plain_records.proofs.Cases.{adds_by_case, later_by_case, new_node}
 use Rattle.plain_records.proofs.Heights.{heights_then}
 use Rattle.plain_trie.proofs.Inserting.{Becomes, tree_standing, kept_plain, same_view, absent_value, raised_becomes}
@@ -179,7 +179,7 @@ returns-in-Above-clause-case c =
     let rooted : MakesRoot v w up = λ split. new_node (length v.nodes) (vec_len c.raised-risen.new.nodes) c.rooted.result
     (omega (arith, ap length left.nodes, c.raised-risen.ensures.heights.longer, c.raised-risen.new.nodes.ok.0)) (c.rooted.ensures.new split) in
     let f : TakesCase v w k = λ s is.
-    subst (λ z. (q : ℕ) × IsFirstDifference k (found k z).key q × ((o : Bool) × AddsByCase v.nodes last k q n z o × MakesRoot v w o)) (same_some (sym i.is ∙ is))
+    subst (λ z. (q : ℕ) × IsFirstDifference k (found k z).key q × ((o : Bool) × AddsByCase v.nodes last k q n z o × MakesRoot v w o)) (some_injective (sym i.is ∙ is))
     (p, left.addable.differ, (up, later_by_case v.nodes mid last k p n t up c.rooted.ensures.all e, rooted)) in
     λ none. subst (λ u. TakesCase u w k) c.self.view_is f
 
@@ -198,6 +198,6 @@ returns-in-Below-clause-case c =
     let rooted : MakesRoot v w up = λ split. new_node (length v.nodes) (vec_len c.added.new.nodes) c.rooted-in-Below.result
     (omega (arith, c.added.ensures.heights.longer, c.added.new.nodes.ok.0)) (c.rooted-in-Below.ensures.new split) in
     let f : TakesCase v w k = λ s is.
-    subst (λ z. (q : ℕ) × IsFirstDifference k (found k z).key q × ((o : Bool) × AddsByCase v.nodes last k q n z o × MakesRoot v w o)) (same_some (sym i.is ∙ is))
+    subst (λ z. (q : ℕ) × IsFirstDifference k (found k z).key q × ((o : Bool) × AddsByCase v.nodes last k q n z o × MakesRoot v w o)) (some_injective (sym i.is ∙ is))
     (r.position, r.addable.differ, (up, later_by_case v.nodes mid last k r.position n t up c.rooted-in-Below.ensures.all e, rooted)) in
     λ none. subst (λ u. TakesCase u w k) c.self.view_is f

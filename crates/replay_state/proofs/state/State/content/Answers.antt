@@ -1,4 +1,4 @@
--- The items are those of the newest moment.
+-- The items are those of the newest version.
 use Rattle.std.proofs.Common.{sym}
 use Rattle.std.proofs.Common.{◌∙◌, ap, map}
 use Rattle.std.proofs.lemmas.List.{take_all}

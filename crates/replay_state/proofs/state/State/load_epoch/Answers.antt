@@ -1,4 +1,4 @@
--- The round begins at the newest moment.
+-- The round begins at the newest version.
 use Rattle.std.proofs.Common.{sym}
 use Rattle.replay_state.proofs.EpochSteps.{epoch_loads, pass_in}
 use Rattle.std.proofs.Common.{◌≡◌, length, arith}
@@ -6,5 +6,5 @@ use Rattle.replay_state.proofs.state.State.load_epoch.Goals as goal
 
 pub returns : goal.returns
 returns c =
-    let long : c.len-moment.result ≡ length c.self.inside.changes.items = omega (arith, c.len-moment.ensures, c.self.inside.changes.ok.0) in
+    let long : c.len-version.result ≡ length c.self.inside.changes.items = omega (arith, c.len-version.ensures, c.self.inside.changes.ok.0) in
     rw (sym c.self.view_is, c.put.ensures, c.loaded-loaded.ensures, long) (epoch_loads _ c.args.pass c.args.word c.own.result c.if-word-self.false (pass_in _ _ c.self.view_is _ _ c.own.ensures))

@@ -1,8 +1,0 @@
--- What steps leave of the past.
-use Rattle.std.specs.Prelude.{◌≡◌, ℕ, ◌≤◌}
-use Rattle.moments.specs.State.{Past}
-
--- The past has grown.
-pub record IsGrown (a b : Past) : Type 0 where
-  pub longer : a.now ≤ b.now
-  pub kept : (n : ℕ) → n ≤ a.now → b.moment n ≡ a.moment n

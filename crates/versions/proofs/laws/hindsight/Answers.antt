@@ -1,0 +1,6 @@
+-- The law hindsight.
+use Rattle.versions.proofs.States.{hindsight}
+use Rattle.versions.proofs.laws.hindsight.Goals as goal
+
+pub returns : goal.returns
+returns c = hindsight

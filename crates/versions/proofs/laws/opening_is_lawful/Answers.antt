@@ -1,0 +1,6 @@
+-- The law opening_is_lawful.
+use Rattle.versions.proofs.Stepping.{opening_core}
+use Rattle.versions.proofs.laws.opening_is_lawful.Goals as goal
+
+pub returns : goal.returns
+returns c = opening_core

@@ -1,0 +1,6 @@
+-- The law reach_is_kept.
+use Rattle.versions.proofs.Stepping.{core_reach}
+use Rattle.versions.proofs.laws.reach_is_kept.Goals as goal
+
+pub returns : goal.returns
+returns c = core_reach

@@ -1,0 +1,6 @@
+-- The law step_keeps_lawful.
+use Rattle.versions.proofs.Stepping.{step_lawful}
+use Rattle.versions.proofs.laws.step_keeps_lawful.Goals as goal
+
+pub returns : goal.returns
+returns c = step_lawful

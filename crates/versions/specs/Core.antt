@@ -1,0 +1,65 @@
+-- The whole core: fates, locks, epochs.
+use Rattle.versions.specs.declared.Pin.{Pin}
+use Rattle.versions.specs.declared.Round.{Round}
+use Rattle.std.specs.Prelude.{◌≡◌, ◌⊎◌, ℕ, ◌<◌, ◌≤◌, List, [], ◌∷◌, Option, Some, None, Bool, true, false, if◌then◌else◌, nat_eq}
+use Rattle.finite_map.specs.declared.Change.{Change}
+use Rattle.compound_node.specs.declared.entries.Entry.{Entry}
+use Rattle.versions.specs.Heap.{Heap}
+use Rattle.versions.specs.State.{Life, Out, Linked, Retired, Past, State}
+use Rattle.versions.specs.declared.Rec.{Rec}
+
+-- What has become of a record; a pass is named where the record is its own.
+pub data Fate : Type 0 where
+  Free : Fate
+  Held : (by : ℕ) → Fate
+  Ready : (by : ℕ) → Fate
+  InTree : (since : ℕ) → Fate
+  Unlinked : (since last by : ℕ) → Fate
+  Marked : (since last epoch : ℕ) → Fate
+
+abbrev pub life_of : Fate → Life
+life_of Free = Out
+life_of (Held q) = Out
+life_of (Ready q) = Out
+life_of (InTree f) = Linked f
+life_of (Unlinked f l q) = Retired f l
+life_of (Marked f l s) = Retired f l
+
+abbrev pub has_seen : List ℕ → ℕ → Bool
+has_seen [] i = false
+has_seen (x ∷ xs) i = if nat_eq i x then true else has_seen xs i
+
+-- What passes share, whatever is said of the words of the records: the root's entry, the versions and changes so far, what has
+-- become of each record, who has locked the anchor and each node, the epoch, and each pass's pin and round.
+pub record Shared : Type 0 where
+  pub root : Option Entry
+  pub past : Past
+  pub changes : List Change
+  pub fate : Rec → Fate
+  pub anchor : Option ℕ
+  pub lock : ℕ → Option ℕ
+  pub epoch : ℕ
+  pub pins : ℕ → Option Pin
+  pub rounds : ℕ → Round
+
+-- And what the words of the records say.
+pub record BareCore : Type 0 where
+  pub heap : Heap
+  pub shared : Shared
+  pub open shared use *
+
+abbrev pub pin_version : Option Pin → Option ℕ
+pin_version None = None
+pin_version (Some p) = Some p.version
+
+-- The core without locks and epochs.
+abbrev pub view : BareCore → State
+view c = record { heap = c.heap; root = c.root; past = c.past; life = λ r. life_of (c.fate r); pin = λ q. pin_version (c.pins q) }
+
+-- The epochs: a retired record's mark is not below the epoch at which a pass was pinned that may have found it linked.
+pub record IsPaced (c : Shared) : Type 0 where
+  pub floors : (q : ℕ) (p : Pin) → c.pins q ≡ Some p → (p.word ≤ p.floor) × (p.floor ≤ c.epoch) × (p.version ≤ c.past.now)
+  pub loads : (q : ℕ) → ((c.rounds q).epoch ≤ c.epoch) × ((c.rounds q).version ≤ c.past.now) × ((c.rounds q).bound ≤ (c.rounds q).epoch)
+  pub after : (q o : ℕ) (p : Pin) → c.pins q ≡ Some p → (p.floor ≤ (c.rounds o).epoch) ⊎ ((c.rounds o).version ≤ p.version)
+  pub marks : (r : Rec) (f l s : ℕ) → c.fate r ≡ Marked f l s → (q : ℕ) (p : Pin) → c.pins q ≡ Some p → (p.floor ≤ s) ⊎ (l < p.version)
+  pub bounds : (q o : ℕ) (p : Pin) → c.pins q ≡ Some p → has_seen (c.rounds o).seen q ≡ true → (c.rounds o).bound ≤ p.floor

@@ -1,0 +1,35 @@
+-- The words of the records, and the tree that they show.
+use Rattle.std.specs.Prelude.{◌≡◌, ◌⊎◌, ℕ}
+use Rattle.tries.specs.Keys.{Key}
+use Rattle.tries.specs.Tree.{Fixed, Subtrie, Tree, leaf, node, fork, subtrie}
+use Rattle.tries.specs.Place.{Swap}
+
+pub record NodeWords : Type 0 where
+  pub fixed : Fixed
+  pub subtrie : Subtrie
+
+pub record LeafWords : Type 0 where
+  pub key : Key
+  pub value : ℕ
+
+pub record Heap : Type 0 where
+  pub nodes : ℕ → NodeWords
+  pub leaves : ℕ → LeafWords
+
+-- The words of the record at the tree's head are these.
+abbrev pub IsCopied : Heap → Tree → Type 0
+IsCopied m (leaf n k v) = m.leaves n ≡ record { key = k; value = v }
+IsCopied m (node n x b) = m.nodes n ≡ record { fixed = x; subtrie = subtrie b }
+IsCopied m (fork p a b) = Unit {0}
+
+-- Each record of the tree has the words that the tree says.
+abbrev pub IsShown : Heap → Tree → Type 0
+IsShown m (leaf n k v) = m.leaves n ≡ record { key = k; value = v }
+IsShown m (node n x b) = (m.nodes n ≡ record { fixed = x; subtrie = subtrie b }) × IsShown m b
+IsShown m (fork p a b) = IsShown m a × IsShown m b
+
+-- From one heap to the next, each node keeps its fixed words and each subtrie all its entries but one at most.
+abbrev pub IsNear : Heap → Heap → Type 0
+IsNear m o =
+    ((n : ℕ) → m.leaves n ≡ o.leaves n) × ((n : ℕ) → ((m.nodes n).fixed ≡ (o.nodes n).fixed)) ×
+    ((n : ℕ) → ((m.nodes n).subtrie ≡ (o.nodes n).subtrie) ⊎ Swap (m.nodes n).subtrie (o.nodes n).subtrie)

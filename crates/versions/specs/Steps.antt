@@ -1,0 +1,188 @@
+-- The steps that change the core, as functions, and when the publish is legal.
+use Rattle.std.specs.Prelude.{◌<◌, ◌≡◌, ◌⊎◌, ◌≢◌, ◌||◌, ℕ, suc, [], ◌∷◌, ◌++◌, Option, Some, None, Bool, true, false, if◌then◌else◌, nat_eq, min}
+use Rattle.compound_node.specs.declared.entries.Entry.{Entry}
+use Rattle.tries.specs.Tree.{Tree, leaf, node, fork, IsTrie, IsBuilt}
+use Rattle.versions.specs.Heap.{Heap, IsNear}
+use Rattle.versions.specs.State.{IsLinked, IsTop, with_version, IsLawfulState}
+use Rattle.versions.specs.declared.Rec.{Rec}
+use Rattle.versions.specs.declared.Rec.TheVariants.{Node as a_node, Leaf as a_leaf}
+use Rattle.finite_map.specs.declared.Change.{Change}
+use Rattle.versions.specs.Told.{IsChange, TellChanges}
+use Rattle.versions.specs.Core.{Fate, Free, Held, Ready, InTree, Unlinked, Marked, has_seen, view, IsPaced, Shared, BareCore}
+use Rattle.versions.specs.declared.Pin.{Pin}
+use Rattle.versions.specs.declared.Round.{Round}
+
+abbrev pub same_rec : Rec → Rec → Bool
+same_rec (a_node n) (a_node m) = nat_eq n m
+same_rec (a_node n) (a_leaf m) = false
+same_rec (a_leaf n) (a_node m) = false
+same_rec (a_leaf n) (a_leaf m) = nat_eq n m
+
+abbrev pub links : Tree → Rec → Bool
+links (leaf n k v) r = same_rec r (a_leaf n)
+links (node n h b) r = same_rec r (a_node n) || links b r
+links (fork p a b) r = links a r || links b r
+
+abbrev pub is_linked : Option Tree → Rec → Bool
+is_linked None r = false
+is_linked (Some t) r = links t r
+
+-- What a publish by pass `q` makes of a record.
+abbrev pub next_fate : ℕ → ℕ → Bool → Fate → Fate
+next_fate now q true Free = Free
+next_fate now q true (Held p) = Held p
+next_fate now q true (Ready p) = InTree (suc now)
+next_fate now q true (InTree f) = InTree f
+next_fate now q true (Unlinked f l p) = Unlinked f l p
+next_fate now q true (Marked f l s) = Marked f l s
+next_fate now q false Free = Free
+next_fate now q false (Held p) = Held p
+next_fate now q false (Ready p) = Ready p
+next_fate now q false (InTree f) = Unlinked f now q
+next_fate now q false (Unlinked f l p) = Unlinked f l p
+next_fate now q false (Marked f l s) = Marked f l s
+
+-- What the publish stores: the root entry, under the anchor's lock; or an entry of a node under its lock.
+pub data IsStore (c : BareCore) (q : ℕ) (heap : Heap) (root : Option Entry) : Type 0 where
+  at_root : c.anchor ≡ Some q → heap ≡ c.heap → IsStore c q heap root
+  at_slot : (n : ℕ) → c.lock n ≡ Some q → ((m : ℕ) → m ≢ n → heap.nodes m ≡ c.heap.nodes m) →
+      ((m : ℕ) → heap.leaves m ≡ c.heap.leaves m) → root ≡ c.root → IsStore c q heap root
+
+-- The publish makes the next version: the words show it then, it is lawful, what it links anew pass `q` has made ready, and `q` has
+-- locked the nodes that it unlinks; the leaves change by `x`.
+pub record IsNextVersion (s : Shared) (q : ℕ) (heap : Heap) (root : Option Entry) (t : Option Tree) (x : Change) : Type 0 where
+  pub top : IsTop heap root t
+  pub tree : (u : Tree) → t ≡ Some u → IsTrie u × IsBuilt u
+  pub comes : (r : Rec) → IsLinked t r → ((f : ℕ) × (s.fate r ≡ InTree f)) ⊎ (s.fate r ≡ Ready q)
+  pub goes : (n f : ℕ) → s.fate (a_node n) ≡ InTree f → ¬ (IsLinked t (a_node n)) → s.lock n ≡ Some q
+  pub change : IsChange (s.past.version s.past.now) x t
+
+-- The publish is legal: it stores one entry, under its lock, in a node that is linked then; and it makes the next version.
+pub record IsVersionPublish (c : BareCore) (q : ℕ) (heap : Heap) (root : Option Entry) (t : Option Tree) (x : Change) : Type 0 where
+  pub store : IsStore c q heap root
+  pub near : IsNear c.heap heap
+  pub kept : (n : ℕ) → IsLinked t (a_node n) ⊎ (c.heap.nodes n ≡ heap.nodes n)
+  pub own : x.pass ≡ q
+  pub next : IsNextVersion c.shared q heap root t x
+  pub open next use *
+
+-- What steps make of what passes share
+
+abbrev pub with_fate : Shared → Rec → Fate → Shared
+with_fate s r f = record s { fate = λ i. if same_rec i r then f else s.fate i }
+
+abbrev pub with_anchor : Shared → Option ℕ → Shared
+with_anchor s o = record s { anchor = o }
+
+abbrev pub with_lock : Shared → ℕ → Option ℕ → Shared
+with_lock s n o = record s { lock = λ i. if nat_eq i n then o else s.lock i }
+
+-- a marked record is locked no more
+abbrev pub unlocked : Shared → Rec → Shared
+unlocked s r = record s { lock = λ i. if same_rec (a_node i) r then None else s.lock i }
+
+abbrev pub after_mark : Shared → Rec → (since last epoch : ℕ) → Shared
+after_mark s r since last epoch = with_fate (unlocked s r) r (Marked since last epoch)
+
+abbrev pub with_epoch : Shared → ℕ → Shared
+with_epoch s e = record s { epoch = e }
+
+abbrev pub with_pin : Shared → ℕ → Option Pin → Shared
+with_pin s q p = record s { pins = λ i. if nat_eq i q then p else s.pins i }
+
+-- pinned with this word
+abbrev pub after_set_pin : Shared → ℕ → ℕ → Shared
+after_set_pin s q w = with_pin s q (Some (record { word = w; version = s.past.now; floor = s.epoch }))
+
+abbrev pub with_round : Shared → ℕ → Round → Shared
+with_round s q o = record s { rounds = λ i. if nat_eq i q then o else s.rounds i }
+
+-- a load of the epoch begins a round
+abbrev pub begun_round : ℕ → ℕ → Round
+begun_round epoch now = record { epoch = epoch; version = now; bound = epoch; seen = [] }
+
+abbrev pub after_load_epoch : Shared → ℕ → Shared
+after_load_epoch s q = with_round s q (begun_round s.epoch s.past.now)
+
+abbrev pub lowered : ℕ → Option Pin → ℕ
+lowered b None = b
+lowered b (Some p) = min b p.word
+
+-- a load of a pin takes it into the round
+abbrev pub with_seen : Round → ℕ → Option Pin → Round
+with_seen o q p = record { epoch = o.epoch; version = o.version; bound = lowered o.bound p; seen = q ∷ o.seen }
+
+abbrev pub after_load_pin : Shared → ℕ → ℕ → Shared
+after_load_pin s q o = with_round s q (with_seen (s.rounds q) o (s.pins o))
+
+abbrev pub published_by : Shared → ℕ → Option Entry → Option Tree → Change → Shared
+published_by s q root t x = record s {
+  root = root;
+  past = record { now = suc s.past.now; version = with_version s.past.version (suc s.past.now) t };
+  changes = s.changes ++ x ∷ [];
+  fate = λ r. next_fate s.past.now q (is_linked t r) (s.fate r);
+}
+
+abbrev pub after_publish : BareCore → ℕ → Heap → Option Entry → Option Tree → Change → BareCore
+after_publish c q heap root t x = record { heap = heap; shared = published_by c.shared q root t x }
+
+-- From one heap to the next the words of record `r` alone change.
+pub record FillsOnly (m o : Heap) (r : Rec) : Type 0 where
+  pub nodes : (n : ℕ) → r ≢ a_node n → m.nodes n ≡ o.nodes n
+  pub leaves : (n : ℕ) → r ≢ a_leaf n → m.leaves n ≡ o.leaves n
+
+-- Each pinned pass's pin was loaded in the round.
+abbrev pub HasSeenAll : BareCore → Round → Type 0
+HasSeenAll c o = (i : ℕ) (p : Pin) → c.pins i ≡ Some p → has_seen o.seen i ≡ true
+
+-- A step of pass `q` that changes the core, and what it makes of it. All other steps are loads and failed exchanges,
+-- which change nothing.
+pub data IsCoreStep (c : BareCore) (q : ℕ) : BareCore → Type 0 where
+  claims : (r : Rec) → c.fate r ≡ Free → IsCoreStep c q (record c { shared = with_fate c.shared r (Held q) })
+  fills : (r : Rec) (heap : Heap) → c.fate r ≡ Held q → FillsOnly c.heap heap r → IsCoreStep c q (record c { heap = heap })
+  readies : (r : Rec) → c.fate r ≡ Held q → IsCoreStep c q (record c { shared = with_fate c.shared r (Ready q) })
+  releases : (r : Rec) → c.fate r ≡ Held q → IsCoreStep c q (record c { shared = with_fate c.shared r Free })
+  locks_anchor : c.anchor ≡ None → IsCoreStep c q (record c { shared = with_anchor c.shared (Some q) })
+  unlocks_anchor : c.anchor ≡ Some q → IsCoreStep c q (record c { shared = with_anchor c.shared None })
+  locks : (n since : ℕ) → c.lock n ≡ None → c.fate (a_node n) ≡ InTree since → IsCoreStep c q (record c { shared = with_lock c.shared n (Some q) })
+  unlocks : (n since : ℕ) → c.lock n ≡ Some q → c.fate (a_node n) ≡ InTree since → IsCoreStep c q (record c { shared = with_lock c.shared n None })
+  publishes : (heap : Heap) (root : Option Entry) (t : Option Tree) (x : Change) → IsVersionPublish c q heap root t x → IsCoreStep c q (after_publish c q heap root t x)
+  marks : (r : Rec) (since last : ℕ) → c.fate r ≡ Unlinked since last q → last < (c.rounds q).version →
+      IsCoreStep c q (record c { shared = after_mark c.shared r since last (c.rounds q).epoch })
+  loads_epoch : IsCoreStep c q (record c { shared = after_load_epoch c.shared q })
+  advances : IsCoreStep c q (record c { shared = with_epoch c.shared (suc c.epoch) })
+  pins : c.pins q ≡ None → IsCoreStep c q (record c { shared = after_set_pin c.shared q (c.rounds q).epoch })
+  unpins : (p : Pin) → c.pins q ≡ Some p → IsCoreStep c q (record c { shared = with_pin c.shared q None })
+  loads_pin : (o : ℕ) → IsCoreStep c q (record c { shared = after_load_pin c.shared q o })
+  gives_back : (r : Rec) (since last epoch : ℕ) → c.fate r ≡ Marked since last epoch → epoch < (c.rounds q).bound → HasSeenAll c (c.rounds q) →
+      IsCoreStep c q (record c { shared = with_fate c.shared r Free })
+
+-- A locked node is in the tree, or its lock's pass has unlinked it.
+abbrev pub IsLockable : ℕ → Fate → Type 0
+IsLockable q (InTree since) = Unit {0}
+IsLockable q (Unlinked since last p) = p ≡ q
+IsLockable q f = ⊥
+
+-- The core is lawful: as a state, in its epochs and its locks, and its versions tell its changes.
+pub record IsLawfulCore (c : BareCore) : Type 0 where
+  pub state : IsLawfulState (view c)
+  pub paced : IsPaced c.shared
+  pub told : TellChanges c.past c.changes
+  pub locked : (n q : ℕ) → c.lock n ≡ Some q → IsLockable q (c.fate (a_node n))
+
+-- Before the first step: no record is claimed, the index is empty and nothing is locked or pinned, and no pass has loaded the epoch.
+abbrev pub at_first : Shared
+at_first = record {
+  root = None;
+  past = record { now = 0; version = λ n. None };
+  changes = [];
+  fate = λ r. Free;
+  anchor = None;
+  lock = λ n. None;
+  epoch = 1;
+  pins = λ q. None;
+  rounds = λ q. record { epoch = 0; version = 0; bound = 0; seen = [] };
+}
+
+abbrev pub bare_opening : Heap → BareCore
+bare_opening heap = record { heap = heap; shared = at_first }

@@ -1,0 +1,49 @@
+-- The content of a version, and how the versions tell the changes.
+use Rattle.std.specs.Prelude.{◌≡◌, ℕ, ◌≤◌, List, [], length, take, Option, Some, None}
+use Rattle.finite_map.specs.declared.Change.{Change}
+use Rattle.finite_map.specs.declared.Kind.{Kind}
+use Rattle.finite_map.specs.declared.Kind.TheVariants.{Added, Replaced, Removed}
+use Rattle.finite_map.specs.Maps.{Map}
+use Rattle.finite_map.specs.Fronts.{map_of, LegalFront}
+use Rattle.tries.specs.Tree.{Tree}
+use Rattle.tries.specs.Content.{Item, items, pairs, IsMore, IsExchange}
+use Rattle.versions.specs.State.{Past}
+
+abbrev pub items_of : Option Tree → List Item
+items_of None = []
+items_of (Some t) = items t
+
+-- The keys and values of a version's leaves, in order.
+abbrev pub content : Option Tree → Map
+content t = pairs (items_of t)
+
+-- The leaf record of this number, with a change's key and value.
+abbrev pub item_of : ℕ → Change → Item
+item_of n x = record { number = n; key = x.key; value = x.value }
+
+-- The changes by which pass `q` adds this leaf, puts it in the place of another one, or takes it away.
+abbrev pub added_change : ℕ → Item → Change
+added_change q x = record { pass = q; key = x.key; value = x.value; kind = Added }
+
+abbrev pub replaced_change : ℕ → Item → Change
+replaced_change q x = record { pass = q; key = x.key; value = x.value; kind = Replaced }
+
+abbrev pub removed_change : ℕ → Item → Change
+removed_change q x = record { pass = q; key = x.key; value = x.value; kind = Removed }
+
+-- What a change of this kind makes of the leaves: one more, or one for another of the same key, or one less.
+abbrev pub IsChanged : Kind → Item → List Item → List Item → Type 0
+IsChanged Added x xs ys = IsMore x xs ys
+IsChanged Replaced x xs ys = (y : Item) × (y.key ≡ x.key) × IsExchange y x xs ys
+IsChanged Removed x xs ys = IsMore x ys xs
+
+-- From one version to the next one leaf record changes, as the change says.
+abbrev pub IsChange : Option Tree → Change → Option Tree → Type 0
+IsChange s x t = (n : ℕ) × IsChanged x.kind (item_of n x) (items_of s) (items_of t)
+
+-- There is a version after each number of changes, its content is the map of these, and each change is legal on the
+-- map of those before it.
+pub record TellChanges (s : Past) (changes : List Change) : Type 0 where
+  pub count : length changes ≡ s.now
+  pub content_is : (n : ℕ) → n ≤ s.now → content (s.version n) ≡ map_of (take n changes)
+  pub legal : LegalFront changes

@@ -1,0 +1,24 @@
+-- Which records a publish links anew, and which it unlinks, by lists.
+use Rattle.std.specs.Prelude.{◌≡◌, ◌⊎◌, List, [], ◌∷◌, Option}
+use Rattle.tries.specs.Tree.{Tree}
+use Rattle.versions.specs.State.{IsLinked}
+use Rattle.versions.specs.declared.Rec.{Rec}
+
+-- one of the list
+abbrev pub IsOneOf : {X : Type 0} → X → List X → Type 0
+IsOneOf x [] = ⊥
+IsOneOf x (y ∷ ys) = (x ≡ y) ⊎ IsOneOf x ys
+
+-- none stands in it twice
+abbrev pub AreApart : {X : Type 0} → List X → Type 0
+AreApart [] = Unit {0}
+AreApart (x ∷ xs) = (¬ (IsOneOf x xs)) × AreApart xs
+
+-- From the version `s`, which may be empty, to the next one, `t`: just the records `new` are linked anew, and just the
+-- records `gone`, each listed once, are linked no more.
+pub record HasTraded (s t : Option Tree) (new gone : List Rec) : Type 0 where
+  pub comes : (i : Rec) → IsLinked t i → IsLinked s i ⊎ IsOneOf i new
+  pub came : (i : Rec) → IsOneOf i new → IsLinked t i × (IsLinked s i → ⊥)
+  pub goes : (i : Rec) → IsLinked s i → IsLinked t i ⊎ IsOneOf i gone
+  pub went : (i : Rec) → IsOneOf i gone → IsLinked s i × (IsLinked t i → ⊥)
+  pub apart : AreApart gone
