@@ -1,5 +1,5 @@
 -- Records made for what a node becomes.
-use Rattle.std.specs.Prelude.{◌≡◌, ◌<◌, ◌≤◌, ◌+◌, ◌-◌, ◌↔◌, ℕ, List, [], ◌∷◌, ◌++◌, map, drop, take, length, slice_get, Some, reverse, Bool, true, IsTrue, if◌then◌else◌}
+use Rattle.std.specs.Prelude.{◌≡◌, ◌<◌, ◌≤◌, ◌+◌, ◌-◌, ◌↔◌, ℕ, List, [], ◌∷◌, ◌++◌, map, drop, take, length, slice_get, Option, MatchOption, Some, reverse, Bool, true, IsTrue, if◌then◌else◌}
 use Rattle.compound_node.specs.Nodes.{NodeView, height_of, piece}
 use Rattle.compound_node.specs.declared.entries.Entry.{Entry}
 use Rattle.compound_node.specs.declared.entries.Entry.TheVariants.{Node}
@@ -33,7 +33,7 @@ use Rattle.rowex_reading.specs.Possible.{IsPossible}
 use Rattle.rowex_rights.specs.Rises.{made_of_node, made_of_leaf, HasFoundBelow}
 use Rattle.rowex_rights.specs.Stages.{HasLeaf, HasRisen, IsLockedAbove}
 use Rattle.rowex_writing.specs.Going.{HasLocked}
-use Rattle.rowex_writing.specs.Remaking.{AffectsJust, IsNoHigher}
+use Rattle.rowex_writing.specs.Remaking.{AffectsJust, AwaitsLeaf, IsNoHigher, subtrie_with_leaf}
 use Rattle.rowex_writing.specs.declared.plan.Span.{Span}
 use Rattle.rowex_writing.specs.declared.building.Rise.{Rise}
 use Rattle.rowex_writing.specs.declared.remaking.Fork.{Fork}
@@ -84,6 +84,14 @@ pub record IsBuilding (table : TableView) (a : SeatView) (made : List Rec) (news
 pub record HasNotMade (table : TableView) (b : SeatView) (made : List Rec) : Type 0 where
   pub news : List Made
   pub building : IsBuilding table b made news
+
+-- What comes in the place of the node of this number, with these words, that gets a new leaf, and whether the node stays whole, with the
+-- records made for it; or none was free.
+abbrev pub MakesGrown : TableView → SeatView → List Rec → SeatView → List Rec → ℕ → List ℕ → NewLeaf → Option (Risen × Bool) → Type 0
+MakesGrown table a made b built number words new result =
+    (news : List Made) (node : NodeView) → AwaitsLeaf words node new → IsBuilding table a made news → MatchOption result (HasNotMade table b built)
+    (λ r. (after : List Made) × IsGrownFrom (Node number node.height) node (subtrie_with_leaf new (piece node)) new.position r.0 r.1 news after ×
+    IsBuilding table b built after)
 
 -- ---- on the way up
 -- The change adds x, of which the record is made: this is what comes in the place of node n's body or entry, and those go.

@@ -6,7 +6,7 @@ ghost use Rattle.record_words.specs.Node.{CanTakeLeaf, HasNodeWords, node_words}
 ghost use Rattle.record_words.specs.Reading.{IsSpelling};
 ghost use Rattle.rowex_table.specs.Made.{Made};
 ghost use Rattle.rowex_rights.specs.Rises.{made_of_node, IsSide};
-ghost use Rattle.rowex_writing.specs.Building.{IsBuilding, IsGrowingBy, IsGrownFrom, IsHalfMade, IsLevelRisen, IsLowRisen, IsMadeFrom, IsNextTo, IsRaising, IsRisenAt, Rises, GetsFork, GetsLeaf, FitsAbove, HasNotMade, HasRisenTo, gone_unless_whole, gone_with_way};
+ghost use Rattle.rowex_writing.specs.Building.{IsBuilding, IsGrowingBy, IsHalfMade, IsLevelRisen, IsLowRisen, IsMadeFrom, IsNextTo, IsRaising, IsRisenAt, MakesGrown, Rises, GetsFork, GetsLeaf, FitsAbove, HasNotMade, HasRisenTo, gone_unless_whole, gone_with_way};
 ghost use Rattle.rowex_writing.specs.Going.{WorksOn, HasLocked, IsLockedBy};
 ghost use Rattle.rowex_writing.specs.Locks.{locks_of};
 ghost use Rattle.rowex_writing.specs.Remaking.{AwaitsLeaf, subtrie_with_leaf};
@@ -251,11 +251,7 @@ fn make_by_value<G: Gate>(
     requires takes { (node : NodeView) × AwaitsLeaf words.now node new.now }
     requires room { length build.old.made.items + 1 < MOST_MADE }
     ensures goes { WorksOn table.now G.becomes (seat.old, gate.old) (seat.new, gate.new) }
-    ensures made { (news : List Made) (node : NodeView) → AwaitsLeaf words.now node new.now → IsBuilding table.now seat.old build.old.made.items news → MatchOption result
-        (HasNotMade table.now seat.new build.new.made.items)
-        (λ r. (after : List Made) ×
-        IsGrownFrom (Entry.Node number node.height) node (subtrie_with_leaf new.now (piece node)) new.now.position r.0 r.1 news after ×
-        IsBuilding table.now seat.new build.new.made.items after) }
+    ensures made { MakesGrown table.now seat.old build.old.made.items seat.new build.new.made.items number words.now new.now result }
     ensures more { length build.new.made.items ≤ length build.old.made.items + 2 }
     ensures walk { WalksOn table.now.layout seat.old.known build.old seat.new.known build.new result }
     ensures few { Spends (2 * node_steps) seat.old.known build.old seat.new.known build.new result }
@@ -288,11 +284,7 @@ fn make_grown<G: Gate>(
     requires takes { (node : NodeView) × AwaitsLeaf words.old node new.now }
     requires room { length build.old.made.items + 1 < MOST_MADE }
     ensures goes { WorksOn table.now G.becomes (seat.old, gate.old) (seat.new, gate.new) }
-    ensures made { (news : List Made) (node : NodeView) → AwaitsLeaf words.old node new.now → IsBuilding table.now seat.old build.old.made.items news → MatchOption result
-        (HasNotMade table.now seat.new build.new.made.items)
-        (λ r. (after : List Made) ×
-        IsGrownFrom (Entry.Node number node.height) node (subtrie_with_leaf new.now (piece node)) new.now.position r.0 r.1 news after ×
-        IsBuilding table.now seat.new build.new.made.items after) }
+    ensures made { MakesGrown table.now seat.old build.old.made.items seat.new build.new.made.items number words.old new.now result }
     ensures more { length build.new.made.items ≤ length build.old.made.items + 2 }
     ensures walk { WalksOn table.now.layout seat.old.known build.old seat.new.known build.new result }
     ensures few { Spends (2 * node_steps) seat.old.known build.old seat.new.known build.new result }
