@@ -172,34 +172,15 @@ fn scan_node<G: Gate>(
     let mut top = start.top;
     way.truncate(start.level);
     let origins = Origins::of(table.layout());
-    let mut places = [0; MAX_BYTES];
+    let places = &mut [0; MAX_BYTES];
     if start.leaf {
-        match take_leaf(
-            table,
-            &origins,
-            seat,
-            gate,
-            range,
-            number,
-            &mut places,
-            pairs,
-        )? {
+        match take_leaf(table, &origins, seat, gate, range, number, places, pairs)? {
             Verdict::Further => top.at = behind(direction, top.at),
             Verdict::Past => return Ok(false),
             Verdict::Full => return Ok(true),
         }
     }
-    walk(
-        table,
-        &origins,
-        seat,
-        gate,
-        way,
-        range,
-        top,
-        &mut places,
-        pairs,
-    )
+    walk(table, &origins, seat, gate, way, range, top, places, pairs)
 }
 
 /// The walk over the places of the nodes on the way, in the scan's direction, from a gap of the lowest of them on. The bytes of each key
