@@ -71,7 +71,7 @@ fn load_word<G: Gate>(
 ) -> u64
     requires own { IsSeatOf table.now seat.old }
     requires start { IsStartOf table.now.layout (a_node number) start }
-    requires index { index < 57 }
+    requires index { index < NODE_FIELDS }
     ensures reads { ReadsOn table.now G.becomes (seat.old, gate.old) (seat.new, gate.new) }
     ensures word { (words : List ℕ) → HasLocked seat.old.known number words → result ≡ get_or words index 0 }
     ensures spelled { (words : List ℕ) → HasLocked seat.old.known number words → (view : NodeView) × IsNodeOf words view }
