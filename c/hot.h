@@ -30,7 +30,8 @@
  * Each handle has memory for the pairs of its scans, which the next scan uses again. After a scan it goes if the keys have more than
  * 32 KiB of it, or the rest has. So a handle keeps 64 KiB at most between its calls.
  *
- * The library starts no threads and keeps no data outside its indexes. It needs POSIX, and an x86-64-v2 processor or a later one.
+ * The library starts no threads and keeps no data outside its indexes. It needs POSIX, and an x86-64 processor of the level for which it
+ * was compiled: x86-64-v3, which has AVX2, unless the machine that compiled it had not, or x86-64-v2 was asked for.
  * `pkg-config --cflags --libs hot` tells how to link it. */
 #ifndef HOT_H
 #define HOT_H
