@@ -1,17 +1,21 @@
 /* Makes so many calls of one kind on an index that has so many random keys of 8 bytes. bench/count runs it with two numbers of calls,
- * under valgrind, and subtracts. */
+ * under valgrind, and subtracts. The keys of the calls are made before the first, as many in each run, so they don't count. */
 #include "keys.h"
 
 enum { PAGE = 100, MOST_KEYS = 200000, MOST_CALLS = 20000 };
 
-static void call(hot_handle *handle, const char *kind, uint64_t number, uint64_t keys)
+/* The keys of the calls. */
+static struct { uint8_t bytes[LONGEST]; size_t length; } keys_of_calls[MOST_CALLS];
+
+static void call(hot_handle *handle, const char *kind, uint64_t number)
 {
     static hot_pair pairs[PAGE];
     static hot_head heads[PAGE];
     static uint8_t bytes[PAGE * HOT_MAX_KEY];
-    uint8_t key[LONGEST], upto[HOT_MAX_KEY];
+    const uint8_t *key = keys_of_calls[number].bytes;
+    size_t length = keys_of_calls[number].length, found;
+    uint8_t upto[HOT_MAX_KEY];
     uint64_t had;
-    size_t length = key_of(RANDOM, kind[0] == 'i' ? keys + number : number, key), found;
     uint32_t more;
     switch (kind[0]) {
     case 'i':
@@ -46,10 +50,15 @@ int main(int words, char **word)
     }
     must(hot_create(MOST_KEYS / 8, MOST_KEYS + 2 * MOST_CALLS, &handle, 1), HOT_DONE);
     for (number = 0; number < keys; number++) {
-        call(&handle, "i", number, 0);
+        uint8_t key[LONGEST];
+        uint64_t had;
+        must(hot_try_insert(&handle, key, key_of(RANDOM, number, key), number, &had), HOT_INSERTED);
+    }
+    for (number = 0; number < MOST_CALLS; number++) {
+        keys_of_calls[number].length = key_of(RANDOM, word[1][0] == 'i' ? keys + number : number, keys_of_calls[number].bytes);
     }
     for (number = 0; number < calls; number++) {
-        call(&handle, word[1], number, keys);
+        call(&handle, word[1], number);
     }
     hot_destroy(&handle);
     return 0;
