@@ -1,6 +1,7 @@
 -- Where two lists of bytes differ first, byte by byte.
-use Rattle.std.proofs.Common.{◌≡◌, ◌≢◌, ℕ, zero, suc, ◌+◌, ◌-◌, ◌*◌, ◌/◌, ◌%◌, ◌<◌, ◌≤◌, false, ◌||◌, eqb, List, [], ◌∷◌, length, take, drop, min, refl, subst, sym, ap, ◌∙◌, arith, length-drop, ⊎_elim}
+use Rattle.std.proofs.Common.{◌≡◌, ◌≢◌, ℕ, zero, suc, ◌+◌, ◌-◌, ◌*◌, ◌/◌, ◌%◌, ◌<◌, ◌≤◌, false, ◌||◌, eqb, List, [], ◌∷◌, ◌++◌, length, take, drop, min, refl, subst, sym, ap, ap₂, ◌∙◌, arith, length-drop, ⊎_elim}
 use Rattle.std.specs.Int.{bit_at}
+use Rattle.std.proofs.lemmas.List.{drop-take, take-append-drop, take-take}
 use Rattle.std.proofs.lemmas.Nat.Bits.{bit_at-lt}
 use Rattle.std.proofs.lemmas.Bool.{cases_lt, cases_order, lt-ltb, ne_eqb, false≢true}
 use Prim.Native.Nat.compare
@@ -83,3 +84,11 @@ first-front a b n e ne same =
     let la : length (drop n a) ≡ length a - n = length-drop n a in
     let lb : length (drop n b) ≡ length b - n = length-drop n b in
     rw at (first-drop n a b 0 (omega arith) (omega arith) same (first-empty (drop n a) (drop n b) (omega arith) (λ f. ne (omega arith))))
+
+-- ---- lists that begin alike
+take_sum : (n m : ℕ) (xs : List ℕ) → take (n + m) xs ≡ take n xs ++ take m (drop n xs)
+take_sum n m xs = sym (take-append-drop n (take (n + m) xs)) ∙ ap₂ (λ front on. front ++ on) (take-take n (n + m) xs (omega arith)) (drop-take n m xs)
+
+-- two that begin alike, and go on alike
+pub take_both : (n m : ℕ) (xs ys : List ℕ) → take n xs ≡ take n ys → take m (drop n xs) ≡ take m (drop n ys) → take (n + m) xs ≡ take (n + m) ys
+take_both n m xs ys front on = take_sum n m xs ∙ (ap₂ (λ one more. one ++ more) front on ∙ sym (take_sum n m ys))

@@ -1,8 +1,9 @@
 //! Byte keys of bounded length, their bits, the first bit at which two keys differ, and bits gathered into a word.
 #![tactic(auto)]
 
-ghost use Rattle.std.specs.Prelude.{◌≡◌, ◌≢◌, ℕ, ◌+◌, ◌*◌, ◌≤◌, ◌<◌, ◌↔◌, length, take, IsTrue, IsOk, IsNone, IfOk, IfErr, IfSome, false, if◌then◌else◌};
+ghost use Rattle.std.specs.Prelude.{◌≡◌, ◌≢◌, ℕ, ◌+◌, ◌*◌, ◌≤◌, ◌<◌, ◌↔◌, drop, length, take, IsTrue, IsOk, IsNone, IfOk, IfErr, IfSome, false, if◌then◌else◌};
 ghost use Rattle.std.specs.Cmp.Lexicographic.{slice_cmp};
+ghost use Rattle.std.specs.Int.{to_be_bytes, w64};
 ghost use Rattle.std.specs.Ordering.{nat_cmp};
 ghost use Rattle.key_bits.specs.Bits.{bit_of, IsFirstDifference, BytesDifferAt};
 ghost use Rattle.key_bits.specs.Gather.{gathered};
@@ -211,7 +212,8 @@ pub fn mismatch(a: &Key, b: &Key) -> Option<u16>
     let xs = a.as_bytes();
     let ys = b.as_bytes();
     let common = xs.len().min(ys.len());
-    for i in 0..common {
+    let begin = 8 * same_eights(xs, ys, common / 8);
+    for i in begin..common {
         if xs[i] != ys[i] {
             return Some(9 * i as u16 + 1 + byte_mismatch(xs[i], ys[i]) as u16);
         }
@@ -221,6 +223,31 @@ pub fn mismatch(a: &Key, b: &Key) -> Option<u16>
     } else {
         Some(9 * common as u16)
     }
+}
+
+/// How many eights of bytes, of so many, are the same before the first in which the two differ.
+fn same_eights(xs: &[u8], ys: &[u8], count: usize) -> usize
+    requires { (8 * count ≤ length xs.now) × (8 * count ≤ length ys.now) }
+    ensures few { result ≤ count }
+    ensures same { take (8 * result) xs.now ≡ take (8 * result) ys.now }
+{
+    for j in 0..count {
+        if eight_at(xs, j) != eight_at(ys, j) {
+            return j;
+        }
+    }
+    count
+}
+
+/// Eight bytes as a number, those of the j-th eight.
+#[inline(always)]
+fn eight_at(bytes: &[u8], j: usize) -> u64
+    requires { 8 * j + 8 ≤ length bytes.now }
+    ensures { to_be_bytes w64 result ≡ take 8 (drop (8 * j) bytes.now) }
+{
+    let mut eight = [0; 8];
+    eight.copy_from_slice(&bytes[8 * j..8 * j + 8]);
+    u64::from_be_bytes(eight)
 }
 
 /// How many bits stand before the first at which the bytes differ, counted from the highest.
