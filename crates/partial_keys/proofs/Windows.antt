@@ -4,7 +4,7 @@ use Rattle.std.proofs.lemmas.Bool.{cases_lt, le-ltb, lt-ltb, ltb-true, ltb-false
 use Rattle.std.specs.Bool.{beq}
 use Rattle.std.specs.Prelude.{min}
 use Rattle.std.proofs.Math.ListN.{get_or-append}
-use Rattle.std.proofs.Math.Nat.{min-eq_left, min-eq_right}
+use Rattle.std.proofs.Math.Nat.{min-eq_left, min-eq_right, zero-div}
 use Rattle.std.specs.Int.Bits.{or_add_and, or_zero_r}
 use Rattle.std.specs.Int.{bit_at}
 use Rattle.std.proofs.Common.{below_more}
@@ -14,7 +14,7 @@ use Rattle.key_bits.specs.Key.{with_zeros}
 use Rattle.std.proofs.Math.Seq.{take-suc}
 use Rattle.std.proofs.lemmas.List.{append_assoc, ext_get_or, get_or-append_right, get_or-drop, get_or-map, get_or-replicate, get_or-take, length-drop, length-map, length-replicate, length-take-le, map-append, map-id, map_push, take-append-le, take_all}
 use Rattle.std.proofs.lemmas.Nat.{and_le_l, and_le_r, and_mask}
-use Rattle.std.proofs.lemmas.Simd.{Each1-all, Each1-get_or, Each1-weaker, Each1-zip2, Each2-splat, SwzOk, SwzOk-from_below, bitmask_splat, get_or-chunk, get_or-swz_l_below, get_or-zip2, length-chunk, length-swz_l, length-zip2, map-map, pick_l_left, pick_l_whole, swz_l}
+use Rattle.std.proofs.lemmas.Simd.{Each1-all, Each1-get_or, Each1-weaker, Each1-zip2, Each2-splat, SwzOk, SwzOk-from_below, bit_mask_l, bitmask_splat, get_or-chunk, get_or-swz_l_below, get_or-zip2, length-chunk, length-swz_l, length-zip2, map-map, pick_l_left, pick_l_whole, swz_l}
 use Rattle.std.specs.List.{range_with_len}
 use lib.Lanes.{zip2, sel_l, pick_l, mask_l, top, Each1, chunk}
 use Rattle.key_bits.specs.Gather.{code, gathered}
@@ -354,25 +354,50 @@ pub free_bit : (key : List ℕ) → length key ≤ 240 → bit_of key 65535 ≡ 
 free_bit key few = ap (λ t. t && (eqb 6 0 || eqb (bit_at (get_or key 7281 0) 2) 1)) (le-ltb 7281 (length key) (omega (arith, few)))
 
 -- where a column has a bit of the key, it is one of the sixteen bytes from the first column's on
-pub within : (lanes : List ℕ) (count bytes first : ℕ) → AreColumnLanes lanes count → first ≡ get_or lanes 0 0 / 9 → bytes ≤ 240 →
-    (bytes ≤ first + 16) ⊎ (get_or lanes (count - 1) 0 < 9 * first + 144) → (i : ℕ) → i < 32 → get_or lanes i 0 / 9 < bytes → (first ≤ get_or lanes i 0 / 9) × (get_or lanes i 0 / 9 < first + 16)
-within lanes count bytes first are first_is few either i inside low = elim (cases_lt i count) [ inl used ↦ go used | inr free ↦ absurd (omega (arith, unused free, low, few)) ]
+pub within : (lanes : List ℕ) (count bytes first i : ℕ) → AreColumnLanes lanes count → first ≡ get_or lanes 0 0 / 9 → bytes ≤ 240 → i < 32 →
+    (byte_lane (get_or lanes i 0) < first + 16) ⊎ (bytes ≤ byte_lane (get_or lanes i 0)) → get_or lanes i 0 / 9 < bytes → (first ≤ get_or lanes i 0 / 9) × (get_or lanes i 0 / 9 < first + 16)
+within lanes count bytes first i are first_is few inside either low = elim (cases_lt i count) [ inl used ↦ go used | inr free ↦ absurd (omega (arith, unused free, low, few)) ]
   where
+    p : ℕ
+    p = get_or lanes i 0
+
     cs : List ℕ
     cs = take count lanes
 
-    unused : count ≤ i → get_or lanes i 0 ≡ 65535
+    unused : count ≤ i → p ≡ 65535
     unused past = ap (λ xs. get_or xs i 0) (sym are.unused)
         ∙ (get_or-append_right cs (replicate (32 - count) 65535) count i 0 are.counted past ∙ get_or-replicate {A = ℕ} (32 - count) (i - count) 65535 0 (omega (arith, past, inside)))
 
-    go : i < count → (first ≤ get_or lanes i 0 / 9) × (get_or lanes i 0 / 9 < first + 16)
+    byte : byte_lane p ≡ p / 9
+    byte = let below : p < 2160 = omega (arith, low, few) in min-eq_left {n = p * 7282 / 65536} {m = 255} (omega (arith, below)) ∙ omega (arith, below)
+
+    go : i < count → (first ≤ p / 9) × (p / 9 < first + 16)
     go used =
-        let mine : get_or cs i 0 ≡ get_or lanes i 0 = get_or-take count lanes i 0 used in
+        let mine : get_or cs i 0 ≡ p = get_or-take count lanes i 0 used in
         let head : get_or cs 0 0 ≡ get_or lanes 0 0 = get_or-take count lanes 0 0 (omega (arith, used)) in
-        let last : get_or cs (count - 1) 0 ≡ get_or lanes (count - 1) 0 = get_or-take count lanes (count - 1) 0 (omega (arith, used)) in
         let after = rise_two 0 cs 0 i are.columns.rise (omega arith) (omega (arith, used, are.counted)) in
-        let before = rise_two 0 cs i (count - 1) are.columns.rise (omega (arith, used)) (omega (arith, used, are.counted)) in
-        (omega (arith, first_is, mine, head, after), elim either [ inl short ↦ omega (arith, short, low) | inr near ↦ omega (arith, near, mine, last, before) ])
+        (omega (arith, first_is, mine, head, after), elim either [ inl near ↦ omega (arith, near, byte) | inr far ↦ absurd (omega (arith, far, byte, low)) ])
+
+-- a byte that is as far behind the first of two as the second or further is not between them
+lane_between : (b from to : ℕ) → b < 256 → from ≤ to → to < 256 → ltb (less8 b from) (to - from) ≡ false → (b < from) ⊎ (to ≤ b)
+lane_between b from to small order low far = elim (cases_lt b from) [ inl before ↦ inl before | inr after ↦ inr (let e = ltb-false (less8 b from) (to - from) far in omega (arith, e, after, small, order, low)) ]
+
+-- no lane is between, if no bit of the comparison is set
+pub none_between : (bytes : List ℕ) (from to : ℕ) → length bytes ≡ 32 → Each1 (Fits w8) bytes → from ≤ to → to < 256 →
+    mask_l (map (top 7) (zip2 below8 (zip2 less8 bytes (replicate 32 from)) (replicate 32 (to - from)))) % 2 ^ 64 ≡ 0 → (i : ℕ) → i < 32 → (get_or bytes i 0 < from) ⊎ (to ≤ get_or bytes i 0)
+none_between bytes from to long fits order low none i inside =
+    let less : List ℕ = zip2 less8 bytes (replicate 32 from) in
+    let count : length less ≡ 32 = length-zip2 less8 bytes (replicate 32 from) (long ∙ sym (length-replicate 32 from)) ∙ long in
+    let t : ℕ → Bool = λ x. ltb x (to - from) in
+    let empty : mask_l (map t less) ≡ 0 = sym (bitmask_splat w8 ltb less 32 (to - from) count (omega arith)) ∙ none in
+    let bit : ◌≡◌ {A = ℕ} (cond (get_or (map t less) i false) 1 0) 0 = sym (bit_mask_l (map t less) i) ∙ (ap (λ m. m / 2 ^ i % 2) empty ∙ ap (λ n. n % 2) (zero-div (2 ^ i))) in
+    let far : t (get_or less i 0) ≡ false = sym (get_or-map t less i 0 false (omega (arith, count, inside))) ∙ unset (get_or (map t less) i false) bit in
+    let at : get_or less i 0 ≡ less8 (get_or bytes i 0) from = get_or-zip2 less8 bytes (replicate 32 from) i 0 0 0 (omega (arith, long, inside)) (omega (arith, length-replicate 32 from, inside)) ∙ ap (less8 (get_or bytes i 0)) (get_or-replicate {A = ℕ} 32 i from 0 inside) in
+    lane_between (get_or bytes i 0) from to (Each1-get_or (Fits w8) bytes i 0 (omega (arith, long, inside)) fits).fits order low (ap t (sym at) ∙ far)
+  where
+    unset : (b : Bool) → ◌≡◌ {A = ℕ} (cond b 1 0) 0 → b ≡ false
+    unset true e = absurd (omega (arith, e))
+    unset false e = refl
 
 -- the lanes that miss nothing are the bits of the key
 pub lanes_tell : (f : ℕ → Bool) (lanes missed : List ℕ) → length lanes ≡ 32 → length missed ≡ 32 → ((i : ℕ) → i < 32 → eqb (get_or missed i 0) 0 ≡ f (get_or lanes i 0)) →

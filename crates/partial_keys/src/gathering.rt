@@ -84,27 +84,50 @@ pub fn dense_lanes(lanes: u16x32, count: u8, key: &Key) -> u32
     requires { AreColumnLanes lanes count }
     ensures { result ≡ dense_of (take count lanes) (bit_of key.now) }
 {
-    let places = lanes.to_array();
-    let first = places[0] as usize / 9;
-    let length = key.as_bytes().len();
-    if is_near(&places, count, first, length) {
-        let (bytes, masks) = (bytes_at(lanes), masks_at(lanes));
-        let window = window_at(key, first);
-        zeros(missed(bytes, masks, window, first as u8, (length - 1) as u8))
+    let first = lanes.to_array()[0] as usize / 9;
+    let key_length = key.as_bytes().len();
+    let bytes = bytes_at(lanes);
+    if is_near(bytes, first, key_length) {
+        let (masks, window) = (masks_at(lanes), window_at(key, first));
+        zeros(missed(bytes, masks, window, first as u8, (key_length - 1) as u8))
     } else {
-        extract(key, &places[..count as usize])
+        dense_far(lanes, count, key)
     }
 }
 
 /// Whether sixteen bytes from the first on have all bits at columns that a key of this length has.
 #[inline(always)]
-fn is_near(places: &[u16; 32], count: u8, first: usize, length: usize) -> bool
-    requires few { (0 < count) × (count ≤ 32) }
-    ensures near { IsTrue result → (1 ≤ length) × (first + 16 ≤ MAX_BYTES) × ((length ≤ first + 16) ⊎ (slice_index places.now (count - 1) < 9 * first + 144)) }
+fn is_near(bytes: u8x32, first: usize, key_length: usize) -> bool
+    requires lanes { length bytes ≡ 32 }
+    requires short { key_length ≤ MAX_BYTES }
+    ensures near { IsTrue result → (1 ≤ key_length) × (first + 16 ≤ MAX_BYTES) ×
+        ((i : ℕ) → i < 32 → (slice_index bytes i < first + 16) ⊎ (key_length ≤ slice_index bytes i)) }
 {
-    length > 0
+    key_length > 0
         && first <= MAX_BYTES - 16
-        && (length <= first + 16 || (places[count as usize - 1] as usize) < 9 * first + 144)
+        && (key_length <= first + 16 || has_none_between(bytes, first as u8 + 16, key_length as u8))
+}
+
+/// Whether each lane is below the first of these bytes, or not below the second.
+#[inline(always)]
+fn has_none_between(bytes: u8x32, from: u8, to: u8) -> bool
+    requires lanes { length bytes ≡ 32 }
+    requires order { from ≤ to }
+    ensures none { IsTrue result → (i : ℕ) → i < 32 → (slice_index bytes i < from) ⊎ (to ≤ slice_index bytes i) }
+{
+    (bytes - u8x32::splat(from))
+        .simd_lt(u8x32::splat(to - from))
+        .to_bitmask()
+        == 0
+}
+
+/// The same bits, one after the other. Never inline: so the lanes go into memory only where columns are far apart.
+#[inline(never)]
+fn dense_far(lanes: u16x32, count: u8, key: &Key) -> u32
+    requires { AreColumnLanes lanes count }
+    ensures { result ≡ dense_of (take count lanes) (bit_of key.now) }
+{
+    extract(key, &lanes.to_array()[..count as usize])
 }
 
 /// 31 positions as lanes, with 65,535 behind them.
