@@ -25,14 +25,11 @@ number-lt zero (x ∷ xs) e h = absurd (omega (arith, e))
 number-lt (suc n) [] e h = absurd (omega (arith, e))
 number-lt (suc n) (x ∷ xs) e h = omega (arith, h.0, number-lt n xs (omega (arith, e)) h.1, pow-suc (2 ^ 64) n)
 
--- eight words from an offset on
-abbrev pub eight : ℕ → List ℕ → List ℕ
-eight s words = chunk 0 8 (take (25 - s) (drop s words))
-
-pub eight_at : (words : List ℕ) (s j : ℕ) → s + 8 ≤ 25 → j < 8 → get_or (eight s words) j 0 ≡ get_or words (s + j) 0
-eight_at words s j room low =
-    get_or-chunk 0 8 (take (25 - s) (drop s words)) j 0 low
-    ∙ (get_or-take (25 - s) (drop s words) (0 + j) 0 (omega (arith, room, low))
+-- eight of n words from an offset on
+pub eight_at : (words : List ℕ) (n s j : ℕ) → s + 8 ≤ n → j < 8 → get_or (chunk 0 8 (take (n - s) (drop s words))) j 0 ≡ get_or words (s + j) 0
+eight_at words n s j room low =
+    get_or-chunk 0 8 (take (n - s) (drop s words)) j 0 low
+    ∙ (get_or-take (n - s) (drop s words) (0 + j) 0 (omega (arith, room, low))
     ∙ (get_or-drop s words (0 + j) 0 ∙ ap (λ k. get_or words (s + k) 0) (omega arith)))
 
 -- eight words

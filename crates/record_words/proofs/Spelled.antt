@@ -46,6 +46,9 @@ module _ (node : NodeView) (lawful : IsLawfulNode node) (words : List ℕ) (same
   pub height-lt : get_or words 0 0 / 65536 < 2 ^ 16
   height-lt = omega (arith, height_read, lawful.bound)
 
+  pub first_read : get_or words 1 0 % 65536 ≡ get_or node.columns 0 0
+  first_read = omega (arith, parts.positions 0 (lit< tt), position_in_word node.columns 0 (column-lt node lawful), get_or_default node.columns 0 65535 0 lawful.positions.some)
+
   pub places_read : (places : List ℕ) → length places ≡ 31 → ((k : ℕ) → k < 31 → get_or places k 0 ≡ get_or words (1 + k / 4) 0 / 2 ^ (16 * (k % 4)) % 2 ^ 16) → places ≡ with_free node.columns
   places_read places long each =
       ext_get_or 65535 places (with_free node.columns) (long ∙ sym (length-with_free node.columns lawful.positions.few))

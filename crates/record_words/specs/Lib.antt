@@ -1,5 +1,6 @@
 -- The definitions of the crate.
 pub mod Entry
+pub mod HeadParts
 pub mod Layout
 pub mod Leaf
 pub mod Limits

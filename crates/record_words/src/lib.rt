@@ -17,7 +17,7 @@ pub use leaf::{key_word_at, key_words, pack_leaf, words_for, write_word};
 pub use node::{
     add_leaf, can_take_leaf, drop_entry, pack_node, position_words, read_head, read_node, row_words,
 };
-pub use search::search_words;
+pub use search::{dense_in, search_in};
 pub use state::{Tag, pack_state, unpack_state};
 
 /// Epochs are below this number, and at least 1.
@@ -59,6 +59,9 @@ pub const HEAD_WORDS: usize = 25;
 
 /// The index among a head's words of the first with sparse partial keys: the numbers and the positions stand before them.
 pub const FIRST_ROWS: usize = 9;
+
+/// How many words of a head have sparse partial keys.
+pub const ROW_WORDS: usize = HEAD_WORDS - FIRST_ROWS;
 
 /// The offset at which a node record has its first entry: its state and its head stand before the entries.
 pub const FIRST_ENTRY: usize = 1 + HEAD_WORDS;

@@ -1,27 +1,40 @@
 //! Searching in the words of a head as they were loaded.
 
-ghost use Rattle.std.specs.Prelude.{◌≡◌, ◌*◌, ◌/◌, ◌%◌, ◌^◌, ◌<◌, ℕ, length, slice_index};
-ghost use Rattle.compound_node.specs.Nodes.{piece};
+ghost use Rattle.std.specs.Prelude.{◌≡◌, ◌*◌, ◌/◌, ◌%◌, ◌^◌, ◌<◌, Bool, ℕ, length, slice_index};
+ghost use Rattle.compound_node.specs.Nodes.{NodeView, IsLawfulNode, head_of, piece};
 ghost use Rattle.key_bits.specs.Bits.{bit_of};
+ghost use Rattle.partial_keys.specs.Rows.{dense_of};
 ghost use Rattle.pieces.specs.Piece.{leads_to};
-ghost use Rattle.record_words.specs.Node.{HasHeadWords, InNodesOf, head_words};
+ghost use Rattle.record_words.specs.HeadParts.{back_words, front_words};
+ghost use Rattle.record_words.specs.Node.{HasHeadWords};
 ghost use Rattle.record_words.specs.Reading.{IsSpelling};
 
-use crate::{FIRST_ROWS, HEAD_WORDS};
+use crate::{FIRST_ROWS, ROW_WORDS};
 use key_bits::Key;
 use partial_keys::{dense_lanes, search_rows};
 use std::simd::prelude::*;
 
-/// The place to which the forks lead, in each node whose head has these words. As `Head::search`, but no head is made: the words are
-/// searched as vectors as they stand.
+/// The key's bits at the columns of each node whose head begins with these words: the bit of column j is bit 31-j. The positions are
+/// read as a vector as they stand. With the words behind these `search_in` searches; so a caller can load those later.
 #[inline(always)]
-pub fn search_words(words: &[u64; HEAD_WORDS], key: &Key) -> u8
-    requires { IsSpelling HasHeadWords head_words words.now }
-    ensures { InNodesOf words.now (λ node. result ≡ leads_to (bit_of key.now) (piece node)) }
+pub fn dense_in(words: &[u64; FIRST_ROWS], key: &Key) -> u32
+    requires { IsSpelling HasHeadWords front_words words.now }
+    ensures { (node : NodeView) → IsLawfulNode node → front_words (head_of node) ≡ words.now → result ≡ dense_of node.columns (bit_of key.now) }
 {
     let places = quarters(u64x8::from_slice(&words[1..]));
-    let low = halves(u64x8::from_slice(&words[FIRST_ROWS..]));
-    let high = halves(u64x8::from_slice(&words[FIRST_ROWS + 8..]));
+    dense_lanes(places, (words[0] / 256 % 256) as u8, key)
+}
+
+/// The place to which the forks lead, in each node whose head ends with these words and at whose columns the bits are these. As
+/// `Head::search`, but no head is made: the sparse partial keys are searched as a vector as they stand.
+#[inline(always)]
+pub fn search_in(words: &[u64; ROW_WORDS], dense: u32) -> u8
+    requires { IsSpelling HasHeadWords back_words words.now }
+    ensures { (node : NodeView) → IsLawfulNode node → back_words (head_of node) ≡ words.now →
+        (bit : ℕ → Bool) → dense ≡ dense_of node.columns bit → result ≡ leads_to bit (piece node) }
+{
+    let low = halves(u64x8::from_slice(words));
+    let high = halves(u64x8::from_slice(&words[8..]));
     let rows = low.shuffle::<32>(
         high,
         [
@@ -29,8 +42,7 @@ pub fn search_words(words: &[u64; HEAD_WORDS], key: &Key) -> u8
             24, 25, 26, 27, 28, 29, 30, 31,
         ],
     );
-    let columns = (words[0] / 256 % 256) as u8;
-    search_rows(rows, dense_lanes(places, columns, key))
+    search_rows(rows, dense)
 }
 
 /// The quarters of these words, that with the lowest bits of each first.

@@ -1,13 +1,13 @@
 -- The way of a search while it goes down: what is known of its nodes, and of the entry to go to next.
-use Rattle.std.proofs.Common.{◌≡◌, ℕ, zero, suc, ◌+◌, ◌*◌, ◌<◌, ◌≤◌, List, [], ◌∷◌, ◌++◌, length, Option, Some, None, refl, sym, ap, subst, ◌∙◌, arith, length-append}
+use Rattle.std.proofs.Common.{◌≡◌, ℕ, zero, suc, ◌+◌, ◌*◌, ◌<◌, ◌≤◌, List, [], ◌∷◌, ◌++◌, length, Option, Some, None, refl, sym, ap, subst, ◌∙◌, arith, le_refl, length-append}
 use Rattle.std.specs.Prelude.{slice_get, IfSome, IsNone, ◌↔◌}
 use Rattle.std.proofs.lemmas.List.{length-replicate}
 use Rattle.std.proofs.lemmas.Option.{slice_get_within}
-use Rattle.key_bits.specs.Bits.{IsFirstDifference, bit_of}
+use Rattle.key_bits.specs.Bits.{IsFirstDifference}
 use Rattle.key_bits.specs.Key.{IsKey}
 use Rattle.key_bits.specs.declared.TheConstants.{MAX_BYTES}
 use Rattle.pieces.specs.Changes.{AtRootFork}
-use Rattle.pieces.specs.Piece.{Place, Fork, leads_to, size}
+use Rattle.pieces.specs.Piece.{Place, Fork, size}
 use Rattle.compound_node.specs.Nodes.{HeadView, InEachNode, IsLawfulNode, node_of, leaves, piece, height_of}
 use Rattle.compound_node.specs.declared.entries.Entry.{Entry}
 use Rattle.compound_node.specs.declared.entries.Entry.TheVariants.{Leaf as LeafEntry, Node}
@@ -30,8 +30,8 @@ use Rattle.rowex_reading.specs.Possible.{IsPossible}
 use Rattle.rowex_reading.specs.Reads.{Reads}
 use Rattle.rowex_reading.specs.Seen.{Sure, seen, since, HasPlace, IsLedTo, shape_of}
 use Rattle.rowex_reading.proofs.Led.{reads_later, reads_trans, same_since}
-use Rattle.rowex_reading.proofs.Looking.{IsAt, at_led, at_next, at_place, leaf_found}
-use Rattle.rowex_reading.proofs.Seeing.{search_spot, sure_later, since_later, seen_stable, rooted_stable, shaped_stable}
+use Rattle.rowex_reading.proofs.Looking.{IsAt, at_led, leaf_found, next_of, place_of}
+use Rattle.rowex_reading.proofs.Seeing.{sure_later, since_later, seen_stable, rooted_stable, shaped_stable}
 use Rattle.rowex_reading.proofs.Standing.{led_in_table}
 use Rattle.rowex_reading.specs.Ways.{IsWayOf, IsWayNode, IsFoundAt, IsMismatch, RootWas, named, step_at, value_of}
 use Rattle.rowex_reading.specs.declared.descent.Found.TheVariants.{Nothing, Leaf}
@@ -150,23 +150,23 @@ module _ (head : HeadView) (lawful : IsLawfulNode (node_of head (leaves (length 
 -- The search is at an entry.
 module _ {G : Type 0} {table : TableView} {becomes : G → Event → G → Type 0} {a b c : SeatView × G} {key : Key} {d : Entry} (at : IsAt table becomes a b key d)
     (way : List Step) (going : IsGoing table.layout b.0.known (since b.0.known) key way d) where
-  -- It is a node, of which the head was read: there is an entry at the key's place.
-  module _ (n height : ℕ) (head : HeadView) (place : ℕ) (is : d ≡ Node n height) {loads : ℕ} (few : loads ≤ HEAD_WORDS) (reads : Reads table becomes 0 loads b c)
-      (told : (m h : ℕ) → IsLedTo b.0.known m (Node n h) → (head.height ≡ h) × Sure c.0.known (λ s. IsShaped s m n (shape_of head)))
-      (lawful : IsLawfulNode (node_of head (leaves (length head.rows)))) (leads : InEachNode head (λ node. place ≡ leads_to (bit_of key) (piece node))) where
-    spot_is : place ≡ spot key (shape_of head)
-    spot_is = search_spot head key place lawful leads
+  -- It is a node, of which the head was read, and so the step there: there is an entry at the key's place.
+  module _ (n height : ℕ) (step : Step) (head : HeadView) (is : d ≡ Node n height) (reads : Reads table becomes 0 HEAD_WORDS b c) (high : head.height ≡ height)
+      (lawful : IsLawfulNode (node_of head (leaves (length head.rows)))) (shaped : Sure c.0.known (λ s. IsShaped s (since b.0.known) n (shape_of head)))
+      (stepped : step ≡ step_at head n (spot key (shape_of head))) where
+    spot_is : step.at ≡ spot key (shape_of head)
+    spot_is = ap (λ (s : Step). s.at) stepped
 
-    pub there : HasPlace c.0.known (since b.0.known) n height place
-    there = at_place at n height head place is few reads told spot_is
+    pub there : HasPlace c.0.known (since b.0.known) n height step.at
+    there = place_of at n height (shape_of head) step.at is (le_refl HEAD_WORDS) reads shaped spot_is
 
     -- The entry was read.
     module _ {i : SeatView × G} (e : Entry) (one : Reads table becomes 1 1 c i)
-        (entry : (m h : ℕ) → HasPlace c.0.known m n h place → (height_of e < h) × Sure i.0.known (λ s. IsPlaced s m n place e)) where
-      stood : (height_of e < height) × Sure i.0.known (λ s. IsPlaced s (since b.0.known) n place e)
+        (entry : (m h : ℕ) → HasPlace c.0.known m n h step.at → (height_of e < h) × Sure i.0.known (λ s. IsPlaced s m n step.at e)) where
+      stood : (height_of e < height) × Sure i.0.known (λ s. IsPlaced s (since b.0.known) n step.at e)
       stood = entry (since b.0.known) height there
 
-      both : Reads table becomes 1 (loads + 1) b i
+      both : Reads table becomes 1 (HEAD_WORDS + 1) b i
       both = reads_trans reads one
 
       -- it is lower
@@ -175,20 +175,20 @@ module _ {G : Type 0} {table : TableView} {becomes : G → Event → G → Type 
 
       -- the search has been led to it
       pub led_down : IsAt table becomes a i key e
-      led_down = at_next at n height head place is few reads told spot_is e one stood
+      led_down = next_of at n height (shape_of head) step.at is (le_refl HEAD_WORDS) reads shaped spot_is e one stood
 
       -- the way has room for the node
       pub way_room : length way < 9 * MAX_BYTES
       way_room = let f = going.falls in let lower = falls_on in omega arith
 
-      way_node : IsPossible table.layout b.0.known → IsWayNode table.layout i.0.known (since b.0.known) key (record (step_at head n place) { height = height }) e
+      way_node : IsPossible table.layout b.0.known → IsWayNode table.layout i.0.known (since b.0.known) key (record (step_at head n step.at) { height = height }) e
       way_node possible =
           let led : IsLedTo b.0.known (since b.0.known) (Node n height) = at_led at (Node n height) is in
           record {
             forks = shape_of head;
             range = led_in_table table.layout b.0.known (since b.0.known) (Node n height) possible led;
             seen = sure_later {P = λ s. EntryStoodSince s (since b.0.known) (Node n height)} (seen_stable (since b.0.known) (Node n height)) (reads_later both) led.1;
-            shaped = sure_later {P = λ s. IsShaped s (since b.0.known) n (shape_of head)} (shaped_stable (since b.0.known) n (shape_of head)) (reads_later one) (told (since b.0.known) height led).1;
+            shaped = sure_later {P = λ s. IsShaped s (since b.0.known) n (shape_of head)} (shaped_stable (since b.0.known) n (shape_of head)) (reads_later one) shaped;
             placed = stood.1;
             at = spot_is;
             below = stood.0;
@@ -198,11 +198,10 @@ module _ {G : Type 0} {table : TableView} {becomes : G → Event → G → Type 
           }
 
       -- and goes on by it
-      pub way_on : IsPossible table.layout b.0.known → (s : Step) → s ≡ step_at head n place → IsGoing table.layout i.0.known (since i.0.known) key (way ++ s ∷ []) e
-      way_on possible s step =
-          let t : Step = record (step_at head n place) { height = height } in
-          let high : head.height ≡ height = (told (since b.0.known) height (at_led at (Node n height) is)).0 in
-          let same : t ≡ s = ap (λ z. let x : Step = record (step_at head n place) { height = z } in x) (sym high) ∙ sym step in
+      pub way_on : IsPossible table.layout b.0.known → IsGoing table.layout i.0.known (since i.0.known) key (way ++ step ∷ []) e
+      way_on possible =
+          let t : Step = record (step_at head n step.at) { height = height } in
+          let same : t ≡ step = ap (λ z. let x : Step = record (step_at head n step.at) { height = z } in x) (sym high) ∙ (ap (step_at head n) spot_is ∙ sym stepped) in
           let here : IsGoing table.layout b.0.known (since b.0.known) key way (Node n height) = subst (IsGoing table.layout b.0.known (since b.0.known) key way) is going in
           subst (λ z. IsGoing table.layout i.0.known (since i.0.known) key (way ++ z ∷ []) e) same
           (subst (λ o. IsGoing table.layout i.0.known o key (way ++ t ∷ []) e) (sym (same_since both))

@@ -18,3 +18,4 @@ pub mod Ways
 pub mod Descents
 pub mod Counting
 pub mod Turning
+pub mod Stepping

@@ -1,7 +1,7 @@
 -- A search from the root down to a leaf: what it is sure of at each entry that it is led to.
 use Rattle.std.proofs.Common.{◌≡◌, ◌≢◌, ◌⊎◌, inl, inr, ℕ, ◌+◌, ◌*◌, ◌<◌, ◌≤◌, Option, Some, None, IsSome, sym, subst, ◌∙◌, arith}
 use Rattle.key_bits.specs.declared.TheConstants.{MAX_BYTES}
-use Rattle.compound_node.specs.Nodes.{HeadView, height_of}
+use Rattle.compound_node.specs.Nodes.{height_of}
 use Rattle.compound_node.specs.declared.entries.Entry.{Entry}
 use Rattle.compound_node.specs.declared.entries.Entry.TheVariants.{Leaf, Node}
 use Rattle.pieces.specs.Piece.{size}
@@ -21,7 +21,7 @@ use Rattle.rowex_core.specs.declared.event.Event.{Event}
 use Rattle.rowex_table.specs.Seats.{TableView, SeatView}
 use Rattle.rowex_reading.specs.Lookups.{HasFound, HasSearched}
 use Rattle.rowex_reading.specs.Reads.{Looks, Reads, ReadsRoot}
-use Rattle.rowex_reading.specs.Seen.{seen, Sure, since, IsCompared, IsLedTo, HasPlace, shape_of}
+use Rattle.rowex_reading.specs.Seen.{seen, Sure, since, IsCompared, IsLedTo, HasPlace}
 use Rattle.rowex_core.specs.Knowing.{IsPinnedSince}
 use Rattle.rowex_reading.proofs.Led.{led_shape, looks_first, looks_on, reads_later, reads_trans, root_pinned, same_since, shape_place}
 use Rattle.rowex_reading.proofs.Seeing.{sure_later, sure_map, since_later, seen_steady, led_stable, shaped_stable}
@@ -140,18 +140,6 @@ module _ {G : Type 0} {table : TableView} {becomes : G → Event → G → Type 
 
           leads_on : Sure i.0.known (λ s. IsLed s m key (Node n height))
           leads_on = sure_later (led_stable m key (Node n height)) (reads_later both) (subst (λ z. Sure b.0.known (λ s. IsLed s m key z)) is at.led)
-
-    -- They are those of a head that has been read.
-    module _ {c : SeatView × G} (n height : ℕ) (head : HeadView) (place : ℕ) (is : d ≡ Node n height) {loads : ℕ} (few : loads ≤ HEAD_WORDS) (reads : Reads table becomes 0 loads b c)
-        (told : (m h : ℕ) → IsLedTo b.0.known m (Node n h) → (head.height ≡ h) × Sure c.0.known (λ s. IsShaped s m n (shape_of head))) (leads : place ≡ spot key (shape_of head)) where
-      shaped : Sure c.0.known (λ s. IsShaped s (since b.0.known) n (shape_of head))
-      shaped = (told (since b.0.known) height (at_led (Node n height) is)).1
-
-      pub at_place : HasPlace c.0.known (since b.0.known) n height place
-      at_place = place_of n height (shape_of head) place is few reads shaped leads
-
-      pub at_next : {i : SeatView × G} (e : Entry) → Reads table becomes 1 1 c i → (height_of e < height) × Sure i.0.known (λ s. IsPlaced s (since b.0.known) n place e) → IsAt table becomes a i key e
-      at_next e one entry = next_of n height (shape_of head) place is few reads shaped leads e one entry
 
     -- it is a leaf, which has been compared
     module _ {c : SeatView × G} (n : ℕ) (is : d ≡ Leaf n) {loads : ℕ} (few : loads ≤ LEAF_FIELDS) (reads : Reads table becomes 0 loads b c) where

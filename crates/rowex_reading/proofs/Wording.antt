@@ -82,6 +82,13 @@ module _ (layout : Layout) (k j i : Known) (r : Rec) (IsLoaded IsNow : ℕ → T
 pub fewer_loaded : (k j : Known) (r : Rec) (IsLoaded IsNow : ℕ → Type 0) (words : List ℕ) → ((o : ℕ) → IsNow o → IsLoaded o) → AreLoaded k j r IsLoaded words → AreLoaded k j r IsNow words
 fewer_loaded k j r IsLoaded IsNow words fewer loaded = record { later = loaded.later; each = λ m stood o now. loaded.each m stood o (fewer o now) }
 
+-- the same words, where they were loaded
+pub same_loaded : (k j : Known) (r : Rec) (IsLoaded : ℕ → Type 0) (words all : List ℕ) → ((o : ℕ) → IsLoaded o → get_or words o 0 ≡ get_or all o 0) → AreLoaded k j r IsLoaded words → AreLoaded k j r IsLoaded all
+same_loaded k j r IsLoaded words all same loaded = record {
+  later = loaded.later;
+  each = λ m stood o is. subst (λ w. Sure j (λ s. HasWord s m r (o + 1) w)) (same o is) (loaded.each m stood o is);
+}
+
 -- the next word after the first n
 pub next_loaded : (layout : Layout) (k j i : Known) (r : Rec) (n w : ℕ) (words : List ℕ) → AreLoaded k j r (λ o. o < n) words → n < length words → IsEvent layout (LoadFixed r (n + 1) w) silent j i →
     (m : ℕ) → IsStood k m r → AreLoaded k i r (λ o. o < n + 1) (set words n w)

@@ -7,7 +7,7 @@ ghost use Rattle.rowex_reading.specs.Possible.{IsPossible};
 ghost use Rattle.rowex_reading.specs.Seen.{since};
 ghost use Rattle.rowex_reading.specs.Ways.{IsWayOf, step_at, value_of};
 
-use crate::reading::{load_entry, load_head, load_leaf, load_root};
+use crate::reading::{find_step, load_entry, load_leaf, load_root};
 use arrayvec::ArrayVec;
 use compound_node::{Entry, Head};
 use insert_cases::Step;
@@ -65,10 +65,9 @@ pub fn search_way<G: Gate>(
                 };
             }
             Entry::Node { number, .. } => {
-                let head = load_head(table, seat, gate, number);
-                let at = head.search(key);
-                entry = load_entry(table, seat, gate, number, at);
-                way.push(step_of(&head, number, at));
+                let step = find_step(table, seat, gate, number, key);
+                entry = load_entry(table, seat, gate, number, step.at);
+                way.push(step);
             }
         }
     }

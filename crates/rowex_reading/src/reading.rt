@@ -3,11 +3,12 @@
 ghost use Rattle.std.specs.Prelude.{◌≡◌, ◌*◌, ◌<◌, ◌≤◌, ℕ, length, replicate, take, IfSome, IsSome};
 ghost use Rattle.key_bits.specs.Key.{HoldsKey, IsKey};
 ghost use Rattle.key_bits.specs.declared.TheConstants.{MAX_BYTES};
-ghost use Rattle.compound_node.specs.Nodes.{IsLawfulNode, height_of, leaves, node_of};
+ghost use Rattle.compound_node.specs.Nodes.{HeadView, IsLawfulNode, height_of, leaves, node_of};
 ghost use Rattle.compound_node.specs.declared.entries.Entry.TheVariants.{Leaf as LeafEntry, Node as NodeEntry};
 ghost use Rattle.record_words.specs.declared.TheConstants.{HEAD_WORDS, LEAF_FIELDS};
 ghost use Rattle.rowex_walks.specs.Scan.{IsShaped, IsPlaced, IsRead};
 ghost use Rattle.rowex_reading.specs.Reads.{IsReader, Reads, ReadsRoot, head_loads, leaf_loads};
+ghost use Rattle.rowex_reading.specs.Ways.{step_at};
 ghost use Rattle.rowex_reading.specs.Seen.{Sure, RootIs, IsCompared, IsLedTo, HasPlace, shape_of};
 ghost use Rattle.versions.specs.declared.Rec.TheVariants.{Leaf as a_leaf, Node as a_node};
 ghost use Rattle.rowex_table.specs.Rule.{IsStartOf};
@@ -16,10 +17,11 @@ ghost use Rattle.tries.specs.Place.{spot};
 ghost use Rattle.tries.specs.Tree.{Subtrie};
 
 use compound_node::{Entry, Head};
+use insert_cases::Step;
 use key_bits::{Key, MAX_BYTES};
 use record_words::{
-    FIRST_ROWS, HEAD_WORDS, key_word_at, key_words, position_words, read_entry, read_head,
-    read_some, row_words, search_words, write_word,
+    FIRST_ROWS, HEAD_WORDS, ROW_WORDS, dense_in, key_word_at, key_words, position_words,
+    read_entry, read_head, read_some, row_words, search_in, write_word,
 };
 use rowex_core::{Gate, Rec, Spot};
 use rowex_table::{HotTable, TableSeat};
@@ -64,8 +66,7 @@ pub fn load_head<G: Gate>(table: &HotTable, seat: &mut TableSeat, gate: &mut G, 
     read_head(&words)
 }
 
-/// The place in a node to which the key's bits lead: loads all words of its head, and searches them as they stand. Which words have
-/// positions and sparse partial keys is not asked first, so nothing waits for the numbers, and the loads are as many in each node.
+/// The place in a node to which the key's bits lead.
 #[inline(always)]
 pub fn find_place<G: Gate>(
     table: &HotTable,
@@ -80,13 +81,47 @@ pub fn find_place<G: Gate>(
     ensures place { (m h : ℕ) → IsLedTo seat.old.known m (NodeEntry number h) →
         (forks : Subtrie) × Sure seat.new.known (λ s. IsShaped s m number forks) × (result ≡ spot key.now forks) }
 {
+    find_step(table, seat, gate, number, key).at
+}
+
+/// The step of a way at a node, where the way takes the entry to which the key's bits lead: loads all words of the node's head, and
+/// searches them as they stand. Which words have positions and sparse partial keys is not asked first, so nothing waits for the numbers,
+/// and the loads are as many in each node. The key's bits are gathered before the sparse partial keys are loaded: so nothing stands
+/// between these loads and the search, and what was loaded stays in registers.
+#[inline(always)]
+pub fn find_step<G: Gate>(
+    table: &HotTable,
+    seat: &mut TableSeat,
+    gate: &mut G,
+    number: u32,
+    key: &Key,
+) -> Step
+    requires reader { IsReader table.now seat.old }
+    requires led { (m h : ℕ) × IsLedTo seat.old.known m (NodeEntry number h) }
+    ensures reads { Reads table.now G.becomes 0 HEAD_WORDS (seat.old, gate.old) (seat.new, gate.new) }
+    ensures step { (m h : ℕ) → IsLedTo seat.old.known m (NodeEntry number h) →
+        (head : HeadView) × (head.height ≡ h) × IsLawfulNode (node_of head (leaves (length head.rows))) ×
+        Sure seat.new.known (λ s. IsShaped s m number (shape_of head)) × (result ≡ step_at head number (spot key.now (shape_of head))) }
+{
     let rec = Rec::Node(number);
     let start = table.start_of(rec);
-    let mut words = [0; HEAD_WORDS];
-    for index in 0..HEAD_WORDS {
-        words[index] = table.load_fixed_from(seat, gate, rec, start, index as u8 + 1);
+    let mut front = [0; FIRST_ROWS];
+    for index in 0..FIRST_ROWS {
+        front[index] = table.load_fixed_from(seat, gate, rec, start, index as u8 + 1);
     }
-    search_words(&words, key)
+    let dense = dense_in(&front, key);
+    let mut back = [0; ROW_WORDS];
+    for index in 0..ROW_WORDS {
+        let offset = (FIRST_ROWS + index) as u8 + 1;
+        back[index] = table.load_fixed_from(seat, gate, rec, start, offset);
+    }
+    Step {
+        number,
+        height: (front[0] / 65_536) as u16,
+        first_position: (front[1] % 65_536) as u16,
+        count: (front[0] % 256) as u8,
+        at: search_in(&back, dense),
+    }
 }
 
 /// Loads the entry of a node at a place that the node has.

@@ -1,66 +1,8 @@
--- What the loads of all words of a head tell.
-use Rattle.std.proofs.Common.{◌≡◌, ◌+◌, ◌<◌, ◌∙◌, ap, arith, length, refl, subst, sym}
-use Rattle.std.proofs.lemmas.List.{length-set}
-use Rattle.compound_node.specs.Nodes.{HeadView, IsLawfulNode, leaves, node_of}
-use Rattle.compound_node.specs.declared.entries.Entry.TheVariants.{Node}
-use Rattle.compound_node.proofs.Lawful.{same_count, with_leaves}
-use Rattle.versions.specs.declared.Rec.TheVariants.{Node as a_node}
-use Rattle.record_words.specs.declared.TheConstants.{HEAD_WORDS}
-use Rattle.record_words.specs.Node.{head_words}
-use Rattle.record_words.proofs.Spelled.{spells_head}
-use Rattle.rowex_core.specs.declared.event.Act.TheVariants.{LoadFixed}
-use Rattle.rowex_core.proofs.Owning.{recalls}
-use Rattle.rowex_reading.specs.Reads.{Reads}
+-- The place of the step.
+use Rattle.std.proofs.Common.{ap}
+use Rattle.insert_cases.specs.declared.choice.Step.{Step}
 use Rattle.rowex_reading.specs.Seen.{shape_of}
-use Rattle.rowex_reading.proofs.Led.{reader_then, reads_none, reads_one, reads_trans}
-use Rattle.rowex_reading.proofs.Seeing.{search_spot}
-use Rattle.rowex_reading.proofs.Standing.{led_in_table}
-use Rattle.rowex_reading.proofs.Wording.{fewer_loaded, led_stood, next_loaded, none_loaded}
-use Rattle.rowex_reading.proofs.Heading.{all_loaded, head_shaped, head_spelled}
 use Rattle.rowex_reading.proofs.reading.find_place.Goals as goal
 
-pub start_of-start-requires : goal.start_of-start-requires
-start_of-start-requires g c = let l = c.requires.led in led_in_table c.args.table.now.layout c.args.seat.now.known l.0 (Node c.args.number l.1) c.requires.reader.1 l.2
-
-pub loop-index-init : goal.loop-index-init
-loop-index-init g c = record {
-  reader = c.requires.reader;
-  long = refl;
-  reads = reads_none (c.args.seat.now, c.args.gate.now);
-  loaded = none_loaded c.args.seat.now.known (a_node c.args.number) _;
-}
-
-pub loop-index-preserved : goal.loop-index-preserved
-loop-index-preserved g c =
-    let l = c.requires.led in let i = c.loop-index.invariant in let e = c.load_fixed_from.ensures in
-    let one = reads_one (LoadFixed (a_node c.args.number) (c.loop-index.index + 1) c.load_fixed_from.result) tt e in
-    record {
-      reader = reader_then i.reader one;
-      long = length-set c.loop-index.words c.loop-index.index c.load_fixed_from.result ∙ i.long;
-      reads = reads_trans i.reads one;
-      loaded = next_loaded _ _ _ _ (a_node c.args.number) _ _ c.loop-index.words i.loaded (omega (arith, i.long, c.loop-index-test.true)) e.event l.0 (led_stood c.args.seat.now.known l.0 (Node c.args.number l.1) l.2);
-    }
-
-pub search_words-requires : goal.search_words-requires
-search_words-requires g c =
-    let l = c.requires.led in let i = c.loop-index.invariant in
-    let all = fewer_loaded _ _ (a_node c.args.number) (λ o. o < c.loop-index.index) (λ o. o < HEAD_WORDS) c.loop-index.words (λ o low. omega (arith, low, c.loop-index-test.false)) i.loaded in
-    head_spelled _ _ _ c.args.number c.loop-index.words i.reader.1 i.loaded.later (all_loaded c.args.table.now.layout _ _ c.args.number c.loop-index.words all l.0 l.1 l.2) i.long l.0 l.1 l.2
-
-pub returns-clause-reads : goal.returns-clause-reads
-returns-clause-reads g c =
-    subst (λ n. Reads c.args.table.now g.G.Gate.becomes 0 n (c.args.seat.now, c.args.gate.now) (c.loop-index.seat, c.loop-index.gate)) (omega (arith, c.loop-index-test.false, c.loop-index.auto.index-end)) c.loop-index.invariant.reads
-
 pub returns-clause-place : goal.returns-clause-place
-returns-clause-place g c = λ m h led.
-    let i = c.loop-index.invariant in let words = c.loop-index.words in
-    let all = fewer_loaded _ _ (a_node c.args.number) (λ o. o < c.loop-index.index) (λ o. o < HEAD_WORDS) words (λ o low. omega (arith, low, c.loop-index-test.false)) i.loaded in
-    let are = all_loaded c.args.table.now.layout _ _ c.args.number words all m h led in
-    let spelled = head_spelled _ _ _ c.args.number words i.reader.1 i.loaded.later are i.long m h led in
-    let node = spelled.1.0 in let lawful = spelled.1.1 in
-    let read = spells_head node lawful words (ap head_words spelled.1.2 ∙ spelled.2) spelled.0 (sym spelled.1.2) in
-    let with_its = subst (λ (v : HeadView). IsLawfulNode (node_of v (leaves (length v.rows)))) spelled.1.2 (with_leaves node lawful (length node.rows) (same_count node lawful)) in (
-      shape_of spelled.0,
-      head_shaped _ _ _ c.args.number words i.reader.1 i.loaded.later are i.long m h led spelled.0 read,
-      search_spot spelled.0 c.args.key.now c.search_words.result with_its (λ other law is. c.search_words.ensures other law (ap head_words is ∙ spelled.2)),
-    )
+returns-clause-place g c = λ m h led. let (head, _, _, shaped, is) = c.find_step.ensures.step m h led in (shape_of head, shaped, ap (λ (s : Step). s.at) is)
