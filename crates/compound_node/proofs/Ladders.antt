@@ -288,8 +288,8 @@ module _ {A : Type 0} (d : A) where
       (cases_Bool (nat_eq k (length rows)))
 
 -- ---- all columns are used where the rows joined are all ones
-code-most : (w : ℕ) (t : ℕ → Bool) (cs : List ℕ) → length cs ≤ w → code w (map t cs) + 2 ^ (w - length cs) ≤ 2 ^ w
-code-most w t [] l = let e : w - length {A = ℕ} [] ≡ w = omega arith in rw e (omega arith)
+code-most : {X : Type 0} (w : ℕ) (t : X → Bool) (cs : List X) → length cs ≤ w → code w (map t cs) + 2 ^ (w - length cs) ≤ 2 ^ w
+code-most {X} w t [] l = let e : w - length {A = X} [] ≡ w = omega arith in rw e (omega arith)
 code-most zero t (c ∷ cs) l = absurd (omega arith)
 code-most (suc w) t (c ∷ cs) l =
     let e : suc w - suc (length cs) ≡ w - length cs = omega arith in
@@ -304,7 +304,7 @@ code-full (suc w) t (c ∷ cs) l h =
     let q : (t c ≡ true) × (all t cs ≡ true) = and_parts (t c) (all t cs) h in
     rw (e, q.0) (omega (arith, code-full w t cs (omega arith) q.1, pow-suc 2 w))
 
-full-code : (w : ℕ) (t : ℕ → Bool) (cs : List ℕ) → length cs ≤ w → code w (map t cs) + 2 ^ (w - length cs) ≡ 2 ^ w → all t cs ≡ true
+pub full-code : {X : Type 0} (w : ℕ) (t : X → Bool) (cs : List X) → length cs ≤ w → code w (map t cs) + 2 ^ (w - length cs) ≡ 2 ^ w → all t cs ≡ true
 full-code w t [] l h = refl
 full-code zero t (c ∷ cs) l h = absurd (omega arith)
 full-code (suc w) t (c ∷ cs) l h =

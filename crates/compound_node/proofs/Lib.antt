@@ -1,6 +1,7 @@
 -- The lemmas, lowest first.
 pub mod Editing
 pub mod Ladders
+pub mod Full
 pub mod Heights
 pub mod Lawful
 pub mod Ranges

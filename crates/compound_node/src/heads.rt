@@ -260,8 +260,10 @@ fn drop_unused(columns: &mut Columns, rows: &mut [u32; 32], count: usize)
 {
     let used = joined(&rows[..count]);
     let before = columns.count();
-    columns.drop_unused(used);
-    squeeze_all(&mut rows[..count], used, before);
+    if used != !(u32::MAX >> before) {
+        columns.drop_unused(used);
+        squeeze_all(&mut rows[..count], used, before);
+    }
 }
 
 /// Whether a head of some height has these fields.
