@@ -15,3 +15,4 @@ pub mod Cutting
 pub mod Closing
 pub mod Worked
 pub mod Windows
+pub mod Reaching

@@ -112,7 +112,7 @@ impl Columns {
         ensures value { result ≡ front_below position self.now }
         ensures within { result ≤ length self.now }
     {
-        count_below(self.as_slice(), position) as u8
+        count_below(lanes_of(&self.positions), position)
     }
 
     /// Whether the position is a column.
@@ -185,16 +185,13 @@ fn filled(positions: &[u16]) -> [u16; 31]
     places
 }
 
-fn count_below(positions: &[u16], bound: u16) -> usize
-    ensures value { result ≡ front_below bound positions.now }
-    ensures within { result ≤ length positions.now }
+/// How many lanes stand before the first that is not below the bound.
+#[inline(always)]
+pub fn count_below(lanes: u16x32, bound: u16) -> u8
+    ensures { result ≡ front_below bound lanes }
 {
-    for (j, position) in positions.iter().enumerate() {
-        if *position >= bound {
-            return j;
-        }
-    }
-    positions.len()
+    let reached = lanes.simd_ge(u16x32::splat(bound)).to_bitmask() as u32;
+    reached.trailing_zeros() as u8
 }
 
 /// Puts an element in among the first `count`: those from its place on move up by one, over the element behind them.
