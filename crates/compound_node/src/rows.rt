@@ -115,7 +115,7 @@ fn join_bits(rows: &mut [u32; 32], first: usize, end: usize, bits: u32)
 }
 
 /// Puts a new fork in over those from `first` to `last` of the first `count` rows.
-pub(crate) fn fork_rows(
+pub fn fork_rows(
     rows: &mut [u32; 32],
     count: usize,
     first: usize,

@@ -3,6 +3,7 @@ pub mod Bytes
 pub mod Dropping
 pub mod Entries
 pub mod Fixing
+pub mod Forking
 pub mod Growing
 pub mod Heads
 pub mod Lanes

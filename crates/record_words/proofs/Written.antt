@@ -1,5 +1,5 @@
 -- A node's words, written one after another.
-use Rattle.std.proofs.Common.{ℕ, ◌≡◌, ◌+◌, ◌-◌, ◌<◌, ◌≤◌, ◌++◌, arith, List, drop, get_or, set, replicate, length, length-append, sym, ap, refl, ◌∙◌, ⊎_elim, below_more, get_or-set_other, get_or-set_same}
+use Rattle.std.proofs.Common.{ℕ, ◌≡◌, ◌+◌, ◌-◌, ◌<◌, ◌≤◌, ◌++◌, arith, List, drop, get_or, set, replicate, length, length-append, sym, ap, refl, ◌∙◌, ⊎_elim, below_more, get_or-set_other, get_or-set_same, inl, inr, subst, ◌⊎◌}
 use Rattle.std.specs.Prelude.{slice_get, Option}
 use Rattle.std.proofs.lemmas.Bool.{cases_lt}
 use Rattle.std.proofs.lemmas.List.{ext_get_or, get_or-append_right, get_or-drop, get_or_append_left, length-drop, length-replicate, length-set}
@@ -70,6 +70,19 @@ module _ (count height : ℕ) (columns rows old : List ℕ) where
   behind_head k past =
       get_or-append_right (fixed_words count height columns rows) (drop 25 old) 25 k 0 head.whole past
       ∙ (get_or-drop 25 old (k - 25) 0 ∙ ap (λ i. get_or old i 0) (let e : 25 + (k - 25) ≡ k = omega (arith, past) in e))
+
+  -- the words of the rows behind those of the numbers and the positions
+  pub rows_so_far : (before words : List ℕ) → AreSoFar (with_head count height columns rows old) old before 9 → length words ≡ 57 →
+      ((k : ℕ) → k < 16 → get_or words (9 + k) 0 ≡ row_word rows k) → ((k : ℕ) → (k < 9) ⊎ (25 ≤ k) → get_or words k 0 ≡ get_or before k 0) →
+      AreSoFar (with_head count height columns rows old) old words 25
+  rows_so_far before words so_far whole in_rows others = record {
+    whole = whole;
+    written = λ k small. ⊎_elim (λ (first : k < 9). others k (inl first) ∙ so_far.written k first)
+        (λ (past : 9 ≤ k). let e : 9 + (k - 9) ≡ k = omega (arith, past) in
+        subst (λ n. get_or words n 0 ≡ get_or (with_head count height columns rows old) n 0) e
+        (in_rows (k - 9) (omega (arith, past, small)) ∙ rows_word (k - 9) (omega (arith, past, small)))) (cases_lt k 9);
+    unwritten = λ k past. others k (inr past) ∙ so_far.unwritten k (omega (arith, past));
+  }
 
 -- the fields of a head give its words
 pub head_put : (head : HeadView) (count height : ℕ) (columns rows : List ℕ) → count ≡ length head.rows → height ≡ head.height → columns ≡ head.columns → rows ≡ with_unused head.rows →

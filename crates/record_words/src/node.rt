@@ -1,6 +1,6 @@
 //! The words of a node record.
 
-ghost use Rattle.std.specs.Prelude.{◌≡◌, ◌↔◌, ◌+◌, ◌<◌, ◌/◌, ◌%◌, ◌++◌, IsTrue, List, drop, length, slice_get};
+ghost use Rattle.std.specs.Prelude.{ℕ, ◌≡◌, ◌↔◌, ◌+◌, ◌<◌, ◌≤◌, ◌/◌, ◌%◌, ◌++◌, ◌⊎◌, IsTrue, List, drop, length, slice_get, slice_index};
 ghost use Rattle.compound_node.specs.Nodes.{NodeView, greatest_height, piece};
 ghost use Rattle.compound_node.specs.declared.entries.Entry.TheVariants.{Leaf as LeafEntry};
 ghost use Rattle.key_bits.specs.Bits.{bit_of};
@@ -8,17 +8,21 @@ ghost use Rattle.pieces.specs.Changes.{without};
 ghost use Rattle.pieces.specs.Growth.{grown};
 ghost use Rattle.pieces.specs.Piece.{leads_to};
 ghost use Rattle.record_words.specs.Entry.{HasEntryWord, entry_word};
-ghost use Rattle.record_words.specs.Node.{CanTakeLeaf, HasHeadWords, HasNodeWords, CanGrowAt, SpellBuilt, SpellEntries, SpellLeft, head_words, node_words};
-ghost use Rattle.record_words.specs.Packed.{fixed_words, words_of_positions, words_of_rows};
+ghost use Rattle.record_words.specs.Node.{CanTakeLeaf, HasHeadWords, HasNodeWords, CanGrowAt, HasFork, SpellBuilt, SpellEntries, SpellLeft, head_words, node_words};
+ghost use Rattle.record_words.specs.Packed.{fixed_words, row_word, words_of_positions, words_of_rows};
 ghost use Rattle.record_words.specs.Reading.{IsSpelledBy, IsSpelling};
 
 use crate::entry::{pack_entry, read_some};
-use crate::fixed::{read_places, read_rows, word_of_numbers, word_of_places, word_of_rows};
+use crate::fixed::{
+    place_in, read_places, read_rows, word_of_numbers, word_of_places, word_of_rows,
+};
+use crate::search::quarters;
 use crate::{FIRST_ROWS, HEAD_WORDS, HEIGHT_BIT, MAX_ENTRIES, NODE_FIELDS};
 use arrayvec::ArrayVec;
-use compound_node::{Entry, Head, Node};
+use compound_node::{Entry, Head, Node, fork_rows};
 use key_bits::Key;
-use partial_keys::{Columns, put_in, take_out};
+use partial_keys::{Columns, count_below, put_in, take_out};
+use std::simd::prelude::*;
 
 /// The words of a node record from offset 1 on.
 pub fn pack_node(node: &Node) -> [u64; NODE_FIELDS]
@@ -55,6 +59,14 @@ fn put_head(
     for j in 0..8 {
         words[1 + j] = word_of_places(places, j);
     }
+    put_rows(words, rows);
+}
+
+/// Puts in the words of these sparse partial keys.
+fn put_rows(words: &mut [u64; NODE_FIELDS], rows: &[u32; MAX_ENTRIES])
+    ensures rows { (k : ℕ) → k < 16 → slice_index words.new (FIRST_ROWS + k) ≡ row_word rows.now k }
+    ensures others { (k : ℕ) → (k < FIRST_ROWS) ⊎ (HEAD_WORDS ≤ k) → slice_index words.new k ≡ slice_index words.old k }
+{
     for k in 0..16 {
         words[FIRST_ROWS + k] = word_of_rows(rows, k);
     }
@@ -81,14 +93,43 @@ pub fn add_leaf(
     requires below { position < 65535 }
     ensures { (node : NodeView) → CanGrowAt words.old node position first last → SpellBuilt words.new (grown position bit (LeafEntry leaf) first (piece node)) }
 {
-    let mut head = head_of_words(&words[..HEAD_WORDS]);
-    let end = HEAD_WORDS + head.count() as usize;
+    let end = HEAD_WORDS + (words[0] % 256) as usize;
     let at = HEAD_WORDS
         + if bit {
             last as usize + 1
         } else {
             first as usize
         };
+    add_fork(words, first, last, position, bit);
+    put_in(words, end, at, pack_entry(Some(Entry::Leaf(leaf))));
+}
+
+/// Puts a new fork in over the entries from `first` to `last`: the words of the head are those of the head with the fork, and the
+/// words of the entries stay. Mostly the position is a column already, and the words of the positions stay too.
+fn add_fork(words: &mut [u64; NODE_FIELDS], first: u8, last: u8, position: u16, bit: bool)
+    requires growing { (node : NodeView) × CanGrowAt words.old node position first last }
+    requires below { position < 65535 }
+    ensures { (node : NodeView) → CanGrowAt words.old node position first last → HasFork words.old words.new node position first last bit }
+{
+    let below = count_below(quarters(u64x8::from_slice(&words[1..])), position);
+    if place_in(words, below) != position {
+        return add_column(words, first, last, position, bit);
+    }
+    let count = (words[0] % 256) as usize;
+    let mut rows = read_rows(&words[..HEAD_WORDS]);
+    let weight = 1 << (31 - below);
+    fork_rows(&mut rows, count, first as usize, last as usize, weight, bit);
+    words[0] += 1;
+    put_rows(words, &rows);
+}
+
+/// The same, whether or not the position is a column.
+fn add_column(words: &mut [u64; NODE_FIELDS], first: u8, last: u8, position: u16, bit: bool)
+    requires growing { (node : NodeView) × CanGrowAt words.old node position first last }
+    requires below { position < 65535 }
+    ensures { (node : NodeView) → CanGrowAt words.old node position first last → HasFork words.old words.new node position first last bit }
+{
+    let mut head = head_of_words(&words[..HEAD_WORDS]);
     head.add_leaf(first, last, position, bit);
     put_head(
         words,
@@ -97,7 +138,6 @@ pub fn add_leaf(
         head.columns(),
         head.places(),
     );
-    put_in(words, end, at, pack_entry(Some(Entry::Leaf(leaf))));
 }
 
 /// Makes the words those of the node without the entry to which the key's bits lead, and without the last fork on its path. Of two

@@ -47,7 +47,7 @@ pub fn search_in(words: &[u64; ROW_WORDS], dense: u32) -> u8
 
 /// The quarters of these words, that with the lowest bits of each first.
 #[inline(always)]
-fn quarters(words: u64x8) -> u16x32
+pub(crate) fn quarters(words: u64x8) -> u16x32
     ensures whole { length result ≡ 32 }
     ensures each { (i : ℕ) → i < 32 → slice_index result i ≡ slice_index words (i / 4) / 2 ^ (16 * (i % 4)) % 2 ^ 16 }
 {

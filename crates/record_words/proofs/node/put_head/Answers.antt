@@ -1,6 +1,6 @@
 -- The words are written in the order of their places.
 use Rattle.std.proofs.Common.{rules, ◌∙◌, ◌+◌, ◌≡◌, arith, ap, refl, subst, length}
-use Rattle.record_words.proofs.Written.{AreSoFar, with_head, none_so_far, one_more, all_so_far, length-with_head, numbers_word, places_word, rows_word, behind_head}
+use Rattle.record_words.proofs.Written.{AreSoFar, with_head, none_so_far, one_more, all_so_far, length-with_head, numbers_word, places_word, rows_so_far, behind_head}
 use Rattle.record_words.specs.Packed.{meta_word}
 use Rattle.record_words.proofs.node.put_head.Goals as goal
 
@@ -16,17 +16,15 @@ loop-j-preserved c =
     one_more _ _ c.loop-j.words (1 + c.loop-j.j) _ c.word_of_places.result c.loop-j.invariant (omega arith) (omega arith)
     (c.word_of_places.ensures ∙ places_word c.args.count c.args.height c.args.columns.now c.args.rows.now c.args.words.now _ c.loop-j.j c.places-places.ensures c.loop-j-test.true)
 
-pub loop-k-init : goal.loop-k-init
-loop-k-init c = subst (AreSoFar (with_head c.args.count c.args.height c.args.columns.now c.args.rows.now c.args.words.now) c.args.words.now c.loop-j.words) (omega arith) c.loop-j.invariant
-
-pub loop-k-preserved : goal.loop-k-preserved
-loop-k-preserved c =
-    one_more _ _ c.loop-k.words (9 + c.loop-k.k) _ c.word_of_rows.result c.loop-k.invariant (omega arith) (omega arith)
-    (c.word_of_rows.ensures ∙ rows_word c.args.count c.args.height c.args.columns.now c.args.rows.now c.args.words.now c.loop-k.k c.loop-k-test.true)
-
 pub returns : goal.returns
 returns c =
     let old = c.args.words.now in
     let whole : length old ≡ 57 = search rules in
-    all_so_far _ old c.loop-k.words (9 + c.loop-k.k) c.loop-k.invariant (length-with_head c.args.count c.args.height c.args.columns.now c.args.rows.now old whole)
-    (λ k past inside. behind_head c.args.count c.args.height c.args.columns.now c.args.rows.now old k (omega (arith, past, c.loop-k-test.false, c.loop-k.auto.k-end)))
+    let longer : length c.put_rows.new.words ≡ 57 = search rules in
+    let eight : 1 + c.loop-j.j ≡ 9 = omega arith in
+    all_so_far _ old c.put_rows.new.words 25
+    (rows_so_far c.args.count c.args.height c.args.columns.now c.args.rows.now old c.loop-j.words c.put_rows.new.words
+    (subst (AreSoFar (with_head c.args.count c.args.height c.args.columns.now c.args.rows.now old) old c.loop-j.words) eight c.loop-j.invariant)
+    longer c.put_rows.ensures.rows c.put_rows.ensures.others)
+    (length-with_head c.args.count c.args.height c.args.columns.now c.args.rows.now old whole)
+    (λ k past inside. behind_head c.args.count c.args.height c.args.columns.now c.args.rows.now old k past)

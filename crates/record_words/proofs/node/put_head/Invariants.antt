@@ -5,6 +5,3 @@ use Rattle.record_words.proofs.node.put_head.Given as goal
 
 abbrev pub invariant-loop-j : goal.invariant-loop-j
 invariant-loop-j l = AreSoFar (with_head l.count l.height l.columns l.rows l.fn.words) l.fn.words l.words (1 + l.j)
-
-abbrev pub invariant-loop-k : goal.invariant-loop-k
-invariant-loop-k l = AreSoFar (with_head l.count l.height l.columns l.rows l.fn.words) l.fn.words l.words (9 + l.k)

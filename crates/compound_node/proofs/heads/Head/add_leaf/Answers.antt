@@ -25,8 +25,8 @@ add-requires-clause-lawful c =
     subst (λ (h : HeadView). IsLawfulNode (node_of (forked_head 1 c.args.position c.args.first c.args.last c.args.bit h) (leaves (length h.rows + 1)))) same
     (head_leaf c.args.self.now c.args.position c.args.first c.args.last c.args.bit 0 c.requires.room c.requires.low c.requires.below node lawful same at).leaves_fit
 
-pub returns : goal.returns
-returns c = λ node lawful same at leaf.
+pub returns-clause-built : goal.returns-clause-built
+returns-clause-built c = λ node lawful same at leaf.
     subst (λ h. IsBuiltFrom (node_of h (insert node.entries (if c.args.bit then c.args.last + 1 else c.args.first) (Leaf leaf))) (grown c.args.position c.args.bit (Leaf leaf) c.args.first (piece node))) (sym c.add.ensures)
     (subst (λ (h : HeadView). IsBuiltFrom (node_of (forked_head 1 c.args.position c.args.first c.args.last c.args.bit h) (insert node.entries (if c.args.bit then c.args.last + 1 else c.args.first) (Leaf leaf))) (grown c.args.position c.args.bit (Leaf leaf) c.args.first (piece node))) same
     (head_leaf c.args.self.now c.args.position c.args.first c.args.last c.args.bit leaf c.requires.room c.requires.low c.requires.below node lawful same at).built)
