@@ -4,6 +4,7 @@ pub mod Dropping
 pub mod Entries
 pub mod Fixing
 pub mod Forking
+pub mod Fronts
 pub mod Growing
 pub mod Heads
 pub mod Lanes

@@ -1,6 +1,7 @@
 //! The words of the shared table: where each record stands, and how states, entries, nodes and leaves are packed.
 #![tactic(auto)]
 
+mod affected;
 mod entry;
 mod fixed;
 mod layout;
@@ -10,6 +11,7 @@ mod search;
 mod state;
 mod stock;
 
+pub use affected::affected_in;
 pub use entry::{pack_entry, read_entry, read_some};
 use key_bits::MAX_BYTES;
 pub use layout::{Layout, LayoutFault, LeafClass, Location, Stock};

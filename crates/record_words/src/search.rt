@@ -56,7 +56,7 @@ pub(crate) fn quarters(words: u64x8) -> u16x32
 
 /// The halves of these words, the low one of each first.
 #[inline(always)]
-fn halves(words: u64x8) -> u32x16
+pub(crate) fn halves(words: u64x8) -> u32x16
     ensures whole { length result ≡ 16 }
     ensures each { (i : ℕ) → i < 16 → slice_index result i ≡ slice_index words (i / 2) / 2 ^ (32 * (i % 2)) % 2 ^ 32 }
 {

@@ -1,0 +1,107 @@
+-- The rows that agree with one in the columns below a position stand side by side: they are counted from both sides.
+use Rattle.std.proofs.Common.{◌≡◌, ◌∙◌, ◌+◌, ◌-◌, ◌*◌, ◌/◌, ◌%◌, ◌^◌, ◌<◌, ◌≤◌, List, ℕ, ap, ap₂, arith, bit_and, bit_or, count_by, get_or, length, lit≤, min, nat_lt}
+use Rattle.std.proofs.lemmas.List.{get_or_default}
+use Rattle.std.proofs.lemmas.Nat.{and_mask, pow_pos, shr_split}
+use Rattle.std.proofs.lemmas.Nat.Bits.{and_high_mask, ones_shr}
+use Rattle.std.specs.Int.Bits.{or_add_and}
+use Rattle.compound_node.proofs.Lawful.{same_count}
+use Rattle.compound_node.specs.Nodes.{IsLawfulNode, NodeView, head_of, piece}
+use Rattle.partial_keys.specs.Rows.{with_unused}
+use Rattle.pieces.specs.Growth.{affected_count, affected_first}
+use Rattle.pieces.specs.Positions.{front_below}
+use Rattle.record_words.specs.Node.{HasHeadWords, head_words}
+use Rattle.record_words.specs.Reading.{IsSpelling}
+use Rattle.record_words.proofs.Fronts.{affected_by_counts, columns_below, end_some, few_below, rows_in_front}
+use Rattle.record_words.proofs.Lanes.{eight, eight_at, place_lanes_read}
+use Rattle.record_words.proofs.Lawful.{row-lt}
+use Rattle.record_words.proofs.Spelled.{count_read}
+use Rattle.record_words.proofs.affected.affected_in.Goals as goal
+use Rattle.record_words.proofs.affected.affected_in.Goals.{After-min-end}
+
+-- a node whose head has the words
+module _ (words : List ℕ) (given : IsSpelling HasHeadWords head_words words) where
+  abbrev its : NodeView
+  its = given.1.0
+
+  lawful_its : IsLawfulNode its
+  lawful_its = given.1.1
+
+  same_its : head_words (head_of its) ≡ words
+  same_its = ap head_words given.1.2 ∙ given.2
+
+-- how many of its columns are below the position
+columns_are : (words places : List ℕ) (position n : ℕ) → position < 2 ^ 16 → n ≡ count_by (λ x. nat_lt x position) places → length places ≡ 32 →
+    ((i : ℕ) → i < 32 → get_or places i 0 ≡ get_or (eight 1 words) (i / 4) 0 / 2 ^ (16 * (i % 4)) % 2 ^ 16) →
+    (node : NodeView) → IsLawfulNode node → head_words (head_of node) ≡ words → n ≡ front_below position node.columns
+columns_are words places position n small counted long each node lawful same =
+    counted ∙ columns_below node lawful position places small
+    (place_lanes_read node lawful words places same long (λ i l. each i l ∙ ap (λ w. w / 2 ^ (16 * (i % 4)) % 2 ^ 16) (eight_at words 1 (i / 4) (lit≤ tt) (omega (arith, l)))))
+
+-- the bounds of the run
+module _ (c : After-min-end) (node : NodeView) (lawful : IsLawfulNode node) (same : head_words (head_of node) ≡ c.args.words.now) where
+  abbrev n : ℕ
+  n = c.positions_below-rest.result
+
+  abbrev row : ℕ
+  row = get_or node.rows c.args.found 0
+
+  below : n ≡ front_below c.args.position node.columns
+  below = columns_are c.args.words.now c.quarters-places.result c.args.position n c.ranges.position.fits c.positions_below-rest.ensures c.quarters-places.ensures.whole c.quarters-places.ensures.each
+      node lawful same
+
+  few : n ≤ 31
+  few = omega (arith, below, few_below node lawful c.args.position)
+
+  here : c.args.found < length node.entries
+  here = c.requires.in_range node lawful same
+
+  row_is : c.row_in-row.result ≡ row
+  row_is = c.row_in-row.ensures node lawful same ∙ get_or_default node.rows c.args.found 4294967295 0 (omega (arith, here, same_count node lawful))
+
+  rest_is : (2 ^ 32 - 1) / 2 ^ n ≡ 2 ^ (32 - n) - 1
+  rest_is = ones_shr 32 n (omega (arith, few))
+
+  least_is : bit_and c.row_in-row.result (2 ^ 32 - 1 - (2 ^ 32 - 1) / 2 ^ n) ≡ row / 2 ^ (32 - n) * 2 ^ (32 - n)
+  least_is =
+      ap₂ bit_and row_is (let some = pow_pos (32 - n) in omega (arith, rest_is, some))
+      ∙ and_high_mask 32 (32 - n) (omega arith) row (row-lt node lawful c.args.found)
+
+  most_is : bit_or c.row_in-row.result ((2 ^ 32 - 1) / 2 ^ n) + 1 ≡ row / 2 ^ (32 - n) * 2 ^ (32 - n) + 2 ^ (32 - n)
+  most_is =
+      let same_or : bit_or c.row_in-row.result ((2 ^ 32 - 1) / 2 ^ n) ≡ bit_or row (2 ^ (32 - n) - 1) = ap₂ bit_or row_is rest_is in
+      let sums = or_add_and row (2 ^ (32 - n) - 1) in let masked = and_mask row (32 - n) in let parts = shr_split row (32 - n) in let some = pow_pos (32 - n) in
+      omega (arith, same_or, sums, masked, parts, some)
+
+  first_is : c.rows_below-first.result ≡ front_below (row / 2 ^ (32 - n) * 2 ^ (32 - n)) (with_unused node.rows)
+  first_is =
+      c.rows_below-first.ensures ∙ (ap (λ b. count_by (λ x. nat_lt x b) c.rows_in-rows.result) least_is ∙ rows_in_front node lawful _ c.rows_in-rows.result (c.rows_in-rows.ensures node lawful same))
+
+  end_is : c.min-end.result ≡ min (front_below (row / 2 ^ (32 - n) * 2 ^ (32 - n) + 2 ^ (32 - n)) (with_unused node.rows)) (length node.rows)
+  end_is =
+      c.min-end.ensures ∙ ap₂ min
+      (c.rows_upto.ensures ∙ (ap (λ b. count_by (λ x. nat_lt x b) c.rows_in-rows.result) most_is ∙ rows_in_front node lawful _ c.rows_in-rows.result (c.rows_in-rows.ensures node lawful same)))
+      (count_read node lawful c.args.words.now same)
+
+  some : 1 ≤ c.min-end.result
+  some = end_some node lawful c.args.position c.args.found n c.rows_below-first.result c.min-end.result here below first_is end_is
+
+  affected : (affected_first c.args.position c.args.found (piece node) ≡ c.rows_below-first.result) × (affected_count c.args.position c.args.found (piece node) + c.rows_below-first.result ≡ c.min-end.result - 1 + 1)
+  affected = affected_by_counts node lawful c.args.position c.args.found n c.rows_below-first.result c.min-end.result here below first_is end_is
+
+pub overflow_shr-rest : goal.overflow_shr-rest
+overflow_shr-rest c =
+    let words = c.args.words.now in let given = c.requires.spelling in
+    let below = columns_are words c.quarters-places.result c.args.position c.positions_below-rest.result c.ranges.position.fits c.positions_below-rest.ensures
+    c.quarters-places.ensures.whole c.quarters-places.ensures.each (its words given) (lawful_its words given) (same_its words given) in
+    omega (arith, below, few_below (its words given) (lawful_its words given) c.args.position)
+
+pub overflow_sub-result : goal.overflow_sub-result
+overflow_sub-result c =
+    let words = c.args.words.now in let given = c.requires.spelling in
+    some c (its words given) (lawful_its words given) (same_its words given)
+
+pub returns-clause-from : goal.returns-clause-from
+returns-clause-from c = λ node lawful same. (affected c node lawful same).0
+
+pub returns-clause-upto : goal.returns-clause-upto
+returns-clause-upto c = λ node lawful same. (affected c node lawful same).1
