@@ -1,13 +1,10 @@
 -- A node's forks that were read twice, and the places that they have.
-use Rattle.std.proofs.Common.{◌≡◌, ℕ, ◌<◌, length, sym, subst, ◌∙◌}
+use Rattle.std.proofs.Common.{◌≡◌, ℕ, length, sym, ◌∙◌}
 use Rattle.compound_node.specs.Nodes.{HeadView, node_of, leaves, IsLawfulNode}
 use Rattle.compound_node.proofs.Lawful.{same_count}
 use Rattle.pieces.specs.Piece.{size}
 use Rattle.record_words.specs.declared.layout.Layout.{Layout}
 use Rattle.tries.proofs.Building.{size-piece}
-use Rattle.tries.proofs.Places.{spot_below}
-use Rattle.tries.specs.Keys.{Key}
-use Rattle.tries.specs.Place.{spot}
 use Rattle.tries.specs.Tree.{Subtrie}
 use Rattle.rowex_core.specs.declared.known.Known.{Known}
 use Rattle.rowex_core.specs.Knowing.{IsPinnedSince}
@@ -29,7 +26,3 @@ same_shape layout k m n x y possible since one two =
 -- a head has as many rows as its forks have places
 pub rows_are : (head : HeadView) → IsLawfulNode (node_of head (leaves (length head.rows))) → length head.rows ≡ size (shape_of head)
 rows_are head lawful = let v = node_of head (leaves (length head.rows)) in same_count v lawful ∙ sym (size-piece v lawful)
-
--- so the place on the key's way is one of them
-pub row_below : (head : HeadView) (key : Key) (x : Subtrie) (at : ℕ) → IsLawfulNode (node_of head (leaves (length head.rows))) → at ≡ spot key x → x ≡ shape_of head → at < length head.rows
-row_below head key x at lawful is same = subst (λ z. at < z) (sym (rows_are head lawful)) (subst (λ z. at < size z) same (subst (λ z. z < size x) (sym is) (spot_below key x)))

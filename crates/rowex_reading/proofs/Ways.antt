@@ -1,16 +1,19 @@
 -- The way of a search: what names its nodes; and what was found stays known while the pass goes on.
-use Rattle.std.proofs.Common.{◌≡◌, ℕ, zero, suc, ◌≤◌, List, [], ◌∷◌, length, Option, Some, None, refl, ap, arith}
+use Rattle.std.proofs.Common.{◌≡◌, ℕ, zero, suc, ◌<◌, ◌≤◌, List, [], ◌∷◌, length, Option, Some, None, refl, ap, arith, subst, sym}
 use Rattle.std.specs.Prelude.{slice_get}
 use Rattle.insert_cases.specs.declared.choice.Step.{Step}
 use Rattle.insert_cases.proofs.Choosing.{some_injective}
 use Rattle.compound_node.specs.declared.entries.Entry.{Entry}
 use Rattle.compound_node.specs.declared.entries.Entry.TheVariants.{Node}
+use Rattle.pieces.specs.Piece.{size}
 use Rattle.record_words.specs.declared.layout.Layout.{Layout}
 use Rattle.tries.specs.Keys.{Key}
+use Rattle.tries.proofs.Places.{spot_below}
 use Rattle.rowex_core.specs.declared.known.Known.{Known}
 use Rattle.rowex_table.specs.Made.{IsLater}
 use Rattle.rowex_walks.specs.Scan.{EntryStoodSince, IsRooted, IsBlank, IsPlaced, IsShaped, IsRead}
-use Rattle.rowex_reading.specs.Seen.{seen}
+use Rattle.rowex_reading.specs.Seen.{HasPlace}
+use Rattle.rowex_reading.proofs.Led.{shape_place}
 use Rattle.rowex_reading.proofs.Seeing.{sure_later, since_later, seen_stable, rooted_stable, placed_stable, shaped_stable, read_stable, blank_stable}
 use Rattle.rowex_reading.specs.Ways.{IsWayOf, IsWayNode, IsFoundAt, RootWas, end_of, named}
 use Rattle.rowex_reading.specs.declared.descent.Found.{Found}
@@ -61,3 +64,9 @@ way_later layout k j m key way found later w = record {
   found_at = found_later layout k j m key later found w.found_at;
   depth = w.depth;
 }
+
+-- each of its nodes has a place on the key's way
+pub way_place : (layout : Layout) (k : Known) (m : ℕ) (key : Key) (way : List Step) (found : Found) → IsWayOf layout k m key way found → (i : ℕ) (s : Step) → slice_get way i ≡ Some s → HasPlace k m s.number s.height s.at
+way_place layout k m key way found w i s at =
+    let node = (w.nodes i s at).2 in
+    shape_place ((w.since, node.seen), node.shaped) (subst (λ z. z < size node.forks) (sym node.at) (spot_below key node.forks))

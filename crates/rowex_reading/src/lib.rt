@@ -2,11 +2,13 @@
 //! be sure of then, whatever other passes publish meanwhile.
 #![tactic(auto)]
 
+mod affected;
 mod along;
 mod descent;
 mod lookup;
 mod reading;
 
+pub use affected::find_affected;
 pub use along::{MOST_TURNS, TOGETHER, Turn, go_down, look_up_along};
 pub use descent::{Found, MOST_NODES, search_way, step_of};
 pub use lookup::look_up;

@@ -34,10 +34,9 @@ use Rattle.rowex_walks.proofs.Downs.{left_of_own_place, sides_left_are_below}
 use Rattle.rowex_walks.proofs.Starts.{fit_sole, scan_start, sides, sides_over, stack_at, start_fits, AreAt, affected_from, start_place}
 use Rattle.rowex_walks.proofs.Walk.{scan_skip, stack_place}
 use Rattle.rowex_reading.specs.Possible.{IsPossible}
-use Rattle.compound_node.specs.Nodes.{HeadView}
 use Rattle.rowex_table.specs.Made.{IsLater}
 use Rattle.versions.specs.declared.Rec.TheVariants.{Leaf as a_leaf}
-use Rattle.rowex_reading.specs.Seen.{seen, since, IsAtRoot, Sure, IsLedTo, shape_of}
+use Rattle.rowex_reading.specs.Seen.{seen, since, IsAtRoot, Sure}
 use Rattle.rowex_reading.proofs.Seeing.{read_stable, seen_steady, since_later, sure_later}
 use Rattle.rowex_reading.proofs.Shapes.{same_shape}
 use Rattle.rowex_reading.proofs.Ways.{named_at, named_end, way_later}
@@ -470,25 +469,22 @@ module _ (layout : Layout) (k : Known) (m : ℕ) (key : Key) (way : List Step) (
         by : {i low high : ℕ} → i < length way → high ≤ 31 → {case : Case} → c ≡ record { level = i; first = low; last = high; case = case } → (c.level < length way) × (c.last ≤ 31)
         by within low e = subst (λ (z : Choice). (z.level < length way) × (z.last ≤ 31)) (sym e) (within, low)
 
--- ---- with the head that was loaded once more at the level
+-- ---- with the forks of the node at the level, which were read once more
 module _ (layout : Layout) (k j : Known) (m : ℕ) (key : Key) (way : List Step) (number value : ℕ) (differ : Option ℕ) (w : IsWayOf layout k m key way (Leaf number value differ)) (possible : IsPossible layout j)
-    (later : IsLater k j) (d : ℕ) (differs : differ ≡ Some d) (level : ℕ) (is : IsLevel way d level) (s : Step) (there : slice_get way level ≡ Some s) (head : HeadView)
-    (told : (m h : ℕ) → IsLedTo k m (Node s.number h) → (head.height ≡ h) × Sure j (λ p. IsShaped p m s.number (shape_of head))) (first last : ℕ)
-    (from : affected_first d s.at (shape_of head) ≡ first) (upto : affected_count d s.at (shape_of head) + first ≡ last + 1) (c : Choice) (chosen : IsChosen way level first last c) where
-  shapes : Sure j (λ p. IsShaped p m s.number (shape_of head))
-  shapes = (told m s.height (w.since, (w.nodes level s there).2.seen)).1
-
+    (later : IsLater k j) (d : ℕ) (differs : differ ≡ Some d) (level : ℕ) (is : IsLevel way d level) (s : Step) (there : slice_get way level ≡ Some s) (forks : Subtrie)
+    (shapes : Sure j (λ p. IsShaped p m s.number forks)) (first last : ℕ)
+    (from : affected_first d s.at forks ≡ first) (upto : affected_count d s.at forks + first ≡ last + 1) (c : Choice) (chosen : IsChosen way level first last c) where
   then_found : IsWayOf layout j m key way (Leaf number value differ)
   then_found = way_later layout k j m key way (Leaf number value differ) later w
 
   -- the node has at most 32 entries
-  room : size (shape_of head) ≤ 32
-  room = subst (λ x. size x ≤ 32) (same_shape layout j m s.number (then_found.nodes level s there).2.forks (shape_of head) possible then_found.since (then_found.nodes level s there).2.shaped shapes)
+  room : size forks ≤ 32
+  room = subst (λ x. size x ≤ 32) (same_shape layout j m s.number (then_found.nodes level s there).2.forks forks possible then_found.since (then_found.nodes level s there).2.shaped shapes)
       (then_found.nodes level s there).2.room
 
   chosen_fits : (c.level < length way) × (c.last ≤ 31)
-  chosen_fits = chosen_low layout j m key way number value differ then_found possible d differs level is s there (shape_of head) shapes first last from upto c chosen
-      (let low = affected_low d s.at first last (shape_of head) from upto in let r = room in omega (arith, low, r))
+  chosen_fits = chosen_low layout j m key way number value differ then_found possible d differs level is s there forks shapes first last from upto c chosen
+      (let low = affected_low d s.at first last forks from upto in let r = room in omega (arith, low, r))
 
   abbrev StartsThere : Type 0
   StartsThere = (u : Bool) → bit_of key d ≡ u → (t : Step) → slice_get way c.level ≡ Some t → (place : ℕ) → place ≡ (if u then c.last + 1 else c.first) → (comes : Bool) →
@@ -497,7 +493,7 @@ module _ (layout : Layout) (k j : Known) (m : ℕ) (key : Key) (way : List Step)
   started : StartsThere
   started u b t at place place_eq comes comes_eq =
       subst (λ z. IsParting j m key way number (record { level = c.level; top = record t { at = place }; leaf = z })) (sym comes_eq)
-      (starts_apart layout j m key way number value differ then_found possible d differs level is s there (shape_of head) shapes first last from upto u b c chosen (record t { at = place }) t at
+      (starts_apart layout j m key way number value differ then_found possible d differs level is s there forks shapes first last from upto u b c chosen (record t { at = place }) t at
       (ap (λ z. let y : Step = record t { at = z } in y) place_eq))
 
   -- the choice is of a place in a node of the way, and there the scan starts

@@ -11,7 +11,7 @@ use crate::direction::Direction;
 use insert_cases::{Step, choose, level_below};
 use key_bits::Key;
 use rowex_core::Gate;
-use rowex_reading::load_head;
+use rowex_reading::find_affected;
 use rowex_table::{HotTable, TableSeat};
 
 /// Where a scan starts on the way of the search for its first key.
@@ -90,8 +90,8 @@ fn start_at<G: Gate>(
     };
     let below = key.bit(position);
     let level = level_below(way, position);
-    let head = load_head(table, seat, gate, way[level].number);
-    let (first, last) = head.affected(way[level].at, position);
+    let step = way[level];
+    let (first, last) = find_affected(table, seat, gate, step.number, step.at, position);
     let part = choose(way, level, first, last);
     let mut top = way[part.level];
     top.at = if below { part.last + 1 } else { part.first };

@@ -3,7 +3,6 @@ use Rattle.std.proofs.Common.{◌≡◌, ℕ, zero, suc, ◌+◌, ◌-◌, ◌<�
 use Rattle.std.proofs.lemmas.Bool.{cases_lt}
 use Rattle.std.proofs.lemmas.Option.{slice_get_within}
 use Rattle.std.specs.Prelude.{slice_get}
-use Rattle.compound_node.specs.Nodes.{HeadView}
 use Rattle.insert_cases.specs.declared.choice.Step.{Step}
 use Rattle.insert_cases.specs.Levels.{IsLevel}
 use Rattle.insert_cases.proofs.Choosing.{some_at}
@@ -17,7 +16,7 @@ use Rattle.rowex_core.specs.declared.known.Known.{Known}
 use Rattle.rowex_walks.specs.Scan.{IsShaped}
 use Rattle.rowex_table.specs.Made.{IsLater}
 use Rattle.rowex_reading.specs.Possible.{IsPossible}
-use Rattle.rowex_reading.specs.Seen.{Sure, shape_of}
+use Rattle.rowex_reading.specs.Seen.{Sure}
 use Rattle.rowex_reading.proofs.Shapes.{same_shape}
 use Rattle.rowex_reading.proofs.Seeing.{shaped_stable, since_later, sure_later}
 use Rattle.rowex_writing.specs.Changes.{AreAffected, IsPlanned}
@@ -94,12 +93,11 @@ are_affected layout k m key way (Leaf n v (Some p)) w = ⊎_elim some none (case
         within j s e = slice_get_within way j s e
 
 -- by the forks that were loaded at the level
-pub affected_there : (layout : Layout) (k j : Known) (m : ℕ) (key : Key) (way : List Step) (n v p first last level : ℕ) (s : Step) (head : HeadView) → IsPossible layout j → IsLater k j →
-    IsWayOf layout k m key way (Leaf n v (Some p)) → IsLevel way p level → slice_get way level ≡ Some s → Sure j (λ past. IsShaped past m s.number (shape_of head)) →
-    affected_first p s.at (shape_of head) ≡ first → affected_count p s.at (shape_of head) + first ≡ last + 1 → AreAffected j m key way (Leaf n v (Some p)) first last
-affected_there layout k j m key way n v p first last level s head possible later w is at shapes from upto =
+pub affected_there : (layout : Layout) (k j : Known) (m : ℕ) (key : Key) (way : List Step) (n v p first last level : ℕ) (s : Step) (x : Subtrie) → IsPossible layout j → IsLater k j →
+    IsWayOf layout k m key way (Leaf n v (Some p)) → IsLevel way p level → slice_get way level ≡ Some s → Sure j (λ past. IsShaped past m s.number x) →
+    affected_first p s.at x ≡ first → affected_count p s.at x + first ≡ last + 1 → AreAffected j m key way (Leaf n v (Some p)) first last
+affected_there layout k j m key way n v p first last level s x possible later w is at shapes from upto =
     let node = (w.nodes level s at).2 in
-    let x = shape_of head in
     let same : node.forks ≡ x = same_shape layout j m s.number node.forks x possible (since_later later w.since) (sure_later (shaped_stable m s.number node.forks) later node.shaped) shapes in
     let place : s.at ≡ spot key x = node.at ∙ ap (spot key) same in
     at_level j m key way n v p first last level s x is at shapes (record {
@@ -112,13 +110,13 @@ module _ (layout : Layout) (k j : Known) (m : ℕ) (key : Key) (way : List Step)
   pub known_planned : (found : Found) (plan : Plan) → ((first last : ℕ) → IsPlan way first last aim found plan) → IsWayOf layout k m key way found → IsPlanned k m key way aim found plan
   known_planned found plan is w = let (first, last, are) = are_affected layout k m key way found w in (first, last, is first last, are)
 
-  pub beside_planned : (found : Found) (plan : Plan) (p first last level : ℕ) (s : Step) (head : HeadView) → DiffersAt found p → IsPossible layout j → IsLater k j →
-      IsWayOf layout k m key way found → IsLevel way p level → slice_get way level ≡ Some s → Sure j (λ past. IsShaped past m s.number (shape_of head)) →
-      affected_first p s.at (shape_of head) ≡ first → affected_count p s.at (shape_of head) + first ≡ last + 1 → IsPlan way first last aim found plan → IsPlanned j m key way aim found plan
-  beside_planned found plan p first last level s head (n, v, differs) possible later w is at shapes from upto planned = (
+  pub beside_planned : (found : Found) (plan : Plan) (p first last level : ℕ) (s : Step) (x : Subtrie) → DiffersAt found p → IsPossible layout j → IsLater k j →
+      IsWayOf layout k m key way found → IsLevel way p level → slice_get way level ≡ Some s → Sure j (λ past. IsShaped past m s.number x) →
+      affected_first p s.at x ≡ first → affected_count p s.at x + first ≡ last + 1 → IsPlan way first last aim found plan → IsPlanned j m key way aim found plan
+  beside_planned found plan p first last level s x (n, v, differs) possible later w is at shapes from upto planned = (
     first,
     last,
     planned,
     subst (λ f. AreAffected j m key way f first last) (sym differs)
-        (affected_there layout k j m key way n v p first last level s head possible later (subst (IsWayOf layout k m key way) differs w) is at shapes from upto),
+        (affected_there layout k j m key way n v p first last level s x possible later (subst (IsWayOf layout k m key way) differs w) is at shapes from upto),
   )

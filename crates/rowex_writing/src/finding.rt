@@ -13,7 +13,7 @@ ghost use Rattle.record_words.specs.declared.TheConstants.{HEAD_WORDS};
 use crate::plan::{Aim, Outline, Plan, plan_beside, plan_call};
 use insert_cases::Step;
 use rowex_core::Gate;
-use rowex_reading::{Found, load_head};
+use rowex_reading::{Found, find_affected};
 use rowex_table::{HotTable, TableSeat};
 
 /// What a call does, by the way of its search: where a new leaf goes into a node, its head is loaded once more for the entries that
@@ -40,8 +40,7 @@ pub(crate) fn find_plan<G: Gate>(
         Outline::Known(plan) => plan,
         Outline::Beside { position, level } => {
             let step = way[level];
-            let head = load_head(table, seat, gate, step.number);
-            let (first, last) = head.affected(step.at, position);
+            let (first, last) = find_affected(table, seat, gate, step.number, step.at, position);
             plan_beside(way, position, level, first, last)
         }
     }

@@ -1,11 +1,9 @@
--- The way of the search, with the head that was loaded once more.
-use Rattle.std.proofs.Common.{rules, ◌≡◌, ◌+◌, ◌-◌, ◌<◌, ◌≤◌, ℕ, Bool, false, Some, refl, sym, length, nat_eq, if◌then◌else◌, arith}
+-- The way of the search, with the affected entries of the node at the level.
+use Rattle.std.proofs.Common.{rules, ◌≡◌, ◌+◌, ◌-◌, ◌<◌, ◌≤◌, ℕ, Bool, false, Some, sym, length, nat_eq, if◌then◌else◌, arith}
 use Rattle.std.specs.Prelude.{slice_get}
 use Rattle.std.proofs.lemmas.Option.{slice_get-get_or}
-use Rattle.compound_node.specs.Nodes.{node_of, leaves}
 use Rattle.rowex_reading.proofs.Led.{reader_then, reads_later}
-use Rattle.rowex_reading.proofs.Seeing.{shaped_stable, since_later, sure_later}
-use Rattle.rowex_reading.proofs.Shapes.{row_below, same_shape}
+use Rattle.rowex_reading.proofs.Ways.{way_place}
 use Rattle.insert_cases.specs.declared.choice.Step.{Step}
 use Rattle.key_bits.specs.Bits.{bit_of}
 use Rattle.rowex_reading.specs.Ways.{IsWayOf}
@@ -22,12 +20,13 @@ part : (g : given.Over) (c : After-choose-part g) (m v : ℕ) →
     (c.choose-part.result.level < length c.args.way.now) × (c.choose-part.result.last ≤ 31) × ((below : Bool) → bit_of c.args.key.now c.in-Some.position ≡ below → (t : Step) →
     slice_get c.args.way.now c.choose-part.result.level ≡ Some t → (place : ℕ) → place ≡ (if below then c.choose-part.result.last + 1 else c.choose-part.result.first) → (comes : Bool) →
     comes ≡ (if below then false else nat_eq c.choose-part.result.first c.choose-part.result.last) →
-    IsParting c.load_head-head.new.seat.known m c.args.key.now c.args.way.now c.args._number (record { level = c.choose-part.result.level; top = record t { at = place }; leaf = comes }))
+    IsParting c.find_affected-first.new.seat.known m c.args.key.now c.args.way.now c.args._number (record { level = c.choose-part.result.level; top = record t { at = place }; leaf = comes }))
 part g c m v w =
-    let level = c.level_below-level.ensures in let e = c.load_head-head.ensures in let head = c.load_head-head.result in let affected = c.affected-first.ensures in
-    chosen_starts c.args.table.now.layout c.args.seat.now.known c.load_head-head.new.seat.known m c.args.key.now c.args.way.now c.args._number v c.args.mismatch w (reader_then c.requires.reader e.reads).1 (reads_later e.reads)
-    c.in-Some.position c.in-Some.is c.level_below-level.result level _ (slice_get-get_or c.args.way.now c.level_below-level.result _ level.within) head e.head c.affected-first.result.0 c.affected-first.result.1
-    (affected.from (node_of head (leaves (length head.rows))) e.lawful refl) (affected.upto (node_of head (leaves (length head.rows))) e.lawful refl) c.choose-part.result c.choose-part.ensures.chosen
+    let level = c.level_below-level.ensures in let e = c.find_affected-first.ensures in
+    let at = slice_get-get_or c.args.way.now c.level_below-level.result _ level.within in
+    let (forks, shaped, from, upto) = e.affected m _ (way_place c.args.table.now.layout c.args.seat.now.known m c.args.key.now c.args.way.now (Leaf c.args._number v c.args.mismatch) w c.level_below-level.result _ at) in
+    chosen_starts c.args.table.now.layout c.args.seat.now.known c.find_affected-first.new.seat.known m c.args.key.now c.args.way.now c.args._number v c.args.mismatch w (reader_then c.requires.reader e.reads).1 (reads_later e.reads)
+    c.in-Some.position c.in-Some.is c.level_below-level.result level _ at forks shaped c.find_affected-first.result.0 c.find_affected-first.result.1 from upto c.choose-part.result c.choose-part.ensures.chosen
 
 pub returns-in_default-clause-start : goal.returns-in_default-clause-start
 returns-in_default-clause-start g c = λ m v w.
@@ -35,22 +34,11 @@ returns-in_default-clause-start g c = λ m v w.
     starts_same c.args.table.now.layout c.args.seat.now.known m c.args.key.now c.args.way.now c.args._number v c.args.mismatch w c.requires.reader.1 c.in_default.is (length c.args.way.now - 1) (omega (arith, nodes))
     _ (slice_get-get_or c.args.way.now (length c.args.way.now - 1) _ (omega (arith, nodes)))
 
-pub load_head-head-requires-clause-led : goal.load_head-head-requires-clause-led
-load_head-head-requires-clause-led g c =
+pub find_affected-first-requires-clause-place : goal.find_affected-first-requires-clause-place
+find_affected-first-requires-clause-place g c =
     let (m, v, w) = c.requires.way in
     let at = slice_get-get_or c.args.way.now c.level_below-level.result _ c.level_below-level.ensures.within in
-    (m, _, (w.since, (w.nodes c.level_below-level.result _ at).2.seen))
-
-pub affected-first-requires : goal.affected-first-requires
-affected-first-requires g c =
-    let (m, v, w) = c.requires.way in
-    let at = slice_get-get_or c.args.way.now c.level_below-level.result _ c.level_below-level.ensures.within in
-    let node = (w.nodes c.level_below-level.result _ at).2 in
-    let e = c.load_head-head.ensures in
-    let later = reads_later e.reads in
-    let same = same_shape c.args.table.now.layout c.load_head-head.new.seat.known m _ node.forks _ (reader_then c.requires.reader e.reads).1 (since_later later w.since)
-    (sure_later (shaped_stable m _ node.forks) later node.shaped) (e.head m _ (w.since, node.seen)).1 in
-    row_below c.load_head-head.result c.args.key.now node.forks _ e.lawful node.at same
+    (m, _, way_place c.args.table.now.layout c.args.seat.now.known m c.args.key.now c.args.way.now (Leaf c.args._number v c.args.mismatch) w c.level_below-level.result _ at)
 
 pub offset_bounds-way-part : goal.offset_bounds-way-part
 offset_bounds-way-part g c = let (m, v, w) = c.requires.way in let low = (part g (goal.at.offset_bounds-way-part g c).After-choose-part m v w).0 in search (rules, low)

@@ -1,0 +1,40 @@
+//! The entries of a node that a position affects, by a look at the node's head.
+
+ghost use Rattle.std.specs.Prelude.{◌≡◌, ◌+◌, ℕ};
+ghost use Rattle.pieces.specs.Growth.{affected_count, affected_first};
+ghost use Rattle.record_words.specs.declared.TheConstants.{HEAD_WORDS};
+ghost use Rattle.rowex_walks.specs.Scan.{IsShaped};
+ghost use Rattle.rowex_reading.specs.Reads.{IsReader, Reads};
+ghost use Rattle.rowex_reading.specs.Seen.{HasPlace, Sure};
+ghost use Rattle.tries.specs.Tree.{Subtrie};
+
+use record_words::{HEAD_WORDS, affected_in};
+use rowex_core::{Gate, Rec};
+use rowex_table::{HotTable, TableSeat};
+
+/// The first and the last of the entries of a node that a new fork at the position concerns, of which entry `found` is one: loads all
+/// words of the node's head, and compares them as they stand.
+#[inline(always)]
+pub fn find_affected<G: Gate>(
+    table: &HotTable,
+    seat: &mut TableSeat,
+    gate: &mut G,
+    number: u32,
+    found: u8,
+    position: u16,
+) -> (u8, u8)
+    requires reader { IsReader table.now seat.old }
+    requires place { (m h : ℕ) × HasPlace seat.old.known m number h found }
+    ensures reads { Reads table.now G.becomes 0 HEAD_WORDS (seat.old, gate.old) (seat.new, gate.new) }
+    ensures affected { (m h : ℕ) → HasPlace seat.old.known m number h found →
+        (forks : Subtrie) × Sure seat.new.known (λ s. IsShaped s m number forks) ×
+        (affected_first position found forks ≡ result.0) × (affected_count position found forks + result.0 ≡ result.1 + 1) }
+{
+    let rec = Rec::Node(number);
+    let start = table.start_of(rec);
+    let mut words = [0; HEAD_WORDS];
+    for index in 0..HEAD_WORDS {
+        words[index] = table.load_fixed_from(seat, gate, rec, start, index as u8 + 1);
+    }
+    affected_in(&words, found, position)
+}
