@@ -3,10 +3,8 @@
 ghost use Rattle.std.specs.Prelude.{ℕ, ◌≡◌, ◌↔◌, ◌+◌, ◌<◌, ◌≤◌, ◌/◌, ◌%◌, ◌++◌, ◌⊎◌, IsTrue, List, drop, length, slice_get, slice_index};
 ghost use Rattle.compound_node.specs.Nodes.{NodeView, greatest_height, piece};
 ghost use Rattle.compound_node.specs.declared.entries.Entry.TheVariants.{Leaf as LeafEntry};
-ghost use Rattle.key_bits.specs.Bits.{bit_of};
 ghost use Rattle.pieces.specs.Changes.{without};
 ghost use Rattle.pieces.specs.Growth.{grown};
-ghost use Rattle.pieces.specs.Piece.{leads_to};
 ghost use Rattle.record_words.specs.Entry.{HasEntryWord, entry_word};
 ghost use Rattle.record_words.specs.Node.{CanTakeLeaf, HasHeadWords, HasNodeWords, CanGrowAt, HasFork, SpellBuilt, SpellEntries, SpellLeft, head_words, node_words};
 ghost use Rattle.record_words.specs.Packed.{fixed_words, row_word, words_of_positions, words_of_rows};
@@ -20,7 +18,6 @@ use crate::search::quarters;
 use crate::{FIRST_ROWS, HEAD_WORDS, HEIGHT_BIT, MAX_ENTRIES, NODE_FIELDS};
 use arrayvec::ArrayVec;
 use compound_node::{Entry, Head, Node, fork_rows};
-use key_bits::Key;
 use partial_keys::{Columns, count_below, put_in, take_out};
 use std::simd::prelude::*;
 
@@ -140,15 +137,13 @@ fn add_column(words: &mut [u64; NODE_FIELDS], first: u8, last: u8, position: u16
     );
 }
 
-/// Makes the words those of the node without the entry to which the key's bits lead, and without the last fork on its path. Of two
+/// Makes the words those of the node without the entry at a place that it has, and without the last fork on that one's path. Of two
 /// entries the other one is the answer, and the words stay.
-pub fn drop_entry(words: &mut [u64; NODE_FIELDS], key: &Key) -> Option<Entry>
-    requires { IsSpelling HasNodeWords node_words words.old }
-    ensures { (node : NodeView) → HasNodeWords node → node_words node ≡ words.old →
-        SpellLeft words.new result (without (leads_to (bit_of key.now) (piece node)) (piece node)) }
+pub fn drop_entry(words: &mut [u64; NODE_FIELDS], at: u8) -> Option<Entry>
+    requires { (node : NodeView) × HasNodeWords node × (node_words node ≡ words.old) × (at < length node.entries) }
+    ensures { (node : NodeView) → HasNodeWords node → node_words node ≡ words.old → SpellLeft words.new result (without at (piece node)) }
 {
     let mut head = head_of_words(&words[..HEAD_WORDS]);
-    let at = head.search(key);
     if head.count() == 2 {
         return Some(read_some(words[HEAD_WORDS + 1 - at as usize]));
     }

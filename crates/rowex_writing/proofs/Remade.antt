@@ -6,7 +6,7 @@ use Rattle.key_bits.specs.declared.TheConstants.{MAX_BYTES}
 use Rattle.pieces.specs.Grafts.{IsAbovePath}
 use Rattle.pieces.specs.Growth.{affected_first, affected_count, grown, IsAffected, IsFresh}
 use Rattle.pieces.specs.Changes.{without}
-use Rattle.pieces.specs.Piece.{Place, Fork, leads_to, places, size}
+use Rattle.pieces.specs.Piece.{Place, Fork, places, size}
 use Rattle.pieces.proofs.Affected.{affected_again}
 use Rattle.compound_node.specs.Halves.{HalfShows}
 use Rattle.compound_node.specs.Nodes.{NodeView, piece, IsLawfulNode, IsBuiltFrom, IsEntry, height_of, greatest_height}
@@ -20,7 +20,7 @@ use Rattle.tries.specs.Keys.{Key, bit}
 use Rattle.tries.specs.Place.{spot, with_subtrie, joined, subtrie_without}
 use Rattle.tries.specs.Tree.{Subtrie, Tree, fork, subtrie, IsTrie, Within, here, zero_side, one_side}
 use Rattle.tries.proofs.Building.{bit_below, greatest-append}
-use Rattle.tries.proofs.Places.{leads_spot, spot_below}
+use Rattle.tries.proofs.Places.{spot_below}
 use Rattle.tries.proofs.Ranges.{has_key}
 use Rattle.tries.proofs.Spots.{path_low, path_high, without_spot}
 use Rattle.tries.proofs.Tries.{has_first, rises, trie_within, built_within}
@@ -210,9 +210,9 @@ greatest_without k (Fork q x y) = go (bit k q) (greatest_without k x) (greatest_
     go true f g = greatest_joined q true x y (subtrie_without k y) g
     go false f g = greatest_joined q false x y (subtrie_without k x) f
 
--- what is left of a lawful node's words
-pub left_subtrie : (k : Key) (v : NodeView) (words : List ℕ) (answer : Option Entry) → SpellLeft words answer (without (leads_to (bit_of k) (piece v)) (piece v)) → SpellLeft words answer (subtrie_without k (piece v))
-left_subtrie k v words answer left = subst (SpellLeft words answer) (ap (λ j. without j (piece v)) (leads_spot k (piece v)) ∙ without_spot k (piece v)) left
+-- what is left of a node's words without the entry to which a key's search leads
+pub left_subtrie : (k : Key) (v : NodeView) (at : ℕ) (words : List ℕ) (answer : Option Entry) → spot k (piece v) ≡ at → SpellLeft words answer (without at (piece v)) → SpellLeft words answer (subtrie_without k (piece v))
+left_subtrie k v at words answer leads left = subst (SpellLeft words answer) (ap (λ j. without j (piece v)) (sym leads) ∙ without_spot k (piece v)) left
 
 pub left_under : (k : Key) (v : NodeView) → IsLawfulNode v → greatest_height (places (subtrie_without k (piece v))) < v.height
 left_under k v l = omega (arith, greatest_without k (piece v), entries_under v l)

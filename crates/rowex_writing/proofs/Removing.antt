@@ -56,7 +56,7 @@ use Rattle.rowex_writing.specs.declared.plan.Plan.TheVariants.{Answer, Change}
 use Rattle.insert_cases.specs.declared.choice.Case.{Case}
 use Rattle.insert_cases.specs.declared.choice.Case.TheVariants.{LeafPushdown, NormalInsert, Overflow}
 use Rattle.insert_cases.specs.declared.choice.Choice.{Choice}
-use Rattle.rowex_writing.specs.Going.{HasLocked, IsLockedBy}
+use Rattle.rowex_writing.specs.Going.{HasLocked, IsLockedBy, LeadsLocked}
 use Rattle.rowex_writing.specs.Locks.{numbers_of}
 use Rattle.rowex_writing.specs.Putting.{IsSpotAbove}
 use Rattle.rowex_writing.specs.Retiring.{AreInTable}
@@ -258,6 +258,10 @@ module _ (table : TableView) (a : SeatView) (m : ℕ) (key : Key) (way : List St
 
   pub lowest_locked : IsLockedBy a.known s.number
   lowest_locked = locked_at a.known way span b.taken.locked span.end s (omega arith) (let e = b.last in omega (arith, e)) at
+
+  -- the key's search takes the same entry in it as it did before
+  pub lowest_leads : LeadsLocked a.known s.number key s.at
+  lowest_leads words h = let (e, is, node) = w.nodes span.end s at in (way_node_locked table.layout a.known m key s e words b.taken.possible w.since node h).at
 
   low_names : (words : List ℕ) → HasLocked a.known s.number words → seek key (node_words_of words).subtrie ≡ LeafEntry number
   low_names words h =

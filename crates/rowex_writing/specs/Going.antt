@@ -2,6 +2,8 @@
 use Rattle.std.specs.Prelude.{◌≡◌, ℕ, List, All}
 use Rattle.compound_node.specs.Nodes.{NodeView, head_of, piece}
 use Rattle.record_words.specs.Node.{HasNodeWords, node_words}
+use Rattle.tries.specs.Keys.{Key}
+use Rattle.tries.specs.Place.{spot}
 use Rattle.versions.specs.Trades.{IsOneOf}
 use Rattle.rowex_core.specs.Reading.{node_words_of}
 use Rattle.rowex_core.specs.declared.event.Act.{Act}
@@ -33,6 +35,10 @@ pub record ReadsOn {G : Type 0} (table : TableView) (becomes : G → Event → G
 -- the pass has locked the node, which has these words
 abbrev pub HasLocked : Known → ℕ → List ℕ → Type 0
 HasLocked k n words = IsOneOf (record { node = n; words = words }) k.locks
+
+-- in such a node the key's search takes the entry at this place
+abbrev pub LeadsLocked : Known → ℕ → Key → ℕ → Type 0
+LeadsLocked k n key at = (words : List ℕ) → HasLocked k n words → spot key (node_words_of words).subtrie ≡ at
 
 -- it has locked the node
 abbrev pub IsLockedBy : Known → ℕ → Type 0

@@ -7,12 +7,13 @@ ghost use Rattle.record_words.specs.Reading.{IsSpelling};
 ghost use Rattle.rowex_table.specs.Made.{Made};
 ghost use Rattle.rowex_rights.specs.Rises.{made_of_node, IsSide};
 ghost use Rattle.rowex_writing.specs.Building.{IsBuilding, IsGrowingBy, IsHalfMade, IsLevelRisen, IsLowRisen, IsMadeFrom, IsNextTo, IsRaising, IsRisenAt, MakesGrown, Rises, GetsFork, GetsLeaf, FitsAbove, HasNotMade, HasRisenTo, gone_unless_whole, gone_with_way};
-ghost use Rattle.rowex_writing.specs.Going.{WorksOn, HasLocked, IsLockedBy};
+ghost use Rattle.rowex_writing.specs.Going.{WorksOn, HasLocked, IsLockedBy, LeadsLocked};
 ghost use Rattle.rowex_writing.specs.Locks.{locks_of};
 ghost use Rattle.rowex_writing.specs.Remaking.{AwaitsLeaf, subtrie_with_leaf};
 ghost use Rattle.compound_node.specs.Nodes.{IsBuiltFrom, NodeView, height_of, piece};
 ghost use Rattle.insert_cases.specs.Grown.{keeps_node, is_same as is_the_same};
 ghost use Rattle.pieces.specs.Piece.{Place as At};
+ghost use Rattle.tries.specs.Keys.{Key as KeyValue};
 ghost use Rattle.tries.specs.Place.{subtrie_without};
 ghost use Rattle.insert_cases.specs.Risen.{subtrie_of};
 ghost use Rattle.versions.specs.declared.Rec.TheVariants.{Node as a_node};
@@ -476,24 +477,26 @@ pub(crate) fn raise_grown<G: Gate>(
     Some((entry, stays))
 }
 
-/// The entry for what is left of a locked node without the leaf to which the key's search leads. The node's words become those of the
-/// record, so that no node is read and none is packed. Nothing where no node record was free, as in [`make_node`].
+/// The entry for what is left of a locked node without the leaf at a place, to which some key's search leads. The node's words become
+/// those of the record, so that no node is read and none is packed; and none is searched, for the way has the place. Nothing where no
+/// node record was free, as in [`make_node`].
 pub(crate) fn raise_without<G: Gate>(
     table: &HotTable,
     seat: &mut TableSeat,
     gate: &mut G,
     build: &mut Build,
-    key: &Key,
     number: u32,
+    at: u8,
 ) -> Option<Entry>
     requires building { IsBuilding table.now seat.old build.old.made.items [] }
     requires range { number < table.now.layout.nodes }
     requires locked { IsLockedBy seat.old.known number }
+    requires place { (key : KeyValue) × LeadsLocked seat.old.known number key at }
     requires room { length build.old.made.items < MOST_MADE }
     ensures goes { WorksOn table.now G.becomes (seat.old, gate.old) (seat.new, gate.new) }
-    ensures made { (words : List ℕ) → HasLocked seat.old.known number words → MatchOption result
+    ensures made { (key : KeyValue) (words : List ℕ) → LeadsLocked seat.old.known number key at → HasLocked seat.old.known number words → MatchOption result
         (HasNotMade table.now seat.new build.new.made.items)
-        (λ e. (news : List Made) × IsSide (subtrie_without key.now (node_words_of words).subtrie) e news × IsBuilding table.now seat.new build.new.made.items news) }
+        (λ e. (news : List Made) × IsSide (subtrie_without key (node_words_of words).subtrie) e news × IsBuilding table.now seat.new build.new.made.items news) }
     ensures low { (words : List ℕ) → HasLocked seat.old.known number words → IfSome result (λ e. height_of e ≤ (node_words_of words).fixed.height) }
     ensures more { length build.new.made.items ≤ length build.old.made.items + 1 }
     ensures walk { WalksOn table.now.layout seat.old.known build.old seat.new.known build.new result }
@@ -501,7 +504,7 @@ pub(crate) fn raise_without<G: Gate>(
 {
     let mut words = [0; NODE_FIELDS];
     load_words(table, seat, gate, number, &mut words);
-    if let Some(entry) = drop_entry(&mut words, key) {
+    if let Some(entry) = drop_entry(&mut words, at) {
         return Some(entry);
     }
     make_words(table, seat, gate, build, &words)

@@ -63,8 +63,8 @@ fn remake_without<G: Gate>(
     ensures few { seat.new.known.steps ≤ seat.old.known.steps + deed_steps table.now.layout (locks_of job.now.span) result }
 {
     build.left_nodes = table.layout().nodes;
-    let lowest = job.way[job.span.end].number;
-    let Some(entry) = raise_without(table, seat, gate, build, job.key, lowest) else {
+    let lowest = job.way[job.span.end];
+    let Some(entry) = raise_without(table, seat, gate, build, lowest.number, lowest.at) else {
         return Err(Full::Nodes);
     };
     Ok(Raised {

@@ -5,7 +5,7 @@ use Rattle.compound_node.specs.Nodes.{HeadView, IsBuiltFrom, NodeView, head_of, 
 use Rattle.compound_node.specs.declared.entries.Entry.TheVariants.{Leaf}
 use Rattle.pieces.specs.Changes.{without}
 use Rattle.record_words.specs.Node.{HasNodeWords, SpellEntries, node_words}
-use Rattle.record_words.proofs.Dropping.{at_inside, head_is, left_has_words, other_left, rows_counted, spells_left, taken, words_left}
+use Rattle.record_words.proofs.Dropping.{at_head, at_inside, head_is, left_has_words, other_left, rows_counted, spells_left, taken, words_left}
 use Rattle.record_words.proofs.Nodes.{head_part}
 use Rattle.record_words.proofs.Spelled.{entry_spelled}
 use Rattle.record_words.proofs.Written.{head_put}
@@ -13,68 +13,73 @@ use Rattle.record_words.proofs.node.drop_entry.Goals as goal
 use Rattle.record_words.proofs.node.drop_entry.Goals.{After-height}
 
 pub head_of_words-head-requires : goal.head_of_words-head-requires
-head_of_words-head-requires c = let (node, has, same) = c.requires in (head_of node, (node, has.lawful, refl), head_part node c.args.words.now same)
+head_of_words-head-requires c = let (node, has, same, here) = c.requires in (head_of node, (node, has.lawful, refl), head_part node c.args.words.now same)
+
+pub overflow_sub-at : goal.overflow_sub-at
+overflow_sub-at c = let (node, has, same, here) = c.requires in omega (arith, here, has.lawful.room, rows_counted c.args.words.now c.head_of_words-head.result c.head_of_words-head.ensures node has same, c.count.ensures.count, c.if-count-eq2.true)
+
+pub take_out-requires-clause-place : goal.take_out-requires-clause-place
+take_out-requires-clause-place c = omega (arith, at_head c.args.words.now c.head_of_words-head.result c.args.at c.head_of_words-head.ensures c.requires, c.count-2.ensures.count)
 
 pub read_some-requires : goal.read_some-requires
 read_some-requires c =
-    let (node, has, same) = c.requires in
-    let counted = rows_counted c.args.words.now c.head_of_words-head.result c.search-at.result c.head_of_words-head.ensures c.search-at.ensures.in_range node has same in
+    let (node, has, same, here) = c.requires in
+    let counted = rows_counted c.args.words.now c.head_of_words-head.result c.head_of_words-head.ensures node has same in
     let two : length node.entries ≡ 2 = omega (arith, counted, c.count.ensures.count, c.if-count-eq2.true) in
-    let at : 25 + (1 - c.search-at.result) ≡ 26 - c.search-at.result = omega (arith, c.search-at.ensures.in_range, counted, two) in
-    let spelled = entry_spelled node c.args.words.now (1 - c.search-at.result) has same (omega (arith, two)) in
-    (get_or node.entries (1 - c.search-at.result) (Leaf 0), spelled.0, spelled.1 ∙ ap (λ k. get_or c.args.words.now k 0) at)
+    let at : 25 + (1 - c.args.at) ≡ 26 - c.args.at = omega (arith, here, counted, two) in
+    let spelled = entry_spelled node c.args.words.now (1 - c.args.at) has same (omega (arith, two)) in
+    (get_or node.entries (1 - c.args.at) (Leaf 0), spelled.0, spelled.1 ∙ ap (λ k. get_or c.args.words.now k 0) at)
 
 pub returns-then-count-eq2 : goal.returns-then-count-eq2
 returns-then-count-eq2 c = λ node has same.
-    let read_head = head_is c.args.words.now c.head_of_words-head.result c.search-at.result c.head_of_words-head.ensures c.search-at.ensures.in_range node has same in
-    let counted = rows_counted c.args.words.now c.head_of_words-head.result c.search-at.result c.head_of_words-head.ensures c.search-at.ensures.in_range node has same in
+    let here = at_inside c.args.words.now c.head_of_words-head.result c.args.at c.head_of_words-head.ensures c.requires node has same in
+    let counted = rows_counted c.args.words.now c.head_of_words-head.result c.head_of_words-head.ensures node has same in
     let two : length node.entries ≡ 2 = omega (arith, counted, c.count.ensures.count, c.if-count-eq2.true) in
-    let at : 25 + (1 - c.search-at.result) ≡ 26 - c.search-at.result = omega (arith, c.search-at.ensures.in_range, counted, two) in
-    let spelled = entry_spelled node c.args.words.now (1 - c.search-at.result) has same (omega (arith, two)) in
-    let read : c.read_some.result ≡ get_or node.entries (1 - c.search-at.result) (Leaf 0) =
-    c.read_some.ensures.only (get_or node.entries (1 - c.search-at.result) (Leaf 0)) spelled.0 (spelled.1 ∙ ap (λ k. get_or c.args.words.now k 0) at) in
-    let other = other_left node has c.search-at.result c.read_some.result (omega (arith, c.search-at.ensures.in_range, counted, two)) two read in
-    (ap (λ j. without j (piece node)) (sym (c.search-at.ensures.leads node has.lawful read_head)) ∙ other.0, other.1)
+    let at : 25 + (1 - c.args.at) ≡ 26 - c.args.at = omega (arith, here, two) in
+    let spelled = entry_spelled node c.args.words.now (1 - c.args.at) has same (omega (arith, two)) in
+    let read : c.read_some.result ≡ get_or node.entries (1 - c.args.at) (Leaf 0) =
+    c.read_some.ensures.only (get_or node.entries (1 - c.args.at) (Leaf 0)) spelled.0 (spelled.1 ∙ ap (λ k. get_or c.args.words.now k 0) at) in
+    other_left node has c.args.at c.read_some.result (omega (arith, here, two)) two read
 
 -- the words of the entries that are left
 still_spelled : (c : After-height) (node : NodeView) → HasNodeWords node → node_words node ≡ c.args.words.now →
-    SpellEntries c.height.result (take (25 + c.count-2.result - 1 - 25) (drop 25 c.take_out.new.places)) (remove node.entries c.search-at.result)
+    SpellEntries c.height.result (take (25 + c.count-2.result - 1 - 25) (drop 25 c.take_out.new.places)) (remove node.entries c.args.at)
 still_spelled c node has same =
-    let read_head = head_is c.args.words.now c.head_of_words-head.result c.search-at.result c.head_of_words-head.ensures c.search-at.ensures.in_range node has same in
-    let counted = rows_counted c.args.words.now c.head_of_words-head.result c.search-at.result c.head_of_words-head.ensures c.search-at.ensures.in_range node has same in
-    let here = at_inside c.args.words.now c.head_of_words-head.result c.search-at.result c.head_of_words-head.ensures c.search-at.ensures.in_range node has same in
+    let read_head = head_is c.args.words.now c.head_of_words-head.result c.head_of_words-head.ensures node has same in
+    let counted = rows_counted c.args.words.now c.head_of_words-head.result c.head_of_words-head.ensures node has same in
+    let here = at_inside c.args.words.now c.head_of_words-head.result c.args.at c.head_of_words-head.ensures c.requires node has same in
     let many : c.count-2.result ≡ length node.entries = c.count-2.ensures.count ∙ counted in
     let end : 25 + c.count-2.result - 1 + 1 ≡ 25 + c.count-2.result = omega (arith, here, many) in
     let long : 25 + c.count-2.result - 1 - 25 ≡ c.count-2.result - 1 = omega arith in
-    subst (λ h. SpellEntries h (take (25 + c.count-2.result - 1 - 25) (drop 25 c.take_out.new.places)) (remove node.entries c.search-at.result)) (ap (λ (h : HeadView). h.height) read_head ∙ sym c.height.ensures)
-    (spells_left node has c.search-at.result here c.args.words.now c.take_out.new.places (take (25 + c.count-2.result - 1 - 25) (drop 25 c.take_out.new.places)) c.count-2.result same many
-    (c.take_out.ensures ∙ ap (λ k. taken c.args.words.now k (25 + c.search-at.result)) end) (ap (λ k. take k (drop 25 c.take_out.new.places)) long))
+    subst (λ h. SpellEntries h (take (25 + c.count-2.result - 1 - 25) (drop 25 c.take_out.new.places)) (remove node.entries c.args.at)) (ap (λ (h : HeadView). h.height) read_head ∙ sym c.height.ensures)
+    (spells_left node has c.args.at here c.args.words.now c.take_out.new.places (take (25 + c.count-2.result - 1 - 25) (drop 25 c.take_out.new.places)) c.count-2.result same many
+    (c.take_out.ensures ∙ ap (λ k. taken c.args.words.now k (25 + c.args.at)) end) (ap (λ k. take k (drop 25 c.take_out.new.places)) long))
 
 pub height_over-height-requires : goal.height_over-height-requires
-height_over-height-requires c = let (node, has, same) = c.requires in (remove node.entries c.search-at.result, still_spelled c node has same)
+height_over-height-requires c = let (node, has, same, here) = c.requires in (remove node.entries c.args.at, still_spelled c node has same)
 
 pub take_out-requires-2-clause-height : goal.take_out-requires-2-clause-height
 take_out-requires-2-clause-height c =
-    let (node, has, same) = c.requires in
+    let (node, has, same, here) = c.requires in
     let d = (goal.at.take_out-requires-2-clause-height c).After-height in
-    omega (arith, c.height_over-height.ensures (remove node.entries c.search-at.result) (still_spelled d node has same))
+    omega (arith, c.height_over-height.ensures (remove node.entries c.args.at) (still_spelled d node has same))
 
 pub returns : goal.returns
 returns c = λ node has same.
     let d = (goal.at.returns c).After-height in
-    let read_head = head_is c.args.words.now c.head_of_words-head.result c.search-at.result c.head_of_words-head.ensures c.search-at.ensures.in_range node has same in
-    let counted = rows_counted c.args.words.now c.head_of_words-head.result c.search-at.result c.head_of_words-head.ensures c.search-at.ensures.in_range node has same in
-    let here = at_inside c.args.words.now c.head_of_words-head.result c.search-at.result c.head_of_words-head.ensures c.search-at.ensures.in_range node has same in
+    let read_head = head_is c.args.words.now c.head_of_words-head.result c.head_of_words-head.ensures node has same in
+    let counted = rows_counted c.args.words.now c.head_of_words-head.result c.head_of_words-head.ensures node has same in
+    let here = at_inside c.args.words.now c.head_of_words-head.result c.args.at c.head_of_words-head.ensures c.requires node has same in
     let many : c.count-2.result ≡ length node.entries = c.count-2.ensures.count ∙ counted in
     let end : 25 + c.count-2.result - 1 + 1 ≡ 25 + c.count-2.result = omega (arith, here, many) in
-    let after : NodeView = node_of c.take_out-2.new.self (remove node.entries c.search-at.result) in
-    let built : IsBuiltFrom after (without c.search-at.result (piece node)) =
-    c.take_out-2.ensures node has.lawful read_head (c.height_over-height.ensures (remove node.entries c.search-at.result) (still_spelled d node has same)) in
+    let after : NodeView = node_of c.take_out-2.new.self (remove node.entries c.args.at) in
+    let built : IsBuiltFrom after (without c.args.at (piece node)) =
+    c.take_out-2.ensures node has.lawful read_head (c.height_over-height.ensures (remove node.entries c.args.at) (still_spelled d node has same)) in
     record {
       node = after;
-      has = left_has_words node after c.search-at.result here refl has.entries built.lawful;
-      spells = words_left node after c.search-at.result here refl has.entries.room c.args.words.now c.take_out.new.places c.put_head.new.words c.count-2.result c.search-at.result same many refl
-          (c.take_out.ensures ∙ ap (λ k. taken c.args.words.now k (25 + c.search-at.result)) end)
+      has = left_has_words node after c.args.at here refl has.entries built.lawful;
+      spells = words_left node after c.args.at here refl has.entries.room c.args.words.now c.take_out.new.places c.put_head.new.words c.count-2.result c.args.at same many refl
+          (c.take_out.ensures ∙ ap (λ k. taken c.args.words.now k (25 + c.args.at)) end)
           (c.put_head.ensures ∙ ap (λ front. front ++ drop 25 c.take_out.new.places) (head_put (head_of after) _ _ _ _ c.count-3.ensures.count c.height-2.ensures c.columns.ensures c.places.ensures));
-      built = subst (λ j. IsBuiltFrom after (without j (piece node))) (c.search-at.ensures.leads node has.lawful read_head) built;
+      built = built;
     }

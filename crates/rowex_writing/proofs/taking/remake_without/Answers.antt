@@ -7,7 +7,7 @@ use Rattle.versions.specs.declared.Rec.TheVariants.{Node as a_node, Leaf as a_le
 use Rattle.rowex_walks.specs.Writer.{removed_change}
 use Rattle.rowex_writing.specs.Changes.{MayPublishOnceReady}
 use Rattle.rowex_writing.specs.Counts.{level_steps}
-use Rattle.rowex_writing.proofs.Removing.{IsRaised, last_one, left_raised, leaf_gone_record, low_step, lowest_locked, may_remake, no_step}
+use Rattle.rowex_writing.proofs.Removing.{IsRaised, last_one, left_raised, leaf_gone_record, low_step, lowest_leads, lowest_locked, may_remake, no_step}
 use Rattle.rowex_writing.proofs.Walked.{walk_begins}
 use Rattle.rowex_writing.proofs.taking.remake_without.Goals as goal
 use Rattle.tries.specs.Content.{item}
@@ -19,6 +19,13 @@ raise_without-requires-clause-locked g c =
     let at = low_step c.args.table.now c.args.seat.now m job.key.now job.way.now c.args.number value job.span b in
     lowest_locked c.args.table.now c.args.seat.now m job.key.now job.way.now c.args.number value job.span b _ at
 
+pub raise_without-requires-clause-place : goal.raise_without-requires-clause-place
+raise_without-requires-clause-place g c =
+    let job = c.args.job.now in
+    let (m, value, b) = c.requires.below in
+    let at = low_step c.args.table.now c.args.seat.now m job.key.now job.way.now c.args.number value job.span b in
+    (job.key.now, lowest_leads c.args.table.now c.args.seat.now m job.key.now job.way.now c.args.number value job.span b _ at)
+
 pub returns-in_default-clause-full : goal.returns-in_default-clause-full
 returns-in_default-clause-full g c =
     let job = c.args.job.now in
@@ -27,7 +34,7 @@ returns-in_default-clause-full g c =
     let (words, h) = lowest_locked c.args.table.now c.args.seat.now m job.key.now job.way.now c.args.number value job.span b _ at in (
       refl,
       record {
-        not_made = c.in_default.ensures.made words h;
+        not_made = c.in_default.ensures.made job.key.now words (lowest_leads c.args.table.now c.args.seat.now m job.key.now job.way.now c.args.number value job.span b _ at) h;
         few = omega (arith, ap length c.requires.made, c.raise_without.ensures.more);
         full_of = c.in_default.ensures.walk c.args.seat.now.known.steps
             (walk_begins a_node c.args.table.now.layout.nodes c.args.seat.now.known c.args.build.now.made.items c.args.build.now.nodes.next c.layout.result.nodes c.args.table.now.layout.nodes_in_range.0 (ap (λ (z : Layout). z.nodes) c.layout.ensures));
@@ -46,7 +53,7 @@ returns-clause-raised g c = λ m value b.
     let table = c.args.table.now in
     let at = low_step c.args.table.now c.args.seat.now m job.key.now job.way.now c.args.number value job.span b in
     let (words, h) = lowest_locked table c.args.seat.now m job.key.now job.way.now c.args.number value job.span b _ at in
-    let (news, side, building) = c.in-Some.ensures.made words h in
+    let (news, side, building) = c.in-Some.ensures.made job.key.now words (lowest_leads table c.args.seat.now m job.key.now job.way.now c.args.number value job.span b _ at) h in
     let low : IsRaised c.in-Some.entry = left_raised table.layout c.args.seat.now.known _ words job.key.now c.in-Some.entry news b.taken.possible h side in
     let word : HasEntryWord (Some c.in-Some.entry) = search (rules, low) in
     let gone = ap (λ (steps : List Step). map (λ (s : Step). a_node s.number) steps ++ a_leaf c.args.number ∷ []) (last_one table c.args.seat.now m job.key.now job.way.now c.args.number value job.span b _ at) in
