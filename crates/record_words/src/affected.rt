@@ -2,13 +2,12 @@
 
 ghost use Rattle.std.specs.Prelude.{◌≡◌, ◌+◌, ◌<◌, count_by, length, nat_lt};
 ghost use Rattle.compound_node.specs.Nodes.{piece};
-ghost use Rattle.partial_keys.specs.Rows.{with_unused};
 ghost use Rattle.pieces.specs.Growth.{affected_count, affected_first};
 ghost use Rattle.record_words.specs.Node.{HasHeadWords, InNodesOf, head_words};
 ghost use Rattle.record_words.specs.Packed.{row_at};
 ghost use Rattle.record_words.specs.Reading.{IsSpelling};
 
-use crate::search::{halves, quarters};
+use crate::search::{quarters, rows_in};
 use crate::{FIRST_ROWS, HEAD_WORDS};
 use std::simd::prelude::*;
 
@@ -28,7 +27,7 @@ pub fn affected_in(words: &[u64; HEAD_WORDS], found: u8, position: u16) -> (u8, 
     let places = quarters(u64x8::from_slice(&words[1..]));
     let rest = u32::MAX >> positions_below(places, position);
     let row = row_in(words, found);
-    let rows = rows_in(words);
+    let rows = rows_in(&words[FIRST_ROWS..]);
     let first = rows_below(rows, row & !rest);
     let end = rows_upto(rows, row | rest).min((words[0] % 256) as u32);
     (first as u8, (end - 1) as u8)
@@ -41,22 +40,6 @@ fn row_in(words: &[u64; HEAD_WORDS], at: u8) -> u32
     ensures { InNodesOf words.now (λ node. result ≡ row_at node.rows at) }
 {
     (words[FIRST_ROWS + at as usize / 2] >> (32 * (at % 2)) & 0xffff_ffff) as u32
-}
-
-/// The sparse partial keys, and 4,294,967,295 at the unused places, in each node whose head has these words.
-#[inline(always)]
-fn rows_in(words: &[u64; HEAD_WORDS]) -> u32x32
-    ensures { InNodesOf words.now (λ node. result ≡ with_unused node.rows) }
-{
-    let low = halves(u64x8::from_slice(&words[FIRST_ROWS..]));
-    let high = halves(u64x8::from_slice(&words[FIRST_ROWS + 8..]));
-    low.shuffle::<32>(
-        high,
-        [
-            0, 1, 2, 3, 4, 5, 6, 7, 8, 9, 10, 11, 12, 13, 14, 15, 16, 17, 18, 19, 20, 21, 22, 23,
-            24, 25, 26, 27, 28, 29, 30, 31,
-        ],
-    )
 }
 
 /// How many positions are below this one.

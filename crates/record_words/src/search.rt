@@ -3,7 +3,7 @@
 ghost use Rattle.std.specs.Prelude.{◌≡◌, ◌*◌, ◌/◌, ◌%◌, ◌^◌, ◌<◌, Bool, ℕ, length, slice_index};
 ghost use Rattle.compound_node.specs.Nodes.{NodeView, IsLawfulNode, head_of, piece};
 ghost use Rattle.key_bits.specs.Bits.{bit_of};
-ghost use Rattle.partial_keys.specs.Rows.{dense_of};
+ghost use Rattle.partial_keys.specs.Rows.{dense_of, with_unused};
 ghost use Rattle.pieces.specs.Piece.{leads_to};
 ghost use Rattle.record_words.specs.HeadParts.{back_words, front_words};
 ghost use Rattle.record_words.specs.Node.{HasHeadWords};
@@ -33,16 +33,24 @@ pub fn search_in(words: &[u64; ROW_WORDS], dense: u32) -> u8
     ensures { (node : NodeView) → IsLawfulNode node → back_words (head_of node) ≡ words.now →
         (bit : ℕ → Bool) → dense ≡ dense_of node.columns bit → result ≡ leads_to bit (piece node) }
 {
+    search_rows(rows_in(words), dense)
+}
+
+/// The sparse partial keys as lanes, and 4,294,967,295 at the unused places, in each node whose head ends with these words.
+#[inline(always)]
+pub(crate) fn rows_in(words: &[u64]) -> u32x32
+    requires { length words.now ≡ ROW_WORDS }
+    ensures { (node : NodeView) → IsLawfulNode node → back_words (head_of node) ≡ words.now → result ≡ with_unused node.rows }
+{
     let low = halves(u64x8::from_slice(words));
     let high = halves(u64x8::from_slice(&words[8..]));
-    let rows = low.shuffle::<32>(
+    low.shuffle::<32>(
         high,
         [
             0, 1, 2, 3, 4, 5, 6, 7, 8, 9, 10, 11, 12, 13, 14, 15, 16, 17, 18, 19, 20, 21, 22, 23,
             24, 25, 26, 27, 28, 29, 30, 31,
         ],
-    );
-    search_rows(rows, dense)
+    )
 }
 
 /// The quarters of these words, that with the lowest bits of each first.
