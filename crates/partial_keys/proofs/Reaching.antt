@@ -42,7 +42,7 @@ front_below-le bound [] = omega arith
 front_below-le bound (x ∷ xs) = grind (arith, nat_tests, front_below-le bound xs)
 
 -- what reaches each bound, behind the columns, changes nothing
-front_below-filled : (bound top n : ℕ) (xs : List ℕ) → bound ≤ top → front_below bound (xs ++ replicate n top) ≡ front_below bound xs
+pub front_below-filled : (bound top n : ℕ) (xs : List ℕ) → bound ≤ top → front_below bound (xs ++ replicate n top) ≡ front_below bound xs
 front_below-filled bound top zero [] small = refl
 front_below-filled bound top (suc n) [] small = rw (le-ltb top bound small) refl
 front_below-filled bound top n (x ∷ xs) small = ap (λ m. cond (nat_lt x bound) (suc m) 0) (front_below-filled bound top n xs small)

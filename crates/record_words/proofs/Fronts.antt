@@ -1,5 +1,5 @@
 -- The entries that a position affects, by how many positions and rows are below some number.
-use Rattle.std.proofs.Common.{ℕ, zero, suc, ◌≡◌, ◌≢◌, ◌+◌, ◌-◌, ◌*◌, ◌/◌, ◌^◌, ◌<◌, ◌≤◌, ◌++◌, inl, inr, List, [], ◌∷◌, arith, cond, count_by, get_or, leb, length, map, min, nat_lt, refl, replicate, sym, ap, ap₂, Bool, subst, ◌∙◌, ⊎_elim}
+use Rattle.std.proofs.Common.{ℕ, suc, ◌≡◌, ◌≢◌, ◌+◌, ◌-◌, ◌*◌, ◌/◌, ◌^◌, ◌<◌, ◌≤◌, ◌++◌, inl, inr, List, [], ◌∷◌, arith, cond, count_by, get_or, leb, length, map, min, nat_lt, refl, replicate, sym, ap, ap₂, Bool, subst, ◌∙◌, ⊎_elim}
 use Rattle.std.proofs.Math.Nat.{div-mul-le_self}
 use Rattle.std.proofs.lemmas.Bool.{cases_lt, eq-eqb, le-leb, le-ltb, leb-true, lt-ltb, ltb-true, ne_eqb}
 use Rattle.std.proofs.lemmas.List.Sums.{sum_by-cons}
@@ -8,14 +8,14 @@ use Rattle.std.proofs.lemmas.Nat.{mod_below, pow_pos, shr_high, shr_split}
 use Rattle.compound_node.specs.Nodes.{NodeView, IsLawfulNode, piece}
 use Rattle.compound_node.proofs.Ladders.{rises-ladder, shown-sparse_keys}
 use Rattle.compound_node.proofs.Lawful.{affected_range_is, same_count}
-use Rattle.partial_keys.proofs.Windows.{rise_two}
+use Rattle.partial_keys.proofs.Reaching.{front_below-filled}
 use Rattle.partial_keys.specs.Rows.{with_unused}
 use Rattle.partial_keys.specs.Runs.{IsRunEnd, IsRunStart}
 use Rattle.pieces.proofs.Positions.{front_below-place, IsPlaceOf}
 use Rattle.pieces.proofs.Tests.{same_bools}
 use Rattle.pieces.specs.Growth.{affected_count, affected_first}
 use Rattle.pieces.specs.Positions.{front_below}
-use Rattle.record_words.proofs.Lawful.{column-lt, get_or-padded, length-with_unused, row-lt}
+use Rattle.record_words.proofs.Lawful.{get_or-padded, length-with_unused, row-lt}
 
 -- ---- numbers that rise
 -- up to the one that stands behind their end
@@ -44,14 +44,6 @@ count_front b d [] rise = refl
 count_front b d (x ∷ xs) rise = sum_by-cons (λ y. cond (nat_lt y b) 1 0) x xs ∙ elim (cases_lt x b) [
   | inl low ↦ rw (lt-ltb x b low) (let e = count_front b d xs (λ i k le. rise (suc i) (suc k) (omega (arith, le))) in omega (arith, e))
   | inr high ↦ let e = none_below b d xs (λ i l. let up = rise 0 (suc i) (omega arith) in omega (arith, up, high)) in rw (le-ltb x b high) (omega (arith, e))
-]
-
-front_padded : (b d n : ℕ) (xs : List ℕ) → b ≤ d → front_below b (xs ++ replicate n d) ≡ front_below b xs
-front_padded b d zero [] h = refl
-front_padded b d (suc n) [] h = rw (le-ltb d b h) refl
-front_padded b d n (x ∷ xs) h = elim (cases_lt x b) [
-  | inl low ↦ rw (lt-ltb x b low) (ap suc (front_padded b d n xs h))
-  | inr high ↦ rw (le-ltb x b high) refl
 ]
 
 -- not above a number is below the next
@@ -143,17 +135,12 @@ module _ (rows : List ℕ) (rise : (i k : ℕ) → i ≤ k → k < length rows �
 
 -- ---- of a node
 module _ (node : NodeView) (lawful : IsLawfulNode node) where
-  columns_rise : Rise 65535 node.columns
-  columns_rise = rise_inside 65535 node.columns (λ i k le inside. rise_two 0 node.columns i k lawful.positions.rise le inside) (λ i. let l = column-lt node lawful i in omega (arith, l))
-
   rows_rise : (i k : ℕ) → i ≤ k → k < length node.rows → get_or node.rows i 0 ≤ get_or node.rows k 0
   rows_rise = rises-ladder node.rows (shown-sparse_keys node.columns node.rows node.entries (piece node) lawful.shows).ladder
 
   -- how many columns are below a position
-  pub columns_below : (position : ℕ) (lanes : List ℕ) → position < 2 ^ 16 → lanes ≡ node.columns ++ replicate (32 - length node.columns) 65535 → count_by (λ x. nat_lt x position) lanes ≡ front_below position node.columns
-  columns_below position lanes small is =
-      ap (count_by (λ x. nat_lt x position)) is
-      ∙ (count_front position 65535 _ (rise_padded 65535 (32 - length node.columns) node.columns columns_rise) ∙ front_padded position 65535 (32 - length node.columns) node.columns (omega (arith, small)))
+  pub columns_below : (position : ℕ) (lanes : List ℕ) → position < 2 ^ 16 → lanes ≡ node.columns ++ replicate (32 - length node.columns) 65535 → front_below position lanes ≡ front_below position node.columns
+  columns_below position lanes small is = ap (front_below position) is ∙ front_below-filled position 65535 (32 - length node.columns) node.columns (omega (arith, small))
 
   -- how many rows are below a number
   pub rows_in_front : (b : ℕ) (lanes : List ℕ) → lanes ≡ with_unused node.rows → count_by (λ x. nat_lt x b) lanes ≡ front_below b (with_unused node.rows)

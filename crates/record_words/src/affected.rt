@@ -9,6 +9,7 @@ ghost use Rattle.record_words.specs.Reading.{IsSpelling};
 
 use crate::search::{quarters, rows_in};
 use crate::{FIRST_ROWS, HEAD_WORDS};
+use partial_keys::count_below;
 use std::simd::prelude::*;
 
 /// The first and the last of the entries that agree with entry `found` in all columns whose position is below this one, in each node
@@ -25,7 +26,7 @@ pub fn affected_in(words: &[u64; HEAD_WORDS], found: u8, position: u16) -> (u8, 
     ensures upto { InNodesOf words.now (λ node. affected_count position found (piece node) + result.0 ≡ result.1 + 1) }
 {
     let places = quarters(u64x8::from_slice(&words[1..]));
-    let rest = u32::MAX >> positions_below(places, position);
+    let rest = u32::MAX >> count_below(places, position);
     let row = row_in(words, found);
     let rows = rows_in(&words[FIRST_ROWS..]);
     let first = rows_below(rows, row & !rest);
@@ -40,17 +41,6 @@ fn row_in(words: &[u64; HEAD_WORDS], at: u8) -> u32
     ensures { InNodesOf words.now (λ node. result ≡ row_at node.rows at) }
 {
     (words[FIRST_ROWS + at as usize / 2] >> (32 * (at % 2)) & 0xffff_ffff) as u32
-}
-
-/// How many positions are below this one.
-#[inline(always)]
-fn positions_below(places: u16x32, bound: u16) -> u32
-    ensures { result ≡ count_by (λ x. nat_lt x bound) places }
-{
-    places
-        .simd_lt(u16x32::splat(bound))
-        .to_bitmask()
-        .count_ones()
 }
 
 /// How many sparse partial keys are below this number.

@@ -32,7 +32,7 @@ module _ (words : List ℕ) (given : IsSpelling HasHeadWords head_words words) w
   same_its = ap head_words given.1.2 ∙ given.2
 
 -- how many of its columns are below the position
-columns_are : (words places : List ℕ) (position n : ℕ) → position < 2 ^ 16 → n ≡ count_by (λ x. nat_lt x position) places → length places ≡ 32 →
+columns_are : (words places : List ℕ) (position n : ℕ) → position < 2 ^ 16 → n ≡ front_below position places → length places ≡ 32 →
     ((i : ℕ) → i < 32 → get_or places i 0 ≡ get_or (chunk 0 8 (take (25 - 1) (drop 1 words))) (i / 4) 0 / 2 ^ (16 * (i % 4)) % 2 ^ 16) →
     (node : NodeView) → IsLawfulNode node → head_words (head_of node) ≡ words → n ≡ front_below position node.columns
 columns_are words places position n small counted long each node lawful same =
@@ -42,13 +42,13 @@ columns_are words places position n small counted long each node lawful same =
 -- the bounds of the run
 module _ (c : After-min-end) (node : NodeView) (lawful : IsLawfulNode node) (same : head_words (head_of node) ≡ c.args.words.now) where
   abbrev n : ℕ
-  n = c.positions_below-rest.result
+  n = c.count_below.result
 
   abbrev row : ℕ
   row = get_or node.rows c.args.found 0
 
   below : n ≡ front_below c.args.position node.columns
-  below = columns_are c.args.words.now c.quarters-places.result c.args.position n c.ranges.position.fits c.positions_below-rest.ensures c.quarters-places.ensures.whole c.quarters-places.ensures.each
+  below = columns_are c.args.words.now c.quarters-places.result c.args.position n c.ranges.position.fits c.count_below.ensures c.quarters-places.ensures.whole c.quarters-places.ensures.each
       node lawful same
 
   few : n ≤ 31
@@ -98,7 +98,7 @@ module _ (c : After-min-end) (node : NodeView) (lawful : IsLawfulNode node) (sam
 pub overflow_shr-rest : goal.overflow_shr-rest
 overflow_shr-rest c =
     let words = c.args.words.now in let given = c.requires.spelling in
-    let below = columns_are words c.quarters-places.result c.args.position c.positions_below-rest.result c.ranges.position.fits c.positions_below-rest.ensures
+    let below = columns_are words c.quarters-places.result c.args.position c.count_below.result c.ranges.position.fits c.count_below.ensures
     c.quarters-places.ensures.whole c.quarters-places.ensures.each (its words given) (lawful_its words given) (same_its words given) in
     omega (arith, below, few_below (its words given) (lawful_its words given) c.args.position)
 

@@ -1,7 +1,7 @@
 -- The first word tells the height and how many entries there are.
 use Rattle.record_words.proofs.Growing.{first_told}
 use Rattle.record_words.proofs.node.can_take_leaf.Goals as goal
-use Rattle.std.proofs.Common.{rules, arith}
+use Rattle.std.proofs.Common.{arith}
 use Rattle.std.proofs.lemmas.Bool.Decides.{nat_tests}
 
 pub returns-then-words-eq1 : goal.returns-then-words-eq1

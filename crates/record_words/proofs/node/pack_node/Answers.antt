@@ -1,6 +1,5 @@
 -- The words of the entries follow those of the head.
-use Rattle.std.proofs.Common.{◌∙◌, ◌+◌, ◌++◌, arith, ap, drop, sym, below_more, replicate, length}
-use Rattle.partial_keys.specs.Rows.{with_unused}
+use Rattle.std.proofs.Common.{◌∙◌, ◌+◌, ◌++◌, arith, ap, drop, sym, below_more, replicate}
 use Rattle.compound_node.proofs.Lawful.{same_count}
 use Rattle.compound_node.specs.Nodes.{head_of}
 use Rattle.record_words.proofs.Nodes.{length-node_words, node_words-entry}

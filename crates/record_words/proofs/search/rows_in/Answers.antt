@@ -2,7 +2,7 @@
 use Rattle.std.proofs.Common.{◌≡◌, ◌∙◌, ◌/◌, ◌%◌, ◌*◌, ◌^◌, ◌++◌, ◌+◌, ℕ, ap, arith, get_or, length, length-append, refl, sym}
 use Rattle.std.proofs.lemmas.List.{get_or-drop}
 use Rattle.std.proofs.lemmas.Simd.{get_or-chunk, pick_l_whole}
-use Rattle.compound_node.specs.Nodes.{NodeView, head_of}
+use Rattle.compound_node.specs.Nodes.{head_of}
 use Rattle.record_words.specs.Node.{head_words}
 use Rattle.record_words.proofs.Lanes.{rows_joined}
 use Rattle.record_words.proofs.Spelled.{rows_read}
