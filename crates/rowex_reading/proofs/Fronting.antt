@@ -1,7 +1,7 @@
 -- The bytes of the words that were loaded so far, with zeros behind them.
 use Rattle.std.proofs.Common.{◌≡◌, ◌≢◌, ℕ, ◌+◌, ◌-◌, ◌*◌, ◌<◌, ◌≤◌, ◌++◌, ◌∷◌, [], zero, suc, List, length, get_or, replicate, take, ⊎_elim, ap, sym, ◌∙◌, subst, arith, lit<, get_or-take, length-append, refl}
 use Rattle.std.proofs.lemmas.Bool.{cases_lt}
-use Rattle.std.proofs.lemmas.List.{get_or_append_left, get_or-append_right, length-replicate, length-take-le, take-append-le}
+use Rattle.std.proofs.lemmas.List.{get_or_append_left, get_or-append_right, length-replicate, length-take-le, take-append-le, take-take}
 use Rattle.key_bits.specs.declared.TheConstants.{MAX_BYTES}
 use Rattle.key_bits.specs.Key.{HoldsKey, IsKey}
 use Rattle.record_words.specs.Leaf.{key_word, words_of_key}
@@ -12,12 +12,6 @@ use Rattle.record_words.proofs.Unused.{zero_in}
 -- the places of the words before this one, of which the first key word is at 2
 abbrev pub front : ℕ → List ℕ → List ℕ
 front i places = take (8 * (i - 2)) places ++ replicate (MAX_BYTES - 8 * (i - 2)) 0
-
-take_less : (n m : ℕ) (xs : List ℕ) → n ≤ m → take n (take m xs) ≡ take n xs
-take_less zero m xs low = refl
-take_less (suc n) zero xs low = absurd (omega arith)
-take_less (suc n) (suc m) [] low = refl
-take_less (suc n) (suc m) (x ∷ xs) low = ap (λ z. x ∷ z) (take_less n m xs (omega arith))
 
 module _ (i : ℕ) (places : List ℕ) (long : length places ≡ MAX_BYTES) (few : i ≤ LEAF_FIELDS) where
   taken : length (take (8 * (i - 2)) places) ≡ 8 * (i - 2)
@@ -38,7 +32,7 @@ module _ (i : ℕ) (places : List ℕ) (long : length places ≡ MAX_BYTES) (few
 
   -- a key that has no more bytes than the words has them
   pub take-front : (n : ℕ) → n ≤ 8 * (i - 2) → take n (front i places) ≡ take n places
-  take-front n few = take-append-le n (take (8 * (i - 2)) places) (replicate (MAX_BYTES - 8 * (i - 2)) 0) (omega (arith, taken, few)) ∙ take_less n (8 * (i - 2)) places few
+  take-front n few = take-append-le n (take (8 * (i - 2)) places) (replicate (MAX_BYTES - 8 * (i - 2)) 0) (omega (arith, taken, few)) ∙ take-take n (8 * (i - 2)) places few
 
   front_word : (b : ℕ) → b < i - 2 → key_word (front i places) b ≡ key_word places b
   front_word b low = same_key_word (front i places) places b b (λ t small. at_front (8 * b + t) (omega (arith, low, small)))
