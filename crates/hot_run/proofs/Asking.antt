@@ -1,15 +1,19 @@
 -- What a run has answered, of one script or of several, and by what it may end.
 use Rattle.std.proofs.Common.{◌≡◌, ◌⊎◌, inl, inr, ℕ, List, [], ◌∷◌, length, map, Option, Vec, vec_len, Bool, true, false, refl, ap, subst, sym, ◌∙◌, arith}
-use Rattle.std.specs.Prelude.{◌==◌}
+use Rattle.std.specs.Prelude.{◌==◌, Ok, Err, IsOk}
 use Rattle.std.specs.Borrow.{Bor}
 use Rattle.std.specs.Global.{Global}
+use Rattle.std.proofs.lemmas.Bool.{eqb-true}
+use Rattle.std.proofs.lemmas.List.{nil_from_length}
 use Rattle.seat_calls.specs.Traces.{untold}
+use Rattle.hot_scripts.specs.declared.command.Command.{Command}
 use Rattle.hot_scripts.specs.declared.fault.RunFault.{RunFault}
 use Rattle.hot_scripts.specs.declared.fault.RunFault.TheVariants.{Read, Write, Memory, Script, FileScript, Large}
 use Rattle.hot_command_line.specs.Files.{AreStarts, IsFileFault}
 use Rattle.hot_command_line.specs.Options.{IsAsked}
 use Rattle.hot_command_line.specs.declared.ending.Ending.TheVariants.{Fault}
-use Rattle.hot_run.specs.Scripts.{LawfulScripts, MayEndScriptsBy}
+use Rattle.hot_run.specs.Runs.{IsReadFault}
+use Rattle.hot_run.specs.Scripts.{IsParsed, LawfulScripts, MayEndScriptsBy, commands_of_files}
 use Rattle.hot_run.specs.Asked.{AnswersAll, HasFaultAsAsked, MayEndAllBy, MayEndAsAsked}
 
 -- files were named
@@ -28,6 +32,10 @@ module _ (bytes : List ℕ → Option (List ℕ)) where
 units : {A B : Type 0} (f : A → B) (xs : List A) → map {A = A} {B = Unit {0}} (λ x. tt) xs ≡ map {A = B} {B = Unit {0}} (λ y. tt) (map f xs)
 units f [] = refl
 units f (x ∷ xs) = ap (λ (l : List (Unit {0})). tt ∷ l) (units f xs)
+
+-- a vector that is tested to be empty
+pub no_items : (v : Vec (Bor (List ℕ)) Global) (empty : Bool) → empty ≡ (vec_len v == 0) → empty ≡ true → v.items ≡ []
+no_items v empty is on = nil_from_length v.items (omega (arith, v.ok.0, eqb-true (vec_len v) 0 (sym is ∙ on)))
 
 -- a vector that is tested not to be empty
 pub not_empty : (v : Vec (Bor (List ℕ)) Global) (empty : Bool) → empty ≡ (vec_len v == 0) → empty ≡ false → v.items ≡ [] → ⊥
@@ -54,6 +62,26 @@ module _ (bytes : List ℕ → Option (List ℕ)) (names : List (Bor (List ℕ))
   pub run_ended : (old new : Option (List ℕ)) (fault : RunFault) → MayEndScriptsBy (map (λ f. f.items) files) old new fault
       → MayEndAllBy bytes (map (λ n. n.now) names) old new fault
   run_ended old new fault ended = named_ends bytes (map (λ n. n.now) names) (map (λ f. f.items) files) old new fault (some_named names some) starts ended
+
+-- what ends a run of several scripts before its first command
+module _ (files : List (List ℕ)) (old new : Option (List ℕ)) where
+  pub parse_ended : {A : Type 0} (view : A → List (List Command)) (fault : RunFault) → IsParsed view (Err fault) (commands_of_files 1 files)
+      → MayEndScriptsBy files old new fault
+  parse_ended view Read is = inl is
+  parse_ended view Memory is = tt
+  parse_ended view Write is = inl is
+  parse_ended view (Script number reason) is = inl is
+  parse_ended view (FileScript file number reason) is = inl is
+  parse_ended view Large is = inl is
+
+  pub read_ended : (scripts : List (List Command)) → commands_of_files 1 files ≡ Ok scripts → (fault : RunFault) → IsReadFault old new fault
+      → MayEndScriptsBy files old new fault
+  read_ended scripts parsed Read is = inr (subst IsOk (sym parsed) refl, is)
+  read_ended scripts parsed Memory is = tt
+  read_ended scripts parsed Write is = absurd is
+  read_ended scripts parsed (Script number reason) is = absurd is
+  read_ended scripts parsed (FileScript file number reason) is = absurd is
+  read_ended scripts parsed Large is = inr (subst IsOk (sym parsed) refl, is)
 
 -- A file could not be read, or memory was refused, or the run that was asked for has ended by a fault.
 module _ (bytes : List ℕ → Option (List ℕ)) (words : List (List ℕ)) (nodes leaves : ℕ) (names : List (List ℕ)) (old new : Option (List ℕ)) where

@@ -4,7 +4,7 @@ use Rattle.finite_map.specs.declared.Call.{Call}
 use Rattle.rowex_core.specs.declared.event.Event.{Event}
 use Rattle.rowex_table.specs.Seats.{TableView}
 use Rattle.seat_calls.specs.Answers.{HaveMet}
-use Rattle.hot_index.specs.Handles.{HandleView}
+use Rattle.hot_index.specs.Handles.{HandleView, handle_at}
 use Rattle.seat_calls.specs.Passes.{PassView, IsNewPass, Owns}
 use Rattle.seat_calls.specs.Traces.{HasTold, untold}
 use Rattle.hot_scripts.specs.declared.command.Command.{Command}
@@ -79,13 +79,6 @@ MeetInTurn index k (before ∷ befores) j (after ∷ afters) =
     (m : PassView) × HaveMet index.layout k before.handle.pass m after.handle.pass × (after.text ≡ before.text) × MeetInTurn index m befores j afters
 MeetInTurn index k _ j _ = ⊥
 
--- The threads of these handles and gates made these commands, and then the handle's pass met theirs, one after another.
-pub record HaveRunAndMet {G : Type 0} (becomes : G → Event → G → Type 0) (handles : List (HandleView × G)) (scripts : List (List Command))
-    (k j : HandleView) (met : List Done) : Type 0 where
-  pub ran : List Done
-  pub have_run : AllThree (IsDone becomes) handles scripts ran
-  pub meet : MeetInTurn k.index k.pass ran j.pass met
-
 -- The handle's pass made the last script's commands, and then met those of the files again. The text is what all were answered.
 pub record HasAnsweredLast (k : HandleView) (met : List Done) (commands : List Command) (text : List ℕ) : Type 0 where
   pub after : PassView
@@ -96,3 +89,14 @@ pub record HasAnsweredLast (k : HandleView) (met : List Done) (commands : List C
   pub ran : HasRunCommands k.index untold (k.pass, tt) commands (after, tt) answers
   pub meet : MeetInTurn k.index after met last again
   pub text_is : text ≡ sections 1 (map (λ d. d.text.items) again) ++ line (codes "last") ++ answers
+
+-- The threads of these handles and gates made the commands of these scripts; then the handle's pass met theirs, one after another, and
+-- the last script was answered.
+pub record HaveAnswered {G : Type 0} (becomes : G → Event → G → Type 0) (handles : List (HandleView × G)) (scripts : List (List Command))
+    (commands : List Command) (k : HandleView) (text : List ℕ) : Type 0 where
+  pub ran : List Done
+  pub met : List Done
+  pub after : PassView
+  pub have_run : AllThree (IsDone becomes) handles scripts ran
+  pub meet : MeetInTurn k.index k.pass ran after met
+  pub answered : HasAnsweredLast (handle_at k.index after) met commands text

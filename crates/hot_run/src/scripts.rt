@@ -86,7 +86,7 @@ pub fn run_scripts_with<T: Threads + Wait + Sync, G: Gate + Send + Drop, R: Read
     let scripts = parse_files(alloc, files)?;
     let bytes = read_script(alloc, reader)?;
     let last = Script::parse(bytes)?;
-    let texts = answer_all(rt, alloc, nodes, leaves, scripts, gates, &last)?;
+    let texts = answer_all(rt, alloc, nodes, leaves, &scripts, gates, &last)?;
     write_sections(writer, &texts)
 }
 

@@ -5,7 +5,7 @@ ghost use Rattle.std.specs.List.{AllZip, zip};
 ghost use Rattle.record_words.specs.Limits.{IsLeafCount, IsNodeCount};
 ghost use Rattle.hot_scripts.specs.declared.script.TheConstants.{MAX_FILES};
 ghost use Rattle.hot_scripts.specs.Parses.{script_commands};
-ghost use Rattle.hot_run.specs.Progress.{AllThree, AreAt, AreReady, HasAnsweredLast, HasKept, HaveRunAndMet, IsDone, IsOrderOf, MeetInTurn};
+ghost use Rattle.hot_run.specs.Progress.{AllThree, AreAt, AreReady, HasAnsweredLast, HasKept, HaveAnswered, IsDone, IsOrderOf, MeetInTurn};
 ghost use Rattle.hot_run.specs.Scripts.{AreAllAnswered};
 
 use crate::answer::sections;
@@ -48,43 +48,44 @@ pub fn answer_all<T: Threads + Wait + Sync, G: Gate + Send + Drop>(
     alloc: Global,
     nodes: u32,
     leaves: u32,
-    scripts: Vec<Script>,
+    scripts: &[Script],
     gates: Vec<G>,
     last: &Script,
 ) -> Result<Vec<Vec<u8>>, RunFault>
     requires nodes { IsNodeCount nodes }
     requires leaves { IsLeafCount leaves }
-    requires few { length scripts.items ≤ MAX_FILES }
-    requires gates { length gates.items ≡ length scripts.items }
-    ensures ok { IfOk result (λ texts. AreAllAnswered nodes leaves G.becomes gates.items (map script_commands scripts.items) (script_commands last.now)
+    requires few { length scripts.now ≤ MAX_FILES }
+    requires gates { length gates.items ≡ length scripts.now }
+    ensures ok { IfOk result (λ texts. AreAllAnswered nodes leaves G.becomes gates.items (map script_commands scripts.now) (script_commands last.now)
         (flat_map (λ t. t.items) texts.items)) }
     ensures fault { IfErr result (λ fault. fault ≡ RunFault.Memory) }
 {
     let (index, passes, pass) = new_index(alloc, scripts.len() as u32, nodes, leaves)?;
     let handles = handles_of(alloc, &index, passes)?;
     let handle = Handle::new(&index, pass);
-    let (handle, met) = run_and_meet(rt, alloc, handles, handle, scripts, gates)?;
-    let texts = answer_last(rt, alloc, handle, met, last)?;
+    let texts = answer_by(rt, alloc, handles, handle, scripts, gates, last)?;
     Ok(texts)
 }
 
-/// Runs the scripts of files, and then has this handle meet theirs.
-fn run_and_meet<'a, T: Threads + Wait + Sync, G: Gate + Send + Drop>(
+/// Answers the scripts of files by these handles, and then, when its pass has met theirs, the last one by this handle.
+fn answer_by<'a, T: Threads + Wait + Sync, G: Gate + Send + Drop>(
     rt: &T,
     alloc: Global,
     handles: Vec<Handle<&'a Index>>,
     handle: Handle<&'a Index>,
-    scripts: Vec<Script>,
+    scripts: &[Script],
     gates: Vec<G>,
-) -> Result<(Handle<&'a Index>, Vec<Done<'a>>), AllocError>
+    last: &Script,
+) -> Result<Vec<Vec<u8>>, AllocError>
     requires index { All (λ h. h.index ≡ handle.index) handles.items }
-    requires ready { AreReady handles.items scripts.items gates.items }
-    ensures index { IfOk result (λ met. AreAt handle.entry.index met.0 met.1.items) }
-    ensures met { IfOk result (λ met. HaveRunAndMet G.becomes (zip handles.entry.items gates.items) (map script_commands scripts.items)
-        handle.entry met.0 met.1.items) }
+    requires ready { AreReady handles.items scripts.now gates.items }
+    requires few { length scripts.now ≤ MAX_FILES }
+    ensures { IfOk result (λ texts. HaveAnswered G.becomes (zip handles.entry.items gates.items) (map script_commands scripts.now)
+        (script_commands last.now) handle.entry (flat_map (λ t. t.items) texts.items)) }
 {
     let ran = run_files(rt, alloc, handles, scripts, gates)?;
-    meet_all(alloc, handle, ran)
+    let (handle, met) = meet_all(alloc, handle, ran)?;
+    answer_last(rt, alloc, handle, met, last)
 }
 
 /// Answers the last script by its handle, whose pass has met those of the others and meets them again; gives the answers of all.
@@ -111,18 +112,18 @@ fn run_files<'a, T: Threads + Wait + Sync, G: Gate + Send + Drop>(
     rt: &T,
     alloc: Global,
     handles: Vec<Handle<&'a Index>>,
-    scripts: Vec<Script>,
+    scripts: &[Script],
     gates: Vec<G>,
 ) -> Result<Vec<Done<'a>>, AllocError>
-    requires { AreReady handles.items scripts.items gates.items }
-    ensures { IfOk result (λ done. AllThree (IsDone G.becomes) (zip handles.entry.items gates.items) (map script_commands scripts.items) done.items) }
+    requires { AreReady handles.items scripts.now gates.items }
+    ensures { IfOk result (λ done. AllThree (IsDone G.becomes) (zip handles.entry.items gates.items) (map script_commands scripts.now) done.items) }
 {
     scope(
         scope_env(),
         rt,
         |threads| -> Result<Vec<Done>, AllocError>
-            requires { AreReady handles.items scripts.items gates.items }
-            ensures { IfOk result (λ done. AllThree (IsDone G.becomes) (zip handles.entry.items gates.items) (map script_commands scripts.items) done.items) }
+            requires { AreReady handles.items scripts.now gates.items }
+            ensures { IfOk result (λ done. AllThree (IsDone G.becomes) (zip handles.entry.items gates.items) (map script_commands scripts.entry.now) done.items) }
         { run_within(threads, rt, alloc, handles, scripts, gates) },
     )
 }
@@ -133,11 +134,11 @@ fn run_within<'a: 's, 's, E, T: Threads + Wait + Sync + 's, G: Gate + Send + Dro
     rt: &'s T,
     alloc: Global,
     handles: Vec<Handle<&'a Index>>,
-    scripts: Vec<Script>,
+    scripts: &'s [Script],
     gates: Vec<G>,
 ) -> Result<Vec<Done<'a>>, AllocError>
-    requires { AreReady handles.items scripts.items gates.items }
-    ensures { IfOk result (λ done. AllThree (IsDone G.becomes) (zip handles.entry.items gates.items) (map script_commands scripts.items) done.items) }
+    requires { AreReady handles.items scripts.now gates.items }
+    ensures { IfOk result (λ done. AllThree (IsDone G.becomes) (zip handles.entry.items gates.items) (map script_commands scripts.entry.now) done.items) }
 {
     let running = start_all(threads, rt, alloc, handles, scripts, gates)?;
     join_all(rt, alloc, running)
@@ -149,14 +150,14 @@ fn start_all<'a: 's, 's, E, T: Threads + Wait + Sync + 's, G: Gate + Send + Drop
     rt: &'s T,
     alloc: Global,
     handles: Vec<Handle<&'a Index>>,
-    scripts: Vec<Script>,
+    scripts: &'s [Script],
     gates: Vec<G>,
 ) -> Result<Vec<PromisedHandle<Result<Done<'a>, AllocError>, Order<'a, G>>>, AllocError>
-    requires { AreReady handles.items scripts.items gates.items }
-    ensures { IfOk result (λ running. AllThree IsOrderOf (zip handles.entry.items gates.items) (map script_commands scripts.items)
+    requires { AreReady handles.items scripts.now gates.items }
+    ensures { IfOk result (λ running. AllThree IsOrderOf (zip handles.entry.items gates.items) (map script_commands scripts.entry.now)
         (map (λ t. t.promise) running.items)) }
 {
-    let mut scripts = scripts.into_iter();
+    let mut scripts = scripts.iter();
     let mut gates = gates.into_iter();
     let mut running = Vec::new(alloc);
     for handle in handles {
@@ -189,21 +190,21 @@ fn start<'a: 's, 's, E, T: Threads + Wait + Sync + 's, G: Gate + Send + Drop + '
     rt: &'s T,
     alloc: Global,
     handle: Handle<&'a Index>,
-    script: Script,
+    script: &'s Script,
     gate: G,
 ) -> Result<PromisedHandle<Result<Done<'a>, AllocError>, Order<'a, G>>, AllocError>
-    ensures { IfOk result (λ thread. IsOrderOf (handle.entry, gate) (script_commands script) thread.promise) }
+    ensures { IfOk result (λ thread. IsOrderOf (handle.entry, gate) (script_commands script.entry.now) thread.promise) }
 {
     let order = Order {
         handle: Snapshot::of(&handle),
-        script: Snapshot::of(&script),
+        script: Snapshot::of(script),
         gate: Snapshot::of(&gate),
     };
     let thread = threads.spawn_with(
         order,
         move || -> Result<Done, AllocError>
-            ensures { IfOk result (IsDone G.becomes (handle.entry, gate) (script_commands script)) }
-        { run_file(rt, alloc, handle, &script, gate) },
+            ensures { IfOk result (IsDone G.becomes (handle.entry, gate) (script_commands script.entry.now)) }
+        { run_file(rt, alloc, handle, script, gate) },
     )?;
     Ok(thread)
 }

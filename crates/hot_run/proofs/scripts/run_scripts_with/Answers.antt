@@ -1,9 +1,50 @@
--- There are as many scripts as files.
-use Rattle.std.proofs.Common.{sym, ◌∙◌, arith}
+-- Why `run_scripts_with` meets its contract.
+use Rattle.std.proofs.Common.{Vec, ap, arith, length, map}
+use Rattle.std.specs.Global.{Global}
+use Rattle.std.specs.List.{flat_map}
+use Rattle.std.proofs.lemmas.Result.{err_from_is_err_and, on_ok_weaker}
+use Rattle.hot_scripts.specs.declared.script.Script.{Script}
+use Rattle.hot_scripts.specs.Parses.{script_commands}
+use Rattle.hot_run.proofs.Asking.{parse_ended, read_ended}
 use Rattle.hot_run.proofs.scripts.run_scripts_with.Goals as goal
 
+pub returns-in_err-scripts-clause-fault : goal.returns-in_err-scripts-clause-fault
+returns-in_err-scripts-clause-fault g c =
+    let p = err_from_is_err_and c.from_residual.result c.from_residual.ensures.1 in
+    let left = g.R.Read.remaining c.args.reader.now in
+    rw (p.1, p.2) (parse_ended (map (λ f. f.items) c.args.files.items) left left (λ (v : Vec Script Global). map script_commands v.items) c.in_err-scripts.field-0.0 c.in_err-scripts.ensures.parsed)
+
+pub returns-in_err-bytes-clause-fault : goal.returns-in_err-bytes-clause-fault
+returns-in_err-bytes-clause-fault g c =
+    let p = err_from_is_err_and c.from_residual-in_err-bytes.result c.from_residual-in_err-bytes.ensures.1 in
+    rw (p.1, p.2) (read_ended (map (λ f. f.items) c.args.files.items) (g.R.Read.remaining c.args.reader.now) (g.R.Read.remaining c.read_script.new.reader)
+    (map script_commands c.in_ok-scripts.scripts.items) c.in_ok-scripts.ensures.parsed c.in_err-bytes.field-0.0 c.in_err-bytes.ensures.fault)
+
 pub answer_all-requires-clause-few : goal.answer_all-requires-clause-few
-answer_all-requires-clause-few g c κs within = omega (arith, c.requires.few, c.in_ok-scripts.ensures.count)
+answer_all-requires-clause-few g c κs within = omega (arith, c.requires.few, c.in_ok-scripts.ensures.count, ap length c.deref.ensures.value)
 
 pub answer_all-requires-clause-gates : goal.answer_all-requires-clause-gates
-answer_all-requires-clause-gates g c κs within = c.requires.gates ∙ sym c.in_ok-scripts.ensures.count
+answer_all-requires-clause-gates g c κs within = omega (arith, c.requires.gates, c.in_ok-scripts.ensures.count, ap length c.deref.ensures.value)
+
+pub returns-in_err-texts-clause-fault : goal.returns-in_err-texts-clause-fault
+returns-in_err-texts-clause-fault g c =
+    let p = err_from_is_err_and c.from_residual-in_err-texts.result c.from_residual-in_err-texts.ensures.1 in
+    rw (p.1, p.2, c.in_err-texts.ensures.fault) tt
+
+pub returns-clause-ok : goal.returns-clause-ok
+returns-clause-ok g c =
+    on_ok_weaker c.write_sections.result
+    (λ written. (
+      c.in_ok-bytes.bytes.items,
+      flat_map (λ t. t.items) c.in_ok-texts.texts.items,
+      c.in_ok-bytes.ensures.whole,
+      record {
+        scripts = map script_commands c.in_ok-scripts.scripts.items;
+        last = script_commands c.in_ok-last.last;
+        files_are = c.in_ok-scripts.ensures.parsed;
+        short = omega (arith, c.in_ok-bytes.ensures.short, c.in_ok-bytes.bytes.ok);
+        last_is = c.in_ok-last.ensures;
+        answers = rw c.deref.ensures.value at c.in_ok-texts.ensures.ok;
+      },
+      rw c.deref-2.ensures.value at written,
+    )) c.write_sections.ensures.ok

@@ -3,6 +3,7 @@ use Rattle.std.proofs.Common.{◌≡◌, [], ◌∷◌, ◌++◌, length, map, a
 use Rattle.std.specs.List.{zip}
 use Rattle.std.specs.Vec.Iter.{into_iter_items}
 use Rattle.std.proofs.lemmas.List.{map-append, nil_from_length}
+use Rattle.std.specs.Slice.Iter.{iter_rest}
 use Rattle.hot_scripts.specs.Parses.{script_commands}
 use Rattle.hot_run.specs.Progress.{AllThree, IsOrderOf}
 use Rattle.hot_run.proofs.together.start_all.Goals as goal
@@ -11,7 +12,7 @@ pub loop-handle-preserved : goal.loop-handle-preserved
 loop-handle-preserved g c =
     let left : into_iter_items c.loop-handle.handle-iterator ≡ c.in-Some.handle ∷ into_iter_items c.next.new.self = c.in-Some.ensures.steps.0 in
     let script = c.in-Some-Some.script in
-    let scripts : into_iter_items c.loop-handle.scripts ≡ script ∷ into_iter_items c.next-in-loop-handle.new.self = c.in-Some-Some.ensures.items in
+    let scripts : iter_rest c.loop-handle.scripts ≡ script.now ∷ iter_rest c.next-in-loop-handle.new.self = c.in-Some-Some.ensures.steps in
     let gates : into_iter_items c.loop-handle.gates ≡ c.in-Some-Some.gate ∷ into_iter_items c.next-in-loop-handle-2.new.self = c.in-Some-Some.ensures'.items in
     let thread = c.in_ok-start.field-0 in
     let pushed : c.push.new.self.items ≡ c.loop-handle.running.items ++ thread ∷ [] = c.in_ok-push.ensures.items in
@@ -21,7 +22,7 @@ loop-handle-preserved g c =
       gates = omega (arith, was.gates, ap length left, ap length gates);
       completes = λ rest others.
           let whole : AllThree IsOrderOf ((c.in-Some.handle, c.in-Some-Some.gate) ∷ zip (into_iter_items c.next.new.self) (into_iter_items c.next-in-loop-handle-2.new.self))
-          (script_commands script ∷ map script_commands (into_iter_items c.next-in-loop-handle.new.self)) (thread.promise ∷ rest) = (c.in_ok-start.ensures, others) in
+          (script_commands script.now ∷ map script_commands (iter_rest c.next-in-loop-handle.new.self)) (thread.promise ∷ rest) = (c.in_ok-start.ensures, others) in
           rw (pushed, map-append, append_assoc) (was.completes (thread.promise ∷ rest) (rw (left, scripts, gates) whole));
     }
 
@@ -29,5 +30,5 @@ pub returns : goal.returns
 returns g c =
     let was = c.loop-handle.invariant in
     let none : into_iter_items c.loop-handle.handle-iterator ≡ [] = nil_from_length _ (omega (arith, c.in-None.ensures.steps, c.loop-handle.handle-iterator.rest.ok)) in
-    let no_script : into_iter_items c.loop-handle.scripts ≡ [] = nil_from_length _ (omega (arith, was.scripts, ap length none)) in
+    let no_script : iter_rest c.loop-handle.scripts ≡ [] = nil_from_length _ (omega (arith, was.scripts, ap length none)) in
     rw append-nil at (was.completes [] (rw (none, no_script) tt))
