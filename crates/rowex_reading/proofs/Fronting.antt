@@ -1,5 +1,5 @@
 -- The bytes of the words that were loaded so far, with zeros behind them.
-use Rattle.std.proofs.Common.{◌≡◌, ◌≢◌, ℕ, ◌+◌, ◌-◌, ◌*◌, ◌<◌, ◌≤◌, ◌++◌, ◌∷◌, [], zero, suc, List, length, get_or, replicate, take, ⊎_elim, ap, sym, ◌∙◌, subst, arith, lit<, get_or-take, length-append, refl}
+use Rattle.std.proofs.Common.{◌≡◌, ◌≢◌, ℕ, ◌+◌, ◌-◌, ◌*◌, ◌<◌, ◌≤◌, ◌++◌, List, length, get_or, replicate, take, ⊎_elim, sym, ◌∙◌, subst, arith, lit<, get_or-take, length-append, refl}
 use Rattle.std.proofs.lemmas.Bool.{cases_lt}
 use Rattle.std.proofs.lemmas.List.{get_or_append_left, get_or-append_right, length-replicate, length-take-le, take-append-le, take-take}
 use Rattle.key_bits.specs.declared.TheConstants.{MAX_BYTES}

@@ -1,5 +1,5 @@
 -- The records are those of the table, and have these words.
-use Rattle.std.proofs.Common.{◌≡◌, arith, subst}
+use Rattle.std.proofs.Common.{arith, subst}
 use Rattle.compound_node.specs.declared.entries.Entry.TheVariants.{Leaf, Node}
 use Rattle.versions.specs.declared.Rec.TheVariants.{Leaf as a_leaf, Node as a_node}
 use Rattle.rowex_core.specs.declared.event.Act.TheVariants.{LoadFixed}
