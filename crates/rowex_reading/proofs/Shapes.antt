@@ -1,5 +1,5 @@
 -- A node's forks that were read twice, and the places that they have.
-use Rattle.std.proofs.Common.{◌≡◌, ℕ, length, sym, ◌∙◌}
+use Rattle.std.proofs.Common.{◌≡◌, ℕ, ◌<◌, length, subst, sym, ◌∙◌}
 use Rattle.compound_node.specs.Nodes.{HeadView, node_of, leaves, IsLawfulNode}
 use Rattle.compound_node.proofs.Lawful.{same_count}
 use Rattle.pieces.specs.Piece.{size}
@@ -12,7 +12,7 @@ use Rattle.rowex_core.proofs.Owning.{recalls}
 use Rattle.rowex_walks.specs.Scan.{IsShaped}
 use Rattle.rowex_walks.proofs.Scans.{shaped}
 use Rattle.rowex_reading.specs.Possible.{IsPossible}
-use Rattle.rowex_reading.specs.Seen.{Sure, seen, shape_of}
+use Rattle.rowex_reading.specs.Seen.{HasPlace, HasRoom, Sure, seen, shape_of}
 use Rattle.rowex_reading.proofs.Seeing.{seen_steady}
 
 -- forks that were read twice
@@ -26,3 +26,12 @@ same_shape layout k m n x y possible since one two =
 -- a head has as many rows as its forks have places
 pub rows_are : (head : HeadView) → IsLawfulNode (node_of head (leaves (length head.rows))) → length head.rows ≡ size (shape_of head)
 rows_are head lawful = let v = node_of head (leaves (length head.rows)) in same_count v lawful ∙ sym (size-piece v lawful)
+
+-- the forks that were read of a node have the place that it has
+pub place_inside : (layout : Layout) (k : Known) (m n h i : ℕ) (x : Subtrie) → IsPossible layout k → HasPlace k m n h i → Sure k (λ past. IsShaped past m n x) → i < size x
+place_inside layout k m n h i x possible has shape_read =
+    let c = possible.core in
+    let known = recalls c k possible.knows in
+    let room : HasRoom (seen c k) m n i = has.1 c possible.lawful known in
+    let same : room.0 ≡ x = sym room.1.2 ∙ shaped (seen c k) m (seen_steady possible.lawful known has.0.0) n x room.1.0 (shape_read c possible.lawful known) room.1.1 in
+    subst (λ z. i < size z) same room.2

@@ -1,10 +1,9 @@
--- The two parts of a head's words, loaded one after the other, and the step at their node.
-use Rattle.std.proofs.Common.{◌≡◌, ℕ, ◌+◌, ◌-◌, ◌/◌, ◌%◌, ◌^◌, ◌<◌, ◌≤◌, ◌++◌, List, length, length-append, get_or, set, take, drop, refl, ap, sym, ◌∙◌, subst, arith, lit≤}
+-- A head's words, loaded in two parts, one after the other; and the step at their node.
+use Rattle.std.proofs.Common.{◌≡◌, ℕ, ◌+◌, ◌/◌, ◌%◌, ◌^◌, ◌<◌, ◌≤◌, ◌++◌, List, length, length-append, get_or, set, take, drop, refl, ap, ap₂, sym, ◌∙◌, subst, arith, lit≤}
 use Rattle.std.proofs.lemmas.List.{drop_at, get_or_append_left, set-append_right, take-take, take_at}
-use Rattle.compound_node.proofs.Lawful.{same_count, with_leaves}
 use Rattle.compound_node.proofs.Roots.{root_of_head}
 use Rattle.compound_node.specs.declared.entries.Entry.TheVariants.{Node}
-use Rattle.compound_node.specs.Nodes.{HeadView, NodeView, IsLawfulNode, head_of, leaves, node_of, piece}
+use Rattle.compound_node.specs.Nodes.{NodeView, IsLawfulNode, head_of, leaves, node_of, piece}
 use Rattle.insert_cases.specs.declared.choice.Step.{Step}
 use Rattle.key_bits.specs.Bits.{bit_of}
 use Rattle.partial_keys.specs.Rows.{dense_of}
@@ -27,10 +26,10 @@ use Rattle.tries.specs.Keys.{Key}
 use Rattle.tries.specs.Place.{spot}
 use Rattle.versions.specs.declared.Rec.TheVariants.{Node as a_node}
 use Rattle.rowex_reading.specs.Possible.{IsPossible}
-use Rattle.rowex_reading.specs.Seen.{IsLedTo, shape_of}
+use Rattle.rowex_reading.specs.Seen.{AreHeadWords, IsLedTo, shape_of}
 use Rattle.rowex_reading.specs.Ways.{step_at}
 use Rattle.rowex_reading.proofs.Descents.{step_is}
-use Rattle.rowex_reading.proofs.Heading.{all_loaded, head_spelled}
+use Rattle.rowex_reading.proofs.Heading.{head_read, spelled_so}
 use Rattle.rowex_reading.proofs.Seeing.{recalls_before, search_spot}
 use Rattle.rowex_reading.proofs.Standing.{is_packed}
 use Rattle.rowex_reading.proofs.Wording.{AreLoaded, fewer_loaded, led_stood, next_loaded, same_loaded, word_now, words_now}
@@ -65,58 +64,50 @@ back_loaded layout k j i n at w front back long back_long low loaded event m h l
     (fewer_loaded k i (a_node n) (λ o. o < FIRST_ROWS + at + 1) (λ o. o < FIRST_ROWS + (at + 1)) (set (front ++ back) (FIRST_ROWS + at) w) (λ o now. omega (arith, now)) more)
 
 -- all of them
-pub both_loaded : (k j : Known) (n at : ℕ) (front back : List ℕ) → ROW_WORDS ≤ at → AreLoaded k j (a_node n) (λ o. o < FIRST_ROWS + at) (front ++ back) → AreLoaded k j (a_node n) (λ o. o < HEAD_WORDS) (front ++ back)
-both_loaded k j n at front back end = fewer_loaded k j (a_node n) (λ o. o < FIRST_ROWS + at) (λ o. o < HEAD_WORDS) (front ++ back) (λ o low. omega (arith, low, end))
+pub both_read : (layout : Layout) (k j : Known) (n at : ℕ) (front back : List ℕ) → IsPossible layout j → ROW_WORDS ≤ at → AreLoaded k j (a_node n) (λ o. o < FIRST_ROWS + at) (front ++ back) → length front ≡ FIRST_ROWS → length back ≡ ROW_WORDS → (m h : ℕ) → IsLedTo k m (Node n h) →
+    AreHeadWords j m n h (front ++ back)
+both_read layout k j n at front back possible end loaded long back_long m h led =
+    head_read layout k j n (front ++ back) possible
+    (fewer_loaded k j (a_node n) (λ o. o < FIRST_ROWS + at) (λ o. o < HEAD_WORDS) (front ++ back) (λ o low. omega (arith, low, end)) loaded)
+    (length-append front back ∙ omega (arith, long, back_long)) m h led
 
-pub both_long : (front back : List ℕ) → length front ≡ FIRST_ROWS → length back ≡ ROW_WORDS → length (front ++ back) ≡ HEAD_WORDS
-both_long front back long back_long = length-append front back ∙ omega (arith, long, back_long)
-
-pub both_spelled : (layout : Layout) (k j : Known) (n : ℕ) (front back : List ℕ) → IsPossible layout j → AreLoaded k j (a_node n) (λ o. o < HEAD_WORDS) (front ++ back) → length front ≡ FIRST_ROWS → length back ≡ ROW_WORDS → (m h : ℕ) → IsLedTo k m (Node n h) →
-    IsSpelling HasHeadWords head_words (front ++ back)
-both_spelled layout k j n front back possible all long back_long m h led =
-    head_spelled layout k j n (front ++ back) possible all.later (all_loaded layout k j n (front ++ back) all m h led) (both_long front back long back_long) m h led
-
--- both parts are a node's
-module _ (front back : List ℕ) (long : length front ≡ FIRST_ROWS) (spelled : IsSpelling HasHeadWords head_words (front ++ back)) where
-  pub back_spelled : IsSpelling HasHeadWords back_words back
-  back_spelled = (spelled.0, spelled.1, ap (drop FIRST_ROWS) spelled.2 ∙ drop_at front back FIRST_ROWS long)
-
+-- A node's head has these words.
+module _ {k : Known} {m n h : ℕ} (words : List ℕ) (are : AreHeadWords k m n h words) where
   abbrev node : NodeView
-  node = spelled.1.0
+  node = node_of are.head (leaves (length are.head.rows))
 
-  abbrev pub its_head : HeadView
-  its_head = head_of node
+  pub height_low : get_or words 0 0 / 65536 < 2 ^ 16
+  height_low = height-lt node are.lawful words are.words_are
 
-  lawful : IsLawfulNode node
-  lawful = spelled.1.1
+  -- the step there
+  pub step_spelled : (number at : ℕ) →
+      (let s : Step = record { number = number; height = get_or words 0 0 / 65536; first_position = get_or words 1 0 % 65536; count = get_or words 0 0 % 256; at = at } in s) ≡ step_at are.head number at
+  step_spelled number at =
+      ap (λ h. let s : Step = record { number = number; height = h; first_position = get_or words 1 0 % 65536; count = get_or words 0 0 % 256; at = at } in s) (height_read node are.lawful words are.words_are)
+      ∙ step_is are.head are.lawful number at (get_or words 0 0 % 256) (get_or words 1 0 % 65536) (count_read node are.lawful words are.words_are) (root_of_head are.head (get_or words 1 0 % 65536) (first_read node are.lawful words are.words_are))
 
-  pub its_words : head_words (head_of spelled.1.0) ≡ front ++ back
-  its_words = ap head_words spelled.1.2 ∙ spelled.2
+-- Both parts are a node's.
+module _ {k : Known} {m n h : ℕ} (front back : List ℕ) (long : length front ≡ FIRST_ROWS) (are : AreHeadWords k m n h (front ++ back)) where
+  pub back_spelled : IsSpelling HasHeadWords back_words back
+  back_spelled = let both = spelled_so are in (both.0, both.1, ap (drop FIRST_ROWS) both.2 ∙ drop_at front back FIRST_ROWS long)
 
-  numbers : get_or front 0 0 ≡ get_or (front ++ back) 0 0
-  numbers = sym (get_or_append_left front back 0 0 (omega (arith, long)))
+  numbers : get_or (front ++ back) 0 0 ≡ get_or front 0 0
+  numbers = get_or_append_left front back 0 0 (omega (arith, long))
 
-  pub height_low : get_or front 0 0 / 65536 < 2 ^ 16
-  height_low = let low = height-lt node lawful (front ++ back) its_words in omega (arith, low, numbers)
-
-  pub head_lawful : IsLawfulNode (node_of its_head (leaves (length its_head.rows)))
-  head_lawful = with_leaves node lawful (length node.rows) (same_count node lawful)
+  pub front_height_low : get_or front 0 0 / 65536 < 2 ^ 16
+  front_height_low = subst (λ w. w / 65536 < 2 ^ 16) numbers (height_low (front ++ back) are)
 
   -- the place to which the forks lead
   module _ (key : Key) (dense at : ℕ) (gathered : (other : NodeView) → IsLawfulNode other → front_words (head_of other) ≡ front → dense ≡ dense_of other.columns (bit_of key))
       (leads : (other : NodeView) → IsLawfulNode other → back_words (head_of other) ≡ back → (bit : ℕ → _) → dense ≡ dense_of other.columns bit → at ≡ leads_to bit (piece other)) where
-    spot_is : at ≡ spot key (shape_of its_head)
-    spot_is = search_spot its_head key at head_lawful
-        (λ other law is. (let words : head_words (head_of other) ≡ front ++ back = ap head_words is ∙ its_words in
+    spot_is : at ≡ spot key (shape_of are.head)
+    spot_is = search_spot are.head key at are.lawful
+        (λ other law is. (let words : head_words (head_of other) ≡ front ++ back = ap head_words is ∙ are.words_are in
         leads other law (ap (drop FIRST_ROWS) words ∙ drop_at front back FIRST_ROWS long) (bit_of key) (gathered other law (ap (take FIRST_ROWS) words ∙ take_at front back FIRST_ROWS long))))
 
     -- and the step there
     pub step_read : (number : ℕ) →
-        (let s : Step = record { number = number; height = get_or front 0 0 / 65536; first_position = get_or front 1 0 % 65536; count = get_or front 0 0 % 256; at = at } in s) ≡ step_at its_head number (spot key (shape_of its_head))
+        (let s : Step = record { number = number; height = get_or front 0 0 / 65536; first_position = get_or front 1 0 % 65536; count = get_or front 0 0 % 256; at = at } in s) ≡ step_at are.head number (spot key (shape_of are.head))
     step_read number =
-        let second : get_or front 1 0 ≡ get_or (front ++ back) 1 0 = sym (get_or_append_left front back 0 1 (omega (arith, long))) in
-        let high : get_or front 0 0 / 65536 ≡ node.height = omega (arith, height_read node lawful (front ++ back) its_words, numbers) in
-        let count : get_or front 0 0 % 256 ≡ length node.rows = omega (arith, count_read node lawful (front ++ back) its_words, numbers) in
-        let first : get_or front 1 0 % 65536 ≡ get_or node.columns 0 0 = omega (arith, first_read node lawful (front ++ back) its_words, second) in
-        ap (λ h. let s : Step = record { number = number; height = h; first_position = get_or front 1 0 % 65536; count = get_or front 0 0 % 256; at = at } in s) high
-        ∙ (step_is its_head head_lawful number at (get_or front 0 0 % 256) (get_or front 1 0 % 65536) count (root_of_head its_head (get_or front 1 0 % 65536) first) ∙ ap (step_at its_head number) spot_is)
+        ap₂ (λ a b. let s : Step = record { number = number; height = a / 65536; first_position = b % 65536; count = a % 256; at = at } in s) (sym numbers) (sym (get_or_append_left front back 0 1 (omega (arith, long))))
+        ∙ (step_spelled (front ++ back) are number at ∙ ap (step_at are.head number) spot_is)

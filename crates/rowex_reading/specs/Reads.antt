@@ -1,8 +1,6 @@
 -- What a pass reads of the tree, as steps of its seat of which a gate is told.
 use Rattle.std.specs.Prelude.{◌≡◌, ℕ, ◌+◌, List, length, All, Bool, true, false, count_by}
-use Rattle.compound_node.specs.Nodes.{HeadView}
 use Rattle.record_words.specs.Leaf.{words_of_key}
-use Rattle.record_words.specs.Packed.{words_of_positions, words_of_rows}
 use Rattle.tries.specs.Keys.{Key}
 use Rattle.rowex_core.specs.declared.event.Act.{Act}
 use Rattle.rowex_core.specs.declared.event.Act.TheVariants.{LoadRef, LoadFixed}
@@ -39,10 +37,6 @@ pub record Reads {G : Type 0} (table : TableView) (becomes : G → Event → G �
   pub count : length acts ≡ n
   pub entries_are : entries_in acts ≡ entries
   pub steps : Runs table becomes acts a b
-
--- the loads of a node's head: the word of its numbers, and those that have positions and sparse partial keys
-abbrev pub head_loads : HeadView → ℕ
-head_loads head = 1 + words_of_positions (length head.columns) + words_of_rows (length head.rows)
 
 -- the loads of a leaf with this key: its value, the key's length, and the words that have bytes of the key
 abbrev pub leaf_loads : Key → ℕ

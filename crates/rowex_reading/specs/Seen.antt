@@ -1,9 +1,10 @@
 -- What a pass may conclude of the versions that it has seen, and what loads teach it.
-use Rattle.std.specs.Prelude.{◌≢◌, ℕ, ◌<◌, length, Option, Some, None}
-use Rattle.compound_node.specs.Nodes.{HeadView, piece, node_of, leaves}
+use Rattle.std.specs.Prelude.{◌≡◌, ◌≢◌, ℕ, ◌<◌, List, length, Option, Some, None}
+use Rattle.compound_node.specs.Nodes.{HeadView, IsLawfulNode, piece, node_of, leaves}
 use Rattle.compound_node.specs.declared.entries.Entry.{Entry}
 use Rattle.compound_node.specs.declared.entries.Entry.TheVariants.{Node}
 use Rattle.pieces.specs.Piece.{size}
+use Rattle.record_words.specs.Node.{head_words}
 use Rattle.tries.specs.Keys.{Key}
 use Rattle.tries.specs.Tree.{Subtrie}
 use Rattle.versions.specs.State.{Past}
@@ -48,6 +49,14 @@ HasRoom s m n i = (x : Subtrie) × IsShaped s m n x × (i < size x)
 -- it was led to the node, which has an entry at this place
 abbrev pub HasPlace : Known → ℕ → ℕ → ℕ → ℕ → Type 0
 HasPlace k m n h i = IsLedTo k m (Node n h) × Sure k (λ s. HasRoom s m n i)
+
+-- These words are those of a head of this height, with whose forks the node has stood since m.
+pub record AreHeadWords (k : Known) (m n h : ℕ) (words : List ℕ) : Type 0 where
+  pub head : HeadView
+  pub height : head.height ≡ h
+  pub lawful : IsLawfulNode (node_of head (leaves (length head.rows)))
+  pub words_are : head_words head ≡ words
+  pub shaped : Sure k (λ s. IsShaped s m n (shape_of head))
 
 -- The leaf stood with this key and this value; where there is no value, with another key.
 abbrev pub IsCompared : Past → ℕ → ℕ → Key → Option ℕ → Type 0

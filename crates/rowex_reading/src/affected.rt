@@ -8,8 +8,9 @@ ghost use Rattle.rowex_reading.specs.Reads.{IsReader, Reads};
 ghost use Rattle.rowex_reading.specs.Seen.{HasPlace, Sure};
 ghost use Rattle.tries.specs.Tree.{Subtrie};
 
+use crate::reading::load_head_words;
 use record_words::{HEAD_WORDS, affected_in};
-use rowex_core::{Gate, Rec};
+use rowex_core::Gate;
 use rowex_table::{HotTable, TableSeat};
 
 /// The first and the last of the entries of a node that a new fork at the position concerns, of which entry `found` is one: loads all
@@ -30,11 +31,7 @@ pub fn find_affected<G: Gate>(
         (forks : Subtrie) × Sure seat.new.known (λ s. IsShaped s m number forks) ×
         (affected_first position found forks ≡ result.0) × (affected_count position found forks + result.0 ≡ result.1 + 1) }
 {
-    let rec = Rec::Node(number);
-    let start = table.start_of(rec);
     let mut words = [0; HEAD_WORDS];
-    for index in 0..HEAD_WORDS {
-        words[index] = table.load_fixed_from(seat, gate, rec, start, index as u8 + 1);
-    }
+    load_head_words(table, seat, gate, number, &mut words);
     affected_in(&words, found, position)
 }

@@ -5,11 +5,11 @@ ghost use Rattle.rowex_table.specs.Seats.{IsSeatOf};
 ghost use Rattle.rowex_reading.specs.Lookups.{HasFound, HasSearched};
 ghost use Rattle.rowex_reading.specs.Possible.{IsPossible};
 ghost use Rattle.rowex_reading.specs.Seen.{since};
-ghost use Rattle.rowex_reading.specs.Ways.{IsWayOf, step_at, value_of};
+ghost use Rattle.rowex_reading.specs.Ways.{IsWayOf, value_of};
 
 use crate::reading::{find_step, load_entry, load_leaf, load_root};
 use arrayvec::ArrayVec;
-use compound_node::{Entry, Head};
+use compound_node::Entry;
 use insert_cases::Step;
 use key_bits::{Key, MAX_BYTES, mismatch};
 use rowex_core::Gate;
@@ -70,18 +70,5 @@ pub fn search_way<G: Gate>(
                 way.push(step);
             }
         }
-    }
-}
-
-/// The step of a way at a node with this head, where the way takes this entry.
-pub fn step_of(head: &Head, number: u32, at: u8) -> Step
-    ensures { result ≡ step_at head.now number at }
-{
-    Step {
-        number,
-        height: head.height(),
-        first_position: head.first_position(),
-        count: head.count(),
-        at,
     }
 }

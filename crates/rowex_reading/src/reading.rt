@@ -7,21 +7,21 @@ ghost use Rattle.compound_node.specs.Nodes.{HeadView, IsLawfulNode, height_of, l
 ghost use Rattle.compound_node.specs.declared.entries.Entry.TheVariants.{Leaf as LeafEntry, Node as NodeEntry};
 ghost use Rattle.record_words.specs.declared.TheConstants.{HEAD_WORDS, LEAF_FIELDS};
 ghost use Rattle.rowex_walks.specs.Scan.{IsShaped, IsPlaced, IsRead};
-ghost use Rattle.rowex_reading.specs.Reads.{IsReader, Reads, ReadsRoot, head_loads, leaf_loads};
+ghost use Rattle.rowex_reading.specs.Reads.{IsReader, Reads, ReadsRoot, leaf_loads};
 ghost use Rattle.rowex_reading.specs.Ways.{step_at};
-ghost use Rattle.rowex_reading.specs.Seen.{Sure, RootIs, IsCompared, IsLedTo, HasPlace, shape_of};
+ghost use Rattle.rowex_reading.specs.Seen.{Sure, RootIs, IsCompared, IsLedTo, HasPlace, AreHeadWords, shape_of};
 ghost use Rattle.versions.specs.declared.Rec.TheVariants.{Leaf as a_leaf, Node as a_node};
 ghost use Rattle.rowex_table.specs.Rule.{IsStartOf};
 ghost use Rattle.rowex_table.specs.Seats.{IsSeatOf};
 ghost use Rattle.tries.specs.Place.{spot};
 ghost use Rattle.tries.specs.Tree.{Subtrie};
 
-use compound_node::{Entry, Head};
+use compound_node::Entry;
 use insert_cases::Step;
 use key_bits::{Key, MAX_BYTES};
 use record_words::{
-    FIRST_ROWS, HEAD_WORDS, ROW_WORDS, dense_in, key_word_at, key_words, position_words,
-    read_entry, read_head, read_some, row_words, search_in, write_word,
+    FIRST_ROWS, HEAD_WORDS, ROW_WORDS, dense_in, key_word_at, key_words, read_entry, read_some,
+    search_in, write_word,
 };
 use rowex_core::{Gate, Rec, Spot};
 use rowex_table::{HotTable, TableSeat};
@@ -38,32 +38,51 @@ pub fn load_root<G: Gate>(table: &HotTable, seat: &mut TableSeat, gate: &mut G) 
     read_entry(word)
 }
 
-/// Loads the head of a node: its numbers, and then the words that have positions and sparse partial keys. All bits of the others
-/// are set, and they are not loaded. Never inline: so the rows stay together in memory, where a search takes them up as vectors.
-#[inline(never)]
-pub fn load_head<G: Gate>(table: &HotTable, seat: &mut TableSeat, gate: &mut G, number: u32) -> Head
+/// Loads all words of a node's head to these places. Which of them have something is not asked first, so nothing waits for the numbers.
+#[inline(always)]
+pub(crate) fn load_head_words<G: Gate>(
+    table: &HotTable,
+    seat: &mut TableSeat,
+    gate: &mut G,
+    number: u32,
+    words: &mut [u64; HEAD_WORDS],
+)
     requires reader { IsReader table.now seat.old }
     requires led { (m h : ℕ) × IsLedTo seat.old.known m (NodeEntry number h) }
-    ensures reads { Reads table.now G.becomes 0 (head_loads result) (seat.old, gate.old) (seat.new, gate.new) }
-    ensures few { head_loads result ≤ HEAD_WORDS }
-    ensures head { (m h : ℕ) → IsLedTo seat.old.known m (NodeEntry number h) →
-        (result.height ≡ h) × Sure seat.new.known (λ s. IsShaped s m number (shape_of result)) }
-    ensures lawful { IsLawfulNode (node_of result (leaves (length result.rows))) }
+    ensures reads { Reads table.now G.becomes 0 HEAD_WORDS (seat.old, gate.old) (seat.new, gate.new) }
+    ensures words { (m h : ℕ) → IsLedTo seat.old.known m (NodeEntry number h) → AreHeadWords seat.new.known m number h words.new }
 {
     let rec = Rec::Node(number);
     let start = table.start_of(rec);
-    let mut words = [u64::MAX; HEAD_WORDS];
-    let numbers = table.load_fixed_from(seat, gate, rec, start, 1);
-    words[0] = numbers;
-    let positions = 1 + position_words(numbers);
-    for index in 1..positions {
+    for index in 0..HEAD_WORDS {
         words[index] = table.load_fixed_from(seat, gate, rec, start, index as u8 + 1);
     }
-    let rows = FIRST_ROWS + row_words(numbers);
-    for index in FIRST_ROWS..rows {
-        words[index] = table.load_fixed_from(seat, gate, rec, start, index as u8 + 1);
+}
+
+/// The step of a way that enters a node, where the way takes the first entry: loads all words of the node's head.
+#[inline(always)]
+pub fn enter_node<G: Gate>(
+    table: &HotTable,
+    seat: &mut TableSeat,
+    gate: &mut G,
+    number: u32,
+) -> Step
+    requires reader { IsReader table.now seat.old }
+    requires led { (m h : ℕ) × IsLedTo seat.old.known m (NodeEntry number h) }
+    ensures reads { Reads table.now G.becomes 0 HEAD_WORDS (seat.old, gate.old) (seat.new, gate.new) }
+    ensures step { (m h : ℕ) → IsLedTo seat.old.known m (NodeEntry number h) →
+        (head : HeadView) × (head.height ≡ h) × IsLawfulNode (node_of head (leaves (length head.rows))) ×
+        Sure seat.new.known (λ s. IsShaped s m number (shape_of head)) × (result ≡ step_at head number 0) }
+{
+    let mut words = [0; HEAD_WORDS];
+    load_head_words(table, seat, gate, number, &mut words);
+    Step {
+        number,
+        height: (words[0] / 65_536) as u16,
+        first_position: (words[1] % 65_536) as u16,
+        count: (words[0] % 256) as u8,
+        at: 0,
     }
-    read_head(&words)
 }
 
 /// The place in a node to which the key's bits lead.

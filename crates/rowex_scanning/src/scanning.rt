@@ -26,8 +26,8 @@ use packed_pairs::Pairs;
 use record_words::key_word_at;
 use rowex_core::Gate;
 use rowex_reading::{
-    Found, MOST_NODES, load_entry_from, load_head, load_places, load_places_from, load_root,
-    search_way, step_of,
+    Found, MOST_NODES, enter_node, load_entry_from, load_places, load_places_from, load_root,
+    search_way,
 };
 use rowex_table::{HotTable, TableSeat};
 use std::alloc::AllocError;
@@ -249,8 +249,9 @@ fn enter<G: Gate>(
     ensures reads { (n : ℕ) × (n ≤ HEAD_WORDS) × Reads table.now G.becomes 0 n (seat.old, gate.old) (seat.new, gate.new) }
     ensures entered { (m h : ℕ) → IsLedTo seat.old.known m (NodeEntry number h) → IsEntered direction seat.new.known m number h result }
 {
-    let head = load_head(table, seat, gate, number);
-    step_of(&head, number, first_gap(direction, head.count()))
+    let mut step = enter_node(table, seat, gate, number);
+    step.at = first_gap(direction, step.count);
+    step
 }
 
 /// Loads a leaf whose key does not come before the range, to these places, and takes its pair. Inline, as the two that it calls are.

@@ -1,18 +1,15 @@
 -- What the loads of all words of a head tell.
-use Rattle.std.proofs.Common.{◌+◌, ◌<◌, ◌++◌, ◌∙◌, arith, refl, subst}
+use Rattle.std.proofs.Common.{◌+◌, ◌<◌, ◌∙◌, arith, refl, subst}
 use Rattle.std.proofs.lemmas.List.{length-set}
 use Rattle.compound_node.specs.declared.entries.Entry.TheVariants.{Node}
 use Rattle.versions.specs.declared.Rec.TheVariants.{Node as a_node}
 use Rattle.record_words.specs.declared.TheConstants.{FIRST_ROWS}
-use Rattle.record_words.proofs.Spelled.{spells_head}
 use Rattle.rowex_core.specs.declared.event.Act.TheVariants.{LoadFixed}
-use Rattle.rowex_core.proofs.Owning.{recalls}
 use Rattle.rowex_reading.specs.Reads.{Reads}
 use Rattle.rowex_reading.proofs.Led.{reader_then, reads_none, reads_one, reads_trans}
 use Rattle.rowex_reading.proofs.Standing.{led_in_table}
-use Rattle.rowex_reading.proofs.Stepping.{back_begun, back_loaded, back_spelled, both_loaded, both_long, both_spelled, front_spelled, head_lawful, height_low, its_head, its_words, step_read}
+use Rattle.rowex_reading.proofs.Stepping.{back_begun, back_loaded, back_spelled, both_read, front_height_low, front_spelled, step_read}
 use Rattle.rowex_reading.proofs.Wording.{fewer_loaded, led_stood, next_loaded, none_loaded}
-use Rattle.rowex_reading.proofs.Heading.{all_loaded, head_height, head_shaped}
 use Rattle.rowex_reading.proofs.reading.find_step.Goals as goal
 
 pub start_of-start-requires : goal.start_of-start-requires
@@ -68,15 +65,13 @@ loop-index-2-preserved g c =
 
 pub overflow_cast-result : goal.overflow_cast-result
 overflow_cast-result g c =
-    let l = c.requires.led in let i = c.loop-index-2.invariant in let front = c.loop-index.front in let back = c.loop-index-2.back in let long = c.loop-index.invariant.long in
-    let all = both_loaded _ _ c.args.number c.loop-index-2.index front back c.loop-index-2-test.false i.loaded in
-    record { fits = height_low front back long (both_spelled _ _ _ c.args.number front back i.reader.1 all long i.back_long l.0 l.1 l.2) }
+    let (m, h, led) = c.requires.led in let i = c.loop-index-2.invariant in let front = c.loop-index.front in let back = c.loop-index-2.back in let long = c.loop-index.invariant.long in
+    record { fits = front_height_low front back long (both_read _ _ _ c.args.number _ front back i.reader.1 c.loop-index-2-test.false i.loaded long i.back_long m h led) }
 
 pub search_in-requires : goal.search_in-requires
 search_in-requires g c =
-    let l = c.requires.led in let i = c.loop-index-2.invariant in let front = c.loop-index.front in let back = c.loop-index-2.back in let long = c.loop-index.invariant.long in
-    let all = both_loaded _ _ c.args.number c.loop-index-2.index front back c.loop-index-2-test.false i.loaded in
-    back_spelled front back long (both_spelled _ _ _ c.args.number front back i.reader.1 all long i.back_long l.0 l.1 l.2)
+    let (m, h, led) = c.requires.led in let i = c.loop-index-2.invariant in let front = c.loop-index.front in let back = c.loop-index-2.back in let long = c.loop-index.invariant.long in
+    back_spelled front back long (both_read _ _ _ c.args.number _ front back i.reader.1 c.loop-index-2-test.false i.loaded long i.back_long m h led)
 
 pub returns-clause-reads : goal.returns-clause-reads
 returns-clause-reads g c = let i = c.loop-index-2.invariant in
@@ -84,16 +79,6 @@ returns-clause-reads g c = let i = c.loop-index-2.invariant in
 
 pub returns-clause-step : goal.returns-clause-step
 returns-clause-step g c = λ m h led.
-    let i = c.loop-index-2.invariant in let front = c.loop-index.front in let back = c.loop-index-2.back in let long = c.loop-index.invariant.long in let x = i.reader.1 in
-    let all = both_loaded _ _ c.args.number c.loop-index-2.index front back c.loop-index-2-test.false i.loaded in
-    let are = all_loaded c.args.table.now.layout _ _ c.args.number (front ++ back) all m h led in
-    let both = both_long front back long i.back_long in
-    let spelled = both_spelled _ _ _ c.args.number front back x all long i.back_long m h led in
-    let head = its_head front back long spelled in
-    let read = spells_head spelled.1.0 spelled.1.1 (front ++ back) (its_words front back long spelled) head refl in (
-      head,
-      head_height _ _ _ c.args.number (front ++ back) x all.later are both m h led head read x.core x.lawful (recalls x.core c.loop-index-2.seat.known x.knows),
-      head_lawful front back long spelled,
-      head_shaped _ _ _ c.args.number (front ++ back) x all.later are both m h led head read,
-      step_read front back long spelled c.args.key.now c.dense_in-dense.result c.search_in.result c.dense_in-dense.ensures c.search_in.ensures c.args.number,
-    )
+    let i = c.loop-index-2.invariant in let front = c.loop-index.front in let back = c.loop-index-2.back in let long = c.loop-index.invariant.long in
+    let are = both_read _ _ _ c.args.number _ front back i.reader.1 c.loop-index-2-test.false i.loaded long i.back_long m h led in
+    (are.head, are.height, are.lawful, are.shaped, step_read front back long are c.args.key.now c.dense_in-dense.result c.search_in.result c.dense_in-dense.ensures c.search_in.ensures c.args.number)

@@ -1,12 +1,13 @@
--- The head that was loaded, and the step at it.
+-- The step at the head that was loaded, and the gap before its first entry.
 use Rattle.std.proofs.Common.{◌∙◌, ap}
+use Rattle.insert_cases.specs.declared.choice.Step.{Step}
 use Rattle.rowex_reading.specs.Ways.{step_at}
 use Rattle.rowex_scanning.specs.Directions.{first_gap}
-use Rattle.rowex_scanning.proofs.Walking.{entered}
+use Rattle.rowex_scanning.proofs.Walking.{entered, head_size}
 use Rattle.rowex_scanning.proofs.scanning.enter.Goals as goal
 
 pub returns-clause-entered : goal.returns-clause-entered
 returns-clause-entered g c = λ m h led.
-    let o = c.load_head-head.ensures.head m h led in
-    let gap = c.first_gap.ensures ∙ ap (first_gap c.args.direction) c.count.ensures.count in
-    entered c.load_head-head.result c.load_head-head.ensures.lawful m c.args.number h c.step_of.result o.0 (c.step_of.ensures ∙ ap (step_at c.load_head-head.result c.args.number) gap) o.1
+    let (head, high, lawful, shaped, is) = c.enter_node-step.ensures.step m h led in
+    let gap = c.first_gap.ensures ∙ ap (first_gap c.args.direction) (ap (λ (s : Step). s.count) is ∙ head_size head lawful) in
+    entered head lawful m c.args.number h _ high (ap (λ (s : Step). let x : Step = record s { at = c.first_gap.result } in x) is ∙ ap (step_at head c.args.number) gap) shaped

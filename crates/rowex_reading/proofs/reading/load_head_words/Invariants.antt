@@ -4,7 +4,7 @@ use Rattle.versions.specs.declared.Rec.TheVariants.{Node as a_node}
 use Rattle.record_words.specs.declared.TheConstants.{HEAD_WORDS}
 use Rattle.rowex_reading.specs.Reads.{IsReader, Reads}
 use Rattle.rowex_reading.proofs.Wording.{AreLoaded}
-use Rattle.rowex_reading.proofs.affected.find_affected.Given as goal
+use Rattle.rowex_reading.proofs.reading.load_head_words.Given as goal
 
 abbrev pub invariant-loop-index : goal.invariant-loop-index
 invariant-loop-index g l = record {
