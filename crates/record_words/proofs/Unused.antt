@@ -1,12 +1,10 @@
--- The words of a leaf and of a head behind those that have something.
-use Rattle.std.proofs.Common.{ℕ, ◌≡◌, ◌+◌, ◌-◌, ◌*◌, ◌^◌, ◌<◌, ◌≤◌, arith, List, get_or, set, replicate, length, ⊎_elim, sym, ap, ◌∙◌, refl, []}
+-- The words of a leaf behind those that have something.
+use Rattle.std.proofs.Common.{ℕ, ◌≡◌, ◌+◌, ◌-◌, ◌*◌, ◌<◌, ◌≤◌, arith, List, get_or, set, replicate, length, ⊎_elim, sym, ap, ◌∙◌, refl, []}
 use Rattle.std.proofs.lemmas.Bool.{cases_lt}
 use Rattle.std.proofs.lemmas.List.{get_or_past, get_or-replicate, get_or-set_other, get_or-set_same, length-replicate, length-set}
 use Rattle.record_words.specs.declared.TheConstants.{LEAF_FIELDS}
 use Rattle.record_words.specs.Leaf.{key_word, leaf_words, words_of_key}
-use Rattle.record_words.specs.Packed.{position_at, position_word, row_at, row_word, fixed_words, words_of_positions, words_of_rows}
 use Rattle.record_words.proofs.Bytes.{same_key_word}
-use Rattle.record_words.proofs.Fixing.{fixed_words_parts}
 use Rattle.record_words.proofs.Leaves.{leaf_words_parts}
 
 -- each of a list of zeros is 0, and so is what stands past them
@@ -46,32 +44,3 @@ pub first_rest : (value size o : ℕ) → 2 ≤ o → get_or (first_words value 
 first_rest value size o past =
     get_or-set_other (set (replicate LEAF_FIELDS 0) 0 value) 1 o size 0 (λ e. omega (arith, e, past)) ∙
     (get_or-set_other (replicate LEAF_FIELDS 0) 0 o value 0 (λ e. omega (arith, e, past)) ∙ zero_in LEAF_FIELDS o)
-
--- where no position stands, all bits are set
-position_past : (columns : List ℕ) (i : ℕ) → length columns ≤ i → position_at columns i ≡ 65535
-position_past columns i past = get_or_past columns i 65535 past
-
-position_word_past : (columns : List ℕ) (j : ℕ) → length columns ≤ 4 * j → position_word columns j ≡ 2 ^ 64 - 1
-unfolding position_word
-position_word_past columns j past =
-    rw (position_past columns (4 * j) past, position_past columns (4 * j + 1) (omega (arith, past)), position_past columns (4 * j + 2) (omega (arith, past)), position_past columns (4 * j + 3) (omega (arith, past))) refl
-
-row_past : (rows : List ℕ) (i : ℕ) → length rows ≤ i → row_at rows i ≡ 4294967295
-row_past rows i past = get_or_past rows i 4294967295 past
-
-row_word_past : (rows : List ℕ) (j : ℕ) → length rows ≤ 2 * j → row_word rows j ≡ 2 ^ 64 - 1
-unfolding row_word
-row_word_past rows j past = rw (row_past rows (2 * j) past, row_past rows (2 * j + 1) (omega (arith, past))) refl
-
-module _ (count height : ℕ) (columns rows : List ℕ) where
-  pub positions_past : (i : ℕ) → 1 + words_of_positions (length columns) ≤ i → i < 9 → get_or (fixed_words count height columns rows) i 0 ≡ 2 ^ 64 - 1
-  positions_past i past low =
-      let j : ℕ = i - 1 in
-      ap (λ n. get_or (fixed_words count height columns rows) n 0) (let e : i ≡ 1 + j = omega (arith, past) in e) ∙
-      (sym ((fixed_words_parts count height columns rows (fixed_words count height columns rows) refl).positions j (omega (arith, low, past))) ∙ position_word_past columns j (omega (arith, past)))
-
-  pub rows_past : (i : ℕ) → 9 + words_of_rows (length rows) ≤ i → i < 25 → get_or (fixed_words count height columns rows) i 0 ≡ 2 ^ 64 - 1
-  rows_past i past low =
-      let j : ℕ = i - 9 in
-      ap (λ n. get_or (fixed_words count height columns rows) n 0) (let e : i ≡ 9 + j = omega (arith, past) in e) ∙
-      (sym ((fixed_words_parts count height columns rows (fixed_words count height columns rows) refl).rows_are j (omega (arith, low, past))) ∙ row_word_past rows j (omega (arith, past)))

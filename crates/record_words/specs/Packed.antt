@@ -1,5 +1,5 @@
 -- What stands in the fixed words of a node: all but its state and its entries.
-use Rattle.std.specs.Prelude.{ℕ, ◌≡◌, ◌<◌, ◌+◌, ◌-◌, ◌*◌, ◌/◌, ◌^◌, cond, nat_lt, List, length, map, slice_index, slice_index_or}
+use Rattle.std.specs.Prelude.{ℕ, ◌≡◌, ◌<◌, ◌+◌, ◌-◌, ◌*◌, ◌^◌, cond, nat_lt, List, length, map, slice_index, slice_index_or}
 use Rattle.std.specs.List.{range_with_len}
 use Rattle.record_words.specs.declared.TheConstants.{HEAD_WORDS, MAX_ENTRIES}
 
@@ -23,13 +23,6 @@ row_at rows i = slice_index_or rows i 4294967295
 -- two sparse partial keys, the first in the low half
 unfoldable pub row_word : List ℕ → ℕ → ℕ
 row_word rows j = row_at rows (2 * j) + 2 ^ 32 * row_at rows (2 * j + 1)
-
--- how many words this many positions take, and this many sparse partial keys
-abbrev pub words_of_positions : ℕ → ℕ
-words_of_positions n = (n + 3) / 4
-
-abbrev pub words_of_rows : ℕ → ℕ
-words_of_rows n = (n + 1) / 2
 
 -- the word at an offset of a node record: 1 has the numbers, 2 to 9 the positions, 10 to 25 the sparse partial keys
 abbrev pub fixed_word : ℕ → ℕ → List ℕ → List ℕ → ℕ → ℕ

@@ -16,9 +16,7 @@ pub use entry::{pack_entry, read_entry, read_some};
 use key_bits::MAX_BYTES;
 pub use layout::{Layout, LayoutFault, LeafClass, Location, Stock};
 pub use leaf::{key_word_at, key_words, pack_leaf, words_for, write_word};
-pub use node::{
-    add_leaf, can_take_leaf, drop_entry, pack_node, position_words, read_head, read_node, row_words,
-};
+pub use node::{add_leaf, can_take_leaf, drop_entry, pack_node, read_node};
 pub use search::{dense_in, search_in};
 pub use state::{Tag, pack_state, unpack_state};
 

@@ -7,7 +7,7 @@ ghost use Rattle.pieces.specs.Changes.{without};
 ghost use Rattle.pieces.specs.Growth.{grown};
 ghost use Rattle.record_words.specs.Entry.{HasEntryWord, entry_word};
 ghost use Rattle.record_words.specs.Node.{CanTakeLeaf, HasHeadWords, HasNodeWords, CanGrowAt, HasFork, SpellBuilt, SpellEntries, SpellLeft, head_words, node_words};
-ghost use Rattle.record_words.specs.Packed.{fixed_words, row_word, words_of_positions, words_of_rows};
+ghost use Rattle.record_words.specs.Packed.{fixed_words, row_word};
 ghost use Rattle.record_words.specs.Reading.{IsSpelledBy, IsSpelling};
 
 use crate::entry::{pack_entry, read_some};
@@ -174,29 +174,6 @@ fn height_over(words: &[u64], height: u16) -> u16
         greatest = (words[i] >> HEIGHT_BIT).max(greatest);
     }
     1 + greatest as u16
-}
-
-/// How many words of a head have positions, by its first word; the words between them and the first with sparse partial keys
-/// have all bits set.
-pub fn position_words(numbers: u64) -> usize
-    ensures { result ≡ words_of_positions (numbers / 256 % 256) }
-{
-    ((numbers / 256 % 256) as usize + 3) / 4
-}
-
-/// How many words of a head have sparse partial keys, by its first word; the words after them have all bits set.
-pub fn row_words(numbers: u64) -> usize
-    ensures { result ≡ words_of_rows (numbers % 256) }
-{
-    ((numbers % 256) as usize + 1) / 2
-}
-
-/// The head that a node record has, of its words from offset 1 on; some node has it.
-pub fn read_head(words: &[u64; HEAD_WORDS]) -> Head
-    requires { IsSpelling HasHeadWords head_words words.now }
-    ensures { IsSpelledBy HasHeadWords head_words words.now result }
-{
-    head_of_words(words)
 }
 
 /// The node that a node record has, of its words from offset 1 on; there is one.
