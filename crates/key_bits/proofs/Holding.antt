@@ -21,6 +21,6 @@ holds key places is same =
     let front : take (length key) places ≡ key = rw same (front_of key) in
     record { key = rw front is; counted = ap length front; zeros = rw front same }
 
--- bytes written to the front of zeros
-pub written : (bytes front : List ℕ) → front ≡ bytes → front ++ drop (length bytes) (replicate MAX_BYTES 0) ≡ with_zeros bytes
-written bytes front same = ap (λ xs. xs ++ drop (length bytes) (replicate MAX_BYTES 0)) same ∙ ap (λ rest. bytes ++ rest) (drop-replicate {X = ℕ} (length bytes) MAX_BYTES 0)
+-- bytes in front of zeros
+pub written : (bytes : List ℕ) → bytes ++ drop (length bytes) (replicate MAX_BYTES 0) ≡ with_zeros bytes
+written bytes = ap (λ rest. bytes ++ rest) (drop-replicate {X = ℕ} (length bytes) MAX_BYTES 0)

@@ -1,7 +1,7 @@
 //! Byte keys of bounded length, their bits, the first bit at which two keys differ, and bits gathered into a word.
 #![tactic(auto)]
 
-ghost use Rattle.std.specs.Prelude.{◌≡◌, ◌≢◌, ℕ, ◌+◌, ◌*◌, ◌≤◌, ◌<◌, ◌↔◌, drop, length, take, IsTrue, IsOk, IsNone, IfOk, IfErr, IfSome, false, if◌then◌else◌};
+ghost use Rattle.std.specs.Prelude.{[], ◌≡◌, ◌≢◌, ℕ, ◌+◌, ◌*◌, ◌≤◌, ◌<◌, ◌↔◌, ◌++◌, drop, length, take, IsTrue, IsOk, IsNone, IfOk, IfErr, IfSome, false, if◌then◌else◌};
 ghost use Rattle.std.specs.Cmp.Lexicographic.{slice_cmp};
 ghost use Rattle.std.specs.Int.{to_be_bytes, w64};
 ghost use Rattle.std.specs.Ordering.{nat_cmp};
@@ -59,13 +59,38 @@ impl Key {
         ensures key { IfOk result IsKey }
         ensures err { IfErr result (λ fault. fault ≡ KeyFault.TooLong) }
     {
+        let mut key = Key::empty();
+        key.set_bytes(bytes)?;
+        Ok(key)
+    }
+
+    /// The key of no bytes.
+    #[inline(always)]
+    pub fn empty() -> Key
+        ensures { result ≡ [] }
+    {
+        Key {
+            count: 0,
+            bytes: [0; MAX_BYTES],
+        }
+    }
+
+    /// Makes it the key of these bytes; `TooLong` exactly where there are more than `MAX_BYTES`, and then it stays as it was.
+    ///
+    /// A key that is made so where it is used isn't moved, as the one in the result of [`Key::from_bytes`] is.
+    #[inline(always)]
+    pub fn set_bytes(&mut self, bytes: &[u8]) -> Result<(), KeyFault>
+        ensures fits { IsOk result ↔ (length bytes.now ≤ MAX_BYTES) }
+        ensures ok { IsOk result → (self.new ≡ bytes.now) × IsKey self.new }
+        ensures err { IfErr result (λ fault. (fault ≡ KeyFault.TooLong) × (self.new ≡ self.old)) }
+    {
         if bytes.len() > MAX_BYTES {
             return Err(KeyFault::TooLong);
         }
-        Ok(Key {
-            count: bytes.len(),
-            bytes: padded(bytes),
-        })
+        self.count = bytes.len();
+        self.bytes = [0; MAX_BYTES];
+        write_front(&mut self.bytes, bytes);
+        Ok(())
     }
 
     /// The key of the first `count` of these bytes; all others are 0.
@@ -112,14 +137,17 @@ impl Key {
     }
 }
 
-/// The bytes, with the unused places filled.
-fn padded(bytes: &[u8]) -> [u8; MAX_BYTES]
+/// Writes the bytes to the first of the places. Keys of eight bytes are common, and are written as one word.
+#[inline(always)]
+fn write_front(places: &mut [u8; MAX_BYTES], bytes: &[u8])
     requires { length bytes.now ≤ MAX_BYTES }
-    ensures { result ≡ with_zeros bytes.now }
+    ensures { places.new ≡ bytes.now ++ drop (length bytes.now) places.old }
 {
-    let mut places = [0; MAX_BYTES];
-    places[..bytes.len()].copy_from_slice(bytes);
-    places
+    if bytes.len() == 8 {
+        places[..8].copy_from_slice(&bytes[..8]);
+    } else {
+        places[..bytes.len()].copy_from_slice(bytes);
+    }
 }
 
 impl PartialEq for Key {
