@@ -7,6 +7,7 @@ mod fixed;
 mod layout;
 mod leaf;
 mod node;
+mod origins;
 mod search;
 mod state;
 mod stock;
@@ -17,6 +18,7 @@ use key_bits::MAX_BYTES;
 pub use layout::{Layout, LayoutFault, LeafClass, Location, Stock};
 pub use leaf::{key_word_at, key_words, pack_leaf, words_for, write_word};
 pub use node::{add_leaf, can_take_leaf, drop_entry, pack_node, read_node};
+pub use origins::Origins;
 pub use search::{dense_in, search_in};
 pub use state::{Tag, pack_state, unpack_state};
 
