@@ -3,7 +3,6 @@
 #![tactic(auto)]
 
 mod direction;
-mod origins;
 mod scanning;
 mod start;
 

@@ -16,14 +16,13 @@ ghost use Rattle.rowex_scanning.specs.Directions.{first_key as first_key_of};
 ghost use Rattle.rowex_scanning.specs.Scanning.{HasScanned, HasScannedPart, IsBound, IsEntered, IsLeafRefused, IsLeafTaken, IsPairRefused, IsPairTaken, IsReached, IsWalk, asked_range};
 
 use crate::direction::{Direction, behind, first_gap, is_before, is_earlier, next_place};
-use crate::origins::Origins;
 use crate::start::start_from;
 use arrayvec::ArrayVec;
 use compound_node::Entry;
 use insert_cases::Step;
 use key_bits::{Key, MAX_BYTES};
 use packed_pairs::Pairs;
-use record_words::key_word_at;
+use record_words::{Origins, key_word_at};
 use rowex_core::Gate;
 use rowex_reading::{
     Found, MOST_NODES, enter_node, load_entry_from, load_places, load_places_from, load_root,
@@ -171,7 +170,7 @@ fn scan_node<G: Gate>(
     );
     let mut top = start.top;
     way.truncate(start.level);
-    let origins = Origins::of(table.layout());
+    let origins = table.origins();
     let places = &mut [0; MAX_BYTES];
     if start.leaf {
         match take_leaf(table, &origins, seat, gate, range, number, places, pairs)? {

@@ -20,7 +20,10 @@ impl HotTable {
         requires { HasRecord self.now.layout rec }
         ensures { IsStartOf self.now.layout rec result }
     {
-        self.layout.address(record_place(rec, 0))
+        match rec {
+            Rec::Node(number) => self.origins.node(number),
+            Rec::Leaf(number) => self.origins.leaf(number),
+        }
     }
 
     /// Claims a record, if it finds it free; answers the state word that it found.

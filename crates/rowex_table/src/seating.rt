@@ -9,7 +9,7 @@ ghost use Rattle.rowex_table.specs.Seats.{SeatView, IsNewSeatOf, IsNewSeat, IsSe
 use crate::plays::{Deal, Meets, Part, Step};
 use crate::table::{HotTable, TableSeat};
 use atomic_table::Table;
-use record_words::{ANCHOR_WORD, EPOCH_WORD, Layout, Tag, pack_state};
+use record_words::{ANCHOR_WORD, EPOCH_WORD, Layout, Origins, Tag, pack_state};
 use std::alloc::{AllocError, Global};
 use std::marker::Brand;
 
@@ -33,7 +33,8 @@ impl HotTable {
                 pass: number as u16,
             })?;
         }
-        Ok((HotTable { table, layout }, seats))
+        let origins = Origins::of(layout);
+        Ok((HotTable { table, origins }, seats))
     }
 
     /// Two passes meet: both have then seen the list of changes as it is now. It makes no event.

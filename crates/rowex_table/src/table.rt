@@ -4,7 +4,7 @@ ghost use Rattle.std.specs.Prelude.{◌≡◌};
 
 use crate::plays::RowexRule;
 use atomic_table::{Seat, Table};
-use record_words::Layout;
+use record_words::{Layout, Origins};
 use rowex_core::View;
 use std::alloc::Global;
 use std::marker::Model;
@@ -41,7 +41,8 @@ impl TableSeat {
 #[derive(Drop)]
 pub struct HotTable {
     pub(crate) table: Table<(), View, Layout, RowexRule, Global>,
-    pub(crate) layout: Layout,
+    /// What is fixed of the layout, added up once: each step finds its word by this.
+    pub(crate) origins: Origins,
 }
 
 impl Model for HotTable {
@@ -52,9 +53,9 @@ impl Model for HotTable {
 
     ghost use Rattle.record_words.specs.Layout.{word_count};
 
-    ghost view = { λ t. record { id = t.table.shared.table_id; layout = t.layout } };
+    ghost view = { λ t. record { id = t.table.shared.table_id; layout = t.origins.layout } };
 
-    ghost invariant = { λ t. (t.table.shared.table_id.words ≡ word_count t.layout) × (t.table.shared.key ≡ t.layout) };
+    ghost invariant = { λ t. (t.table.shared.table_id.words ≡ word_count t.origins.layout) × (t.table.shared.key ≡ t.origins.layout) };
 }
 
 impl HotTable {
@@ -62,6 +63,14 @@ impl HotTable {
     pub fn layout(&self) -> Layout
         ensures { result ≡ self.now.layout }
     {
-        self.layout
+        self.origins.layout
+    }
+
+    /// Where the table's records begin. A walk over many keeps this at hand: through the table it would be loaded anew behind each
+    /// atomic load.
+    pub fn origins(&self) -> Origins
+        ensures { result.layout ≡ self.now.layout }
+    {
+        self.origins
     }
 }

@@ -10,11 +10,11 @@ use Rattle.rowex_table.proofs.table.HotTable.exchange_as.Goals as goal
 
 pub compare_exchange-found-requires : goal.compare_exchange-found-requires
 compare_exchange-found-requires g c =
-    let layout : c.self.inside.layout ≡ c.args.self.now.layout = ap (λ (z : TableView). z.layout) c.self.view_is in
+    let layout : c.self.inside.origins.layout ≡ c.args.self.now.layout = ap (λ (z : TableView). z.layout) c.self.view_is in
     let is : c.address-address.result ≡ address c.args.self.now.layout (location_of c.args.seat.now.known.pass g.Q.Step.act) =
     c.address-address.ensures ∙ (ap (λ (z : Layout). address z c.args.location) layout ∙ ap (address c.args.self.now.layout) c.requires.place.0) in
-    let low : address c.self.inside.layout c.args.location < word_count c.self.inside.layout =
-    address-below c.self.inside.layout c.args.location (subst (λ (z : Layout). IsInTable z c.args.location) (sym layout) c.requires.place.1) in (
+    let low : address c.self.inside.origins.layout c.args.location < word_count c.self.inside.origins.layout =
+    address-below c.self.inside.origins.layout c.args.location (subst (λ (z : Layout). IsInTable z c.args.location) (sym layout) c.requires.place.1) in (
       search rules,
       search rules,
       allows_me _ _ _ _ _ _ _ _ _ _ _ _ (c.self.invariant.1 ∙ layout) c.requires.apt.0 c.seat.invariant.0 (sym (ap (λ (z : SeatView). z.known) c.seat.view_is)) is c.requires.exchange (λ w. refl) c.requires.apt.2,

@@ -30,4 +30,6 @@ loop-number-preserved c =
     )
 
 pub returns-clause-each : goal.returns-clause-each
-returns-clause-each c = let made : TableView = record { id = c.in_ok-table.table.shared.table_id; layout = c.args.layout } in all_new made c.loop-number.seats.items (search rules) c.loop-number.invariant.3
+returns-clause-each c =
+    let made : TableView = record { id = c.in_ok-table.table.shared.table_id; layout = c.args.layout } in
+    rw c.of-origins.ensures (all_new made c.loop-number.seats.items (search rules) c.loop-number.invariant.3)

@@ -9,8 +9,8 @@ use Rattle.rowex_table.proofs.table.HotTable.store_at.Goals as goal
 
 pub store-requires : goal.store-requires
 store-requires g c =
-    let layout : c.self.inside.layout ≡ c.args.self.now.layout = ap (λ (z : TableView). z.layout) c.self.view_is in
-    let low : c.args.address < word_count c.self.inside.layout =
+    let layout : c.self.inside.origins.layout ≡ c.args.self.now.layout = ap (λ (z : TableView). z.layout) c.self.view_is in
+    let low : c.args.address < word_count c.self.inside.origins.layout =
     rw (c.requires.place.0, layout) (address-below c.args.self.now.layout (location_of c.args.seat.now.known.pass g.Q.Step.act) c.requires.place.1) in (
       search rules,
       search rules,
