@@ -5,7 +5,9 @@ ghost use Rattle.std.specs.Prelude.{◌≡◌, ◌+◌, ◌*◌, ◌<◌, ◌≤
 ghost use Rattle.compound_node.specs.declared.entries.Entry.TheVariants.{Node as NodeEntry};
 ghost use Rattle.record_words.specs.declared.TheConstants.{HEAD_WORDS};
 ghost use Rattle.rowex_walks.specs.Scan.{IsShaped};
+ghost use Rattle.rowex_table.specs.Rule.{IsStartOf};
 ghost use Rattle.rowex_table.specs.Seats.{IsSeatOf};
+ghost use Rattle.versions.specs.declared.Rec.TheVariants.{Node as a_node};
 ghost use Rattle.tries.specs.Place.{spot};
 ghost use Rattle.tries.specs.Tree.{Subtrie};
 ghost use Rattle.rowex_reading.specs.Turns.{AreTurnsOfKey, AreRows, AreSomeTurns, AreTips, AreTurns, IsSomeTurn, IsWayTip, IsTurn, StandsAt, turns_in};
@@ -13,7 +15,7 @@ ghost use Rattle.rowex_reading.specs.Lookups.{HasFound, HasSearched};
 ghost use Rattle.rowex_reading.specs.Reads.{IsReader, Looks, Reads};
 ghost use Rattle.rowex_reading.specs.Seen.{IsLedTo, Sure};
 
-use crate::reading::{find_place, load_entry, load_root, load_value};
+use crate::reading::{find_place, load_entry, load_entry_from, load_root, load_value};
 use compound_node::Entry;
 use key_bits::Key;
 use rowex_core::{Gate, Rec};
@@ -88,8 +90,9 @@ pub fn look_up_along<G: Gate>(
             Entry::Leaf(number) => return load_value(table, seat, gate, number, key),
             Entry::Node { number, .. } => {
                 let turn = turn_of(rows, depth, index);
-                let place = place_in(table, seat, gate, number, key, turn);
-                entry = load_entry(table, seat, gate, number, place);
+                let start = table.start_of(Rec::Node(number));
+                let place = place_in(table, seat, gate, number, start, key, turn);
+                entry = load_entry_from(table, seat, gate, number, start, place);
                 depth = depth.saturating_add(1);
             }
         }
@@ -112,17 +115,20 @@ fn turn_of(
     }
 }
 
-/// The place in a node at which the key's way goes on: that of the turn, if it is one in this node; else by the node's head.
+/// The place in a node, whose record begins at this word, at which the key's way goes on: that of the turn, if it is one in this node;
+/// else by the node's head.
 fn place_in<G: Gate>(
     table: &HotTable,
     seat: &mut TableSeat,
     gate: &mut G,
     number: u32,
+    start: usize,
     key: &Key,
     turn: Option<Turn>,
 ) -> u8
     requires reader { IsReader table.now seat.old }
     requires led { (m h : ℕ) × IsLedTo seat.old.known m (NodeEntry number h) }
+    requires start { IsStartOf table.now.layout (a_node number) start }
     requires turn { IfSome turn (IsTurn seat.old.known key.now) }
     ensures reads { (n : ℕ) × (n ≤ HEAD_WORDS) × Reads table.now G.becomes 0 n (seat.old, gate.old) (seat.new, gate.new) }
     ensures place { (m h : ℕ) → IsLedTo seat.old.known m (NodeEntry number h) →
@@ -130,7 +136,7 @@ fn place_in<G: Gate>(
 {
     match turn {
         Some(turn) if turn.number == number => turn.place,
-        _ => find_place(table, seat, gate, number, key),
+        _ => find_place(table, seat, gate, number, start, key),
     }
 }
 
@@ -180,7 +186,8 @@ fn turn_at<G: Gate>(
 {
     match tip {
         Some(Entry::Node { number, .. }) => {
-            let place = find_place(table, seat, gate, number, key);
+            let start = table.start_of(Rec::Node(number));
+            let place = find_place(table, seat, gate, number, start, key);
             Some(Turn { number, place })
         }
         _ => None,

@@ -7,12 +7,12 @@ ghost use Rattle.rowex_reading.specs.Possible.{IsPossible};
 ghost use Rattle.rowex_reading.specs.Seen.{since};
 ghost use Rattle.rowex_reading.specs.Ways.{IsWayOf, value_of};
 
-use crate::reading::{find_step, load_entry, load_leaf, load_root};
+use crate::reading::{find_step, load_entry_from, load_leaf, load_root};
 use arrayvec::ArrayVec;
 use compound_node::Entry;
 use insert_cases::Step;
 use key_bits::{Key, MAX_BYTES, mismatch};
-use rowex_core::Gate;
+use rowex_core::{Gate, Rec};
 use rowex_table::{HotTable, TableSeat};
 
 /// The most nodes on a way: a node's height is above that of the next one, and at most 2,160.
@@ -65,8 +65,9 @@ pub fn search_way<G: Gate>(
                 };
             }
             Entry::Node { number, .. } => {
-                let step = find_step(table, seat, gate, number, key);
-                entry = load_entry(table, seat, gate, number, step.at);
+                let start = table.start_of(Rec::Node(number));
+                let step = find_step(table, seat, gate, number, start, key);
+                entry = load_entry_from(table, seat, gate, number, start, step.at);
                 way.push(step);
             }
         }

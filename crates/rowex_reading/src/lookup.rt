@@ -4,10 +4,10 @@ ghost use Rattle.std.specs.Prelude.{IsSome};
 ghost use Rattle.rowex_table.specs.Seats.{IsSeatOf};
 ghost use Rattle.rowex_reading.specs.Lookups.{HasFound, HasSearched};
 
-use crate::reading::{find_place, load_entry, load_root, load_value};
+use crate::reading::{find_place, load_entry_from, load_root, load_value};
 use compound_node::Entry;
 use key_bits::Key;
-use rowex_core::Gate;
+use rowex_core::{Gate, Rec};
 use rowex_table::{HotTable, TableSeat};
 
 /// Searches for a key from the root down to a leaf, and compares the leaf's key; answers the value that it found.
@@ -27,8 +27,9 @@ pub fn look_up<G: Gate>(
         match entry {
             Entry::Leaf(number) => return load_value(table, seat, gate, number, key),
             Entry::Node { number, .. } => {
-                let place = find_place(table, seat, gate, number, key);
-                entry = load_entry(table, seat, gate, number, place);
+                let start = table.start_of(Rec::Node(number));
+                let place = find_place(table, seat, gate, number, start, key);
+                entry = load_entry_from(table, seat, gate, number, start, place);
             }
         }
     }

@@ -85,26 +85,28 @@ pub fn enter_node<G: Gate>(
     }
 }
 
-/// The place in a node to which the key's bits lead.
+/// The place to which the key's bits lead in a node whose record begins at this word.
 #[inline(always)]
 pub fn find_place<G: Gate>(
     table: &HotTable,
     seat: &mut TableSeat,
     gate: &mut G,
     number: u32,
+    start: usize,
     key: &Key,
 ) -> u8
     requires reader { IsReader table.now seat.old }
     requires led { (m h : ℕ) × IsLedTo seat.old.known m (NodeEntry number h) }
+    requires start { IsStartOf table.now.layout (a_node number) start }
     ensures reads { Reads table.now G.becomes 0 HEAD_WORDS (seat.old, gate.old) (seat.new, gate.new) }
     ensures place { (m h : ℕ) → IsLedTo seat.old.known m (NodeEntry number h) →
         (forks : Subtrie) × Sure seat.new.known (λ s. IsShaped s m number forks) × (result ≡ spot key.now forks) }
 {
-    find_step(table, seat, gate, number, key).at
+    find_step(table, seat, gate, number, start, key).at
 }
 
-/// The step of a way at a node, where the way takes the entry to which the key's bits lead: loads all words of the node's head, and
-/// searches them as they stand. Which words have positions and sparse partial keys is not asked first, so nothing waits for the numbers,
+/// The step of a way at a node whose record begins at this word, where the way takes the entry to which the key's bits lead: loads all
+/// words of the node's head, and searches them as they stand. Which words have positions and sparse partial keys is not asked first, so nothing waits for the numbers,
 /// and the loads are as many in each node. The key's bits are gathered before the sparse partial keys are loaded: so nothing stands
 /// between these loads and the search, and what was loaded stays in registers.
 #[inline(always)]
@@ -113,17 +115,18 @@ pub fn find_step<G: Gate>(
     seat: &mut TableSeat,
     gate: &mut G,
     number: u32,
+    start: usize,
     key: &Key,
 ) -> Step
     requires reader { IsReader table.now seat.old }
     requires led { (m h : ℕ) × IsLedTo seat.old.known m (NodeEntry number h) }
+    requires start { IsStartOf table.now.layout (a_node number) start }
     ensures reads { Reads table.now G.becomes 0 HEAD_WORDS (seat.old, gate.old) (seat.new, gate.new) }
     ensures step { (m h : ℕ) → IsLedTo seat.old.known m (NodeEntry number h) →
         (head : HeadView) × (head.height ≡ h) × IsLawfulNode (node_of head (leaves (length head.rows))) ×
         Sure seat.new.known (λ s. IsShaped s m number (shape_of head)) × (result ≡ step_at head number (spot key.now (shape_of head))) }
 {
     let rec = Rec::Node(number);
-    let start = table.start_of(rec);
     let mut front = [0; FIRST_ROWS];
     for index in 0..FIRST_ROWS {
         front[index] = table.load_fixed_from(seat, gate, rec, start, index as u8 + 1);
@@ -264,7 +267,8 @@ pub fn load_places_from<G: Gate>(
 }
 
 /// Loads the value of a leaf that has this key: the length of its key first, the words with bytes of that as long as they are
-/// the key's own, and then the value. None where one of them is not, for the leaf has another key then.
+/// the key's own, and then the value. None where one of them is not, for the leaf has another key then. Keys of eight bytes are common:
+/// what is compiled for them alone has no loop.
 pub fn load_value<G: Gate>(
     table: &HotTable,
     seat: &mut TableSeat,
@@ -277,13 +281,37 @@ pub fn load_value<G: Gate>(
     ensures reads { (n : ℕ) × (n ≤ LEAF_FIELDS) × Reads table.now G.becomes 0 n (seat.old, gate.old) (seat.new, gate.new) }
     ensures leaf { (m : ℕ) → IsLedTo seat.old.known m (LeafEntry number) → Sure seat.new.known (λ s. IsCompared s m number key.now result) }
 {
+    let start = table.start_of(Rec::Leaf(number));
+    let size = key.as_bytes().len() as u64;
+    if size == 8 {
+        return load_value_of(table, seat, gate, number, start, key, 8);
+    }
+    load_value_of(table, seat, gate, number, start, key, size)
+}
+
+/// Loads as `load_value` does, of a leaf whose record begins at this word, for a key of this length.
+#[inline(always)]
+fn load_value_of<G: Gate>(
+    table: &HotTable,
+    seat: &mut TableSeat,
+    gate: &mut G,
+    number: u32,
+    start: usize,
+    key: &Key,
+    size: u64,
+) -> Option<u64>
+    requires reader { IsReader table.now seat.old }
+    requires led { (m : ℕ) × IsLedTo seat.old.known m (LeafEntry number) }
+    requires start { IsStartOf table.now.layout (a_leaf number) start }
+    requires key { IsKey key.now × (size ≡ length key.now) }
+    ensures reads { (n : ℕ) × (n ≤ LEAF_FIELDS) × Reads table.now G.becomes 0 n (seat.old, gate.old) (seat.new, gate.new) }
+    ensures leaf { (m : ℕ) → IsLedTo seat.old.known m (LeafEntry number) → Sure seat.new.known (λ s. IsCompared s m number key.now result) }
+{
     let rec = Rec::Leaf(number);
-    let start = table.start_of(rec);
-    let length = key.as_bytes().len() as u64;
-    if table.load_fixed_from(seat, gate, rec, start, 2) != length {
+    if table.load_fixed_from(seat, gate, rec, start, 2) != size {
         return None;
     }
-    let end = 2 + key_words(length);
+    let end = 2 + key_words(size);
     for index in 2..end {
         let word = table.load_fixed_from(seat, gate, rec, start, index as u8 + 1);
         if word != key_word_at(key, index - 2) {

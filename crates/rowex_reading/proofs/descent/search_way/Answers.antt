@@ -1,9 +1,11 @@
 -- The empty root, the root's entry, one node down, and the leaf.
 use Rattle.std.proofs.Common.{length, sym, ap, subst, arith}
 use Rattle.rowex_reading.specs.Seen.{since, RootIs}
+use Rattle.compound_node.specs.declared.entries.Entry.TheVariants.{Node}
 use Rattle.rowex_reading.proofs.Looking.{none_searched, none_found, at_root, at_led, leaf_searched}
 use Rattle.rowex_reading.proofs.Led.{reader_then, root_reader, root_pinned}
 use Rattle.rowex_reading.proofs.Descents.{IsGoing, going_first, ends_nowhere, there, falls_on, led_down, way_on, way_room, way_ends, end_found}
+use Rattle.rowex_reading.proofs.Standing.{led_in_table}
 use Rattle.rowex_reading.proofs.descent.search_way.Goals as goal
 
 pub prove-unreachable-requires : goal.prove-unreachable-requires
@@ -56,38 +58,42 @@ returns-in-Leaf-clause-found g c =
     let i = c.loop-entry.invariant in let e = c.load_leaf-leaf.ensures in let l = c.load_leaf-leaf.result in let p = c.mismatch.ensures in
     end_found i.at _ i.going c.in-Leaf.number c.in-Leaf.is e.few e.reads l.0 l.1 e.leaf p.keys.0 c.mismatch.result p.none
 
+pub start_of-start-requires : goal.start_of-start-requires
+start_of-start-requires g c =
+    let i = c.loop-entry.invariant in led_in_table c.args.table.now.layout c.loop-entry.seat.known (since c.loop-entry.seat.known) (Node c.in-Node.number c.in-Node.height) i.reader.1 (at_led i.at _ c.in-Node.is)
+
 pub find_step-step-requires-clause-led : goal.find_step-step-requires-clause-led
 find_step-step-requires-clause-led g c = (since c.loop-entry.seat.known, c.in-Node.height, at_led c.loop-entry.invariant.at _ c.in-Node.is)
 
-pub load_entry-entry-requires-clause-reader : goal.load_entry-entry-requires-clause-reader
-load_entry-entry-requires-clause-reader g c = reader_then c.loop-entry.invariant.reader c.find_step-step.ensures.reads
+pub load_entry_from-entry-requires-clause-reader : goal.load_entry_from-entry-requires-clause-reader
+load_entry_from-entry-requires-clause-reader g c = reader_then c.loop-entry.invariant.reader c.find_step-step.ensures.reads
 
-pub load_entry-entry-requires-clause-place : goal.load_entry-entry-requires-clause-place
-load_entry-entry-requires-clause-place g c =
+pub load_entry_from-entry-requires-clause-place : goal.load_entry_from-entry-requires-clause-place
+load_entry_from-entry-requires-clause-place g c =
     let i = c.loop-entry.invariant in let n = c.in-Node in let e = c.find_step-step.ensures in let m = since c.loop-entry.seat.known in
     let (head, high, lawful, shaped, stepped) = e.step m n.height (at_led i.at _ n.is) in
     (m, n.height, there i.at _ i.going n.number n.height c.find_step-step.result head n.is e.reads high lawful shaped stepped)
 
 pub push-requires : goal.push-requires
 push-requires g c =
-    let i = c.loop-entry.invariant in let n = c.in-Node in let e = c.find_step-step.ensures in let o = c.load_entry-entry.ensures in
+    let i = c.loop-entry.invariant in let n = c.in-Node in let e = c.find_step-step.ensures in let o = c.load_entry_from-entry.ensures in
     let (head, high, lawful, shaped, stepped) = e.step (since c.loop-entry.seat.known) n.height (at_led i.at _ n.is) in
     (omega arith, way_room i.at _ i.going n.number n.height c.find_step-step.result head n.is e.reads high lawful shaped stepped _ o.reads o.entry)
 
 pub loop-entry-smaller : goal.loop-entry-smaller
 loop-entry-smaller g c =
-    let i = c.loop-entry.invariant in let n = c.in-Node in let e = c.find_step-step.ensures in let o = c.load_entry-entry.ensures in
+    let i = c.loop-entry.invariant in let n = c.in-Node in let e = c.find_step-step.ensures in let o = c.load_entry_from-entry.ensures in
     let (head, high, lawful, shaped, stepped) = e.step (since c.loop-entry.seat.known) n.height (at_led i.at _ n.is) in
     falls_on i.at _ i.going n.number n.height c.find_step-step.result head n.is e.reads high lawful shaped stepped _ o.reads o.entry
 
 pub loop-entry-preserved : goal.loop-entry-preserved
 loop-entry-preserved g c =
-    let i = c.loop-entry.invariant in let n = c.in-Node in let e = c.find_step-step.ensures in let o = c.load_entry-entry.ensures in
-    let known = c.load_entry-entry.new.seat.known in
+    let i = c.loop-entry.invariant in let n = c.in-Node in let e = c.find_step-step.ensures in let o = c.load_entry_from-entry.ensures in
+    let known = c.load_entry_from-entry.new.seat.known in
     let (head, high, lawful, shaped, stepped) = e.step (since c.loop-entry.seat.known) n.height (at_led i.at _ n.is) in
     record {
       reader = reader_then (reader_then i.reader e.reads) o.reads;
       at = led_down i.at _ i.going n.number n.height c.find_step-step.result head n.is e.reads high lawful shaped stepped _ o.reads o.entry;
-      going = subst (λ z. IsGoing c.args.table.now.layout known (since known) c.args.key.now z c.load_entry-entry.result) (sym c.push.ensures.items)
+      going = subst (λ z. IsGoing c.args.table.now.layout known (since known) c.args.key.now z c.load_entry_from-entry.result) (sym c.push.ensures.items)
           (way_on i.at _ i.going n.number n.height c.find_step-step.result head n.is e.reads high lawful shaped stepped _ o.reads o.entry i.reader.1);
     }

@@ -1,10 +1,12 @@
 -- The empty root, the root's entry, one node down, and the leaf.
 use Rattle.std.proofs.Common.{◌<◌, le_refl, sym, subst}
 use Rattle.compound_node.specs.Nodes.{height_of}
+use Rattle.compound_node.specs.declared.entries.Entry.TheVariants.{Node}
 use Rattle.rowex_reading.specs.Seen.{since}
 use Rattle.rowex_reading.proofs.Looking.{none_searched, none_found, at_root, at_led, place_of, next_of, leaf_searched, leaf_found}
 use Rattle.rowex_reading.proofs.Led.{reader_then, root_reader}
 use Rattle.record_words.specs.declared.TheConstants.{HEAD_WORDS}
+use Rattle.rowex_reading.proofs.Standing.{led_in_table}
 use Rattle.rowex_reading.proofs.lookup.look_up.Goals as goal
 
 pub returns-in_err-entry-clause-found : goal.returns-in_err-entry-clause-found
@@ -21,17 +23,21 @@ loop-entry-init g c =
       at = at_root r c.requires.pinned _ c.in_ok-entry.entry c.in_ok-entry.ensures.low c.in_ok-entry.ensures.root;
     }
 
+pub start_of-start-requires : goal.start_of-start-requires
+start_of-start-requires g c =
+    let i = c.loop-entry.invariant in led_in_table c.args.table.now.layout c.loop-entry.seat.known (since c.loop-entry.seat.known) (Node c.in-Node.number c.in-Node.height) i.reader.1 (at_led i.at _ c.in-Node.is)
+
 pub find_place-place-requires-clause-reader : goal.find_place-place-requires-clause-reader
 find_place-place-requires-clause-reader g c = c.loop-entry.invariant.reader
 
 pub find_place-place-requires-clause-led : goal.find_place-place-requires-clause-led
 find_place-place-requires-clause-led g c = (since c.loop-entry.seat.known, c.in-Node.height, at_led c.loop-entry.invariant.at _ c.in-Node.is)
 
-pub load_entry-entry-requires-clause-reader : goal.load_entry-entry-requires-clause-reader
-load_entry-entry-requires-clause-reader g c = reader_then c.loop-entry.invariant.reader c.find_place-place.ensures.reads
+pub load_entry_from-entry-requires-clause-reader : goal.load_entry_from-entry-requires-clause-reader
+load_entry_from-entry-requires-clause-reader g c = reader_then c.loop-entry.invariant.reader c.find_place-place.ensures.reads
 
-pub load_entry-entry-requires-clause-place : goal.load_entry-entry-requires-clause-place
-load_entry-entry-requires-clause-place g c =
+pub load_entry_from-entry-requires-clause-place : goal.load_entry_from-entry-requires-clause-place
+load_entry_from-entry-requires-clause-place g c =
     let i = c.loop-entry.invariant in let e = c.find_place-place.ensures in let m = since c.loop-entry.seat.known in
     let p = e.place m c.in-Node.height (at_led i.at _ c.in-Node.is) in
     (m, c.in-Node.height, place_of i.at c.in-Node.number c.in-Node.height p.0 c.find_place-place.result c.in-Node.is (le_refl HEAD_WORDS) e.reads p.1 p.2)
@@ -41,18 +47,18 @@ loop-entry-smaller g c =
     let i = c.loop-entry.invariant in let e = c.find_place-place.ensures in let m = since c.loop-entry.seat.known in
     let p = e.place m c.in-Node.height (at_led i.at _ c.in-Node.is) in
     let place = place_of i.at c.in-Node.number c.in-Node.height p.0 c.find_place-place.result c.in-Node.is (le_refl HEAD_WORDS) e.reads p.1 p.2 in
-    let entry = c.load_entry-entry.ensures.entry m c.in-Node.height place in
-    subst (λ z. height_of c.load_entry-entry.result < height_of z) (sym c.in-Node.is) entry.0
+    let entry = c.load_entry_from-entry.ensures.entry m c.in-Node.height place in
+    subst (λ z. height_of c.load_entry_from-entry.result < height_of z) (sym c.in-Node.is) entry.0
 
 pub loop-entry-preserved : goal.loop-entry-preserved
 loop-entry-preserved g c =
     let i = c.loop-entry.invariant in let e = c.find_place-place.ensures in let m = since c.loop-entry.seat.known in
     let p = e.place m c.in-Node.height (at_led i.at _ c.in-Node.is) in
     let place = place_of i.at c.in-Node.number c.in-Node.height p.0 c.find_place-place.result c.in-Node.is (le_refl HEAD_WORDS) e.reads p.1 p.2 in
-    let entry = c.load_entry-entry.ensures.entry m c.in-Node.height place in
+    let entry = c.load_entry_from-entry.ensures.entry m c.in-Node.height place in
     record {
-      reader = reader_then (reader_then i.reader e.reads) c.load_entry-entry.ensures.reads;
-      at = next_of i.at c.in-Node.number c.in-Node.height p.0 c.find_place-place.result c.in-Node.is (le_refl HEAD_WORDS) e.reads p.1 p.2 c.load_entry-entry.result c.load_entry-entry.ensures.reads entry;
+      reader = reader_then (reader_then i.reader e.reads) c.load_entry_from-entry.ensures.reads;
+      at = next_of i.at c.in-Node.number c.in-Node.height p.0 c.find_place-place.result c.in-Node.is (le_refl HEAD_WORDS) e.reads p.1 p.2 c.load_entry_from-entry.result c.load_entry_from-entry.ensures.reads entry;
     }
 
 pub load_value-requires-clause-led : goal.load_value-requires-clause-led

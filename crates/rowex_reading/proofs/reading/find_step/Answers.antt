@@ -7,13 +7,9 @@ use Rattle.record_words.specs.declared.TheConstants.{FIRST_ROWS}
 use Rattle.rowex_core.specs.declared.event.Act.TheVariants.{LoadFixed}
 use Rattle.rowex_reading.specs.Reads.{Reads}
 use Rattle.rowex_reading.proofs.Led.{reader_then, reads_none, reads_one, reads_trans}
-use Rattle.rowex_reading.proofs.Standing.{led_in_table}
 use Rattle.rowex_reading.proofs.Stepping.{back_begun, back_loaded, back_spelled, both_read, front_height_low, front_spelled, step_read}
 use Rattle.rowex_reading.proofs.Wording.{fewer_loaded, led_stood, next_loaded, none_loaded}
 use Rattle.rowex_reading.proofs.reading.find_step.Goals as goal
-
-pub start_of-start-requires : goal.start_of-start-requires
-start_of-start-requires g c = let l = c.requires.led in led_in_table c.args.table.now.layout c.args.seat.now.known l.0 (Node c.args.number l.1) c.requires.reader.1 l.2
 
 pub loop-index-init : goal.loop-index-init
 loop-index-init g c = record {

@@ -1,6 +1,5 @@
 -- The length, one word more, a word that is another key's, and the value.
-use Rattle.std.proofs.Common.{◌+◌, ◌-◌, ◌<◌, ◌≤◌, ◌∙◌, length, ap, sym, subst, arith, rules}
-use Rattle.compound_node.specs.declared.entries.Entry.TheVariants.{Leaf}
+use Rattle.std.proofs.Common.{◌+◌, ◌-◌, ◌<◌, ◌≤◌, ◌∙◌, sym, subst, arith, rules}
 use Rattle.versions.specs.declared.Rec.TheVariants.{Leaf as a_leaf}
 use Rattle.record_words.specs.declared.TheConstants.{LEAF_FIELDS}
 use Rattle.rowex_core.specs.declared.event.Act.TheVariants.{LoadFixed}
@@ -10,29 +9,25 @@ use Rattle.record_words.specs.Leaf.{words_for}
 use Rattle.rowex_reading.proofs.Leafing.{room_of}
 use Rattle.rowex_reading.proofs.Comparing.{IsKeyWord, words_with, byte_word, first_same, length_word, next_same, other_key, same_key}
 use Rattle.rowex_reading.proofs.Led.{reader_then, reads_one, reads_trans}
-use Rattle.rowex_reading.proofs.Standing.{led_in_table}
 use Rattle.rowex_reading.proofs.Wording.{none_loaded}
-use Rattle.rowex_reading.proofs.reading.load_value.Goals as goal
+use Rattle.rowex_reading.proofs.reading.load_value_of.Goals as goal
 
-pub start_of-start-requires : goal.start_of-start-requires
-start_of-start-requires g c = let l = c.requires.led in led_in_table c.args.table.now.layout c.args.seat.now.known l.0 (Leaf c.args.number) c.requires.reader.1 l.1
+pub returns-then-load_fixed_from-size-clause-reads : goal.returns-then-load_fixed_from-size-clause-reads
+returns-then-load_fixed_from-size-clause-reads g c = (1, omega arith, reads_one (LoadFixed (a_leaf c.args.number) 2 c.load_fixed_from.result) tt c.load_fixed_from.ensures)
 
-pub returns-then-load_fixed_from-length-clause-reads : goal.returns-then-load_fixed_from-length-clause-reads
-returns-then-load_fixed_from-length-clause-reads g c = (1, omega arith, reads_one (LoadFixed (a_leaf c.args.number) 2 c.load_fixed_from.result) tt c.load_fixed_from.ensures)
-
-pub returns-then-load_fixed_from-length-clause-leaf : goal.returns-then-load_fixed_from-length-clause-leaf
-returns-then-load_fixed_from-length-clause-leaf g c = λ m led.
+pub returns-then-load_fixed_from-size-clause-leaf : goal.returns-then-load_fixed_from-size-clause-leaf
+returns-then-load_fixed_from-size-clause-leaf g c = λ m led.
     other_key _ _ c.args.number c.args.key.now m led _ _ 1 c.load_fixed_from.result _ (none_loaded c.args.seat.now.known (a_leaf c.args.number) _) (omega arith) (omega arith) c.load_fixed_from.ensures.event
-    (λ e. c.if-load_fixed_from-length.true (e ∙ (length_word c.args.key.now ∙ sym (ap length c.as_bytes.ensures.bytes))))
+    (λ e. c.if-load_fixed_from-size.true (e ∙ (length_word c.args.key.now ∙ sym c.requires.key.1)))
 
 pub loop-index-init : goal.loop-index-init
 loop-index-init g c =
     let l = c.requires.led in
     let one = reads_one (LoadFixed (a_leaf c.args.number) 2 c.load_fixed_from.result) tt c.load_fixed_from.ensures in
-    let size = ap length c.as_bytes.ensures.bytes in
-    let short = c.as_bytes.ensures.key.short in
+    let size = c.requires.key.1 in
+    let short = c.requires.key.0.short in
     let reader = reader_then c.requires.reader one in
-    let loaded = first_same _ _ c.args.number c.args.key.now l.0 l.1 _ c.load_fixed_from.result c.load_fixed_from.ensures.event (omega (arith, size, c.if-load_fixed_from-length.false)) in
+    let loaded = first_same _ _ c.args.number c.args.key.now l.0 l.1 _ c.load_fixed_from.result c.load_fixed_from.ensures.event (omega (arith, size, c.if-load_fixed_from-size.false)) in
     let room = subst (λ z. words_for z ≤ leaf_size c.args.table.now.layout c.args.number) (length_word c.args.key.now)
     (room_of c.args.table.now.layout _ _ c.args.number (IsKeyWord 2) (words_with c.args.key.now) reader.1 loaded (omega arith, omega arith) l.0 l.1) in
     record {
@@ -84,4 +79,4 @@ returns-clause-leaf g c = λ m led.
     let i = c.loop-index.invariant in
     let one = reads_one (LoadFixed (a_leaf c.args.number) 1 c.load_fixed_from-2.result) tt c.load_fixed_from-2.ensures in
     same_key _ _ c.args.number c.args.key.now m led _ _ c.loop-index.index c.load_fixed_from-2.result (reader_then i.reader one).1 i.loaded
-    (omega (arith, i.end_is, c.loop-index-test.false, c.loop-index.auto.index-end)) c.load_fixed_from-2.ensures.event (record { key = c.as_bytes.ensures.key; value = search rules })
+    (omega (arith, i.end_is, c.loop-index-test.false, c.loop-index.auto.index-end)) c.load_fixed_from-2.ensures.event (record { key = c.requires.key.0; value = search rules })

@@ -7,7 +7,7 @@ use Rattle.record_words.specs.Leaf.{words_of_key}
 use Rattle.rowex_reading.specs.Reads.{IsReader, Reads}
 use Rattle.rowex_reading.proofs.Comparing.{IsKeyWord, words_with}
 use Rattle.rowex_reading.proofs.Wording.{AreLoaded}
-use Rattle.rowex_reading.proofs.reading.load_value.Given as goal
+use Rattle.rowex_reading.proofs.reading.load_value_of.Given as goal
 
 abbrev pub invariant-loop-index : goal.invariant-loop-index
 invariant-loop-index g l = record {
