@@ -1,6 +1,6 @@
 -- What a call for a key says, where it was made.
-use Rattle.std.proofs.Common.{◌≡◌, ◌≢◌, ◌↔◌, ℕ, List, length, ◌≤◌, Option, None, Some, Result, Ok, Err, IsOk, IfOk, IfErr, MatchResult, refl, sym, ap, ◌∙◌, subst, arith}
-use Rattle.std.specs.Prelude.{IsOkAnd}
+use Rattle.std.proofs.Common.{◌≡◌, ◌≢◌, ◌↔◌, ℕ, List, length, ◌≤◌, Option, None, Some, Result, Ok, Err, IsOk, IfErr, refl, sym, ◌∙◌, subst, arith}
+use Rattle.key_bits.specs.Key.{IsKey}
 use Rattle.key_bits.specs.declared.KeyFault.{KeyFault}
 use Rattle.key_bits.specs.declared.TheConstants.{MAX_BYTES}
 use Rattle.finite_map.specs.declared.Call.{Call}
@@ -11,7 +11,7 @@ use Rattle.rowex_writing.specs.declared.attempts.TryFault.TheVariants.{Busy, Ful
 use Rattle.seat_calls.specs.Answers.{MayRefuse}
 use Rattle.seat_calls.specs.Calls.{IsCallTried, MakesSteps}
 use Rattle.hot_index.specs.Handles.{HandleView, Stays}
-use Rattle.hot_c.specs.Calls.{Answers, HasOutcome, FitsInKey, IsCallFor}
+use Rattle.hot_c.specs.Calls.{Answers, HasOutcome, FitsInKey}
 use Rattle.hot_c.specs.Statuses.{reply_status, value_after}
 use Rattle.hot_c.specs.declared.opened.Opened.{Opened}
 
@@ -73,15 +73,6 @@ pub unrefused : (call : Call) (outcome : Result Reply TryFault) (status : ℕ) (
     status ≢ reply_status (Err fault)
 unrefused call outcome status fault may never told e = never (subst (λ o. IfErr o (MayRefuse call)) (same_fault outcome fault (sym told ∙ e)) may)
 
--- the bytes of a key are fit for one
-pub of_key : (bytes k : List ℕ) (r : Result (List ℕ) KeyFault) → r ≡ Ok k → (IsOk r ↔ (length bytes ≤ MAX_BYTES)) → IfOk r (λ key. key ≡ bytes) → (k ≡ bytes) × FitsInKey bytes
-of_key bytes k r is fits same = (subst (λ (x : Result (List ℕ) KeyFault). IfOk x (λ key. key ≡ bytes)) is same, fits.0 (subst IsOk (sym is) refl))
-
--- the call for these bytes, made of the key that they are
-pub call_of_bytes : (Made : List ℕ → Call → Type 0) (for : List ℕ → Call) (bytes : List ℕ) (r : Result (List ℕ) KeyFault) (call : Result Call KeyFault) → (IsOk r ↔ (length bytes ≤ MAX_BYTES)) →
-    IfOk r (λ key. key ≡ bytes) → MatchResult r (λ key. IsOkAnd call (Made key)) (λ fault. call ≡ Err fault) → ((key : List ℕ) (call : Call) → Made key call → call ≡ for key) →
-    IsCallFor bytes (for bytes) call
-call_of_bytes Made for bytes (Ok key) (Ok call) fits same made is_for = (is_for key call made ∙ ap for same, fits.0 refl)
-call_of_bytes Made for bytes (Ok key) (Err fault) fits same made is_for = absurd (made)
-call_of_bytes Made for bytes (Err fault) (Ok call) fits same made is_for = absurd (cc)
-call_of_bytes Made for bytes (Err fault) (Err other) fits same made is_for = λ short. absurd (let z = fits.1 short in cc)
+-- the bytes that a key took are fit for one
+pub of_key : (bytes key : List ℕ) (r : Result (Unit {0}) KeyFault) → r ≡ Ok tt → (IsOk r ↔ (length bytes ≤ MAX_BYTES)) → (IsOk r → (key ≡ bytes) × IsKey key) → (key ≡ bytes) × FitsInKey bytes
+of_key bytes key r is fits same = let ok : IsOk r = subst IsOk (sym is) refl in ((same ok).0, fits.0 ok)

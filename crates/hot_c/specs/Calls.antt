@@ -1,8 +1,8 @@
 -- What the calls of a program in C say.
-use Rattle.std.specs.Prelude.{◌≡◌, ℕ, ◌≤◌, List, length, map, All, slice_get, Option, Some, None, IsSome, Result, Ok, Err, MatchResult}
-use Rattle.key_bits.specs.declared.KeyFault.{KeyFault}
+use Rattle.std.specs.Prelude.{◌≡◌, ℕ, ◌≤◌, List, length, map, All, slice_get, Option, Some, None, IsSome, Result, MatchResult}
 use Rattle.key_bits.specs.declared.TheConstants.{MAX_BYTES}
 use Rattle.finite_map.specs.declared.Call.{Call}
+use Rattle.finite_map.specs.declared.Call.TheVariants.{Exchange, Get, Insert, Remove, RemoveIf, Upsert}
 use Rattle.finite_map.specs.declared.Reply.{Reply}
 use Rattle.record_words.specs.Limits.{IsPassCount, IsStockPassCount, IsNodeCount, IsLeafCount, IsRecordCount}
 use Rattle.record_words.specs.Layout.{HasStock, leaves_of}
@@ -38,10 +38,14 @@ pub record StaysOpen (Became : TableView → PassView → PassView → Type 0) (
 abbrev pub HasOutcome : Call → Result Reply TryFault → TableView → PassView → PassView → Type 0
 HasOutcome call outcome index k j = MatchResult outcome (IsNoted index.layout k j call) (IsRefused index.layout call k j)
 
--- the call for a key, if that is short enough
-abbrev pub IsCallFor : List ℕ → Call → Result Call KeyFault → Type 0
-IsCallFor key asked (Ok call) = (call ≡ asked) × FitsInKey key
-IsCallFor key asked (Err fault) = ¬ FitsInKey key
+-- the call with this key in place of its own
+abbrev pub with_key : List ℕ → Call → Call
+with_key key (Insert own value) = Insert key value
+with_key key (Upsert own value) = Upsert key value
+with_key key (Exchange own expected value) = Exchange key expected value
+with_key key (Get own) = Get key
+with_key key (Remove own) = Remove key
+with_key key (RemoveIf own expected) = RemoveIf key expected
 
 -- A call for a key through a handle, which finds `before` where C wants a value and leaves `after`. A closed handle and a key that
 -- is too long are told as such, and nothing has changed; else the call is made, by its steps, and its outcome told.

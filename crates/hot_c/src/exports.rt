@@ -1,12 +1,11 @@
 //! The calls for programs in C. `c/hot.h` says how to use them.
 
-ghost use Rattle.std.specs.Prelude.{◌≡◌, ◌≢◌, ◌⊎◌, ℕ, List, Err, IsSome, None, Some, length};
+ghost use Rattle.std.specs.Prelude.{◌≡◌, ◌≢◌, ◌⊎◌, ◌↔◌, ℕ, List, Err, IsOk, IsSome, None, Some, length};
 ghost use Rattle.finite_map.specs.declared.Call.TheVariants.{Exchange, Get, Insert, Remove, RemoveIf, Upsert};
-ghost use Rattle.finite_map.specs.declared.Call.{Call as CallValue};
 ghost use Rattle.rowex_writing.specs.declared.attempts.TryFault.{TryFault};
 ghost use Rattle.seat_calls.specs.Answers.{MayRefuse};
 ghost use Rattle.hot_c.specs.declared.opened.Opened.{Opened};
-ghost use Rattle.hot_c.specs.Calls.{Answers, AreClosed, HasGivenBack, HasSeenRecords, HaveOpened, HaveOpenedStock, IsCallFor, IsSize, IsStockSize, StaysOpen};
+ghost use Rattle.hot_c.specs.Calls.{Answers, AreClosed, FitsInKey, HasGivenBack, HasSeenRecords, HaveOpened, HaveOpenedStock, IsSize, IsStockSize, StaysOpen, with_key};
 ghost use Rattle.hot_c.specs.Lookups.{LooksUpAll};
 ghost use Rattle.hot_c.specs.Statuses.{reply_status};
 ghost use Rattle.hot_c.specs.Stocks.{TakesBytes, stock_in};
@@ -123,8 +122,9 @@ pub extern "C" fn hot_get(handle: &mut Handle, key: &[u8], value: &mut u64) -> u
     if !handle.is_open() {
         return CLOSED;
     }
-    match &Key::from_bytes(key) {
-        Ok(key) => tell(Ok(handle.slot.lend().get(key)), value),
+    let mut asked = Key::empty();
+    match asked.set_bytes(key) {
+        Ok(()) => tell(Ok(handle.slot.lend().get(&asked)), value),
         Err(_) => KEY_TOO_LONG,
     }
 }
@@ -160,8 +160,8 @@ pub extern "C" fn hot_get_many(
 pub extern "C" fn hot_try_insert(handle: &mut Handle, key: &[u8], value: u64, had: &mut u64) -> u32
     ensures call { Answers key.now (Insert key.now value) handle.old.slot.opened handle.new.slot.opened had.old had.new result }
 {
-    let call = Key::from_bytes(key).map(|key| Call::Insert(key, value));
-    make_call(handle, &call, had)
+    let mut call = Call::Insert(Key::empty(), value);
+    make_call(handle, &mut call, key, had)
 }
 
 /// Gives a key a value, whether it has one or not: `NEW`, or `WAS` with the value that it had.
@@ -169,8 +169,8 @@ pub extern "C" fn hot_try_insert(handle: &mut Handle, key: &[u8], value: u64, ha
 pub extern "C" fn hot_try_upsert(handle: &mut Handle, key: &[u8], value: u64, had: &mut u64) -> u32
     ensures call { Answers key.now (Upsert key.now value) handle.old.slot.opened handle.new.slot.opened had.old had.new result }
 {
-    let call = Key::from_bytes(key).map(|key| Call::Upsert(key, value));
-    make_call(handle, &call, had)
+    let mut call = Call::Upsert(Key::empty(), value);
+    make_call(handle, &mut call, key, had)
 }
 
 /// Gives a key a new value if it has the expected one (`EXCHANGED`). Else it changes nothing: `DIFFERS` with the value that the key
@@ -185,8 +185,8 @@ pub extern "C" fn hot_try_exchange(
 ) -> u32
     ensures call { Answers key.now (Exchange key.now expected value) handle.old.slot.opened handle.new.slot.opened had.old had.new result }
 {
-    let call = Key::from_bytes(key).map(|key| Call::Exchange(key, expected, value));
-    make_call(handle, &call, had)
+    let mut call = Call::Exchange(Key::empty(), expected, value);
+    make_call(handle, &mut call, key, had)
 }
 
 /// Removes a key: `REMOVED` with the value that it had, or `ABSENT`. It needs no leaf record, so it never answers `FULL_LEAVES`.
@@ -195,8 +195,8 @@ pub extern "C" fn hot_try_remove(handle: &mut Handle, key: &[u8], had: &mut u64)
     ensures call { Answers key.now (Remove key.now) handle.old.slot.opened handle.new.slot.opened had.old had.new result }
     ensures leafless { result ≢ FULL_LEAVES }
 {
-    let call = Key::from_bytes(key).map(|key| Call::Remove(key));
-    make_call(handle, &call, had)
+    let mut call = Call::Remove(Key::empty());
+    make_call(handle, &mut call, key, had)
 }
 
 /// Removes a key if it has the expected value (`REMOVED` with that value). Else it changes nothing: `DIFFERS` with the value that
@@ -211,23 +211,50 @@ pub extern "C" fn hot_try_remove_if(
     ensures call { Answers key.now (RemoveIf key.now expected) handle.old.slot.opened handle.new.slot.opened had.old had.new result }
     ensures leafless { result ≢ FULL_LEAVES }
 {
-    let call = Key::from_bytes(key).map(|key| Call::RemoveIf(key, expected));
-    make_call(handle, &call, had)
+    let mut call = Call::RemoveIf(Key::empty(), expected);
+    make_call(handle, &mut call, key, had)
 }
 
-/// Makes a call, if the handle is open and the call's key is not too long.
-fn make_call(handle: &mut Handle, call: &Result<Call, KeyFault>, had: &mut u64) -> u32
-    ensures call { (key : List ℕ) (asked : CallValue) → IsCallFor key asked call.now →
-        Answers key asked handle.old.slot.opened handle.new.slot.opened had.old had.new result }
-    ensures may { (key : List ℕ) (asked : CallValue) → IsCallFor key asked call.now → (fault : TryFault) → ¬ MayRefuse asked fault → result ≢ reply_status (Err fault) }
+/// Makes a call with this key in place of its own, if the handle is open and the key is not too long. Inline, so that the key's bytes
+/// are written once, where the call stands.
+#[inline(always)]
+fn make_call(handle: &mut Handle, call: &mut Call, key: &[u8], had: &mut u64) -> u32
+    ensures call { Answers key.now (with_key key.now call.old) handle.old.slot.opened handle.new.slot.opened had.old had.new result }
+    ensures may { (fault : TryFault) → ¬ MayRefuse (with_key key.now call.old) fault → result ≢ reply_status (Err fault) }
 {
     if !handle.is_open() {
         return CLOSED;
     }
-    match call {
-        Ok(call) => tell(handle.slot.lend().handle.try_call(call), had),
+    match set_key(call, key) {
+        Ok(()) => make_open(handle, call, had),
         Err(_) => KEY_TOO_LONG,
     }
+}
+
+/// Gives a call this key in place of its own, if it is not too long.
+#[inline(always)]
+fn set_key(call: &mut Call, key: &[u8]) -> Result<(), KeyFault>
+    ensures fits { IsOk result ↔ FitsInKey key.now }
+    ensures ok { IsOk result → call.new ≡ with_key key.now call.old }
+{
+    match call {
+        Call::Insert(own, _) => own.set_bytes(key),
+        Call::Upsert(own, _) => own.set_bytes(key),
+        Call::Exchange(own, _, _) => own.set_bytes(key),
+        Call::Get(own) => own.set_bytes(key),
+        Call::Remove(own) => own.set_bytes(key),
+        Call::RemoveIf(own, _) => own.set_bytes(key),
+    }
+}
+
+/// Makes a call through an open handle.
+#[inline(never)]
+fn make_open(handle: &mut Handle, call: &Call, had: &mut u64) -> u32
+    requires { IsSome handle.old.slot.opened }
+    ensures call { (key : List ℕ) → FitsInKey key → Answers key call.now handle.old.slot.opened handle.new.slot.opened had.old had.new result }
+    ensures may { (fault : TryFault) → ¬ MayRefuse call.now fault → result ≢ reply_status (Err fault) }
+{
+    tell(handle.slot.lend().handle.try_call(call), had)
 }
 
 /// Makes one round of collection, and writes how many node and leaf records it gave back.

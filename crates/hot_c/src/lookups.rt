@@ -32,8 +32,9 @@ pub fn keys_of(alloc: Global, lookups: &[Lookup<'_>]) -> Result<Vec<Key>, AllocE
 {
     let mut keys = Vec::with_capacity(alloc, lookups.len())?;
     for lookup in lookups {
-        match Key::from_bytes(lookup.key) {
-            Ok(key) => keys.push(key)?,
+        let mut key = Key::empty();
+        match key.set_bytes(lookup.key) {
+            Ok(()) => keys.push(key)?,
             Err(_) => unreachable!(),
         }
     }

@@ -113,11 +113,13 @@ pub fn fill(
     if !handle.is_open() {
         return Err(CLOSED);
     }
-    let (Ok(from), Ok(upto)) = (&Key::from_bytes(from), &Key::from_bytes(upto)) else {
+    let mut first = Key::empty();
+    let mut last = Key::empty();
+    let (Ok(()), Ok(())) = (first.set_bytes(from), last.set_bytes(upto)) else {
         return Err(KEY_TOO_LONG);
     };
     let opened = handle.slot.lend();
-    match opened.scan(order, from, upto, limit) {
+    match opened.scan(order, &first, &last, limit) {
         Ok(is_more) => Ok((opened.list.len(), is_more)),
         Err(_) => {
             opened.empty_list(alloc);

@@ -6,5 +6,5 @@ use Rattle.hot_c.proofs.exports.hot_get.Goals as goal
 
 pub returns-in-Ok-clause-call : goal.returns-in-Ok-clause-call
 returns-in-Ok-clause-call c =
-    let fit = of_key c.args.key.now _ _ c.in-Ok.is c.from_bytes.ensures.fits c.from_bytes.ensures.ok in
+    let fit = of_key c.args.key.now _ _ c.in-Ok.is c.set_bytes.ensures.fits c.set_bytes.ensures.ok in
     answered c.args.key.now (Get _) (Get c.args.key.now) _ _ _ _ _ _ _ (Ok c.get.result) c.lend.ensures.value refl c.get.ensures (ap Get fit.0) fit.1 c.tell.ensures.status c.tell.ensures.value

@@ -1,16 +1,6 @@
--- A removal of the value is asked for, which needs no leaf record.
-use Rattle.std.proofs.Common.{rules}
-use Rattle.finite_map.specs.declared.Call.TheVariants.{RemoveIf}
+-- A removal of the value needs no leaf record.
 use Rattle.rowex_writing.specs.declared.attempts.TryFault.TheVariants.{FullLeaves}
-use Rattle.hot_c.proofs.Answered.{call_of_bytes}
 use Rattle.hot_c.proofs.exports.hot_try_remove_if.Goals as goal
 
-pub returns-clause-call : goal.returns-clause-call
-returns-clause-call c = c.make_call.ensures.call c.args.key.now (RemoveIf c.args.key.now c.args.expected)
-    (call_of_bytes _ (λ key. RemoveIf key c.args.expected) c.args.key.now _ _ c.from_bytes.ensures.fits c.from_bytes.ensures.ok c.map-call.ensures.cases (λ key call made. search rules))
-
 pub returns-clause-leafless : goal.returns-clause-leafless
-returns-clause-leafless c =
-    let never = c.make_call.ensures.may c.args.key.now (RemoveIf c.args.key.now c.args.expected)
-    (call_of_bytes _ (λ key. RemoveIf key c.args.expected) c.args.key.now _ _ c.from_bytes.ensures.fits c.from_bytes.ensures.ok c.map-call.ensures.cases (λ key call made. search rules)) in
-    never FullLeaves (λ may. may)
+returns-clause-leafless c = c.make_call.ensures.may FullLeaves (λ may. may)
