@@ -82,7 +82,7 @@ static void test_census(void) {
     CHECK(hot_census(&handle, &counts) == HOT_CLOSED && counts.nodes.free == 0xeeeeeeee);
     CHECK(hot_create(100, 200, &handle, 1) == HOT_DONE);
     CHECK(hot_census(&handle, &counts) == HOT_DONE && are(counts.nodes, 100, 0, 0, 0) && are(counts.long_leaves, 200, 0, 0, 0));
-    CHECK(counts.bytes == 192 + 64 + 464 * 100 + 264 * 200);
+    CHECK(counts.bytes == 384 + 128 + 464 * 100 + 264 * 200);
     CHECK(hot_try_insert(&handle, bytes("a"), 1, 1, &had) == HOT_INSERTED);
     CHECK(hot_census(&handle, &counts) == HOT_DONE && are(counts.nodes, 100, 0, 0, 0) && are(counts.long_leaves, 199, 0, 1, 0));
     CHECK(hot_try_insert(&handle, bytes("b"), 1, 2, &had) == HOT_INSERTED);
@@ -491,8 +491,8 @@ static void test_stock_sizes(void) {
     size_t size = 7;
     hot_stock_for_keys(7, 8, &stock);
     CHECK(stock.nodes == 512 && stock.short_leaves == 519 && !stock.medium_leaves && !stock.large_leaves);
-    CHECK(hot_stock_bytes(&stock, 1, &size) == HOT_DONE && size == 254432);
-    CHECK(hot_stock_bytes(&stock, MANY + 1, &size) == HOT_OUT_OF_RANGE && size == 254432);
+    CHECK(hot_stock_bytes(&stock, 1, &size) == HOT_DONE && size == 254688);
+    CHECK(hot_stock_bytes(&stock, MANY + 1, &size) == HOT_OUT_OF_RANGE && size == 254688);
     CHECK(hot_create_with(&stock, handles, 0) == HOT_OUT_OF_RANGE);
     CHECK(hot_create_with(&stock, handles, MANY) == HOT_DONE);
     for (int i = 0; i < MANY; i++)

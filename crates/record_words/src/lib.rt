@@ -40,9 +40,10 @@ pub const MAX_LEAVES: u32 = 262_143;
 /// How many bytes a word has.
 pub const WORD_BYTES: usize = 8;
 
-/// How many words a cache line has. Words that different threads write often stand at least so far apart: then no two share
-/// a line, wherever in memory the table begins, and no thread's writes slow down what another does.
-pub const LINE_WORDS: usize = 8;
+/// How many words a processor may fetch together: two cache lines, since with one it often fetches the one beside it. Words that
+/// different threads write often stand at least so far apart: then no two share a line, wherever in memory the table begins, nor two
+/// lines that are fetched together, and no thread's writes slow down what another does.
+pub const LINE_WORDS: usize = 16;
 
 /// The word of the epoch. Gets, scans and changes load it and the root, so these two may share a line.
 pub const EPOCH_WORD: usize = 0;

@@ -9,6 +9,7 @@ use Rattle.finite_map.specs.declared.Kind.TheVariants.{Added, Replaced, Removed}
 use Rattle.finite_map.specs.Maps.{Map, map_after, step_where, value_at}
 use Rattle.finite_map.specs.declared.Call.TheVariants.{Upsert, Remove}
 use Rattle.finite_map.specs.Fronts.{map_of, changed, changed_by, FitsKind, Fits, LegalFrom}
+use Rattle.record_words.specs.declared.TheConstants.{ANCHOR_WORD}
 use Rattle.record_words.specs.Layout.{address, word_count, IsInTable}
 use Rattle.record_words.specs.declared.layout.Layout.{Layout}
 use Rattle.record_words.specs.declared.layout.Location.{Location}
@@ -43,8 +44,8 @@ zeros : (n i : ℕ) → ◌≡◌ {A = ℕ} (get_or (replicate n 0) i 0) 0
 zeros n i = ⊎_elim (λ (h : i < n). get_or-replicate {A = ℕ} n i 0 0 h) (λ (h : n ≤ i). get_or_past {X = ℕ} (replicate n 0) i 0 (omega (arith, length-replicate {A = ℕ} n 0))) (cases_lt i n)
 
 -- all words are 0 but those of the epoch and of the anchor
-other_zero : (layout : Layout) (i : ℕ) → i ≢ 0 → i ≢ 16 → get_or (opening_words layout) i 0 ≡ 0
-other_zero layout i no_epoch no_anchor = get_or-set_other _ 16 i 2 0 no_anchor ∙ (get_or-set_other _ 0 i 1 0 no_epoch ∙ zeros (word_count layout) i)
+other_zero : (layout : Layout) (i : ℕ) → i ≢ 0 → i ≢ ANCHOR_WORD → get_or (opening_words layout) i 0 ≡ 0
+other_zero layout i no_epoch no_anchor = get_or-set_other _ ANCHOR_WORD i 2 0 no_anchor ∙ (get_or-set_other _ 0 i 1 0 no_epoch ∙ zeros (word_count layout) i)
 
 opening_record : (layout : Layout) (r : Rec) (offset : ℕ) → record_word (opening layout) r offset ≡ 0
 opening_record layout r zero = refl
@@ -60,12 +61,12 @@ opening_shows layout = record { size = size; each = each }
     long = length-replicate {A = ℕ} (word_count layout) 0
 
     size : length (opening_words layout) ≡ word_count layout
-    size = length-set (set words 0 1) 16 2 ∙ (length-set words 0 1 ∙ long)
+    size = length-set (set words 0 1) ANCHOR_WORD 2 ∙ (length-set words 0 1 ∙ long)
 
     each : (location : Location) → IsInTable layout location → get_or (opening_words layout) (address layout location) 0 ≡ word_at (opening layout) location
-    each Epoch h = get_or-set_other (set words 0 1) 16 0 2 0 (omega arith) ∙ get_or-set_same words 0 1 0 (omega (arith, long))
+    each Epoch h = get_or-set_other (set words 0 1) ANCHOR_WORD 0 2 0 (omega arith) ∙ get_or-set_same words 0 1 0 (omega (arith, long))
     each RootWord h = other_zero layout 1 (omega arith) (omega arith)
-    each AnchorWord h = get_or-set_same (set words 0 1) 16 2 0 (omega (arith, length-set words 0 1, long))
+    each AnchorWord h = get_or-set_same (set words 0 1) ANCHOR_WORD 2 0 (omega (arith, length-set words 0 1, long))
     each (PinOf q) h = other_zero layout (address layout (PinOf q)) (omega arith) (omega arith)
     each (NodeWord n offset) h = other_zero layout (address layout (NodeWord n offset)) (omega arith) (omega arith) ∙ sym (opening_record layout (a_node n) offset)
     each (LeafWord n offset) h = other_zero layout (address layout (LeafWord n offset)) (omega arith) (omega arith) ∙ sym (opening_record layout (a_leaf n) offset)

@@ -246,19 +246,19 @@ fn layouts_have_their_places(rt: HostRuntime) {
     for (word, location) in [
         (0, Location::Epoch),
         (1, Location::Root),
-        (16, Location::Anchor),
-        (24, Location::Pin(0)),
-        (32, Location::Pin(1)),
-        (40, Location::NodeWord { node: 0, offset: 0 }),
-        (98, Location::NodeWord { node: 1, offset: 0 }),
-        (504, Location::LeafWord { leaf: 0, offset: 0 }),
+        (32, Location::Anchor),
+        (48, Location::Pin(0)),
+        (64, Location::Pin(1)),
+        (80, Location::NodeWord { node: 0, offset: 0 }),
+        (138, Location::NodeWord { node: 1, offset: 0 }),
+        (544, Location::LeafWord { leaf: 0, offset: 0 }),
     ] {
         assert!(rt; layout.address(location) == word && layout.location(word).is_some());
     }
-    for word in [2, 8, 15, 17, 23, 25, 31, 33, 39, 768, 1_000_000] {
+    for word in [2, 16, 31, 33, 47, 49, 63, 65, 79, 808, 1_000_000] {
         assert!(rt; layout.location(word).is_none(), "at {word}");
     }
-    assert!(rt; layout.words() == 768);
+    assert!(rt; layout.words() == 808);
 }
 
 /// The word at this place of a leaf record, which begins at this word, is known as such.
@@ -294,21 +294,21 @@ fn leaf_records_have_their_sizes(rt: HostRuntime) {
         panic!(rt; "no layout");
     };
     for (leaf, word, size) in [
-        (0, 504, 4),
-        (1, 508, 4),
-        (2, 512, 6),
-        (3, 518, 10),
-        (4, 528, 14),
-        (5, 542, 33),
-        (7, 608, 33),
+        (0, 544, 4),
+        (1, 548, 4),
+        (2, 552, 6),
+        (3, 558, 10),
+        (4, 568, 14),
+        (5, 582, 33),
+        (7, 648, 33),
     ] {
         expect_leaf(&rt, &layout, leaf, word, size);
     }
     assert!(rt;
-        layout.pin(1) == 32
-            && layout.words() == 641
-            && layout.bytes() == 5_128
-            && layout.location(641).is_none()
+        layout.pin(1) == 64
+            && layout.words() == 681
+            && layout.bytes() == 5_448
+            && layout.location(681).is_none()
     );
 }
 
