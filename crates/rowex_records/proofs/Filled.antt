@@ -25,7 +25,7 @@ use Rattle.rowex_table.specs.Rights.{OwnsAs}
 use Rattle.rowex_table.specs.Runs.{Steps}
 use Rattle.rowex_table.specs.Seats.{TableView, SeatView}
 use Rattle.rowex_core.proofs.Having.{other_rec}
-use Rattle.rowex_records.specs.Records.{fill_with, Readies, GivesUp}
+use Rattle.rowex_records.specs.Records.{fill_with, stored, stored_in, Readies, GivesUp}
 use Rattle.rowex_records.proofs.Making.{owns_one}
 
 -- Lists of records
@@ -44,14 +44,6 @@ passes_beside : (r s : Rec) → s ≢ r → not (same_rec s r) ≡ true
 passes_beside r s ne = rw (other_rec s r ne) refl
 
 -- Filling, word by word
-
--- the words of a record of which the first i have been stored
-abbrev pub stored : List ℕ → ℕ → List ℕ → List ℕ
-stored words zero old = old
-stored words (suc i) old = set (stored words i old) i (get_or words i 0)
-
-abbrev pub stored_in : Rec → List ℕ → ℕ → Owned → Owned
-stored_in r words i o = if same_rec o.rec r then record o { words = stored words i o.words } else o
 
 stored_none : (r : Rec) (words : List ℕ) (o : Owned) → stored_in r words 0 o ≡ o
 stored_none r words o = go (same_rec o.rec r)

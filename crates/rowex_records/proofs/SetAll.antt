@@ -37,8 +37,8 @@ use Rattle.rowex_table.proofs.ActsBefore.{later_trans, recalls_on, same_later}
 use Rattle.rowex_table.proofs.Rights.{mapped}
 use Rattle.rowex_table.proofs.Running as running
 use Rattle.rowex_table.proofs.Running.{in_turn_more}
-use Rattle.rowex_records.specs.Records.{owning, filling, fill_with, load_of_word, fill_unless_found, unused_word, Sets, SetsAll, SetsWord}
-use Rattle.rowex_records.proofs.Filled.{AreWithin, each_mapped, filled_with, leaf_filled_with, own_within, stored_in, stored_more, stored_nothing, twice}
+use Rattle.rowex_records.specs.Records.{owning, filling, fill_with, load_of_word, fill_unless_found, unused_word, stored_in, Sets, SetsAll, SetsMore, SetsSome, SetsWord}
+use Rattle.rowex_records.proofs.Filled.{AreWithin, each_mapped, filled_with, leaf_filled_with, own_within, stored_more, stored_nothing, twice}
 use Rattle.rowex_records.proofs.Making.{owns_one}
 
 -- ---- one word
@@ -197,18 +197,7 @@ module _ {G : Type 0} (table : TableView) (becomes : G → Event → G → Type 
       go true e = rw e (omega arith, omega arith)
       go false e = rw e (omega arith, omega arith)
 
-  -- The first i words stand.
-  pub record SetsSome (r : Rec) (words : List ℕ) (i : ℕ) (a b : SeatView × G) : Type 0 where
-    pub acts : List Act
-    pub in_turn : InTurn (λ i. SetsWord r (i + 1) (get_or words i 0)) i acts
-    pub least : i ≤ length acts
-    pub most : length acts ≤ 2 * i
-    pub does : Does table becomes filling acts a b
-    pub later : IsLater a.0.known b.0.known
-    pub held : IsClaimed b.0.known r
-    pub own : b.0.known.own ≡ map (stored_in r words i) a.0.known.own
-
-  pub sets_none : (r : Rec) (words : List ℕ) (a : SeatView × G) → IsClaimed a.0.known r → SetsSome r words 0 a a
+  pub sets_none : (r : Rec) (words : List ℕ) (a : SeatView × G) → IsClaimed a.0.known r → SetsSome table becomes r words 0 a a
   sets_none r words a held = record {
     acts = [];
     in_turn = refl;
@@ -220,7 +209,7 @@ module _ {G : Type 0} (table : TableView) (becomes : G → Event → G → Type 
     own = sym (stored_nothing r words a.0.known.own);
   }
 
-  pub sets_more : (r : Rec) (words : List ℕ) (i word : ℕ) (a m b : SeatView × G) → SetsSome r words i a m → word ≡ get_or words i 0 → Sets table becomes r (i + 1) word m b → SetsSome r words (i + 1) a b
+  pub sets_more : (r : Rec) (words : List ℕ) (i word : ℕ) (a m b : SeatView × G) → SetsSome table becomes r words i a m → word ≡ get_or words i 0 → Sets table becomes r (i + 1) word m b → SetsSome table becomes r words (i + 1) a b
   sets_more r words i word a m b some is sets =
       let part = subst (λ w. SetsWord r (i + 1) w sets.acts) is sets.sets in
       let (least, most) = sets_long r (i + 1) word sets.acts sets.sets in
@@ -236,13 +225,20 @@ module _ {G : Type 0} (table : TableView) (becomes : G → Event → G → Type 
             (ap (λ w. map (with_filled_word r (i + 1) w) (map (stored_in r words i) a.0.known.own)) is ∙ twice (with_filled_word r (i + 1) (get_or words i 0)) (stored_in r words i) (stored_in r words (i + 1)) (stored_more r words i) a.0.known.own));
       }
 
+  -- the first word, and seven times eight more
+  pub sets_eights : (r : Rec) (words : List ℕ) (word : ℕ) (a b b₁ b₂ b₃ b₄ b₅ b₆ b₇ : SeatView × G) → IsClaimed a.0.known r → word ≡ get_or words 0 0 → Sets table becomes r 1 word a b →
+      SetsMore table becomes r words 1 8 b b₁ → SetsMore table becomes r words 9 8 b₁ b₂ → SetsMore table becomes r words 17 8 b₂ b₃ → SetsMore table becomes r words 25 8 b₃ b₄ →
+      SetsMore table becomes r words 33 8 b₄ b₅ → SetsMore table becomes r words 41 8 b₅ b₆ → SetsMore table becomes r words 49 8 b₆ b₇ → SetsSome table becomes r words 57 a b₇
+  sets_eights r words word a b b₁ b₂ b₃ b₄ b₅ b₆ b₇ held is first one two three four five six seven =
+      seven a (six a (five a (four a (three a (two a (one a (sets_more r words 0 word a a b (sets_none r words a held) is first)))))))
+
   -- a pass that makes a step knows of each of its records as many words as it has
   runs_within : (acts : List Act) (a b : SeatView × G) → 1 ≤ length acts → Runs table becomes acts a b → AreWithin table.layout a.0.known.own
   runs_within [] a b some run = absurd (omega arith)
   runs_within (act ∷ acts) a b some run = own_within table.layout run.1.event.core a.0.known run.1.event.layout_is run.1.event.lawful run.1.event.knows
 
   pub sets_all : (n : ℕ) (words : List ℕ) (a b : SeatView × G) → length words ≡ word_count_of (a_leaf n) → ((j : ℕ) → leaf_size table.layout n ≤ j + 1 → get_or words j 0 ≡ 0) →
-      SetsSome (a_leaf n) words (leaf_size table.layout n - 1) a b → SetsAll table becomes (a_leaf n) words a b
+      SetsSome table becomes (a_leaf n) words (leaf_size table.layout n - 1) a b → SetsAll table becomes (a_leaf n) words a b
   sets_all n words a b size zeros some = record {
     sized = size;
     acts = some.acts;
@@ -256,7 +252,7 @@ module _ {G : Type 0} (table : TableView) (becomes : G → Event → G → Type 
   }
 
   -- all words of a node
-  pub sets_node : (n : ℕ) (words : List ℕ) (i : ℕ) (a b : SeatView × G) → length words ≡ word_count_of (a_node n) → i ≡ length words → SetsSome (a_node n) words i a b → SetsAll table becomes (a_node n) words a b
+  pub sets_node : (n : ℕ) (words : List ℕ) (i : ℕ) (a b : SeatView × G) → length words ≡ word_count_of (a_node n) → i ≡ length words → SetsSome table becomes (a_node n) words i a b → SetsAll table becomes (a_node n) words a b
   sets_node n words i a b size all some = record {
     sized = size;
     acts = some.acts;
@@ -270,7 +266,7 @@ module _ {G : Type 0} (table : TableView) (becomes : G → Event → G → Type 
   }
 
   -- in two steps at most for each
-  pub sets_count : (r : Rec) (words : List ℕ) (i : ℕ) (a b : SeatView × G) → SetsSome r words i a b → b.0.known.steps ≤ a.0.known.steps + 2 * i
+  pub sets_count : (r : Rec) (words : List ℕ) (i : ℕ) (a b : SeatView × G) → SetsSome table becomes r words i a b → b.0.known.steps ≤ a.0.known.steps + 2 * i
   sets_count r words i a b some = omega (arith, some.most, running.does_count table becomes filling some.acts a b some.does)
 
   -- and the record has these words then

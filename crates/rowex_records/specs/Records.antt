@@ -1,5 +1,5 @@
 -- Steps on records of a pass's own that are not in the tree: filled, made ready, given up.
-use Rattle.std.specs.Prelude.{◌≡◌, ◌≢◌, ◌⊎◌, ℕ, ◌+◌, ◌-◌, ◌^◌, List, [], ◌∷◌, length, map, get_or, nat_eq, nat_lt, All, Contains, if◌then◌else◌}
+use Rattle.std.specs.Prelude.{◌≡◌, ◌≢◌, ◌⊎◌, ℕ, zero, suc, ◌+◌, ◌-◌, ◌*◌, ◌^◌, ◌≤◌, List, [], ◌∷◌, length, map, set, get_or, nat_eq, nat_lt, All, Contains, if◌then◌else◌}
 use Rattle.versions.specs.declared.Rec.{Rec}
 use Rattle.versions.specs.declared.Rec.TheVariants.{Node as a_node, Leaf as a_leaf}
 use Rattle.versions.specs.Steps.{same_rec}
@@ -65,6 +65,29 @@ pub record Sets {G : Type 0} (table : TableView) (becomes : G → Event → G �
   pub does : Does table becomes filling acts a b
   pub later : IsLater a.0.known b.0.known
   pub own : b.0.known.own ≡ map (with_filled_word r offset word) a.0.known.own
+
+-- the words of a record of which the first i have been stored
+abbrev pub stored : List ℕ → ℕ → List ℕ → List ℕ
+stored words zero old = old
+stored words (suc i) old = set (stored words i old) i (get_or words i 0)
+
+abbrev pub stored_in : Rec → List ℕ → ℕ → Owned → Owned
+stored_in r words i o = if same_rec o.rec r then record o { words = stored words i o.words } else o
+
+-- The first i of the words come to stand so, in one step or two for each. The record stays claimed.
+pub record SetsSome {G : Type 0} (table : TableView) (becomes : G → Event → G → Type 0) (r : Rec) (words : List ℕ) (i : ℕ) (a b : SeatView × G) : Type 0 where
+  pub acts : List Act
+  pub in_turn : InTurn (λ i. SetsWord r (i + 1) (get_or words i 0)) i acts
+  pub least : i ≤ length acts
+  pub most : length acts ≤ 2 * i
+  pub does : Does table becomes filling acts a b
+  pub later : IsLater a.0.known b.0.known
+  pub held : IsClaimed b.0.known r
+  pub own : b.0.known.own ≡ map (stored_in r words i) a.0.known.own
+
+-- the pass goes on so, where the first i words stand, with so many more
+abbrev pub SetsMore : {G : Type 0} → TableView → (G → Event → G → Type 0) → Rec → List ℕ → (i count : ℕ) → SeatView × G → SeatView × G → Type 0
+SetsMore {G = G} table becomes r words i count b c = (a : SeatView × G) → SetsSome table becomes r words i a b → SetsSome table becomes r words (i + count) a c
 
 -- The words come to stand from offset 1 on, as far as the table has words for the record, one after the other; an unused one that stands
 -- there already is not stored again. Of the pass's own records this one has them then, and the others are as they were.

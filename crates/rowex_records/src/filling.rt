@@ -13,7 +13,7 @@ ghost use Rattle.rowex_table.specs.Rights.{IsClaimed};
 ghost use Rattle.rowex_table.specs.Rule.{IsStartOf};
 ghost use Rattle.rowex_table.specs.Runs.{Steps};
 ghost use Rattle.rowex_table.specs.Seats.{IsSeatOf};
-ghost use Rattle.rowex_records.specs.Records.{IsFilled, Readies, Sets, SetsAll, load_of_word, unused_word};
+ghost use Rattle.rowex_records.specs.Records.{IsFilled, Readies, Sets, SetsAll, SetsMore, load_of_word, unused_word};
 
 use key_bits::Key;
 use record_words::{FIRST_ENTRY, HEAD_WORDS, NODE_FIELDS, key_word_at, key_words};
@@ -95,18 +95,45 @@ pub fn fill_words<G: Gate>(
     ensures steps { seat.new.known.steps ≤ seat.old.known.steps + 2 * NODE_FIELDS }
 {
     let start = table.start_of(Rec::Node(number));
-    for index in 0..HEAD_WORDS {
-        let offset = index as u8 + 1;
-        set_node_word(table, seat, gate, number, start, offset, words[index]);
-    }
-    for index in HEAD_WORDS..NODE_FIELDS {
+    set_node_word(table, seat, gate, number, start, 1, words[0]);
+    set_eight(table, seat, gate, number, start, words, 1);
+    set_eight(table, seat, gate, number, start, words, 9);
+    set_eight(table, seat, gate, number, start, words, 17);
+    set_eight(table, seat, gate, number, start, words, HEAD_WORDS);
+    set_eight(table, seat, gate, number, start, words, HEAD_WORDS + 8);
+    set_eight(table, seat, gate, number, start, words, HEAD_WORDS + 16);
+    set_eight(table, seat, gate, number, start, words, HEAD_WORDS + 24);
+}
+
+/// Sees to it that eight words of a claimed node record, which begins at `start`, are these: those from `words[first]` on. Inline, so that
+/// it is known where each stands.
+#[inline(always)]
+fn set_eight<G: Gate>(
+    table: &HotTable,
+    seat: &mut TableSeat,
+    gate: &mut G,
+    number: u32,
+    start: usize,
+    words: &[u64; NODE_FIELDS],
+    first: usize,
+)
+    requires own { IsSeatOf table.now seat.old }
+    requires range { (number < table.now.layout.nodes) × (first + 8 ≤ NODE_FIELDS) }
+    requires start { IsStartOf table.now.layout (a_node number) start }
+    requires held { IsClaimed seat.old.known (a_node number) }
+    ensures own { IsSeatOf table.now seat.new }
+    ensures held { IsClaimed seat.new.known (a_node number) }
+    ensures sets { SetsMore table.now G.becomes (a_node number) words.now first 8 (seat.old, gate.old) (seat.new, gate.new) }
+{
+    for place in 0..8 {
+        let index = first + place;
         let offset = index as u8 + 1;
         set_node_word(table, seat, gate, number, start, offset, words[index]);
     }
 }
 
-/// Sees to it that a word of a claimed node record, which begins at `start`, is this one. Inline, so that neither loop over the words tests
-/// which they are.
+/// Sees to it that a word of a claimed node record, which begins at `start`, is this one. Inline, so that which one
+/// it is isn't asked.
 #[inline(always)]
 fn set_node_word<G: Gate>(
     table: &HotTable,
@@ -124,9 +151,9 @@ fn set_node_word<G: Gate>(
     ensures { Sets table.now G.becomes (a_node number) offset word (seat.old, gate.old) (seat.new, gate.new) }
 {
     let rec = Rec::Node(number);
-    if word != unused_in_node(offset) {
-        table.fill_from(seat, gate, rec, start, offset, word);
-    } else if load_node_word(table, seat, gate, number, start, offset) != word {
+    if word != unused_in_node(offset)
+        || load_node_word(table, seat, gate, number, start, offset) != word
+    {
         table.fill_from(seat, gate, rec, start, offset, word);
     }
 }

@@ -9,8 +9,8 @@ use Rattle.record_words.specs.Leaf.{leaf_words, words_of_key}
 use Rattle.record_words.proofs.Leaves.{leaf_words_parts}
 use Rattle.record_words.proofs.Unused.{leaf_word_past}
 use Rattle.rowex_core.specs.Reading.{IsPacked}
-use Rattle.rowex_records.specs.Records.{Sets}
-use Rattle.rowex_records.proofs.SetAll.{SetsSome, set_claimed, sets_none, sets_more, sets_all, sets_count, sets_give}
+use Rattle.rowex_records.specs.Records.{Sets, SetsSome}
+use Rattle.rowex_records.proofs.SetAll.{set_claimed, sets_none, sets_more, sets_all, sets_count, sets_give}
 use Rattle.rowex_records.proofs.filling.fill_leaf.Goals as goal
 
 pub set_leaf_word-requires-2-clause-held : goal.set_leaf_word-requires-2-clause-held

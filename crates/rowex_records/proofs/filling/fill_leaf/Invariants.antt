@@ -2,7 +2,7 @@
 use Rattle.std.proofs.Common.{◌-◌, ◌<◌, ◌≤◌}
 use Rattle.versions.specs.declared.Rec.TheVariants.{Leaf}
 use Rattle.record_words.specs.Leaf.{leaf_words}
-use Rattle.rowex_records.proofs.SetAll.{SetsSome}
+use Rattle.rowex_records.specs.Records.{SetsSome}
 use Rattle.rowex_records.proofs.filling.fill_leaf.Given as goal
 
 abbrev pub invariant-loop-index : goal.invariant-loop-index

@@ -1,0 +1,13 @@
+-- So many of the words stand.
+use Rattle.versions.specs.declared.Rec.TheVariants.{Node}
+use Rattle.rowex_table.specs.Rights.{IsClaimed}
+use Rattle.rowex_table.specs.Seats.{IsSeatOf}
+use Rattle.rowex_records.specs.Records.{SetsMore}
+use Rattle.rowex_records.proofs.filling.set_eight.Given as goal
+
+abbrev pub invariant-loop-place : goal.invariant-loop-place
+invariant-loop-place g l = record {
+  own : IsSeatOf l.table l.seat;
+  held : IsClaimed l.seat.known (Node l.number);
+  sets : SetsMore l.table g.G.Gate.becomes (Node l.number) l.words l.first l.place (l.fn.seat, l.fn.gate) (l.seat, l.gate);
+}
