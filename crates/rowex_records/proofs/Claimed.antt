@@ -287,6 +287,10 @@ module _ {G : Type 0} (table : TableView) (becomes : G → Event → G → Type 
               (subst (λ y. HasMissedSince (one.failed ∷ none.missed) (kind y) a.0.known.steps) is
               (missed_among (one.failed ∷ []) none.missed (kind number) a.0.known.steps (missed_earlier (one.failed ∷ []) (kind number) a.0.known.steps i.0.known.steps at one.tells)))
 
+  -- the first one was free
+  pub claims_first : (kind : ℕ → Rec) (n from number : ℕ) (a b : SeatView × G) → 0 < n → number ≡ wrapped n from 0 → ClaimsOne table becomes (kind number) a b → (claims : Claims table becomes kind n from number a b) × (claims.tried ≡ 0)
+  claims_first kind n from number a b some is one = (record { tried = 0; low = some; number_is = is; before = a; none = finds_none kind n from a; one = one }, refl)
+
   -- all have been tried that may be
   pub finds_all : (kind : ℕ → Rec) (n from begin m most : ℕ) (a b : SeatView × G) → from ≡ begin → m ≡ most → FindsNone table becomes kind n from m a b → FindsNone table becomes kind n begin most a b
   finds_all kind n from begin m most a b is all none = subst (λ z. FindsNone table becomes kind n z most a b) is (subst (λ z. FindsNone table becomes kind n from z a b) all none)

@@ -100,6 +100,8 @@ pub fn claim_record<G: Gate>(
 /// Claims the first record of a kind that it finds free, of the next `left` ones; answers its number.
 ///
 /// It tries records as [`claim_record`] does, but no more than `left`, which is then less by those that were tried.
+///
+/// Mostly the first one is free: only behind it are records tried row by row.
 pub fn claim_within<G: Gate>(
     table: &HotTable,
     seat: &mut TableSeat,
@@ -121,8 +123,17 @@ pub fn claim_within<G: Gate>(
     let layout = table.layout();
     let all = kind.count(layout);
     let most = all.min(*left);
-    let mut number = first(from, all);
-    let mut tried = 0;
+    if most == 0 {
+        return None;
+    }
+    let begin = first(from, all);
+    let rec = kind.record_at(begin);
+    if try_record(table, seat, gate, rec, kind.start_at(&layout, begin)) {
+        *left -= 1;
+        return Some(begin);
+    }
+    let mut number = first(begin + 1, all);
+    let mut tried = 1;
     while tried < most {
         let (end, size) = kind.row_at(&layout, number);
         let count = (end - number).min(most - tried);
