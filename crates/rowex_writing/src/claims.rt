@@ -42,7 +42,9 @@ pub(crate) fn claim_next<G: Gate>(
     Some(number)
 }
 
-/// Tries the last of the spare numbers, which is spare no more; answers it, if the pass has claimed its record.
+/// Tries the last of the spare numbers, which is spare no more; answers it, if the pass has claimed its record. Inline, so that no claim
+/// asks of which kind it is.
+#[inline(always)]
 pub(crate) fn claim_spare<G: Gate>(
     table: &HotTable,
     seat: &mut TableSeat,

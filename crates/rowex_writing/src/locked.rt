@@ -35,7 +35,15 @@ pub(crate) fn load_words<G: Gate>(
         words[index] = load_word(table, seat, gate, number, start, index);
     }
     let end = HEAD_WORDS + (words[0] % 256) as usize;
-    for index in HEAD_WORDS..end {
+    let mut next = HEAD_WORDS;
+    while next + 4 <= end {
+        for place in 0..4 {
+            let index = next + place;
+            words[index] = load_word(table, seat, gate, number, start, index);
+        }
+        next += 4;
+    }
+    for index in next..end {
         words[index] = load_word(table, seat, gate, number, start, index);
     }
 }
