@@ -1,6 +1,6 @@
 //! Records for what takes a node's place.
 
-ghost use Rattle.std.specs.Prelude.{◌≡◌, ◌<◌, ◌≤◌, ◌+◌, ◌-◌, ◌*◌, ◌++◌, ◌∷◌, [], List, ℕ, length, slice_get, IfSome, MatchOption, Some};
+ghost use Rattle.std.specs.Prelude.{◌≡◌, ◌≢◌, ◌<◌, ◌≤◌, ◌+◌, ◌-◌, ◌*◌, ◌++◌, ◌∷◌, [], List, ℕ, length, slice_get, IfSome, MatchOption, Some};
 ghost use Rattle.insert_cases.specs.declared.choice.Step.{Step as StepView};
 ghost use Rattle.record_words.specs.Node.{CanTakeLeaf, HasNodeWords, node_words};
 ghost use Rattle.record_words.specs.Reading.{IsSpelling};
@@ -386,32 +386,59 @@ pub(crate) struct Rise<'a> {
     pub risen: Risen,
 }
 
-/// The one entry that comes in the place of the node at `end`.
+/// The one entry that comes in the place of the node at `end`. Inline, for mostly that node is reached.
+#[inline(always)]
+#[cycle(raising)]
 fn raise_on<G: Gate>(
     table: &HotTable,
     seat: &mut TableSeat,
     gate: &mut G,
     build: &mut Build,
     way: &[Step],
-    rise: &Rise<'_>,
+    rise: Rise<'_>,
 ) -> Option<Entry>
-    requires up { Rises table.now seat.old build.old.made.items way.now rise.now }
-    requires room { length build.old.made.items + 2 * (rise.now.level - rise.now.end) < MOST_MADE }
+    requires up { Rises table.now seat.old build.old.made.items way.now rise }
+    requires room { length build.old.made.items + 2 * (rise.level - rise.end) < MOST_MADE }
     ensures goes { WorksOn table.now G.becomes (seat.old, gate.old) (seat.new, gate.new) }
-    ensures made { (b : Rises table.now seat.old build.old.made.items way.now rise.now) → MatchOption result
+    ensures made { (b : Rises table.now seat.old build.old.made.items way.now rise.entry) → MatchOption result
         (HasNotMade table.now seat.new build.new.made.items)
-        (HasRisenTo table.now seat.new build.new.made.items way.now b.here.since b.here.item b.here.mismatch b.here.like rise.now.end
-        (gone_with_way way.now rise.now.end rise.now.level b.here.gone)) }
-    ensures low { (s : StepView) (words : List ℕ) → slice_get way.now rise.now.end ≡ Some s → HasLocked seat.old.known s.number words → IfSome result (FitsAbove words) }
-    ensures more { length build.new.made.items ≤ length build.old.made.items + 2 * (rise.now.level - rise.now.end) + 1 }
+        (HasRisenTo table.now seat.new build.new.made.items way.now b.here.since b.here.item b.here.mismatch b.here.like rise.entry.end
+        (gone_with_way way.now rise.entry.end rise.entry.level b.here.gone)) }
+    ensures low { (s : StepView) (words : List ℕ) → slice_get way.now rise.entry.end ≡ Some s → HasLocked seat.old.known s.number words → IfSome result (FitsAbove words) }
+    ensures more { length build.new.made.items ≤ length build.old.made.items + 2 * (rise.entry.level - rise.entry.end) + 1 }
     ensures walk { WalksOn table.now.layout seat.old.known build.old seat.new.known build.new result }
-    ensures few { Spends ((rise.now.level - rise.now.end + 1) * level_steps) seat.old.known build.old seat.new.known build.new result }
+    ensures few { Spends ((rise.entry.level - rise.entry.end + 1) * level_steps) seat.old.known build.old seat.new.known build.new result }
 {
-    let end = rise.end;
     let level = rise.level;
-    if level == end {
+    if level == rise.end {
         return settle(table, seat, gate, build, way[level].number, rise.risen);
     }
+    raise_above(table, seat, gate, build, way, rise)
+}
+
+/// The same, where the node at `end` is above.
+#[cycle(raising)]
+fn raise_above<G: Gate>(
+    table: &HotTable,
+    seat: &mut TableSeat,
+    gate: &mut G,
+    build: &mut Build,
+    way: &[Step],
+    rise: Rise<'_>,
+) -> Option<Entry>
+    requires up { Rises table.now seat.old build.old.made.items way.now rise }
+    requires above { rise.level ≢ rise.end }
+    requires room { length build.old.made.items + 2 * (rise.level - rise.end) < MOST_MADE }
+    ensures goes { WorksOn table.now G.becomes (seat.old, gate.old) (seat.new, gate.new) }
+    ensures made { (b : Rises table.now seat.old build.old.made.items way.now rise.entry) → MatchOption result
+        (HasNotMade table.now seat.new build.new.made.items)
+        (HasRisenTo table.now seat.new build.new.made.items way.now b.here.since b.here.item b.here.mismatch b.here.like rise.entry.end
+        (gone_with_way way.now rise.entry.end rise.entry.level b.here.gone)) }
+    ensures low { (s : StepView) (words : List ℕ) → slice_get way.now rise.entry.end ≡ Some s → HasLocked seat.old.known s.number words → IfSome result (FitsAbove words) }
+    ensures more { length build.new.made.items ≤ length build.old.made.items + 2 * (rise.entry.level - rise.entry.end) + 1 }
+    ensures walk { WalksOn table.now.layout seat.old.known build.old seat.new.known build.new result }
+    ensures few { Spends ((rise.entry.level - rise.entry.end + 1) * level_steps) seat.old.known build.old seat.new.known build.new result }
+{
     match rise.risen {
         Risen::Whole(_) => unreachable!(),
         Risen::Split {
@@ -419,7 +446,7 @@ fn raise_on<G: Gate>(
             zero,
             one,
         } => {
-            let above = level - 1;
+            let above = rise.level - 1;
             let number = way[above].number;
             let fork = Fork {
                 key: rise.key,
@@ -430,11 +457,11 @@ fn raise_on<G: Gate>(
             let next = raise_level(table, seat, gate, build, number, &fork)?;
             let rest = Rise {
                 key: rise.key,
-                end,
+                end: rise.end,
                 level: above,
                 risen: next,
             };
-            raise_on(table, seat, gate, build, way, &rest)
+            raise_on(table, seat, gate, build, way, rest)
         }
     }
 }
@@ -473,7 +500,7 @@ pub(crate) fn raise_grown<G: Gate>(
         level: top,
         risen,
     };
-    let entry = raise_on(table, seat, gate, build, way, &rise)?;
+    let entry = raise_on(table, seat, gate, build, way, rise)?;
     Some((entry, stays))
 }
 
