@@ -190,7 +190,7 @@ hot_status hot_remove_if(hot_handle *handle, const uint8_t *key, size_t length, 
  * array `pairs` has room. Writes their number to `count`, and 1 to `more` if the range has more, else 0. Other calls may change
  * the index meanwhile: each pair was there at some moment of the call, and no key is missing that was there all along (if there
  * are more, no key up to the last one listed). To go on, begin at the key that hot_after gives for the last pair. It makes at
- * most 168606 steps, and 59 for each pair of the limit.
+ * most 168607 steps, and 60 for each pair of the limit.
  * HOT_DONE; or HOT_KEY_TOO_LONG, HOT_CLOSED, HOT_NO_MEMORY (only if it had a pair to list), and then nothing was written. */
 hot_status hot_scan(hot_handle *handle, const uint8_t *from, size_t from_length, const uint8_t *upto, size_t upto_length,
                     hot_pair *pairs, size_t limit, size_t *count, uint32_t *more);

@@ -18,8 +18,8 @@ impl Index {
     /// Lists the first `limit` pairs whose keys are from `from` to `upto`, both included, in key order, and tells whether the range
     /// has more.
     ///
-    /// It takes no lock and never blocks. It makes at most 100 atomic steps, 7 for each pair of the limit, and 26 for each entry of a
-    /// node that it loads: at most 6,481 entries, and two for each pair of the limit. That is at most 168,606 steps, and 59 for each
+    /// It takes no lock and never blocks. It makes at most 101 atomic steps, 8 for each pair of the limit, and 26 for each entry of a
+    /// node that it loads: at most 6,481 entries, and two for each pair of the limit. That is at most 168,607 steps, and 60 for each
     /// pair, whatever others insert meanwhile. It is no snapshot: each pair was in the index at some moment of the call, and no key
     /// is missing that was there all along (if there are more, no key up to the last one listed). If memory is refused, it lists
     /// nothing; it asks for none unless it has found a pair to list.

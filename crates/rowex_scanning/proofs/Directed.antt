@@ -1,5 +1,5 @@
 -- The laws of scans, for both directions.
-use Rattle.std.proofs.Common.{◌≡◌, ◌⊎◌, inl, inr, ℕ, suc, ◌<◌, ◌≤◌, List, [], ◌∷◌, length, arith, true, false}
+use Rattle.std.proofs.Common.{◌≡◌, ◌⊎◌, inl, inr, ℕ, suc, ◌+◌, ◌-◌, ◌<◌, ◌≤◌, List, [], ◌∷◌, length, refl, arith, true, false}
 use Rattle.compound_node.specs.declared.entries.Entry.TheVariants.{Leaf, Node}
 use Rattle.versions.specs.Frames.{IsGrown}
 use Rattle.versions.specs.State.{Past, IsSteady}
@@ -11,7 +11,7 @@ use Rattle.rowex_walks.proofs.Scans.{before_most, never_before}
 use Rattle.rowex_walks.proofs.Starts.{at_over, keys_from_in_child, over_later, keys_from_grown}
 use Rattle.rowex_walks.proofs.Walk.{scan_cut, scan_end, scan_past, scan_pop, scan_push, scan_take}
 use Rattle.rowex_walks.specs.Scan.{Pair, Range, IsBlank, IsInRange, IsPlaced, IsRead, IsRooted, IsShaped, IsStack, MayStandAt, Frame as Stage}
-use Rattle.rowex_scanning.specs.Directions.{IsAnswer, IsPastKey, IsEarlier, IsNoLater, IsScanBy, first_gap, first_key, gap_before, gap_behind, last_key, to_come}
+use Rattle.rowex_scanning.specs.Directions.{IsAnswer, IsPastKey, IsEarlier, IsNoLater, IsScanBy, first_gap, first_key, gap_after, gap_before, gap_behind, last_key, place_after, to_come}
 use Rattle.rowex_scanning.specs.Scanning.{limited}
 use Rattle.rowex_scanning.specs.declared.direction.Direction.{Direction}
 use Rattle.rowex_scanning.specs.declared.direction.Direction.TheVariants.{Upwards, Downwards}
@@ -50,6 +50,32 @@ come_most Downwards count gap low = low
 pub first_fits : (d : Direction) (count : ℕ) → first_gap d count ≤ count
 first_fits Upwards count = omega arith
 first_fits Downwards count = omega arith
+
+-- behind so many entries
+pub gap_none : (d : Direction) (gap : ℕ) → gap_after d gap 0 ≡ gap
+gap_none Upwards gap = omega arith
+gap_none Downwards gap = omega arith
+
+pub come_after : (d : Direction) (count gap i : ℕ) → to_come d count (gap_after d gap i) ≡ to_come d count gap - i
+come_after Upwards count gap i = omega arith
+come_after Downwards count gap i = refl
+
+-- there is the place of the entry that comes then, which has this gap before it and the next one behind it
+pub place_inside : (d : Direction) (count gap i : ℕ) → gap ≤ count → i < to_come d count gap → place_after d gap i < count
+place_inside Upwards count gap i fits come = omega (arith, fits, come)
+place_inside Downwards count gap i fits come = omega (arith, fits, come)
+
+pub gap_before_place : (d : Direction) (count gap i : ℕ) → i < to_come d count gap → gap_after d gap i ≡ gap_before d (place_after d gap i)
+gap_before_place Upwards count gap i come = refl
+gap_before_place Downwards count gap i come = omega (arith, come)
+
+pub gap_behind_place : (d : Direction) (gap i : ℕ) → gap_behind d (place_after d gap i) ≡ gap_after d gap (i + 1)
+gap_behind_place Upwards gap i = omega arith
+gap_behind_place Downwards gap i = omega arith
+
+pub place_at_gap : (d : Direction) (gap i : ℕ) → place_after d (gap_after d gap i) 0 ≡ place_after d gap i
+place_at_gap Upwards gap i = omega arith
+place_at_gap Downwards gap i = omega arith
 
 -- ---- keys
 pub in_range : (d : Direction) (g : Range) (k : Key) → IsNoLater d (first_key d g) k → IsNoLater d k (last_key d g) → IsInRange g k

@@ -2,6 +2,7 @@
 pub mod Ordering
 pub mod Directed
 pub mod Walking
+pub mod Passing
 pub mod Starting
 pub mod Turning
 pub mod Scanned

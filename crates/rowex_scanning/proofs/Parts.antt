@@ -15,7 +15,7 @@ use Rattle.rowex_scanning.proofs.Walking.{IsAtEntry, IsBeforeEntry, before_with,
 
 -- A walk is one with the limit of its pairs, too.
 before_limited : {d : Direction} {k : Known} {m : ℕ} {g : Range} {at : Step} {frames : List Step} {pairs : List (Key × ℕ)} → IsBeforeEntry d k m g at frames pairs → IsBeforeEntry d k m (limited g (length pairs)) at frames pairs
-before_limited {d} {k} {m} {g} {pairs = pairs} w = before_with w (limited g (length pairs)) w.pinned (λ c lawful recalls.
+before_limited {d} {k} {m} {g} {pairs = pairs} w = before_with w (limited g (length pairs)) (λ c lawful recalls.
     scan_limited (seen c k) m g d (length pairs) (before d w.stage ∷ w.others) w.taken (let n = ap length w.pairs_are ∙ length_in_order_taken w.taken in omega (arith, n)) (w.scan c lawful recalls))
 
 module _ {d : Direction} {k : Known} {g : Range} {key : Key} {pairs more : List (Key × ℕ)} (r : IsPairRefused g pairs key more) (short : length pairs ≤ g.limit) where

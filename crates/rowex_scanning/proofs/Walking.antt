@@ -1,7 +1,7 @@
 -- The steps of a walk, over what its pass knows.
 use Rattle.std.proofs.Common.{◌≡◌, ◌≢◌, ◌⊎◌, inl, inr, ℕ, suc, ◌+◌, ◌-◌, ◌*◌, ◌^◌, ◌<◌, ◌≤◌, List, [], ◌∷◌, ◌++◌, length, refl, ap, sym, ◌∙◌, subst, arith, Bool, true, false, length-append, Option, Some, None, ⊎_elim}
 use Rattle.std.specs.Prelude.{◌↔◌, IsSome, IsTrue, option_to_list}
-use Rattle.std.proofs.Math.Nat.{pow-suc, pow-le-pow_right, one-le-pow, mul-le-mul_right}
+use Rattle.std.proofs.Math.Nat.{add-mul, pow-suc, pow-le-pow_right, one-le-pow, mul-le-mul_right}
 use Rattle.std.proofs.lemmas.Bool.{cases_lt}
 use Rattle.std.proofs.lemmas.List.{length-replicate}
 use Rattle.std.proofs.lemmas.Cmp.{tied_itself}
@@ -14,7 +14,7 @@ use Rattle.key_bits.specs.Bits.{bit_of, IsFirstDifference}
 use Rattle.key_bits.specs.Key.{IsKey}
 use Rattle.key_bits.specs.declared.TheConstants.{MAX_BYTES}
 use Rattle.key_bits.proofs.Order.{first_difference, greater_by_first, less_iff_first}
-use Rattle.compound_node.specs.Nodes.{HeadView, IsLawfulNode, height_of, node_of, leaves}
+use Rattle.compound_node.specs.Nodes.{HeadView, IsLawfulNode, node_of, leaves}
 use Rattle.compound_node.specs.declared.entries.Entry.{Entry}
 use Rattle.compound_node.specs.declared.entries.Entry.TheVariants.{Leaf, Node}
 use Rattle.pieces.specs.Piece.{size}
@@ -26,7 +26,7 @@ use Rattle.rowex_core.specs.declared.known.Known.{Known}
 use Rattle.rowex_core.specs.Cores.{Core, IsLawful}
 use Rattle.rowex_core.specs.Knowing.{Recalls, IsPinnedSince}
 use Rattle.rowex_core.proofs.Owning.{recalls}
-use Rattle.record_words.specs.declared.TheConstants.{LEAF_FIELDS}
+use Rattle.record_words.specs.declared.TheConstants.{HEAD_WORDS, LEAF_FIELDS}
 use Rattle.record_words.specs.declared.layout.Layout.{Layout}
 use Rattle.insert_cases.specs.declared.choice.Step.{Step}
 use Rattle.rowex_walks.specs.Scan.{Pair, Range, IsRooted, IsPlaced, IsRead, IsBlank, IsShaped, IsStack, in_order_taken, Frame as Stage}
@@ -39,19 +39,21 @@ use Rattle.rowex_table.specs.Seats.{SeatView, TableView}
 use Rattle.rowex_reading.specs.Lookups.{HasSearched}
 use Rattle.rowex_reading.specs.Possible.{IsPossible}
 use Rattle.rowex_reading.specs.Reads.{Reads}
-use Rattle.rowex_reading.specs.Seen.{seen, Sure, IsAtRoot, IsLedTo, HasPlace, since, shape_of}
+use Rattle.rowex_reading.specs.Seen.{seen, Sure, IsAtRoot, IsLedTo, since, shape_of}
 use Rattle.rowex_reading.specs.Ways.{step_at}
 use Rattle.rowex_reading.proofs.Counting.{looks_count}
 use Rattle.rowex_reading.proofs.Led.{looks_on, placed_led, reads_trans, shape_place, HasShape}
 use Rattle.rowex_reading.proofs.Seeing.{placed_stable, recalls_before, seen_grown, seen_steady, since_later, sure_later, IsStable}
 use Rattle.rowex_scanning.specs.Counts.{AreWalkLoads, Scans, Walks, scan_loads}
-use Rattle.rowex_scanning.specs.Directions.{IsAnswer, IsPastKey, IsEarlier, IsNoLater, IsScanBy, first_gap, first_key, gap_before, gap_behind, to_come, IsNextPlace}
+use Rattle.rowex_scanning.specs.Ahead.{HasPlaces, entries_ahead}
+use Rattle.rowex_scanning.specs.declared.ahead.Ahead.{Ahead}
+use Rattle.rowex_scanning.specs.Directions.{IsAnswer, IsPastKey, IsEarlier, IsNoLater, IsScanBy, first_gap, first_key, gap_after, gap_before, gap_behind, place_after, to_come}
 use Rattle.rowex_scanning.specs.Scanning.{ArePastKey, AreInside, HasScanned, IsBound, IsEntered, IsLeafTaken, IsPairTaken, IsReached, IsWalk, frame, frames_of}
 use Rattle.rowex_scanning.specs.declared.direction.Direction.{Direction}
 use Rattle.rowex_scanning.specs.declared.direction.Direction.TheVariants.{Upwards, Downwards}
 use Rattle.rowex_scanning.specs.declared.scanning.Verdict.{Verdict}
 use Rattle.rowex_scanning.specs.declared.scanning.Verdict.TheVariants.{Further, Past as IsPast, Full}
-use Rattle.rowex_scanning.proofs.Directed.{answer_blank, answer_nought, answer_one, answer_outside, before, before_fits, behind, behind_fits, beyond_at_place, beyond_behind, beyond_in_child, beyond_grown, come_behind, come_first, come_most, first_fits, none_between, out_first, out_last, scan_ended, scan_filled, scan_grown, scan_passed, scan_popped, scan_pushed, scan_short, scan_stack, scan_taken}
+use Rattle.rowex_scanning.proofs.Directed.{answer_blank, answer_nought, answer_one, answer_outside, before, before_fits, behind, behind_fits, beyond_at_place, beyond_behind, beyond_in_child, beyond_grown, come_after, come_behind, come_first, come_most, first_fits, gap_before_place, none_between, place_inside, out_first, out_last, scan_ended, scan_filled, scan_grown, scan_passed, scan_popped, scan_pushed, scan_short, scan_stack, scan_taken}
 
 -- What a walk has still to do, at most: its measure.
 abbrev pub rest_of_frames : Direction → List Step → ℕ
@@ -66,11 +68,11 @@ abbrev pub entries_until_two : Direction → List Step → ℕ
 entries_until_two d [] = 0
 entries_until_two d (x ∷ xs) = (2 - (x.count - to_come d x.count (gap_before d x.at))) + entries_until_two d xs
 
--- So many loads, of which so many are of entries, are paid for: 26 for each entry, and 7 for each of so many pairs; and there are two
+-- So many loads, of which so many are of entries, are paid for: 26 for each entry, and 8 for each of so many pairs; and there are two
 -- entries for each pair, and one for each node of the way beyond what it has yet to pass, over those of the longest way.
 abbrev pub IsPaid : Direction → ℕ → ℕ → ℕ → Step → List Step → Type 0
 IsPaid d loads entries pairs top frames =
-    (loads ≤ 26 * entries + 7 * pairs) × (entries + suc (length frames) ≤ 9 * MAX_BYTES + 2 * pairs + ((2 - (top.count - to_come d top.count top.at)) + entries_until_two d frames))
+    (loads ≤ 26 * entries + 8 * pairs) × (entries + suc (length frames) ≤ 9 * MAX_BYTES + 2 * pairs + ((2 - (top.count - to_come d top.count top.at)) + entries_until_two d frames))
 
 -- Keys
 
@@ -181,13 +183,14 @@ push_less d at frames into more inside low few first e =
         let same : come * x ≡ count * x = ap (λ z. z * x) whole in
         omega (arith, product, same, most, wide, one, e)
 
--- A place further is less.
-pub next_less : (d : Direction) (at : Step) (frames : List Step) → at.at < at.count → rest_of d (record at { at = gap_behind d at.at }) frames < rest_of d (record at { at = gap_before d at.at }) frames
-next_less d at frames inside =
-    less (34 ^ at.height) (to_come d at.count (gap_before d at.at)) (to_come d at.count (gap_behind d at.at)) (rest_of_frames d frames) (one_power at.height) (come_behind d at.at at.count inside)
+-- So many entries further is less by as many at least.
+pub after_less : (d : Direction) (top : Step) (frames : List Step) (count : ℕ) → count ≤ to_come d top.count top.at → rest_of d (record top { at = gap_after d top.at count }) frames + count ≤ rest_of d top frames
+after_less d top frames count come = less (34 ^ top.height) (to_come d top.count top.at) (to_come d top.count (gap_after d top.at count)) (rest_of_frames d frames) (one_power top.height) (come_after d top.count top.at count) come
   where
-    less : (y t p rest : ℕ) → 1 ≤ y → t ≡ suc p → p * y + 1 + rest < t * y + 1 + rest
-    less y t p rest one f = let product : t * y ≡ y + p * y = ap (λ z. z * y) f ∙ suc_times p y in omega (arith, product, one)
+    less : (y t p rest : ℕ) → 1 ≤ y → p ≡ t - count → count ≤ t → p * y + 1 + rest + count ≤ t * y + 1 + rest
+    less y t p rest one f within =
+        let parts : t * y ≡ p * y + count * y = ap (λ z. z * y) (let e : t ≡ p + count = omega (arith, f, within) in e) ∙ add-mul p count y in
+        let most : 1 * count ≤ y * count = mul-le-mul_right count one in omega (arith, parts, most)
 
 pub pop_less : (d : Direction) (top : Step) (frames : List Step) (lower : Step) (rest : List Step) → frames ≡ rest ++ lower ∷ [] → rest_of d (record lower { at = gap_behind d lower.at }) rest < rest_of d top frames
 pop_less d top frames lower rest e = let after = ap (rest_of_frames d) e ∙ rest_append d rest lower in omega (arith, after)
@@ -199,11 +202,35 @@ module _ {d : Direction} {k : Known} {m : ℕ} {g : Range} {top : Step} {frames 
   walk_stack : Sure k (λ s. IsStack s m (w.lowest ∷ w.others))
   walk_stack c lawful recalls = scan_stack (seen c k) m g d (w.lowest ∷ w.others) w.taken (w.scan c lawful recalls)
 
-  pub walk_room : top.count ≤ 32
-  walk_room = subst (λ (z : Step). z.count ≤ 32) (sym w.top_is) w.room
+  walk_shape : HasShape k m top.number top.height w.lowest.shape
+  walk_shape = subst (λ (z : Step). HasShape k m z.number z.height w.lowest.shape) (sym w.top_is) (
+    (w.pinned, λ c lawful known. stack_seen (seen c k) m w.lowest w.others (walk_stack c lawful known)),
+    λ c lawful known. stack_shape (seen c k) m w.lowest w.others (walk_stack c lawful known),
+  )
 
   pub walk_fits : top.at ≤ top.count
   walk_fits = subst (λ (z : Step). z.at ≤ z.count) (sym w.top_is) w.fits
+
+  -- there are entries at the places that come next
+  pub walk_places : (count : ℕ) → count ≤ to_come d top.count top.at → HasPlaces d k m top count
+  walk_places count come i low =
+      shape_place walk_shape (subst (λ z. place_after d top.at i < z) (ap (λ (z : Step). z.count) w.top_is) (place_inside d top.count top.at i walk_fits (omega (arith, low, come))))
+
+-- after more loads
+pub walk_later : {d : Direction} {k j : Known} {m : ℕ} {g : Range} {top : Step} {frames : List Step} {pairs : List (Key × ℕ)} → IsLater k j → IsWalk d k m g top frames pairs → IsWalk d j m g top frames pairs
+walk_later {d} {k} {j} {m} {g} l w = record {
+  lowest = w.lowest;
+  others = w.others;
+  taken = w.taken;
+  top_is = w.top_is;
+  frames_are = w.frames_are;
+  pairs_are = w.pairs_are;
+  room = w.room;
+  fits = w.fits;
+  inside = w.inside;
+  pinned = since_later l w.pinned;
+  scan = λ c lawful recalls. scan_grown (seen c k) m g d (seen c j) (w.lowest ∷ w.others) w.taken (seen_grown c l) (w.scan c lawful (recalls_before l recalls));
+}
 
 -- from the last load of the root on
 pub walk_since : {d : Direction} {k : Known} {m : ℕ} {g : Range} {top : Step} {frames : List Step} {pairs : List (Key × ℕ)} → since k ≡ m → IsWalk d k m g top frames pairs → IsWalk d k (since k) g top frames pairs
@@ -242,29 +269,14 @@ walk_before {d} {k} {m} {g} at w inside is = record {
     place_is : w.lowest.place ≡ gap_before d at.at
     place_is = ap (λ (z : Step). z.at) (sym w.top_is ∙ is)
 
--- At the next place of the node where it stands.
-pub at_place : (d : Direction) (top : Step) (place : ℕ) → IsNextPlace d top place → top ≡ record top { at = gap_before d place }
-at_place d top place n = ap (λ z. let x : Step = record top { at = z } in x) n.1
-
-pub walk_at_place : {d : Direction} {k : Known} {m : ℕ} {g : Range} {top : Step} {frames : List Step} {pairs : List (Key × ℕ)} (place : ℕ) → IsWalk d k m g top frames pairs → IsNextPlace d top place →
-    IsBeforeEntry d k m g (record top { at = place }) frames pairs
-walk_at_place {d} {top = top} place w n = walk_before (record top { at = place }) w n.0 (at_place d top place n)
+-- Before the entry that comes behind so many others.
+pub walk_at_place : {d : Direction} {k : Known} {m : ℕ} {g : Range} {top : Step} {frames : List Step} {pairs : List (Key × ℕ)} (i : ℕ) → top.at ≤ top.count → i < to_come d top.count top.at →
+    IsWalk d k m g (record top { at = gap_after d top.at i }) frames pairs → IsBeforeEntry d k m g (record top { at = place_after d top.at i }) frames pairs
+walk_at_place {d} {top = top} i fits come w =
+    walk_before (record top { at = place_after d top.at i }) w (place_inside d top.count top.at i fits come) (ap (λ z. let x : Step = record top { at = z } in x) (gap_before_place d top.count top.at i come))
 
 -- what the pass knows of the node
 module _ {d : Direction} {k : Known} {m : ℕ} {g : Range} {at : Step} {frames : List Step} {pairs : List (Key × ℕ)} (w : IsBeforeEntry d k m g at frames pairs) where
-  entry_stack : Sure k (λ s. IsStack s m (before d w.stage ∷ w.others))
-  entry_stack c lawful recalls = scan_stack (seen c k) m g d (before d w.stage ∷ w.others) w.taken (w.scan c lawful recalls)
-
-  entry_shape : HasShape k m at.number at.height w.stage.shape
-  entry_shape = subst (λ (z : Step). HasShape k m z.number z.height w.stage.shape) (sym w.at_is) (
-    (w.pinned, λ c lawful known. stack_seen (seen c k) m (before d w.stage) w.others (entry_stack c lawful known)),
-    λ c lawful known. stack_shape (seen c k) m (before d w.stage) w.others (entry_stack c lawful known),
-  )
-
-  -- there is an entry at its place
-  pub entry_place : HasPlace k m at.number at.height at.at
-  entry_place = shape_place entry_shape (subst (λ (z : Step). z.at < size w.stage.shape) (sym w.at_is) w.low)
-
   pub entry_inside : at.at < at.count
   entry_inside = subst (λ (z : Step). z.at < z.count) (sym w.at_is) w.low
 
@@ -281,10 +293,10 @@ entry_scan : {d : Direction} {k j : Known} {m : ℕ} {g : Range} {at : Step} {fr
     Sure j (λ s. IsScanBy d s m g (before d w.stage ∷ w.others) w.taken)
 entry_scan {d} {k} {j} {m} {g} w l c lawful recalls = scan_grown (seen c k) m g d (seen c j) (before d w.stage ∷ w.others) w.taken (seen_grown c l) (w.scan c lawful (recalls_before l recalls))
 
--- the same place, with other knowledge, or another range
-pub before_with : {d : Direction} {k j : Known} {m : ℕ} {g : Range} {at : Step} {frames : List Step} {pairs : List (Key × ℕ)} (w : IsBeforeEntry d k m g at frames pairs) (h : Range) → IsPinnedSince j m →
-    Sure j (λ s. IsScanBy d s m h (before d w.stage ∷ w.others) w.taken) → IsBeforeEntry d j m h at frames pairs
-before_with w h since scan = record {
+-- the same place, in another range
+pub before_with : {d : Direction} {k : Known} {m : ℕ} {g : Range} {at : Step} {frames : List Step} {pairs : List (Key × ℕ)} (w : IsBeforeEntry d k m g at frames pairs) (h : Range) →
+    Sure k (λ s. IsScanBy d s m h (before d w.stage ∷ w.others) w.taken) → IsBeforeEntry d k m h at frames pairs
+before_with w h scan = record {
   stage = w.stage;
   others = w.others;
   taken = w.taken;
@@ -294,14 +306,9 @@ before_with w h since scan = record {
   room = w.room;
   low = w.low;
   inside = w.inside;
-  pinned = since;
+  pinned = w.pinned;
   scan = scan;
 }
-
--- the entry has been loaded
-pub entry_at : {d : Direction} {k j : Known} {m : ℕ} {g : Range} {at : Step} {frames : List Step} {pairs : List (Key × ℕ)} (e : Entry) → IsBeforeEntry d k m g at frames pairs → IsLater k j →
-    ((n h : ℕ) → HasPlace k n at.number h at.at → (height_of e < h) × Sure j (λ s. IsPlaced s n at.number at.at e)) → IsAtEntry d j m g at frames pairs e
-entry_at {m = m} {g = g} {at = at} e w l loaded = record { walk = before_with w g (since_later l w.pinned) (entry_scan w l); placed = (loaded m at.height (entry_place w)).1 }
 
 module _ {d : Direction} {k : Known} {m : ℕ} {g : Range} {at : Step} {frames : List Step} {pairs : List (Key × ℕ)} {e : Entry} (a : IsAtEntry d k m g at frames pairs e) where
   pub entry_led : IsLedTo k m e
@@ -514,24 +521,47 @@ paid_pop d loads entries pairs top frames lower rest (low, paid) done several e 
     let one = come_behind d lower.at lower.count inside in let most = come_most d lower.count (gap_before d lower.at) (before_fits d lower.at lower.count inside) in
     (low, omega (arith, paid, done, several, n, spare, one, most))
 
-pub paid_leaf : (d : Direction) (loads entries leaf pairs more : ℕ) (at : Step) (frames : List Step) → more ≡ pairs + 1 → IsPaid d loads entries pairs (record at { at = gap_before d at.at }) frames → leaf ≤ 33 → at.at < at.count →
-    IsPaid d (loads + leaf) (entries + 1) more (record at { at = gap_behind d at.at }) frames
-paid_leaf d loads entries leaf pairs more at frames one (low, paid) few inside = let less = come_behind d at.at at.count inside in (omega (arith, one, low, few), omega (arith, one, paid, less))
+-- behind so many leaves, of which each takes a load of its entry, a touch and the loads of its words
+pub paid_leaves : (d : Direction) (loads entries leaves pairs more count : ℕ) (top : Step) (frames : List Step) → IsPaid d loads entries pairs top frames → leaves ≤ 34 * count → more ≡ pairs + count → top.at ≤ top.count →
+    count ≤ to_come d top.count top.at → IsPaid d (loads + leaves) (entries + count) more (record top { at = gap_after d top.at count }) frames
+paid_leaves d loads entries leaves pairs more count top frames (low, paid) few is fits come =
+    let after = come_after d top.count top.at count in let most = come_most d top.count top.at fits in (omega (arith, low, few, is), omega (arith, paid, is, after, most, come))
 
--- at one leaf more
-paid_most : (d : Direction) (loads entries more pairs limit : ℕ) (top : Step) (frames : List Step) → IsPaid d loads entries pairs top frames → more ≤ 33 → length frames < 9 * MAX_BYTES → pairs ≤ limit →
-    AreWalkLoads 0 limit (entries + 1) (loads + more)
-paid_most d loads entries more pairs limit top frames (low, paid) few short within = let most = spare_most d frames in record { most = omega (arith, paid, short, within, most); few = omega (arith, low, few, within) }
+-- where no node was looked at behind them,
+pub paid_ahead : (d : Direction) (loads entries pairs more looks leaves : ℕ) (top : Step) (frames : List Step) (ahead : Ahead) → IsPaid d loads entries pairs top frames → ahead.node ≡ None → looks ≤ entries_ahead ahead + ahead.count →
+    leaves ≤ LEAF_FIELDS * ahead.count → more ≡ pairs + ahead.count → top.at ≤ top.count → ahead.count ≤ to_come d top.count top.at →
+    IsPaid d (loads + (looks + leaves)) (entries + (entries_ahead ahead + 0)) more (record top { at = gap_after d top.at ahead.count }) frames
+paid_ahead d loads entries pairs more looks leaves top frames ahead paid none few less is fits come =
+    let alone : length (option_to_list ahead.node) ≡ 0 = ap (λ z. length (option_to_list z)) none in
+    let (low, spare) = paid_leaves d loads entries (looks + leaves) pairs more ahead.count top frames paid (omega (arith, few, less, alone)) is fits come in (omega (arith, low, alone), omega (arith, spare, alone))
 
--- with which the walk ends
+-- and where the walk goes on to one
+pub paid_child : (d : Direction) (loads entries pairs more looks leaves head number : ℕ) (top : Step) (frames : List Step) (ahead : Ahead) (into : Step) (way : List Step) → IsPaid d loads entries pairs top frames →
+    ahead.node ≡ Some number → looks ≤ entries_ahead ahead + ahead.count → leaves ≤ LEAF_FIELDS * ahead.count → head ≤ HEAD_WORDS → more ≡ pairs + ahead.count → top.at ≤ top.count → ahead.count < to_come d top.count top.at →
+    into.at ≡ first_gap d into.count → way ≡ frames ++ record top { at = place_after d top.at ahead.count } ∷ [] → IsPaid d (loads + (looks + (leaves + head))) (entries + (entries_ahead ahead + 0)) more into way
+paid_child d loads entries pairs more looks leaves head number top frames ahead into way paid some few less small is fits come first e =
+    let one : length (option_to_list ahead.node) ≡ 1 = ap (λ z. length (option_to_list z)) some in
+    let behind = paid_leaves d loads entries (34 * ahead.count) pairs more ahead.count top frames paid (omega arith) is fits (omega (arith, come)) in
+    let at_node = subst (λ z. IsPaid d (loads + 34 * ahead.count) (entries + ahead.count) more (let x : Step = record top { at = z } in x) frames) (gap_before_place d top.count top.at ahead.count come) behind in
+    let (low, spare) = paid_push d (loads + 34 * ahead.count) (entries + ahead.count) 26 more (record top { at = place_after d top.at ahead.count }) frames into way at_node (omega arith) first e in
+    (omega (arith, low, few, less, small, one), omega (arith, spare, one))
+
+-- So many entries were loaded, and no more of leaves than the limit asks for and one; and some of these were touched and read. The walk
+-- ends there.
+paid_most : (d : Direction) (loads entries seen more pairs limit : ℕ) (top : Step) (frames : List Step) → IsPaid d loads entries pairs top frames → more ≤ 34 * seen → length frames < 9 * MAX_BYTES → pairs ≤ limit → pairs + seen ≤ limit + 1 →
+    AreWalkLoads 0 limit (entries + seen) (loads + more)
+paid_most d loads entries seen more pairs limit top frames (low, paid) few short within asked =
+    let most = spare_most d frames in record { most = omega (arith, paid, short, within, asked, most); few = omega (arith, low, few, asked) }
+
 pub paid_last : {G : Type 0} {table : TableView} {becomes : G → Event → G → Type 0} {a b y z : SeatView × G} {d : Direction} {m : ℕ} {g : Range} {top : Step} {frames : List Step} {pairs : List (Key × ℕ)} →
-    (loads entries : ℕ) × IsPaid d loads entries (length pairs) top frames × Reads table becomes entries loads a b → IsWalk d b.0.known m g top frames pairs → IsPossible table.layout b.0.known →
-    Reads table becomes 1 1 b y → (n : ℕ) × (n ≤ LEAF_FIELDS) × Reads table becomes 0 n y z → Walks table becomes 0 g.limit a z
-paid_last {d = d} {g = g} {top = top} {frames = frames} {pairs = pairs} (loads, entries, paid, before) w possible entry (leaf, few, read) = (
-  loads + (1 + leaf),
-  entries + 1,
-  paid_most d loads entries (1 + leaf) (length pairs) g.limit top frames paid (omega (arith, few)) (way_short w possible) (walk_short w possible),
-  reads_trans before (reads_trans entry read),
+    (loads entries : ℕ) × IsPaid d loads entries (length pairs) top frames × Reads table becomes entries loads a b → IsWalk d b.0.known m g top frames pairs → IsPossible table.layout b.0.known → (ahead : Ahead) →
+    length pairs + entries_ahead ahead ≤ g.limit + 1 → (n : ℕ) × (n ≤ entries_ahead ahead + ahead.count) × Reads table becomes (entries_ahead ahead) n b y → (n : ℕ) × (n ≤ LEAF_FIELDS * ahead.count) × Reads table becomes 0 n y z →
+    Walks table becomes 0 g.limit a z
+paid_last {d = d} {g = g} {top = top} {frames = frames} {pairs = pairs} (loads, entries, paid, before) w possible ahead asked (seen, few, looks) (leaves, less, reads) = (
+  loads + (seen + leaves),
+  entries + (entries_ahead ahead + 0),
+  paid_most d loads entries (entries_ahead ahead + 0) (seen + leaves) (length pairs) g.limit top frames paid (omega (arith, few, less)) (way_short w possible) (walk_short w possible) (omega (arith, asked)),
+  reads_trans before (reads_trans looks reads),
 )
 
 -- at the end of the way

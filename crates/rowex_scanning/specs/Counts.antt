@@ -11,11 +11,11 @@ use Rattle.rowex_reading.specs.Reads.{Looks, Reads}
 abbrev pub walk_entries : ℕ → ℕ
 walk_entries limit = 2 * (9 * MAX_BYTES) + 2 * limit + 1
 
--- Loads of a walk, of which so many are of entries: at most 26 for each of these, with the head of the node to which it leads; 7 more for
--- each leaf, of which it reads one more than the limit; and so many beside.
+-- Loads of a walk, of which so many are of entries: at most 26 for each of these, with the head of the node to which it leads; 8 more for
+-- each leaf, which it may touch before it reads it, and of which it loads the entries of one more than the limit; and so many beside.
 pub record AreWalkLoads (beside limit entries loads : ℕ) : Type 0 where
   pub most : entries ≤ walk_entries limit
-  pub few : loads ≤ beside + 26 * entries + 7 * (limit + 1)
+  pub few : loads ≤ beside + 26 * entries + 8 * (limit + 1)
 
 -- the pass makes such loads
 abbrev pub Walks : {G : Type 0} → TableView → (G → Event → G → Type 0) → ℕ → ℕ → SeatView × G → SeatView × G → Type 0
@@ -28,7 +28,7 @@ scan_entries limit = 9 * MAX_BYTES + walk_entries limit
 -- The loads of a scan below the root, by its entries: as for a walk; its search has read a leaf, and it may read one head and that leaf
 -- once more.
 abbrev pub loads_by : ℕ → ℕ → ℕ
-loads_by limit entries = LEAF_FIELDS + (HEAD_WORDS + LEAF_FIELDS) + 26 * entries + 7 * (limit + 1)
+loads_by limit entries = LEAF_FIELDS + (HEAD_WORDS + LEAF_FIELDS) + 26 * entries + 8 * (limit + 1)
 
 pub record AreScanLoads (limit entries loads : ℕ) : Type 0 where
   pub most : entries ≤ scan_entries limit

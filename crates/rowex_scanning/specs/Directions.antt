@@ -1,10 +1,9 @@
 -- The two directions of a scan: in which order it passes places and keys, and what it then knows.
-use Rattle.std.specs.Prelude.{◌≡◌, ℕ, suc, ◌-◌, ◌<◌, List, Bool, false, true}
+use Rattle.std.specs.Prelude.{ℕ, suc, ◌+◌, ◌-◌, List, Bool, false, true}
 use Rattle.finite_map.specs.declared.Change.{Change}
 use Rattle.finite_map.specs.declared.Scan.{Scan}
 use Rattle.finite_map.specs.Reverse.{IsLawfulReverseScan}
 use Rattle.finite_map.specs.Scans.{IsLawfulScan}
-use Rattle.insert_cases.specs.declared.choice.Step.{Step}
 use Rattle.tries.specs.Keys.{Key, IsAtMost, IsBefore}
 use Rattle.versions.specs.State.{Past}
 use Rattle.rowex_walks.specs.Reverse.{KeysLeftAreBelow, IsDownComplete, IsDownCut, IsDownScan}
@@ -34,9 +33,15 @@ abbrev pub to_come : Direction → ℕ → ℕ → ℕ
 to_come Upwards count gap = count - gap
 to_come Downwards count gap = gap
 
--- the entry at this place is the next one at the gap where the walk stands
-abbrev pub IsNextPlace : Direction → Step → ℕ → Type 0
-IsNextPlace d top place = (place < top.count) × (top.at ≡ gap_before d place)
+-- the gap behind so many entries that come next,
+abbrev pub gap_after : Direction → ℕ → ℕ → ℕ
+gap_after Upwards gap entries = gap + entries
+gap_after Downwards gap entries = gap - entries
+
+-- and the place of the entry that comes then
+abbrev pub place_after : Direction → ℕ → ℕ → ℕ
+place_after Upwards gap entries = gap + entries
+place_after Downwards gap entries = gap - suc entries
 
 -- Keys
 

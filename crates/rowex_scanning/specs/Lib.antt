@@ -1,5 +1,6 @@
 -- The definitions of the crate.
 pub mod Directions
 pub mod Scanning
+pub mod Ahead
 pub mod Starts
 pub mod Counts

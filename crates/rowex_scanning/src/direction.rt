@@ -1,10 +1,10 @@
 //! The two directions of a scan: in which order places and keys are passed.
 
-ghost use Rattle.std.specs.Prelude.{◌≡◌, ◌<◌, ◌≤◌, IsTrue, MatchOption, false};
+ghost use Rattle.std.specs.Prelude.{◌≡◌, ◌<◌, ◌≤◌, IsTrue, false};
 ghost use Rattle.key_bits.specs.Key.{IsKey};
 ghost use Rattle.tries.specs.Keys.{IsAtMost, IsBefore};
-ghost use Rattle.rowex_scanning.specs.Directions.{IsEarlier, IsNextPlace, IsNoLater, gap_behind, to_come};
-ghost use Rattle.rowex_scanning.specs.Directions.{first_gap as first_gap_of};
+ghost use Rattle.rowex_scanning.specs.Directions.{IsEarlier, IsNoLater, gap_behind};
+ghost use Rattle.rowex_scanning.specs.Directions.{first_gap as first_gap_of, gap_after as gap_after_of, place_after as place_after_of, to_come as to_come_of};
 
 use insert_cases::Step;
 
@@ -17,16 +17,41 @@ pub enum Direction {
     Downwards,
 }
 
-/// The place of the entry that comes next at the gap where a walk stands in this node; none if all have been passed.
+/// How many entries are to come at the gap where a walk stands in this node.
 #[inline(always)]
-pub(crate) fn next_place(direction: Direction, top: &Step) -> Option<u8>
+pub(crate) fn to_come(direction: Direction, top: &Step) -> u8
     requires { top.now.at ≤ top.now.count }
-    ensures { MatchOption result (to_come direction top.now.count top.now.at ≡ 0) (IsNextPlace direction top.now) }
+    ensures { result ≡ to_come_of direction top.now.count top.now.at }
 {
     match direction {
-        Direction::Upwards if top.at < top.count => Some(top.at),
-        Direction::Upwards => None,
-        Direction::Downwards => top.at.checked_sub(1),
+        Direction::Upwards => top.count - top.at,
+        Direction::Downwards => top.at,
+    }
+}
+
+/// The gap behind so many entries that come next.
+#[inline(always)]
+pub(crate) fn gap_after(direction: Direction, top: Step, entries: u8) -> u8
+    requires fits { top.at ≤ top.count }
+    requires come { entries ≤ to_come_of direction top.count top.at }
+    ensures { result ≡ gap_after_of direction top.at entries }
+{
+    match direction {
+        Direction::Upwards => top.at + entries,
+        Direction::Downwards => top.at - entries,
+    }
+}
+
+/// The place of the entry that comes behind so many others.
+#[inline(always)]
+pub(crate) fn place_after(direction: Direction, top: Step, entries: u8) -> u8
+    requires fits { top.at ≤ top.count }
+    requires come { entries < to_come_of direction top.count top.at }
+    ensures { result ≡ place_after_of direction top.at entries }
+{
+    match direction {
+        Direction::Upwards => top.at + entries,
+        Direction::Downwards => top.at - entries - 1,
     }
 }
 

@@ -2,6 +2,7 @@
 //! gives, whatever other passes publish meanwhile.
 #![tactic(auto)]
 
+mod ahead;
 mod direction;
 mod scanning;
 mod start;

@@ -1,6 +1,6 @@
 //! The walk of a scan: the pairs of a range of keys, in the order of its direction, as a pinned pass reads them.
 
-ghost use Rattle.std.specs.Prelude.{◌≡◌, ◌≢◌, ◌≤◌, ◌<◌, ◌+◌, ℕ, [], IfOk, IsSome, IsTrue, OnErr, false, length};
+ghost use Rattle.std.specs.Prelude.{◌≡◌, ◌≢◌, ◌≤◌, ◌<◌, ◌+◌, ◌*◌, ℕ, [], IfOk, IsSome, IsTrue, OnErr, false, length};
 ghost use Rattle.compound_node.specs.declared.entries.Entry.TheVariants.{Leaf as LeafEntry, Node as NodeEntry};
 ghost use Rattle.key_bits.specs.Key.{IsKey};
 ghost use Rattle.record_words.specs.declared.TheConstants.{HEAD_WORDS, LEAF_FIELDS};
@@ -10,23 +10,25 @@ ghost use Rattle.rowex_reading.specs.Reads.{IsReader, Reads};
 ghost use Rattle.rowex_reading.specs.Seen.{IsAtRoot, IsLedTo, since};
 ghost use Rattle.rowex_reading.specs.Ways.{IsWayOf};
 ghost use Rattle.rowex_reading.specs.declared.descent.Found.TheVariants.{Leaf as FoundLeaf};
+ghost use Rattle.rowex_scanning.specs.Ahead.{AreAhead, AreTaken};
 ghost use Rattle.rowex_scanning.specs.Counts.{Scans, Walks, scan_loads};
 ghost use Rattle.rowex_scanning.specs.Directions.{IsEarlier, IsNoLater, last_key};
-ghost use Rattle.rowex_scanning.specs.Directions.{first_key as first_key_of};
+ghost use Rattle.rowex_scanning.specs.Directions.{first_key as first_key_of, to_come as to_come_of};
 ghost use Rattle.rowex_scanning.specs.Scanning.{HasScanned, HasScannedPart, IsBound, IsEntered, IsLeafRefused, IsLeafTaken, IsPairRefused, IsPairTaken, IsReached, IsWalk, asked_range};
 
-use crate::direction::{Direction, behind, first_gap, is_before, is_earlier, next_place};
+use crate::ahead::{Ahead, MOST_AHEAD, look_ahead, most_together};
+use crate::direction::{
+    Direction, behind, first_gap, gap_after, is_before, is_earlier, place_after, to_come,
+};
 use crate::start::start_from;
 use arrayvec::ArrayVec;
-use compound_node::Entry;
 use insert_cases::Step;
 use key_bits::{Key, MAX_BYTES};
 use packed_pairs::Pairs;
 use record_words::{Origins, key_word_at};
 use rowex_core::Gate;
 use rowex_reading::{
-    Found, MOST_NODES, enter_node, load_entry_from, load_places, load_places_from, load_root,
-    search_way,
+    Found, MOST_NODES, enter_node, load_places, load_places_from, load_root, search_way,
 };
 use rowex_table::{HotTable, TableSeat};
 use std::alloc::AllocError;
@@ -182,8 +184,8 @@ fn scan_node<G: Gate>(
     walk(table, &origins, seat, gate, way, range, top, places, pairs)
 }
 
-/// The walk over the places of the nodes on the way, in the scan's direction, from a gap of the lowest of them on. The bytes of each key
-/// go to the same places, whatever stands there.
+/// The walk over the places of the nodes on the way, in the scan's direction, from a gap of the lowest of them on. It looks at several
+/// places together, so that it doesn't wait for each leaf alone. The bytes of each key go to the same places, whatever stands there.
 #[inline(always)]
 fn walk<G: Gate>(
     table: &HotTable,
@@ -207,21 +209,23 @@ fn walk<G: Gate>(
     let direction = range.direction;
     let mut top = lowest;
     loop {
-        if let Some(place) = next_place(direction, &top) {
-            top.at = place;
-            let start = origins.node(top.number);
-            match load_entry_from(table, seat, gate, top.number, start, place) {
-                Entry::Node { number, .. } => {
+        let count = to_come(direction, &top).min(most_together(range.limit - pairs.len()));
+        if count > 0 {
+            let ahead = look_ahead(table, origins, seat, gate, direction, &top, count);
+            match take_leaves(
+                table, origins, seat, gate, way, range, &mut top, &ahead, places, pairs,
+            )? {
+                Verdict::Further => (),
+                Verdict::Past => return Ok(false),
+                Verdict::Full => return Ok(true),
+            }
+            match ahead.node {
+                Some(number) => {
+                    top.at = place_after(direction, top, 0);
                     way.push(top);
                     top = enter(table, seat, gate, direction, number);
                 }
-                Entry::Leaf(number) => {
-                    match take_leaf(table, origins, seat, gate, range, number, places, pairs)? {
-                        Verdict::Further => top.at = behind(direction, place),
-                        Verdict::Past => return Ok(false),
-                        Verdict::Full => return Ok(true),
-                    }
-                }
+                None => (),
             }
         } else {
             match way.pop() {
@@ -233,6 +237,44 @@ fn walk<G: Gate>(
             }
         }
     }
+}
+
+/// Takes the pairs of the leaves that come next, up to one whose pair doesn't belong to the range or has no room; and goes behind them,
+/// where it has taken all.
+#[inline(always)]
+fn take_leaves<G: Gate>(
+    table: &HotTable,
+    origins: &Origins,
+    seat: &mut TableSeat,
+    gate: &mut G,
+    _way: &ArrayVec<Step, MOST_NODES>,
+    range: &Range,
+    top: &mut Step,
+    ahead: &Ahead,
+    places: &mut [u8; MAX_BYTES],
+    pairs: &mut Pairs,
+) -> Result<Verdict, AllocError>
+    requires reader { IsReader table.now seat.old }
+    requires origins { origins.now.layout ≡ table.now.layout }
+    requires walk { IsWalk range.now.direction seat.old.known (since seat.old.known) (asked_range range.now) top.old _way.now.items pairs.old }
+    requires bound { IsBound range.now.direction seat.old.known (since seat.old.known) (first_key_of range.now.direction (asked_range range.now)) top.old _way.now.items }
+    requires ahead { AreAhead range.now.direction seat.old.known (since seat.old.known) top.old ahead.now.count ahead.now.leaves }
+    requires come { ahead.now.count ≤ to_come_of range.now.direction top.old.count top.old.at }
+    requires most { ahead.now.count ≤ MOST_AHEAD }
+    ensures reads { (n : ℕ) × (n ≤ LEAF_FIELDS * ahead.now.count) × Reads table.now G.becomes 0 n (seat.old, gate.old) (seat.new, gate.new) }
+    ensures taken { IfOk result (AreTaken range.now.direction seat.new.known (since seat.old.known) (asked_range range.now) top.old top.new _way.now.items ahead.now.count pairs.old pairs.new) }
+    ensures part { OnErr result (HasScannedPart range.now.direction seat.new.known (asked_range range.now) pairs.new) }
+{
+    for index in 0..ahead.count {
+        let number = ahead.leaves[index as usize];
+        match take_leaf(table, origins, seat, gate, range, number, places, pairs)? {
+            Verdict::Further => (),
+            Verdict::Past => return Ok(Verdict::Past),
+            Verdict::Full => return Ok(Verdict::Full),
+        }
+    }
+    top.at = gap_after(range.direction, *top, ahead.count);
+    Ok(Verdict::Further)
 }
 
 /// Goes to a node: reads its head, and begins at the gap before its first entry.

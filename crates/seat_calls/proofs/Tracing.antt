@@ -143,7 +143,7 @@ module _ {G : Type 0} (table : TableView) (becomes : G → Event → G → Type 
       record {
         read = has_read pins looks end;
         most = subst (λ e. e ≤ scan_entries limit) (sym entries) are.most;
-        few = subst (λ e. d.0.known.steps ≤ a.0.known.steps + 100 + 26 * e + 7 * limit) (sym entries) (omega (arith, steps, few));
+        few = subst (λ e. d.0.known.steps ≤ a.0.known.steps + 101 + 26 * e + 8 * limit) (sym entries) (omega (arith, steps, few));
       }
 
   -- Nobody need be told.

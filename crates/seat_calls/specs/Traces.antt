@@ -53,12 +53,12 @@ pub record HasGot {G : Type 0} (index : TableView) (becomes : G → Event → G 
   pub depth : entries_in read.loads ≤ 9 * MAX_BYTES
   pub few : b.0.steps ≤ a.0.steps + 36 + 26 * entries_in read.loads
 
--- A scan loads one entry for each node to which it goes, and one for each leaf: it makes at most 26 steps for each entry that it loads, 7
--- more for each pair of its limit, and 100 beside.
+-- A scan loads one entry for each node to which it goes, and one for each leaf: it makes at most 26 steps for each entry that it loads, 8
+-- more for each pair of its limit, and 101 beside.
 pub record HasGotRange {G : Type 0} (index : TableView) (becomes : G → Event → G → Type 0) (limit : ℕ) (a b : PassView × G) : Type 0 where
   pub read : HasRead index becomes a b
   pub most : entries_in read.loads ≤ scan_entries limit
-  pub few : b.0.steps ≤ a.0.steps + 100 + 26 * entries_in read.loads + 7 * limit
+  pub few : b.0.steps ≤ a.0.steps + 101 + 26 * entries_in read.loads + 8 * limit
 
 -- An attempt, but for its last step, which clears the pin: it pins the pass, leaves the pin, and tries each lock once at most. Its
 -- steps are bounded by the entries that its search loads, the locks that it tries, and the records of the table.

@@ -1,36 +1,50 @@
 -- The steps of the walk.
-use Rattle.std.proofs.Common.{◌≡◌, ◌+◌, ◌<◌, length, sym, subst, arith}
-use Rattle.std.proofs.lemmas.Result.{err_from_is_err_and}
-use Rattle.compound_node.specs.declared.entries.Entry.TheVariants.{Leaf, Node}
+use Rattle.std.proofs.Common.{◌≡◌, ℕ, ◌+◌, ◌<◌, ◌≤◌, ◌∷◌, ◌++◌, [], length, ap, sym, subst, ◌∙◌, arith}
+use Rattle.std.specs.Prelude.{IfSome, option_to_list}
+use Rattle.compound_node.specs.declared.entries.Entry.TheVariants.{Node}
 use Rattle.insert_cases.specs.declared.choice.Step.{Step}
 use Rattle.rowex_reading.specs.Seen.{since}
 use Rattle.rowex_reading.proofs.Led.{reader_then, reads_later, reads_none, reads_trans, same_since}
 use Rattle.rowex_reading.proofs.Seeing.{placed_stable, sure_later}
-use Rattle.rowex_scanning.specs.Directions.{first_key, gap_behind}
-use Rattle.rowex_scanning.specs.Scanning.{IsBound, asked_range}
-use Rattle.rowex_scanning.proofs.Begins.{node_begins}
-use Rattle.rowex_scanning.proofs.Parts.{walk_part}
-use Rattle.rowex_scanning.proofs.Walking.{IsAtEntry, IsPaid, at_place, bound_later, bound_leaf, bound_next, bound_pop, bound_push, entered_first, entered_number, entry_at, entry_led, entry_place, next_less, none_popped, paid_end, paid_first, paid_last, paid_leaf, paid_pop, paid_push, pop_less, popped_is, rest_of, taken_more, walk_at_place, walk_end, walk_fits, walk_full, walk_further, walk_inside, walk_past, walk_pop, walk_push, walk_push_less, walk_room, walk_several, walk_short, way_short}
+use Rattle.rowex_scanning.specs.Ahead.{AreAhead, HasPlaces, HavePassed, IsNodeAhead, entries_ahead}
+use Rattle.rowex_scanning.specs.Directions.{first_key, gap_after, place_after, to_come}
+use Rattle.rowex_scanning.specs.Scanning.{IsBound, IsWalk, asked_range}
+use Rattle.rowex_scanning.specs.declared.direction.Direction.{Direction}
+use Rattle.rowex_scanning.proofs.Directed.{gap_before_place, place_at_gap}
+use Rattle.rowex_scanning.proofs.Passing.{node_at, node_later, taken_all}
+use Rattle.rowex_scanning.proofs.Walking.{IsPaid, after_less, bound_later, bound_pop, bound_push, bound_since, entered_first, entered_number, entry_led, none_popped, paid_ahead, paid_child, paid_end, paid_first, paid_last, paid_pop, pop_less, popped_is, rest_of, walk_end, walk_fits, walk_inside, walk_later, walk_places, walk_pop, walk_push, walk_push_less, walk_several, walk_short, walk_since, way_short}
 use Rattle.rowex_scanning.proofs.scanning.walk.Given as given
 use Rattle.rowex_scanning.proofs.scanning.walk.Goals as goal
-use Rattle.rowex_scanning.proofs.scanning.walk.Goals.{After-take_leaf, In-Leaf, In-Node}
+use Rattle.rowex_scanning.proofs.scanning.walk.Goals.{After-look_ahead-ahead, After-min-count, After-push, In-Further, In-Some}
 
--- The pass knows the entry at the place: a node,
-node : (g : given.Over) (c : In-Node g) →
-    IsAtEntry c.args.range.now.direction c.load_entry_from.new.seat.known (since c.args.seat.now.known) (asked_range c.args.range.now) (record c.loop-place.top { at = c.in-Some.place }) c.loop-place.way.items c.loop-place.pairs (Node c.in-Node.number c.in-Node.height)
-node g c = entry_at (Node c.in-Node.number c.in-Node.height) (walk_at_place c.in-Some.place c.loop-place.invariant.walk c.in-Some.ensures) (reads_later c.load_entry_from.ensures.reads) c.in-Node.ensures.entry
+-- The node has entries at the places at which the walk looks; where there are none, none is to come.
+has_places : (g : given.Over) (c : After-min-count g) → HasPlaces c.args.range.now.direction c.loop-seat.seat.known (since c.args.seat.now.known) c.loop-seat.top c.min-count.result
+has_places g c = walk_places c.loop-seat.invariant.walk c.min-count.result (omega (arith, c.min-count.ensures, c.to_come.ensures))
 
--- or a leaf.
-leaf : (g : given.Over) (c : In-Leaf g) →
-    IsAtEntry c.args.range.now.direction c.load_entry_from.new.seat.known (since c.args.seat.now.known) (asked_range c.args.range.now) (record c.loop-place.top { at = c.in-Some.place }) c.loop-place.way.items c.loop-place.pairs (Leaf c.in-Leaf.number)
-leaf g c = entry_at (Leaf c.in-Leaf.number) (walk_at_place c.in-Some.place c.loop-place.invariant.walk c.in-Some.ensures) (reads_later c.load_entry_from.ensures.reads) c.in-Leaf.ensures.entry
+none_come : (g : given.Over) (c : After-min-count g) → c.min-count.result ≤ 0 → to_come c.args.range.now.direction c.loop-seat.top.count c.loop-seat.top.at ≡ 0
+none_come g c none = let some = c.most_together.ensures.some in omega (arith, some, none, c.min-count.ensures, c.to_come.ensures)
 
--- When the leaf has been read, the root has not been loaded again.
-same : (g : given.Over) (c : After-take_leaf g) → since c.take_leaf.new.seat.known ≡ since c.args.seat.now.known
-same g c = same_since (reads_trans c.loop-place.invariant.reads.3 (reads_trans c.load_entry_from.ensures.reads c.take_leaf.ensures.reads.2))
+-- No more are loaded than the limit asks for, and one.
+asked : (g : given.Over) (c : After-look_ahead-ahead g) → length c.loop-seat.pairs + entries_ahead c.look_ahead-ahead.result ≤ c.args.range.now.limit + 1
+asked g c =
+    let few = c.look_ahead-ahead.ensures.few in let most = c.most_together.ensures.few in let n = c.len.ensures.count in let short = walk_short c.loop-seat.invariant.walk c.loop-seat.invariant.reader.1 in
+    omega (arith, few, most, n, short, c.min-count.ensures)
 
-pub loop-place-init : goal.loop-place-init
-loop-place-init g c =
+-- The leaves are among them.
+come : (g : given.Over) (c : After-look_ahead-ahead g) → entries_ahead c.look_ahead-ahead.result ≤ to_come c.args.range.now.direction c.loop-seat.top.count c.loop-seat.top.at
+come g c = let few = c.look_ahead-ahead.ensures.few in omega (arith, few, c.min-count.ensures, c.to_come.ensures)
+
+-- The root has not been loaded again.
+same : (g : given.Over) (c : After-look_ahead-ahead g) → since c.look_ahead-ahead.new.seat.known ≡ since c.args.seat.now.known
+same g c = same_since (reads_trans c.loop-seat.invariant.reads.3 c.look_ahead-ahead.ensures.reads.2)
+
+-- All leaves were passed.
+passed : (g : given.Over) (c : In-Further g) → (c.take_leaves.new.top ≡ record c.loop-seat.top { at = gap_after c.args.range.now.direction c.loop-seat.top.at c.look_ahead-ahead.result.count }) ×
+    HavePassed c.args.range.now.direction c.take_leaves.new.seat.known (since c.args.seat.now.known) (asked_range c.args.range.now) c.loop-seat.top c.loop-seat.way.items c.look_ahead-ahead.result.count c.loop-seat.pairs c.take_leaves.new.pairs
+passed g c = taken_all c.in_ok-take_leaves.ensures.taken c.in-Further.is (same_since (reads_trans c.loop-seat.invariant.reads.3 c.look_ahead-ahead.ensures.reads.2))
+
+pub loop-seat-init : goal.loop-seat-init
+loop-seat-init g c =
     let short = way_short c.requires.walk c.requires.reader.1 in
     record {
       reader = c.requires.reader;
@@ -39,145 +53,161 @@ loop-place-init g c =
       bound = c.requires.bound;
     }
 
-pub next_place-requires : goal.next_place-requires
-next_place-requires g c = walk_fits c.loop-place.invariant.walk
+pub to_come-requires : goal.to_come-requires
+to_come-requires g c = walk_fits c.loop-seat.invariant.walk
 
-pub load_entry_from-requires-clause-place : goal.load_entry_from-requires-clause-place
-load_entry_from-requires-clause-place g c = (since c.args.seat.now.known, c.loop-place.top.height, entry_place (walk_at_place c.in-Some.place c.loop-place.invariant.walk c.in-Some.ensures))
+pub overflow_sub-range : goal.overflow_sub-range
+overflow_sub-range g c = let n = c.len.ensures.count in let short = walk_short c.loop-seat.invariant.walk c.loop-seat.invariant.reader.1 in omega (arith, n, short)
 
-pub load_entry_from-requires-clause-start : goal.load_entry_from-requires-clause-start
-load_entry_from-requires-clause-start g c =
-    let i = c.loop-place.invariant in
-    node_begins c.args.table.now.layout c.args.origins.now.layout c.loop-place.seat.known (since c.args.seat.now.known) c.loop-place.top.number c.loop-place.top.height c.in-Some.place c.node-start.result i.reader.1
-    (entry_place (walk_at_place c.in-Some.place i.walk c.in-Some.ensures)) c.requires.origins c.node-start.ensures
+pub look_ahead-ahead-requires-clause-places : goal.look_ahead-ahead-requires-clause-places
+look_ahead-ahead-requires-clause-places g c = (since c.args.seat.now.known, has_places g (goal.at.look_ahead-ahead-requires-clause-places g c).After-min-count)
 
-pub push-requires : goal.push-requires
-push-requires g c = (omega arith, way_short c.loop-place.invariant.walk c.loop-place.invariant.reader.1)
+pub take_leaves-requires-clause-reader : goal.take_leaves-requires-clause-reader
+take_leaves-requires-clause-reader g c = reader_then c.loop-seat.invariant.reader c.look_ahead-ahead.ensures.reads.2
 
-pub enter-top-requires-clause-reader : goal.enter-top-requires-clause-reader
-enter-top-requires-clause-reader g c = reader_then c.loop-place.invariant.reader c.load_entry_from.ensures.reads
+pub take_leaves-requires-clause-walk : goal.take_leaves-requires-clause-walk
+take_leaves-requires-clause-walk g c =
+    let at = (goal.at.take_leaves-requires-clause-walk g c).After-look_ahead-ahead in
+    walk_since (same g at) (walk_later (reads_later c.look_ahead-ahead.ensures.reads.2) c.loop-seat.invariant.walk)
 
-pub enter-top-requires-clause-led : goal.enter-top-requires-clause-led
-enter-top-requires-clause-led g c = (since c.args.seat.now.known, c.in-Node.height, entry_led (node g (goal.at.enter-top-requires-clause-led g c).In-Node))
+pub take_leaves-requires-clause-bound : goal.take_leaves-requires-clause-bound
+take_leaves-requires-clause-bound g c =
+    let at = (goal.at.take_leaves-requires-clause-bound g c).After-look_ahead-ahead in let d = c.args.range.now.direction in let m = since c.args.seat.now.known in let key = first_key d (asked_range c.args.range.now) in
+    bound_since d m key (same g at) (bound_later d m key (reads_later c.look_ahead-ahead.ensures.reads.2) c.loop-seat.invariant.bound)
 
-pub loop-place-smaller-in-Node : goal.loop-place-smaller-in-Node
-loop-place-smaller-in-Node g c =
-    let m = since c.args.seat.now.known in let e = c.enter-top.ensures in let d = c.args.range.now.direction in
-    let a = node g (goal.at.loop-place-smaller-in-Node g c).In-Node in
-    let falls = (c.in-Node.ensures.entry m c.loop-place.top.height (entry_place (walk_at_place c.in-Some.place c.loop-place.invariant.walk c.in-Some.ensures))).0 in
-    subst (λ (z : Step). rest_of d c.enter-top.result c.push.new.self.items < rest_of d z c.loop-place.way.items) (sym (at_place d c.loop-place.top c.in-Some.place c.in-Some.ensures))
-    (walk_push_less a (reads_later e.reads.2) (e.entered m c.in-Node.height (entry_led a)) c.push.ensures.items falls)
+pub take_leaves-requires-clause-ahead : goal.take_leaves-requires-clause-ahead
+take_leaves-requires-clause-ahead g c =
+    let at = goal.at.take_leaves-requires-clause-ahead g c in let ahead = c.look_ahead-ahead.result in
+    subst (λ z. AreAhead c.args.range.now.direction c.look_ahead-ahead.new.seat.known z c.loop-seat.top ahead.count ahead.leaves) (sym (same g at.After-look_ahead-ahead))
+    (c.look_ahead-ahead.ensures.ahead (since c.args.seat.now.known) (has_places g at.After-min-count)).leaves
 
-pub loop-place-preserved-in-Node : goal.loop-place-preserved-in-Node
-loop-place-preserved-in-Node g c =
-    let i = c.loop-place.invariant in let m = since c.args.seat.now.known in let o = c.load_entry_from.ensures in let e = c.enter-top.ensures in let d = c.args.range.now.direction in
-    let key = first_key d (asked_range c.args.range.now) in
-    let is = at_place d c.loop-place.top c.in-Some.place c.in-Some.ensures in
-    let a = node g (goal.at.loop-place-preserved-in-Node g c).In-Node in
-    let entered = e.entered m c.in-Node.height (entry_led a) in
-    let placed = sure_later (placed_stable m c.loop-place.top.number c.in-Some.place (Node c.in-Node.number c.in-Node.height)) (reads_later e.reads.2) a.placed in
-    let paid = subst (λ (z : Step). IsPaid d i.reads.0 i.reads.1 (length c.loop-place.pairs) z c.loop-place.way.items) is i.reads.2 in
-    let bound = subst (λ (z : Step). IsBound d c.enter-top.new.seat.known m key z c.loop-place.way.items) is (bound_later d m key (reads_later (reads_trans o.reads e.reads.2)) i.bound) in
-    record {
-      reader = reader_then (reader_then i.reader o.reads) e.reads.2;
-      reads = (
-        i.reads.0 + (1 + e.reads.0),
-        i.reads.1 + 1,
-        paid_push d i.reads.0 i.reads.1 (1 + e.reads.0) (length c.loop-place.pairs) (record c.loop-place.top { at = c.in-Some.place }) c.loop-place.way.items c.enter-top.result c.push.new.self.items paid
-            (let few = e.reads.1 in omega (arith, few)) (entered_first entered) c.push.ensures.items,
-        reads_trans i.reads.3 (reads_trans o.reads e.reads.2),
-      );
-      walk = walk_push a (reads_later e.reads.2) entered c.push.ensures.items;
-      bound = bound_push d m key (record c.loop-place.top { at = c.in-Some.place }) bound c.in-Node.number c.in-Node.height placed c.enter-top.result (entered_number entered) (entered_first entered) c.push.new.self.items c.push.ensures.items;
-    }
-
-pub take_leaf-requires-clause-reader : goal.take_leaf-requires-clause-reader
-take_leaf-requires-clause-reader g c = reader_then c.loop-place.invariant.reader c.load_entry_from.ensures.reads
-
--- it does not come before the range
-pub take_leaf-requires-clause-leaf : goal.take_leaf-requires-clause-leaf
-take_leaf-requires-clause-leaf g c =
-    let i = c.loop-place.invariant in let m = since c.args.seat.now.known in let d = c.args.range.now.direction in let key = first_key d (asked_range c.args.range.now) in
-    let a = leaf g (goal.at.take_leaf-requires-clause-leaf g c).In-Leaf in
-    let bound = subst (λ (z : Step). IsBound d c.load_entry_from.new.seat.known m key z c.loop-place.way.items) (at_place d c.loop-place.top c.in-Some.place c.in-Some.ensures)
-    (bound_later d m key (reads_later c.load_entry_from.ensures.reads) i.bound) in
-    (m, entry_led a, bound_leaf d m key (record c.loop-place.top { at = c.in-Some.place }) bound c.in-Leaf.number a.walk.pinned a.placed)
-
-pub returns-in_err-take_leaf-in-Leaf-clause-reads : goal.returns-in_err-take_leaf-in-Leaf-clause-reads
-returns-in_err-take_leaf-in-Leaf-clause-reads g c =
-    let i = c.loop-place.invariant in paid_last i.reads i.walk i.reader.1 c.load_entry_from.ensures.reads c.take_leaf.ensures.reads
-
-pub returns-in_err-take_leaf-in-Leaf-clause-part : goal.returns-in_err-take_leaf-in-Leaf-clause-part
-returns-in_err-take_leaf-in-Leaf-clause-part g c =
-    let at = goal.at.returns-in_err-take_leaf-in-Leaf-clause-part g c in let i = c.loop-place.invariant in
-    rw (err_from_is_err_and c.from_residual.result c.from_residual.ensures.1).1
-    (walk_part (reads_later c.take_leaf.ensures.reads.2) c.in_err-take_leaf-in-Leaf.ensures.refused (walk_short i.walk i.reader.1) (same g at.After-take_leaf) (leaf g at.In-Leaf))
-
-pub behind-requires : goal.behind-requires
-behind-requires g c = let low = c.in-Some.ensures.0 in let room = walk_room c.loop-place.invariant.walk in omega (arith, low, room)
-
-pub loop-place-smaller-in-Further : goal.loop-place-smaller-in-Further
-loop-place-smaller-in-Further g c =
-    let d = c.args.range.now.direction in
-    rw c.behind.ensures (subst (λ (z : Step). rest_of d (record c.loop-place.top { at = gap_behind d c.in-Some.place }) c.loop-place.way.items < rest_of d z c.loop-place.way.items)
-    (sym (at_place d c.loop-place.top c.in-Some.place c.in-Some.ensures)) (next_less d (record c.loop-place.top { at = c.in-Some.place }) c.loop-place.way.items c.in-Some.ensures.0))
-
-pub loop-place-preserved-in-Further : goal.loop-place-preserved-in-Further
-loop-place-preserved-in-Further g c =
-    let i = c.loop-place.invariant in let m = since c.args.seat.now.known in let o = c.load_entry_from.ensures in let e = c.take_leaf.ensures in let d = c.args.range.now.direction in
-    let key = first_key d (asked_range c.args.range.now) in
-    let is = at_place d c.loop-place.top c.in-Some.place c.in-Some.ensures in
-    let a = leaf g (goal.at.loop-place-preserved-in-Further g c).In-Leaf in
-    let taken = c.in_ok-take_leaf-in-Leaf.ensures.taken in
-    let paid = subst (λ (z : Step). IsPaid d i.reads.0 i.reads.1 (length c.loop-place.pairs) z c.loop-place.way.items) is i.reads.2 in
-    let bound = subst (λ (z : Step). IsBound d c.take_leaf.new.seat.known m key z c.loop-place.way.items) is (bound_later d m key (reads_later (reads_trans o.reads e.reads.2)) i.bound) in
-    rw c.behind.ensures (record {
-      reader = reader_then (reader_then i.reader o.reads) e.reads.2;
-      reads = (
-        i.reads.0 + (1 + e.reads.0),
-        i.reads.1 + 1,
-        paid_leaf d i.reads.0 i.reads.1 (1 + e.reads.0) _ _ (record c.loop-place.top { at = c.in-Some.place }) c.loop-place.way.items (taken_more a (reads_later e.reads.2) taken c.in-Further.is) paid
-            (let few = e.reads.1 in omega (arith, few)) c.in-Some.ensures.0,
-        reads_trans i.reads.3 (reads_trans o.reads e.reads.2),
-      );
-      walk = walk_further a (reads_later e.reads.2) taken c.in-Further.is;
-      bound = bound_next d m key (record c.loop-place.top { at = c.in-Some.place }) bound;
-    })
+pub returns-in_err-take_leaves-clause-reads : goal.returns-in_err-take_leaves-clause-reads
+returns-in_err-take_leaves-clause-reads g c =
+    let at = (goal.at.returns-in_err-take_leaves-clause-reads g c).After-look_ahead-ahead in let i = c.loop-seat.invariant in
+    paid_last i.reads i.walk i.reader.1 c.look_ahead-ahead.result (asked g at) c.look_ahead-ahead.ensures.reads c.take_leaves.ensures.reads
 
 pub returns-in-Past-clause-reads : goal.returns-in-Past-clause-reads
-returns-in-Past-clause-reads g c = let i = c.loop-place.invariant in paid_last i.reads i.walk i.reader.1 c.load_entry_from.ensures.reads c.take_leaf.ensures.reads
-
-pub returns-in-Past-clause-scanned : goal.returns-in-Past-clause-scanned
-returns-in-Past-clause-scanned g c =
-    let at = goal.at.returns-in-Past-clause-scanned g c in walk_past (leaf g at.In-Leaf) (reads_later c.take_leaf.ensures.reads.2) c.in_ok-take_leaf-in-Leaf.ensures.taken (same g at.After-take_leaf) c.in-Past.is
+returns-in-Past-clause-reads g c =
+    let at = (goal.at.returns-in-Past-clause-reads g c).After-look_ahead-ahead in let i = c.loop-seat.invariant in
+    paid_last i.reads i.walk i.reader.1 c.look_ahead-ahead.result (asked g at) c.look_ahead-ahead.ensures.reads c.take_leaves.ensures.reads
 
 pub returns-in-Full-clause-reads : goal.returns-in-Full-clause-reads
-returns-in-Full-clause-reads g c = let i = c.loop-place.invariant in paid_last i.reads i.walk i.reader.1 c.load_entry_from.ensures.reads c.take_leaf.ensures.reads
+returns-in-Full-clause-reads g c =
+    let at = (goal.at.returns-in-Full-clause-reads g c).After-look_ahead-ahead in let i = c.loop-seat.invariant in
+    paid_last i.reads i.walk i.reader.1 c.look_ahead-ahead.result (asked g at) c.look_ahead-ahead.ensures.reads c.take_leaves.ensures.reads
 
-pub returns-in-Full-clause-scanned : goal.returns-in-Full-clause-scanned
-returns-in-Full-clause-scanned g c =
-    let at = goal.at.returns-in-Full-clause-scanned g c in walk_full (leaf g at.In-Leaf) (reads_later c.take_leaf.ensures.reads.2) c.in_ok-take_leaf-in-Leaf.ensures.taken (same g at.After-take_leaf) c.in-Full.is
+-- The walk is at the node behind them,
+node_ahead : (g : given.Over) (c : In-Some g) → HasPlaces c.args.range.now.direction c.loop-seat.seat.known (since c.args.seat.now.known) c.loop-seat.top c.min-count.result →
+    IsNodeAhead c.args.range.now.direction c.take_leaves.new.seat.known (since c.args.seat.now.known) c.loop-seat.top c.look_ahead-ahead.result.count c.in-Some.number
+node_ahead g c has =
+    let d = c.args.range.now.direction in let m = since c.args.seat.now.known in let top = c.loop-seat.top in let ahead = c.look_ahead-ahead.result in
+    node_later d m top (reads_later c.take_leaves.ensures.reads.2) ahead.count c.in-Some.number
+    (subst (λ z. IfSome z (IsNodeAhead d c.look_ahead-ahead.new.seat.known m top ahead.count)) c.in-Some.is (c.look_ahead-ahead.ensures.ahead m has).node)
 
-pub behind-requires-in-Some-pop : goal.behind-requires-in-Some-pop
-behind-requires-in-Some-pop g c =
-    (walk_inside c.loop-place.invariant.walk c.in-Some-pop.above c.pop.new.self.items (popped_is c.pop.new.self.items c.pop.ensures.items c.in-Some-pop.is)).1
+inside : (g : given.Over) (c : In-Some g) → entries_ahead c.look_ahead-ahead.result ≤ to_come c.args.range.now.direction c.loop-seat.top.count c.loop-seat.top.at →
+    c.look_ahead-ahead.result.count < to_come c.args.range.now.direction c.loop-seat.top.count c.loop-seat.top.at
+inside g c come = let one : length (option_to_list c.look_ahead-ahead.result.node) ≡ 1 = ap (λ z. length (option_to_list z)) c.in-Some.is in omega (arith, one, come)
 
-pub loop-place-smaller : goal.loop-place-smaller
-loop-place-smaller g c =
-    rw c.behind-in-Some-pop.ensures
-    (pop_less c.args.range.now.direction c.loop-place.top c.loop-place.way.items c.in-Some-pop.above c.pop.new.self.items (popped_is c.pop.new.self.items c.pop.ensures.items c.in-Some-pop.is))
+-- which is pushed.
+pushed : (d : Direction) (top moved : Step) (count place : ℕ) → moved ≡ record top { at = gap_after d top.at count } → place ≡ place_after d moved.at 0 →
+    (let x : Step = record moved { at = place } in x) ≡ record top { at = place_after d top.at count }
+pushed d top moved count place is at =
+    ap (λ z. let x : Step = record moved { at = z } in x) at ∙ (ap (λ (z : Step). let x : Step = record z { at = place_after d z.at 0 } in x) is ∙ ap (λ z. let x : Step = record top { at = z } in x) (place_at_gap d top.at count))
 
-pub loop-place-preserved : goal.loop-place-preserved
-loop-place-preserved g c =
-    let i = c.loop-place.invariant in let d = c.args.range.now.direction in
+push_is : (g : given.Over) (c : After-push g) → c.take_leaves.new.top ≡ record c.loop-seat.top { at = gap_after c.args.range.now.direction c.loop-seat.top.at c.look_ahead-ahead.result.count } →
+    c.push.new.self.items ≡ c.loop-seat.way.items ++ (record c.loop-seat.top { at = place_after c.args.range.now.direction c.loop-seat.top.at c.look_ahead-ahead.result.count }) ∷ []
+push_is g c moved =
+    c.push.ensures.items ∙ ap (λ z. c.loop-seat.way.items ++ z ∷ []) (pushed c.args.range.now.direction c.loop-seat.top c.take_leaves.new.top c.look_ahead-ahead.result.count c.place_after.result moved c.place_after.ensures)
+
+pub push-requires : goal.push-requires
+push-requires g c = (omega arith, way_short c.loop-seat.invariant.walk c.loop-seat.invariant.reader.1)
+
+pub enter-top-requires-clause-reader : goal.enter-top-requires-clause-reader
+enter-top-requires-clause-reader g c = reader_then (reader_then c.loop-seat.invariant.reader c.look_ahead-ahead.ensures.reads.2) c.take_leaves.ensures.reads.2
+
+pub enter-top-requires-clause-led : goal.enter-top-requires-clause-led
+enter-top-requires-clause-led g c =
+    let at = goal.at.enter-top-requires-clause-led g c in let ahead = node_ahead g at.In-Some (has_places g at.After-min-count) in
+    (since c.args.seat.now.known, ahead.0, entry_led (node_at (walk_fits c.loop-seat.invariant.walk) (inside g at.In-Some (come g at.After-look_ahead-ahead)) (passed g at.In-Further).1 ahead))
+
+pub loop-seat-smaller-in-Some : goal.loop-seat-smaller-in-Some
+loop-seat-smaller-in-Some g c =
+    let at = goal.at.loop-seat-smaller-in-Some g c in let d = c.args.range.now.direction in let top = c.loop-seat.top in let count = c.look_ahead-ahead.result.count in let e = c.enter-top.ensures in
+    let fits = walk_fits c.loop-seat.invariant.walk in let within = inside g at.In-Some (come g at.After-look_ahead-ahead) in let ahead = node_ahead g at.In-Some (has_places g at.After-min-count) in
+    let a = node_at fits within (passed g at.In-Further).1 ahead in
+    let less = walk_push_less a (reads_later e.reads.2) (e.entered (since c.args.seat.now.known) ahead.0 (entry_led a)) (push_is g at.After-push (passed g at.In-Further).0) ahead.1 in
+    let here = subst (λ z. rest_of d c.enter-top.result c.push.new.self.items < rest_of d (record top { at = z }) c.loop-seat.way.items) (sym (gap_before_place d top.count top.at count within)) less in
+    let before = after_less d top c.loop-seat.way.items count (omega (arith, within)) in omega (arith, here, before)
+
+pub loop-seat-preserved-in-Some : goal.loop-seat-preserved-in-Some
+loop-seat-preserved-in-Some g c =
+    let at = goal.at.loop-seat-preserved-in-Some g c in let i = c.loop-seat.invariant in let m = since c.args.seat.now.known in let d = c.args.range.now.direction in let key = first_key d (asked_range c.args.range.now) in
+    let top = c.loop-seat.top in let count = c.look_ahead-ahead.result.count in let e = c.enter-top.ensures in
+    let look = c.look_ahead-ahead.ensures.reads in let take = c.take_leaves.ensures.reads in let later = reads_later e.reads.2 in
+    let fits = walk_fits i.walk in let within = inside g at.In-Some (come g at.After-look_ahead-ahead) in let (moved, p) = passed g at.In-Further in let ahead = node_ahead g at.In-Some (has_places g at.After-min-count) in
+    let a = node_at fits within p ahead in let entered = e.entered m ahead.0 (entry_led a) in let there = push_is g at.After-push moved in
+    let placed = sure_later (placed_stable m top.number (place_after d top.at count) (Node c.in-Some.number ahead.0)) later ahead.2 in
+    let bound = subst (λ z. IsBound d c.enter-top.new.seat.known m key (record top { at = z }) c.loop-seat.way.items) (gap_before_place d top.count top.at count within) (bound_later d m key later p.bound) in
+    record {
+      reader = reader_then (reader_then (reader_then i.reader look.2) take.2) e.reads.2;
+      reads = (
+        i.reads.0 + (look.0 + (take.0 + e.reads.0)),
+        i.reads.1 + (entries_ahead c.look_ahead-ahead.result + 0),
+        paid_child d i.reads.0 i.reads.1 (length c.loop-seat.pairs) (length c.take_leaves.new.pairs) look.0 take.0 e.reads.0 c.in-Some.number top c.loop-seat.way.items c.look_ahead-ahead.result c.enter-top.result c.push.new.self.items i.reads.2
+            c.in-Some.is look.1 take.1 e.reads.1 p.more fits within (entered_first entered) there,
+        reads_trans i.reads.3 (reads_trans look.2 (reads_trans take.2 e.reads.2)),
+      );
+      walk = walk_push a later entered there;
+      bound = bound_push d m key (record top { at = place_after d top.at count }) bound c.in-Some.number ahead.0 placed c.enter-top.result (entered_number entered) (entered_first entered) c.push.new.self.items there;
+    }
+
+pub loop-seat-smaller-in-None : goal.loop-seat-smaller-in-None
+loop-seat-smaller-in-None g c =
+    let at = goal.at.loop-seat-smaller-in-None g c in let d = c.args.range.now.direction in let top = c.loop-seat.top in let count = c.look_ahead-ahead.result.count in
+    let (moved, _) = passed g at.In-Further in let within = come g at.After-look_ahead-ahead in
+    let none : length (option_to_list c.look_ahead-ahead.result.node) ≡ 0 = ap (λ z. length (option_to_list z)) c.in-None.is in
+    let some = c.look_ahead-ahead.ensures.some in
+    let less = after_less d top c.loop-seat.way.items count (omega (arith, within)) in
+    subst (λ (z : Step). rest_of d z c.loop-seat.way.items < rest_of d top c.loop-seat.way.items) (sym moved) (omega (arith, less, some, none))
+
+pub loop-seat-preserved-in-None : goal.loop-seat-preserved-in-None
+loop-seat-preserved-in-None g c =
+    let at = goal.at.loop-seat-preserved-in-None g c in let i = c.loop-seat.invariant in let m = since c.args.seat.now.known in let d = c.args.range.now.direction in let key = first_key d (asked_range c.args.range.now) in
+    let top = c.loop-seat.top in let count = c.look_ahead-ahead.result.count in let look = c.look_ahead-ahead.ensures.reads in let take = c.take_leaves.ensures.reads in
+    let (moved, p) = passed g at.In-Further in let within = come g at.After-look_ahead-ahead in
+    record {
+      reader = reader_then (reader_then i.reader look.2) take.2;
+      reads = (
+        i.reads.0 + (look.0 + take.0),
+        i.reads.1 + (entries_ahead c.look_ahead-ahead.result + 0),
+        subst (λ (z : Step). IsPaid d (i.reads.0 + (look.0 + take.0)) (i.reads.1 + (entries_ahead c.look_ahead-ahead.result + 0)) (length c.take_leaves.new.pairs) z c.loop-seat.way.items) (sym moved)
+            (paid_ahead d i.reads.0 i.reads.1 (length c.loop-seat.pairs) (length c.take_leaves.new.pairs) look.0 take.0 top c.loop-seat.way.items c.look_ahead-ahead.result i.reads.2 c.in-None.is look.1 take.1 p.more (walk_fits i.walk)
+            (omega (arith, within))),
+        reads_trans i.reads.3 (reads_trans look.2 take.2),
+      );
+      walk = subst (λ (z : Step). IsWalk d c.take_leaves.new.seat.known m (asked_range c.args.range.now) z c.loop-seat.way.items c.take_leaves.new.pairs) (sym moved) p.walk;
+      bound = subst (λ (z : Step). IsBound d c.take_leaves.new.seat.known m key z c.loop-seat.way.items) (sym moved) p.bound;
+    }
+
+pub behind-requires : goal.behind-requires
+behind-requires g c = (walk_inside c.loop-seat.invariant.walk c.in-Some-pop.above c.pop.new.self.items (popped_is c.pop.new.self.items c.pop.ensures.items c.in-Some-pop.is)).1
+
+pub loop-seat-smaller : goal.loop-seat-smaller
+loop-seat-smaller g c =
+    rw c.behind.ensures
+    (pop_less c.args.range.now.direction c.loop-seat.top c.loop-seat.way.items c.in-Some-pop.above c.pop.new.self.items (popped_is c.pop.new.self.items c.pop.ensures.items c.in-Some-pop.is))
+
+pub loop-seat-preserved : goal.loop-seat-preserved
+loop-seat-preserved g c =
+    let i = c.loop-seat.invariant in let d = c.args.range.now.direction in
     let e = popped_is c.pop.new.self.items c.pop.ensures.items c.in-Some-pop.is in
-    let done = c.in_default.ensures in
-    rw c.behind-in-Some-pop.ensures (record {
+    let done = none_come g (goal.at.loop-seat-preserved g c).After-min-count c.if-count-gt0.false in
+    rw c.behind.ensures (record {
       reader = i.reader;
       reads = (
         i.reads.0,
         i.reads.1,
-        paid_pop d i.reads.0 i.reads.1 (length c.loop-place.pairs) c.loop-place.top c.loop-place.way.items c.in-Some-pop.above c.pop.new.self.items i.reads.2 done (walk_several i.walk i.reader.1) e
+        paid_pop d i.reads.0 i.reads.1 (length c.loop-seat.pairs) c.loop-seat.top c.loop-seat.way.items c.in-Some-pop.above c.pop.new.self.items i.reads.2 done (walk_several i.walk i.reader.1) e
             (walk_inside i.walk c.in-Some-pop.above c.pop.new.self.items e).0,
         i.reads.3,
       );
@@ -185,17 +215,17 @@ loop-place-preserved g c =
       bound = bound_pop d (since c.args.seat.now.known) (first_key d (asked_range c.args.range.now)) i.bound c.in-Some-pop.above c.pop.new.self.items e;
     })
 
-pub returns-in-None-clause-reads : goal.returns-in-None-clause-reads
-returns-in-None-clause-reads g c =
-    let i = c.loop-place.invariant in (
+pub returns-in-None-pop-clause-reads : goal.returns-in-None-pop-clause-reads
+returns-in-None-pop-clause-reads g c =
+    let i = c.loop-seat.invariant in (
       i.reads.0,
       i.reads.1,
-      paid_end c.args.range.now.direction i.reads.0 i.reads.1 (length c.loop-place.pairs) c.args.range.now.limit c.loop-place.top c.loop-place.way.items i.reads.2 (none_popped c.pop.ensures.variant c.in-None.is)
+      paid_end c.args.range.now.direction i.reads.0 i.reads.1 (length c.loop-seat.pairs) c.args.range.now.limit c.loop-seat.top c.loop-seat.way.items i.reads.2 (none_popped c.pop.ensures.variant c.in-None-pop.is)
           (walk_short i.walk i.reader.1),
       i.reads.3,
     )
 
-pub returns-in-None-clause-scanned : goal.returns-in-None-clause-scanned
-returns-in-None-clause-scanned g c =
-    let i = c.loop-place.invariant in
-    walk_end i.walk c.in_default.ensures (none_popped c.pop.ensures.variant c.in-None.is) (same_since i.reads.3)
+pub returns-in-None-pop-clause-scanned : goal.returns-in-None-pop-clause-scanned
+returns-in-None-pop-clause-scanned g c =
+    let i = c.loop-seat.invariant in
+    walk_end i.walk (none_come g (goal.at.returns-in-None-pop-clause-scanned g c).After-min-count c.if-count-gt0.false) (none_popped c.pop.ensures.variant c.in-None-pop.is) (same_since i.reads.3)

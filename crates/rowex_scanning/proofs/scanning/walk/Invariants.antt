@@ -7,13 +7,13 @@ use Rattle.rowex_scanning.specs.Scanning.{asked_range, IsBound, IsWalk}
 use Rattle.rowex_scanning.proofs.Walking.{IsPaid, rest_of}
 use Rattle.rowex_scanning.proofs.scanning.walk.Given as goal
 
-abbrev pub invariant-loop-place : goal.invariant-loop-place
-invariant-loop-place g l = record {
+abbrev pub invariant-loop-seat : goal.invariant-loop-seat
+invariant-loop-seat g l = record {
   reader : IsReader l.table l.seat;
   reads : (loads entries : ℕ) × IsPaid l.range.direction loads entries (length l.pairs) l.top l.way.items × Reads l.table g.G.Gate.becomes entries loads (l.fn.seat, l.fn.gate) (l.seat, l.gate);
   walk : IsWalk l.range.direction l.seat.known (since l.fn.seat.known) (asked_range l.range) l.top l.way.items l.pairs;
   bound : IsBound l.range.direction l.seat.known (since l.fn.seat.known) (first_key l.range.direction (asked_range l.range)) l.top l.way.items;
 }
 
-abbrev pub decreases-loop-place : goal.decreases-loop-place
-decreases-loop-place g l = rest_of l.range.direction l.top l.way.items
+abbrev pub decreases-loop-seat : goal.decreases-loop-seat
+decreases-loop-seat g l = rest_of l.range.direction l.top l.way.items

@@ -1,0 +1,118 @@
+//! What a walk looks at ahead of its place: so the lines of several leaves come side by side.
+
+ghost use Rattle.std.specs.Prelude.{◌≡◌, ◌+◌, ◌<◌, ◌≤◌, ℕ};
+ghost use Rattle.compound_node.specs.declared.entries.Entry.TheVariants.{Leaf as LeafEntry};
+ghost use Rattle.rowex_reading.specs.Reads.{IsReader, Reads};
+ghost use Rattle.rowex_reading.specs.Seen.{IsLedTo};
+ghost use Rattle.rowex_scanning.specs.Ahead.{HasPlaces, IsAhead, entries_ahead};
+ghost use Rattle.rowex_scanning.specs.Directions.{to_come};
+
+use crate::direction::{Direction, place_after};
+use compound_node::Entry;
+use insert_cases::Step;
+use record_words::Origins;
+use rowex_core::{Gate, Rec};
+use rowex_reading::load_entry_from;
+use rowex_table::{HotTable, TableSeat};
+
+/// How many places of a node a walk looks at together, at most.
+pub(crate) const MOST_AHEAD: u8 = 8;
+
+/// For how many pairs at least a walk looks at several places together.
+const LEAST_PAIRS: usize = 4;
+
+/// The entries that come next in a node, up to the first that leads to a node.
+#[derive(Clone, Copy)]
+pub(crate) struct Ahead {
+    /// The leaves that come first.
+    pub leaves: [u32; MOST_AHEAD as usize],
+    /// How many there are of them.
+    pub count: u8,
+    /// The node behind them, if it was looked at.
+    pub node: Option<u32>,
+}
+
+/// At how many places a walk looks together, where the limit asks for so many pairs more: at most at those of these pairs and the
+/// one behind them. Where they are few it looks at one place at a time.
+#[inline(always)]
+pub(crate) fn most_together(left: usize) -> u8
+    ensures some { 0 < result }
+    ensures most { result ≤ MOST_AHEAD }
+    ensures few { result ≤ left + 1 }
+{
+    if left < LEAST_PAIRS {
+        1
+    } else if left < MOST_AHEAD as usize {
+        left as u8 + 1
+    } else {
+        MOST_AHEAD
+    }
+}
+
+/// Loads the entries at so many places that come next in a node, up to the first that leads to a node, and touches their leaves. Where
+/// it is one place alone, its leaf is read at once, and isn't touched.
+#[inline(always)]
+pub(crate) fn look_ahead<G: Gate>(
+    table: &HotTable,
+    origins: &Origins,
+    seat: &mut TableSeat,
+    gate: &mut G,
+    direction: Direction,
+    top: &Step,
+    count: u8,
+) -> Ahead
+    requires reader { IsReader table.now seat.old }
+    requires origins { origins.now.layout ≡ table.now.layout }
+    requires fits { top.now.at ≤ top.now.count }
+    requires come { count ≤ to_come direction top.now.count top.now.at }
+    requires some { 0 < count }
+    requires most { count ≤ MOST_AHEAD }
+    requires places { (m : ℕ) × HasPlaces direction seat.old.known m top.now count }
+    ensures reads { (n : ℕ) × (n ≤ entries_ahead result + result.count) × Reads table.now G.becomes (entries_ahead result) n (seat.old, gate.old) (seat.new, gate.new) }
+    ensures some { 0 < entries_ahead result }
+    ensures few { entries_ahead result ≤ count }
+    ensures ahead { (m : ℕ) → HasPlaces direction seat.old.known m top.now count → IsAhead direction seat.new.known m top.now result }
+{
+    let start = origins.node(top.number);
+    let mut leaves = [0; MOST_AHEAD as usize];
+    for index in 0..count {
+        let place = place_after(direction, *top, index);
+        match load_entry_from(table, seat, gate, top.number, start, place) {
+            Entry::Node { number, .. } => {
+                return Ahead {
+                    leaves,
+                    count: index,
+                    node: Some(number),
+                };
+            }
+            Entry::Leaf(number) => {
+                if count > 1 {
+                    touch(table, origins, seat, gate, number);
+                }
+                leaves[index as usize] = number;
+            }
+        }
+    }
+    Ahead {
+        leaves,
+        count,
+        node: None,
+    }
+}
+
+/// Loads a word of a leaf's record, so that its line is at hand when the leaf is read.
+#[inline(always)]
+fn touch<G: Gate>(
+    table: &HotTable,
+    origins: &Origins,
+    seat: &mut TableSeat,
+    gate: &mut G,
+    number: u32,
+)
+    requires reader { IsReader table.now seat.old }
+    requires origins { origins.now.layout ≡ table.now.layout }
+    requires led { (m : ℕ) × IsLedTo seat.old.known m (LeafEntry number) }
+    ensures reads { Reads table.now G.becomes 0 1 (seat.old, gate.old) (seat.new, gate.new) }
+{
+    table.load_fixed_from(seat, gate, Rec::Leaf(number), origins.leaf(number), 2);
+}
