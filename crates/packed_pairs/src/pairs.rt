@@ -1,11 +1,12 @@
 //! A list of pairs that is filled, read, and used again.
 
-ghost use Rattle.std.specs.Prelude.{◌≡◌, ◌≢◌, ◌++◌, ◌∷◌, ◌<◌, ◌^◌, [], All, IfOk, MatchOption, OnErr, OnOk, if◌then◌else◌, is_ok, length, nat_eq};
+ghost use Rattle.std.specs.Prelude.{◌≡◌, ◌≢◌, ◌++◌, ◌∷◌, ◌<◌, ◌≤◌, ◌^◌, [], All, IfOk, MatchOption, OnErr, OnOk, if◌then◌else◌, is_ok, length, nat_eq, take};
 ghost use Rattle.key_bits.specs.Key.{IsKey};
+ghost use Rattle.key_bits.specs.declared.TheConstants.{MAX_BYTES};
 ghost use Rattle.packed_pairs.specs.Last.{IsLastKey};
 
 use crate::iter::{Iter, key_of};
-use key_bits::Key;
+use key_bits::{Key, MAX_BYTES};
 use std::alloc::{AllocError, Global};
 use std::marker::Model;
 
@@ -71,17 +72,23 @@ impl Pairs {
         self.heads.clear();
     }
 
-    /// Adds a pair at the end. Where memory ends, the list stays as it is.
+    /// Adds a pair at the end, whose key has the first bytes of these places, so many. Where memory ends, the list stays as it is.
     #[inline(always)]
-    pub fn push(&mut self, key: &[u8], value: u64) -> Result<(), AllocError>
-        requires { IsKey key.now }
-        ensures ok { OnOk result (self.new ≡ self.old ++ (key.now, value) ∷ []) }
+    pub fn push(
+        &mut self,
+        places: &[u8; MAX_BYTES],
+        length: usize,
+        value: u64,
+    ) -> Result<(), AllocError>
+        requires key { IsKey (take length places.now) }
+        requires fits { length ≤ MAX_BYTES }
+        ensures ok { OnOk result (self.new ≡ self.old ++ (take length places.now, value) ∷ []) }
         ensures err { OnErr result (self.new ≡ self.old) }
     {
         self.heads.reserve(1)?;
-        append(&mut self.bytes, key)?;
+        append(&mut self.bytes, places, length)?;
         self.heads.push_reserved(Head {
-            count: key.len() as u8,
+            count: length as u8,
             value,
         });
         Ok(())
@@ -120,19 +127,41 @@ impl Pairs {
     }
 }
 
-/// Ends the bytes by those of a key. Keys of eight bytes are common: where there is room, a copy of so many needs no call, and changes
-/// nothing else but the length.
+/// Ends the bytes by the first of these places. Most keys are short, and a copy of a number of bytes that is known beforehand needs no
+/// call: where there is room, eight bytes are copied for a key of eight, and 64 for one of up to 64, of which those behind the key are
+/// dropped.
 #[inline(always)]
-fn append(bytes: &mut Vec<u8>, key: &[u8]) -> Result<(), AllocError>
-    ensures items { bytes.new.items ≡ if is_ok result then bytes.old.items ++ key.now else bytes.old.items }
+fn append(bytes: &mut Vec<u8>, places: &[u8; MAX_BYTES], length: usize) -> Result<(), AllocError>
+    requires { length ≤ MAX_BYTES }
+    ensures items { bytes.new.items ≡ if is_ok result then bytes.old.items ++ take length places.now else bytes.old.items }
 {
-    if key.len() == 8 && bytes.capacity() - bytes.len() >= 8 {
-        return bytes.extend_from_slice(&key[..8]);
+    let room = bytes.capacity() - bytes.len();
+    if length == 8 && room >= 8 {
+        return bytes.extend_from_slice(&places[..8]);
     }
-    append_any(bytes, key)
+    if length <= 64 && room >= 64 {
+        return append_short(bytes, places, length);
+    }
+    append_any(bytes, &places[..length])
 }
 
-/// The same for any key. Never inline, so that keys of eight bytes need not pass through what is ready for any.
+/// The same for a key of up to 64 bytes.
+#[inline(always)]
+fn append_short(
+    bytes: &mut Vec<u8>,
+    places: &[u8; MAX_BYTES],
+    length: usize,
+) -> Result<(), AllocError>
+    requires { length ≤ 64 }
+    ensures items { bytes.new.items ≡ if is_ok result then bytes.old.items ++ take length places.now else bytes.old.items }
+{
+    let end = bytes.len() + length;
+    bytes.extend_from_slice(&places[..64])?;
+    bytes.truncate(end);
+    Ok(())
+}
+
+/// The same for any key. Never inline, so that short keys need not pass through what is ready for any.
 #[inline(never)]
 fn append_any(bytes: &mut Vec<u8>, key: &[u8]) -> Result<(), AllocError>
     ensures items { bytes.new.items ≡ if is_ok result then bytes.old.items ++ key.now else bytes.old.items }

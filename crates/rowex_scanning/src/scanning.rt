@@ -1,8 +1,9 @@
 //! The walk of a scan: the pairs of a range of keys, in the order of its direction, as a pinned pass reads them.
 
-ghost use Rattle.std.specs.Prelude.{◌≡◌, ◌≢◌, ◌≤◌, ◌<◌, ◌+◌, ◌*◌, ℕ, [], IfOk, IsSome, IsTrue, OnErr, false, length};
+ghost use Rattle.std.specs.Prelude.{◌≡◌, ◌≢◌, ◌≤◌, ◌<◌, ◌+◌, ◌*◌, ℕ, [], IfOk, IsSome, IsTrue, OnErr, false, length, take};
 ghost use Rattle.compound_node.specs.declared.entries.Entry.TheVariants.{Leaf as LeafEntry, Node as NodeEntry};
 ghost use Rattle.key_bits.specs.Key.{IsKey};
+ghost use Rattle.key_bits.specs.declared.TheConstants.{MAX_BYTES};
 ghost use Rattle.record_words.specs.declared.TheConstants.{HEAD_WORDS, LEAF_FIELDS};
 ghost use Rattle.record_words.specs.Leaf.{key_word};
 ghost use Rattle.rowex_table.specs.Seats.{IsSeatOf};
@@ -129,11 +130,14 @@ fn scan_leaf<G: Gate>(
 {
     let mut places = [0; MAX_BYTES];
     let (length, value) = load_places(table, seat, gate, number, &mut places);
-    let key = &places[..length];
-    if is_earlier(range.direction, key, first_key(range).as_bytes()) {
+    if is_earlier(
+        range.direction,
+        &places[..length],
+        first_key(range).as_bytes(),
+    ) {
         return Ok(false);
     }
-    match take_pair(pairs, range, key, value)? {
+    match take_pair(pairs, range, &places, length, value)? {
         Verdict::Full => Ok(true),
         Verdict::Further | Verdict::Past => Ok(false),
     }
@@ -316,45 +320,54 @@ fn take_leaf<G: Gate>(
 {
     let start = origins.leaf(number);
     let (length, value) = load_places_from(table, seat, gate, number, start, places);
-    take_pair(pairs, range, &places[..length], value)
+    take_pair(pairs, range, places, length, value)
 }
 
-/// Takes a pair whose key does not come before the range, if it belongs to the range and there is room for it. Keys of eight bytes are
-/// common: what is compiled for them alone has each as a number. Inline, so that the key's bytes go at once from where they were read to
-/// their place among the pairs.
+/// Takes a pair whose key does not come before the range, if it belongs to the range and there is room for it: the key has the first of
+/// these places, so many. Keys of eight bytes are common: what is compiled for them alone has each as a number. Inline, so that the
+/// key's bytes go at once from where they were read to their place among the pairs.
 #[inline(always)]
 fn take_pair(
     pairs: &mut Pairs,
     range: &Range,
-    key: &[u8],
+    places: &[u8; MAX_BYTES],
+    length: usize,
     value: u64,
 ) -> Result<Verdict, AllocError>
-    requires key { IsKey key.now }
-    requires reached { IsNoLater range.now.direction (first_key_of range.now.direction (asked_range range.now)) key.now }
-    ensures taken { IfOk result (IsPairTaken range.now.direction (asked_range range.now) pairs.old key.now value pairs.new) }
-    ensures refused { OnErr result (IsPairRefused (asked_range range.now) pairs.old key.now pairs.new) }
+    requires key { IsKey (take length places.now) }
+    requires fits { length ≤ MAX_BYTES }
+    requires reached { IsNoLater range.now.direction (first_key_of range.now.direction (asked_range range.now)) (take length places.now) }
+    ensures taken { IfOk result (IsPairTaken range.now.direction (asked_range range.now) pairs.old (take length places.now) value pairs.new) }
+    ensures refused { OnErr result (IsPairRefused (asked_range range.now) pairs.old (take length places.now) pairs.new) }
 {
-    if key.len() == 8 {
-        return take_key(pairs, range, &key[..8], value);
+    if length == 8 {
+        return take_key(pairs, range, places, 8, value);
     }
-    take_key(pairs, range, key, value)
+    take_key(pairs, range, places, length, value)
 }
 
 /// The same, for keys of each length alike.
 #[inline(always)]
-fn take_key(pairs: &mut Pairs, range: &Range, key: &[u8], value: u64) -> Result<Verdict, AllocError>
-    requires key { IsKey key.now }
-    requires reached { IsNoLater range.now.direction (first_key_of range.now.direction (asked_range range.now)) key.now }
-    ensures taken { IfOk result (IsPairTaken range.now.direction (asked_range range.now) pairs.old key.now value pairs.new) }
-    ensures refused { OnErr result (IsPairRefused (asked_range range.now) pairs.old key.now pairs.new) }
+fn take_key(
+    pairs: &mut Pairs,
+    range: &Range,
+    places: &[u8; MAX_BYTES],
+    length: usize,
+    value: u64,
+) -> Result<Verdict, AllocError>
+    requires key { IsKey (take length places.now) }
+    requires fits { length ≤ MAX_BYTES }
+    requires reached { IsNoLater range.now.direction (first_key_of range.now.direction (asked_range range.now)) (take length places.now) }
+    ensures taken { IfOk result (IsPairTaken range.now.direction (asked_range range.now) pairs.old (take length places.now) value pairs.new) }
+    ensures refused { OnErr result (IsPairRefused (asked_range range.now) pairs.old (take length places.now) pairs.new) }
 {
-    if is_past(range, key) {
+    if is_past(range, &places[..length]) {
         return Ok(Verdict::Past);
     }
     if pairs.len() == range.limit {
         return Ok(Verdict::Full);
     }
-    pairs.push(key, value)?;
+    pairs.push(places, length, value)?;
     Ok(Verdict::Further)
 }
 

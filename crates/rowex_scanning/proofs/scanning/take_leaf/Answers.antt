@@ -17,7 +17,7 @@ load_places_from-length-requires-clause-start g c =
 pub take_pair-requires : goal.take_pair-requires
 take_pair-requires g c =
     let e = c.load_places_from-length.ensures in let (m, led, reached) = c.requires.leaf in
-    record { key = e.key.0; reached = reached c.load_places_from-length.new.seat.known (reads_later e.reads) (reader_then c.requires.reader e.reads).1 _ _ (e.leaf m led) }
+    record { key = e.key.0; fits = e.key.1; reached = reached c.load_places_from-length.new.seat.known (reads_later e.reads) (reader_then c.requires.reader e.reads).1 _ _ (e.leaf m led) }
 
 pub returns-clause-reads : goal.returns-clause-reads
 returns-clause-reads g c = let e = c.load_places_from-length.ensures in (leaf_loads (take c.load_places_from-length.result.0 c.load_places_from-length.new.places), e.few, e.reads)
