@@ -29,9 +29,9 @@ AreAhead d k m top count leaves = (i : ℕ) → i < count → Sure k (λ s. IsPl
 abbrev pub IsNodeAhead : Direction → Known → ℕ → Step → ℕ → ℕ → Type 0
 IsNodeAhead d k m top count n = (h : ℕ) × (h < top.height) × Sure k (λ s. IsPlaced s m top.number (place_after d top.at count) (Node n h))
 
--- The entries at the next places were those of these leaves, and then of this node, if there is one.
-pub record IsAhead (d : Direction) (k : Known) (m : ℕ) (top : Step) (a : Ahead) : Type 0 where
-  pub leaves : AreAhead d k m top a.count a.leaves
+-- The entries at the next places were those of the first of these leaves, and then of this node, if there is one.
+pub record IsAhead (d : Direction) (k : Known) (m : ℕ) (top : Step) (leaves : List ℕ) (a : Ahead) : Type 0 where
+  pub first : AreAhead d k m top a.count leaves
   pub node : IfSome a.node (IsNodeAhead d k m top a.count)
 
 -- The walk has passed so many leaves: it stands behind them, with their pairs.

@@ -16,17 +16,15 @@ use rowex_reading::load_entry_from;
 use rowex_table::{HotTable, TableSeat};
 
 /// How many places of a node a walk looks at together, at most.
-pub(crate) const MOST_AHEAD: u8 = 8;
+pub(crate) const MOST_AHEAD: u8 = 16;
 
 /// For how many pairs at least a walk looks at several places together.
 const LEAST_PAIRS: usize = 4;
 
-/// The entries that come next in a node, up to the first that leads to a node.
+/// What comes next in a node.
 #[derive(Clone, Copy)]
 pub(crate) struct Ahead {
-    /// The leaves that come first.
-    pub leaves: [u32; MOST_AHEAD as usize],
-    /// How many there are of them.
+    /// How many leaves come first.
     pub count: u8,
     /// The node behind them, if it was looked at.
     pub node: Option<u32>,
@@ -49,8 +47,8 @@ pub(crate) fn most_together(left: usize) -> u8
     }
 }
 
-/// Loads the entries at so many places that come next in a node, up to the first that leads to a node, and touches their leaves. Where
-/// it is one place alone, its leaf is read at once, and isn't touched.
+/// Loads the entries at so many places that come next in a node, up to the first that leads to a node, and touches their leaves, whose
+/// numbers go to the first of these places. Where it looks at one place alone, its leaf is read at once, and isn't touched.
 #[inline(always)]
 pub(crate) fn look_ahead<G: Gate>(
     table: &HotTable,
@@ -60,6 +58,7 @@ pub(crate) fn look_ahead<G: Gate>(
     direction: Direction,
     top: &Step,
     count: u8,
+    leaves: &mut [u32; MOST_AHEAD as usize],
 ) -> Ahead
     requires reader { IsReader table.now seat.old }
     requires origins { origins.now.layout ≡ table.now.layout }
@@ -71,16 +70,14 @@ pub(crate) fn look_ahead<G: Gate>(
     ensures reads { (n : ℕ) × (n ≤ entries_ahead result + result.count) × Reads table.now G.becomes (entries_ahead result) n (seat.old, gate.old) (seat.new, gate.new) }
     ensures some { 0 < entries_ahead result }
     ensures few { entries_ahead result ≤ count }
-    ensures ahead { (m : ℕ) → HasPlaces direction seat.old.known m top.now count → IsAhead direction seat.new.known m top.now result }
+    ensures ahead { (m : ℕ) → HasPlaces direction seat.old.known m top.now count → IsAhead direction seat.new.known m top.now leaves.new result }
 {
     let start = origins.node(top.number);
-    let mut leaves = [0; MOST_AHEAD as usize];
     for index in 0..count {
         let place = place_after(direction, *top, index);
         match load_entry_from(table, seat, gate, top.number, start, place) {
             Entry::Node { number, .. } => {
                 return Ahead {
-                    leaves,
                     count: index,
                     node: Some(number),
                 };
@@ -93,11 +90,7 @@ pub(crate) fn look_ahead<G: Gate>(
             }
         }
     }
-    Ahead {
-        leaves,
-        count,
-        node: None,
-    }
+    Ahead { count, node: None }
 }
 
 /// Loads a word of a leaf's record, so that its line is at hand when the leaf is read.

@@ -17,7 +17,7 @@ ghost use Rattle.rowex_scanning.specs.Directions.{IsEarlier, IsNoLater, last_key
 ghost use Rattle.rowex_scanning.specs.Directions.{first_key as first_key_of, to_come as to_come_of};
 ghost use Rattle.rowex_scanning.specs.Scanning.{HasScanned, HasScannedPart, IsBound, IsEntered, IsLeafRefused, IsLeafTaken, IsPairRefused, IsPairTaken, IsReached, IsWalk, asked_range};
 
-use crate::ahead::{Ahead, MOST_AHEAD, look_ahead, most_together};
+use crate::ahead::{MOST_AHEAD, look_ahead, most_together};
 use crate::direction::{
     Direction, behind, first_gap, gap_after, is_before, is_earlier, place_after, to_come,
 };
@@ -212,12 +212,23 @@ fn walk<G: Gate>(
 {
     let direction = range.direction;
     let mut top = lowest;
+    let leaves = &mut [0; MOST_AHEAD as usize];
     loop {
         let count = to_come(direction, &top).min(most_together(range.limit - pairs.len()));
         if count > 0 {
-            let ahead = look_ahead(table, origins, seat, gate, direction, &top, count);
+            let ahead = look_ahead(table, origins, seat, gate, direction, &top, count, leaves);
             match take_leaves(
-                table, origins, seat, gate, way, range, &mut top, &ahead, places, pairs,
+                table,
+                origins,
+                seat,
+                gate,
+                way,
+                range,
+                &mut top,
+                leaves,
+                ahead.count,
+                places,
+                pairs,
             )? {
                 Verdict::Further => (),
                 Verdict::Past => return Ok(false),
@@ -243,7 +254,7 @@ fn walk<G: Gate>(
     }
 }
 
-/// Takes the pairs of the leaves that come next, up to one whose pair doesn't belong to the range or has no room; and goes behind them,
+/// Takes the pairs of so many leaves that come next, up to one whose pair doesn't belong to the range or has no room; and goes behind them,
 /// where it has taken all.
 #[inline(always)]
 fn take_leaves<G: Gate>(
@@ -254,7 +265,8 @@ fn take_leaves<G: Gate>(
     _way: &ArrayVec<Step, MOST_NODES>,
     range: &Range,
     top: &mut Step,
-    ahead: &Ahead,
+    leaves: &[u32; MOST_AHEAD as usize],
+    count: u8,
     places: &mut [u8; MAX_BYTES],
     pairs: &mut Pairs,
 ) -> Result<Verdict, AllocError>
@@ -262,22 +274,22 @@ fn take_leaves<G: Gate>(
     requires origins { origins.now.layout ≡ table.now.layout }
     requires walk { IsWalk range.now.direction seat.old.known (since seat.old.known) (asked_range range.now) top.old _way.now.items pairs.old }
     requires bound { IsBound range.now.direction seat.old.known (since seat.old.known) (first_key_of range.now.direction (asked_range range.now)) top.old _way.now.items }
-    requires ahead { AreAhead range.now.direction seat.old.known (since seat.old.known) top.old ahead.now.count ahead.now.leaves }
-    requires come { ahead.now.count ≤ to_come_of range.now.direction top.old.count top.old.at }
-    requires most { ahead.now.count ≤ MOST_AHEAD }
-    ensures reads { (n : ℕ) × (n ≤ LEAF_FIELDS * ahead.now.count) × Reads table.now G.becomes 0 n (seat.old, gate.old) (seat.new, gate.new) }
-    ensures taken { IfOk result (AreTaken range.now.direction seat.new.known (since seat.old.known) (asked_range range.now) top.old top.new _way.now.items ahead.now.count pairs.old pairs.new) }
+    requires ahead { AreAhead range.now.direction seat.old.known (since seat.old.known) top.old count leaves.now }
+    requires come { count ≤ to_come_of range.now.direction top.old.count top.old.at }
+    requires most { count ≤ MOST_AHEAD }
+    ensures reads { (n : ℕ) × (n ≤ LEAF_FIELDS * count) × Reads table.now G.becomes 0 n (seat.old, gate.old) (seat.new, gate.new) }
+    ensures taken { IfOk result (AreTaken range.now.direction seat.new.known (since seat.old.known) (asked_range range.now) top.old top.new _way.now.items count pairs.old pairs.new) }
     ensures part { OnErr result (HasScannedPart range.now.direction seat.new.known (asked_range range.now) pairs.new) }
 {
-    for index in 0..ahead.count {
-        let number = ahead.leaves[index as usize];
+    for index in 0..count {
+        let number = leaves[index as usize];
         match take_leaf(table, origins, seat, gate, range, number, places, pairs)? {
             Verdict::Further => (),
             Verdict::Past => return Ok(Verdict::Past),
             Verdict::Full => return Ok(Verdict::Full),
         }
     }
-    top.at = gap_after(range.direction, *top, ahead.count);
+    top.at = gap_after(range.direction, *top, count);
     Ok(Verdict::Further)
 }
 

@@ -1,5 +1,5 @@
 -- No entry, and one more: it leads to a leaf, which may be touched, or to a node.
-use Rattle.std.proofs.Common.{ℕ, ◌+◌, ◌≤◌, ◌∙◌, arith, refl}
+use Rattle.std.proofs.Common.{ℕ, ◌+◌, ◌≤◌, ◌∙◌, arith}
 use Rattle.std.proofs.lemmas.List.{length-set}
 use Rattle.compound_node.specs.declared.entries.Entry.TheVariants.{Leaf, Node}
 use Rattle.rowex_reading.specs.Reads.{Reads}
@@ -23,7 +23,7 @@ pub loop-index-init : goal.loop-index-init
 loop-index-init g c = record {
   reader = c.requires.reader;
   reads = (0, omega arith, reads_none (c.args.seat.now, c.args.gate.now));
-  long = refl;
+  long = c.told-leaves;
   ahead = λ m has i low. absurd (omega (arith, low));
 }
 
@@ -45,7 +45,7 @@ returns-in-Node-clause-ahead g c = λ m has.
     let d = c.args.direction in let top = c.args.top.now in let later = reads_later c.load_entry_from.ensures.reads in
     let place = has_place g (goal.at.returns-in-Node-clause-ahead g c).After-place_after-place m has in
     let (lower, placed) = loaded_at d m top c.loop-index.index c.place_after-place.result (Node c.in-Node.number c.in-Node.height) c.place_after-place.ensures place c.in-Node.ensures.entry in
-    record { leaves = ahead_later d m top later c.loop-index.index c.loop-index.leaves (c.loop-index.invariant.ahead m has); node = (c.in-Node.height, lower, placed) }
+    record { first = ahead_later d m top later c.loop-index.index c.loop-index.leaves (c.loop-index.invariant.ahead m has); node = (c.in-Node.height, lower, placed) }
 
 pub touch-requires-clause-reader : goal.touch-requires-clause-reader
 touch-requires-clause-reader g c = reader_then c.loop-index.invariant.reader c.load_entry_from.ensures.reads

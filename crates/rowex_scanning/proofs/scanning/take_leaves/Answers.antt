@@ -18,7 +18,7 @@ use Rattle.rowex_scanning.proofs.scanning.take_leaves.Goals.{After-take_leaf}
 -- The walk is at the leaf that was read.
 leaf : (g : given.Over) (c : After-take_leaf g) →
     IsAtEntry c.args.range.now.direction c.loop-index.seat.known (since c.args.seat.now.known) (asked_range c.args.range.now) (record c.args.top.now { at = place_after c.args.range.now.direction c.args.top.now.at c.loop-index.index })
-    c.args._way.now.items c.loop-index.pairs (Leaf (get_or c.args.ahead.now.leaves c.loop-index.index 0))
+    c.args._way.now.items c.loop-index.pairs (Leaf (get_or c.args.leaves.now c.loop-index.index 0))
 leaf g c =
     let i = c.loop-index.invariant in leaf_at (walk_fits c.requires.walk) (let come = c.requires.come in omega (arith, come, c.loop-index-test.true)) i.passed (i.ahead c.loop-index.index c.loop-index-test.true)
 
@@ -27,7 +27,7 @@ loads : (g : given.Over) (c : After-take_leaf g) → (n : ℕ) × (n ≤ LEAF_FI
 loads g c = let (n, few, before) = c.loop-index.invariant.reads in let (m, less, read) = c.take_leaf.ensures.reads in (n + m, omega (arith, few, less), reads_trans before read)
 
 -- which is no more than for all leaves
-ended : (g : given.Over) (c : After-take_leaf g) → (n : ℕ) × (n ≤ LEAF_FIELDS * c.args.ahead.now.count) × Reads c.args.table.now g.G.Gate.becomes 0 n (c.args.seat.now, c.args.gate.now) (c.take_leaf.new.seat, c.take_leaf.new.gate)
+ended : (g : given.Over) (c : After-take_leaf g) → (n : ℕ) × (n ≤ LEAF_FIELDS * c.args.count) × Reads c.args.table.now g.G.Gate.becomes 0 n (c.args.seat.now, c.args.gate.now) (c.take_leaf.new.seat, c.take_leaf.new.gate)
 ended g c = let (n, few, reads) = loads g c in (n, omega (arith, few, c.loop-index-test.true), reads)
 
 same : (g : given.Over) (c : After-take_leaf g) → since c.take_leaf.new.seat.known ≡ since c.args.seat.now.known
@@ -77,7 +77,7 @@ loop-index-preserved g c =
     record {
       reader = reader_then i.reader read;
       reads = loads g (goal.at.loop-index-preserved g c).After-take_leaf;
-      ahead = ahead_later d m c.args.top.now (reads_later read) c.args.ahead.now.count c.args.ahead.now.leaves i.ahead;
+      ahead = ahead_later d m c.args.top.now (reads_later read) c.args.count c.args.leaves.now i.ahead;
       passed = passed_more (walk_fits c.requires.walk) (let come = c.requires.come in omega (arith, come, c.loop-index-test.true)) i.passed (i.ahead c.loop-index.index c.loop-index-test.true) (reads_later read)
           c.in_ok-take_leaf.ensures.taken c.in-Further.is;
     }

@@ -11,6 +11,6 @@ abbrev pub invariant-loop-index : goal.invariant-loop-index
 invariant-loop-index g l = record {
   reader : IsReader l.table l.seat;
   reads : (n : ℕ) × (n ≤ LEAF_FIELDS * l.index) × Reads l.table g.G.Gate.becomes 0 n (l.fn.seat, l.fn.gate) (l.seat, l.gate);
-  ahead : AreAhead l.range.direction l.seat.known (since l.fn.seat.known) l.top l.ahead.count l.ahead.leaves;
+  ahead : AreAhead l.range.direction l.seat.known (since l.fn.seat.known) l.top l.count l.leaves;
   passed : HavePassed l.range.direction l.seat.known (since l.fn.seat.known) (asked_range l.range) l.top l._way.items l.index l.fn.pairs l.pairs;
 }

@@ -78,8 +78,8 @@ take_leaves-requires-clause-bound g c =
 pub take_leaves-requires-clause-ahead : goal.take_leaves-requires-clause-ahead
 take_leaves-requires-clause-ahead g c =
     let at = goal.at.take_leaves-requires-clause-ahead g c in let ahead = c.look_ahead-ahead.result in
-    subst (λ z. AreAhead c.args.range.now.direction c.look_ahead-ahead.new.seat.known z c.loop-seat.top ahead.count ahead.leaves) (sym (same g at.After-look_ahead-ahead))
-    (c.look_ahead-ahead.ensures.ahead (since c.args.seat.now.known) (has_places g at.After-min-count)).leaves
+    subst (λ z. AreAhead c.args.range.now.direction c.look_ahead-ahead.new.seat.known z c.loop-seat.top ahead.count c.look_ahead-ahead.new.leaves) (sym (same g at.After-look_ahead-ahead))
+    (c.look_ahead-ahead.ensures.ahead (since c.args.seat.now.known) (has_places g at.After-min-count)).first
 
 pub returns-in_err-take_leaves-clause-reads : goal.returns-in_err-take_leaves-clause-reads
 returns-in_err-take_leaves-clause-reads g c =
