@@ -101,7 +101,8 @@ pub fn claim_record<G: Gate>(
 ///
 /// It tries records as [`claim_record`] does, but no more than `left`, which is then less by those that were tried.
 ///
-/// Mostly the first one is free: only behind it are records tried row by row.
+/// Mostly the first one is free: only behind it are records tried row by row. Inline, for callers know the kind.
+#[inline(always)]
 pub fn claim_within<G: Gate>(
     table: &HotTable,
     seat: &mut TableSeat,
@@ -179,7 +180,8 @@ fn claim_in_row<G: Gate>(
 }
 
 /// Claims the record of a kind that has the number, if it finds that free; answers whether the pass has it now. A number that is
-/// out of range is no record's.
+/// out of range is no record's. Inline, for callers know the kind.
+#[inline(always)]
 pub fn claim_numbered<G: Gate>(
     table: &HotTable,
     seat: &mut TableSeat,
