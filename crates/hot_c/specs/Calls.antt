@@ -39,13 +39,13 @@ abbrev pub HasOutcome : Call → Result Reply TryFault → TableView → PassVie
 HasOutcome call outcome index k j = MatchResult outcome (IsNoted index.layout k j call) (IsRefused index.layout call k j)
 
 -- the call with this key in place of its own
-abbrev pub with_key : List ℕ → Call → Call
-with_key key (Insert own value) = Insert key value
-with_key key (Upsert own value) = Upsert key value
-with_key key (Exchange own expected value) = Exchange key expected value
-with_key key (Get own) = Get key
-with_key key (Remove own) = Remove key
-with_key key (RemoveIf own expected) = RemoveIf key expected
+abbrev pub for_key : List ℕ → Call → Call
+for_key key (Insert own value) = Insert key value
+for_key key (Upsert own value) = Upsert key value
+for_key key (Exchange own expected value) = Exchange key expected value
+for_key key (Get own) = Get key
+for_key key (Remove own) = Remove key
+for_key key (RemoveIf own expected) = RemoveIf key expected
 
 -- A call for a key through a handle, which finds `before` where C wants a value and leaves `after`. A closed handle and a key that
 -- is too long are told as such, and nothing has changed; else the call is made, by its steps, and its outcome told.

@@ -5,7 +5,7 @@ ghost use Rattle.finite_map.specs.declared.Call.TheVariants.{Exchange, Get, Inse
 ghost use Rattle.rowex_writing.specs.declared.attempts.TryFault.{TryFault};
 ghost use Rattle.seat_calls.specs.Answers.{MayRefuse};
 ghost use Rattle.hot_c.specs.declared.opened.Opened.{Opened};
-ghost use Rattle.hot_c.specs.Calls.{Answers, AreClosed, FitsInKey, HasGivenBack, HasSeenRecords, HaveOpened, HaveOpenedStock, IsSize, IsStockSize, StaysOpen, with_key};
+ghost use Rattle.hot_c.specs.Calls.{Answers, AreClosed, FitsInKey, HasGivenBack, HasSeenRecords, HaveOpened, HaveOpenedStock, IsSize, IsStockSize, StaysOpen, for_key};
 ghost use Rattle.hot_c.specs.Lookups.{LooksUpAll};
 ghost use Rattle.hot_c.specs.Statuses.{reply_status};
 ghost use Rattle.hot_c.specs.Stocks.{TakesBytes, stock_in};
@@ -219,8 +219,8 @@ pub extern "C" fn hot_try_remove_if(
 /// are written once, where the call stands.
 #[inline(always)]
 fn make_call(handle: &mut Handle, call: &mut Call, key: &[u8], had: &mut u64) -> u32
-    ensures call { Answers key.now (with_key key.now call.old) handle.old.slot.opened handle.new.slot.opened had.old had.new result }
-    ensures may { (fault : TryFault) → ¬ MayRefuse (with_key key.now call.old) fault → result ≢ reply_status (Err fault) }
+    ensures call { Answers key.now (for_key key.now call.old) handle.old.slot.opened handle.new.slot.opened had.old had.new result }
+    ensures may { (fault : TryFault) → ¬ MayRefuse (for_key key.now call.old) fault → result ≢ reply_status (Err fault) }
 {
     if !handle.is_open() {
         return CLOSED;
@@ -235,7 +235,7 @@ fn make_call(handle: &mut Handle, call: &mut Call, key: &[u8], had: &mut u64) ->
 #[inline(always)]
 fn set_key(call: &mut Call, key: &[u8]) -> Result<(), KeyFault>
     ensures fits { IsOk result ↔ FitsInKey key.now }
-    ensures ok { IsOk result → call.new ≡ with_key key.now call.old }
+    ensures ok { IsOk result → call.new ≡ for_key key.now call.old }
 {
     match call {
         Call::Insert(own, _) => own.set_bytes(key),

@@ -34,7 +34,7 @@ impl Pairs {
     }
 
     /// How many bytes its keys have together.
-    fn key_bytes(&self) -> usize
+    pub fn key_bytes(&self) -> usize
         ensures { result ≡ length (keys_in self.now) }
     {
         self.bytes.len()

@@ -11,7 +11,7 @@ use Rattle.rowex_walks.proofs.Scans.{before_most, never_before}
 use Rattle.rowex_walks.proofs.Starts.{at_over, keys_from_in_child, over_later, keys_from_grown}
 use Rattle.rowex_walks.proofs.Walk.{scan_cut, scan_end, scan_past, scan_pop, scan_push, scan_take}
 use Rattle.rowex_walks.specs.Scan.{Pair, Range, IsBlank, IsInRange, IsPlaced, IsRead, IsRooted, IsShaped, IsStack, MayStandAt, Frame as Stage}
-use Rattle.rowex_scanning.specs.Directions.{IsAnswer, IsPastKey, IsEarlier, IsNoLater, IsScanBy, first_gap, first_key, gap_after, gap_before, gap_behind, last_key, place_after, to_come}
+use Rattle.rowex_scanning.specs.Directions.{IsAnswer, IsPastKey, IsEarlier, IsNoLater, IsScanBy, first_gap, first_key, gap_after, gap_before, gap_behind, last_key, place_ahead, to_come}
 use Rattle.rowex_scanning.specs.Scanning.{limited}
 use Rattle.rowex_scanning.specs.declared.direction.Direction.{Direction}
 use Rattle.rowex_scanning.specs.declared.direction.Direction.TheVariants.{Upwards, Downwards}
@@ -61,19 +61,19 @@ come_after Upwards count gap i = omega arith
 come_after Downwards count gap i = refl
 
 -- there is the place of the entry that comes then, which has this gap before it and the next one behind it
-pub place_inside : (d : Direction) (count gap i : ℕ) → gap ≤ count → i < to_come d count gap → place_after d gap i < count
+pub place_inside : (d : Direction) (count gap i : ℕ) → gap ≤ count → i < to_come d count gap → place_ahead d gap i < count
 place_inside Upwards count gap i fits come = omega (arith, fits, come)
 place_inside Downwards count gap i fits come = omega (arith, fits, come)
 
-pub gap_before_place : (d : Direction) (count gap i : ℕ) → i < to_come d count gap → gap_after d gap i ≡ gap_before d (place_after d gap i)
+pub gap_before_place : (d : Direction) (count gap i : ℕ) → i < to_come d count gap → gap_after d gap i ≡ gap_before d (place_ahead d gap i)
 gap_before_place Upwards count gap i come = refl
 gap_before_place Downwards count gap i come = omega (arith, come)
 
-pub gap_behind_place : (d : Direction) (gap i : ℕ) → gap_behind d (place_after d gap i) ≡ gap_after d gap (i + 1)
+pub gap_behind_place : (d : Direction) (gap i : ℕ) → gap_behind d (place_ahead d gap i) ≡ gap_after d gap (i + 1)
 gap_behind_place Upwards gap i = omega arith
 gap_behind_place Downwards gap i = omega arith
 
-pub place_at_gap : (d : Direction) (gap i : ℕ) → place_after d (gap_after d gap i) 0 ≡ place_after d gap i
+pub place_at_gap : (d : Direction) (gap i : ℕ) → place_ahead d (gap_after d gap i) 0 ≡ place_ahead d gap i
 place_at_gap Upwards gap i = omega arith
 place_at_gap Downwards gap i = omega arith
 

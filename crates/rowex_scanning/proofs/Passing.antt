@@ -15,7 +15,7 @@ use Rattle.rowex_walks.specs.Scan.{Range, EntryStoodSince, IsPlaced}
 use Rattle.rowex_reading.specs.Seen.{HasPlace, HasRoom, IsLedTo, Sure}
 use Rattle.rowex_reading.proofs.Seeing.{placed_stable, room_stable, seen_stable, since_later, sure_later}
 use Rattle.rowex_scanning.specs.Ahead.{AreAhead, AreTaken, HasPlaces, HavePassed, IsNodeAhead}
-use Rattle.rowex_scanning.specs.Directions.{first_key, gap_after, gap_before, place_after, to_come}
+use Rattle.rowex_scanning.specs.Directions.{first_key, gap_after, gap_before, place_ahead, to_come}
 use Rattle.rowex_scanning.specs.Scanning.{IsBound, IsLeafTaken, IsReached, IsWalk}
 use Rattle.rowex_scanning.specs.declared.direction.Direction.{Direction}
 use Rattle.rowex_scanning.specs.declared.scanning.Verdict.{Verdict}
@@ -33,27 +33,27 @@ module _ (d : Direction) (m : ℕ) (top : Step) where
     pub places_later : (count : ℕ) → HasPlaces d k m top count → HasPlaces d j m top count
     places_later count has i low = let ((pinned, stood), room) = has i low in (
       (since_later l pinned, sure_later {P = λ s. EntryStoodSince s m (Node top.number top.height)} (seen_stable m (Node top.number top.height)) l stood),
-      sure_later {P = λ s. HasRoom s m top.number (place_after d top.at i)} (room_stable m top.number (place_after d top.at i)) l room,
+      sure_later {P = λ s. HasRoom s m top.number (place_ahead d top.at i)} (room_stable m top.number (place_ahead d top.at i)) l room,
     )
 
     pub ahead_later : (count : ℕ) (leaves : List ℕ) → AreAhead d k m top count leaves → AreAhead d j m top count leaves
-    ahead_later count leaves are i low = sure_later (placed_stable m top.number (place_after d top.at i) (Leaf (get_or leaves i 0))) l (are i low)
+    ahead_later count leaves are i low = sure_later (placed_stable m top.number (place_ahead d top.at i) (Leaf (get_or leaves i 0))) l (are i low)
 
     pub node_later : (count n : ℕ) → IsNodeAhead d k m top count n → IsNodeAhead d j m top count n
-    node_later count n (h, low, placed) = (h, low, sure_later (placed_stable m top.number (place_after d top.at count) (Node n h)) l placed)
+    node_later count n (h, low, placed) = (h, low, sure_later (placed_stable m top.number (place_ahead d top.at count) (Node n h)) l placed)
 
   -- the entry that was loaded behind so many others
-  pub loaded_at : {k j : Known} (i place : ℕ) (e : Entry) → place ≡ place_after d top.at i → HasPlace k m top.number top.height (place_after d top.at i) →
-      ((n h : ℕ) → HasPlace k n top.number h place → (height_of e < h) × Sure j (λ s. IsPlaced s n top.number place e)) → (height_of e < top.height) × Sure j (λ s. IsPlaced s m top.number (place_after d top.at i) e)
+  pub loaded_at : {k j : Known} (i place : ℕ) (e : Entry) → place ≡ place_ahead d top.at i → HasPlace k m top.number top.height (place_ahead d top.at i) →
+      ((n h : ℕ) → HasPlace k n top.number h place → (height_of e < h) × Sure j (λ s. IsPlaced s n top.number place e)) → (height_of e < top.height) × Sure j (λ s. IsPlaced s m top.number (place_ahead d top.at i) e)
   loaded_at {k} {j} i place e is has loaded =
       subst (λ z. (height_of e < top.height) × Sure j (λ s. IsPlaced s m top.number z e)) is (loaded m top.height (subst (λ z. HasPlace k m top.number top.height z) (sym is) has))
 
   -- one leaf more
-  pub ahead_more : {k : Known} (i : ℕ) (leaves : List ℕ) (n : ℕ) → AreAhead d k m top i leaves → i < length leaves → Sure k (λ s. IsPlaced s m top.number (place_after d top.at i) (Leaf n)) → AreAhead d k m top (i + 1) (set leaves i n)
+  pub ahead_more : {k : Known} (i : ℕ) (leaves : List ℕ) (n : ℕ) → AreAhead d k m top i leaves → i < length leaves → Sure k (λ s. IsPlaced s m top.number (place_ahead d top.at i) (Leaf n)) → AreAhead d k m top (i + 1) (set leaves i n)
   ahead_more {k} i leaves n are room placed o low = ⊎_elim
-      (λ (less : o < i). subst (λ z. Sure k (λ s. IsPlaced s m top.number (place_after d top.at o) (Leaf z))) (sym (get_or-set_other leaves i o n 0 (omega arith))) (are o less))
+      (λ (less : o < i). subst (λ z. Sure k (λ s. IsPlaced s m top.number (place_ahead d top.at o) (Leaf z))) (sym (get_or-set_other leaves i o n 0 (omega arith))) (are o less))
       (λ (more : i ≤ o). let is : o ≡ i = omega (arith, more, low) in
-      subst (λ z. Sure k (λ s. IsPlaced s m top.number (place_after d top.at o) (Leaf z))) (sym (get_or-set_at leaves i o n 0 is room)) (subst (λ z. Sure k (λ s. IsPlaced s m top.number (place_after d top.at z) (Leaf n))) (sym is) placed))
+      subst (λ z. Sure k (λ s. IsPlaced s m top.number (place_ahead d top.at o) (Leaf z))) (sym (get_or-set_at leaves i o n 0 is room)) (subst (λ z. Sure k (λ s. IsPlaced s m top.number (place_ahead d top.at z) (Leaf n))) (sym is) placed))
       (cases_lt o i)
 
 -- Before any leaf.
@@ -69,16 +69,16 @@ passed_none {d} {k} {m} {g} {top} {frames} {xs} w b = record {
 
 -- Behind some leaves, at one more.
 module _ {d : Direction} {k : Known} {m : ℕ} {g : Range} {top : Step} {frames : List Step} {i : ℕ} {xs ys : List (Key × ℕ)} (fits : top.at ≤ top.count) (come : i < to_come d top.count top.at) (p : HavePassed d k m g top frames i xs ys)
-    {number : ℕ} (placed : Sure k (λ s. IsPlaced s m top.number (place_after d top.at i) (Leaf number))) where
-  pub leaf_at : IsAtEntry d k m g (record top { at = place_after d top.at i }) frames ys (Leaf number)
+    {number : ℕ} (placed : Sure k (λ s. IsPlaced s m top.number (place_ahead d top.at i) (Leaf number))) where
+  pub leaf_at : IsAtEntry d k m g (record top { at = place_ahead d top.at i }) frames ys (Leaf number)
   leaf_at = record { walk = walk_at_place i fits come p.walk; placed = placed }
 
-  bound_at : IsBound d k m (first_key d g) (record (record top { at = place_after d top.at i }) { at = gap_before d (place_after d top.at i) }) frames
+  bound_at : IsBound d k m (first_key d g) (record (record top { at = place_ahead d top.at i }) { at = gap_before d (place_ahead d top.at i) }) frames
   bound_at = subst (λ z. IsBound d k m (first_key d g) (at_gap top z) frames) (gap_before_place d top.count top.at i come) p.bound
 
   -- which doesn't come before the range
   pub leaf_reached : (layout : Layout) → IsLedTo k m (Leaf number) × IsReached d layout k m (first_key d g) number
-  leaf_reached layout = (entry_led leaf_at, bound_leaf d m (first_key d g) (record top { at = place_after d top.at i }) bound_at number leaf_at.walk.pinned placed)
+  leaf_reached layout = (entry_led leaf_at, bound_leaf d m (first_key d g) (record top { at = place_ahead d top.at i }) bound_at number leaf_at.walk.pinned placed)
 
   -- and which was taken
   pub passed_more : {j : Known} {zs : List (Key × ℕ)} {verdict : Verdict} → IsLater k j → IsLeafTaken d k j g number ys zs verdict → verdict ≡ Further → HavePassed d j m g top frames (i + 1) xs zs
@@ -86,7 +86,7 @@ module _ {d : Direction} {k : Known} {m : ℕ} {g : Range} {top : Step} {frames 
     more = let one = taken_more leaf_at l t is in let before = p.more in omega (arith, one, before);
     walk = subst (λ z. IsWalk d j m g (at_gap top z) frames zs) (gap_behind_place d top.at i) (walk_further leaf_at l t is);
     bound = subst (λ z. IsBound d j m (first_key d g) (at_gap top z) frames) (gap_behind_place d top.at i)
-        (bound_next d m (first_key d g) (record top { at = place_after d top.at i }) (bound_later d m (first_key d g) l bound_at));
+        (bound_next d m (first_key d g) (record top { at = place_ahead d top.at i }) (bound_later d m (first_key d g) l bound_at));
   }
 
 -- What became of the walk where all were taken; since the same version.
@@ -97,5 +97,5 @@ taken_all {d} {k} {n} {m} {g} {top} {after} {frames} {count} {xs} {ys} taken is 
 
 -- At the node that comes behind them.
 pub node_at : {d : Direction} {k : Known} {m : ℕ} {g : Range} {top : Step} {frames : List Step} {count number : ℕ} {xs ys : List (Key × ℕ)} → top.at ≤ top.count → count < to_come d top.count top.at → HavePassed d k m g top frames count xs ys →
-    (ahead : IsNodeAhead d k m top count number) → IsAtEntry d k m g (record top { at = place_after d top.at count }) frames ys (Node number ahead.0)
+    (ahead : IsNodeAhead d k m top count number) → IsAtEntry d k m g (record top { at = place_ahead d top.at count }) frames ys (Node number ahead.0)
 node_at {count = count} fits come p ahead = record { walk = walk_at_place count fits come p.walk; placed = ahead.2 }

@@ -47,7 +47,7 @@ use Rattle.rowex_reading.proofs.Seeing.{placed_stable, recalls_before, seen_grow
 use Rattle.rowex_scanning.specs.Counts.{AreWalkLoads, Scans, Walks, scan_loads}
 use Rattle.rowex_scanning.specs.Ahead.{HasPlaces, entries_ahead}
 use Rattle.rowex_scanning.specs.declared.ahead.Ahead.{Ahead}
-use Rattle.rowex_scanning.specs.Directions.{IsAnswer, IsPastKey, IsEarlier, IsNoLater, IsScanBy, first_gap, first_key, gap_after, gap_before, gap_behind, place_after, to_come}
+use Rattle.rowex_scanning.specs.Directions.{IsAnswer, IsPastKey, IsEarlier, IsNoLater, IsScanBy, first_gap, first_key, gap_after, gap_before, gap_behind, place_ahead, to_come}
 use Rattle.rowex_scanning.specs.Scanning.{ArePastKey, AreInside, HasScanned, IsBound, IsEntered, IsLeafTaken, IsPairTaken, IsReached, IsWalk, frame, frames_of}
 use Rattle.rowex_scanning.specs.declared.direction.Direction.{Direction}
 use Rattle.rowex_scanning.specs.declared.direction.Direction.TheVariants.{Upwards, Downwards}
@@ -214,7 +214,7 @@ module _ {d : Direction} {k : Known} {m : ℕ} {g : Range} {top : Step} {frames 
   -- there are entries at the places that come next
   pub walk_places : (count : ℕ) → count ≤ to_come d top.count top.at → HasPlaces d k m top count
   walk_places count come i low =
-      shape_place walk_shape (subst (λ z. place_after d top.at i < z) (ap (λ (z : Step). z.count) w.top_is) (place_inside d top.count top.at i walk_fits (omega (arith, low, come))))
+      shape_place walk_shape (subst (λ z. place_ahead d top.at i < z) (ap (λ (z : Step). z.count) w.top_is) (place_inside d top.count top.at i walk_fits (omega (arith, low, come))))
 
 -- after more loads
 pub walk_later : {d : Direction} {k j : Known} {m : ℕ} {g : Range} {top : Step} {frames : List Step} {pairs : List (Key × ℕ)} → IsLater k j → IsWalk d k m g top frames pairs → IsWalk d j m g top frames pairs
@@ -271,9 +271,9 @@ walk_before {d} {k} {m} {g} at w inside is = record {
 
 -- Before the entry that comes behind so many others.
 pub walk_at_place : {d : Direction} {k : Known} {m : ℕ} {g : Range} {top : Step} {frames : List Step} {pairs : List (Key × ℕ)} (i : ℕ) → top.at ≤ top.count → i < to_come d top.count top.at →
-    IsWalk d k m g (record top { at = gap_after d top.at i }) frames pairs → IsBeforeEntry d k m g (record top { at = place_after d top.at i }) frames pairs
+    IsWalk d k m g (record top { at = gap_after d top.at i }) frames pairs → IsBeforeEntry d k m g (record top { at = place_ahead d top.at i }) frames pairs
 walk_at_place {d} {top = top} i fits come w =
-    walk_before (record top { at = place_after d top.at i }) w (place_inside d top.count top.at i fits come) (ap (λ z. let x : Step = record top { at = z } in x) (gap_before_place d top.count top.at i come))
+    walk_before (record top { at = place_ahead d top.at i }) w (place_inside d top.count top.at i fits come) (ap (λ z. let x : Step = record top { at = z } in x) (gap_before_place d top.count top.at i come))
 
 -- what the pass knows of the node
 module _ {d : Direction} {k : Known} {m : ℕ} {g : Range} {at : Step} {frames : List Step} {pairs : List (Key × ℕ)} (w : IsBeforeEntry d k m g at frames pairs) where
@@ -538,12 +538,12 @@ paid_ahead d loads entries pairs more looks leaves top frames ahead paid none fe
 -- and where the walk goes on to one
 pub paid_child : (d : Direction) (loads entries pairs more looks leaves head number : ℕ) (top : Step) (frames : List Step) (ahead : Ahead) (into : Step) (way : List Step) → IsPaid d loads entries pairs top frames →
     ahead.node ≡ Some number → looks ≤ entries_ahead ahead + ahead.count → leaves ≤ LEAF_FIELDS * ahead.count → head ≤ HEAD_WORDS → more ≡ pairs + ahead.count → top.at ≤ top.count → ahead.count < to_come d top.count top.at →
-    into.at ≡ first_gap d into.count → way ≡ frames ++ record top { at = place_after d top.at ahead.count } ∷ [] → IsPaid d (loads + (looks + (leaves + head))) (entries + (entries_ahead ahead + 0)) more into way
+    into.at ≡ first_gap d into.count → way ≡ frames ++ record top { at = place_ahead d top.at ahead.count } ∷ [] → IsPaid d (loads + (looks + (leaves + head))) (entries + (entries_ahead ahead + 0)) more into way
 paid_child d loads entries pairs more looks leaves head number top frames ahead into way paid some few less small is fits come first e =
     let one : length (option_to_list ahead.node) ≡ 1 = ap (λ z. length (option_to_list z)) some in
     let behind = paid_leaves d loads entries (34 * ahead.count) pairs more ahead.count top frames paid (omega arith) is fits (omega (arith, come)) in
     let at_node = subst (λ z. IsPaid d (loads + 34 * ahead.count) (entries + ahead.count) more (let x : Step = record top { at = z } in x) frames) (gap_before_place d top.count top.at ahead.count come) behind in
-    let (low, spare) = paid_push d (loads + 34 * ahead.count) (entries + ahead.count) 26 more (record top { at = place_after d top.at ahead.count }) frames into way at_node (omega arith) first e in
+    let (low, spare) = paid_push d (loads + 34 * ahead.count) (entries + ahead.count) 26 more (record top { at = place_ahead d top.at ahead.count }) frames into way at_node (omega arith) first e in
     (omega (arith, low, few, less, small, one), omega (arith, spare, one))
 
 -- So many entries were loaded, and no more of leaves than the limit asks for and one; and some of these were touched and read. The walk

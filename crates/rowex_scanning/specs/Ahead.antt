@@ -6,7 +6,7 @@ use Rattle.tries.specs.Keys.{Key}
 use Rattle.rowex_core.specs.declared.known.Known.{Known}
 use Rattle.rowex_walks.specs.Scan.{Range, IsPlaced}
 use Rattle.rowex_reading.specs.Seen.{HasPlace, Sure}
-use Rattle.rowex_scanning.specs.Directions.{first_key, gap_after, place_after}
+use Rattle.rowex_scanning.specs.Directions.{first_key, gap_after, place_ahead}
 use Rattle.rowex_scanning.specs.Scanning.{HasScanned, IsBound, IsWalk}
 use Rattle.rowex_scanning.specs.declared.ahead.Ahead.{Ahead}
 use Rattle.rowex_scanning.specs.declared.direction.Direction.{Direction}
@@ -15,7 +15,7 @@ use Rattle.rowex_scanning.specs.declared.scanning.Verdict.TheVariants.{Further, 
 
 -- the node has entries at so many places that come next
 abbrev pub HasPlaces : Direction → Known → ℕ → Step → ℕ → Type 0
-HasPlaces d k m top count = (i : ℕ) → i < count → HasPlace k m top.number top.height (place_after d top.at i)
+HasPlaces d k m top count = (i : ℕ) → i < count → HasPlace k m top.number top.height (place_ahead d top.at i)
 
 -- how many entries were looked at
 abbrev pub entries_ahead : Ahead → ℕ
@@ -23,14 +23,14 @@ entries_ahead a = a.count + length (option_to_list a.node)
 
 -- the pass is sure that these leaves stood at the next places, in this order,
 abbrev pub AreAhead : Direction → Known → ℕ → Step → ℕ → List ℕ → Type 0
-AreAhead d k m top count leaves = (i : ℕ) → i < count → Sure k (λ s. IsPlaced s m top.number (place_after d top.at i) (Leaf (slice_index leaves i)))
+AreAhead d k m top count leaves = (i : ℕ) → i < count → Sure k (λ s. IsPlaced s m top.number (place_ahead d top.at i) (Leaf (slice_index leaves i)))
 
 -- and this node, which is lower, behind so many of them
 abbrev pub IsNodeAhead : Direction → Known → ℕ → Step → ℕ → ℕ → Type 0
-IsNodeAhead d k m top count n = (h : ℕ) × (h < top.height) × Sure k (λ s. IsPlaced s m top.number (place_after d top.at count) (Node n h))
+IsNodeAhead d k m top count n = (h : ℕ) × (h < top.height) × Sure k (λ s. IsPlaced s m top.number (place_ahead d top.at count) (Node n h))
 
 -- The entries at the next places were those of the first of these leaves, and then of this node, if there is one.
-pub record IsAhead (d : Direction) (k : Known) (m : ℕ) (top : Step) (leaves : List ℕ) (a : Ahead) : Type 0 where
+pub record HasSeenAhead (d : Direction) (k : Known) (m : ℕ) (top : Step) (leaves : List ℕ) (a : Ahead) : Type 0 where
   pub first : AreAhead d k m top a.count leaves
   pub node : IfSome a.node (IsNodeAhead d k m top a.count)
 

@@ -39,9 +39,9 @@ gap_after Upwards gap entries = gap + entries
 gap_after Downwards gap entries = gap - entries
 
 -- and the place of the entry that comes then
-abbrev pub place_after : Direction → ℕ → ℕ → ℕ
-place_after Upwards gap entries = gap + entries
-place_after Downwards gap entries = gap - suc entries
+abbrev pub place_ahead : Direction → ℕ → ℕ → ℕ
+place_ahead Upwards gap entries = gap + entries
+place_ahead Downwards gap entries = gap - suc entries
 
 -- Keys
 

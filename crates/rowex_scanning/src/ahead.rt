@@ -1,15 +1,17 @@
 //! What a walk looks at ahead of its place: so the lines of several leaves come side by side.
 
-ghost use Rattle.std.specs.Prelude.{◌≡◌, ◌+◌, ◌<◌, ◌≤◌, ℕ};
+ghost use Rattle.std.specs.Prelude.{◌≡◌, ◌+◌, ◌/◌, ◌<◌, ◌≤◌, ◌↔◌, ℕ, IsTrue, length};
+ghost use Rattle.packed_pairs.specs.Parts.{keys_in};
 ghost use Rattle.compound_node.specs.declared.entries.Entry.TheVariants.{Leaf as LeafEntry};
 ghost use Rattle.rowex_reading.specs.Reads.{IsReader, Reads};
 ghost use Rattle.rowex_reading.specs.Seen.{IsLedTo};
-ghost use Rattle.rowex_scanning.specs.Ahead.{HasPlaces, IsAhead, entries_ahead};
+ghost use Rattle.rowex_scanning.specs.Ahead.{HasPlaces, HasSeenAhead, entries_ahead};
 ghost use Rattle.rowex_scanning.specs.Directions.{to_come};
 
-use crate::direction::{Direction, place_after};
+use crate::direction::{Direction, place_ahead};
 use compound_node::Entry;
 use insert_cases::Step;
+use packed_pairs::Pairs;
 use record_words::Origins;
 use rowex_core::{Gate, Rec};
 use rowex_reading::load_entry_from;
@@ -30,14 +32,26 @@ pub(crate) struct Ahead {
     pub node: Option<u32>,
 }
 
-/// At how many places a walk looks together, where the limit asks for so many pairs more: at most at those of these pairs and the
-/// one behind them. Where they are few it looks at one place at a time.
+/// Whether a walk that has listed these pairs touches the leaves at so many places. The leaf at one place alone is read at once. And
+/// where the keys so far take a word each, or less, reading a leaf takes few instructions, and always as many: so a processor reads
+/// ahead by itself.
 #[inline(always)]
-pub(crate) fn most_together(left: usize) -> u8
+fn touches(count: u8, pairs: &Pairs) -> bool
+    ensures { IsTrue result ↔ (1 < count) × (length pairs.now < length (keys_in pairs.now) / 8) }
+{
+    count > 1 && pairs.key_bytes() / 8 > pairs.len()
+}
+
+/// At how many places a walk looks together, where it has listed these pairs: at most at those of the pairs that the limit leaves, and
+/// the one behind them. Where they are few it looks at one place at a time.
+#[inline(always)]
+pub(crate) fn most_together(limit: usize, pairs: &Pairs) -> u8
+    requires { length pairs.now ≤ limit }
     ensures some { 0 < result }
     ensures most { result ≤ MOST_AHEAD }
-    ensures few { result ≤ left + 1 }
+    ensures few { length pairs.now + result ≤ limit + 1 }
 {
+    let left = limit - pairs.len();
     if left < LEAST_PAIRS {
         1
     } else if left < MOST_AHEAD as usize {
@@ -58,6 +72,7 @@ pub(crate) fn look_ahead<G: Gate>(
     direction: Direction,
     top: &Step,
     count: u8,
+    pairs: &Pairs,
     leaves: &mut [u32; MOST_AHEAD as usize],
 ) -> Ahead
     requires reader { IsReader table.now seat.old }
@@ -70,11 +85,12 @@ pub(crate) fn look_ahead<G: Gate>(
     ensures reads { (n : ℕ) × (n ≤ entries_ahead result + result.count) × Reads table.now G.becomes (entries_ahead result) n (seat.old, gate.old) (seat.new, gate.new) }
     ensures some { 0 < entries_ahead result }
     ensures few { entries_ahead result ≤ count }
-    ensures ahead { (m : ℕ) → HasPlaces direction seat.old.known m top.now count → IsAhead direction seat.new.known m top.now leaves.new result }
+    ensures ahead { (m : ℕ) → HasPlaces direction seat.old.known m top.now count → HasSeenAhead direction seat.new.known m top.now leaves.new result }
 {
     let start = origins.node(top.number);
+    let is_touching = touches(count, pairs);
     for index in 0..count {
-        let place = place_after(direction, *top, index);
+        let place = place_ahead(direction, *top, index);
         match load_entry_from(table, seat, gate, top.number, start, place) {
             Entry::Node { number, .. } => {
                 return Ahead {
@@ -83,7 +99,7 @@ pub(crate) fn look_ahead<G: Gate>(
                 };
             }
             Entry::Leaf(number) => {
-                if count > 1 {
+                if is_touching {
                     touch(table, origins, seat, gate, number);
                 }
                 leaves[index as usize] = number;

@@ -4,7 +4,7 @@ ghost use Rattle.std.specs.Prelude.{◌≡◌, ◌<◌, ◌≤◌, IsTrue, false
 ghost use Rattle.key_bits.specs.Key.{IsKey};
 ghost use Rattle.tries.specs.Keys.{IsAtMost, IsBefore};
 ghost use Rattle.rowex_scanning.specs.Directions.{IsEarlier, IsNoLater, gap_behind};
-ghost use Rattle.rowex_scanning.specs.Directions.{first_gap as first_gap_of, gap_after as gap_after_of, place_after as place_after_of, to_come as to_come_of};
+ghost use Rattle.rowex_scanning.specs.Directions.{first_gap as first_gap_of, gap_after as gap_after_of, place_ahead as place_ahead_of, to_come as to_come_of};
 
 use insert_cases::Step;
 
@@ -44,10 +44,10 @@ pub(crate) fn gap_after(direction: Direction, top: Step, entries: u8) -> u8
 
 /// The place of the entry that comes behind so many others.
 #[inline(always)]
-pub(crate) fn place_after(direction: Direction, top: Step, entries: u8) -> u8
+pub(crate) fn place_ahead(direction: Direction, top: Step, entries: u8) -> u8
     requires fits { top.at ≤ top.count }
     requires come { entries < to_come_of direction top.count top.at }
-    ensures { result ≡ place_after_of direction top.at entries }
+    ensures { result ≡ place_ahead_of direction top.at entries }
 {
     match direction {
         Direction::Upwards => top.at + entries,

@@ -19,7 +19,7 @@ ghost use Rattle.rowex_scanning.specs.Scanning.{HasScanned, HasScannedPart, IsBo
 
 use crate::ahead::{MOST_AHEAD, look_ahead, most_together};
 use crate::direction::{
-    Direction, behind, first_gap, gap_after, is_before, is_earlier, place_after, to_come,
+    Direction, behind, first_gap, gap_after, is_before, is_earlier, place_ahead, to_come,
 };
 use crate::start::start_from;
 use arrayvec::ArrayVec;
@@ -214,9 +214,11 @@ fn walk<G: Gate>(
     let mut top = lowest;
     let leaves = &mut [0; MOST_AHEAD as usize];
     loop {
-        let count = to_come(direction, &top).min(most_together(range.limit - pairs.len()));
+        let count = to_come(direction, &top).min(most_together(range.limit, pairs));
         if count > 0 {
-            let ahead = look_ahead(table, origins, seat, gate, direction, &top, count, leaves);
+            let ahead = look_ahead(
+                table, origins, seat, gate, direction, &top, count, pairs, leaves,
+            );
             match take_leaves(
                 table,
                 origins,
@@ -234,22 +236,17 @@ fn walk<G: Gate>(
                 Verdict::Past => return Ok(false),
                 Verdict::Full => return Ok(true),
             }
-            match ahead.node {
-                Some(number) => {
-                    top.at = place_after(direction, top, 0);
-                    way.push(top);
-                    top = enter(table, seat, gate, direction, number);
-                }
-                None => (),
+            if let Some(number) = ahead.node {
+                top.at = place_ahead(direction, top, 0);
+                way.push(top);
+                top = enter(table, seat, gate, direction, number);
             }
         } else {
-            match way.pop() {
-                Some(above) => {
-                    top = above;
-                    top.at = behind(direction, above.at);
-                }
-                None => return Ok(false),
-            }
+            let Some(above) = way.pop() else {
+                return Ok(false);
+            };
+            top = above;
+            top.at = behind(direction, above.at);
         }
     }
 }

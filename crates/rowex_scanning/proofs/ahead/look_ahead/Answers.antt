@@ -7,16 +7,16 @@ use Rattle.rowex_reading.specs.Seen.{HasPlace}
 use Rattle.rowex_reading.proofs.Led.{placed_led, reader_then, reads_later, reads_none, reads_trans}
 use Rattle.rowex_reading.proofs.Seeing.{placed_stable, since_later, sure_later}
 use Rattle.rowex_scanning.specs.Ahead.{HasPlaces}
-use Rattle.rowex_scanning.specs.Directions.{place_after}
+use Rattle.rowex_scanning.specs.Directions.{place_ahead}
 use Rattle.rowex_scanning.proofs.Begins.{node_begins}
 use Rattle.rowex_scanning.proofs.Passing.{ahead_later, ahead_more, loaded_at, places_later}
 use Rattle.rowex_scanning.proofs.ahead.look_ahead.Given as given
 use Rattle.rowex_scanning.proofs.ahead.look_ahead.Goals as goal
-use Rattle.rowex_scanning.proofs.ahead.look_ahead.Goals.{After-place_after-place, then-count-gt1, else-count-gt1}
+use Rattle.rowex_scanning.proofs.ahead.look_ahead.Goals.{After-place_ahead-place, then-is_touching, else-is_touching}
 
 -- the node has an entry at the place
-has_place : (g : given.Over) (c : After-place_after-place g) (m : ℕ) → HasPlaces c.args.direction c.args.seat.now.known m c.args.top.now c.args.count →
-    HasPlace c.loop-index.seat.known m c.args.top.now.number c.args.top.now.height (place_after c.args.direction c.args.top.now.at c.loop-index.index)
+has_place : (g : given.Over) (c : After-place_ahead-place g) (m : ℕ) → HasPlaces c.args.direction c.args.seat.now.known m c.args.top.now c.args.count →
+    HasPlace c.loop-index.seat.known m c.args.top.now.number c.args.top.now.height (place_ahead c.args.direction c.args.top.now.at c.loop-index.index)
 has_place g c m has = places_later c.args.direction m c.args.top.now (reads_later c.loop-index.invariant.reads.2) c.args.count has c.loop-index.index c.loop-index-test.true
 
 pub loop-index-init : goal.loop-index-init
@@ -29,12 +29,12 @@ loop-index-init g c = record {
 
 pub load_entry_from-requires-clause-place : goal.load_entry_from-requires-clause-place
 load_entry_from-requires-clause-place g c =
-    (c.requires.places.0, c.args.top.now.height, rw c.place_after-place.ensures (has_place g (goal.at.load_entry_from-requires-clause-place g c).After-place_after-place c.requires.places.0 c.requires.places.1))
+    (c.requires.places.0, c.args.top.now.height, rw c.place_ahead-place.ensures (has_place g (goal.at.load_entry_from-requires-clause-place g c).After-place_ahead-place c.requires.places.0 c.requires.places.1))
 
 pub load_entry_from-requires-clause-start : goal.load_entry_from-requires-clause-start
 load_entry_from-requires-clause-start g c =
     let (m, has) = c.requires.places in let top = c.args.top.now in
-    node_begins c.args.table.now.layout c.args.origins.now.layout c.args.seat.now.known m top.number top.height (place_after c.args.direction top.at 0) c.node-start.result c.requires.reader.1 (has 0 c.requires.some) c.requires.origins
+    node_begins c.args.table.now.layout c.args.origins.now.layout c.args.seat.now.known m top.number top.height (place_ahead c.args.direction top.at 0) c.node-start.result c.requires.reader.1 (has 0 c.requires.some) c.requires.origins
     c.node-start.ensures
 
 pub returns-in-Node-clause-reads : goal.returns-in-Node-clause-reads
@@ -43,8 +43,8 @@ returns-in-Node-clause-reads g c = let (n, few, reads) = c.loop-index.invariant.
 pub returns-in-Node-clause-ahead : goal.returns-in-Node-clause-ahead
 returns-in-Node-clause-ahead g c = λ m has.
     let d = c.args.direction in let top = c.args.top.now in let later = reads_later c.load_entry_from.ensures.reads in
-    let place = has_place g (goal.at.returns-in-Node-clause-ahead g c).After-place_after-place m has in
-    let (lower, placed) = loaded_at d m top c.loop-index.index c.place_after-place.result (Node c.in-Node.number c.in-Node.height) c.place_after-place.ensures place c.in-Node.ensures.entry in
+    let place = has_place g (goal.at.returns-in-Node-clause-ahead g c).After-place_ahead-place m has in
+    let (lower, placed) = loaded_at d m top c.loop-index.index c.place_ahead-place.result (Node c.in-Node.number c.in-Node.height) c.place_ahead-place.ensures place c.in-Node.ensures.entry in
     record { first = ahead_later d m top later c.loop-index.index c.loop-index.leaves (c.loop-index.invariant.ahead m has); node = (c.in-Node.height, lower, placed) }
 
 pub touch-requires-clause-reader : goal.touch-requires-clause-reader
@@ -53,16 +53,16 @@ touch-requires-clause-reader g c = reader_then c.loop-index.invariant.reader c.l
 pub touch-requires-clause-led : goal.touch-requires-clause-led
 touch-requires-clause-led g c =
     let d = c.args.direction in let top = c.args.top.now in let (m, has) = c.requires.places in
-    let place = has_place g (goal.at.touch-requires-clause-led g c).After-place_after-place m has in
-    let placed = (loaded_at d m top c.loop-index.index c.place_after-place.result (Leaf c.in-Leaf.number) c.place_after-place.ensures place c.in-Leaf.ensures.entry).1 in
-    (m, placed_led top.number (place_after d top.at c.loop-index.index) (Leaf c.in-Leaf.number) (since_later (reads_later c.load_entry_from.ensures.reads) place.0.0) placed)
+    let place = has_place g (goal.at.touch-requires-clause-led g c).After-place_ahead-place m has in
+    let placed = (loaded_at d m top c.loop-index.index c.place_ahead-place.result (Leaf c.in-Leaf.number) c.place_ahead-place.ensures place c.in-Leaf.ensures.entry).1 in
+    (m, placed_led top.number (place_ahead d top.at c.loop-index.index) (Leaf c.in-Leaf.number) (since_later (reads_later c.load_entry_from.ensures.reads) place.0.0) placed)
 
 pub loop-index-preserved : goal.loop-index-preserved
 loop-index-preserved g c =
     let i = c.loop-index.invariant in let (n, few, before) = i.reads in let d = c.args.direction in let top = c.args.top.now in let loaded = c.load_entry_from.ensures.reads in
-    let (t, once, touched) : (t : ℕ) × (t ≤ 1) × Reads c.args.table.now g.G.Gate.becomes 0 t (c.load_entry_from.new.seat, c.load_entry_from.new.gate) (c.if-count-gt1.seat, c.if-count-gt1.gate) = elim c.if-count-gt1.branch [
-      | then-count-gt1 w ↦ rw (w.seat-is, w.gate-is) (1, omega arith, w.touch.ensures.reads)
-      | else-count-gt1 w ↦ rw (w.seat-is, w.gate-is) (0, omega arith, reads_none (c.load_entry_from.new.seat, c.load_entry_from.new.gate))
+    let (t, once, touched) : (t : ℕ) × (t ≤ 1) × Reads c.args.table.now g.G.Gate.becomes 0 t (c.load_entry_from.new.seat, c.load_entry_from.new.gate) (c.if-is_touching.seat, c.if-is_touching.gate) = elim c.if-is_touching.branch [
+      | then-is_touching w ↦ rw (w.seat-is, w.gate-is) (1, omega arith, w.touch.ensures.reads)
+      | else-is_touching w ↦ rw (w.seat-is, w.gate-is) (0, omega arith, reads_none (c.load_entry_from.new.seat, c.load_entry_from.new.gate))
     ] in
     let more = reads_trans loaded touched in
     record {
@@ -70,8 +70,8 @@ loop-index-preserved g c =
       reads = (n + (1 + t), omega (arith, few, once), reads_trans before more);
       long = length-set c.loop-index.leaves c.loop-index.index c.in-Leaf.number ∙ i.long;
       ahead = λ m has.
-          let place = has_place g (goal.at.loop-index-preserved g c).After-place_after-place m has in
-          let placed = (loaded_at d m top c.loop-index.index c.place_after-place.result (Leaf c.in-Leaf.number) c.place_after-place.ensures place c.in-Leaf.ensures.entry).1 in
+          let place = has_place g (goal.at.loop-index-preserved g c).After-place_ahead-place m has in
+          let placed = (loaded_at d m top c.loop-index.index c.place_ahead-place.result (Leaf c.in-Leaf.number) c.place_ahead-place.ensures place c.in-Leaf.ensures.entry).1 in
           ahead_more d m top c.loop-index.index c.loop-index.leaves c.in-Leaf.number (ahead_later d m top (reads_later more) c.loop-index.index c.loop-index.leaves (i.ahead m has)) (omega (arith, i.long, c.loop-index-test.true, c.requires.most))
-          (sure_later (placed_stable m top.number (place_after d top.at c.loop-index.index) (Leaf c.in-Leaf.number)) (reads_later touched) placed);
+          (sure_later (placed_stable m top.number (place_ahead d top.at c.loop-index.index) (Leaf c.in-Leaf.number)) (reads_later touched) placed);
     }

@@ -6,7 +6,7 @@ use Rattle.record_words.specs.declared.TheConstants.{LEAF_FIELDS}
 use Rattle.rowex_reading.specs.Reads.{Reads}
 use Rattle.rowex_reading.specs.Seen.{since}
 use Rattle.rowex_reading.proofs.Led.{reader_then, reads_later, reads_none, reads_trans, same_since}
-use Rattle.rowex_scanning.specs.Directions.{place_after}
+use Rattle.rowex_scanning.specs.Directions.{place_ahead}
 use Rattle.rowex_scanning.specs.Scanning.{asked_range}
 use Rattle.rowex_scanning.proofs.Parts.{walk_part}
 use Rattle.rowex_scanning.proofs.Passing.{ahead_later, leaf_at, leaf_reached, passed_more, passed_none}
@@ -17,7 +17,7 @@ use Rattle.rowex_scanning.proofs.scanning.take_leaves.Goals.{After-take_leaf}
 
 -- The walk is at the leaf that was read.
 leaf : (g : given.Over) (c : After-take_leaf g) →
-    IsAtEntry c.args.range.now.direction c.loop-index.seat.known (since c.args.seat.now.known) (asked_range c.args.range.now) (record c.args.top.now { at = place_after c.args.range.now.direction c.args.top.now.at c.loop-index.index })
+    IsAtEntry c.args.range.now.direction c.loop-index.seat.known (since c.args.seat.now.known) (asked_range c.args.range.now) (record c.args.top.now { at = place_ahead c.args.range.now.direction c.args.top.now.at c.loop-index.index })
     c.args._way.now.items c.loop-index.pairs (Leaf (get_or c.args.leaves.now c.loop-index.index 0))
 leaf g c =
     let i = c.loop-index.invariant in leaf_at (walk_fits c.requires.walk) (let come = c.requires.come in omega (arith, come, c.loop-index-test.true)) i.passed (i.ahead c.loop-index.index c.loop-index-test.true)

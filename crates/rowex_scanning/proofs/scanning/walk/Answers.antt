@@ -7,7 +7,7 @@ use Rattle.rowex_reading.specs.Seen.{since}
 use Rattle.rowex_reading.proofs.Led.{reader_then, reads_later, reads_none, reads_trans, same_since}
 use Rattle.rowex_reading.proofs.Seeing.{placed_stable, sure_later}
 use Rattle.rowex_scanning.specs.Ahead.{AreAhead, HasPlaces, HavePassed, IsNodeAhead, entries_ahead}
-use Rattle.rowex_scanning.specs.Directions.{first_key, gap_after, place_after, to_come}
+use Rattle.rowex_scanning.specs.Directions.{first_key, gap_after, place_ahead, to_come}
 use Rattle.rowex_scanning.specs.Scanning.{IsBound, IsWalk, asked_range}
 use Rattle.rowex_scanning.specs.declared.direction.Direction.{Direction}
 use Rattle.rowex_scanning.proofs.Directed.{gap_before_place, place_at_gap}
@@ -27,8 +27,8 @@ none_come g c none = let some = c.most_together.ensures.some in omega (arith, so
 -- No more are loaded than the limit asks for, and one.
 asked : (g : given.Over) (c : After-look_ahead-ahead g) → length c.loop-seat.pairs + entries_ahead c.look_ahead-ahead.result ≤ c.args.range.now.limit + 1
 asked g c =
-    let few = c.look_ahead-ahead.ensures.few in let most = c.most_together.ensures.few in let n = c.len.ensures.count in let short = walk_short c.loop-seat.invariant.walk c.loop-seat.invariant.reader.1 in
-    omega (arith, few, most, n, short, c.min-count.ensures)
+    let few = c.look_ahead-ahead.ensures.few in let most = c.most_together.ensures.few in
+    omega (arith, few, most, c.min-count.ensures)
 
 -- The leaves are among them.
 come : (g : given.Over) (c : After-look_ahead-ahead g) → entries_ahead c.look_ahead-ahead.result ≤ to_come c.args.range.now.direction c.loop-seat.top.count c.loop-seat.top.at
@@ -56,8 +56,8 @@ loop-seat-init g c =
 pub to_come-requires : goal.to_come-requires
 to_come-requires g c = walk_fits c.loop-seat.invariant.walk
 
-pub overflow_sub-range : goal.overflow_sub-range
-overflow_sub-range g c = let n = c.len.ensures.count in let short = walk_short c.loop-seat.invariant.walk c.loop-seat.invariant.reader.1 in omega (arith, n, short)
+pub most_together-requires : goal.most_together-requires
+most_together-requires g c = walk_short c.loop-seat.invariant.walk c.loop-seat.invariant.reader.1
 
 pub look_ahead-ahead-requires-clause-places : goal.look_ahead-ahead-requires-clause-places
 look_ahead-ahead-requires-clause-places g c = (since c.args.seat.now.known, has_places g (goal.at.look_ahead-ahead-requires-clause-places g c).After-min-count)
@@ -109,15 +109,15 @@ inside : (g : given.Over) (c : In-Some g) → entries_ahead c.look_ahead-ahead.r
 inside g c come = let one : length (option_to_list c.look_ahead-ahead.result.node) ≡ 1 = ap (λ z. length (option_to_list z)) c.in-Some.is in omega (arith, one, come)
 
 -- which is pushed.
-pushed : (d : Direction) (top moved : Step) (count place : ℕ) → moved ≡ record top { at = gap_after d top.at count } → place ≡ place_after d moved.at 0 →
-    (let x : Step = record moved { at = place } in x) ≡ record top { at = place_after d top.at count }
+pushed : (d : Direction) (top moved : Step) (count place : ℕ) → moved ≡ record top { at = gap_after d top.at count } → place ≡ place_ahead d moved.at 0 →
+    (let x : Step = record moved { at = place } in x) ≡ record top { at = place_ahead d top.at count }
 pushed d top moved count place is at =
-    ap (λ z. let x : Step = record moved { at = z } in x) at ∙ (ap (λ (z : Step). let x : Step = record z { at = place_after d z.at 0 } in x) is ∙ ap (λ z. let x : Step = record top { at = z } in x) (place_at_gap d top.at count))
+    ap (λ z. let x : Step = record moved { at = z } in x) at ∙ (ap (λ (z : Step). let x : Step = record z { at = place_ahead d z.at 0 } in x) is ∙ ap (λ z. let x : Step = record top { at = z } in x) (place_at_gap d top.at count))
 
 push_is : (g : given.Over) (c : After-push g) → c.take_leaves.new.top ≡ record c.loop-seat.top { at = gap_after c.args.range.now.direction c.loop-seat.top.at c.look_ahead-ahead.result.count } →
-    c.push.new.self.items ≡ c.loop-seat.way.items ++ (record c.loop-seat.top { at = place_after c.args.range.now.direction c.loop-seat.top.at c.look_ahead-ahead.result.count }) ∷ []
+    c.push.new.self.items ≡ c.loop-seat.way.items ++ (record c.loop-seat.top { at = place_ahead c.args.range.now.direction c.loop-seat.top.at c.look_ahead-ahead.result.count }) ∷ []
 push_is g c moved =
-    c.push.ensures.items ∙ ap (λ z. c.loop-seat.way.items ++ z ∷ []) (pushed c.args.range.now.direction c.loop-seat.top c.take_leaves.new.top c.look_ahead-ahead.result.count c.place_after.result moved c.place_after.ensures)
+    c.push.ensures.items ∙ ap (λ z. c.loop-seat.way.items ++ z ∷ []) (pushed c.args.range.now.direction c.loop-seat.top c.take_leaves.new.top c.look_ahead-ahead.result.count c.place_ahead.result moved c.place_ahead.ensures)
 
 pub push-requires : goal.push-requires
 push-requires g c = (omega arith, way_short c.loop-seat.invariant.walk c.loop-seat.invariant.reader.1)
@@ -146,7 +146,7 @@ loop-seat-preserved-in-Some g c =
     let look = c.look_ahead-ahead.ensures.reads in let take = c.take_leaves.ensures.reads in let later = reads_later e.reads.2 in
     let fits = walk_fits i.walk in let within = inside g at.In-Some (come g at.After-look_ahead-ahead) in let (moved, p) = passed g at.In-Further in let ahead = node_ahead g at.In-Some (has_places g at.After-min-count) in
     let a = node_at fits within p ahead in let entered = e.entered m ahead.0 (entry_led a) in let there = push_is g at.After-push moved in
-    let placed = sure_later (placed_stable m top.number (place_after d top.at count) (Node c.in-Some.number ahead.0)) later ahead.2 in
+    let placed = sure_later (placed_stable m top.number (place_ahead d top.at count) (Node c.in-Some.number ahead.0)) later ahead.2 in
     let bound = subst (λ z. IsBound d c.enter-top.new.seat.known m key (record top { at = z }) c.loop-seat.way.items) (gap_before_place d top.count top.at count within) (bound_later d m key later p.bound) in
     record {
       reader = reader_then (reader_then (reader_then i.reader look.2) take.2) e.reads.2;
@@ -158,21 +158,21 @@ loop-seat-preserved-in-Some g c =
         reads_trans i.reads.3 (reads_trans look.2 (reads_trans take.2 e.reads.2)),
       );
       walk = walk_push a later entered there;
-      bound = bound_push d m key (record top { at = place_after d top.at count }) bound c.in-Some.number ahead.0 placed c.enter-top.result (entered_number entered) (entered_first entered) c.push.new.self.items there;
+      bound = bound_push d m key (record top { at = place_ahead d top.at count }) bound c.in-Some.number ahead.0 placed c.enter-top.result (entered_number entered) (entered_first entered) c.push.new.self.items there;
     }
 
-pub loop-seat-smaller-in-None : goal.loop-seat-smaller-in-None
-loop-seat-smaller-in-None g c =
-    let at = goal.at.loop-seat-smaller-in-None g c in let d = c.args.range.now.direction in let top = c.loop-seat.top in let count = c.look_ahead-ahead.result.count in
+pub loop-seat-smaller-in_default : goal.loop-seat-smaller-in_default
+loop-seat-smaller-in_default g c =
+    let at = goal.at.loop-seat-smaller-in_default g c in let d = c.args.range.now.direction in let top = c.loop-seat.top in let count = c.look_ahead-ahead.result.count in
     let (moved, _) = passed g at.In-Further in let within = come g at.After-look_ahead-ahead in
-    let none : length (option_to_list c.look_ahead-ahead.result.node) ≡ 0 = ap (λ z. length (option_to_list z)) c.in-None.is in
+    let none : length (option_to_list c.look_ahead-ahead.result.node) ≡ 0 = ap (λ z. length (option_to_list z)) c.in_default.is in
     let some = c.look_ahead-ahead.ensures.some in
     let less = after_less d top c.loop-seat.way.items count (omega (arith, within)) in
     subst (λ (z : Step). rest_of d z c.loop-seat.way.items < rest_of d top c.loop-seat.way.items) (sym moved) (omega (arith, less, some, none))
 
-pub loop-seat-preserved-in-None : goal.loop-seat-preserved-in-None
-loop-seat-preserved-in-None g c =
-    let at = goal.at.loop-seat-preserved-in-None g c in let i = c.loop-seat.invariant in let m = since c.args.seat.now.known in let d = c.args.range.now.direction in let key = first_key d (asked_range c.args.range.now) in
+pub loop-seat-preserved-in_default : goal.loop-seat-preserved-in_default
+loop-seat-preserved-in_default g c =
+    let at = goal.at.loop-seat-preserved-in_default g c in let i = c.loop-seat.invariant in let m = since c.args.seat.now.known in let d = c.args.range.now.direction in let key = first_key d (asked_range c.args.range.now) in
     let top = c.loop-seat.top in let count = c.look_ahead-ahead.result.count in let look = c.look_ahead-ahead.ensures.reads in let take = c.take_leaves.ensures.reads in
     let (moved, p) = passed g at.In-Further in let within = come g at.After-look_ahead-ahead in
     record {
@@ -181,7 +181,7 @@ loop-seat-preserved-in-None g c =
         i.reads.0 + (look.0 + take.0),
         i.reads.1 + (entries_ahead c.look_ahead-ahead.result + 0),
         subst (λ (z : Step). IsPaid d (i.reads.0 + (look.0 + take.0)) (i.reads.1 + (entries_ahead c.look_ahead-ahead.result + 0)) (length c.take_leaves.new.pairs) z c.loop-seat.way.items) (sym moved)
-            (paid_ahead d i.reads.0 i.reads.1 (length c.loop-seat.pairs) (length c.take_leaves.new.pairs) look.0 take.0 top c.loop-seat.way.items c.look_ahead-ahead.result i.reads.2 c.in-None.is look.1 take.1 p.more (walk_fits i.walk)
+            (paid_ahead d i.reads.0 i.reads.1 (length c.loop-seat.pairs) (length c.take_leaves.new.pairs) look.0 take.0 top c.loop-seat.way.items c.look_ahead-ahead.result i.reads.2 c.in_default.is look.1 take.1 p.more (walk_fits i.walk)
             (omega (arith, within))),
         reads_trans i.reads.3 (reads_trans look.2 take.2),
       );
@@ -215,17 +215,17 @@ loop-seat-preserved g c =
       bound = bound_pop d (since c.args.seat.now.known) (first_key d (asked_range c.args.range.now)) i.bound c.in-Some-pop.above c.pop.new.self.items e;
     })
 
-pub returns-in-None-pop-clause-reads : goal.returns-in-None-pop-clause-reads
-returns-in-None-pop-clause-reads g c =
+pub returns-in_default-pop-clause-reads : goal.returns-in_default-pop-clause-reads
+returns-in_default-pop-clause-reads g c =
     let i = c.loop-seat.invariant in (
       i.reads.0,
       i.reads.1,
-      paid_end c.args.range.now.direction i.reads.0 i.reads.1 (length c.loop-seat.pairs) c.args.range.now.limit c.loop-seat.top c.loop-seat.way.items i.reads.2 (none_popped c.pop.ensures.variant c.in-None-pop.is)
+      paid_end c.args.range.now.direction i.reads.0 i.reads.1 (length c.loop-seat.pairs) c.args.range.now.limit c.loop-seat.top c.loop-seat.way.items i.reads.2 (none_popped c.pop.ensures.variant c.in_default-pop.is)
           (walk_short i.walk i.reader.1),
       i.reads.3,
     )
 
-pub returns-in-None-pop-clause-scanned : goal.returns-in-None-pop-clause-scanned
-returns-in-None-pop-clause-scanned g c =
+pub returns-in_default-pop-clause-scanned : goal.returns-in_default-pop-clause-scanned
+returns-in_default-pop-clause-scanned g c =
     let i = c.loop-seat.invariant in
-    walk_end i.walk (none_come g (goal.at.returns-in-None-pop-clause-scanned g c).After-min-count c.if-count-gt0.false) (none_popped c.pop.ensures.variant c.in-None-pop.is) (same_since i.reads.3)
+    walk_end i.walk (none_come g (goal.at.returns-in_default-pop-clause-scanned g c).After-min-count c.if-count-gt0.false) (none_popped c.pop.ensures.variant c.in_default-pop.is) (same_since i.reads.3)
