@@ -252,12 +252,12 @@ hot_status hot_each(hot_handle *handle, const uint8_t *from, size_t from_length,
                     hot_visitor *visit, void *context);
 
 /* Writes the first pair whose key is `from` or above, by a scan for one pair; from an empty key on, that is the first pair of
- * all. Nothing is written unless it is found. It makes at most 168665 steps.
+ * all. Nothing is written unless it is found. It makes at most 168667 steps.
  * HOT_FOUND, HOT_ABSENT; or HOT_KEY_TOO_LONG, HOT_CLOSED, HOT_NO_MEMORY (only if there was a pair). */
 hot_status hot_first(hot_handle *handle, const uint8_t *from, size_t length, hot_pair *pair);
 
 /* Writes the last pair whose key is `upto` or below, by a scan downwards for one pair; up to a key of HOT_MAX_KEY bytes of 255,
- * that is the last pair of all. Nothing is written unless it is found. It makes at most 168665 steps.
+ * that is the last pair of all. Nothing is written unless it is found. It makes at most 168667 steps.
  * HOT_FOUND, HOT_ABSENT; or HOT_KEY_TOO_LONG, HOT_CLOSED, HOT_NO_MEMORY (only if there was a pair). */
 hot_status hot_last(hot_handle *handle, const uint8_t *upto, size_t length, hot_pair *pair);
 
