@@ -1,6 +1,6 @@
 -- What claims of records come to.
 use Rattle.std.proofs.Common.{◌≡◌, ◌≢◌, ℕ, zero, suc, ◌+◌, ◌-◌, ◌<◌, ◌≤◌, min, inl, inr, List, [], ◌∷◌, ◌++◌, length, Option, Bool, true, false, nat_lt, nat_eq, if◌then◌else◌, refl, sym, ap, subst, ◌∙◌, arith, add-zero, length-append}
-use Rattle.std.specs.Prelude.{All, Contains, IfNone, MatchOption, Some, None}
+use Rattle.std.specs.Prelude.{All, Contains, IfNone, IfSome, MatchOption, Some, None}
 use Rattle.std.proofs.lemmas.Bool.{eqb-true, eqb-false, ltb-true, ltb-false, lt-ltb, le-ltb}
 use Rattle.std.proofs.lemmas.List.Elements.{All-contains, All-weaker}
 use Rattle.record_words.specs.declared.layout.Layout.{Layout}
@@ -31,7 +31,7 @@ use Rattle.rowex_table.proofs.Rights.{free_tag}
 use Rattle.rowex_table.proofs.Running.{in_turn_more, does_count}
 use Rattle.rowex_records.specs.declared.claiming.RecordKind.{RecordKind}
 use Rattle.rowex_records.specs.declared.claiming.RecordKind.TheVariants.{Node, Leaf}
-use Rattle.rowex_records.specs.Claims.{claiming, begin_of, count_of, record_of, wrapped, HasIndex, IsKindOf, Misses, HasMissedSince, MissesOne, HoldsOneMore, ClaimsOne, FindsNone, Claims, AllMissed, GoesOnTrying}
+use Rattle.rowex_records.specs.Claims.{claiming, begin_of, count_of, record_of, wrapped, HasIndex, IsKindOf, Misses, HasMissedSince, MissesOne, HoldsOneMore, ClaimsOne, FindsNone, Claims, AllMissed, GoesOnBehind, GoesOnTrying, TriesSome}
 use Rattle.rowex_records.specs.Starts.{IsRow, first_word}
 use Rattle.rowex_records.proofs.Making.{counted, claims_nothing, claims_one, looks_one, claims_append}
 
@@ -73,6 +73,13 @@ turned_by n from m i low below few = grind arith
 -- and the number to begin at behind them is the one of the turn behind them
 pub turned_over : (n from m i : ℕ) → from < n → m < n → m + i ≤ n → wrapped n from m + i ≤ n → begin_of n (wrapped n from m + i) ≡ wrapped n from (m + i)
 turned_over n from m i low some below few = grind arith
+
+pub first_turn : (n from : ℕ) → from < n → from ≡ wrapped n from 0
+first_turn n from low = grind arith
+
+-- so it is behind the first
+pub next_turn : (n from : ℕ) → from < n → begin_of n (from + 1) ≡ wrapped n from 1
+next_turn n from low = grind arith
 
 -- each number is the one of some turn
 pub turned_to : (n from q : ℕ) → from < n → q < n → (m : ℕ) × (m < n) × (wrapped n from m ≡ q)
@@ -287,14 +294,6 @@ module _ {G : Type 0} (table : TableView) (becomes : G → Event → G → Type 
               (subst (λ y. HasMissedSince (one.failed ∷ none.missed) (kind y) a.0.known.steps) is
               (missed_among (one.failed ∷ []) none.missed (kind number) a.0.known.steps (missed_earlier (one.failed ∷ []) (kind number) a.0.known.steps i.0.known.steps at one.tells)))
 
-  -- the first one was free
-  pub claims_first : (kind : ℕ → Rec) (n from number : ℕ) (a b : SeatView × G) → 0 < n → number ≡ wrapped n from 0 → ClaimsOne table becomes (kind number) a b → (claims : Claims table becomes kind n from number a b) × (claims.tried ≡ 0)
-  claims_first kind n from number a b some is one = (record { tried = 0; low = some; number_is = is; before = a; none = finds_none kind n from a; one = one }, refl)
-
-  -- all have been tried that may be
-  pub finds_all : (kind : ℕ → Rec) (n from begin m most : ℕ) (a b : SeatView × G) → from ≡ begin → m ≡ most → FindsNone table becomes kind n from m a b → FindsNone table becomes kind n begin most a b
-  finds_all kind n from begin m most a b is all none = subst (λ z. FindsNone table becomes kind n z most a b) is (subst (λ z. FindsNone table becomes kind n from z a b) all none)
-
   -- where all have been tried, each was found not free since the first
   pub all_missed : (kind : ℕ → Rec) (n from : ℕ) (a b : SeatView × G) → from < n → FindsNone table becomes kind n from n a b → AllMissed kind n b.0.known.failed a.0.known.steps
   all_missed kind n from a b low none q below =
@@ -325,11 +324,45 @@ module _ {G : Type 0} (table : TableView) (becomes : G → Event → G → Type 
     refl,
   )
 
-  -- where as many may be tried as there are, all are tried
+  -- Tries of so many at most: there are none, the first is free, and it is not
+
+  pub tries_none : (kind : ℕ → Rec) (n begin most : ℕ) (a : SeatView × G) → most ≡ 0 → TriesSome table becomes kind n begin most None 0 a a
+  tries_none kind n begin most a is = (sym is, subst (λ z. FindsNone table becomes kind n begin z a a) (sym is) (finds_none kind n begin a))
+
+  module _ (kind : ℕ → Rec) (n from number most : ℕ) (low : number < n) (is : number ≡ begin_of n from) where
+    pub tries_first : (a b : SeatView × G) → ClaimsOne table becomes (kind number) a b → TriesSome table becomes kind n (begin_of n from) most (Some number) 1 a b
+    tries_first a b one =
+        (record { tried = 0; low = omega (arith, low); number_is = is ∙ turned_none n from; before = a; none = finds_none kind n (begin_of n from) a; one = one }, refl)
+
+    pub tries_behind : (a i b : SeatView × G) (answer : Option ℕ) (tried : ℕ) → MissesOne table becomes (kind number) a i →
+        GoesOnBehind table becomes kind n number most answer tried i b → TriesSome table becomes kind n (begin_of n from) most answer tried a b
+    tries_behind a i b answer tried one behind = subst (λ z. TriesSome table becomes kind n z most answer tried a b) is
+        (behind a (finds_more kind n number 0 number a a i (first_turn n number low) (finds_none kind n number a) one))
+
+  -- Rows behind the first record: none yet, one more, and one that has a free record
+
+  pub behind_none : (kind : ℕ → Rec) (n begin : ℕ) (b : SeatView × G) → GoesOnBehind table becomes kind n begin 1 None 1 b b
+  behind_none kind n begin b a none = (refl, none)
+
+  module _ (kind : ℕ → Rec) (n begin tried number count : ℕ) (b i c : SeatView × G) (low : begin < n) (fits : tried + count ≤ n)
+      (is : number ≡ wrapped n begin tried) (behind : GoesOnBehind table becomes kind n begin tried None tried b i) where
+    pub behind_row : GoesOnTrying table becomes kind n number count None i c → GoesOnBehind table becomes kind n begin (tried + count) None (tried + count) b c
+    behind_row row a none = (refl, row a begin tried low fits is (behind a none).1)
+
+    pub behind_claims : (index most : ℕ) → GoesOnTrying table becomes kind n number count (Some index) i c →
+        GoesOnBehind table becomes kind n begin most (Some (number + index)) (tried + index + 1) b c
+    behind_claims index most row a none =
+        let (below, claims, at) = row a begin tried low fits is (behind a none).1 in (claims, ap (λ z. z + 1) at)
+
+  -- what is left then, and where as many may be tried as there are, all are tried
   module _ (kind : ℕ → Rec) (n from left less : ℕ) (a b : SeatView × G) where
     abbrev HasTried : Option ℕ → Type 0
     HasTried answer = MatchOption answer ((less + min n left ≡ left) × FindsNone table becomes kind n (begin_of n from) (min n left) a b)
         (λ number. (claims : Claims table becomes kind n (begin_of n from) number a b) × (less + claims.tried + 1 ≡ left))
+
+    pub has_tried : (answer : Option ℕ) (most tried : ℕ) → most ≡ min n left → less + tried ≡ left → TriesSome table becomes kind n (begin_of n from) most answer tried a b → HasTried answer
+    has_tried None most tried is sum (at, none) = (omega (arith, is, sum, at), subst (λ z. FindsNone table becomes kind n (begin_of n from) z a b) is none)
+    has_tried (Some number) most tried is sum (claims, at) = (claims, omega (arith, sum, at))
 
     pub claims_whole : (answer : Option ℕ) → left ≡ n → HasTried answer →
         MatchOption answer (FindsNone table becomes kind n (begin_of n from) n a b) (λ number. Claims table becomes kind n (begin_of n from) number a b)
@@ -345,3 +378,10 @@ module _ {G : Type 0} (table : TableView) (becomes : G → Event → G → Type 
 
   pub claims_gives : (kind : ℕ → Rec) (n from number : ℕ) (a b : SeatView × G) → Claims table becomes kind n from number a b → IsClaimed b.0.known (kind number)
   claims_gives kind n from number a b claims = more_is_claimed (kind number) claims.before.0.known b.0.known claims.one.holds
+
+  pub tries_held : (kind : ℕ → Rec) (n from most : ℕ) (answer : Option ℕ) (tried : ℕ) (a b : SeatView × G) → TriesSome table becomes kind n (begin_of n from) most answer tried a b →
+      IfSome answer (λ number. (number < n) × IsClaimed b.0.known (kind number))
+  tries_held kind n from most None tried a b tries = tt
+  tries_held kind n from most (Some number) tried a b (claims, at) =
+      let some : 0 < n = let low = claims.low in omega arith in
+      (rw claims.number_is (turned_low n (begin_of n from) claims.tried (begins_low n from some) claims.low), claims_gives kind n (begin_of n from) number a b claims)

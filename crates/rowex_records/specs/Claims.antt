@@ -126,6 +126,18 @@ GoesOnTrying {G = G} table becomes kind n number count answer b c =
     MatchOption answer (FindsNone table becomes kind n from (m + count) a c)
     (λ index. (index < count) × (claims : Claims table becomes kind n from (number + index) a c) × (claims.tried ≡ m + index))
 
+-- Of the n records of the kind the pass tries so many at most, from this one on; it answers none, or the number of the one that it has
+-- claimed, and how many it tried with that.
+abbrev pub TriesSome : {G : Type 0} → TableView → (G → Event → G → Type 0) → (ℕ → Rec) → (n begin most : ℕ) → Option ℕ → ℕ → SeatView × G → SeatView × G → Type 0
+TriesSome table becomes kind n begin most answer tried a b =
+    MatchOption answer ((tried ≡ most) × FindsNone table becomes kind n begin most a b)
+    (λ number. (claims : Claims table becomes kind n begin number a b) × (claims.tried + 1 ≡ tried))
+
+-- the pass does so by going on behind the first of them, which it has found not free
+abbrev pub GoesOnBehind : {G : Type 0} → TableView → (G → Event → G → Type 0) → (ℕ → Rec) → (n begin most : ℕ) → Option ℕ → ℕ → SeatView × G → SeatView × G → Type 0
+GoesOnBehind {G = G} table becomes kind n begin most answer tried b c =
+    (a : SeatView × G) → FindsNone table becomes kind n begin 1 a b → TriesSome table becomes kind n begin most answer tried a c
+
 -- each of the n records of the kind was found not free by one of these, at this step or a later one
 abbrev pub AllMissed : (ℕ → Rec) → ℕ → List Failed → ℕ → Type 0
 AllMissed kind n failed since = (q : ℕ) → q < n → HasMissedSince failed (kind q) since

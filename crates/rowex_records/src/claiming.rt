@@ -5,7 +5,7 @@ ghost use Rattle.rowex_core.specs.Cores.{HasRecord};
 ghost use Rattle.rowex_table.specs.Rights.{IsClaimed};
 ghost use Rattle.rowex_table.specs.Rule.{IsStartOf};
 ghost use Rattle.rowex_table.specs.Seats.{IsSeatOf};
-ghost use Rattle.rowex_records.specs.Claims.{AllMissed, Claims, ClaimsOne, FindsNone, MissesNumber, MissesOne, HasIndex, IsKindOf, GoesOnTrying, begin_of, count_of, record_of};
+ghost use Rattle.rowex_records.specs.Claims.{AllMissed, Claims, ClaimsOne, FindsNone, GoesOnBehind, MissesNumber, MissesOne, TriesSome, HasIndex, IsKindOf, GoesOnTrying, begin_of, count_of, record_of};
 ghost use Rattle.rowex_records.specs.Starts.{IsRow, first_word};
 ghost use Rattle.rowex_records.specs.Records.{GivesUp, GivesUpAll, HoldsJust};
 
@@ -121,32 +121,74 @@ pub fn claim_within<G: Gate>(
         (left.new + claims.tried + 1 ≡ left.old)) }
     ensures held { IfSome result (λ number. (number < count_of kind table.now.layout) × IsClaimed seat.new.known (record_of kind number)) }
 {
-    let layout = table.layout();
-    let all = kind.count(layout);
-    let most = all.min(*left);
+    let most = kind.count(table.layout()).min(*left);
+    let (claimed, tried) = claim_of(table, seat, gate, kind, from, most);
+    *left -= tried;
+    claimed
+}
+
+/// Claims the first record of a kind that it finds free, of so many; answers its number, and how many it tried.
+#[inline(always)]
+fn claim_of<G: Gate>(
+    table: &HotTable,
+    seat: &mut TableSeat,
+    gate: &mut G,
+    kind: RecordKind,
+    from: u32,
+    most: u32,
+) -> (Option<u32>, u32)
+    requires own { IsSeatOf table.now seat.old }
+    requires kind { IsKindOf kind table.now.layout }
+    requires few { most ≤ count_of kind table.now.layout }
+    ensures few { result.1 ≤ most }
+    ensures tries { let n = count_of kind table.now.layout in
+        TriesSome table.now G.becomes (record_of kind) n (begin_of n from) most result.0 result.1 (seat.old, gate.old) (seat.new, gate.new) }
+{
     if most == 0 {
-        return None;
+        return (None, 0);
     }
-    let begin = first(from, all);
+    let layout = table.layout();
+    let begin = first(from, kind.count(layout));
     let rec = kind.record_at(begin);
     if try_record(table, seat, gate, rec, kind.start_at(&layout, begin)) {
-        *left -= 1;
-        return Some(begin);
+        return (Some(begin), 1);
     }
+    claim_behind(table, seat, gate, kind, begin, most)
+}
+
+/// Claims the first record of a kind that it finds free behind this one, which was not free, row by row, until it has tried so many
+/// with this one; answers the record's number, and how many it tried with this one.
+fn claim_behind<G: Gate>(
+    table: &HotTable,
+    seat: &mut TableSeat,
+    gate: &mut G,
+    kind: RecordKind,
+    begin: u32,
+    most: u32,
+) -> (Option<u32>, u32)
+    requires own { IsSeatOf table.now seat.old }
+    requires kind { IsKindOf kind table.now.layout }
+    requires low { begin < count_of kind table.now.layout }
+    requires some { 1 ≤ most }
+    requires few { most ≤ count_of kind table.now.layout }
+    ensures few { result.1 ≤ most }
+    ensures tries { let n = count_of kind table.now.layout in
+        GoesOnBehind table.now G.becomes (record_of kind) n begin most result.0 result.1 (seat.old, gate.old) (seat.new, gate.new) }
+{
+    let layout = table.layout();
+    let all = kind.count(layout);
     let mut number = first(begin + 1, all);
     let mut tried = 1;
     while tried < most {
         let (end, size) = kind.row_at(&layout, number);
         let count = (end - number).min(most - tried);
         if let Some(index) = claim_in_row(table, seat, gate, kind, number, count, size) {
-            *left -= tried + index + 1;
-            return Some(number + index);
+            return (Some(number + index), tried + index + 1);
         }
         tried += count;
         number = first(number + count, all);
     }
-    *left -= most;
-    None
+    (None, most)
 }
 
 /// Claims the first record of a kind that it finds free, of so many from this number on, each of which begins `size` words behind
