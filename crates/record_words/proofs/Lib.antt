@@ -15,6 +15,7 @@ pub mod Nodes
 pub mod Offsets
 pub mod Packings
 pub mod Parts
+pub mod Runs
 pub mod Spelled
 pub mod Spellings
 pub mod Unused
