@@ -123,6 +123,9 @@ module _ {G : Type 0} (table : TableView) (becomes : G → Event → G → Type 
   pub one_on : (r : Rec) (a b : SeatView × G) → ClaimsOne table becomes r a b → WorksOn table becomes a b
   one_on r a b one = claims_on (LoadState r 0 ∷ Claim r 0 ∷ []) a b (try_plain r 0) one.does
 
+  pub one_steps : (r : Rec) (a b : SeatView × G) → ClaimsOne table becomes r a b → b.0.known.steps ≡ a.0.known.steps + 2
+  one_steps r a b one = ap (λ (z : Known). z.steps) one.does.rest
+
   pub claim_on : (kind : ℕ → Rec) (n from m : ℕ) (a b : SeatView × G) → Claims table becomes kind n from m a b → WorksOn table becomes a b
   claim_on kind n from m a b claim = goes_more table becomes a claim.before b (none_on kind n from claim.tried a claim.before claim.none) (one_on (kind m) claim.before b claim.one)
 

@@ -1,7 +1,7 @@
 -- Records to mark, one less and none; from a publish to the first of them.
 use Rattle.std.proofs.Common.{◌≡◌, ℕ, ◌+◌, ◌<◌, ◌≤◌, List, [], ◌∷◌, length, get_or, drop, map, refl, sym, ap, subst, ◌∙◌, arith}
 use Rattle.std.specs.Prelude.{All}
-use Rattle.std.proofs.lemmas.List.{drop_more, drop_all}
+use Rattle.std.proofs.lemmas.List.{drop_more, drop_all, length-map}
 use Rattle.std.proofs.lemmas.List.Elements.{All-cons}
 use Rattle.record_words.specs.declared.layout.Layout.{Layout}
 use Rattle.versions.specs.declared.Rec.{Rec}
@@ -62,3 +62,9 @@ module _ {G : Type 0} (table : TableView) (becomes : G → Event → G → Type 
 
   pub given_locks : (ns : List ℕ) → HasJustLocked a.0.known ns → HasJustLocked b.0.known ns
   given_locks ns h = locked_same a.0.known b.0.known ns (ap (λ (z : Known). z.locks) g.does.rest) h
+
+  pub given_anchor : b.0.known.anchor ≡ a.0.known.anchor
+  given_anchor = ap (λ (z : Known). z.anchor) g.does.rest
+
+  pub given_few : b.0.known.steps ≡ a.0.known.steps + length recs
+  given_few = ap (λ (z : Known). z.steps) g.does.rest ∙ ap (λ n. a.0.known.steps + n) (length-map recs (λ r. Release r))

@@ -1,5 +1,5 @@
 -- What the deed has made is published, or all is given back.
-use Rattle.std.proofs.Common.{sym, subst, ap, arith, length}
+use Rattle.std.proofs.Common.{◌≡◌, Err, Ok, sym, subst, ap, arith, length}
 use Rattle.rowex_records.specs.Records.{HoldsJust}
 use Rattle.rowex_reading.proofs.Ways.{way_later}
 use Rattle.rowex_writing.specs.Retiring.{AreInTable}
@@ -10,6 +10,13 @@ use Rattle.rowex_writing.proofs.Locking.{seat_of}
 use Rattle.rowex_writing.proofs.Making.{goes_possible}
 use Rattle.rowex_writing.proofs.Runs.{goes_run, runs_trans, works_run}
 use Rattle.rowex_writing.proofs.attempts.make_change.Goals as goal
+
+-- ---- other answers
+ok_only : {X E A : Type 0} (x : X) (e : E) → Err e ≡ Ok x → A
+ok_only x e is = absurd cc
+
+err_only : {X E A : Type 0} (x : X) (e : E) → Ok x ≡ Err e → A
+err_only x e is = absurd cc
 
 pub publish_change-requires : goal.publish_change-requires
 publish_change-requires g c =
@@ -81,3 +88,12 @@ returns-in-Err-clause-full g c =
 
 pub returns-in-Err-clause-few : goal.returns-in-Err-clause-few
 returns-in-Err-clause-few g c = omega (arith, c.in-Err.ensures.done.few, c.undo.ensures.few, ap length c.as_slice.ensures.value, c.in-Err.ensures.done.full.few)
+
+pub returns-in-Ok-clause-full : goal.returns-in-Ok-clause-full
+returns-in-Ok-clause-full g c = tt
+
+pub returns-in-Ok-clause-leafless : goal.returns-in-Ok-clause-leafless
+returns-in-Ok-clause-leafless g c = λ take is. err_only _ _ is
+
+pub returns-in-Err-clause-done : goal.returns-in-Err-clause-done
+returns-in-Err-clause-done g c = λ is. ok_only _ _ is

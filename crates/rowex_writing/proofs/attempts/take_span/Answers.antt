@@ -1,5 +1,5 @@
 -- The locks are taken, and what is found under them is what the search found; or all are given back.
-use Rattle.std.proofs.Common.{◌≡◌, true, false, inr, ◌∙◌, arith}
+use Rattle.std.proofs.Common.{◌≡◌, true, false, inl, inr, sym, ◌∙◌, arith}
 use Rattle.rowex_reading.proofs.Seeing.{later_trans}
 use Rattle.rowex_writing.proofs.Onward.{longer, run_possible, run_seat}
 use Rattle.rowex_writing.proofs.Confirming.{span_later}
@@ -112,3 +112,18 @@ returns-clause-busy g c t m w =
     let moved = c.check_span.ensures.changed m there c.if-check_span.false in
     let more = longer c.check_span.new.seat.known c.undo.new.seat.known (works_later table g.G.Gate.becomes (c.check_span.new.seat, c.check_span.new.gate) (c.undo.new.seat, c.undo.new.gate) c.undo.ensures.works) in
     inr (omega (arith, moved, more))
+
+pub returns-then-not-lock_span-clause-taken : goal.returns-then-not-lock_span-clause-taken
+returns-then-not-lock_span-clause-taken g c = λ e. not_taken e
+
+pub returns-then-not-lock_span-clause-busy : goal.returns-then-not-lock_span-clause-busy
+returns-then-not-lock_span-clause-busy g c = λ e m w. inl (c.lock_span.ensures.refused c.if-not-lock_span.true).1
+
+pub returns-then-check_span-clause-busy : goal.returns-then-check_span-clause-busy
+returns-then-check_span-clause-busy g c = λ e. not_taken (sym e)
+
+pub returns-clause-taken : goal.returns-clause-taken
+returns-clause-taken g c = λ e. not_taken e
+
+pub undo-requires-clause-records : goal.undo-requires-clause-records
+undo-requires-clause-records g c = λ k d low. absurd (omega (arith, low))

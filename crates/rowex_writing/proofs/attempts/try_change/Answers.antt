@@ -1,5 +1,5 @@
 -- A refusal, or the change.
-use Rattle.std.proofs.Common.{◌≡◌, Err, ap, sym, subst, ◌∙◌, arith}
+use Rattle.std.proofs.Common.{◌≡◌, Err, Ok, ap, sym, subst, ◌∙◌, arith}
 use Rattle.rowex_reading.proofs.Seeing.{later_trans}
 use Rattle.rowex_writing.specs.Changes.{IsDeedChange}
 use Rattle.rowex_writing.proofs.Attempted.{changed_run}
@@ -8,6 +8,13 @@ use Rattle.rowex_writing.proofs.Keeping.{changed_since}
 use Rattle.rowex_writing.proofs.Runs.{run_loaded}
 use Rattle.rowex_writing.specs.declared.attempts.TryFault.TheVariants.{FullLeaves}
 use Rattle.rowex_writing.proofs.attempts.try_change.Goals as goal
+
+-- ---- other answers
+ok_only : {X E A : Type 0} (x : X) (e : E) → Err e ≡ Ok x → A
+ok_only x e is = absurd cc
+
+err_only : {X E A : Type 0} (x : X) (e : E) → Ok x ≡ Err e → A
+err_only x e is = absurd cc
 
 pub take_span-requires-clause-way : goal.take_span-requires-clause-way
 take_span-requires-clause-way g c = (c.requires.planned.0, c.requires.planned.2)
@@ -60,3 +67,25 @@ pub returns-in-Err-clause-leafless : goal.returns-in-Err-clause-leafless
 returns-in-Err-clause-leafless g c take is =
     let same : c.refusal_of.result ≡ FullLeaves = cc in
     c.make_change.ensures.leafless take (c.in-Err.is ∙ ap Err (leaves_refused c.in-Err.full (sym c.refusal_of.ensures ∙ same)))
+
+pub returns-then-not-take_span-clause-rest : goal.returns-then-not-take_span-clause-rest
+returns-then-not-take_span-clause-rest g c = c.take_span.ensures.rest c.if-not-take_span.true
+
+pub returns-then-not-take_span-clause-done : goal.returns-then-not-take_span-clause-done
+returns-then-not-take_span-clause-done g c = λ is. ok_only _ _ is
+
+pub returns-in-Ok-clause-rest : goal.returns-in-Ok-clause-rest
+returns-in-Ok-clause-rest g c =
+    let (x, was, is, changed) = c.make_change.ensures.done c.in-Ok.is in changed.rest
+
+pub returns-in-Ok-clause-refused : goal.returns-in-Ok-clause-refused
+returns-in-Ok-clause-refused g c = tt
+
+pub returns-in-Ok-clause-leafless : goal.returns-in-Ok-clause-leafless
+returns-in-Ok-clause-leafless g c = λ take is. err_only _ _ is
+
+pub returns-in-Err-clause-rest : goal.returns-in-Err-clause-rest
+returns-in-Err-clause-rest g c = c.in-Err.ensures.full.rest
+
+pub returns-in-Err-clause-done : goal.returns-in-Err-clause-done
+returns-in-Err-clause-done g c = λ is. ok_only _ _ is

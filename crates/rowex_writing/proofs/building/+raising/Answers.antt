@@ -1,14 +1,16 @@
 -- One level, and then the rest of the way up.
-use Rattle.std.proofs.Common.{◌≡◌, ◌≢◌, ℕ, ◌+◌, ◌-◌, ◌<◌, ◌≤◌, List, length, get_or, ap, sym, subst, ◌∙◌, arith, rules, Some}
+use Rattle.std.proofs.Common.{◌≡◌, ◌≢◌, ℕ, ◌+◌, ◌-◌, ◌*◌, ◌<◌, ◌≤◌, List, length, get_or, ap, sym, subst, ◌∙◌, arith, rules, Some}
 use Rattle.std.specs.Prelude.{slice_get}
 use Rattle.std.proofs.lemmas.Option.{slice_get-get_or, slice_get_within, get_or_from_slice_get}
 use Rattle.insert_cases.specs.declared.choice.Step.{Step}
 use Rattle.insert_cases.proofs.Choosing.{some_injective}
 use Rattle.versions.specs.Trades.{IsOneOf}
 use Rattle.rowex_core.specs.Reading.{node_words_of}
+use Rattle.rowex_writing.specs.Building.{IsSplit}
 use Rattle.rowex_writing.specs.Going.{HasLocked}
 use Rattle.rowex_writing.proofs.Locking.{goes_more}
 use Rattle.rowex_writing.proofs.Lifting.{fits_above, up_there, up_below, up_next, rising_on_at_end, settled_at_end, up_done}
+use Rattle.rowex_writing.proofs.Counting.{entry_few, entry_more, level_few, level_more, levels_few, levels_more}
 use Rattle.rowex_writing.proofs.building.+raising.Goals as goal
 
 abbrev no_step : Step
@@ -29,6 +31,16 @@ next level end ne le = omega (arith, ne)
 
 upto : (level end : ℕ) → level ≢ end → end ≤ level → end ≤ level - 1
 upto level end ne le = omega (arith, ne)
+
+below : (level end : ℕ) → level ≢ end → end ≤ level → end < level
+below level end ne le = omega (arith, ne)
+
+-- room for one more, and for two
+room_one : (made level end most : ℕ) → made + 2 * (level - end) < most → made < most
+room_one made level end most room = omega arith
+
+room_two : (made level end most : ℕ) → level ≢ end → end ≤ level → made + 2 * (level - end) < most → made + 1 < most
+room_two made level end most ne le room = omega (arith, ne)
 
 pub raise_on-settle-requires-clause-risen : goal.raise_on-settle-requires-clause-risen
 raise_on-settle-requires-clause-risen g t c =
@@ -110,3 +122,75 @@ raise_on-returns-then-level-rise-clause-low g t c = λ s words at h.
 
 pub raise_above-returns-clause-low : goal.raise_above-returns-clause-low
 raise_above-returns-clause-low g t c = λ s words at h. c.raise_on.ensures.low s words at (subst (IsOneOf (record { node = s.number; words = words })) (sym c.in_ok-next-in-Split.ensures.goes.stays.1) h)
+
+pub raise_on-bounds-way-level : goal.raise_on-bounds-way-level
+raise_on-bounds-way-level g t c = slice_get_within c.args.way.now c.args.rise.level c.requires.up.step c.requires.up.at
+
+pub raise_on-settle-requires-clause-room : goal.raise_on-settle-requires-clause-room
+raise_on-settle-requires-clause-room g t c = room_one _ c.args.rise.level c.args.rise.end _ c.requires.room
+
+pub raise_on-returns-then-level-rise-clause-few : goal.raise_on-returns-then-level-rise-clause-few
+raise_on-returns-then-level-rise-clause-few g t c = entry_few _ _ _ _ c.args.rise.end c.args.rise.level c.settle.ensures.few
+
+pub raise_on-returns-clause-walk : goal.raise_on-returns-clause-walk
+raise_on-returns-clause-walk g t c = c.raise_above.ensures.walk
+
+pub raise_on-returns-clause-few : goal.raise_on-returns-clause-few
+raise_on-returns-clause-few g t c = c.raise_above.ensures.few
+
+pub raise_above-unreachable-requires : goal.raise_above-unreachable-requires
+raise_above-unreachable-requires g t c = subst IsSplit c.in-Whole.is (c.requires.up.split (below c.args.rise.level c.args.rise.end c.requires.above c.requires.up.upto))
+
+pub raise_above-overflow_sub-above : goal.raise_above-overflow_sub-above
+raise_above-overflow_sub-above g t c = let h = below c.args.rise.level c.args.rise.end c.requires.above c.requires.up.upto in omega (arith, h)
+
+pub raise_above-raise_level-requires-clause-room : goal.raise_above-raise_level-requires-clause-room
+raise_above-raise_level-requires-clause-room g t c = room_two _ c.args.rise.level c.args.rise.end _ c.requires.above c.requires.up.upto c.requires.room
+
+pub raise_above-returns-in_err-next-in-Split-clause-goes : goal.raise_above-returns-in_err-next-in-Split-clause-goes
+raise_above-returns-in_err-next-in-Split-clause-goes g t c = c.in_err-next-in-Split.ensures.goes
+
+pub raise_above-returns-in_err-next-in-Split-clause-low : goal.raise_above-returns-in_err-next-in-Split-clause-low
+raise_above-returns-in_err-next-in-Split-clause-low g t c = λ s words at h. rw c.from_residual.ensures tt
+
+pub raise_above-returns-in_err-next-in-Split-clause-walk : goal.raise_above-returns-in_err-next-in-Split-clause-walk
+raise_above-returns-in_err-next-in-Split-clause-walk g t c = λ since w. rw c.from_residual.ensures (c.in_err-next-in-Split.ensures.walk since w)
+
+pub raise_above-returns-in_err-next-in-Split-clause-few : goal.raise_above-returns-in_err-next-in-Split-clause-few
+raise_above-returns-in_err-next-in-Split-clause-few g t c = rw c.from_residual.ensures (level_few _ _ _ _ c.args.rise.end c.args.rise.level c.in_err-next-in-Split.ensures.few)
+
+pub raise_above-returns-clause-walk : goal.raise_above-returns-clause-walk
+raise_above-returns-clause-walk g t c = λ since w. c.raise_on.ensures.walk since (c.in_ok-next-in-Split.ensures.walk since w)
+
+pub raise_above-returns-clause-few : goal.raise_above-returns-clause-few
+raise_above-returns-clause-few g t c = levels_few _ _ _ _ _ c.args.rise.end c.args.rise.level (below c.args.rise.level c.args.rise.end c.requires.above c.requires.up.upto) c.in_ok-next-in-Split.ensures.few c.raise_on.ensures.few
+
+pub raise_on-returns-then-level-rise-clause-goes : goal.raise_on-returns-then-level-rise-clause-goes
+raise_on-returns-then-level-rise-clause-goes g t c = c.settle.ensures.goes
+
+pub raise_on-returns-then-level-rise-clause-more : goal.raise_on-returns-then-level-rise-clause-more
+raise_on-returns-then-level-rise-clause-more g t c = entry_more _ _ (c.args.rise.level - c.args.rise.end) c.settle.ensures.more
+
+pub raise_on-returns-then-level-rise-clause-walk : goal.raise_on-returns-then-level-rise-clause-walk
+raise_on-returns-then-level-rise-clause-walk g t c = c.settle.ensures.walk
+
+pub raise_on-returns-clause-goes : goal.raise_on-returns-clause-goes
+raise_on-returns-clause-goes g t c = c.raise_above.ensures.goes
+
+pub raise_on-returns-clause-made : goal.raise_on-returns-clause-made
+raise_on-returns-clause-made g t c = c.raise_above.ensures.made
+
+pub raise_on-returns-clause-low : goal.raise_on-returns-clause-low
+raise_on-returns-clause-low g t c = c.raise_above.ensures.low
+
+pub raise_on-returns-clause-more : goal.raise_on-returns-clause-more
+raise_on-returns-clause-more g t c = c.raise_above.ensures.more
+
+pub raise_above-returns-in_err-next-in-Split-clause-more : goal.raise_above-returns-in_err-next-in-Split-clause-more
+raise_above-returns-in_err-next-in-Split-clause-more g t c = level_more _ _ c.args.rise.end c.args.rise.level (below c.args.rise.level c.args.rise.end c.requires.above c.requires.up.upto) c.in_err-next-in-Split.ensures.more
+
+pub raise_above-returns-clause-more : goal.raise_above-returns-clause-more
+raise_above-returns-clause-more g t c = levels_more _ _ _ c.args.rise.end c.args.rise.level (below c.args.rise.level c.args.rise.end c.requires.above c.requires.up.upto) c.in_ok-next-in-Split.ensures.more c.raise_on.ensures.more
+
+pub raise_on-offset_bounds-way-level : goal.raise_on-offset_bounds-way-level
+raise_on-offset_bounds-way-level g t c = let h = slice_get_within c.args.way.now c.args.rise.level c.requires.up.step c.requires.up.at in search (rules, h)

@@ -2,6 +2,7 @@
 use Rattle.std.proofs.Common.{◌≡◌, ◌<◌, false, true, refl, sym, subst, ◌∙◌, length, arith}
 use Rattle.insert_cases.specs.declared.growth.Grown.TheVariants.{One as Single}
 use Rattle.rowex_writing.specs.Building.{IsMadeFrom}
+use Rattle.rowex_writing.proofs.Counting.{one_few, one_more}
 use Rattle.rowex_writing.proofs.Lifting.{grown_for}
 use Rattle.rowex_writing.proofs.Remade.{takes_read, takes_same}
 use Rattle.rowex_writing.proofs.building.make_by_value.Goals as goal
@@ -56,3 +57,57 @@ returns-clause-made g c = λ news node takes b.
           }),
       building,
     )
+
+pub returns-clause-few : goal.returns-clause-few
+returns-clause-few g c = one_few _ _ _ _ c.in_ok-entry.ensures.few
+
+pub returns-then-count-eq32-clause-few : goal.returns-then-count-eq32-clause-few
+returns-then-count-eq32-clause-few g c = c.in_ok-risen.ensures.few
+
+pub returns-in_err-entry-clause-made : goal.returns-in_err-entry-clause-made
+returns-in_err-entry-clause-made g c = λ news node takes b. rw c.from_residual-in_err-entry.ensures (c.in_err-entry.ensures.made news b)
+
+pub returns-in_err-entry-clause-walk : goal.returns-in_err-entry-clause-walk
+returns-in_err-entry-clause-walk g c = λ since w. rw c.from_residual-in_err-entry.ensures (c.in_err-entry.ensures.walk since w)
+
+pub returns-in_err-entry-clause-few : goal.returns-in_err-entry-clause-few
+returns-in_err-entry-clause-few g c = rw c.from_residual-in_err-entry.ensures (one_few _ _ _ _ c.in_err-entry.ensures.few)
+
+pub returns-in_err-risen-clause-made : goal.returns-in_err-risen-clause-made
+returns-in_err-risen-clause-made g c = λ news node takes b. rw c.from_residual.ensures (c.in_err-risen.ensures.made news b)
+
+pub returns-in_err-risen-clause-walk : goal.returns-in_err-risen-clause-walk
+returns-in_err-risen-clause-walk g c = λ since w. rw c.from_residual.ensures (c.in_err-risen.ensures.walk since w)
+
+pub returns-in_err-risen-clause-few : goal.returns-in_err-risen-clause-few
+returns-in_err-risen-clause-few g c = rw c.from_residual.ensures c.in_err-risen.ensures.few
+
+pub returns-clause-goes : goal.returns-clause-goes
+returns-clause-goes g c = c.in_ok-entry.ensures.goes
+
+pub returns-clause-walk : goal.returns-clause-walk
+returns-clause-walk g c = c.in_ok-entry.ensures.walk
+
+pub returns-clause-more : goal.returns-clause-more
+returns-clause-more g c = one_more _ _ c.in_ok-entry.ensures.more
+
+pub returns-then-count-eq32-clause-goes : goal.returns-then-count-eq32-clause-goes
+returns-then-count-eq32-clause-goes g c = c.in_ok-risen.ensures.goes
+
+pub returns-then-count-eq32-clause-walk : goal.returns-then-count-eq32-clause-walk
+returns-then-count-eq32-clause-walk g c = c.in_ok-risen.ensures.walk
+
+pub returns-then-count-eq32-clause-more : goal.returns-then-count-eq32-clause-more
+returns-then-count-eq32-clause-more g c = c.in_ok-risen.ensures.more
+
+pub returns-in_err-entry-clause-goes : goal.returns-in_err-entry-clause-goes
+returns-in_err-entry-clause-goes g c = c.in_err-entry.ensures.goes
+
+pub returns-in_err-entry-clause-more : goal.returns-in_err-entry-clause-more
+returns-in_err-entry-clause-more g c = one_more _ _ c.in_err-entry.ensures.more
+
+pub returns-in_err-risen-clause-goes : goal.returns-in_err-risen-clause-goes
+returns-in_err-risen-clause-goes g c = c.in_err-risen.ensures.goes
+
+pub returns-in_err-risen-clause-more : goal.returns-in_err-risen-clause-more
+returns-in_err-risen-clause-more g c = c.in_err-risen.ensures.more

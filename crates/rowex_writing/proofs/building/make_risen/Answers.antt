@@ -1,5 +1,7 @@
 -- The upper half, and then the lower one.
-use Rattle.std.proofs.Common.{◌++◌, refl}
+use Rattle.std.proofs.Common.{◌++◌, ◌∷◌, refl, arith}
+use Rattle.rowex_rights.specs.Rises.{made_of_node}
+use Rattle.rowex_writing.proofs.Counting.{one_few, one_more, two_few, two_more}
 use Rattle.rowex_writing.proofs.Locking.{goes_more}
 use Rattle.rowex_writing.proofs.building.make_risen.Goals as goal
 
@@ -20,3 +22,71 @@ returns-in_ok-zero-in-Two-clause-made g c = λ news b.
     let (upper, high, next) = c.in_ok-one-in-Two.ensures.made news b in
     let (lower, low, last) = c.in_ok-zero-in-Two.ensures.made (upper ++ news) next in
     rw c.in-Two.is (lower ++ (upper ++ news), (lower, upper, refl, low, high, refl), last)
+
+pub make_node-requires-clause-room : goal.make_node-requires-clause-room
+make_node-requires-clause-room g c = let room = c.requires.room in omega arith
+
+pub returns-in_err-entry-in-One-clause-made : goal.returns-in_err-entry-in-One-clause-made
+returns-in_err-entry-in-One-clause-made g c = λ news b. rw c.from_residual.ensures (c.in_err-entry-in-One.ensures.made news b)
+
+pub returns-in_err-entry-in-One-clause-walk : goal.returns-in_err-entry-in-One-clause-walk
+returns-in_err-entry-in-One-clause-walk g c = λ since w. rw c.from_residual.ensures (c.in_err-entry-in-One.ensures.walk since w)
+
+pub returns-in_err-entry-in-One-clause-few : goal.returns-in_err-entry-in-One-clause-few
+returns-in_err-entry-in-One-clause-few g c = rw c.from_residual.ensures (one_few _ _ _ _ c.in_err-entry-in-One.ensures.few)
+
+pub returns-in_ok-entry-in-One-clause-made : goal.returns-in_ok-entry-in-One-clause-made
+returns-in_ok-entry-in-One-clause-made g c = λ news b.
+    let (m, is, has, next) = c.in_ok-entry-in-One.ensures.made news b in
+    rw c.in-One.is (made_of_node m c.in-One.node ∷ news, (m, is, refl, has), next)
+
+pub returns-in_ok-entry-in-One-clause-few : goal.returns-in_ok-entry-in-One-clause-few
+returns-in_ok-entry-in-One-clause-few g c = one_few _ _ _ _ c.in_ok-entry-in-One.ensures.few
+
+pub returns-in_err-one-in-Two-clause-made : goal.returns-in_err-one-in-Two-clause-made
+returns-in_err-one-in-Two-clause-made g c = λ news b. rw c.from_residual-in_err-one-in-Two.ensures (c.in_err-one-in-Two.ensures.made news b)
+
+pub returns-in_err-one-in-Two-clause-walk : goal.returns-in_err-one-in-Two-clause-walk
+returns-in_err-one-in-Two-clause-walk g c = λ since w. rw c.from_residual-in_err-one-in-Two.ensures (c.in_err-one-in-Two.ensures.walk since w)
+
+pub returns-in_err-one-in-Two-clause-few : goal.returns-in_err-one-in-Two-clause-few
+returns-in_err-one-in-Two-clause-few g c = rw c.from_residual-in_err-one-in-Two.ensures (one_few _ _ _ _ c.in_err-one-in-Two.ensures.few)
+
+pub returns-in_err-zero-in-Two-clause-walk : goal.returns-in_err-zero-in-Two-clause-walk
+returns-in_err-zero-in-Two-clause-walk g c = λ since w. rw c.from_residual-in_err-zero-in-Two.ensures (c.in_err-zero-in-Two.ensures.walk since (c.in_ok-one-in-Two.ensures.walk since w))
+
+pub returns-in_err-zero-in-Two-clause-few : goal.returns-in_err-zero-in-Two-clause-few
+returns-in_err-zero-in-Two-clause-few g c = rw c.from_residual-in_err-zero-in-Two.ensures (two_few _ _ _ _ _ c.in_ok-one-in-Two.ensures.few c.in_err-zero-in-Two.ensures.few)
+
+pub returns-in_ok-zero-in-Two-clause-walk : goal.returns-in_ok-zero-in-Two-clause-walk
+returns-in_ok-zero-in-Two-clause-walk g c = λ since w. c.in_ok-zero-in-Two.ensures.walk since (c.in_ok-one-in-Two.ensures.walk since w)
+
+pub returns-in_ok-zero-in-Two-clause-few : goal.returns-in_ok-zero-in-Two-clause-few
+returns-in_ok-zero-in-Two-clause-few g c = two_few _ _ _ _ _ c.in_ok-one-in-Two.ensures.few c.in_ok-zero-in-Two.ensures.few
+
+pub returns-in_err-entry-in-One-clause-goes : goal.returns-in_err-entry-in-One-clause-goes
+returns-in_err-entry-in-One-clause-goes g c = c.in_err-entry-in-One.ensures.goes
+
+pub returns-in_err-entry-in-One-clause-more : goal.returns-in_err-entry-in-One-clause-more
+returns-in_err-entry-in-One-clause-more g c = one_more _ _ c.in_err-entry-in-One.ensures.more
+
+pub returns-in_ok-entry-in-One-clause-goes : goal.returns-in_ok-entry-in-One-clause-goes
+returns-in_ok-entry-in-One-clause-goes g c = c.in_ok-entry-in-One.ensures.goes
+
+pub returns-in_ok-entry-in-One-clause-walk : goal.returns-in_ok-entry-in-One-clause-walk
+returns-in_ok-entry-in-One-clause-walk g c = c.in_ok-entry-in-One.ensures.walk
+
+pub returns-in_ok-entry-in-One-clause-more : goal.returns-in_ok-entry-in-One-clause-more
+returns-in_ok-entry-in-One-clause-more g c = one_more _ _ c.in_ok-entry-in-One.ensures.more
+
+pub returns-in_err-one-in-Two-clause-goes : goal.returns-in_err-one-in-Two-clause-goes
+returns-in_err-one-in-Two-clause-goes g c = c.in_err-one-in-Two.ensures.goes
+
+pub returns-in_err-one-in-Two-clause-more : goal.returns-in_err-one-in-Two-clause-more
+returns-in_err-one-in-Two-clause-more g c = one_more _ _ c.in_err-one-in-Two.ensures.more
+
+pub returns-in_err-zero-in-Two-clause-more : goal.returns-in_err-zero-in-Two-clause-more
+returns-in_err-zero-in-Two-clause-more g c = two_more _ _ _ c.in_ok-one-in-Two.ensures.more c.in_err-zero-in-Two.ensures.more
+
+pub returns-in_ok-zero-in-Two-clause-more : goal.returns-in_ok-zero-in-Two-clause-more
+returns-in_ok-zero-in-Two-clause-more g c = two_more _ _ _ c.in_ok-one-in-Two.ensures.more c.in_ok-zero-in-Two.ensures.more

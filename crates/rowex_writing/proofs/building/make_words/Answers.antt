@@ -1,8 +1,10 @@
 -- A claim and its fills are one record more.
-use Rattle.std.proofs.Common.{◌∷◌, [], ◌++◌, List, ℕ, ap, sym, subst, ◌∙◌, arith}
+use Rattle.std.proofs.Common.{◌∷◌, [], ◌++◌, List, ℕ, length, ap, sym, subst, ◌∙◌, arith}
+use Rattle.std.proofs.lemmas.List.{length-append}
 use Rattle.compound_node.specs.declared.entries.Entry.TheVariants.{Node}
 use Rattle.versions.specs.declared.Rec.TheVariants.{Node as a_node}
 use Rattle.record_words.proofs.Growing.{first_told}
+use Rattle.rowex_records.proofs.Claimed.{more_is_claimed}
 use Rattle.rowex_rights.specs.Rises.{made_of_node}
 use Rattle.rowex_writing.specs.Building.{IsBuilding}
 use Rattle.rowex_writing.specs.Walks.{IsClaimWalk}
@@ -52,3 +54,29 @@ returns-clause-walk g c = λ since w.
 
 pub returns-clause-few : goal.returns-clause-few
 returns-clause-few g c = omega (arith, c.in_ok-number.ensures.few, c.fill_words.ensures.steps)
+
+pub returns-in_err-number-clause-goes : goal.returns-in_err-number-clause-goes
+returns-in_err-number-clause-goes g c = c.in_err-number.ensures.goes
+
+pub returns-in_err-number-clause-more : goal.returns-in_err-number-clause-more
+returns-in_err-number-clause-more g c = omega (arith, ap length c.claim_node.ensures.made)
+
+pub returns-clause-more : goal.returns-clause-more
+returns-clause-more g c =
+    let items = c.claim_node.new.build.made.items in
+    omega (arith, ap length c.push.ensures.items, ap length c.claim_node.ensures.made, length-append items (a_node c.in_ok-number.number ∷ []))
+
+pub push-requires : goal.push-requires
+push-requires g c = let same = ap length c.claim_node.ensures.made in (omega arith, omega (arith, same, c.requires.room))
+
+pub fill_words-requires-clause-range : goal.fill_words-requires-clause-range
+fill_words-requires-clause-range g c = c.in_ok-number.ensures.claims.0
+
+pub fill_words-requires-clause-held : goal.fill_words-requires-clause-held
+fill_words-requires-clause-held g c = more_is_claimed (a_node c.in_ok-number.number) c.args.seat.now.known c.claim_node.new.seat.known c.in_ok-number.ensures.claims.1
+
+pub fill_words-requires-clause-spelling : goal.fill_words-requires-clause-spelling
+fill_words-requires-clause-spelling g c = c.requires.spelling
+
+pub claim_node-requires : goal.claim_node-requires
+claim_node-requires g c = record { building = c.requires.building }

@@ -1,7 +1,9 @@
 -- No class yet; one more in which no record is free; and one in which one is.
-use Rattle.std.proofs.Common.{arith, ◌∙◌}
+use Rattle.std.proofs.Common.{◌+◌, arith, refl, ◌∙◌}
+use Rattle.versions.specs.declared.Rec.TheVariants.{Leaf as a_leaf}
+use Rattle.rowex_records.proofs.Claimed.{more_since}
 use Rattle.rowex_writing.proofs.Classes.{missed_more}
-use Rattle.rowex_writing.proofs.Locking.{goes_more, seat_of}
+use Rattle.rowex_writing.proofs.Locking.{goes_more, goes_none, seat_of}
 use Rattle.rowex_writing.proofs.Making.{steps_rise}
 use Rattle.rowex_writing.proofs.claims.claim_between.Goals as goal
 
@@ -29,3 +31,35 @@ loop-first-preserved g c =
 
 pub returns-clause-few : goal.returns-clause-few
 returns-clause-few g c = omega (arith, c.loop-first.invariant.count, c.loop-first.invariant.within.0, c.loop-first.invariant.within.1)
+
+pub loop-first-init : goal.loop-first-init
+loop-first-init g c = record {
+  within = (omega arith, c.requires.range.0);
+  goes = goes_none c.args.table.now g.G.Gate.becomes (c.args.seat.now, c.args.gate.now);
+  own = refl;
+  missed = λ q low high. absurd (omega (arith, low, high));
+  count = omega arith;
+  later = omega arith;
+}
+
+pub claim_next-requires-clause-kind : goal.claim_next-requires-clause-kind
+claim_next-requires-clause-kind g c = omega (arith, c.min-end.ensures, c.requires.range.1)
+
+pub returns-in-Some-clause-claims : goal.returns-in-Some-clause-claims
+returns-in-Some-clause-claims g c =
+    let (less, holds) = c.in-Some.ensures.claims in (
+      omega (arith, c.loop-first.invariant.within.0),
+      omega (arith, less, c.min-end.ensures),
+      more_since (a_leaf (c.loop-first.first + c.in-Some.number)) c.args.seat.now.known c.loop-first.seat.known c.claim_next.new.seat.known c.loop-first.invariant.own holds,
+    )
+
+pub returns-in-Some-clause-few : goal.returns-in-Some-clause-few
+returns-in-Some-clause-few g c =
+    let i = c.loop-first.invariant in
+    omega (arith, i.within.0, i.count, c.claim_next.ensures.few, c.class_end.ensures.upto.0, c.loop-first-test.true, c.min-end.ensures)
+
+pub returns-clause-claims : goal.returns-clause-claims
+returns-clause-claims g c = (c.loop-first.invariant.own, λ q low high. c.loop-first.invariant.missed q low (omega (arith, high, c.loop-first-test.false)))
+
+pub returns-clause-goes : goal.returns-clause-goes
+returns-clause-goes g c = c.loop-first.invariant.goes

@@ -1,12 +1,21 @@
 -- A later record is claimed, or one before those that were passed by, or none was free.
-use Rattle.std.proofs.Common.{subst, ◌∙◌, ◌<◌}
+use Rattle.std.proofs.Common.{◌≡◌, ℕ, ◌+◌, ◌-◌, ◌*◌, ◌<◌, ◌≤◌, ap, subst, ◌∙◌, arith}
 use Rattle.record_words.specs.declared.layout.Layout.{Layout}
 use Rattle.record_words.specs.Layout.{leaf_size}
+use Rattle.versions.specs.declared.Rec.TheVariants.{Leaf as a_leaf}
+use Rattle.rowex_records.proofs.Claimed.{more_since}
 use Rattle.rowex_writing.specs.Classes.{AllMissedBetween}
 use Rattle.rowex_writing.proofs.Classes.{missed_all}
 use Rattle.rowex_writing.proofs.Locking.{goes_more, seat_of}
 use Rattle.rowex_writing.proofs.Making.{steps_rise}
 use Rattle.rowex_writing.proofs.claims.claim_leaf.Goals as goal
+
+-- the steps of the claims of the later records, and of all
+few_later : (j k from all leaves : ℕ) → all ≡ leaves → j ≤ k + 4 * (all - from) → j ≤ k + 4 * leaves
+few_later j k from all leaves same few = omega arith
+
+few_all : (i j k first from all leaves : ℕ) → all ≡ leaves → first ≤ from → from ≤ all → j ≤ k + 4 * (all - from) → i ≤ j + 4 * (from - first) → i ≤ k + 4 * leaves
+few_all i j k first from all leaves same low high few more = omega arith
 
 pub claim_between-requires-2-clause-own : goal.claim_between-requires-2-clause-own
 claim_between-requires-2-clause-own g c = seat_of c.args.table.now g.G.Gate.becomes (c.args.seat.now, c.args.gate.now) (c.claim_between.new.seat, c.claim_between.new.gate) c.claim_between.ensures.goes c.requires.own
@@ -31,3 +40,43 @@ returns-in_err-number-clause-claims g c =
 
 pub returns-clause-goes : goal.returns-clause-goes
 returns-clause-goes g c = goes_more c.args.table.now g.G.Gate.becomes _ _ _ c.claim_between.ensures.goes c.claim_between-2.ensures.goes
+
+pub claim_between-requires-clause-range : goal.claim_between-requires-clause-range
+claim_between-requires-clause-range g c =
+    let all : c.layout-layout.result.leaves ≡ c.args.table.now.layout.leaves = ap (λ (z : Layout). z.leaves) c.layout-layout.ensures in
+    (c.pass_by-from.ensures.1, omega (arith, all))
+
+pub claim_between-requires-2-clause-range : goal.claim_between-requires-2-clause-range
+claim_between-requires-2-clause-range g c =
+    let all : c.layout-layout.result.leaves ≡ c.args.table.now.layout.leaves = ap (λ (z : Layout). z.leaves) c.layout-layout.ensures in
+    (c.pass_by-from.ensures.0, omega (arith, all, c.pass_by-from.ensures.1))
+
+pub returns-in-Some-clause-claims : goal.returns-in-Some-clause-claims
+returns-in-Some-clause-claims g c =
+    let all : c.layout-layout.result.leaves ≡ c.args.table.now.layout.leaves = ap (λ (z : Layout). z.leaves) c.layout-layout.ensures in
+    let (low, high, holds) = c.in-Some.ensures.claims in (
+      omega (arith, all, high),
+      subst (λ (z : Layout). c.args.words ≤ leaf_size z c.in-Some.number) c.layout-layout.ensures (c.first_with-first.ensures.from c.requires.words c.in-Some.number (omega (arith, low, c.pass_by-from.ensures.0))),
+      holds,
+    )
+
+pub returns-in-Some-clause-few : goal.returns-in-Some-clause-few
+returns-in-Some-clause-few g c =
+    few_later _ _ c.pass_by-from.result c.layout-layout.result.leaves _ (ap (λ (z : Layout). z.leaves) c.layout-layout.ensures) c.in-Some.ensures.few
+
+pub returns-in_err-number-clause-few : goal.returns-in_err-number-clause-few
+returns-in_err-number-clause-few g c =
+    few_all _ _ _ c.first_with-first.result c.pass_by-from.result c.layout-layout.result.leaves _ (ap (λ (z : Layout). z.leaves) c.layout-layout.ensures) c.pass_by-from.ensures.0 c.pass_by-from.ensures.1 c.in_default.ensures.few c.in_err-number.ensures.few
+
+pub returns-clause-claims : goal.returns-clause-claims
+returns-clause-claims g c =
+    let all : c.layout-layout.result.leaves ≡ c.args.table.now.layout.leaves = ap (λ (z : Layout). z.leaves) c.layout-layout.ensures in
+    let (low, high, holds) = c.in_ok-number.ensures.claims in (
+      omega (arith, all, high, c.pass_by-from.ensures.1),
+      subst (λ (z : Layout). c.args.words ≤ leaf_size z c.in_ok-number.number) c.layout-layout.ensures (c.first_with-first.ensures.from c.requires.words c.in_ok-number.number low),
+      more_since (a_leaf c.in_ok-number.number) c.args.seat.now.known c.claim_between.new.seat.known c.claim_between-2.new.seat.known c.in_default.ensures.claims.0 holds,
+    )
+
+pub returns-clause-few : goal.returns-clause-few
+returns-clause-few g c =
+    few_all _ _ _ c.first_with-first.result c.pass_by-from.result c.layout-layout.result.leaves _ (ap (λ (z : Layout). z.leaves) c.layout-layout.ensures) c.pass_by-from.ensures.0 c.pass_by-from.ensures.1 c.in_default.ensures.few c.in_ok-number.ensures.few

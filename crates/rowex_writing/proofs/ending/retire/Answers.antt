@@ -1,6 +1,9 @@
 -- The epoch is loaded, what is unlinked is marked, what stays is unlocked, and the anchor at last.
+use Rattle.std.proofs.Common.{◌∙◌, arith}
 use Rattle.rowex_core.specs.declared.event.Act.TheVariants.{LoadEpoch, Unlock}
 use Rattle.rowex_core.specs.declared.event.Target.TheVariants.{Anchor}
+use Rattle.rowex_table.proofs.ActsLeave.{act_leaves}
+use Rattle.rowex_reading.proofs.Counting.{step_few}
 use Rattle.rowex_writing.proofs.Works.{works_one, works_more, works_seat}
 use Rattle.rowex_writing.proofs.Spans.{locked_same}
 use Rattle.rowex_writing.proofs.Retiring.{due_first}
@@ -39,3 +42,27 @@ returns-else-anchor-clause-works g c =
     let table = c.args.table.now in
     let one = works_one table g.G.Gate.becomes (LoadEpoch c.load_epoch-epoch.result) (c.args.seat.now, c.args.gate.now) (c.load_epoch-epoch.new.seat, c.load_epoch-epoch.new.gate) tt c.load_epoch-epoch.ensures in
     works_more table g.G.Gate.becomes _ _ _ (works_more table g.G.Gate.becomes _ _ _ one c.mark_all.ensures.works) c.unlock_nodes.ensures.works
+
+pub returns-then-anchor-clause-front : goal.returns-then-anchor-clause-front
+returns-then-anchor-clause-front g c =
+    let first = act_leaves c.args.table.now.layout c.args.seat.now.known c.load_epoch-epoch.new.seat.known (LoadEpoch c.load_epoch-epoch.result) c.load_epoch-epoch.ensures.event in
+    let last = act_leaves c.args.table.now.layout c.unlock_nodes.new.seat.known c.unlock.new.seat.known (Unlock Anchor) c.unlock.ensures.event in
+    last.front tt ∙ (c.unlock_nodes.ensures.rest.2 ∙ (c.mark_all.ensures.same.2 ∙ first.front tt))
+
+pub returns-then-anchor-clause-few : goal.returns-then-anchor-clause-few
+returns-then-anchor-clause-few g c =
+    let table = c.args.table.now in
+    let first = step_few table g.G.Gate.becomes (LoadEpoch c.load_epoch-epoch.result) (c.args.seat.now, c.args.gate.now) (c.load_epoch-epoch.new.seat, c.load_epoch-epoch.new.gate) c.load_epoch-epoch.ensures in
+    let last = step_few table g.G.Gate.becomes (Unlock Anchor) (c.unlock_nodes.new.seat, c.unlock_nodes.new.gate) (c.unlock.new.seat, c.unlock.new.gate) c.unlock.ensures in
+    omega (arith, first, last, c.mark_all.ensures.few, c.unlock_nodes.ensures.few)
+
+pub returns-else-anchor-clause-front : goal.returns-else-anchor-clause-front
+returns-else-anchor-clause-front g c =
+    let first = act_leaves c.args.table.now.layout c.args.seat.now.known c.load_epoch-epoch.new.seat.known (LoadEpoch c.load_epoch-epoch.result) c.load_epoch-epoch.ensures.event in
+    c.unlock_nodes.ensures.rest.2 ∙ (c.mark_all.ensures.same.2 ∙ first.front tt)
+
+pub returns-else-anchor-clause-few : goal.returns-else-anchor-clause-few
+returns-else-anchor-clause-few g c =
+    let table = c.args.table.now in
+    let first = step_few table g.G.Gate.becomes (LoadEpoch c.load_epoch-epoch.result) (c.args.seat.now, c.args.gate.now) (c.load_epoch-epoch.new.seat, c.load_epoch-epoch.new.gate) c.load_epoch-epoch.ensures in
+    omega (arith, first, c.mark_all.ensures.few, c.unlock_nodes.ensures.few)

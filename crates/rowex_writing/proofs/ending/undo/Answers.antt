@@ -1,12 +1,14 @@
 -- What is held is given up, what is locked is unlocked, and the anchor at last.
-use Rattle.std.proofs.Common.{sym, subst}
+use Rattle.std.proofs.Common.{sym, subst, ◌∙◌, arith}
 use Rattle.std.specs.Prelude.{slice_range}
 use Rattle.rowex_core.specs.declared.event.Act.TheVariants.{Unlock}
 use Rattle.rowex_core.specs.declared.event.Target.TheVariants.{Anchor}
 use Rattle.rowex_writing.specs.Locks.{HasJustLocked, numbers_of}
+use Rattle.rowex_reading.proofs.Counting.{step_few}
+use Rattle.rowex_writing.proofs.Counting.{slice_few}
 use Rattle.rowex_writing.proofs.Growths.{range_nodes}
 use Rattle.rowex_writing.proofs.Works.{works_one, works_more, works_seat}
-use Rattle.rowex_writing.proofs.Retiring.{given_works, given_locks}
+use Rattle.rowex_writing.proofs.Retiring.{given_works, given_locks, given_anchor, given_few}
 use Rattle.rowex_writing.proofs.ending.undo.Goals as goal
 
 pub unlock_nodes-requires-clause-own : goal.unlock_nodes-requires-clause-own
@@ -40,3 +42,29 @@ returns-else-span-eq0-clause-works g c =
     let table = c.args.table.now in
     let given = given_works table g.G.Gate.becomes c.args.held.now (c.args.seat.now, c.args.gate.now) (c.give_up_all.new.seat, c.give_up_all.new.gate) c.give_up_all.ensures in
     works_more table g.G.Gate.becomes _ _ _ given c.unlock_nodes.ensures.works
+
+pub returns-else-span-eq0-clause-rest : goal.returns-else-span-eq0-clause-rest
+returns-else-span-eq0-clause-rest g c =
+    let rest = c.unlock_nodes.ensures.rest in
+    record {
+      own = rest.0 ∙ c.give_up_all.ensures.own;
+      locks = c.unlock_nodes.ensures.free;
+      anchor = rest.1 ∙ (given_anchor c.args.table.now g.G.Gate.becomes c.args.held.now (c.args.seat.now, c.args.gate.now) (c.give_up_all.new.seat, c.give_up_all.new.gate) c.give_up_all.ensures ∙ c.requires.locked.below (omega (arith, c.if-span-eq0.false)));
+    }
+
+pub returns-else-span-eq0-clause-few : goal.returns-else-span-eq0-clause-few
+returns-else-span-eq0-clause-few g c =
+    let given = given_few c.args.table.now g.G.Gate.becomes c.args.held.now (c.args.seat.now, c.args.gate.now) (c.give_up_all.new.seat, c.give_up_all.new.gate) c.give_up_all.ensures in
+    omega (arith, given, c.first_locked.ensures, c.unlock_nodes.ensures.few, slice_few c.args.way.now c.first_locked.result c.args.span.len, c.if-span-eq0.false)
+
+pub returns-then-span-eq0-clause-few : goal.returns-then-span-eq0-clause-few
+returns-then-span-eq0-clause-few g c =
+    let given = given_few c.args.table.now g.G.Gate.becomes c.args.held.now (c.args.seat.now, c.args.gate.now) (c.give_up_all.new.seat, c.give_up_all.new.gate) c.give_up_all.ensures in
+    omega (
+      arith,
+      given,
+      c.first_locked.ensures,
+      c.unlock_nodes.ensures.few,
+      slice_few c.args.way.now c.first_locked.result c.args.span.len,
+      step_few c.args.table.now g.G.Gate.becomes (Unlock Anchor) (c.unlock_nodes.new.seat, c.unlock_nodes.new.gate) (c.unlock.new.seat, c.unlock.new.gate) c.unlock.ensures,
+    )

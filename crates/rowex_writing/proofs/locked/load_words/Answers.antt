@@ -67,3 +67,9 @@ returns-clause-node g c =
     let first : AreThose c.loop-index.words words 25 = subst (AreThose c.loop-index.words words) at (c.loop-index.invariant.those words h) in
     let (view, is) = first.spelled (omega arith) in
     (view, subst (λ ws. IsNodeOf ws view) (sym (returns-clause-words g c words h)) is)
+
+pub returns-clause-reads : goal.returns-clause-reads
+returns-clause-reads g c = c.loop-index-2.invariant.reads
+
+pub returns-clause-few : goal.returns-clause-few
+returns-clause-few g c = omega (arith, c.loop-index-2.invariant.few, c.loop-index-2.auto.index-end, c.loop-next.invariant.2, c.loop-next.invariant.3)

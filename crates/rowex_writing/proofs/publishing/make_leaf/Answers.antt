@@ -6,6 +6,7 @@ use Rattle.record_words.proofs.Leaves.{leaf_words_parts}
 use Rattle.versions.specs.declared.Rec.TheVariants.{Leaf as a_leaf}
 use Rattle.rowex_core.specs.Cores.{FitsIn}
 use Rattle.rowex_records.specs.Claims.{AllMissedFrom}
+use Rattle.rowex_records.proofs.Claimed.{more_is_claimed}
 use Rattle.rowex_rights.specs.Rises.{made_of_leaf}
 use Rattle.rowex_writing.specs.Building.{IsBuilding}
 use Rattle.rowex_writing.proofs.Locking.{goes_more, seat_of}
@@ -51,3 +52,24 @@ returns-clause-made g c =
 
 pub returns-clause-few : goal.returns-clause-few
 returns-clause-few g c = omega (arith, c.claim_leaf.ensures.few, c.fill_leaf.ensures.steps)
+
+pub returns-in_err-number-clause-goes : goal.returns-in_err-number-clause-goes
+returns-in_err-number-clause-goes g c = c.in_err-number.ensures.goes
+
+pub returns-in_err-number-clause-few : goal.returns-in_err-number-clause-few
+returns-in_err-number-clause-few g c = omega (arith, c.in_err-number.ensures.few)
+
+pub claim_leaf-requires-clause-own : goal.claim_leaf-requires-clause-own
+claim_leaf-requires-clause-own g c = c.requires.own
+
+pub claim_leaf-requires-clause-words : goal.claim_leaf-requires-clause-words
+claim_leaf-requires-clause-words g c = c.words_for.ensures.few
+
+pub fill_leaf-requires-clause-range : goal.fill_leaf-requires-clause-range
+fill_leaf-requires-clause-range g c = c.in_ok-number.ensures.claims.0
+
+pub fill_leaf-requires-clause-held : goal.fill_leaf-requires-clause-held
+fill_leaf-requires-clause-held g c = more_is_claimed (a_leaf c.in_ok-number.number) c.args.seat.now.known c.claim_leaf.new.seat.known c.in_ok-number.ensures.claims.2
+
+pub push-requires : goal.push-requires
+push-requires g c = let none = ap length c.clear.ensures in (omega arith, omega (arith, none))

@@ -1,12 +1,15 @@
 -- What is left of the last node takes its place.
 use Rattle.std.proofs.Common.{rules, ◌≡◌, ◌≤◌, ◌+◌, ◌*◌, [], ◌∷◌, ◌++◌, List, get_or, length, map, ap, sym, subst, Some, refl, arith}
+use Rattle.std.proofs.lemmas.Option.{slice_get_within}
 use Rattle.insert_cases.specs.declared.choice.Step.{Step}
 use Rattle.record_words.specs.Entry.{HasEntryWord, entry_word}
 use Rattle.record_words.specs.declared.layout.Layout.{Layout}
 use Rattle.versions.specs.declared.Rec.TheVariants.{Node as a_node, Leaf as a_leaf}
 use Rattle.rowex_walks.specs.Writer.{removed_change}
 use Rattle.rowex_writing.specs.Changes.{MayPublishOnceReady}
+use Rattle.rowex_writing.specs.Building.{IsBuilding}
 use Rattle.rowex_writing.specs.Counts.{level_steps}
+use Rattle.rowex_writing.proofs.Making.{building_none}
 use Rattle.rowex_writing.proofs.Removing.{IsRaised, last_one, left_raised, leaf_gone_record, low_step, lowest_leads, lowest_locked, may_remake, no_step}
 use Rattle.rowex_writing.proofs.Walked.{walk_begins}
 use Rattle.rowex_writing.proofs.taking.remake_without.Goals as goal
@@ -76,3 +79,41 @@ returns-clause-few g c =
     let whole : c.layout.result.nodes ≡ c.args.table.now.layout.nodes = ap (λ (z : Layout). z.nodes) c.layout.ensures in
     let few : c.raise_without.new.seat.known.steps + 2 * c.raise_without.new.build.left_nodes ≤ c.args.seat.now.known.steps + 2 * c.layout.result.nodes + level_steps + 0 = c.in-Some.ensures.few in
     omega (arith, whole, few)
+
+pub raise_without-requires-clause-building : goal.raise_without-requires-clause-building
+raise_without-requires-clause-building g c =
+    let (m, value, b) = c.requires.below in
+    subst (λ z. IsBuilding c.args.table.now c.args.seat.now z []) (sym c.requires.made) (building_none c.args.table.now c.args.seat.now b.taken.seat b.taken.possible b.taken.own)
+
+pub raise_without-requires-clause-room : goal.raise_without-requires-clause-room
+raise_without-requires-clause-room g c = omega (arith, ap length c.requires.made)
+
+pub returns-in_default-clause-goes : goal.returns-in_default-clause-goes
+returns-in_default-clause-goes g c = c.in_default.ensures.goes
+
+pub returns-in_default-clause-raised : goal.returns-in_default-clause-raised
+returns-in_default-clause-raised g c = λ m value b. tt
+
+pub returns-clause-full : goal.returns-clause-full
+returns-clause-full g c = tt
+
+pub returns-clause-goes : goal.returns-clause-goes
+returns-clause-goes g c = c.in-Some.ensures.goes
+
+pub bounds-job-job : goal.bounds-job-job
+bounds-job-job g c =
+    let job = c.args.job.now in
+    let (m, value, b) = c.requires.below in
+    slice_get_within job.way.now job.span.end _ (low_step c.args.table.now c.args.seat.now m job.key.now job.way.now c.args.number value job.span b)
+
+pub offset_bounds-job-job : goal.offset_bounds-job-job
+offset_bounds-job-job g c =
+    let job = c.args.job.now in
+    let (m, value, b) = c.requires.below in
+    let h = slice_get_within job.way.now job.span.end _ (low_step c.args.table.now c.args.seat.now m job.key.now job.way.now c.args.number value job.span b) in search (rules, h)
+
+pub raise_without-requires-clause-range : goal.raise_without-requires-clause-range
+raise_without-requires-clause-range g c =
+    let job = c.args.job.now in
+    let (m, value, b) = c.requires.below in
+    (b.taken.way_of.nodes job.span.end _ (low_step c.args.table.now c.args.seat.now m job.key.now job.way.now c.args.number value job.span b)).2.range

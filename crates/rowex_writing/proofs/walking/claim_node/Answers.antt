@@ -1,5 +1,5 @@
 -- A record is claimed; or none was free, and those that are made are looked at.
-use Rattle.std.proofs.Common.{◌∙◌, sym, subst, Contains}
+use Rattle.std.proofs.Common.{◌∙◌, sym, subst, Contains, ap, arith, length}
 use Rattle.versions.specs.declared.Rec.TheVariants.{Node as a_node}
 use Rattle.rowex_records.proofs.Claimed.{missed_earlier}
 use Rattle.rowex_writing.specs.Building.{IsBuilding}
@@ -36,3 +36,18 @@ returns-clause-walk g c = λ since w.
     (λ r has. missed_earlier c.look_at.new.seat.known.failed r since c.claim_left-claimed.new.seat.known.steps early (c.look_at.ensures.seen r (subst (λ z. Contains z r) (sym c.as_slice.ensures.value) has)))
     (walk_on a_node c.args.table.now.layout.nodes c.args.table.now g.G.Gate.becomes since (c.claim_left-claimed.new.seat, c.claim_left-claimed.new.gate) (c.look_at.new.seat, c.look_at.new.gate) c.args.build.now.made.items c.args.build.now.made.items
     c.claim_left-claimed.new.supply.next c.claim_left-claimed.new.left c.look_at.ensures.goes (λ r has. has) walk)
+
+pub returns-in-Some-clause-goes : goal.returns-in-Some-clause-goes
+returns-in-Some-clause-goes g c = c.in-Some.ensures.goes
+
+pub returns-in-Some-clause-claims : goal.returns-in-Some-clause-claims
+returns-in-Some-clause-claims g c = c.in-Some.ensures.claims
+
+pub returns-in-Some-clause-walk : goal.returns-in-Some-clause-walk
+returns-in-Some-clause-walk g c = λ since w. c.in-Some.ensures.walk since c.args.build.now.made.items w
+
+pub returns-in-Some-clause-few : goal.returns-in-Some-clause-few
+returns-in-Some-clause-few g c = let few = c.in-Some.ensures.few in omega (arith, few)
+
+pub returns-clause-few : goal.returns-clause-few
+returns-clause-few g c = omega (arith, c.in_default.ensures.few, c.look_at.ensures.few, ap length c.as_slice.ensures.value)

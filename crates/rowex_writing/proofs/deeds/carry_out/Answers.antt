@@ -1,0 +1,52 @@
+-- Each deed is done by the function for it.
+use Rattle.std.proofs.Common.{◌≡◌, ◌∙◌, ℕ, sym, subst}
+use Rattle.rowex_writing.specs.Changes.{HasTakenPlan}
+use Rattle.rowex_writing.specs.Deeds.{CarriesOut}
+use Rattle.rowex_writing.specs.declared.plan.Deed.TheVariants.{Grow, Pair, Put, Take}
+use Rattle.rowex_writing.proofs.deeds.carry_out.Goals as goal
+
+-- ---- only a taking takes a leaf
+put_adds : Put ≡ Take → ⊥
+put_adds is = cc
+
+pair_adds : (position : ℕ) → Pair position ≡ Take → ⊥
+pair_adds position is = cc
+
+grow_adds : (position first last : ℕ) → Grow position first last ≡ Take → ⊥
+grow_adds position first last is = cc
+
+pub put_leaf-requires : goal.put_leaf-requires
+put_leaf-requires g c = record { taken = subst (HasTakenPlan c.args.table.now c.args.seat.now c.args.job.now) c.in-Put.is c.requires.taken }
+
+pub returns-in-Put-clause-done : goal.returns-in-Put-clause-done
+returns-in-Put-clause-done g c = subst (λ d. CarriesOut c.args.table.now g.G.Gate.becomes (c.args.seat.now, c.args.gate.now) (c.put_leaf.new.seat, c.put_leaf.new.gate) c.put_leaf.new.build.made.items c.args.job.now d c.put_leaf.result) (sym c.in-Put.is) c.put_leaf.ensures.done
+
+pub returns-in-Put-clause-leafless : goal.returns-in-Put-clause-leafless
+returns-in-Put-clause-leafless g c = λ take is. put_adds (sym c.in-Put.is ∙ take)
+
+pub pair_leaf-requires : goal.pair_leaf-requires
+pair_leaf-requires g c = record { taken = subst (HasTakenPlan c.args.table.now c.args.seat.now c.args.job.now) c.in-Pair.is c.requires.taken }
+
+pub returns-in-Pair-clause-done : goal.returns-in-Pair-clause-done
+returns-in-Pair-clause-done g c = subst (λ d. CarriesOut c.args.table.now g.G.Gate.becomes (c.args.seat.now, c.args.gate.now) (c.pair_leaf.new.seat, c.pair_leaf.new.gate) c.pair_leaf.new.build.made.items c.args.job.now d c.pair_leaf.result) (sym c.in-Pair.is) c.pair_leaf.ensures.done
+
+pub returns-in-Pair-clause-leafless : goal.returns-in-Pair-clause-leafless
+returns-in-Pair-clause-leafless g c = λ take is. pair_adds c.in-Pair.position (sym c.in-Pair.is ∙ take)
+
+pub grow_node-requires : goal.grow_node-requires
+grow_node-requires g c = record { taken = subst (HasTakenPlan c.args.table.now c.args.seat.now c.args.job.now) c.in-Grow.is c.requires.taken }
+
+pub returns-in-Grow-clause-done : goal.returns-in-Grow-clause-done
+returns-in-Grow-clause-done g c = subst (λ d. CarriesOut c.args.table.now g.G.Gate.becomes (c.args.seat.now, c.args.gate.now) (c.grow_node.new.seat, c.grow_node.new.gate) c.grow_node.new.build.made.items c.args.job.now d c.grow_node.result) (sym c.in-Grow.is) c.grow_node.ensures.done
+
+pub returns-in-Grow-clause-leafless : goal.returns-in-Grow-clause-leafless
+returns-in-Grow-clause-leafless g c = λ take is. grow_adds c.in-Grow.position c.in-Grow.first c.in-Grow.last (sym c.in-Grow.is ∙ take)
+
+pub take_leaf-requires : goal.take_leaf-requires
+take_leaf-requires g c = record { taken = subst (HasTakenPlan c.args.table.now c.args.seat.now c.args.job.now) c.in-Take.is c.requires.taken }
+
+pub returns-in-Take-clause-done : goal.returns-in-Take-clause-done
+returns-in-Take-clause-done g c = subst (λ d. CarriesOut c.args.table.now g.G.Gate.becomes (c.args.seat.now, c.args.gate.now) (c.take_leaf.new.seat, c.take_leaf.new.gate) c.take_leaf.new.build.made.items c.args.job.now d c.take_leaf.result) (sym c.in-Take.is) c.take_leaf.ensures.done
+
+pub returns-in-Take-clause-leafless : goal.returns-in-Take-clause-leafless
+returns-in-Take-clause-leafless g c = λ take. c.take_leaf.ensures.leafless
