@@ -1,5 +1,5 @@
 -- The passes of a new index, one after the other.
-use Rattle.std.proofs.Common.{◌≡◌, ℕ, zero, suc, ◌+◌, List, [], ◌∷◌, ◌++◌, length, Some, refl, ap, subst, arith}
+use Rattle.std.proofs.Common.{◌≡◌, ◌↔◌, ℕ, zero, suc, ◌+◌, List, [], ◌∷◌, ◌++◌, length, Some, refl, ap, subst, arith}
 use Rattle.std.specs.List.{slice_get}
 use mathlib.Core.Option.{some}
 use lib.ListN.{get_elem?}
@@ -41,3 +41,7 @@ rest_of table first s seats h q t e = subst (λ i. IsNewSeatOf table i t) (omega
 -- the pass of a new seat is new
 pub new_pass : (table : TableView) (q : ℕ) (s : SeatView) → IsNewSeatOf table q s → Owns table (pass_of s) × IsNewPass q (pass_of s)
 new_pass table q s new = (new.0, (ap (λ (k : Known). k.pass) new.1, ap (λ (k : Known). k.front) new.1, ap (λ (k : Known). k.notes) new.1))
+
+-- what is told just if something was found is told just if what that means holds
+pub told_as_found : {Told Found Means : Type 0} → (Told ↔ Found) → (Found ↔ Means) → (Told ↔ Means)
+told_as_found told found = ((λ t. found.0 (told.0 t)), (λ m. told.1 (found.1 m)))

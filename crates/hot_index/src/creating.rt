@@ -1,6 +1,6 @@
 //! How an index is made, with its passes.
 
-ghost use Rattle.std.specs.Prelude.{◌≡◌, ◌↔◌, ℕ, Some, Err, IfOk, length, slice_get};
+ghost use Rattle.std.specs.Prelude.{◌≡◌, ◌↔◌, ℕ, Some, Ok, Err, IfOk, IsOk, length, slice_get};
 ghost use mathlib.Core.Option.{some};
 ghost use lib.ListN.{get_elem?};
 ghost use Rattle.record_words.specs.Layout.{HasStock, leaves_of};
@@ -44,8 +44,7 @@ pub fn create(
     ensures leaves { (result ≡ Err (IndexFault.Layout LayoutFault.Leaves)) ↔ (IsPassCount passes × IsNodeCount nodes × ¬ IsLeafCount leaves) }
     ensures memory { result ≡ Err IndexFault.Memory → IsPassCount passes × IsNodeCount nodes × IsLeafCount leaves }
 {
-    let layout = Layout::of(passes, nodes, leaves).map_err(IndexFault::Layout)?;
-    made(alloc, layout).map_err(|_| IndexFault::Memory)
+    made_of(alloc, Layout::of(passes, nodes, leaves))
 }
 
 /// Makes an empty index with this number of passes (1 to 1,024) and this stock of records: 1 to 4,294,967,295 node records, and 1
@@ -64,8 +63,24 @@ pub fn create_with(
     ensures leaves { (result ≡ Err (IndexFault.Layout LayoutFault.Leaves)) ↔ (IsStockPassCount passes × IsRecordCount stock.nodes × ¬ IsRecordCount (leaves_of stock)) }
     ensures memory { result ≡ Err IndexFault.Memory → IsStockPassCount passes × IsRecordCount stock.nodes × IsRecordCount (leaves_of stock) }
 {
-    let stocked = Layout::with_stock(passes, stock).map_err(IndexFault::Layout)?;
-    made(alloc, stocked).map_err(|_| IndexFault::Memory)
+    made_of(alloc, Layout::with_stock(passes, stock))
+}
+
+/// The index of a layout, and its passes, if the numbers that were asked for have a layout.
+fn made_of(
+    alloc: Global,
+    found: Result<Layout, LayoutFault>,
+) -> Result<(Index, Vec<Pass>), IndexFault>
+    ensures layout { IfOk result (λ made. found ≡ Ok made.0.layout) }
+    ensures count { IfOk result (λ made. length made.1.items ≡ made.0.layout.passes) }
+    ensures each { IfOk result (λ made. (q : ℕ) (p : PassView) → slice_get made.1.items q ≡ Some p → Owns made.0 p × IsNewPass q p) }
+    ensures fault { (fault : LayoutFault) → (result ≡ Err (IndexFault.Layout fault)) ↔ (found ≡ Err fault) }
+    ensures memory { result ≡ Err IndexFault.Memory → IsOk found }
+{
+    match found {
+        Ok(layout) => made(alloc, layout).map_err(|_| IndexFault::Memory),
+        Err(fault) => Err(IndexFault::Layout(fault)),
+    }
 }
 
 /// The index of a layout, and its passes.

@@ -29,7 +29,7 @@ loop-seat-preserved c =
     let seat = c.in-Some.seat in
     let steps : into_iter_items c.loop-seat.seat-iterator ≡ seat ∷ into_iter_items c.next.new.self = c.in-Some.ensures.steps.0 in
     let left : AreFrom table (length c.loop-seat.passes.items) (seat ∷ into_iter_items c.next.new.self) = subst (AreFrom table (length c.loop-seat.passes.items)) steps c.loop-seat.invariant.left in
-    let pushed : c.push.new.self.items ≡ c.loop-seat.passes.items ++ pass_of seat ∷ [] = c.in_ok-push.ensures.items ∙ ap (λ (p : PassView). c.loop-seat.passes.items ++ p ∷ []) c.in_ok-new_pass.ensures in
+    let pushed : c.push.new.self.items ≡ c.loop-seat.passes.items ++ pass_of seat ∷ [] = ◌∙◌ {A = List PassView} c.in_ok-push.ensures.items (ap (λ (p : PassView). c.loop-seat.passes.items ++ p ∷ []) c.in_ok-new_pass.ensures) in
     let longer : suc (length c.loop-seat.passes.items) ≡ length c.push.new.self.items = let e = ap length pushed in grind (arith, length-append, e) in
     let shorter = ap length steps in
     let long = c.loop-seat.invariant.long in
