@@ -1,11 +1,13 @@
 -- No leaf, and one more.
-use Rattle.std.proofs.Common.{◌≡◌, ℕ, ◌+◌, ◌*◌, ◌≤◌, arith, get_or}
+use Rattle.std.proofs.Common.{◌≡◌, ℕ, ◌+◌, ◌*◌, ◌≤◌, ap, arith, get_or, subst}
 use Rattle.std.proofs.lemmas.Result.{err_from_is_err_and}
 use Rattle.compound_node.specs.declared.entries.Entry.TheVariants.{Leaf}
 use Rattle.record_words.specs.declared.TheConstants.{LEAF_FIELDS}
+use Rattle.insert_cases.specs.declared.choice.Step.{Step}
 use Rattle.rowex_reading.specs.Reads.{Reads}
 use Rattle.rowex_reading.specs.Seen.{since}
 use Rattle.rowex_reading.proofs.Led.{reader_then, reads_later, reads_none, reads_trans, same_since}
+use Rattle.rowex_scanning.specs.Ahead.{HavePassed}
 use Rattle.rowex_scanning.specs.Directions.{place_ahead}
 use Rattle.rowex_scanning.specs.Scanning.{asked_range}
 use Rattle.rowex_scanning.proofs.Parts.{walk_part}
@@ -41,6 +43,12 @@ loop-index-init g c = record {
   passed = passed_none c.requires.walk c.requires.bound;
 }
 
+pub take_leaf-requires-clause-reader : goal.take_leaf-requires-clause-reader
+take_leaf-requires-clause-reader g c = c.loop-index.invariant.reader
+
+pub take_leaf-requires-clause-origins : goal.take_leaf-requires-clause-origins
+take_leaf-requires-clause-origins g c = c.requires.origins
+
 pub take_leaf-requires-clause-leaf : goal.take_leaf-requires-clause-leaf
 take_leaf-requires-clause-leaf g c =
     let i = c.loop-index.invariant in
@@ -51,6 +59,9 @@ take_leaf-requires-clause-leaf g c =
 pub returns-in_err-take_leaf-clause-reads : goal.returns-in_err-take_leaf-clause-reads
 returns-in_err-take_leaf-clause-reads g c = ended g (goal.at.returns-in_err-take_leaf-clause-reads g c).After-take_leaf
 
+pub returns-in_err-take_leaf-clause-taken : goal.returns-in_err-take_leaf-clause-taken
+returns-in_err-take_leaf-clause-taken g c = rw (err_from_is_err_and c.from_residual.result c.from_residual.ensures.1).1 tt
+
 pub returns-in_err-take_leaf-clause-part : goal.returns-in_err-take_leaf-clause-part
 returns-in_err-take_leaf-clause-part g c =
     let at = (goal.at.returns-in_err-take_leaf-clause-part g c).After-take_leaf in let i = c.loop-index.invariant in
@@ -60,12 +71,18 @@ returns-in_err-take_leaf-clause-part g c =
 pub returns-in-Past-clause-reads : goal.returns-in-Past-clause-reads
 returns-in-Past-clause-reads g c = ended g (goal.at.returns-in-Past-clause-reads g c).After-take_leaf
 
+pub returns-in-Past-clause-part : goal.returns-in-Past-clause-part
+returns-in-Past-clause-part g c = tt
+
 pub returns-in-Past-clause-taken : goal.returns-in-Past-clause-taken
 returns-in-Past-clause-taken g c =
     let at = (goal.at.returns-in-Past-clause-taken g c).After-take_leaf in walk_past (leaf g at) (reads_later c.take_leaf.ensures.reads.2) c.in_ok-take_leaf.ensures.taken (same g at) c.in-Past.is
 
 pub returns-in-Full-clause-reads : goal.returns-in-Full-clause-reads
 returns-in-Full-clause-reads g c = ended g (goal.at.returns-in-Full-clause-reads g c).After-take_leaf
+
+pub returns-in-Full-clause-part : goal.returns-in-Full-clause-part
+returns-in-Full-clause-part g c = tt
 
 pub returns-in-Full-clause-taken : goal.returns-in-Full-clause-taken
 returns-in-Full-clause-taken g c =
@@ -81,3 +98,23 @@ loop-index-preserved g c =
       passed = passed_more (walk_fits c.requires.walk) (let come = c.requires.come in omega (arith, come, c.loop-index-test.true)) i.passed (i.ahead c.loop-index.index c.loop-index-test.true) (reads_later read)
           c.in_ok-take_leaf.ensures.taken c.in-Further.is;
     }
+
+-- Behind the last one, it has passed all of them.
+pub gap_after-top-requires-clause-fits : goal.gap_after-top-requires-clause-fits
+gap_after-top-requires-clause-fits g c = walk_fits c.requires.walk
+
+pub gap_after-top-requires-clause-come : goal.gap_after-top-requires-clause-come
+gap_after-top-requires-clause-come g c = c.requires.come
+
+pub returns-clause-reads : goal.returns-clause-reads
+returns-clause-reads g c = let (n, few, reads) = c.loop-index.invariant.reads in (n, omega (arith, few, c.loop-index.auto.index-end), reads)
+
+pub returns-clause-taken : goal.returns-clause-taken
+returns-clause-taken g c = (
+  ap (λ z. let x : Step = record c.args.top.now { at = z } in x) c.gap_after-top.ensures,
+  subst (λ z. HavePassed c.args.range.now.direction c.loop-index.seat.known (since c.args.seat.now.known) (asked_range c.args.range.now) c.args.top.now c.args._way.now.items z c.args.pairs.now c.loop-index.pairs)
+      (omega (arith, c.loop-index-test.false, c.loop-index.auto.index-end)) c.loop-index.invariant.passed,
+)
+
+pub returns-clause-part : goal.returns-clause-part
+returns-clause-part g c = tt

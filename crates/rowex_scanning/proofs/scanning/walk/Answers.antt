@@ -1,6 +1,7 @@
 -- The steps of the walk.
 use Rattle.std.proofs.Common.{◌≡◌, ℕ, ◌+◌, ◌<◌, ◌≤◌, ◌∷◌, ◌++◌, [], length, ap, sym, subst, ◌∙◌, arith}
 use Rattle.std.specs.Prelude.{IfSome, option_to_list}
+use Rattle.std.proofs.lemmas.Result.{err_from_is_err_and}
 use Rattle.compound_node.specs.declared.entries.Entry.TheVariants.{Node}
 use Rattle.insert_cases.specs.declared.choice.Step.{Step}
 use Rattle.rowex_reading.specs.Seen.{since}
@@ -59,11 +60,29 @@ to_come-requires g c = walk_fits c.loop-seat.invariant.walk
 pub most_together-requires : goal.most_together-requires
 most_together-requires g c = walk_short c.loop-seat.invariant.walk c.loop-seat.invariant.reader.1
 
+pub look_ahead-ahead-requires-clause-reader : goal.look_ahead-ahead-requires-clause-reader
+look_ahead-ahead-requires-clause-reader g c = c.loop-seat.invariant.reader
+
+pub look_ahead-ahead-requires-clause-origins : goal.look_ahead-ahead-requires-clause-origins
+look_ahead-ahead-requires-clause-origins g c = c.requires.origins
+
+pub look_ahead-ahead-requires-clause-fits : goal.look_ahead-ahead-requires-clause-fits
+look_ahead-ahead-requires-clause-fits g c = walk_fits c.loop-seat.invariant.walk
+
+pub look_ahead-ahead-requires-clause-come : goal.look_ahead-ahead-requires-clause-come
+look_ahead-ahead-requires-clause-come g c = omega (arith, c.min-count.ensures, c.to_come.ensures)
+
+pub look_ahead-ahead-requires-clause-most : goal.look_ahead-ahead-requires-clause-most
+look_ahead-ahead-requires-clause-most g c = let most = c.most_together.ensures.most in omega (arith, most, c.min-count.ensures)
+
 pub look_ahead-ahead-requires-clause-places : goal.look_ahead-ahead-requires-clause-places
 look_ahead-ahead-requires-clause-places g c = (since c.args.seat.now.known, has_places g (goal.at.look_ahead-ahead-requires-clause-places g c).After-min-count)
 
 pub take_leaves-requires-clause-reader : goal.take_leaves-requires-clause-reader
 take_leaves-requires-clause-reader g c = reader_then c.loop-seat.invariant.reader c.look_ahead-ahead.ensures.reads.2
+
+pub take_leaves-requires-clause-origins : goal.take_leaves-requires-clause-origins
+take_leaves-requires-clause-origins g c = c.requires.origins
 
 pub take_leaves-requires-clause-walk : goal.take_leaves-requires-clause-walk
 take_leaves-requires-clause-walk g c =
@@ -81,20 +100,44 @@ take_leaves-requires-clause-ahead g c =
     subst (λ z. AreAhead c.args.range.now.direction c.look_ahead-ahead.new.seat.known z c.loop-seat.top ahead.count c.look_ahead-ahead.new.leaves) (sym (same g at.After-look_ahead-ahead))
     (c.look_ahead-ahead.ensures.ahead (since c.args.seat.now.known) (has_places g at.After-min-count)).first
 
+pub take_leaves-requires-clause-come : goal.take_leaves-requires-clause-come
+take_leaves-requires-clause-come g c = let few = c.look_ahead-ahead.ensures.few in omega (arith, few, c.min-count.ensures, c.to_come.ensures)
+
+pub take_leaves-requires-clause-most : goal.take_leaves-requires-clause-most
+take_leaves-requires-clause-most g c = let few = c.look_ahead-ahead.ensures.few in let most = c.most_together.ensures.most in omega (arith, few, most, c.min-count.ensures)
+
 pub returns-in_err-take_leaves-clause-reads : goal.returns-in_err-take_leaves-clause-reads
 returns-in_err-take_leaves-clause-reads g c =
     let at = (goal.at.returns-in_err-take_leaves-clause-reads g c).After-look_ahead-ahead in let i = c.loop-seat.invariant in
     paid_last i.reads i.walk i.reader.1 c.look_ahead-ahead.result (asked g at) c.look_ahead-ahead.ensures.reads c.take_leaves.ensures.reads
+
+pub returns-in_err-take_leaves-clause-scanned : goal.returns-in_err-take_leaves-clause-scanned
+returns-in_err-take_leaves-clause-scanned g c = rw (err_from_is_err_and c.from_residual.result c.from_residual.ensures.1).1 tt
+
+pub returns-in_err-take_leaves-clause-part : goal.returns-in_err-take_leaves-clause-part
+returns-in_err-take_leaves-clause-part g c = rw (err_from_is_err_and c.from_residual.result c.from_residual.ensures.1).1 c.in_err-take_leaves.ensures.part
 
 pub returns-in-Past-clause-reads : goal.returns-in-Past-clause-reads
 returns-in-Past-clause-reads g c =
     let at = (goal.at.returns-in-Past-clause-reads g c).After-look_ahead-ahead in let i = c.loop-seat.invariant in
     paid_last i.reads i.walk i.reader.1 c.look_ahead-ahead.result (asked g at) c.look_ahead-ahead.ensures.reads c.take_leaves.ensures.reads
 
+pub returns-in-Past-clause-scanned : goal.returns-in-Past-clause-scanned
+returns-in-Past-clause-scanned g c = rw c.in-Past.is at c.in_ok-take_leaves.ensures.taken
+
+pub returns-in-Past-clause-part : goal.returns-in-Past-clause-part
+returns-in-Past-clause-part g c = tt
+
 pub returns-in-Full-clause-reads : goal.returns-in-Full-clause-reads
 returns-in-Full-clause-reads g c =
     let at = (goal.at.returns-in-Full-clause-reads g c).After-look_ahead-ahead in let i = c.loop-seat.invariant in
     paid_last i.reads i.walk i.reader.1 c.look_ahead-ahead.result (asked g at) c.look_ahead-ahead.ensures.reads c.take_leaves.ensures.reads
+
+pub returns-in-Full-clause-scanned : goal.returns-in-Full-clause-scanned
+returns-in-Full-clause-scanned g c = rw c.in-Full.is at c.in_ok-take_leaves.ensures.taken
+
+pub returns-in-Full-clause-part : goal.returns-in-Full-clause-part
+returns-in-Full-clause-part g c = tt
 
 -- The walk is at the node behind them,
 node_ahead : (g : given.Over) (c : In-Some g) → HasPlaces c.args.range.now.direction c.loop-seat.seat.known (since c.args.seat.now.known) c.loop-seat.top c.min-count.result →
