@@ -44,8 +44,8 @@ pub record HasRunCommands {G : Type 0} (index : TableView) (becomes : G → Even
 abbrev pub IsNewPassOf : TableView → ℕ → PassView → Type 0
 IsNewPassOf index q pass = Owns index pass × IsNewPass q pass
 
--- there are a script and a gate for each handle
-abbrev pub AreReady : {C G : Type 0} → List HandleView → List C → List G → Type 0
+-- there are a script and a gate for each handle, or for each pass
+abbrev pub AreReady : {H C G : Type 0} → List H → List C → List G → Type 0
 AreReady handles scripts gates = (length scripts ≡ length handles) × (length gates ≡ length handles)
 
 -- the thread of this handle and gate made these commands

@@ -9,7 +9,9 @@ ghost use Rattle.record_words.specs.Layout.{HasStock, leaf_size, leaves_of};
 ghost use Rattle.record_words.specs.Leaf.{words_for};
 ghost use Rattle.record_words.specs.Limits.{IsLeafCount, IsNodeCount};
 ghost use Rattle.hot_scripts.specs.Parses.{script_commands};
-ghost use Rattle.hot_run.specs.Progress.{IsNewPassOf};
+ghost use Rattle.seat_calls.specs.Passes.{Owns, PassView};
+ghost use Rattle.seat_calls.specs.Traces.{untold};
+ghost use Rattle.hot_run.specs.Progress.{HasRunCommands, IsNewPassOf};
 ghost use Rattle.hot_run.specs.Runs.{AreAnswered, IsAnsweredScript, TakesAll, MayEndBy};
 ghost use Rattle.hot_run.specs.Scripts.{AllFrom};
 ghost use Rattle.hot_run.specs.Told.{IsOfSize, IsSizedFor};
@@ -30,7 +32,7 @@ pub use hot_scripts::script::{MAX_FILES, MAX_SCRIPT};
 use record_words::LeafClass;
 pub use record_words::{MAX_LEAVES, MAX_NODES};
 pub use scripts::{run_scripts, run_scripts_with};
-use std::alloc::Global;
+use std::alloc::{AllocError, Global};
 use std::io::{Read, Write};
 
 /// Runs one script on a new index with one pass and this number of node and leaf records. It waits for no other
@@ -65,16 +67,33 @@ pub fn run_one<R: Read, W: Write>(
 }
 
 /// Answers one script on a new index.
-fn answer_one(alloc: Global, nodes: u32, leaves: u32, script: &Script) -> Result<Vec<u8>, RunFault>
+fn answer_one(
+    alloc: Global,
+    nodes: u32,
+    leaves: u32,
+    script: &Script,
+) -> Result<Vec<u8>, AllocError>
     requires nodes { IsNodeCount nodes }
     requires leaves { IsLeafCount leaves }
-    ensures ok { IfOk result (λ text. AreAnswered nodes leaves (script_commands script.now) text.items) }
-    ensures fault { IfErr result (λ fault. fault ≡ RunFault.Memory) }
+    ensures { IfOk result (λ text. AreAnswered nodes leaves (script_commands script.now) text.items) }
 {
     let (index, pass) = index_for(alloc, nodes, leaves, script)?;
-    let mut handle = Handle::new(&index, pass);
-    let text = engine::run(&Alone, alloc, &mut handle, script, &mut NoGate)?;
-    Ok(text)
+    answer_alone(alloc, &index, pass, script)
+}
+
+/// Answers one script on an index whose only pass is this one.
+fn answer_alone(
+    alloc: Global,
+    index: &Index,
+    pass: Pass,
+    script: &Script,
+) -> Result<Vec<u8>, AllocError>
+    requires own { Owns index.now pass }
+    requires alone { index.now.layout.passes ≡ 1 }
+    ensures { IfOk result (λ text. (after : PassView) × HasRunCommands index.now untold (pass, tt) (script_commands script.now) (after, tt) text.items) }
+{
+    let mut handle = Handle::new(index, pass);
+    engine::run(&Alone, alloc, &mut handle, script, &mut NoGate)
 }
 
 /// An empty index for a script, and its only pass. All leaf records are of the smallest class with room for the keys of the
@@ -84,17 +103,16 @@ fn index_for(
     nodes: u32,
     leaves: u32,
     script: &Script,
-) -> Result<(Index, Pass), RunFault>
+) -> Result<(Index, Pass), AllocError>
     requires nodes { IsNodeCount nodes }
     requires leaves { IsLeafCount leaves }
     ensures sized { IfOk result (λ made. IsSizedFor (script_commands script.now) 1 nodes leaves made.0) }
     ensures pass { IfOk result (λ made. IsNewPassOf made.0 0 made.1) }
-    ensures fault { IfErr result (λ fault. fault ≡ RunFault.Memory) }
 {
     let stock = stock_for(nodes, leaves, script.longest_key());
     let (index, mut passes) = match create_with(alloc, 1, stock) {
         Ok(made) => made,
-        Err(IndexFault::Memory) => return Err(RunFault::Memory),
+        Err(IndexFault::Memory) => return Err(AllocError),
         Err(IndexFault::Layout(_)) => unreachable!(),
     };
     match passes.pop() {
@@ -119,7 +137,7 @@ fn new_index(
     files: u32,
     nodes: u32,
     leaves: u32,
-) -> Result<(Index, Vec<Pass>, Pass), RunFault>
+) -> Result<(Index, Vec<Pass>, Pass), AllocError>
     requires files { files ≤ MAX_FILES }
     requires nodes { IsNodeCount nodes }
     requires leaves { IsLeafCount leaves }
@@ -127,11 +145,10 @@ fn new_index(
     ensures count { IfOk result (λ made. length made.1.items ≡ files) }
     ensures each { IfOk result (λ made. AllFrom 0 (IsNewPassOf made.0) made.1.items) }
     ensures last { IfOk result (λ made. IsNewPassOf made.0 files made.2) }
-    ensures fault { IfErr result (λ fault. fault ≡ RunFault.Memory) }
 {
     let (index, mut passes) = match create(alloc, files + 1, nodes, leaves) {
         Ok(made) => made,
-        Err(IndexFault::Memory) => return Err(RunFault::Memory),
+        Err(IndexFault::Memory) => return Err(AllocError),
         Err(IndexFault::Layout(_)) => unreachable!(),
     };
     match passes.pop() {

@@ -1,10 +1,12 @@
 //! Scripts that run at the same time: a thread and a handle for each, and the meetings of their passes.
 
-ghost use Rattle.std.specs.Prelude.{◌≡◌, ◌≤◌, All, IfOk, IfErr, flat_map, length, map};
+ghost use Rattle.std.specs.Prelude.{◌≡◌, ◌≤◌, All, IfOk, flat_map, length, map};
 ghost use Rattle.std.specs.List.{AllZip, zip};
 ghost use Rattle.record_words.specs.Limits.{IsLeafCount, IsNodeCount};
 ghost use Rattle.hot_scripts.specs.declared.script.TheConstants.{MAX_FILES};
 ghost use Rattle.hot_scripts.specs.Parses.{script_commands};
+ghost use Rattle.hot_index.specs.Handles.{handle_at};
+ghost use Rattle.seat_calls.specs.Passes.{Owns};
 ghost use Rattle.hot_run.specs.Progress.{AllThree, AreAt, AreReady, HasAnsweredLast, HasKept, HaveAnswered, IsDone, IsOrderOf, MeetInTurn};
 ghost use Rattle.hot_run.specs.Scripts.{AreAllAnswered};
 
@@ -12,8 +14,7 @@ use crate::answer::sections;
 use crate::callers::Waits;
 use crate::engine::run;
 use crate::new_index;
-use hot_index::{Gate, Handle, Index, NoGate, handles_of};
-use hot_scripts::fault::RunFault;
+use hot_index::{Gate, Handle, Index, NoGate, Pass, handles_of};
 use hot_scripts::script::Script;
 use std::alloc::{AllocError, Global};
 use std::snapshot::Snapshot;
@@ -51,39 +52,38 @@ pub fn answer_all<T: Threads + Wait + Sync, G: Gate + Send + Drop>(
     scripts: &[Script],
     gates: Vec<G>,
     last: &Script,
-) -> Result<Vec<Vec<u8>>, RunFault>
+) -> Result<Vec<Vec<u8>>, AllocError>
     requires nodes { IsNodeCount nodes }
     requires leaves { IsLeafCount leaves }
     requires few { length scripts.now ≤ MAX_FILES }
     requires gates { length gates.items ≡ length scripts.now }
-    ensures ok { IfOk result (λ texts. AreAllAnswered nodes leaves G.becomes gates.items (map script_commands scripts.now) (script_commands last.now)
+    ensures { IfOk result (λ texts. AreAllAnswered nodes leaves G.becomes gates.items (map script_commands scripts.now) (script_commands last.now)
         (flat_map (λ t. t.items) texts.items)) }
-    ensures fault { IfErr result (λ fault. fault ≡ RunFault.Memory) }
 {
     let (index, passes, pass) = new_index(alloc, scripts.len() as u32, nodes, leaves)?;
-    let handles = handles_of(alloc, &index, passes)?;
-    let handle = Handle::new(&index, pass);
-    let texts = answer_by(rt, alloc, handles, handle, scripts, gates, last)?;
-    Ok(texts)
+    answer_by(rt, alloc, &index, passes, pass, scripts, gates, last)
 }
 
-/// Answers the scripts of files by these handles, and then, when its pass has met theirs, the last one by this handle.
-fn answer_by<'a, T: Threads + Wait + Sync, G: Gate + Send + Drop>(
+/// Answers the scripts of files by these passes of the index, and then, when the last pass has met them, the last script by it.
+fn answer_by<T: Threads + Wait + Sync, G: Gate + Send + Drop>(
     rt: &T,
     alloc: Global,
-    handles: Vec<Handle<&'a Index>>,
-    handle: Handle<&'a Index>,
+    index: &Index,
+    passes: Vec<Pass>,
+    pass: Pass,
     scripts: &[Script],
     gates: Vec<G>,
     last: &Script,
 ) -> Result<Vec<Vec<u8>>, AllocError>
-    requires index { All (λ h. h.index ≡ handle.index) handles.items }
-    requires ready { AreReady handles.items scripts.now gates.items }
+    requires own { Owns index.now pass }
+    requires owns { All (Owns index.now) passes.items }
+    requires ready { AreReady passes.items scripts.now gates.items }
     requires few { length scripts.now ≤ MAX_FILES }
-    ensures { IfOk result (λ texts. HaveAnswered G.becomes (zip handles.entry.items gates.items) (map script_commands scripts.now)
-        (script_commands last.now) handle.entry (flat_map (λ t. t.items) texts.items)) }
+    ensures { IfOk result (λ texts. HaveAnswered G.becomes (zip (map (handle_at index.now) passes.items) gates.items) (map script_commands scripts.now)
+        (script_commands last.now) (handle_at index.now pass) (flat_map (λ t. t.items) texts.items)) }
 {
-    let ran = run_files(rt, alloc, handles, scripts, gates)?;
+    let handle = Handle::new(index, pass);
+    let ran = run_files(rt, alloc, index, passes, scripts, gates)?;
     let (handle, met) = meet_all(alloc, handle, ran)?;
     answer_last(rt, alloc, handle, met, last)
 }
@@ -107,17 +107,20 @@ fn answer_last<'a, T: Wait>(
     sections(alloc, again, done.text)
 }
 
-/// Runs each script in a thread with its own handle and gate, all at the same time, and joins them.
+/// Runs each script in a thread with its own pass of the index and its own gate, all at the same time, and joins them.
 fn run_files<'a, T: Threads + Wait + Sync, G: Gate + Send + Drop>(
     rt: &T,
     alloc: Global,
-    handles: Vec<Handle<&'a Index>>,
+    index: &'a Index,
+    passes: Vec<Pass>,
     scripts: &[Script],
     gates: Vec<G>,
 ) -> Result<Vec<Done<'a>>, AllocError>
-    requires { AreReady handles.items scripts.now gates.items }
-    ensures { IfOk result (λ done. AllThree (IsDone G.becomes) (zip handles.entry.items gates.items) (map script_commands scripts.now) done.items) }
+    requires owns { All (Owns index.now) passes.items }
+    requires ready { AreReady passes.items scripts.now gates.items }
+    ensures { IfOk result (λ done. AllThree (IsDone G.becomes) (zip (map (handle_at index.now) passes.items) gates.items) (map script_commands scripts.now) done.items) }
 {
+    let handles = handles_of(alloc, index, passes)?;
     scope(
         scope_env(),
         rt,

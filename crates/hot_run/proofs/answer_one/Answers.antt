@@ -1,33 +1,33 @@
 -- Why `answer_one` meets its contract.
 use Rattle.std.proofs.Common.{refl, ap, ◌∙◌}
+use Rattle.std.proofs.lemmas.Result.{IfOk-weaker}
 use Rattle.finite_map.specs.Fronts.{map_of}
 use Rattle.hot_run.specs.Runs.{text_told}
 use Rattle.hot_run.proofs.Alone.{alone_at_first, told_alone}
-use Rattle.hot_run.proofs.Progressing.{AreTold-untold}
 use Rattle.hot_run.proofs.answer_one.Goals as goal
 
-pub returns-clause-ok : goal.returns-clause-ok
-returns-clause-ok c =
+pub returns : goal.returns
+returns c =
     let index = c.in_ok-index.index in
     let pass = c.in_ok-index.pass in
     let made = c.in_ok-index.ensures in
-    let ran = rw c.new-handle.ensures at c.in_ok-text.ensures.ran in
     let alone = alone_at_first index pass made.sized.passes_are made.pass.1 in
-    record {
+    IfOk-weaker c.answer_alone.result _ _
+    (λ text (after, ran). record {
       index = index;
       sized = made.sized;
       answers = ran.answers;
-      front = c.run.new.handle.pass.front;
+      front = after.front;
       told = record {
         first = pass;
-        last = c.run.new.handle.pass;
+        last = after;
         gate_then = tt;
         own = made.pass.0;
         number = made.pass.1.0;
         begins = made.pass.1.1;
         ends = refl;
-        told = AreTold-untold index _ _ _ ran.answers ran.told;
+        told = ran.told;
       };
       commands_are = ran.commands_are;
       text_is = ran.text_is ∙ told_alone index _ _ _ alone ran.answers ran.told ∙ ap (λ f. text_told (map_of f) ran.answers) made.pass.1.1;
-    }
+    }) c.answer_alone.ensures

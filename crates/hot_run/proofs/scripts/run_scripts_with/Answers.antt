@@ -29,7 +29,7 @@ answer_all-requires-clause-gates g c κs within = omega (arith, c.requires.gates
 pub returns-in_err-texts-clause-fault : goal.returns-in_err-texts-clause-fault
 returns-in_err-texts-clause-fault g c =
     let p = err_from_is_err_and c.from_residual-in_err-texts.result c.from_residual-in_err-texts.ensures.1 in
-    rw (p.1, p.2, c.in_err-texts.ensures.fault) tt
+    rw (p.1, p.2) tt
 
 pub returns-clause-ok : goal.returns-clause-ok
 returns-clause-ok g c =
@@ -44,7 +44,7 @@ returns-clause-ok g c =
         files_are = c.in_ok-scripts.ensures.parsed;
         short = omega (arith, c.in_ok-bytes.ensures.short, c.in_ok-bytes.bytes.ok);
         last_is = c.in_ok-last.ensures;
-        answers = rw c.deref.ensures.value at c.in_ok-texts.ensures.ok;
+        answers = rw c.deref.ensures.value at c.in_ok-texts.ensures;
       },
       rw c.deref-2.ensures.value at written,
     )) c.write_sections.ensures.ok

@@ -3,27 +3,33 @@ use Rattle.std.proofs.Common.{map, refl, arith}
 use Rattle.std.specs.List.{zip}
 use Rattle.std.proofs.lemmas.List.{length-map}
 use Rattle.std.proofs.lemmas.Result.{IfOk-weaker}
+use Rattle.hot_index.specs.Handles.{handle_at}
 use Rattle.hot_scripts.specs.Parses.{script_commands}
 use Rattle.hot_run.proofs.Joint.{met_long}
-use Rattle.hot_run.proofs.Numbered.{at_own, done_at, done_long}
+use Rattle.hot_run.proofs.Numbered.{all_at, at_own, done_at, done_long}
 use Rattle.hot_run.proofs.together.answer_by.Goals as goal
 
 pub meet_all-requires : goal.meet_all-requires
 meet_all-requires g c =
-    (refl, done_at g.G.Gate.becomes c.args.handle.index c.args.handles.items c.args.gates.items (map script_commands c.args.scripts.now) c.in_ok-ran.ran.items c.requires.index c.in_ok-ran.ensures)
+    let index = c.args.index.now in
+    let passes = c.args.passes.items in
+    rw c.new-handle.ensures
+    (refl, done_at g.G.Gate.becomes index (map (handle_at index) passes) c.args.gates.items (map script_commands c.args.scripts.now) c.in_ok-ran.ran.items (all_at index passes) c.in_ok-ran.ensures)
 
 pub answer_last-requires-clause-index : goal.answer_last-requires-clause-index
-answer_last-requires-clause-index g c = at_own c.args.handle.index c.in_ok-handle.handle c.in_ok-handle.met.items c.in_ok-handle.ensures.index
+answer_last-requires-clause-index g c = at_own c.new-handle.result.index c.in_ok-handle.handle c.in_ok-handle.met.items c.in_ok-handle.ensures.index
 
 pub answer_last-requires-clause-few : goal.answer_last-requires-clause-few
 answer_last-requires-clause-few g c =
-    let first = done_long g.G.Gate.becomes (zip c.args.handles.items c.args.gates.items) (map script_commands c.args.scripts.now) c.in_ok-ran.ran.items c.in_ok-ran.ensures in
-    let second = met_long c.args.handle.index c.args.handle.pass c.in_ok-handle.handle.pass c.in_ok-ran.ran.items c.in_ok-handle.met.items c.in_ok-handle.ensures.met in
+    let handles = map (handle_at c.args.index.now) c.args.passes.items in
+    let first = done_long g.G.Gate.becomes (zip handles c.args.gates.items) (map script_commands c.args.scripts.now) c.in_ok-ran.ran.items c.in_ok-ran.ensures in
+    let second = met_long c.new-handle.result.index c.new-handle.result.pass c.in_ok-handle.handle.pass c.in_ok-ran.ran.items c.in_ok-handle.met.items c.in_ok-handle.ensures.met in
     omega (arith, first, second, length-map c.args.scripts.now script_commands, c.requires.few)
 
 pub returns : goal.returns
 returns g c =
-    IfOk-weaker c.answer_last.result _ _
+    rw (← c.new-handle.ensures)
+    (IfOk-weaker c.answer_last.result _ _
     (λ text answered. record {
       ran = c.in_ok-ran.ran.items;
       met = c.in_ok-handle.met.items;
@@ -31,4 +37,4 @@ returns g c =
       have_run = c.in_ok-ran.ensures;
       meet = c.in_ok-handle.ensures.met;
       answered = rw c.in_ok-handle.ensures.index.0 at answered;
-    }) c.answer_last.ensures
+    }) c.answer_last.ensures)
