@@ -58,6 +58,10 @@ IsDone {G = G} becomes a commands done =
 abbrev pub IsOrderOf : {G : Type 0} → HandleView × G → List Command → Order G → Type 0
 IsOrderOf a commands order = (order.handle.value ≡ a.0) × (order.gate.value ≡ a.1) × (script_commands order.script.value ≡ commands)
 
+-- there is one item more behind the others, and it has the property
+abbrev pub HasOneMore : {A : Type 0} → (A → Type 0) → List A → List A → Type 0
+HasOneMore {A = A} p before after = (x : A) × p x × (after ≡ before ++ x ∷ [])
+
 -- the thread kept its order
 abbrev pub HasKept : {G : Type 0} → (G → Event → G → Type 0) → Order G → Done → Type 0
 HasKept becomes order done = IsDone becomes (order.handle.value, order.gate.value) (script_commands order.script.value) done

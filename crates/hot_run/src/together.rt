@@ -1,13 +1,13 @@
 //! Scripts that run at the same time: a thread and a handle for each, and the meetings of their passes.
 
-ghost use Rattle.std.specs.Prelude.{◌≡◌, ◌≤◌, All, IfOk, flat_map, length, map};
+ghost use Rattle.std.specs.Prelude.{◌≡◌, ◌≤◌, All, IfOk, OnOk, flat_map, length, map};
 ghost use Rattle.std.specs.List.{AllZip, zip};
 ghost use Rattle.record_words.specs.Limits.{IsLeafCount, IsNodeCount};
+ghost use Rattle.seat_calls.specs.Passes.{Owns};
+ghost use Rattle.hot_index.specs.Handles.{handle_at};
 ghost use Rattle.hot_scripts.specs.declared.script.TheConstants.{MAX_FILES};
 ghost use Rattle.hot_scripts.specs.Parses.{script_commands};
-ghost use Rattle.hot_index.specs.Handles.{handle_at};
-ghost use Rattle.seat_calls.specs.Passes.{Owns};
-ghost use Rattle.hot_run.specs.Progress.{AllThree, AreAt, AreReady, HasAnsweredLast, HasKept, HaveAnswered, IsDone, IsOrderOf, MeetInTurn};
+ghost use Rattle.hot_run.specs.Progress.{AllThree, AreAt, AreReady, HasAnsweredLast, HasKept, HasOneMore, HaveAnswered, IsDone, IsOrderOf, MeetInTurn};
 ghost use Rattle.hot_run.specs.Scripts.{AreAllAnswered};
 
 use crate::answer::sections;
@@ -164,10 +164,13 @@ fn start_all<'a: 's, 's, E, T: Threads + Wait + Sync + 's, G: Gate + Send + Drop
     let mut gates = gates.into_iter();
     let mut running = Vec::new(alloc);
     for handle in handles {
-        let (Some(script), Some(gate)) = (scripts.next(), gates.next()) else {
+        let Some(script) = scripts.next() else {
             unreachable!();
         };
-        running.push(start(threads, rt, alloc, handle, script, gate)?)?;
+        let Some(gate) = gates.next() else {
+            unreachable!();
+        };
+        start(threads, rt, alloc, handle, script, gate, &mut running)?;
     }
     Ok(running)
 }
@@ -187,7 +190,7 @@ fn join_all<'a, T: Threads + Wait, G: Gate + Drop>(
     Ok(done)
 }
 
-/// Starts the thread of a script.
+/// Starts the thread of a script, behind those that run.
 fn start<'a: 's, 's, E, T: Threads + Wait + Sync + 's, G: Gate + Send + Drop + 's>(
     threads: &Scope<'s, E>,
     rt: &'s T,
@@ -195,8 +198,10 @@ fn start<'a: 's, 's, E, T: Threads + Wait + Sync + 's, G: Gate + Send + Drop + '
     handle: Handle<&'a Index>,
     script: &'s Script,
     gate: G,
-) -> Result<PromisedHandle<Result<Done<'a>, AllocError>, Order<'a, G>>, AllocError>
-    ensures { IfOk result (λ thread. IsOrderOf (handle.entry, gate) (script_commands script.entry.now) thread.promise) }
+    running: &mut Vec<PromisedHandle<Result<Done<'a>, AllocError>, Order<'a, G>>>,
+) -> Result<(), AllocError>
+    ensures { OnOk result (HasOneMore (IsOrderOf (handle.entry, gate) (script_commands script.entry.now))
+        (map (λ t. t.promise) running.old.items) (map (λ t. t.promise) running.new.items)) }
 {
     let order = Order {
         handle: Snapshot::of(&handle),
@@ -209,7 +214,8 @@ fn start<'a: 's, 's, E, T: Threads + Wait + Sync + 's, G: Gate + Send + Drop + '
             ensures { IfOk result (IsDone G.becomes (handle.entry, gate) (script_commands script.entry.now)) }
         { run_file(rt, alloc, handle, script, gate) },
     )?;
-    Ok(thread)
+    running.push(thread)?;
+    Ok(())
 }
 
 /// What the thread of a script does.
