@@ -52,19 +52,8 @@ begins_low n from some = go (nat_lt from n) refl
     go false e = rw e some
 
 -- the first turn has the number that is begun at
-pub turned_none : (n from : ℕ) → begin_of n from ≡ wrapped n (begin_of n from) 0
-turned_none n from = go (nat_lt (begin_of n from + 0) n) refl
-  where
-    go : (t : Bool) → nat_lt (begin_of n from + 0) n ≡ t → begin_of n from ≡ (if t then begin_of n from + 0 else begin_of n from + 0 - n)
-    go true e = omega arith
-    go false e =
-        let high = ltb-false (begin_of n from + 0) n e in
-        let none : n ≡ 0 = few (nat_lt 0 n) refl high in
-        omega (arith, none)
-      where
-        few : (t : Bool) → nat_lt 0 n ≡ t → n ≤ begin_of n from + 0 → n ≡ 0
-        few true e high = let low = begins_low n from (ltb-true 0 n e) in absurd (omega arith)
-        few false e high = let low = ltb-false 0 n e in omega arith
+pub first_turn : (n from : ℕ) → from < n → from ≡ wrapped n from 0
+first_turn n from low = grind arith
 
 -- the numbers behind that of a turn, up to the last, are those of the turns behind
 pub turned_by : (n from m i : ℕ) → from < n → m + i < n → wrapped n from m + i < n → wrapped n from m + i ≡ wrapped n from (m + i)
@@ -74,10 +63,7 @@ turned_by n from m i low below few = grind arith
 pub turned_over : (n from m i : ℕ) → from < n → m < n → m + i ≤ n → wrapped n from m + i ≤ n → begin_of n (wrapped n from m + i) ≡ wrapped n from (m + i)
 turned_over n from m i low some below few = grind arith
 
-pub first_turn : (n from : ℕ) → from < n → from ≡ wrapped n from 0
-first_turn n from low = grind arith
-
--- so it is behind the first
+-- and so is the number to begin at behind the first
 pub next_turn : (n from : ℕ) → from < n → begin_of n (from + 1) ≡ wrapped n from 1
 next_turn n from low = grind arith
 
@@ -331,8 +317,8 @@ module _ {G : Type 0} (table : TableView) (becomes : G → Event → G → Type 
 
   module _ (kind : ℕ → Rec) (n from number most : ℕ) (low : number < n) (is : number ≡ begin_of n from) where
     pub tries_first : (a b : SeatView × G) → ClaimsOne table becomes (kind number) a b → TriesSome table becomes kind n (begin_of n from) most (Some number) 1 a b
-    tries_first a b one =
-        (record { tried = 0; low = omega (arith, low); number_is = is ∙ turned_none n from; before = a; none = finds_none kind n (begin_of n from) a; one = one }, refl)
+    tries_first a b one = subst (λ z. TriesSome table becomes kind n z most (Some number) 1 a b) is
+        (record { tried = 0; low = omega (arith, low); number_is = first_turn n number low; before = a; none = finds_none kind n number a; one = one }, refl)
 
     pub tries_behind : (a i b : SeatView × G) (answer : Option ℕ) (tried : ℕ) → MissesOne table becomes (kind number) a i →
         GoesOnBehind table becomes kind n number most answer tried i b → TriesSome table becomes kind n (begin_of n from) most answer tried a b

@@ -127,7 +127,7 @@ pub fn claim_within<G: Gate>(
     claimed
 }
 
-/// Claims the first record of a kind that it finds free, of so many; answers its number, and how many it tried.
+/// Claims the first record of a kind that it finds free, of so many from this number on; answers its number, and how many it tried.
 #[inline(always)]
 fn claim_of<G: Gate>(
     table: &HotTable,
