@@ -97,7 +97,7 @@ def scripts(rand):
 def main():
     rand = random.Random(1)
     subprocess.run([os.path.join(ROOT, "tools/prove")], check=True)
-    program = os.path.join(ROOT, "crates/hot_run_cli/out/hot_run_cli")
+    program = os.path.join(ROOT, "crates/hot_run/out/hot_run")
     for name, script in scripts(rand):
         begin = time.perf_counter()
         run = subprocess.run([program], input=script.encode(), capture_output=True, check=True)

@@ -12,8 +12,9 @@ use Rattle.hot_scripts.specs.declared.fault.RunFault.TheVariants.{Read, Write, M
 use Rattle.hot_command_line.specs.Files.{AreStarts, IsFileFault}
 use Rattle.hot_command_line.specs.Options.{IsAsked}
 use Rattle.hot_command_line.specs.declared.ending.Ending.TheVariants.{Fault}
-use Rattle.hot_run.specs.Runs.{IsReadFault}
-use Rattle.hot_run.specs.Scripts.{IsParsed, LawfulScripts, MayEndScriptsBy, commands_of_files}
+use Rattle.hot_scripts.specs.InFiles.{IsParsed, commands_of_files}
+use Rattle.hot_scripts.specs.Streams.{IsReadFault}
+use Rattle.hot_run.specs.Scripts.{LawfulScripts, MayEndScriptsBy}
 use Rattle.hot_run.specs.Asked.{AnswersAll, HasFaultAsAsked, MayEndAllBy, MayEndAsAsked}
 
 -- files were named

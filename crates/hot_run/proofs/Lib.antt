@@ -2,8 +2,6 @@
 pub mod Alone
 pub mod Answering
 pub mod Asking
-pub mod Commands
 pub mod Joint
 pub mod Numbered
 pub mod Progressing
-pub mod Writing

@@ -3,12 +3,13 @@ use Rattle.std.specs.Prelude.{ℕ, List, [], ◌∷◌, map, Option}
 use Rattle.std.specs.Io.KnownBytes.{Appends}
 use Rattle.hot_scripts.specs.declared.fault.RunFault.{RunFault}
 use Rattle.hot_scripts.specs.declared.fault.RunFault.TheVariants.{Read, Memory}
+use Rattle.hot_scripts.specs.Streams.{TakesAll}
 use Rattle.seat_calls.specs.Traces.{untold}
 use Rattle.hot_command_line.specs.declared.ending.Ending.{Ending}
 use Rattle.hot_command_line.specs.declared.ending.Ending.TheVariants.{Usage, Fault}
 use Rattle.hot_command_line.specs.Files.{AreStarts}
 use Rattle.hot_command_line.specs.Options.{IsAsked}
-use Rattle.hot_run.specs.Runs.{IsAnsweredScript, MayEndBy, TakesAll}
+use Rattle.hot_run.specs.Runs.{IsAnsweredScript, MayEndBy}
 use Rattle.hot_run.specs.Scripts.{LawfulScripts, MayEndScriptsBy}
 
 -- The text answers the script alone, where no files are named; else the scripts in the files, and the script after them. `bytes` are

@@ -1,15 +1,15 @@
 -- What a run of a script reads, writes and answers.
-use Rattle.std.specs.Prelude.{◌≡◌, ℕ, ◌<◌, ◌≤◌, ◌++◌, List, [], ◌∷◌, length, map, All, Option, Ok, Err, IsOk}
-use Rattle.std.specs.Io.KnownBytes.{Consumes, IsAtEnd}
+use Rattle.std.specs.Prelude.{◌≡◌, ℕ, ◌≤◌, ◌++◌, List, [], ◌∷◌, length, map, All, Option, Ok, Err, IsOk}
 use Rattle.finite_map.specs.declared.Change.{Change}
 use Rattle.finite_map.specs.Maps.{Map, map_after, reply_of}
 use Rattle.rowex_table.specs.Seats.{TableView}
 use Rattle.seat_calls.specs.Traces.{untold}
 use Rattle.hot_scripts.specs.declared.command.Command.{Command}
 use Rattle.hot_scripts.specs.declared.fault.RunFault.{RunFault}
-use Rattle.hot_scripts.specs.declared.fault.RunFault.TheVariants.{Read, Write, Memory, Script, Large}
+use Rattle.hot_scripts.specs.declared.fault.RunFault.TheVariants.{Write, Script}
 use Rattle.hot_scripts.specs.Grammar.{commands_of, most_bytes}
 use Rattle.hot_scripts.specs.Meaning.{line, reply_text, scan_text, script_meaning}
+use Rattle.hot_scripts.specs.Streams.{IsReadFault, TakesAll}
 use Rattle.hot_run.specs.Answers.{Answered, called, refused, listed, IsGranted, answered_command, full_text}
 use Rattle.hot_run.specs.Told.{IsSizedFor, WasTold}
 
@@ -39,17 +39,6 @@ pub record IsAnsweredScript (nodes leaves : ℕ) (script text : List ℕ) : Type
   pub parsed : commands_of script ≡ Ok commands
   pub run : AreAnswered nodes leaves commands text
   pub meaning : All IsGranted run.answers → script_meaning script ≡ Ok text
-
--- the script is all that a reader had left, and it has nothing left now
-abbrev pub TakesAll : Option (List ℕ) → Option (List ℕ) → List ℕ → Type 0
-TakesAll old new script = Consumes old new script × IsAtEnd new
-
--- a read failed, memory was refused, or more was read than a script may have
-abbrev pub IsReadFault : Option (List ℕ) → Option (List ℕ) → RunFault → Type 0
-IsReadFault old new Read = Unit {0}
-IsReadFault old new Memory = Unit {0}
-IsReadFault old new Large = (front : List ℕ) × Consumes old new front × (most_bytes < length front)
-IsReadFault old new _ = ⊥
 
 -- A run may end by its script's first bad line, by a failed write where the script has a text, or by such a fault.
 abbrev pub MayEndBy : Option (List ℕ) → Option (List ℕ) → RunFault → Type 0

@@ -11,10 +11,10 @@ use Rattle.rowex_table.specs.Seats.{TableView}
 use Rattle.seat_calls.specs.Answers.{MayLack}
 use Rattle.seat_calls.specs.Traces.{untold}
 use Rattle.hot_scripts.specs.declared.command.Command.{Command}
-use Rattle.hot_scripts.specs.declared.fault.Reason.{Reason}
 use Rattle.hot_scripts.specs.declared.fault.RunFault.{RunFault}
-use Rattle.hot_scripts.specs.declared.fault.RunFault.TheVariants.{Memory, FileScript, Large}
+use Rattle.hot_scripts.specs.declared.fault.RunFault.TheVariants.{Memory}
 use Rattle.hot_scripts.specs.Grammar.{commands_of, most_bytes}
+use Rattle.hot_scripts.specs.InFiles.{commands_of_files}
 use Rattle.hot_scripts.specs.Meaning.{line, with_number}
 use Rattle.hot_run.specs.Answers.{Answered, called, refused, listed, answered_command, lines_of_answer, note_of}
 use Rattle.hot_run.specs.Runs.{MayEndBy}
@@ -66,25 +66,6 @@ abbrev pub by_pass : ℕ → List Ran → List (ℕ × List Note)
 by_pass first [] = []
 by_pass first (ran ∷ more) = (first, notes_in ran) ∷ by_pass (first + 1) more
 
--- the commands of a file, or its fault
-abbrev pub in_file : ℕ → Result (List Command) (ℕ × Reason) → Result (List Command) RunFault
-in_file file (Ok commands) = Ok commands
-in_file file (Err (number, reason)) = Err (FileScript file number reason)
-
-abbrev pub commands_of_file : ℕ → List ℕ → Result (List Command) RunFault
-commands_of_file file script = if nat_lt most_bytes (length script) then Err Large else in_file file (commands_of script)
-
--- the first fault, or both
-abbrev pub both_or_fault : Result (List Command) RunFault → Result (List (List Command)) RunFault → Result (List (List Command)) RunFault
-both_or_fault (Err fault) others = Err fault
-both_or_fault (Ok commands) (Err fault) = Err fault
-both_or_fault (Ok commands) (Ok others) = Ok (commands ∷ others)
-
--- the commands of files, the first having the number `first`, or the fault of the first that has one
-abbrev pub commands_of_files : ℕ → List (List ℕ) → Result (List (List Command)) RunFault
-commands_of_files first [] = Ok []
-commands_of_files first (file ∷ files) = both_or_fault (commands_of_file first file) (commands_of_files (first + 1) files)
-
 -- the answers to files, each below its heading, the first having the number `first`
 abbrev pub sections : ℕ → List (List ℕ) → List ℕ
 sections first [] = []
@@ -130,12 +111,6 @@ pub record LawfulScripts {G : Type 0} (nodes leaves : ℕ) (becomes : G → Even
   pub short : length script ≤ most_bytes
   pub last_is : commands_of script ≡ Ok last
   pub answers : AreAllAnswered nodes leaves becomes gates scripts last text
-
--- this was parsed, or there is this fault, unless memory was refused
-abbrev pub IsParsed : {A B : Type 0} → (A → B) → Result A RunFault → Result B RunFault → Type 0
-IsParsed view (Ok parsed) script = script ≡ Ok (view parsed)
-IsParsed view (Err Memory) script = Unit {0}
-IsParsed view (Err fault) script = script ≡ Err fault
 
 -- A run of several scripts may end by want of memory; by the fault of the first file that has one; or, where none has, as a run of
 -- the last script alone may end.

@@ -3,12 +3,12 @@
 ghost use Rattle.std.specs.Prelude.{◌≡◌, ◌≢◌, ◌⊎◌, List, ℕ, IfErr, OnOk, map, string_bytes};
 ghost use Rattle.std.specs.Io.KnownBytes.{Appends};
 ghost use Rattle.hot_scripts.specs.declared.fault.RunFault.TheVariants.{Write as WriteFault};
+ghost use Rattle.hot_scripts.specs.Streams.{TakesAll};
 ghost use Rattle.hot_command_line.specs.Files.{IsFileFault};
 ghost use Rattle.hot_command_line.specs.declared.ending.Ending.TheVariants.{Fault};
 ghost use Rattle.hot_run.specs.Asked.{AnswersAll, IsAnsweredAsAsked, MayEndAllBy, MayEndAsAsked};
-ghost use Rattle.hot_run.specs.Runs.{TakesAll};
 
-use crate::run_one;
+use crate::one::run_one;
 use crate::scripts::run_scripts;
 use hot_command_line::arguments::{Request, parse};
 use hot_command_line::ending::Ending;

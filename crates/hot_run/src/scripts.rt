@@ -1,18 +1,18 @@
 //! Runs of several scripts at the same time: those of files, and then a last one.
 
-ghost use Rattle.std.specs.Prelude.{◌≡◌, ◌≢◌, ◌≤◌, List, ℕ, IfOk, OnOk, IfErr, length, map};
+ghost use Rattle.std.specs.Prelude.{◌≡◌, ◌≢◌, ◌≤◌, List, ℕ, OnOk, IfErr, length, map};
 ghost use Rattle.std.specs.Io.KnownBytes.{Appends};
 ghost use Rattle.record_words.specs.Limits.{IsLeafCount, IsNodeCount};
 ghost use Rattle.seat_calls.specs.Traces.{untold};
-ghost use Rattle.hot_scripts.specs.Parses.{script_commands};
-ghost use Rattle.hot_run.specs.Runs.{TakesAll};
-ghost use Rattle.hot_run.specs.Scripts.{IsParsed, LawfulScripts, MayEndScriptsBy, commands_of_file, commands_of_files};
+ghost use Rattle.hot_scripts.specs.Streams.{TakesAll};
+ghost use Rattle.hot_run.specs.Scripts.{LawfulScripts, MayEndScriptsBy};
 
-use crate::streams::{read_script, write_sections};
 use crate::together::answer_all;
 use hot_index::{Gate, NoGate};
 use hot_scripts::fault::RunFault;
-use hot_scripts::script::{MAX_FILES, MAX_SCRIPT, Script};
+use hot_scripts::in_files::parse_files;
+use hot_scripts::script::{MAX_FILES, Script};
+use hot_scripts::streams::{read_script, write_sections};
 use std::alloc::Global;
 use std::io::{Read, Write};
 use std::sync::Wait;
@@ -88,38 +88,4 @@ pub fn run_scripts_with<T: Threads + Wait + Sync, G: Gate + Send + Drop, R: Read
     let last = Script::parse(bytes)?;
     let texts = answer_all(rt, alloc, nodes, leaves, &scripts, gates, &last)?;
     write_sections(writer, &texts)
-}
-
-/// The scripts of the files, or the fault of the first that has one.
-fn parse_files(alloc: Global, files: Vec<Vec<u8>>) -> Result<Vec<Script>, RunFault>
-    requires { length files.items ≤ MAX_FILES }
-    ensures count { IfOk result (λ v. length v.items ≡ length files.items) }
-    ensures parsed { IsParsed (λ v. map script_commands v.items) result (commands_of_files 1 (map (λ f. f.items) files.items)) }
-{
-    let mut scripts = Vec::new(alloc);
-    let mut number = 1u32;
-    for file in files {
-        scripts.push(parse_file(number, file)?)?;
-        number += 1;
-    }
-    Ok(scripts)
-}
-
-/// The script of the file of this number, or its fault.
-fn parse_file(number: u32, file: Vec<u8>) -> Result<Script, RunFault>
-    ensures { IsParsed script_commands result (commands_of_file number file.items) }
-{
-    if file.len() > MAX_SCRIPT {
-        return Err(RunFault::Large);
-    }
-    match Script::parse(file) {
-        Err(RunFault::Script { line, reason }) => {
-            Err(RunFault::FileScript {
-                file: number,
-                line,
-                reason,
-            })
-        }
-        outcome => outcome,
-    }
 }

@@ -13,7 +13,7 @@ ghost use Rattle.hot_run.specs.Scripts.{AreAllAnswered};
 use crate::answer::sections;
 use crate::callers::Waits;
 use crate::engine::run;
-use crate::new_index;
+use crate::indexes::new_index;
 use hot_index::{Gate, Handle, Index, NoGate, Pass, handles_of};
 use hot_scripts::script::Script;
 use std::alloc::{AllocError, Global};
@@ -103,8 +103,8 @@ fn answer_last<'a, T: Wait>(
     // The handle is opened: its pass belongs to its index.
     let _pass = &handle.pass;
     let done = run_file(rt, alloc, handle, last, NoGate)?;
-    let (_, again) = meet_all(alloc, done.handle, met)?;
-    sections(alloc, again, done.text)
+    let (_, mut again) = meet_all(alloc, done.handle, met)?;
+    sections(alloc, &mut again, done.text)
 }
 
 /// Runs each script in a thread with its own pass of the index and its own gate, all at the same time, and joins them.

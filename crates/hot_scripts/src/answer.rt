@@ -1,6 +1,6 @@
 //! The lines of the answers.
 
-ghost use Rattle.std.specs.Prelude.{◌≡◌, ◌++◌, ◌+◌, ◌*◌, ◌<◌, ◌≤◌, ◌^◌, OnOk, length};
+ghost use Rattle.std.specs.Prelude.{◌≡◌, ◌++◌, ◌+◌, ◌*◌, ◌<◌, ◌≤◌, ◌^◌, OnOk, codes, flat_map, length};
 ghost use Rattle.hot_scripts.specs.Meaning.{key_text, line, pair_line, reply_text, scan_lines, with_number};
 
 use crate::page::{MOST_BYTES, Page, ROOM};
@@ -8,7 +8,7 @@ use finite_map::Reply;
 use itoa::Buffer;
 use key_bits::MAX_BYTES;
 use packed_pairs::Pairs;
-use std::alloc::AllocError;
+use std::alloc::{AllocError, Global};
 
 /// A line of a word and a number.
 fn push_number(text: &mut Vec<u8>, word: &[u8], number: u64) -> Result<(), AllocError>
@@ -95,4 +95,19 @@ pub fn push_scan(text: &mut Vec<u8>, pairs: &Pairs, more: bool) -> Result<(), Al
     } else {
         push_number(text, b"end ", count as u64)
     }
+}
+
+/// The answers to the file of this number, below its heading, behind the texts that stand before.
+pub fn push_section(
+    alloc: Global,
+    texts: &mut Vec<Vec<u8>>,
+    number: u32,
+    text: Vec<u8>,
+) -> Result<(), AllocError>
+    ensures { OnOk result (flat_map (λ t. t.items) texts.new.items
+        ≡ flat_map (λ t. t.items) texts.old.items ++ line (with_number (codes "file ") number) ++ text.items) }
+{
+    texts.push(format!(in alloc; "file {number}\n")?.into_bytes())?;
+    texts.push(text)?;
+    Ok(())
 }

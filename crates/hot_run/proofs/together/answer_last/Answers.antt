@@ -30,5 +30,5 @@ returns g c =
       own = subst (λ (h : HandleView). Owns h.index h.pass) c.handle.view_is c.handle.invariant;
       ran = HasRunCommands-untold c.args.handle.index _ _ _ (script_commands c.args.last.now) c.in_ok-done.done.text.items ran;
       meet = rw here at c.in_ok-again.ensures.met;
-      text_is = text_is;
+      text_is = rw (← c.deref_mut.ensures.value) text_is;
     }) c.sections.ensures

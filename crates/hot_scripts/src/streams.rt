@@ -2,10 +2,10 @@
 
 ghost use Rattle.std.specs.Prelude.{◌≡◌, ◌≤◌, IfOk, IfErr, OnOk, flat_map, vec_len};
 ghost use Rattle.std.specs.Io.KnownBytes.{Appends, Keeps};
-ghost use Rattle.hot_run.specs.Runs.{TakesAll, IsReadFault};
+ghost use Rattle.hot_scripts.specs.Streams.{IsReadFault, TakesAll};
 
-use hot_scripts::fault::RunFault;
-use hot_scripts::script::MAX_SCRIPT;
+use crate::fault::RunFault;
+use crate::script::MAX_SCRIPT;
 use std::alloc::Global;
 use std::io::{ErrorKind, Read, Write};
 

@@ -9,7 +9,7 @@ use Rattle.record_words.specs.Leaf.{words_for}
 use Rattle.hot_scripts.specs.declared.command.Command.{Command}
 use Rattle.hot_scripts.specs.Grammar.{HasKeyUpTo}
 use Rattle.hot_run.specs.Told.{HasRoomFor}
-use Rattle.hot_run.proofs.index_for.Goals as goal
+use Rattle.hot_run.proofs.indexes.index_for.Goals as goal
 
 room_for : (layout : Layout) (longest : ℕ) → longest ≤ MAX_BYTES
     → ((leaf bytes : ℕ) → leaf < layout.leaves → bytes ≤ longest → bytes ≤ MAX_BYTES → words_for bytes ≤ leaf_size layout leaf)

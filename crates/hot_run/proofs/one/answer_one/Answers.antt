@@ -4,7 +4,7 @@ use Rattle.std.proofs.lemmas.Result.{IfOk-weaker}
 use Rattle.finite_map.specs.Fronts.{map_of}
 use Rattle.hot_run.specs.Runs.{text_told}
 use Rattle.hot_run.proofs.Alone.{alone_at_first, told_alone}
-use Rattle.hot_run.proofs.answer_one.Goals as goal
+use Rattle.hot_run.proofs.one.answer_one.Goals as goal
 
 pub returns : goal.returns
 returns c =

@@ -1,10 +1,19 @@
 //! The program `hot-run`: answers the script on standard input, after those in files at the same time.
 #![tactic(auto)]
 
+mod answer;
+pub mod asked;
+mod callers;
+mod engine;
+mod indexes;
+pub mod one;
+pub mod scripts;
+mod together;
+
+use asked::answer;
 use hot_command_line::arguments::words;
 use hot_command_line::ending::Ending;
 use hot_command_line::files::Disk;
-use hot_run::asked::answer;
 use std::io;
 use std::process::ExitCode;
 use std::rt::{Env, Files};

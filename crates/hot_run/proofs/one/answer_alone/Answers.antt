@@ -2,7 +2,7 @@
 use Rattle.std.proofs.lemmas.Result.{IfOk-weaker}
 use Rattle.hot_scripts.specs.Parses.{script_commands}
 use Rattle.hot_run.proofs.Progressing.{HasRunCommands-untold}
-use Rattle.hot_run.proofs.answer_alone.Goals as goal
+use Rattle.hot_run.proofs.one.answer_alone.Goals as goal
 
 pub returns : goal.returns
 returns c =

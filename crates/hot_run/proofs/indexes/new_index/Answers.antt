@@ -3,7 +3,7 @@ use Rattle.std.proofs.Common.{◌≡◌, ◌+◌, [], ◌∷◌, ◌++◌, lengt
 use Rattle.hot_run.specs.Progress.{IsNewPassOf}
 use Rattle.hot_run.specs.Scripts.{AllFrom}
 use Rattle.hot_run.proofs.Numbered.{AllFrom-zero, AllFrom-left, AllFrom-right}
-use Rattle.hot_run.proofs.new_index.Goals as goal
+use Rattle.hot_run.proofs.indexes.new_index.Goals as goal
 
 pub returns-clause-each : goal.returns-clause-each
 returns-clause-each c =

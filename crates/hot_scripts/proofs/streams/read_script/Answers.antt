@@ -3,8 +3,8 @@ use Rattle.std.proofs.Common.{◌≡◌, ◌<◌, ◌≤◌, ℕ, List, [], ◌+
 use Rattle.std.proofs.lemmas.Grind.{common_steps}
 use Rattle.std.proofs.lemmas.List.{take-append-le}
 use Rattle.std.specs.Io.KnownBytes.{Consumes, IsAtEnd, Keeps, ReadConsumes}
-use Rattle.hot_run.proofs.streams.read_script.Goals.{in-Ok+in_ok-extend_from_slice-in-Ok, in-Err}
-use Rattle.hot_run.proofs.streams.read_script.Goals as goal
+use Rattle.hot_scripts.proofs.streams.read_script.Goals.{in-Ok+in_ok-extend_from_slice-in-Ok, in-Err}
+use Rattle.hot_scripts.proofs.streams.read_script.Goals as goal
 
 -- a read, and then one more
 read_more : (old mid new : Option (List ℕ)) (front more : List ℕ) → Consumes old mid front → Consumes mid new more → Consumes old new (front ++ more)

@@ -1,0 +1,79 @@
+//! The index of a run, and its passes.
+
+ghost use Rattle.std.specs.Prelude.{◌≡◌, ◌+◌, ◌<◌, ◌≤◌, ℕ, IfOk, length};
+ghost use Rattle.key_bits.specs.declared.TheConstants.{MAX_BYTES};
+ghost use Rattle.record_words.specs.declared.layout.Layout.{Layout};
+ghost use Rattle.record_words.specs.Layout.{HasStock, leaf_size, leaves_of};
+ghost use Rattle.record_words.specs.Leaf.{words_for};
+ghost use Rattle.record_words.specs.Limits.{IsLeafCount, IsNodeCount};
+ghost use Rattle.hot_scripts.specs.declared.script.TheConstants.{MAX_FILES};
+ghost use Rattle.hot_scripts.specs.Parses.{script_commands};
+ghost use Rattle.hot_run.specs.Progress.{IsNewPassOf};
+ghost use Rattle.hot_run.specs.Scripts.{AllFrom};
+ghost use Rattle.hot_run.specs.Told.{IsOfSize, IsSizedFor};
+
+use hot_index::{Index, IndexFault, Pass, Stock, create, create_with};
+use hot_scripts::script::Script;
+use record_words::LeafClass;
+use std::alloc::{AllocError, Global};
+
+/// An empty index for a script, and its only pass. All leaf records are of the smallest class with room for the keys of the
+/// script's calls: a scan takes less time if the records are close together.
+pub fn index_for(
+    alloc: Global,
+    nodes: u32,
+    leaves: u32,
+    script: &Script,
+) -> Result<(Index, Pass), AllocError>
+    requires nodes { IsNodeCount nodes }
+    requires leaves { IsLeafCount leaves }
+    ensures sized { IfOk result (λ made. IsSizedFor (script_commands script.now) 1 nodes leaves made.0) }
+    ensures pass { IfOk result (λ made. IsNewPassOf made.0 0 made.1) }
+{
+    let stock = stock_for(nodes, leaves, script.longest_key());
+    let (index, mut passes) = match create_with(alloc, 1, stock) {
+        Ok(made) => made,
+        Err(IndexFault::Memory) => return Err(AllocError),
+        Err(IndexFault::Layout(_)) => unreachable!(),
+    };
+    match passes.pop() {
+        Some(pass) => Ok((index, pass)),
+        None => unreachable!(),
+    }
+}
+
+/// So many node records, and so many leaf records, all of the smallest class with room for keys of so many bytes.
+fn stock_for(nodes: u32, leaves: u32, longest: usize) -> Stock
+    ensures nodes { result.nodes ≡ nodes }
+    ensures leaves { leaves_of result ≡ leaves }
+    ensures room { (layout : Layout) (leaf bytes : ℕ) → HasStock layout result → leaf < layout.leaves →
+        bytes ≤ longest → bytes ≤ MAX_BYTES → words_for bytes ≤ leaf_size layout leaf }
+{
+    Stock::of_class(nodes, LeafClass::for_key(longest), leaves)
+}
+
+/// An empty index, the passes for this number of files, in the order of their numbers from 0 on, and the pass of the last script.
+pub fn new_index(
+    alloc: Global,
+    files: u32,
+    nodes: u32,
+    leaves: u32,
+) -> Result<(Index, Vec<Pass>, Pass), AllocError>
+    requires files { files ≤ MAX_FILES }
+    requires nodes { IsNodeCount nodes }
+    requires leaves { IsLeafCount leaves }
+    ensures sized { IfOk result (λ made. IsOfSize (files + 1) nodes leaves made.0) }
+    ensures count { IfOk result (λ made. length made.1.items ≡ files) }
+    ensures each { IfOk result (λ made. AllFrom 0 (IsNewPassOf made.0) made.1.items) }
+    ensures last { IfOk result (λ made. IsNewPassOf made.0 files made.2) }
+{
+    let (index, mut passes) = match create(alloc, files + 1, nodes, leaves) {
+        Ok(made) => made,
+        Err(IndexFault::Memory) => return Err(AllocError),
+        Err(IndexFault::Layout(_)) => unreachable!(),
+    };
+    match passes.pop() {
+        Some(last) => Ok((index, passes, last)),
+        None => unreachable!(),
+    }
+}

@@ -1,0 +1,43 @@
+//! The scripts of several files.
+
+ghost use Rattle.std.specs.Prelude.{◌≡◌, ◌≤◌, IfOk, length, map};
+ghost use Rattle.hot_scripts.specs.InFiles.{IsParsed, commands_of_file, commands_of_files};
+ghost use Rattle.hot_scripts.specs.Parses.{script_commands};
+
+use crate::fault::RunFault;
+use crate::script::{MAX_FILES, MAX_SCRIPT, Script};
+use std::alloc::Global;
+
+/// The scripts of the files, or the fault of the first that has one.
+pub fn parse_files(alloc: Global, files: Vec<Vec<u8>>) -> Result<Vec<Script>, RunFault>
+    requires { length files.items ≤ MAX_FILES }
+    ensures count { IfOk result (λ v. length v.items ≡ length files.items) }
+    ensures parsed { IsParsed (λ v. map script_commands v.items) result (commands_of_files 1 (map (λ f. f.items) files.items)) }
+{
+    let mut scripts = Vec::new(alloc);
+    let mut number = 1u32;
+    for file in files {
+        scripts.push(parse_file(number, file)?)?;
+        number += 1;
+    }
+    Ok(scripts)
+}
+
+/// The script of the file of this number, or its fault.
+fn parse_file(number: u32, file: Vec<u8>) -> Result<Script, RunFault>
+    ensures { IsParsed script_commands result (commands_of_file number file.items) }
+{
+    if file.len() > MAX_SCRIPT {
+        return Err(RunFault::Large);
+    }
+    match Script::parse(file) {
+        Err(RunFault::Script { line, reason }) => {
+            Err(RunFault::FileScript {
+                file: number,
+                line,
+                reason,
+            })
+        }
+        outcome => outcome,
+    }
+}
