@@ -1,7 +1,7 @@
 -- An element put in among the first of a list.
 use Rattle.std.proofs.Common.{List, [], ap, arith, drop, get_or, length, replicate, set, suc, sym, take, ℕ, ◌++◌, ◌+◌, ◌-◌, ◌<◌, ◌∙◌, ◌∷◌, ◌≡◌, ◌≤◌}
 use Rattle.std.proofs.Math.Seq.{drop-append-add, take-append-add}
-use Rattle.std.proofs.lemmas.List.{append_assoc, drop-replicate, drop-take, drop_more, get_or_at, length-take-le, set_at, take-append-drop, take-take, take_at, take_more}
+use Rattle.std.proofs.lemmas.List.{append_assoc, drop-replicate, drop-take, drop_more, get_or_at, length-take-le, set_at, take-append-drop, take-take, take_all, take_at, take_more}
 use Rattle.std.proofs.lemmas.List.Edits.{get_or-insert_above, length-insert}
 use Rattle.std.specs.List.{insert}
 
@@ -51,3 +51,16 @@ drop_pad m n xs x e =
     let f : n + 1 ≡ length xs + 1 = omega arith in
     let g : m - n - 1 ≡ m - (n + 1) = omega arith in
     ap (λ k. drop k (xs ++ replicate (m - n) x)) f ∙ drop-append-add xs (replicate (m - n) x) 1 ∙ drop-replicate 1 (m - n) x ∙ ap (λ k. replicate k x) g
+
+-- The first i of a list stand in front of places that are unused: the next one takes the first of these
+pub filled_more : {X : Type 0} (m : ℕ) (xs : List X) (i : ℕ) (unused d : X) → i < length xs → length xs ≤ m →
+    set (take i xs ++ replicate (m - i) unused) i (get_or xs i d) ≡ take (i + 1) xs ++ replicate (m - (i + 1)) unused
+filled_more m xs i unused d low few =
+    let left : m - i ≡ suc (m - (i + 1)) = omega arith in
+    ap (λ k. set (take i xs ++ replicate k unused) i (get_or xs i d)) left
+    ∙ set_at (take i xs) unused (replicate (m - (i + 1)) unused) (get_or xs i d) i (length-take-le i xs (omega arith))
+    ∙ sym (append_assoc (take i xs) (get_or xs i d ∷ []) (replicate (m - (i + 1)) unused))
+    ∙ ap (λ ys. ys ++ replicate (m - (i + 1)) unused) (sym (take_more xs i d low))
+
+pub filled_all : {X : Type 0} (m : ℕ) (xs : List X) (i : ℕ) (unused : X) → i ≡ length xs → take i xs ++ replicate (m - i) unused ≡ xs ++ replicate (m - length xs) unused
+filled_all m xs i unused all = ap (λ k. take k xs ++ replicate (m - k) unused) all ∙ ap (λ ys. ys ++ replicate (m - length xs) unused) (take_all (length xs) xs (omega arith))
