@@ -1,7 +1,7 @@
 -- Rows that lose a bit in place, and a row that is taken out among them.
 use Rattle.std.proofs.Common.{List, [], ap, arith, cond, drop, get_or, length, length-append, refl, set, suc, sym, take, ℕ, ◌++◌, ◌+◌, ◌-◌, ◌<◌, ◌∙◌, ◌∷◌, ◌≡◌, ◌≢◌, ◌≤◌, true, false}
 use Rattle.std.proofs.lemmas.Bool.{eq-eqb, ne_eqb}
-use Rattle.std.proofs.lemmas.List.{append_assoc, drop-drop, drop-set-lt, drop-take, drop_all, drop_at, drop_more, length-drop, length-set, length-take-le, take-append-drop, take-append-le, take-take, take_at, take_more_set}
+use Rattle.std.proofs.lemmas.List.{append_assoc, drop-drop, drop-set-lt, drop-take, drop_at, drop_more, length-drop, length-set, length-take-le, take-append-drop, take-append-le, take-take, take_at, take_more_set}
 use Rattle.std.specs.Prelude.{bit_and, nat_eq, remove}
 use Rattle.compound_node.specs.Removal.{bit_after, cleared_front, removed_row}
 use Rattle.pieces.specs.Growth.{edited}

@@ -1,5 +1,5 @@
 -- A node without a place, and its head.
-use Rattle.std.proofs.Common.{List, [], ap, arith, drop, get_or, length, map, refl, replicate, subst, suc, sym, take, ℕ, ◌++◌, ◌+◌, ◌-◌, ◌<◌, ◌∙◌, ◌∷◌, ◌≡◌, ◌≤◌}
+use Rattle.std.proofs.Common.{List, ap, arith, drop, get_or, length, map, refl, replicate, subst, suc, sym, take, ℕ, ◌++◌, ◌+◌, ◌-◌, ◌<◌, ◌∙◌, ◌∷◌, ◌≡◌, ◌≤◌}
 use Rattle.std.proofs.lemmas.List.{drop_at, get_or-replicate, length-map, length-replicate, take_at}
 use Rattle.std.proofs.lemmas.List.Edits.{length-remove}
 use Rattle.std.proofs.lemmas.List.Elements.{All-append, All-drop, All-take}
@@ -15,14 +15,12 @@ use Rattle.compound_node.specs.declared.entries.Entry.{Entry}
 use Rattle.partial_keys.proofs.Closing.{rows_over, used_over}
 use Rattle.partial_keys.proofs.Cutting.{half_shows}
 use Rattle.partial_keys.proofs.Reading.{piece_of_shown}
-use Rattle.partial_keys.proofs.Showing.{same_length}
-use Rattle.partial_keys.specs.Rows.{with_unused}
 use Rattle.partial_keys.specs.Shows.{Covers, ShowsPiece}
 use Rattle.partial_keys.specs.Squeezed.{IsRowOver, or_all, squeezed, used_bits}
 use Rattle.pieces.proofs.Paths.{one_place}
 use Rattle.pieces.specs.Changes.{without}
 use Rattle.pieces.specs.Kept.{kept}
-use Rattle.pieces.specs.Piece.{Piece, Place}
+use Rattle.pieces.specs.Piece.{Place}
 
 -- the head without the place, with this height
 abbrev pub head_without : ℕ → ℕ → HeadView → HeadView

@@ -1,7 +1,10 @@
 -- The two sides of the root fork are covered by their rows.
-use Rattle.std.proofs.Common.{arith, ◌^◌}
+use Rattle.std.proofs.Common.{arith, subst, sym, ◌^◌, ◌∙◌}
 use Rattle.std.proofs.lemmas.List.{length-drop, length-take-le, take_rest}
+use Rattle.std.proofs.lemmas.List.Elements.{All-drop, All-take}
+use Rattle.std.specs.List.{All}
 use Rattle.compound_node.proofs.Sides.{Parts, parts}
+use Rattle.compound_node.specs.Nodes.{IsEntry}
 use Rattle.compound_node.specs.declared.entries.Entry.TheVariants.{Leaf}
 use Rattle.partial_keys.specs.Shown.{piece_of}
 use Rattle.pieces.specs.Positions.{front_below}
@@ -12,6 +15,9 @@ half_of-zero-requires-clause-some c =
     let p : Parts c.args.columns.now c.args.rows.now c.args.entries.now (piece_of (Leaf 0) c.args.columns.now c.args.rows.now c.args.entries.now) = parts c.args.columns.now c.args.rows.now c.args.entries.now _ c.requires.shows c.requires.several in
     rw (c.listed.ensures, c.front_len-front.ensures.value, length-take-le (front_below (2 ^ 31) c.args.rows.now) c.args.entries.now (omega (arith, p.front_within))) p.front_some
 
+pub half_of-zero-requires-clause-children : goal.half_of-zero-requires-clause-children
+half_of-zero-requires-clause-children c = subst (All IsEntry) (sym c.listed.ensures) (All-take IsEntry c.front_len-front.result c.args.entries.now c.requires.children)
+
 pub half_of-zero-requires-clause-covers : goal.half_of-zero-requires-clause-covers
 half_of-zero-requires-clause-covers c = rw (c.listed_rows.ensures, c.listed.ensures, c.front_len-front.ensures.value)
     (parts c.args.columns.now c.args.rows.now c.args.entries.now (piece_of (Leaf 0) c.args.columns.now c.args.rows.now c.args.entries.now) c.requires.shows c.requires.several).zero_covers
@@ -20,6 +26,9 @@ pub half_of-one-requires-clause-some : goal.half_of-one-requires-clause-some
 half_of-one-requires-clause-some c =
     let p : Parts c.args.columns.now c.args.rows.now c.args.entries.now (piece_of (Leaf 0) c.args.columns.now c.args.rows.now c.args.entries.now) = parts c.args.columns.now c.args.rows.now c.args.entries.now _ c.requires.shows c.requires.several in
     rw (c.listed-2.ensures, c.front_len-front.ensures.value, take_rest c.args.entries.now (front_below (2 ^ 31) c.args.rows.now), length-drop (front_below (2 ^ 31) c.args.rows.now) c.args.entries.now) (omega (arith, p.front_within))
+
+pub half_of-one-requires-clause-children : goal.half_of-one-requires-clause-children
+half_of-one-requires-clause-children c = subst (All IsEntry) (sym (c.listed-2.ensures ∙ take_rest c.args.entries.now c.front_len-front.result)) (All-drop IsEntry c.front_len-front.result c.args.entries.now c.requires.children)
 
 pub half_of-one-requires-clause-covers : goal.half_of-one-requires-clause-covers
 half_of-one-requires-clause-covers c =

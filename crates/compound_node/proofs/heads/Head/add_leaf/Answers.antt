@@ -1,7 +1,7 @@
 -- The fork is that of each node that has the head.
-use Rattle.std.proofs.Common.{length, subst, sym, ◌+◌, ◌<◌, ◌≤◌, insert}
+use Rattle.std.proofs.Common.{length, subst, sym, ◌+◌, ◌<◌, insert}
 use Rattle.std.specs.Prelude.{if◌then◌else◌}
-use Rattle.compound_node.proofs.Forks.{NewLeaf, head_leaf}
+use Rattle.compound_node.proofs.Forks.{head_leaf}
 use Rattle.compound_node.specs.Forking.{forked_head}
 use Rattle.compound_node.specs.Nodes.{HeadView, IsBuiltFrom, IsLawfulNode, leaves, node_of, piece}
 use Rattle.compound_node.specs.declared.entries.Entry.TheVariants.{Leaf}

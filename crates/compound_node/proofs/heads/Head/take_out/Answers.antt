@@ -1,5 +1,5 @@
 -- The words without a row are those of the head without the place.
-use Rattle.std.proofs.Common.{ap, arith, length, refl, subst, sym, take, ◌<◌, ◌∙◌, ◌≡◌}
+use Rattle.std.proofs.Common.{ap, arith, length, refl, sym, take, ◌<◌, ◌∙◌, ◌≡◌}
 use Rattle.compound_node.proofs.Ladders.{shown-sparse_keys}
 use Rattle.compound_node.proofs.Taken.{fits_after, is_after, head_without, left_in, words_over, words_some, words_used}
 use Rattle.compound_node.specs.Nodes.{HeadView}

@@ -1,0 +1,7 @@
+-- The parts before and behind the row, joined.
+use Rattle.std.proofs.Common.{refl, ◌+◌}
+use Rattle.std.proofs.lemmas.List.{take_rest}
+use Rattle.compound_node.proofs.rows.without_row.Goals as goal
+
+pub returns : goal.returns
+returns c = rw (c.append_cleared.ensures, c.append.ensures, c.new-out.ensures, c.sibling_bit.ensures, take_rest c.args.rows.now (c.args.at + 1)) refl
