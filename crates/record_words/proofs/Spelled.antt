@@ -1,5 +1,5 @@
 -- What is read of words that spell a value.
-use Rattle.std.proofs.Common.{ℕ, ◌≡◌, ◌+◌, ◌-◌, ◌*◌, ◌/◌, ◌%◌, ◌^◌, ◌<◌, ◌≤◌, ◌++◌, List, [], ◌∷◌, Option, Some, suc, arith, get_or, length, take, refl, sym, ap, ◌∙◌, length-append, get_or-take, lit<}
+use Rattle.std.proofs.Common.{ℕ, ◌≡◌, ◌+◌, ◌-◌, ◌*◌, ◌/◌, ◌%◌, ◌^◌, ◌<◌, ◌≤◌, ◌++◌, List, [], ◌∷◌, Option, Some, suc, arith, get_or, length, take, refl, sym, ap, ◌∙◌, length-append, get_or-take, lit<, below_more, set, length-set, get_or-set_other, get_or-set_same}
 use Rattle.std.proofs.Math.Seq.{take-suc}
 use Rattle.std.proofs.lemmas.Option.{slice_get-get_or}
 use Rattle.compound_node.specs.declared.entries.Entry.{Entry}
@@ -19,6 +19,15 @@ use Rattle.record_words.proofs.Lawful.{column-lt, get_or-padded, length-with_unu
 use Rattle.record_words.proofs.Leaves.{same_leaf}
 use Rattle.record_words.proofs.Nodes.{head_part, node_words-entry, same_head, same_node}
 use Rattle.record_words.proofs.Parts.{position_in_word, row_in_word}
+
+-- the numbers of a list so far, and one more that is written
+pub one_more_written : (at : ℕ → ℕ) (count : ℕ) (xs : List ℕ) (n y : ℕ) → n < count → (length xs ≡ count) × ((k : ℕ) → k < n → get_or xs k 0 ≡ at k) → y ≡ at n →
+    (length (set xs n y) ≡ count) × ((k : ℕ) → k < n + 1 → get_or (set xs n y) k 0 ≡ at k)
+one_more_written at count xs n y within (long, so_far) here = (
+  length-set xs n y ∙ long,
+  below_more (λ k. get_or (set xs n y) k 0 ≡ at k) n (λ k before. get_or-set_other xs n k y 0 (λ e. omega (arith, e, before)) ∙ so_far k before)
+      (get_or-set_same xs n y 0 (omega (arith, within, long)) ∙ here),
+)
 
 length-with_free : (columns : List ℕ) → length columns ≤ 31 → length (with_free columns) ≡ 31
 length-with_free columns few = length-append columns _ ∙ omega (arith, length-replicate {A = ℕ} (31 - length columns) 65535)

@@ -2,6 +2,7 @@
 use Rattle.std.proofs.Common.{◌≡◌, ◌+◌, ◌-◌, ◌++◌, ◌∙◌, ap, arith, drop, get_or, length, refl, sym, subst, take}
 use Rattle.std.specs.Prelude.{remove}
 use Rattle.compound_node.specs.Nodes.{HeadView, IsBuiltFrom, NodeView, head_of, node_of, piece}
+use Rattle.compound_node.proofs.Lawful.{same_count}
 use Rattle.compound_node.specs.declared.entries.Entry.TheVariants.{Leaf}
 use Rattle.pieces.specs.Changes.{without}
 use Rattle.record_words.specs.Node.{HasNodeWords, SpellEntries, node_words}
@@ -20,6 +21,9 @@ overflow_sub-at c = let (node, has, same, here) = c.requires in omega (arith, he
 
 pub take_out-requires-clause-place : goal.take_out-requires-clause-place
 take_out-requires-clause-place c = omega (arith, at_head c.args.words.now c.head_of_words-head.result c.args.at c.head_of_words-head.ensures c.requires, c.count-2.ensures.count)
+
+pub take_out-requires-clause-room : goal.take_out-requires-clause-room
+take_out-requires-clause-room c = omega (arith, c.fits-words, c.count-2.ensures.count, same_count _ c.count-2.ensures.lawful, c.count-2.ensures.lawful.room)
 
 pub read_some-requires : goal.read_some-requires
 read_some-requires c =
@@ -57,6 +61,12 @@ still_spelled c node has same =
 
 pub height_over-height-requires : goal.height_over-height-requires
 height_over-height-requires c = let (node, has, same, here) = c.requires in (remove node.entries c.args.at, still_spelled c node has same)
+
+pub take_out-requires-2-clause-several : goal.take_out-requires-2-clause-several
+take_out-requires-2-clause-several c = omega (arith, c.count.ensures.count, same_count _ c.count.ensures.lawful, c.count.ensures.lawful.several, c.if-count-eq2.false)
+
+pub take_out-requires-2-clause-in_range : goal.take_out-requires-2-clause-in_range
+take_out-requires-2-clause-in_range c = at_head c.args.words.now c.head_of_words-head.result c.args.at c.head_of_words-head.ensures c.requires
 
 pub take_out-requires-2-clause-height : goal.take_out-requires-2-clause-height
 take_out-requires-2-clause-height c =
