@@ -1,7 +1,8 @@
 -- What the loads of a leaf tell.
-use Rattle.std.proofs.Common.{rules, ◌≡◌, ◌+◌, arith, length, lit≤, lit<, subst, sym}
+use Rattle.std.proofs.Common.{rules, ◌≡◌, ◌+◌, ◌<◌, arith, length, lit≤, lit<, subst, sym}
 use Rattle.versions.specs.declared.Rec.TheVariants.{Leaf as a_leaf}
 use Rattle.key_bits.specs.declared.TheConstants.{MAX_BYTES}
+use Rattle.record_words.specs.declared.TheConstants.{LEAF_FIELDS}
 use Rattle.record_words.specs.Leaf.{words_of_key}
 use Rattle.record_words.proofs.Locations.{size_fits}
 use Rattle.rowex_core.specs.declared.event.Act.TheVariants.{LoadFixed}
@@ -39,7 +40,7 @@ load_fixed_from-word-requires g c =
 pub returns-then-length-eq8 : goal.returns-then-length-eq8
 returns-then-length-eq8 g c =
     let l = c.requires.led in let e = c.load_fixed_from-word.ensures in let w = c.write_word.ensures in
-    let f = first_read {i = (c.load_fixed_from-value.new.seat, c.load_fixed_from-value.new.gate)} c.requires.reader l c.load_fixed_from-value.ensures c.load_fixed_from-length.ensures in
+    let f = first_read {i = (c.load_fixed_from-value.new.seat, c.load_fixed_from-value.new.gate)} {b = (c.load_fixed_from-length.new.seat, c.load_fixed_from-length.new.gate)} c.requires.reader l c.load_fixed_from-value.ensures c.load_fixed_from-length.ensures in
     let next = reads_one (LoadFixed (a_leaf c.args.number) 3 c.load_fixed_from-word.result) tt e in
     let is : c.load_fixed_from-length.result ≡ 8 = c.if-length-eq8.true in
     let first = so_far_first _ _ c.args.number c.load_fixed_from-value.result c.load_fixed_from-length.result f.loaded in
@@ -99,25 +100,23 @@ load_fixed_from-word-requires-in-loop-index g c = let i = c.loop-index.invariant
 
 pub loop-index-preserved : goal.loop-index-preserved
 loop-index-preserved g c =
-    let l = c.requires.led in let i = c.loop-index.invariant in let e = c.load_fixed_from-word-in-loop-index.ensures in
-    let one = reads_one (LoadFixed (a_leaf c.args.number) (c.loop-index.index + 1) c.load_fixed_from-word-in-loop-index.result) tt e in
+    let l = c.requires.led in let i = c.loop-index.invariant in let e = c.load_fixed_from-word-in-loop-index.ensures in let w = c.write_word-in-loop-index.ensures in
+    let n = c.loop-index.index in let word = c.load_fixed_from-word-in-loop-index.result in let old = c.loop-index.places in let new = c.write_word-in-loop-index.new.bytes in
+    let one = reads_one (LoadFixed (a_leaf c.args.number) (n + 1) word) tt e in
+    let from = c.loop-index.auto.index in
+    let low : n < LEAF_FIELDS = omega (arith, i.fits, c.loop-index-test.true) in
+    let long : length new ≡ MAX_BYTES = search rules in
     record {
       reader = reader_then i.reader one;
       used_is = i.used_is;
       fits = i.fits;
       room = i.room;
       reads = reads_trans i.reads one;
-      long = search rules;
-      small = front_small (c.loop-index.index + 1) c.write_word-in-loop-index.new.bytes (search rules) (omega (arith, i.fits, c.loop-index-test.true)) c.write_word-in-loop-index.ensures.small;
-      so_far = so_far_next _ _ _ _ c.args.number c.loop-index.index _ _ _ _ (front (c.loop-index.index + 1) c.write_word-in-loop-index.new.bytes) i.so_far c.loop-index.auto.index (omega (arith, i.fits, c.loop-index-test.true)) e.event l.0 l.1
-          (length-front (c.loop-index.index + 1) c.write_word-in-loop-index.new.bytes (search rules) (omega (arith, i.fits, c.loop-index-test.true)))
-          (front_written c.loop-index.index c.load_fixed_from-word-in-loop-index.result c.loop-index.places c.write_word-in-loop-index.new.bytes i.long (search rules) c.loop-index.auto.index (omega (arith, i.fits, c.loop-index-test.true)) c.write_word-in-loop-index.ensures.written c.write_word-in-loop-index.ensures.others)
-          (front_others c.loop-index.index c.load_fixed_from-word-in-loop-index.result c.loop-index.places c.write_word-in-loop-index.new.bytes i.long (search rules) c.loop-index.auto.index (omega (arith, i.fits, c.loop-index-test.true)) c.write_word-in-loop-index.ensures.written c.write_word-in-loop-index.ensures.others);
-      zeros = λ zeros. (
-        so_far_next _ _ _ _ c.args.number c.loop-index.index _ _ _ _ c.write_word-in-loop-index.new.bytes (i.zeros zeros).0 c.loop-index.auto.index (omega (arith, i.fits, c.loop-index-test.true)) e.event l.0 l.1
-            (search rules) c.write_word-in-loop-index.ensures.written c.write_word-in-loop-index.ensures.others,
-        c.write_word-in-loop-index.ensures.small,
-      );
+      long = long;
+      small = front_small (n + 1) new long (omega (arith, low)) w.small;
+      so_far = so_far_next _ _ _ _ c.args.number n _ _ _ _ (front (n + 1) new) i.so_far from low e.event l.0 l.1 (length-front (n + 1) new long (omega (arith, low)))
+          (front_written n word old new i.long long from low w.written w.others) (front_others n word old new i.long long from low w.written w.others);
+      zeros = λ zeros. (so_far_next _ _ _ _ c.args.number n _ _ _ _ new (i.zeros zeros).0 from low e.event l.0 l.1 long w.written w.others, w.small);
     }
 
 pub returns : goal.returns
@@ -128,7 +127,7 @@ returns g c =
       reader = i.reader;
       reads = i.reads;
       fits = omega (arith, i.fits, c.loop-index-test.false, c.loop-index.auto.index-end);
-      short = (first_read {i = (c.load_fixed_from-value.new.seat, c.load_fixed_from-value.new.gate)} c.requires.reader l c.load_fixed_from-value.ensures c.load_fixed_from-length.ensures).short;
+      short = (first_read {i = (c.load_fixed_from-value.new.seat, c.load_fixed_from-value.new.gate)} {b = (c.load_fixed_from-length.new.seat, c.load_fixed_from-length.new.gate)} c.requires.reader l c.load_fixed_from-value.ensures c.load_fixed_from-length.ensures).short;
       at_end = at_end;
       long = i.long;
       small = i.small;

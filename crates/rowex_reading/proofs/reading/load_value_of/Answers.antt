@@ -1,23 +1,31 @@
 -- The length, one word more, a word that is another key's, and the value.
-use Rattle.std.proofs.Common.{◌+◌, ◌-◌, ◌<◌, ◌≤◌, ◌∙◌, sym, subst, arith, rules}
+use Rattle.std.proofs.Common.{◌+◌, ◌-◌, ◌<◌, ◌≤◌, ◌∙◌, sym, subst, arith, lit<, lit≤, rules}
 use Rattle.versions.specs.declared.Rec.TheVariants.{Leaf as a_leaf}
 use Rattle.record_words.specs.declared.TheConstants.{LEAF_FIELDS}
 use Rattle.rowex_core.specs.declared.event.Act.TheVariants.{LoadFixed}
 use Rattle.rowex_reading.specs.Reads.{Reads}
 use Rattle.record_words.specs.Layout.{leaf_size}
 use Rattle.record_words.specs.Leaf.{words_for}
+use Rattle.record_words.proofs.Locations.{size_fits}
 use Rattle.rowex_reading.proofs.Leafing.{room_of}
 use Rattle.rowex_reading.proofs.Comparing.{IsKeyWord, words_with, byte_word, first_same, length_word, next_same, other_key, same_key}
 use Rattle.rowex_reading.proofs.Led.{reader_then, reads_one, reads_trans}
 use Rattle.rowex_reading.proofs.Wording.{none_loaded}
 use Rattle.rowex_reading.proofs.reading.load_value_of.Goals as goal
 
+pub load_fixed_from-requires : goal.load_fixed_from-requires
+load_fixed_from-requires g c = record {
+  own = c.requires.reader.0;
+  range = (c.requires.start.0, (lit≤ tt, lit≤ tt), omega (arith, size_fits c.args.table.now.layout c.args.number));
+  start = c.requires.start;
+}
+
 pub returns-then-load_fixed_from-size-clause-reads : goal.returns-then-load_fixed_from-size-clause-reads
-returns-then-load_fixed_from-size-clause-reads g c = (1, omega arith, reads_one (LoadFixed (a_leaf c.args.number) 2 c.load_fixed_from.result) tt c.load_fixed_from.ensures)
+returns-then-load_fixed_from-size-clause-reads g c = (1, lit≤ tt, reads_one (LoadFixed (a_leaf c.args.number) 2 c.load_fixed_from.result) tt c.load_fixed_from.ensures)
 
 pub returns-then-load_fixed_from-size-clause-leaf : goal.returns-then-load_fixed_from-size-clause-leaf
 returns-then-load_fixed_from-size-clause-leaf g c = λ m led.
-    other_key _ _ c.args.number c.args.key.now m led _ _ 1 c.load_fixed_from.result _ (none_loaded c.args.seat.now.known (a_leaf c.args.number) _) (omega arith) (omega arith) c.load_fixed_from.ensures.event
+    other_key _ _ c.args.number c.args.key.now m led _ _ 1 c.load_fixed_from.result _ (none_loaded c.args.seat.now.known (a_leaf c.args.number) _) (lit≤ tt) (lit< tt) c.load_fixed_from.ensures.event
     (λ e. c.if-load_fixed_from-size.true (e ∙ (length_word c.args.key.now ∙ sym c.requires.key.1)))
 
 pub loop-index-init : goal.loop-index-init
@@ -29,7 +37,7 @@ loop-index-init g c =
     let reader = reader_then c.requires.reader one in
     let loaded = first_same _ _ c.args.number c.args.key.now l.0 l.1 _ c.load_fixed_from.result c.load_fixed_from.ensures.event (omega (arith, size, c.if-load_fixed_from-size.false)) in
     let room = subst (λ z. words_for z ≤ leaf_size c.args.table.now.layout c.args.number) (length_word c.args.key.now)
-    (room_of c.args.table.now.layout _ _ c.args.number (IsKeyWord 2) (words_with c.args.key.now) reader.1 loaded (omega arith, omega arith) l.0 l.1) in
+    (room_of c.args.table.now.layout _ _ c.args.number (IsKeyWord 2) (words_with c.args.key.now) reader.1 loaded (lit< tt, lit≤ tt) l.0 l.1) in
     record {
       reader = reader;
       room = omega (arith, c.key_words-end.ensures, size, room);
@@ -38,6 +46,13 @@ loop-index-init g c =
       reads = one;
       loaded = loaded;
     }
+
+pub load_fixed_from-word-requires : goal.load_fixed_from-word-requires
+load_fixed_from-word-requires g c = let i = c.loop-index.invariant in record {
+  own = i.reader.0;
+  range = (c.requires.start.0, (omega arith, omega (arith, i.fits, c.loop-index-test.true)), omega (arith, i.room, c.loop-index-test.true));
+  start = c.requires.start;
+}
 
 pub returns-then-word-key_word_at-clause-reads : goal.returns-then-word-key_word_at-clause-reads
 returns-then-word-key_word_at-clause-reads g c =
@@ -67,6 +82,13 @@ loop-index-preserved g c =
       loaded = next_same _ _ c.args.number c.args.key.now l.0 l.1 _ _ c.loop-index.index c.load_fixed_from-word.result i.loaded low c.load_fixed_from-word.ensures.event
           (c.if-word-key_word_at.false ∙ (c.key_word_at.ensures ∙ sym (byte_word c.args.key.now c.loop-index.index c.loop-index.auto.index low)));
     }
+
+pub load_fixed_from-requires-2 : goal.load_fixed_from-requires-2
+load_fixed_from-requires-2 g c = record {
+  own = c.loop-index.invariant.reader.0;
+  range = (c.requires.start.0, (lit≤ tt, lit≤ tt), omega (arith, size_fits c.args.table.now.layout c.args.number));
+  start = c.requires.start;
+}
 
 pub returns-clause-reads : goal.returns-clause-reads
 returns-clause-reads g c =
