@@ -127,3 +127,31 @@ returns-clause-taken g c = λ e. not_taken e
 
 pub undo-requires-clause-records : goal.undo-requires-clause-records
 undo-requires-clause-records g c = λ k d low. absurd (omega (arith, low))
+
+pub lock_span-requires-clause-own : goal.lock_span-requires-clause-own
+lock_span-requires-clause-own g c = c.requires.own
+
+pub lock_span-requires-clause-span : goal.lock_span-requires-clause-span
+lock_span-requires-clause-span g c = c.requires.within
+
+pub lock_span-requires-clause-free : goal.lock_span-requires-clause-free
+lock_span-requires-clause-free g c = (c.requires.rest.locks, c.requires.rest.anchor)
+
+pub lock_span-requires-clause-none : goal.lock_span-requires-clause-none
+lock_span-requires-clause-none g c = c.requires.rest.own
+
+pub lock_span-requires-clause-quiet : goal.lock_span-requires-clause-quiet
+lock_span-requires-clause-quiet g c = c.requires.quiet
+
+pub undo-requires-clause-within : goal.undo-requires-clause-within
+undo-requires-clause-within g c = c.requires.within
+
+pub returns-then-not-lock_span-clause-rest : goal.returns-then-not-lock_span-clause-rest
+returns-then-not-lock_span-clause-rest g c = λ e.
+    let free = (c.lock_span.ensures.refused c.if-not-lock_span.true).0 in record { own = c.lock_span.ensures.same ∙ c.requires.rest.own; locks = free.0; anchor = free.1 }
+
+pub returns-then-check_span-clause-rest : goal.returns-then-check_span-clause-rest
+returns-then-check_span-clause-rest g c = λ e. not_taken (sym e)
+
+pub returns-clause-rest : goal.returns-clause-rest
+returns-clause-rest g c = λ e. c.undo.ensures.rest

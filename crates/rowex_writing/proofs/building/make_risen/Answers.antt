@@ -1,9 +1,12 @@
 -- The upper half, and then the lower one.
-use Rattle.std.proofs.Common.{◌++◌, ◌∷◌, refl, arith}
+use Rattle.std.proofs.Common.{ℕ, ◌+◌, ◌<◌, ◌≤◌, ◌++◌, ◌∷◌, refl, arith}
 use Rattle.rowex_rights.specs.Rises.{made_of_node}
 use Rattle.rowex_writing.proofs.Counting.{one_few, one_more, two_few, two_more}
 use Rattle.rowex_writing.proofs.Locking.{goes_more}
 use Rattle.rowex_writing.proofs.building.make_risen.Goals as goal
+
+room_left : (before after most : ℕ) → after ≤ before + 1 → before + 1 < most → after < most
+room_left before after most more room = omega arith
 
 pub returns-in_err-zero-in-Two-clause-goes : goal.returns-in_err-zero-in-Two-clause-goes
 returns-in_err-zero-in-Two-clause-goes g c = goes_more c.args.table.now g.G.Gate.becomes _ _ _ c.in_ok-one-in-Two.ensures.goes c.in_err-zero-in-Two.ensures.goes
@@ -90,3 +93,19 @@ returns-in_err-zero-in-Two-clause-more g c = two_more _ _ _ c.in_ok-one-in-Two.e
 
 pub returns-in_ok-zero-in-Two-clause-more : goal.returns-in_ok-zero-in-Two-clause-more
 returns-in_ok-zero-in-Two-clause-more g c = two_more _ _ _ c.in_ok-one-in-Two.ensures.more c.in_ok-zero-in-Two.ensures.more
+
+pub make_node-requires-clause-building : goal.make_node-requires-clause-building
+make_node-requires-clause-building g c = c.requires.building
+
+pub make_half-requires-clause-building : goal.make_half-requires-clause-building
+make_half-requires-clause-building g c = c.requires.building
+
+pub make_half-requires-clause-room : goal.make_half-requires-clause-room
+make_half-requires-clause-room g c = let room = c.requires.room in omega (arith, room)
+
+pub make_half-requires-in-Two-clause-building : goal.make_half-requires-in-Two-clause-building
+make_half-requires-in-Two-clause-building g c =
+    let (news, b) = c.requires.building in let (upper, high, next) = c.in_ok-one-in-Two.ensures.made news b in (upper ++ news, next)
+
+pub make_half-requires-in-Two-clause-room : goal.make_half-requires-in-Two-clause-room
+make_half-requires-in-Two-clause-room g c = room_left _ _ _ c.in_ok-one-in-Two.ensures.more c.requires.room

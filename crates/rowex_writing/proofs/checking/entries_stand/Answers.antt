@@ -2,6 +2,7 @@
 use Rattle.std.proofs.Common.{◌≡◌, ◌<◌, ◌≤◌, ◌∙◌, ℕ, List, length, sym, subst, Some, arith, get_or}
 use Rattle.std.specs.Prelude.{slice_get}
 use Rattle.std.proofs.lemmas.Option.{slice_get-get_or, get_or_from_slice_get}
+use Rattle.std.proofs.lemmas.Bool.{false≢true}
 use Rattle.insert_cases.specs.declared.choice.Step.{Step}
 use Rattle.tries.specs.Place.{entry_at}
 use Rattle.rowex_core.specs.Reading.{node_words_of}
@@ -91,3 +92,12 @@ pub returns-clause-stand : goal.returns-clause-stand
 returns-clause-stand g c = λ m w t i s low high at words h.
     let v = c.loop-index.invariant in
     v.stand m c.args.job.now.key.now w i s low (omega (arith, c.loop-index-test.false)) at words (locked_on c.loop-index.seat.known c.args.seat.now.known s.number words (sym v.reads.goes.stays.1) h)
+
+pub returns-then-not-entry_stands-clause-possible : goal.returns-then-not-entry_stands-clause-possible
+returns-then-not-entry_stands-clause-possible g c = c.entry_stands.ensures.possible
+
+pub returns-then-not-entry_stands-clause-stand : goal.returns-then-not-entry_stands-clause-stand
+returns-then-not-entry_stands-clause-stand g c = λ m w e. absurd (false≢true e)
+
+pub returns-clause-changed : goal.returns-clause-changed
+returns-clause-changed g c = λ m w e. absurd (false≢true (sym e))

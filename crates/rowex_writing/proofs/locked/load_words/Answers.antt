@@ -73,3 +73,33 @@ returns-clause-reads g c = c.loop-index-2.invariant.reads
 
 pub returns-clause-few : goal.returns-clause-few
 returns-clause-few g c = omega (arith, c.loop-index-2.invariant.few, c.loop-index-2.auto.index-end, c.loop-next.invariant.2, c.loop-next.invariant.3)
+
+pub load_word-requires-clause-own : goal.load_word-requires-clause-own
+load_word-requires-clause-own g c = c.loop-index.invariant.own
+
+pub load_word-requires-clause-start : goal.load_word-requires-clause-start
+load_word-requires-clause-start g c = c.start_of-start.ensures
+
+pub load_word-requires-clause-index : goal.load_word-requires-clause-index
+load_word-requires-clause-index g c = omega (arith, c.loop-index-test.true)
+
+pub load_word-requires-in-loop-place-clause-own : goal.load_word-requires-in-loop-place-clause-own
+load_word-requires-in-loop-place-clause-own g c = c.loop-place.invariant.own
+
+pub load_word-requires-in-loop-place-clause-start : goal.load_word-requires-in-loop-place-clause-start
+load_word-requires-in-loop-place-clause-start g c = c.start_of-start.ensures
+
+pub load_word-requires-in-loop-place-clause-index : goal.load_word-requires-in-loop-place-clause-index
+load_word-requires-in-loop-place-clause-index g c = omega (arith, c.loop-place-test.true, c.loop-next-test.true, c.loop-next.invariant.3)
+
+pub load_word-requires-in-loop-index-2-clause-own : goal.load_word-requires-in-loop-index-2-clause-own
+load_word-requires-in-loop-index-2-clause-own g c = c.loop-index-2.invariant.own
+
+pub load_word-requires-in-loop-index-2-clause-start : goal.load_word-requires-in-loop-index-2-clause-start
+load_word-requires-in-loop-index-2-clause-start g c = c.start_of-start.ensures
+
+pub load_word-requires-in-loop-index-2-clause-index : goal.load_word-requires-in-loop-index-2-clause-index
+load_word-requires-in-loop-index-2-clause-index g c = omega (arith, c.loop-index-2-test.true, c.loop-next.invariant.3)
+
+pub start_of-start-requires : goal.start_of-start-requires
+start_of-start-requires g c = c.requires.range

@@ -1,5 +1,5 @@
 -- One node more; one that is refused, and the anchor.
-use Rattle.std.proofs.Common.{◌≡◌, ◌∷◌, ◌+◌, ◌-◌, ◌<◌, length, rules, true, false, refl, sym, ap, subst, ◌∙◌, arith, get_or}
+use Rattle.std.proofs.Common.{ℕ, ◌≡◌, ◌∷◌, ◌+◌, ◌-◌, ◌<◌, ◌≤◌, le_trans, length, rules, true, false, refl, sym, ap, subst, ◌∙◌, arith, get_or}
 use Rattle.std.specs.Prelude.{slice_range}
 use Rattle.insert_cases.specs.declared.choice.Step.{Step}
 use Rattle.rowex_writing.specs.Locks.{HasJustLocked, numbers_of}
@@ -12,6 +12,19 @@ use Rattle.rowex_writing.proofs.locks.lock_span.Goals as goal
 
 not_taken : {A : Type 0} → false ≡ true → A
 not_taken e = absurd (cc)
+
+-- the index before this one, and the loop's end
+again : {first index : ℕ} → first < index → index ≡ index - 1 + 1
+again more = omega (arith, more)
+
+below : {first index len : ℕ} → first < index → index ≤ len → index - 1 < len
+below more low = omega (arith, more, low)
+
+upto : {first index len : ℕ} → first < index → index ≤ len → index - 1 + 1 ≤ len
+upto more low = omega (arith, more, low)
+
+the_top : {first index : ℕ} (end : ℕ) → first ≤ index → first ≡ end - 1 → index ≤ first → index ≡ end - 1
+the_top end low top high = omega (arith, low, top, high)
 
 pub loop-index-init : goal.loop-index-init
 loop-index-init g c = record {
@@ -29,15 +42,15 @@ loop-index-init g c = record {
 pub lock_node-requires-clause-led : goal.lock_node-requires-clause-led
 lock_node-requires-clause-led g c =
     let i = c.loop-index.invariant in
-    led_one c.args.table.now.layout c.args.seat.now.known c.loop-index.seat.known c.args.way.now (c.loop-index.index - 1) _ (omega (arith, c.loop-index-test.true, i.range.1, c.requires.span.1))
+    led_one c.args.table.now.layout c.args.seat.now.known c.loop-index.seat.known c.args.way.now (c.loop-index.index - 1) _ (below c.loop-index-test.true (le_trans i.range.1 c.requires.span.1))
     (works_later c.args.table.now g.G.Gate.becomes (c.args.seat.now, c.args.gate.now) (c.loop-index.seat, c.loop-index.gate) i.tries.run) c.requires.led
 
 pub lock_node-requires-clause-free : goal.lock_node-requires-clause-free
 lock_node-requires-clause-free g c =
     let i = c.loop-index.invariant in
-    let at : c.loop-index.index ≡ c.loop-index.index - 1 + 1 = omega (arith, c.loop-index-test.true) in
+    let at = again c.loop-index-test.true in
     not_locked c.loop-index.seat.known _ _ (subst (λ n. HasJustLocked c.loop-index.seat.known (numbers_of (slice_range c.args.way.now n c.args.span.len))) at i.locked)
-    (number_new c.args.way.now (c.loop-index.index - 1) c.args.span.len _ (omega (arith, c.loop-index-test.true, i.range.1)) c.requires.span.1 c.requires.apart)
+    (number_new c.args.way.now (c.loop-index.index - 1) c.args.span.len _ (below c.loop-index-test.true i.range.1) c.requires.span.1 c.requires.apart)
 
 pub lock_node-requires-clause-none : goal.lock_node-requires-clause-none
 lock_node-requires-clause-none g c = c.loop-index.invariant.same ∙ c.requires.none
@@ -58,17 +71,17 @@ pub unlock_nodes-requires-clause-locked : goal.unlock_nodes-requires-clause-lock
 unlock_nodes-requires-clause-locked g c =
     let i = c.loop-index.invariant in
     let r = c.lock_node.ensures.refused c.if-not-lock_node.true in
-    let at : c.loop-index.index ≡ c.loop-index.index - 1 + 1 = omega (arith, c.loop-index-test.true) in
+    let at = again c.loop-index-test.true in
     locked_same c.loop-index.seat.known c.lock_node.new.seat.known _ r.1 (subst (λ n. HasJustLocked c.loop-index.seat.known (numbers_of (slice_range c.args.way.now n c.args.span.len))) at i.locked)
 
 pub returns-then-not-lock_node-clause-tries : goal.returns-then-not-lock_node-clause-tries
 returns-then-not-lock_node-clause-tries g c =
     let i = c.loop-index.invariant in
-    let at : c.loop-index.index ≡ c.loop-index.index - 1 + 1 = omega (arith, c.loop-index-test.true) in
+    let at = again c.loop-index-test.true in
     let table = c.args.table.now in
     let so_far = subst (λ n. TriesNodes table g.G.Gate.becomes (numbers_of (slice_range c.args.way.now n c.args.span.len)) (c.args.seat.now, c.args.gate.now) (c.loop-index.seat, c.loop-index.gate)) at i.tries in
-    let one_more = nodes_more table g.G.Gate.becomes _ _ _ _ _ (number_new c.args.way.now (c.loop-index.index - 1) c.args.span.len _ (omega (arith, c.loop-index-test.true, i.range.1)) c.requires.span.1 c.requires.apart) so_far c.lock_node.ensures.tries in
-    let others = numbers_few c.args.way.now (c.loop-index.index - 1 + 1) c.args.span.len (omega (arith, c.loop-index-test.true, i.range.1)) c.requires.span.1 in
+    let one_more = nodes_more table g.G.Gate.becomes _ _ _ _ _ (number_new c.args.way.now (c.loop-index.index - 1) c.args.span.len _ (below c.loop-index-test.true i.range.1) c.requires.span.1 c.requires.apart) so_far c.lock_node.ensures.tries in
+    let others = numbers_few c.args.way.now (c.loop-index.index - 1 + 1) c.args.span.len (upto c.loop-index-test.true i.range.1) c.requires.span.1 in
     let back = slice_few c.args.way.now (c.loop-index.index - 1 + 1) c.args.span.len in (
       _,
       once_then table g.G.Gate.becomes _ _ _ (nodes_once table g.G.Gate.becomes _ _ _ one_more) c.unlock_nodes.ensures.works,
@@ -95,11 +108,11 @@ pub loop-index-preserved : goal.loop-index-preserved
 loop-index-preserved g c =
     let i = c.loop-index.invariant in
     let l = c.lock_node.ensures.locked c.if-not-lock_node.false in
-    let at : c.loop-index.index - 1 + 1 ≡ c.loop-index.index = omega (arith, c.loop-index-test.true) in
+    let at = sym (again c.loop-index-test.true) in
     let d : Step = record { number = 0; height = 0; first_position = 0; count = 0; at = 0 } in
-    let part = slice_more c.args.way.now (c.loop-index.index - 1) c.args.span.len d (omega (arith, c.loop-index-test.true, i.range.1)) c.requires.span.1 ∙
+    let part = slice_more c.args.way.now (c.loop-index.index - 1) c.args.span.len d (below c.loop-index-test.true i.range.1) c.requires.span.1 ∙
     ap (λ n. get_or c.args.way.now (c.loop-index.index - 1) d ∷ slice_range c.args.way.now n c.args.span.len) at in
-    let fresh = number_new c.args.way.now (c.loop-index.index - 1) c.args.span.len d (omega (arith, c.loop-index-test.true, i.range.1)) c.requires.span.1 c.requires.apart in
+    let fresh = number_new c.args.way.now (c.loop-index.index - 1) c.args.span.len d (below c.loop-index-test.true i.range.1) c.requires.span.1 c.requires.apart in
     let new = subst (λ n. IsOneOf (get_or c.args.way.now (c.loop-index.index - 1) d).number (numbers_of (slice_range c.args.way.now n c.args.span.len)) → ⊥) at fresh in
     record {
       few = omega (arith, i.few, i.range.1, c.loop-index-test.true, c.lock_node.ensures.few);
@@ -132,7 +145,7 @@ returns-then-span-gt0-clause-few g c e =
 pub returns-then-span-gt0-clause-locked : goal.returns-then-span-gt0-clause-locked
 returns-then-span-gt0-clause-locked g c e =
     let i = c.loop-index.invariant in
-    let at : c.loop-index.index ≡ c.args.span.end - 1 = omega (arith, i.range.0, i.top, c.loop-index-test.false) in
+    let at = the_top c.args.span.end i.range.0 i.top c.loop-index-test.false in
     record {
       nodes = subst (λ n. HasJustLocked c.loop-index.seat.known (numbers_of (slice_range c.args.way.now n c.args.span.len))) at i.locked;
       top = λ z. absurd (omega (arith, c.if-span-gt0.true));
@@ -159,7 +172,7 @@ pub returns-then-lock_anchor-clause-locked : goal.returns-then-lock_anchor-claus
 returns-then-lock_anchor-clause-locked g c e =
     let i = c.loop-index.invariant in
     let l = c.lock_anchor.ensures.locked c.if-lock_anchor.true in
-    let at : c.loop-index.index ≡ c.args.span.end - 1 = omega (arith, i.range.0, i.top, c.loop-index-test.false) in
+    let at = the_top c.args.span.end i.range.0 i.top c.loop-index-test.false in
     record {
       nodes = subst (λ n. HasJustLocked c.lock_anchor.new.seat.known (numbers_of (slice_range c.args.way.now n c.args.span.len))) at
           (locked_same c.loop-index.seat.known c.lock_anchor.new.seat.known _ l.1 i.locked);
@@ -206,7 +219,7 @@ pub overflow_sub-index : goal.overflow_sub-index
 overflow_sub-index g c = omega (arith, c.loop-index-test.true)
 
 pub bounds-way-index : goal.bounds-way-index
-bounds-way-index g c = omega (arith, c.loop-index-test.true, c.loop-index.invariant.range.1, c.requires.span.1)
+bounds-way-index g c = below c.loop-index-test.true (le_trans c.loop-index.invariant.range.1 c.requires.span.1)
 
 pub lock_node-requires-clause-own : goal.lock_node-requires-clause-own
 lock_node-requires-clause-own g c = c.loop-index.invariant.own
@@ -245,4 +258,16 @@ pub returns-clause-few : goal.returns-clause-few
 returns-clause-few g c = λ e. not_taken e
 
 pub offset_bounds-way-index : goal.offset_bounds-way-index
-offset_bounds-way-index g c = let h : c.loop-index.index - 1 < length c.args.way.now = omega (arith, c.loop-index-test.true, c.loop-index.invariant.range.1, c.requires.span.1) in search (rules, h)
+offset_bounds-way-index g c = let h : c.loop-index.index - 1 < length c.args.way.now = below c.loop-index-test.true (le_trans c.loop-index.invariant.range.1 c.requires.span.1) in search (rules, h)
+
+pub slice_bounds-unlock_nodes-start : goal.slice_bounds-unlock_nodes-start
+slice_bounds-unlock_nodes-start g c = upto c.loop-index-test.true c.loop-index.invariant.range.1
+
+pub slice_bounds-unlock_nodes-end : goal.slice_bounds-unlock_nodes-end
+slice_bounds-unlock_nodes-end g c = c.requires.span.1
+
+pub slice_bounds-unlock_nodes-start-2 : goal.slice_bounds-unlock_nodes-start-2
+slice_bounds-unlock_nodes-start-2 g c = c.loop-index.invariant.range.1
+
+pub slice_bounds-unlock_nodes-end-2 : goal.slice_bounds-unlock_nodes-end-2
+slice_bounds-unlock_nodes-end-2 g c = c.requires.span.1
