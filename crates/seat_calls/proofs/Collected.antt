@@ -15,6 +15,7 @@ use Rattle.finite_map.specs.Fronts.{BeginsWith}
 use Rattle.epochs.specs.Rounds.{IsRound, IsSmallRound, LoadsPin, VisitEach, Visits, advance_steps}
 use Rattle.epochs.specs.Runs.{collecting}
 use Rattle.seat_calls.specs.Answers.{IsUnnoted}
+use Rattle.seat_calls.specs.Asked.{IsIdle}
 use Rattle.seat_calls.specs.Counts.{round_steps}
 use Rattle.seat_calls.specs.Passes.{AreByPasses, IsSettled, pass_of}
 use Rattle.seat_calls.proofs.Noting.{event_makers}
@@ -70,6 +71,9 @@ module _ {G : Type 0} {table : TableView} {becomes : G → Event → G → Type 
     legal = subst (λ (z : Known). LegalCalls z.front z.pass z.notes) (sym does.rest) s.legal;
   }
 
+  pub does_idle : b.0.known.pin ≡ None → IsIdle table a.0 → IsIdle table b.0
+  does_idle free idle = (does.seat.0 ∙ idle.0, does_settled free idle.1)
+
   -- before the first step the pass's front is of a lawful core
   makers : AreByPasses table.layout a.0.known.front
   makers = event_makers does.steps.1.event
@@ -105,9 +109,6 @@ module _ {G : Type 0} {table : TableView} {becomes : G → Event → G → Type 
       )
 
 module _ {G : Type 0} {table : TableView} {becomes : G → Event → G → Type 0} {most : ℕ} {a b : SeatView × G} (r : IsSmallRound table becomes most a b) where
-  pub small_settled : b.0.known.pin ≡ None → IsSettled a.0.known → IsSettled b.0.known
-  small_settled = does_settled r.does
-
   pub small_unnoted : IsSettled a.0.known → IsUnnoted table.layout (pass_of a.0) (pass_of b.0)
   small_unnoted = does_unnoted r.does
 

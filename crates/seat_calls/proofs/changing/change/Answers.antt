@@ -7,6 +7,9 @@ use Rattle.seat_calls.proofs.Tracing.{ran_on, ran_out}
 use Rattle.seat_calls.proofs.Trying.{waited_from_before, waited_out}
 use Rattle.seat_calls.proofs.changing.change.Goals as goal
 
+pub try_change-requires : goal.try_change-requires
+try_change-requires g c = record { idle = c.loop.invariant.idle }
+
 pub returns-in-Ok-clause-replied : goal.returns-in-Ok-clause-replied
 returns-in-Ok-clause-replied g c =
     waited_out c.args.table.now c.args.seat.now c.loop.seat c.try_change.new.seat c.args.call.now (Ok c.in-Ok.reply) c.loop.invariant.waited c.in-Ok.ensures.asked.replied

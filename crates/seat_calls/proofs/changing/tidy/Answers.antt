@@ -1,11 +1,11 @@
 -- A small round, or nothing.
-use Rattle.std.proofs.Common.{inl, inr, refl, ◌∙◌}
-use Rattle.seat_calls.proofs.Collected.{small_settled}
+use Rattle.std.proofs.Common.{inl, inr, refl}
+use Rattle.seat_calls.proofs.Collected.{does_idle}
 use Rattle.seat_calls.proofs.changing.tidy.Goals as goal
 
 pub returns-then-is_due-clause-idle : goal.returns-then-is_due-clause-idle
 returns-then-is_due-clause-idle g c =
-    let small = c.collect_small.ensures.round in (small.does.seat.0 ∙ c.requires.idle.0, small_settled small c.collect_small.ensures.free c.requires.idle.1)
+    let small = c.collect_small.ensures in does_idle small.round.does small.free c.requires.idle
 
 pub returns-then-is_due-clause-tidied : goal.returns-then-is_due-clause-tidied
 returns-then-is_due-clause-tidied g c = inr c.collect_small.ensures.round

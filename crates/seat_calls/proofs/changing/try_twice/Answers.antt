@@ -10,11 +10,25 @@ use Rattle.seat_calls.specs.Asked.{HasAsked}
 use Rattle.seat_calls.specs.Counts.{once_steps, twice_steps}
 use Rattle.seat_calls.specs.Traces.{AreTries, IsAttempt}
 use Rattle.seat_calls.specs.Passes.{pass_of}
-use Rattle.seat_calls.proofs.Collected.{round_few}
+use Rattle.seat_calls.proofs.Collected.{does_idle, round_few}
 use Rattle.seat_calls.proofs.Resting.{cause_still, lacked_full}
 use Rattle.seat_calls.proofs.Tracing.{ended_again}
 use Rattle.seat_calls.proofs.Trying.{once_asked, outcome_then, round_later, then_collected, unnoted_then}
 use Rattle.seat_calls.proofs.changing.try_twice.Goals as goal
+
+pub collect_round-round-requires-clause-own : goal.collect_round-round-requires-clause-own
+collect_round-round-requires-clause-own g c = c.try_once-first.ensures.asked.replied.idle.0
+
+pub collect_round-round-requires-clause-free : goal.collect_round-round-requires-clause-free
+collect_round-round-requires-clause-free g c = c.try_once-first.ensures.asked.replied.idle.1.pin
+
+pub try_once-requires : goal.try_once-requires
+try_once-requires g c =
+    let round = c.collect_round-round.ensures in record { idle = does_idle round.round.does round.free c.try_once-first.ensures.asked.replied.idle }
+
+pub refuse_again-requires : goal.refuse_again-requires
+refuse_again-requires g c =
+    let round = c.collect_round-round.ensures in record { idle = does_idle round.round.does round.free c.try_once-first.ensures.asked.replied.idle }
 
 pub returns-in_default : goal.returns-in_default
 returns-in_default g c = record { asked = once_asked c.args.call.now c.try_once-first.result (c.lacked.ensures.none c.in_default.is) c.try_once-first.ensures.asked }
