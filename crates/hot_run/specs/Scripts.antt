@@ -1,5 +1,5 @@
 -- Scripts that run on one index, each with a pass of its own: what they may be answered, and how such a run may end.
-use Rattle.std.specs.Prelude.{◌≡◌, ◌⊎◌, ℕ, ◌+◌, ◌≤◌, ◌++◌, List, [], ◌∷◌, length, map, filter_map, flat_map, take, nat_lt, All, Option, Result, Ok, Err, IsOk, if◌then◌else◌, codes}
+use Rattle.std.specs.Prelude.{◌≡◌, ◌⊎◌, ℕ, ◌+◌, ◌≤◌, ◌++◌, List, [], ◌∷◌, length, map, filter_map, flat_map, take, All, Option, Ok, Err, IsOk, codes}
 use Rattle.finite_map.specs.declared.Change.{Change}
 use Rattle.finite_map.specs.declared.Note.{Note}
 use Rattle.finite_map.specs.Calls.{LegalCalls, place_after}

@@ -3,6 +3,7 @@
 ghost use Rattle.std.specs.Prelude.{◌≡◌, ◌≤◌, All, IfOk, OnOk, flat_map, length, map};
 ghost use Rattle.std.specs.List.{AllZip, zip};
 ghost use Rattle.record_words.specs.Limits.{IsLeafCount, IsNodeCount};
+ghost use Rattle.seat_calls.specs.Answers.{HaveMet};
 ghost use Rattle.seat_calls.specs.Passes.{Owns};
 ghost use Rattle.hot_index.specs.Handles.{handle_at};
 ghost use Rattle.hot_scripts.specs.declared.script.TheConstants.{MAX_FILES};
@@ -14,6 +15,7 @@ use crate::answer::sections;
 use crate::callers::Waits;
 use crate::engine::run;
 use crate::indexes::new_index;
+use core::mem::replace_with;
 use hot_index::{Gate, Handle, Index, NoGate, Pass, handles_of};
 use hot_scripts::script::Script;
 use std::alloc::{AllocError, Global};
@@ -83,9 +85,10 @@ fn answer_by<T: Threads + Wait + Sync, G: Gate + Send + Drop>(
         (script_commands last.now) (handle_at index.now pass) (flat_map (λ t. t.items) texts.items)) }
 {
     let handle = Handle::new(index, pass);
-    let ran = run_files(rt, alloc, index, passes, scripts, gates)?;
-    let (handle, met) = meet_all(alloc, handle, ran)?;
-    answer_last(rt, alloc, handle, met, last)
+    let mut ran = run_files(rt, alloc, index, passes, scripts, gates)?;
+    let done: &mut [Done] = &mut ran;
+    let handle = meet_all(handle, done);
+    answer_last(rt, alloc, handle, done, last)
 }
 
 /// Answers the last script by its handle, whose pass has met those of the others and meets them again; gives the answers of all.
@@ -93,18 +96,18 @@ fn answer_last<'a, T: Wait>(
     rt: &T,
     alloc: Global,
     handle: Handle<&'a Index>,
-    met: Vec<Done<'a>>,
+    met: &mut [Done<'a>],
     last: &Script,
 ) -> Result<Vec<Vec<u8>>, AllocError>
-    requires index { AreAt handle.index handle met.items }
-    requires few { length met.items ≤ MAX_FILES }
-    ensures { IfOk result (λ texts. HasAnsweredLast handle.entry met.entry.items (script_commands last.now) (flat_map (λ t. t.items) texts.items)) }
+    requires index { AreAt handle.index handle met.old }
+    requires few { length met.old ≤ MAX_FILES }
+    ensures { IfOk result (λ texts. HasAnsweredLast handle.entry met.old (script_commands last.now) (flat_map (λ t. t.items) texts.items)) }
 {
     // The handle is opened: its pass belongs to its index.
     let _pass = &handle.pass;
     let done = run_file(rt, alloc, handle, last, NoGate)?;
-    let (_, mut again) = meet_all(alloc, done.handle, met)?;
-    sections(alloc, &mut again, done.text)
+    meet_all(done.handle, met);
+    sections(alloc, met, done.text)
 }
 
 /// Runs each script in a thread with its own pass of the index and its own gate, all at the same time, and joins them.
@@ -236,25 +239,36 @@ fn run_file<'a, T: Wait, G: Gate + Drop>(
     }
 }
 
-/// The handle's pass meets those of the scripts that have run, one after another.
-fn meet_all<'a>(
-    alloc: Global,
-    handle: Handle<&'a Index>,
-    done: Vec<Done<'a>>,
-) -> Result<(Handle<&'a Index>, Vec<Done<'a>>), AllocError>
-    requires { AreAt handle.index handle done.items }
-    ensures index { IfOk result (λ met. AreAt handle.entry.index met.0 met.1.items) }
-    ensures met { IfOk result (λ met. MeetInTurn handle.entry.index handle.entry.pass done.entry.items met.0.pass met.1.items) }
+/// The handle's pass meets those of the scripts that have run, one after another. Gives the handle back.
+fn meet_all<'a>(handle: Handle<&'a Index>, done: &mut [Done<'a>]) -> Handle<&'a Index>
+    requires { AreAt handle.index handle done.old }
+    ensures index { AreAt handle.entry.index result done.new }
+    ensures met { MeetInTurn handle.entry.index handle.entry.pass done.old result.pass done.new }
 {
     let mut last = handle;
-    let mut met = Vec::new(alloc);
-    for script in done {
-        let (again, other) = last.meet(script.handle);
-        last = again;
-        met.push(Done {
-            handle: other,
-            text: script.text,
-        })?;
+    for script in done.iter_mut() {
+        last = meet(last, script);
     }
-    Ok((last, met))
+    last
+}
+
+/// The handle's pass meets that of a script that has run. Gives the handle back.
+fn meet<'a>(handle: Handle<&'a Index>, done: &mut Done<'a>) -> Handle<&'a Index>
+    requires { done.old.handle.index ≡ handle.index }
+    ensures index { (result.index ≡ handle.entry.index) × (done.new.handle.index ≡ handle.entry.index) }
+    ensures met { HaveMet handle.entry.index.layout handle.entry.pass done.old.handle.pass result.pass done.new.handle.pass }
+    ensures text { done.new.text ≡ done.old.text }
+{
+    replace_with(
+        &mut done.handle,
+        handle,
+        |other: Handle<&Index>, last: Handle<&Index>| -> (Handle<&Index>, Handle<&Index>)
+            requires { other.index ≡ last.index }
+            ensures index { (result.0.index ≡ last.entry.index) × (result.1.index ≡ last.entry.index) }
+            ensures met { HaveMet last.entry.index.layout last.entry.pass other.entry.pass result.1.pass result.0.pass }
+        {
+            let (last, other) = last.meet(other);
+            (other, last)
+        },
+    )
 }

@@ -1,5 +1,5 @@
 -- The sections that are left complete the texts.
-use Rattle.std.proofs.Common.{◌≡◌, ◌++◌, ◌+◌, drop, length, map}
+use Rattle.std.proofs.Common.{◌≡◌, ◌++◌, ◌+◌, drop, map}
 use Rattle.std.specs.Prelude.{flat_map}
 use Rattle.hot_run.specs.Scripts.{sections}
 use Rattle.hot_run.proofs.answer.sections.Given as goal

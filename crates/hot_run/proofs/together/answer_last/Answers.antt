@@ -10,25 +10,23 @@ use Rattle.hot_run.proofs.Progressing.{HasRunCommands-untold}
 use Rattle.hot_run.proofs.together.answer_last.Goals as goal
 
 pub meet_all-requires : goal.meet_all-requires
-meet_all-requires g c = at_own c.args.handle.index c.in_ok-done.done.handle c.args.met.items (c.in_ok-done.ensures.0, c.requires.index.1)
+meet_all-requires g c = at_own c.args.handle.index c.in_ok-done.done.handle c.args.met.now (c.in_ok-done.ensures.0, c.requires.index.1)
 
 pub sections-requires : goal.sections-requires
 sections-requires g c =
-    let same = met_long c.in_ok-done.done.handle.index c.in_ok-done.done.handle.pass _ c.args.met.items c.in_ok-again.again.items c.in_ok-again.ensures.met in
+    let same = met_long c.in_ok-done.done.handle.index c.in_ok-done.done.handle.pass c.meet_all.result.pass c.args.met.now c.meet_all.new.done c.meet_all.ensures.met in
     omega (arith, same, c.requires.few)
 
 pub returns : goal.returns
 returns g c =
-    let here = c.in_ok-done.ensures.0 in
-    let ran = c.in_ok-done.ensures.1.1 in
     IfOk-weaker c.sections.result _ _
     (λ texts text_is. record {
       after = c.in_ok-done.done.handle.pass;
-      last = c.in_ok-again.field-0-0.pass;
-      again = c.in_ok-again.again.items;
+      last = c.meet_all.result.pass;
+      again = c.meet_all.new.done;
       answers = c.in_ok-done.done.text.items;
       own = subst (λ (h : HandleView). Owns h.index h.pass) c.handle.view_is c.handle.invariant;
-      ran = HasRunCommands-untold c.args.handle.index _ _ _ (script_commands c.args.last.now) c.in_ok-done.done.text.items ran;
-      meet = rw here at c.in_ok-again.ensures.met;
-      text_is = rw (← c.deref_mut.ensures.value) text_is;
+      ran = HasRunCommands-untold c.args.handle.index _ _ _ (script_commands c.args.last.now) c.in_ok-done.done.text.items c.in_ok-done.ensures.1.1;
+      meet = rw c.in_ok-done.ensures.0 at c.meet_all.ensures.met;
+      text_is = text_is;
     }) c.sections.ensures

@@ -1,7 +1,5 @@
 -- The meetings that are left complete those that were made.
-use Rattle.std.proofs.Common.{◌≡◌, ◌++◌, List}
-use Rattle.std.specs.List.{All}
-use Rattle.std.specs.Vec.Iter.{into_iter_items}
+use Rattle.std.proofs.Common.{◌++◌, List, drop, take}
 use Rattle.seat_calls.specs.Passes.{PassView}
 use Rattle.hot_run.specs.declared.together.Done.{Done}
 use Rattle.hot_run.specs.Progress.{AreAt, MeetInTurn}
@@ -9,8 +7,7 @@ use Rattle.hot_run.proofs.together.meet_all.Given as goal
 
 abbrev pub invariant-loop-script : goal.invariant-loop-script
 invariant-loop-script l = record {
-  met : AreAt l.fn.handle.index l.last l.met.items;
-  left : All (λ d. d.handle.index ≡ l.fn.handle.index) (into_iter_items l.script-iterator);
-  completes : (j : PassView) (rest : List Done) → MeetInTurn l.fn.handle.index l.last.pass (into_iter_items l.script-iterator) j rest
-      → MeetInTurn l.fn.handle.index l.fn.handle.pass l.fn.done.items j (l.met.items ++ rest);
+  at : AreAt l.fn.handle.index l.last l.done;
+  completes : (j : PassView) (rest : List Done) → MeetInTurn l.fn.handle.index l.last.pass (drop l.script-index l.done) j rest
+      → MeetInTurn l.fn.handle.index l.fn.handle.pass l.fn.done j (take l.script-index l.done ++ rest);
 }
