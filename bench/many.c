@@ -2,10 +2,13 @@
  * runs it. */
 #include "keys.h"
 
-enum { LOOKUPS = 192 * 100, ROUNDS = 50, FORMS = 8 };
+enum { LOOKUPS = 192 * 100, ROUNDS = 50, FORMS = 8, FEW = 2 };
 
 /* How many keys a call looks up; 0 is hot_get. LOOKUPS is a multiple of each. */
 static const size_t forms[FORMS] = { 0, 1, 2, 3, 4, 8, 16, 64 };
+
+/* Among how few keys hot_get also looks up: what one key needs is in the nearest cache, what a thousand need in the next. */
+static const uint64_t few[FEW] = { 1, 1000 };
 
 static uint8_t keys[LOOKUPS][8];
 static uint64_t wanted[LOOKUPS];
@@ -47,11 +50,22 @@ static double look_up(hot_handle *handle, size_t together)
     return 1e9 * took / LOOKUPS;
 }
 
+/* Looks up keys among so many, so many a call; keeps the least time of all rounds, where 0 stands for none so far. */
+static void time_form(hot_handle *handle, uint64_t count, size_t together, double *best)
+{
+    double took;
+    draw(count);
+    took = look_up(handle, together);
+    if (*best == 0 || took < *best) {
+        *best = took;
+    }
+}
+
 static void measure(uint64_t count)
 {
     hot_handle handle = HOT_HANDLE;
     hot_stock stock;
-    double best[FORMS];
+    double best[FORMS] = { 0 }, of_few[FEW] = { 0 };
     uint64_t number, had;
     int round, form;
     memset(&stock, 0, sizeof stock);
@@ -64,15 +78,13 @@ static void measure(uint64_t count)
     }
     for (round = 0; round < ROUNDS; round++) {
         for (form = 0; form < FORMS; form++) {
-            double took;
-            draw(count);
-            took = look_up(&handle, forms[form]);
-            if (round == 0 || took < best[form]) {
-                best[form] = took;
-            }
+            time_form(&handle, count, forms[form], &best[form]);
+        }
+        for (form = 0; form < FEW; form++) {
+            time_form(&handle, few[form] < count ? few[form] : count, 0, &of_few[form]);
         }
     }
-    printf("%llu keys: hot_get %.0f ns;", (unsigned long long)count, best[0]);
+    printf("%llu keys: hot_get %.0f ns, of one key alone %.0f, of a thousand %.0f;", (unsigned long long)count, best[0], of_few[0], of_few[1]);
     for (form = 1; form < FORMS; form++) {
         printf(" %u a call %.0f (%.2f)%s", (unsigned)forms[form], best[form], best[form] / best[0], form + 1 < FORMS ? "," : "\n");
     }
