@@ -1,9 +1,9 @@
 //! Where the records of a table begin, with what is known of it added up once.
 
 ghost use Rattle.std.specs.Prelude.{◌≡◌};
-ghost use Rattle.record_words.specs.Layout.{leaf_start, node_start};
+ghost use Rattle.record_words.specs.Layout.{address, leaf_start, node_start};
 
-use crate::{LEAF_WORDS, Layout, NODE_WORDS, SHORT_WORDS};
+use crate::{LEAF_WORDS, Layout, Location, NODE_WORDS, SHORT_WORDS};
 
 /// Where the records of a table begin. A table and a walk over it keep this at hand, so that the layout's numbers are not added up for
 /// each record. Many tables have only short or only long leaf records, and those of both classes are found by one product.
@@ -55,6 +55,18 @@ impl Origins {
             self.leaves + SHORT_WORDS * number as usize
         } else {
             self.layout.leaf(number)
+        }
+    }
+
+    /// The word that stands at a location.
+    #[inline(always)]
+    pub fn address(&self, location: Location) -> usize
+        ensures { result ≡ address self.now.layout location }
+    {
+        match location {
+            Location::NodeWord { node, offset } => self.node(node) + offset as usize,
+            Location::LeafWord { leaf, offset } => self.leaf(leaf) + offset as usize,
+            _ => self.layout.address(location),
         }
     }
 }

@@ -147,10 +147,9 @@ fn claim_of<G: Gate>(
     if most == 0 {
         return (None, 0);
     }
-    let layout = table.layout();
-    let begin = first(from, kind.count(layout));
+    let begin = first(from, kind.count(table.layout()));
     let rec = kind.record_at(begin);
-    if try_record(table, seat, gate, rec, kind.start_at(&layout, begin)) {
+    if try_record(table, seat, gate, rec, table.start_of(rec)) {
         return (Some(begin), 1);
     }
     claim_behind(table, seat, gate, kind, begin, most)

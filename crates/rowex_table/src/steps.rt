@@ -27,7 +27,7 @@ impl HotTable {
         requires apt { (Q.layout ≡ Some self.now.layout) × (act ≡ Q.act) × MayStep self.now.layout (found_by Q.act) seat.old.known }
         ensures { StepsWith self.now G.becomes (found_by Q.act result) Q.said (seat.old, gate.old) (seat.new, gate.new) }
     {
-        self.load_at::<Q, G>(seat, gate, act, self.origins.layout.address(location))
+        self.load_at::<Q, G>(seat, gate, act, self.origins.address(location))
     }
 
     /// The same of the word at this address.
@@ -67,7 +67,7 @@ impl HotTable {
         requires apt { (Q.layout ≡ Some self.now.layout) × (act ≡ Q.act) × MayStep self.now.layout (found_by Q.act) seat.old.known }
         ensures { StepsWith self.now G.becomes (found_by Q.act new) Q.said (seat.old, gate.old) (seat.new, gate.new) }
     {
-        self.store_at::<Q, G>(seat, gate, act, self.origins.layout.address(location), new);
+        self.store_at::<Q, G>(seat, gate, act, self.origins.address(location), new);
     }
 
     /// The same to the word at this address.
@@ -107,7 +107,7 @@ impl HotTable {
         requires apt { (Q.layout ≡ Some self.now.layout) × (act ≡ Q.act) × MayStep self.now.layout (found_by Q.act) seat.old.known }
         ensures { StepsWith self.now G.becomes (found_by Q.act result) Q.said (seat.old, gate.old) (seat.new, gate.new) }
     {
-        let address = self.origins.layout.address(location);
+        let address = self.origins.address(location);
         let found = self
             .table
             .shared
