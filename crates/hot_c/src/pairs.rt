@@ -1,6 +1,6 @@
 //! The pairs of a scan in an array of C, and one pair at a place of C's.
 
-ghost use Rattle.std.specs.Prelude.{◌≡◌, ◌≤◌, length, drop, reverse, slice_get};
+ghost use Rattle.std.specs.Prelude.{◌≡◌, ◌+◌, ◌≤◌, length, drop, reverse, slice_get};
 ghost use Rattle.hot_c.specs.Orders.{in_order};
 ghost use Rattle.hot_c.specs.Pairs.{AreSpelled, IsPairTold, Spells};
 ghost use Rattle.key_bits.specs.Key.{IsKey};
@@ -61,21 +61,41 @@ fn write_pairs_backwards(pairs: &Pairs, room: &mut [Pair])
     }
 }
 
-/// Writes a pair. Keys of eight bytes are common, and a copy of so many needs no call; nor, through an array, a test of whether the two
-/// places overlap.
+/// Writes a pair. Keys of eight bytes are common, and so are keys of 16 to 64 bytes, such as URLs. A copy of so many needs no call; nor,
+/// through an array, a test of whether the two places overlap.
 fn write_pair(key: &[u8], value: u64, pair: &mut Pair)
     requires { IsKey key.now }
     ensures { Spells (key.now, value) pair.new }
 {
-    if key.len() == 8 {
-        let mut eight = [0; 8];
-        eight.copy_from_slice(&key[..8]);
-        pair.key[..8].copy_from_slice(&eight);
-        pair.length = 8;
-        pair.value = value;
-    } else {
-        write_any(key, value, pair);
+    match key.len() {
+        8 => {
+            let mut eight = [0; 8];
+            eight.copy_from_slice(&key[..8]);
+            pair.key[..8].copy_from_slice(&eight);
+            pair.length = 8;
+            pair.value = value;
+        }
+        16..=31 => write_ends::<16>(key, value, pair),
+        32..=64 => write_ends::<32>(key, value, pair),
+        _ => write_any(key, value, pair),
     }
+}
+
+/// Writes a pair by two copies of N bytes, of the key's first and of its last, which may be partly the same ones. The array holds either
+/// part in turn: with two arrays they would go through memory.
+fn write_ends<const N: usize>(key: &[u8], value: u64, pair: &mut Pair)
+    requires key { IsKey key.now }
+    requires covered { (N ≤ length key.now) × (length key.now ≤ N + N) }
+    ensures { Spells (key.now, value) pair.new }
+{
+    let last = key.len() - N;
+    let mut part = [0; N];
+    part.copy_from_slice(&key[..N]);
+    pair.key[..N].copy_from_slice(&part);
+    part.copy_from_slice(&key[last..]);
+    pair.key[last..key.len()].copy_from_slice(&part);
+    pair.length = key.len() as u32;
+    pair.value = value;
 }
 
 /// Writes a pair with a key of any length. Never inline: so a loop over pairs has little to keep at hand.
