@@ -1,18 +1,22 @@
 /* Times the memory alone that a call takes: in a table that is laid out as hot_create's, with nodes of 22 entries whose records and leaves
  * lie in no order, a loop in C makes the loads and the sequentially consistent stores of each call, in turn as the call needs them, and
  * nothing else. It compares no keys and gathers no bits, and of a scan's pairs it writes the bytes once. The second time is with plain
- * stores. bench/floor builds and runs it. */
+ * stores. The third, where the processor has AVX2, is with the search of each node by hand. bench/floor builds and runs it. */
 #include "keys.h"
 #include <pthread.h>
 #include <stdint.h>
+#ifdef __AVX2__
+#include <immintrin.h>
+#endif
 
 /* Words of the table: those of the epoch, the root and the anchor, of a pin, of a node's record and of a leaf's. */
 enum { FRONT = 48, PIN = 16, NODE = 58, LEAF = 33 };
 
 /* Words of a node: its head begins behind the state, and its entries behind the head. */
-enum { HEAD_END = 26, ENTRIES = 22, NUMBERS_AND_COLUMNS = 7, ROWS_FROM = 10, ROWS = 11 };
+enum { COLUMNS_FROM = 2, ROWS_FROM = 10, HEAD_END = 26, ENTRIES = 22, NUMBERS_AND_COLUMNS = 7, ROWS = 11 };
 
-/* The most levels of nodes, the spare records of each kind, which changes take by turns, pairs of a scan, threads, and repetitions. */
+/* The most levels of nodes, the spare records of each kind, which changes take by turns (but an insert takes leaf records that none has
+ * used for long), pairs of a scan, threads, and repetitions. */
 enum { LEVELS = 8, SPARE = 64, PAGE = 100, THREADS = 4, TIMES = 5 };
 
 static uint64_t *table, *nodes, *leaves, keys, key_words, all_nodes;
@@ -37,8 +41,8 @@ static uint64_t load(const uint64_t *word)
     return __atomic_load_n(word, __ATOMIC_SEQ_CST);
 }
 
-/* Whether stores are plain ones. */
-static int is_plain;
+/* Whether stores are plain ones, and whether nodes are searched. */
+static int is_plain, is_searching;
 
 static void store(uint64_t *word, uint64_t value)
 {
@@ -83,9 +87,13 @@ static void plant(void)
         count[depth++] = below;
         all_nodes += below;
     } while (below > 1);
-    table = room_for(FRONT + THREADS * PIN + NODE * (all_nodes + SPARE) + LEAF * (keys + SPARE), sizeof *table);
+    table = room_for(FRONT + THREADS * PIN + NODE * (all_nodes + SPARE) + LEAF * (2 * keys + SPARE), sizeof *table);
     nodes = table + FRONT + THREADS * PIN;
     leaves = nodes + NODE * (all_nodes + SPARE);
+    /* What was never written may lie on one page of the system's. */
+    for (at = 0; at < 2 * keys + SPARE; at++) {
+        leaf_at(at)[2] = 8 * key_words;
+    }
     record = mixed_up(all_nodes, 2);
     for (up = 0; up < depth; record += count[up++]) {
         here = depth - 1 - up;
@@ -97,16 +105,82 @@ static void plant(void)
     }
 }
 
+/* Loads the words of a node's head, of which each is 0: so it gives 0. */
+static uint64_t load_head(const uint64_t *node)
+{
+    uint64_t some = 0;
+    int word;
+    for (word = 1; word < HEAD_END; word++) {
+        some |= load(node + word);
+    }
+    return some;
+}
+
+#ifdef __AVX2__
+/* Four words from this one on, side by side. */
+static __m256i four(const uint64_t *word)
+{
+    uint64_t first = load(word), second = load(word + 1), third = load(word + 2), fourth = load(word + 3);
+    return _mm256_set_epi64x((long long)fourth, (long long)third, (long long)second, (long long)first);
+}
+
+/* 32 bytes of 32 numbers of two bytes each, in their order. */
+static __m256i narrowed(__m256i first, __m256i second)
+{
+    return _mm256_permute4x64_epi64(_mm256_packus_epi16(first, second), 0xd8);
+}
+
+/* Which bits of a key are set at the 32 columns of a node, each of which is nine times a byte's number, and a bit's. */
+static uint32_t gathered(const uint64_t *node, const uint8_t *sought)
+{
+    const __m256i ninth = _mm256_set1_epi16(7282), most = _mm256_set1_epi16(255), low = _mm256_set1_epi8(15);
+    const __m256i bits = _mm256_set1_epi64x(0x0102040810204080), turned = _mm256_set1_epi64x(0x0001020304050607);
+    __m256i some = four(node + COLUMNS_FROM), others = four(node + COLUMNS_FROM + 4), bytes, bit, key;
+    uint32_t first = (uint32_t)_mm256_cvtsi256_si32(some) / 9 % 16;
+    bytes = narrowed(_mm256_min_epu16(_mm256_mulhi_epu16(some, ninth), most), _mm256_min_epu16(_mm256_mulhi_epu16(others, ninth), most));
+    bit = narrowed(_mm256_srli_epi16(_mm256_mullo_epi16(some, ninth), 12), _mm256_srli_epi16(_mm256_mullo_epi16(others, ninth), 12));
+    key = _mm256_broadcastsi128_si256(_mm_loadu_si128((const __m128i *)(sought + first)));
+    key = _mm256_shuffle_epi8(key, _mm256_and_si256(_mm256_sub_epi8(bytes, _mm256_set1_epi8((char)first)), low));
+    key = _mm256_andnot_si256(key, _mm256_shuffle_epi8(bits, bit));
+    key = _mm256_or_si256(key, _mm256_subs_epu8(bytes, _mm256_set1_epi8((char)(8 * key_words - 1))));
+    key = _mm256_permute4x64_epi64(_mm256_shuffle_epi8(key, turned), 0x4e);
+    return (uint32_t)_mm256_movemask_epi8(_mm256_cmpeq_epi8(key, _mm256_setzero_si256()));
+}
+
+/* Which of eight sparse partial keys have no bit but these. */
+static __m256i within(const uint64_t *word, __m256i others)
+{
+    return _mm256_cmpeq_epi32(_mm256_and_si256(four(word), others), _mm256_setzero_si256());
+}
+
+/* Searches a node, of which each word of the head is 0, as the library does where it is compiled for AVX2: the key's bits at the columns,
+ * and the last of 32 sparse partial keys that has no others. Here that is the one at 31; it gives 0. */
+static uint64_t search(const uint64_t *node, const uint8_t *sought)
+{
+    uint64_t numbers = load(node + 1);
+    __m256i others = _mm256_set1_epi32((int)~gathered(node, sought));
+    __m256i some = _mm256_packs_epi32(within(node + ROWS_FROM, others), within(node + ROWS_FROM + 4, others));
+    __m256i rest = _mm256_packs_epi32(within(node + ROWS_FROM + 8, others), within(node + ROWS_FROM + 12, others));
+    some = _mm256_packs_epi16(_mm256_permute4x64_epi64(some, 0xd8), _mm256_permute4x64_epi64(rest, 0xd8));
+    return numbers | (uint64_t)__builtin_clz((uint32_t)_mm256_movemask_epi8(_mm256_permute4x64_epi64(some, 0xd8)));
+}
+#else
+static uint64_t search(const uint64_t *node, const uint8_t *sought)
+{
+    return load_head(node) | (sought[0] & 0);
+}
+#endif
+
 /* Loads the nodes on the way to a key's leaf, whose record it gives: of each the head, and then an entry, at a place that the head tells. */
 static uint64_t descend(uint64_t key)
 {
     uint64_t record = level[0][0] + load(table + 1);
-    int at, word;
+    uint8_t sought[32] = { 0 };
+    int at;
+    memcpy(sought, &key, sizeof key);
     for (at = 0; at < depth; at++) {
         uint64_t *node = node_at(record), place = key / span[at] % ENTRIES;
-        for (word = 1; word < HEAD_END; word++) {
-            place |= load(node + word);
-        }
+        place += is_searching ? search(node, sought) : load_head(node);
         record = load(node + HEAD_END + place);
     }
     return record;
@@ -184,16 +258,14 @@ static uint64_t make_node(uint64_t *made, const uint64_t *old)
 static uint64_t insert(uint64_t *pin, uint64_t key)
 {
     static uint64_t turn;
-    int up = depth > 1 ? depth - 2 : 0, word;
+    int up = depth > 1 ? depth - 2 : 0;
     uint64_t *above = node_at(level[up][key / span[up] / ENTRIES]), *node = node_at(level[depth - 1][key / ENTRIES]), some;
     store(pin, load(table));
     some = read_leaf(leaf_at(descend(key)));
-    for (word = 1; word < HEAD_END; word++) {
-        some |= load(node + word);
-    }
+    some |= load_head(node);
     store(above, 1);
     store(node, 1);
-    some += make_leaf(leaf_at(keys + turn % SPARE), key) + make_node(node_at(all_nodes + turn % SPARE), node);
+    some += make_leaf(leaf_at(keys + SPARE + turn % keys), key) + make_node(node_at(all_nodes + turn % SPARE), node);
     store(above + HEAD_END + key / span[up] % ENTRIES, load(above + HEAD_END + key / span[up] % ENTRIES));
     store(node, 2);
     store(above, 2);
@@ -210,9 +282,7 @@ static uint64_t scan(uint64_t *pin, uint64_t key)
     some = read_leaf(leaf_at(descend(key)));
     for (at = 0, to = bytes; at < PAGE && key + at < keys; at++) {
         uint64_t *node = node_at(level[depth - 1][(key + at) / ENTRIES]), *leaf = leaf_at(load(node + HEAD_END + (key + at) % ENTRIES));
-        for (word = 1; word < HEAD_END && (key + at) % ENTRIES == 0; word++) {
-            some |= load(node + word);
-        }
+        some |= (key + at) % ENTRIES == 0 ? load_head(node) : 0;
         heads[2 * at] = load(leaf + 1);
         heads[2 * at + 1] = load(leaf + 2);
         for (word = 0; word < key_words; word++) {
@@ -246,10 +316,14 @@ static double time_of(uint64_t (*call)(uint64_t *, uint64_t), uint64_t calls)
 
 static void report(const char *what, uint64_t (*call)(uint64_t *, uint64_t), uint64_t calls)
 {
-    double ordered = time_of(call, calls);
+    double ordered = time_of(call, calls), plain, by_hand;
     is_plain = 1;
-    printf("%-26s %6.0f ns %6.0f ns\n", what, ordered, time_of(call, calls));
+    plain = time_of(call, calls);
     is_plain = 0;
+    is_searching = 1;
+    by_hand = time_of(call, calls);
+    is_searching = 0;
+    printf("%-26s %6.0f ns %6.0f ns %6.0f ns\n", what, ordered, plain, by_hand);
 }
 
 enum { LOOKUPS = 500000 };
@@ -289,13 +363,14 @@ int main(int words, char **word)
 {
     keys = words > 1 ? strtoull(word[1], NULL, 10) : 200000;
     key_words = words > 2 ? (strtoull(word[2], NULL, 10) + 7) / 8 : 1;
-    if (words > 3 || keys < 100 || keys > 20000000 || key_words > LEAF - 3) {
-        fprintf(stderr, "usage: floor [KEYS [BYTES]]    100 to 20,000,000 keys of at most 240 bytes each, else 200,000 of 8\n");
+    if (words > 3 || keys < 100 || keys > 10000000 || key_words > LEAF - 3) {
+        fprintf(stderr, "usage: floor [KEYS [BYTES]]    100 to 10,000,000 keys of at most 240 bytes each, else 200,000 of 8\n");
         return 2;
     }
     plant();
     order = mixed_up(keys, 3);
-    printf("%llu keys of %llu bytes\n", (unsigned long long)keys, (unsigned long long)(8 * key_words));
+    printf("%llu keys of %llu bytes; with plain stores; with the search of each node\n", (unsigned long long)keys,
+        (unsigned long long)(8 * key_words));
     report("look-up", look_up, 1000000);
     report_threads();
     report("upsert", upsert, 500000);
