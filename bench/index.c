@@ -1,7 +1,7 @@
 /* Measures the index beside a B-tree under a lock: the time of each kind of work, with keys of three kinds. What was measured goes to
  * standard output, in lines of which bench/table.py makes tables, and how far the run is to standard error. Each repetition is a
  * process of its own, of one map and then of the other. bench/run builds and runs it: with TREE defined there is the tree of
- * bench/tree.rs, else the index is alone. */
+ * bench/tree.rs, else the index is alone; and where LONG is 1 the index is as hot_create makes it. */
 #include "keys.h"
 #include <pthread.h>
 #include <sched.h>
@@ -9,7 +9,10 @@
 #include <sys/wait.h>
 #include <unistd.h>
 
-enum { THREADS = 4, HANDLES = THREADS + 1, MEASURED = 3, MAPS = 2 };
+#ifndef LONG
+#define LONG 0
+#endif
+enum { THREADS = 4, HANDLES = LONG ? 64 : THREADS + 1, MEASURED = 3, MAPS = 2 };
 
 /* How many keys a thread makes at a time, while its time doesn't count; several threads make all that they use before they begin. */
 enum { BATCH = 1024, MOST_OWN = 1 << 16 };
@@ -518,6 +521,15 @@ static size_t fit(const load *load, hot_stock *stock)
     return longest;
 }
 
+/* The same records, where LONG says so with long leaf records alone, as hot_create makes them. */
+static void lengthen(hot_stock *stock)
+{
+    if (LONG) {
+        stock->long_leaves += stock->short_leaves + stock->medium_leaves + stock->large_leaves + stock->wide_leaves;
+        stock->short_leaves = stock->medium_leaves = stock->large_leaves = stock->wide_leaves = 0;
+    }
+}
+
 /* The order in which keys are used (Fisher and Yates, by Durstenfeld, CACM 1964). */
 static uint32_t *order_of(uint32_t count)
 {
@@ -541,6 +553,8 @@ static uint64_t measure_load(int kind, uint32_t count)
     report told[MAPS];
     int place, work;
     hot_stock_for_keys(count, longest, &roomy);
+    lengthen(&stock);
+    lengthen(&roomy);
     must(hot_stock_bytes(&stock, HANDLES, &fitting), HOT_DONE);
     must(hot_stock_bytes(&roomy, HANDLES, &safe), HOT_DONE);
     printf("column %u %zu %zu\nstock %u %u %u %u %u %u\n", count, fitting, safe, stock.nodes, stock.short_leaves, stock.medium_leaves,
