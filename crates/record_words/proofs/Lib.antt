@@ -19,4 +19,5 @@ pub mod Runs
 pub mod Spelled
 pub mod Spellings
 pub mod Unused
+pub mod UpToKey
 pub mod Written

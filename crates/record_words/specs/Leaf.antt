@@ -1,5 +1,5 @@
 -- The words of a leaf record.
-use Rattle.std.specs.Prelude.{ℕ, ◌≡◌, ◌+◌, ◌-◌, ◌*◌, ◌/◌, ◌^◌, ◌<◌, cond, nat_eq, List, length, map, drop, slice_index}
+use Rattle.std.specs.Prelude.{ℕ, ◌≡◌, ◌+◌, ◌-◌, ◌*◌, ◌/◌, ◌^◌, ◌<◌, cond, nat_eq, nat_lt, if◌then◌else◌, List, length, map, drop, get_or, slice_index}
 use Rattle.std.specs.List.{range_with_len}
 use Rattle.std.specs.Int.{from_be_bytes, w64}
 use Rattle.record_words.specs.declared.TheConstants.{KEY_WORDS, LEAF_FIELDS}
@@ -25,6 +25,11 @@ leaf_word (key, value) offset = cond (nat_eq offset 1) value (cond (nat_eq offse
 -- the words at offsets 1 to LEAF_FIELDS
 unfoldable pub leaf_words : List ℕ × ℕ → List ℕ
 leaf_words leaf = map (leaf_word leaf) (range_with_len 1 LEAF_FIELDS)
+
+-- The words of a leaf record as far as they say something: the value, the length of the key, and the words with bytes of it. What stands
+-- behind these is of no leaf, and counts as 0.
+unfoldable pub up_to_key : List ℕ → List ℕ
+up_to_key words = map (λ i. if nat_lt i (2 + words_of_key (get_or words 1 0)) then get_or words i 0 else 0) (range_with_len 0 LEAF_FIELDS)
 
 -- a key, and a value of 64 bits
 pub record HasLeafWords (leaf : List ℕ × ℕ) : Type 0 where

@@ -16,7 +16,7 @@ use Rattle.rowex_core.specs.declared.known.View.TheVariants.{Spent, Dealer, Pass
 use Rattle.finite_map.specs.declared.Change.{Change}
 use Rattle.finite_map.specs.Fronts.{BeginsWith}
 use Rattle.record_words.specs.declared.layout.Layout.{Layout}
-use Rattle.rowex_core.specs.Reading.{entry_in, word_in}
+use Rattle.rowex_core.specs.Reading.{entry_in, HasWordAt}
 use Rattle.rowex_core.specs.Cores.{Core, IsLawful}
 use Rattle.rowex_core.specs.Events.{Legal, after}
 use Rattle.rowex_core.specs.Frames.{IsFrame}
@@ -43,7 +43,7 @@ found_grown a b g since at r P h f m lo s = stood_as_grown a b g m at r P h (f m
 pub fact_grown : (a b : Past) → IsGrown a b → (f : Fact) → IsFact a f → IsFact b f
 fact_grown a b g (Rooted since at e) (lo, hi, h) = (lo, le_trans hi g.longer, ap Rattle.rowex_core.specs.Reading.root_of (g.kept at hi) ∙ h)
 fact_grown a b g (Placed since at n j e) (hi, h) = (le_trans hi g.longer, found_grown a b g since at (a_node n) (λ u. entry_in u j ≡ e) hi h)
-fact_grown a b g (Fixed since at r offset w) (hi, h) = (le_trans hi g.longer, found_grown a b g since at r (λ u. word_in u offset ≡ w) hi h)
+fact_grown a b g (Fixed since at r offset w) (hi, h) = (le_trans hi g.longer, found_grown a b g since at r (λ u. HasWordAt u offset w) hi h)
 
 -- The whole
 

@@ -4,6 +4,7 @@ use Rattle.compound_node.specs.Nodes.{piece}
 use Rattle.pieces.specs.Piece.{size}
 use Rattle.record_words.specs.Leaf.{leaf_words}
 use Rattle.record_words.specs.Packed.{fixed_words}
+use Rattle.record_words.proofs.UpToKey.{up_to_key_before}
 use Rattle.tries.specs.Tree.{Tree, leaf, node, fork, subtrie, Subtrie, Fixed}
 use Rattle.tries.specs.Place.{entry_at}
 use Rattle.versions.specs.declared.Rec.{Rec}
@@ -13,12 +14,12 @@ use Rattle.versions.specs.State.{Stands, IsReach, last_of, Spans, IsRecord, Stat
 use Rattle.versions.specs.Core.{Fate, Free, Held as HeldBy, Ready as ReadyBy, InTree, Unlinked as UnlinkedBy, Marked, life_of, view as versions_of}
 use Rattle.versions.proofs.States.{spans_last, spans_ended, reach_later}
 use Rattle.rowex_core.specs.declared.known.Fact.TheVariants.{Placed, Fixed as FixedWord}
-use Rattle.rowex_core.specs.Reading.{entry_of, node_words_of, leaf_of, IsPacked, entry_in, word_in}
+use Rattle.rowex_core.specs.Reading.{entry_of, node_words_of, leaf_of, IsPacked, entry_in, HasWordAt}
 use Rattle.rowex_core.specs.Cores.{Core, IsLawful, IsWhole, heap_of, bare}
 use Rattle.rowex_core.specs.Words.{record_word}
 use Rattle.rowex_core.specs.Events.{IsFixedOffset}
 use Rattle.rowex_core.specs.Knowing.{StoodBetween, IsFact}
-use Rattle.rowex_core.proofs.Reading.{node_is, entry_at_is, fixed_word_is, leaf_is}
+use Rattle.rowex_core.proofs.Reading.{node_is, entry_at_is, fixed_word_is, leaf_is, leaf_size_is}
 
 -- the core without the words: versions, lives and pins
 abbrev pub view : Core → State
@@ -107,7 +108,7 @@ fixed_fact c law since reach r offset fits = (
       (l.at, l.tree, l.low, l.high, l.stands, go r l.tree fits l.stands.is_record l.copied l.packed),
 )
   where
-    go : (r : Rec) (u : Tree) → IsFixedOffset r offset → IsRecord r u → IsCopied (heap_of c.words) u → IsPacked r (c.words r) → word_in u offset ≡ record_word c r offset
+    go : (r : Rec) (u : Tree) → IsFixedOffset r offset → IsRecord r u → IsCopied (heap_of c.words) u → IsPacked r (c.words r) → HasWordAt u offset (record_word c r offset)
     go (a_node n) (leaf m k v) f r i p = absurd cc
     go (a_node n) (fork q a b) f r i p = absurd r
     go (a_leaf n) (node m x b) f r i p = absurd cc
@@ -116,6 +117,10 @@ fixed_fact c law since reach r offset fits = (
         let e = (same_words (sym i ∙ (ap (λ z. node_words_of (c.words (a_node z))) (sym (node_number r)) ∙ node_is v (c.words (a_node n)) (law.records.sized (a_node n)).1 has same))).1 in
         ap (λ (z : Fixed). get_or (fixed_words (length z.rows) z.height z.columns z.rows) (offset - 1) 0) e ∙
         (sym (fixed_word_is v (c.words (a_node n)) (law.records.sized (a_node n)).1 has same (offset - 1) (let a = f.0 in let b = f.1 in omega arith)) ∙ sym (later_word c (a_node n) offset f.0))
-    go (a_leaf n) (leaf m k v) f r i (p, has, same) =
-        let e = sym i ∙ (ap (λ z. leaf_of (c.words (a_leaf z))) (sym (leaf_number r)) ∙ leaf_is p (c.words (a_leaf n)) (law.records.sized (a_leaf n)).1 has same) in
-        ap (λ (z : LeafWords). get_or (leaf_words (z.key, z.value)) (offset - 1) 0) e ∙ (ap (λ z. get_or z (offset - 1) 0) same ∙ sym (later_word c (a_leaf n) offset f.0))
+    go (a_leaf n) (leaf m k v) f r i (p, has, same) before =
+        let words = c.words (a_leaf n) in
+        let e = sym i ∙ (ap (λ z. leaf_of (c.words (a_leaf z))) (sym (leaf_number r)) ∙ leaf_is p words (law.records.sized (a_leaf n)).1 has same) in
+        let size : get_or words 1 0 ≡ length k = leaf_size_is p words same ∙ sym (ap (λ (z : LeafWords). length z.key) e) in
+        ap (λ (z : LeafWords). get_or (leaf_words (z.key, z.value)) (offset - 1) 0) e ∙
+        (ap (λ z. get_or z (offset - 1) 0) same ∙
+        (up_to_key_before words (offset - 1) (omega (arith, before, size, f.0)) (omega (arith, f.0, f.1)) ∙ sym (later_word c (a_leaf n) offset f.0)))

@@ -1,5 +1,5 @@
 -- The laws that follow: the opening core, records in reach, a publish as a step of the map, locks of two passes.
-use Rattle.std.proofs.Common.{◌≡◌, ◌≢◌, inl, ⊎_elim, ℕ, zero, suc, ◌-◌, ◌^◌, ◌<◌, ◌≤◌, List, [], ◌∷◌, ◌++◌, length, get_or, set, replicate, fold, Option, Some, None, IsSome, refl, sym, ap, ap₂, ◌∙◌, arith, le_refl, le_trans, lit<}
+use Rattle.std.proofs.Common.{◌≡◌, ◌≢◌, inl, ⊎_elim, ℕ, zero, suc, ◌-◌, ◌^◌, ◌<◌, ◌≤◌, List, [], ◌∷◌, ◌++◌, length, get_or, set, replicate, fold, Option, Some, None, IsSome, refl, sym, ap, ap₂, subst, ◌∙◌, arith, le_refl, le_trans, lit<}
 use Rattle.std.proofs.lemmas.Bool.{eq-eqb, ne_eqb, false≢true, cases_lt}
 use Rattle.std.proofs.lemmas.List.{length-replicate, length-set, get_or-replicate, get_or-set_same, get_or-set_other, get_or_past, take_all}
 use Rattle.std.proofs.lemmas.List.Elements.{All-replicate, All-from_recursion}
@@ -15,7 +15,7 @@ use Rattle.record_words.specs.declared.layout.Layout.{Layout}
 use Rattle.record_words.specs.declared.layout.Location.{Location}
 use Rattle.record_words.specs.declared.layout.Location.TheVariants.{Epoch, Root as RootWord, Anchor as AnchorWord, Pin as PinOf, NodeWord, LeafWord}
 use Rattle.record_words.specs.Packed.{fixed_words}
-use Rattle.record_words.specs.Leaf.{leaf_words}
+use Rattle.record_words.specs.Leaf.{leaf_words, words_for}
 use Rattle.tries.specs.Keys.{Key}
 use Rattle.tries.specs.Tree.{Fixed, Tree, leaf, node, fork}
 use Rattle.versions.specs.declared.Rec.{Rec}
@@ -27,7 +27,7 @@ use Rattle.versions.proofs.States.{hindsight as state_hindsight, state_parting, 
 use Rattle.versions.proofs.Stepping.{opening_core, core_reach, core_steady}
 use Rattle.rowex_core.specs.declared.event.Act.TheVariants.{Lock, Publish}
 use Rattle.rowex_core.specs.declared.event.Target.TheVariants.{Node as NodeTarget}
-use Rattle.rowex_core.specs.Reading.{word_in}
+use Rattle.rowex_core.specs.Reading.{HasWordAt}
 use Rattle.rowex_core.specs.Cores.{IsLawful, IsWithin, bare, heap_of, word_count_of}
 use Rattle.rowex_core.specs.Words.{record_word, word_at, Shows}
 use Rattle.rowex_core.specs.Events.{IsFixedOffset, after, next_change, next_tree}
@@ -104,23 +104,23 @@ hindsight c law q p e m low k n h = state_hindsight (view c) law.core.state m (r
 pub parting : Parting
 parting c law = state_parting (view c) law.core.state
 
-same_word : (offset : ℕ) (u v : Tree) → IsSameRecord u v → word_in u offset ≡ word_in v offset
-same_word offset (leaf n k v) (leaf m l w) (e, f) = ap₂ (λ x y. get_or (leaf_words (x, y)) (offset - 1) 0) e f
-same_word offset (leaf n k v) (node m x b) h = absurd h
-same_word offset (leaf n k v) (fork p a b) h = absurd h
-same_word offset (node n x b) (node m y d) h = ap (λ (z : Fixed). get_or (fixed_words (length z.rows) z.height z.columns z.rows) (offset - 1) 0) h.0
-same_word offset (node n x b) (leaf m l w) h = absurd h
-same_word offset (node n x b) (fork p a d) h = absurd h
-same_word offset (fork p a b) v h = absurd h
+same_word : (offset w : ℕ) (u v : Tree) → IsSameRecord u v → HasWordAt u offset w → HasWordAt v offset w
+same_word offset w (leaf n k v) (leaf m l z) (e, f) has = λ before. sym (ap₂ (λ x y. get_or (leaf_words (x, y)) (offset - 1) 0) e f) ∙ has (subst (λ x. offset < words_for (length x)) (sym e) before)
+same_word offset w (leaf n k v) (node m x b) h has = absurd h
+same_word offset w (leaf n k v) (fork p a b) h has = absurd h
+same_word offset w (node n x b) (node m y d) h has = sym (ap (λ (z : Fixed). get_or (fixed_words (length z.rows) z.height z.columns z.rows) (offset - 1) 0) h.0) ∙ has
+same_word offset w (node n x b) (leaf m l z) h has = absurd h
+same_word offset w (node n x b) (fork p a d) h has = absurd h
+same_word offset w (fork p a b) v h has = absurd h
 
 pub in_reach : InReach
 in_reach c law q p e n r u lo hi st =
     let kept = core_reach (bare c) law.core q p e n lo hi r u st in (kept.0, kept.1, word)
   where
-    word : (offset : ℕ) → IsFixedOffset r offset → record_word c r offset ≡ word_in u offset
+    word : (offset : ℕ) → IsFixedOffset r offset → HasWordAt u offset (record_word c r offset)
     word offset fits =
         let f = (fixed_fact c law p.version (law.core.state.reach q p.version (ap pin_version e)) r offset fits).1 p.version (le_refl p.version) (n, u, lo, hi, st) in
-        sym f.5 ∙ same_word offset f.1 u (core_steady (bare c) law.core q p e r f.0 n f.1 u f.2 f.3 lo hi f.4 st)
+        same_word offset (record_word c r offset) f.1 u (core_steady (bare c) law.core q p e r f.0 n f.1 u f.2 f.3 lo hi f.4 st) f.5
 
 pub entries_in_reach : EntriesInReach
 entries_in_reach c law q p e m n u lo hi st = (

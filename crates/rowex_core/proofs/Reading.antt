@@ -17,7 +17,7 @@ use Rattle.partial_keys.specs.Shown.{piece_of}
 use Rattle.pieces.specs.Piece.{Place, Fork, size, places}
 use Rattle.record_words.specs.Entry.{HasEntryWord, entry_word}
 use Rattle.record_words.specs.Node.{HasNodeWords, head_words, entry_words, node_words}
-use Rattle.record_words.specs.Leaf.{HasLeafWords, leaf_words, IsBytesOf}
+use Rattle.record_words.specs.Leaf.{HasLeafWords, leaf_words, up_to_key, IsBytesOf}
 use Rattle.record_words.specs.Packed.{fixed_words, ArePositionsOf, AreRowsOf}
 use Rattle.record_words.proofs.Entries.{length-entry_words, entry_words_at}
 use Rattle.record_words.proofs.Fixing.{AreFixed, fixed_words_parts}
@@ -25,6 +25,7 @@ use Rattle.record_words.proofs.Packings.{positions_from_parts, same_positions, r
 use Rattle.record_words.proofs.Lawful.{column-lt, row-lt}
 use Rattle.record_words.proofs.Leaves.{key_of_bytes, leaf_words_parts}
 use Rattle.record_words.proofs.Bytes.{key_word-bytes}
+use Rattle.record_words.proofs.UpToKey.{up_to_key_before, up_to_key_size, up_to_key_small, up_to_key_value}
 use Rattle.tries.specs.Tree.{Subtrie}
 use Rattle.tries.specs.Place.{entry_at}
 use Rattle.versions.specs.Heap.{NodeWords, LeafWords}
@@ -190,16 +191,28 @@ byte_small zero n i = lit< tt
 byte_small (suc k) n zero = byte_at_small k n
 byte_small (suc k) n (suc i) = byte_small k n i
 
-pub leaf_is : (pair : List ℕ × ℕ) (words : List ℕ) → All (λ w. w < 2 ^ 64) words → HasLeafWords pair → leaf_words pair ≡ words → leaf_of words ≡ record { key = pair.0; value = pair.1 }
-unfolding leaf_of
-leaf_is pair words small has same = same_leaf (key_of_bytes (bytes_in (drop 2 words)) words pair (get_or words 1 0) of bytes_small has (sym same) refl) (leaf_words_parts pair words (sym same)).value
-  where
-    same_leaf : {k l : List ℕ} {v w : ℕ} → k ≡ l → v ≡ w → ◌≡◌ {A = LeafWords} (record { key = k; value = v }) (record { key = l; value = w })
-    same_leaf a b = rw (a, b) refl
+same_leaf : {k l : List ℕ} {v w : ℕ} → k ≡ l → v ≡ w → ◌≡◌ {A = LeafWords} (record { key = k; value = v }) (record { key = l; value = w })
+same_leaf a b = rw (a, b) refl
 
+byte_of : List ℕ → ℕ → ℕ
+byte_of words i = get_or (to_be_bytes w64 (get_or (drop 2 words) (i / 8) 0)) (i % 8) 0
+
+byte_at_is : (words : List ℕ) (i : ℕ) → i < 240 → get_or (bytes_in (drop 2 words)) i 0 ≡ byte_of words i
+unfolding byte_of
+byte_at_is words i h = get_or-map-range_with_len (λ i. get_or (to_be_bytes w64 (get_or (drop 2 words) (i / 8) 0)) (i % 8) 0) 0 240 i i 0 h (let e : 0 + i ≡ i = omega arith in e)
+
+byte_of_small : (words : List ℕ) (i : ℕ) → byte_of words i < 256
+unfolding byte_of
+byte_of_small words i = byte_small 8 (get_or (drop 2 words) (i / 8) 0) (i % 8)
+
+-- the words of a leaf are read as that leaf
+whole_is : (pair : List ℕ × ℕ) (words : List ℕ) → All (λ w. w < 2 ^ 64) words → HasLeafWords pair → leaf_words pair ≡ words → leaf_of words ≡ record { key = pair.0; value = pair.1 }
+unfolding leaf_of
+whole_is pair words small has same = same_leaf (key_of_bytes (bytes_in (drop 2 words)) words pair (get_or words 1 0) of bytes_small has (sym same) refl) (leaf_words_parts pair words (sym same)).value
+  where
     bytes_small : (i : ℕ) → get_or (bytes_in (drop 2 words)) i 0 < 256
     bytes_small i = ⊎_elim
-        (λ (h : i < 240). rw (get_or-map-range_with_len (λ i. get_or (to_be_bytes w64 (get_or (drop 2 words) (i / 8) 0)) (i % 8) 0) 0 240 i i 0 h (let e : 0 + i ≡ i = omega arith in e)) (byte_small 8 (get_or (drop 2 words) (i / 8) 0) (i % 8)))
+        (λ (h : i < 240). rw (byte_at_is words i h) (byte_of_small words i))
         (λ (h : 240 ≤ i). rw (get_or_past (bytes_in (drop 2 words)) i 0 (let l = length-map-range_with_len (λ i. get_or (to_be_bytes w64 (get_or (drop 2 words) (i / 8) 0)) (i % 8) 0) 0 240 in omega arith)) (lit< tt)) (cases_lt i 240)
 
     of : IsBytesOf (bytes_in (drop 2 words)) (take 30 (drop 2 words))
@@ -210,3 +223,36 @@ leaf_is pair words small has same = same_leaf (key_of_bytes (bytes_in (drop 2 wo
           (λ i l. get_or-map-range_with_len (λ i. get_or (to_be_bytes w64 (get_or (drop 2 words) (i / 8) 0)) (i % 8) 0) 0 240 (8 * j + i) (8 * j + i) 0 (omega arith) (omega arith) ∙
           ap₂ (λ x y. get_or (to_be_bytes w64 x) y 0) (ap (λ z. get_or (drop 2 words) z 0) (let e : (8 * j + i) / 8 ≡ j = omega arith in e) ∙ sym (get_or-take 30 (drop 2 words) j 0 h)) (let e : (8 * j + i) % 8 ≡ i = omega arith in e));
     }
+
+-- words are read as those up to the end of their key
+read_up_to_key : (words : List ℕ) → get_or words 1 0 ≤ 240 → leaf_of words ≡ leaf_of (up_to_key words)
+unfolding leaf_of byte_of
+read_up_to_key words short = same_leaf
+    (ext_get_or 0 (take size (bytes_in (drop 2 words))) (take (get_or front 1 0) (bytes_in (drop 2 front))) (long words size short ∙ (sym (up_to_key_size words) ∙ sym (long front (get_or front 1 0) (omega (arith, short, up_to_key_size words)))))
+    (λ i inside. let low : i < size = omega (arith, inside, long words size short) in
+    get_or-take size (bytes_in (drop 2 words)) i 0 low ∙ (byte_at_is words i (omega (arith, low, short)) ∙
+    (ap (λ w. get_or (to_be_bytes w64 w) (i % 8) 0) (word i low) ∙
+    (sym (byte_at_is front i (omega (arith, low, short))) ∙ sym (get_or-take (get_or front 1 0) (bytes_in (drop 2 front)) i 0 (omega (arith, low, up_to_key_size words))))))))
+    (sym (up_to_key_value words))
+  where
+    abbrev size : ℕ
+    size = get_or words 1 0
+
+    abbrev front : List ℕ
+    front = up_to_key words
+
+    long : (words : List ℕ) (n : ℕ) → n ≤ 240 → length (take n (bytes_in (drop 2 words))) ≡ n
+    long words n few = length-take-le n (bytes_in (drop 2 words)) (let l = length-map-range_with_len (λ i. get_or (to_be_bytes w64 (get_or (drop 2 words) (i / 8) 0)) (i % 8) 0) 0 240 in omega (arith, few, l))
+
+    word : (i : ℕ) → i < size → get_or (drop 2 words) (i / 8) 0 ≡ get_or (drop 2 front) (i / 8) 0
+    word i low = get_or-drop 2 words (i / 8) 0 ∙ (sym (up_to_key_before words (2 + i / 8) (omega (arith, low)) (omega (arith, low, short))) ∙ sym (get_or-drop 2 front (i / 8) 0))
+
+-- the length of a leaf's key is its second word
+pub leaf_size_is : (pair : List ℕ × ℕ) (words : List ℕ) → leaf_words pair ≡ up_to_key words → get_or words 1 0 ≡ length pair.0
+leaf_size_is pair words same = sym (up_to_key_size words) ∙ (leaf_words_parts pair (up_to_key words) (sym same)).size
+
+-- the words that a leaf has are read as that leaf, whatever stands behind its key
+pub leaf_is : (pair : List ℕ × ℕ) (words : List ℕ) → All (λ w. w < 2 ^ 64) words → HasLeafWords pair → leaf_words pair ≡ up_to_key words → leaf_of words ≡ record { key = pair.0; value = pair.1 }
+leaf_is pair words small has same =
+    read_up_to_key words (let size = leaf_size_is pair words same in let short = has.key.short in omega (arith, size, short)) ∙
+    whole_is pair (up_to_key words) (up_to_key_small words small) has same

@@ -35,7 +35,7 @@ use Rattle.rowex_core.specs.declared.known.Known.{Known}
 use Rattle.rowex_core.specs.declared.known.View.{View}
 use Rattle.rowex_core.specs.declared.known.View.TheVariants.{Spent, Dealer, Pass, Pair, Witness, Follower}
 use Rattle.rowex_core.specs.Cores.{Core, IsLawful}
-use Rattle.rowex_core.specs.Reading.{entry_of, root_of, entry_in, word_in}
+use Rattle.rowex_core.specs.Reading.{entry_of, root_of, entry_in, HasWordAt}
 use Rattle.rowex_core.specs.Sharing.{share, known_share, nothing}
 use Rattle.rowex_core.specs.Words.{record_word}
 use Rattle.rowex_core.specs.Events.{Legal, stored_words, stored_root, next_change, next_tree, state_of, target_word}
@@ -57,7 +57,7 @@ HoldsIfStood s since at r P = (m : ℕ) → since ≤ m → StoodBetween s m at 
 abbrev pub IsFact : Past → Fact → Type 0
 IsFact s (Rooted since at e) = (since ≤ at) × (at ≤ s.now) × (root_of (s.version at) ≡ e)
 IsFact s (Placed since at n j e) = (at ≤ s.now) × HoldsIfStood s since at (a_node n) (λ u. entry_in u j ≡ e)
-IsFact s (Fixed since at r offset w) = (at ≤ s.now) × HoldsIfStood s since at r (λ u. word_in u offset ≡ w)
+IsFact s (Fixed since at r offset w) = (at ≤ s.now) × HoldsIfStood s since at r (λ u. HasWordAt u offset w)
 
 -- What it has seen is true: others alone have changed the map since; its last load of the root saw a front of that; and
 -- its facts are facts of the past.

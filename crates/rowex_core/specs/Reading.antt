@@ -1,5 +1,5 @@
 -- What the words of a record say, and what words and entries a tree has. The words of a record are those from offset 1 on.
-use Rattle.std.specs.Prelude.{◌≡◌, ℕ, ◌-◌, ◌*◌, ◌/◌, ◌%◌, ◌^◌, List, length, get_or, take, drop, map, Option, Some, None, nat_eq, nat_lt, if◌then◌else◌}
+use Rattle.std.specs.Prelude.{◌≡◌, ℕ, ◌-◌, ◌*◌, ◌/◌, ◌%◌, ◌^◌, ◌<◌, List, length, get_or, take, drop, map, Option, Some, None, nat_eq, nat_lt, if◌then◌else◌}
 use Rattle.std.specs.List.{range_with_len}
 use Rattle.std.specs.Option.{unwrap_or}
 use Rattle.std.specs.Int.{to_be_bytes, w64}
@@ -13,7 +13,7 @@ use Rattle.record_words.specs.declared.TheConstants.{HEAD_WORDS, MAX_ENTRIES}
 use Rattle.record_words.specs.Packed.{fixed_words}
 use Rattle.record_words.specs.Entry.{entry_word}
 use Rattle.record_words.specs.Node.{HasNodeWords, node_words}
-use Rattle.record_words.specs.Leaf.{HasLeafWords, leaf_words}
+use Rattle.record_words.specs.Leaf.{HasLeafWords, leaf_words, up_to_key, words_for}
 use Rattle.tries.specs.Tree.{Tree, leaf, node, fork, subtrie, Fixed}
 use Rattle.tries.specs.Place.{entry_at}
 use Rattle.versions.specs.declared.Rec.{Rec}
@@ -60,10 +60,10 @@ bytes_in words = map (λ i. get_or (to_be_bytes w64 (get_or words (i / 8) 0)) (i
 unfoldable pub leaf_of : List ℕ → LeafWords
 leaf_of words = record { key = take (get_or words 1 0) (bytes_in (drop 2 words)); value = get_or words 0 0 }
 
--- the words spell a value
+-- the words spell a value: a node's all of them, a leaf's those up to the end of its key
 unfoldable pub IsPacked : Rec → List ℕ → Type 0
 IsPacked (a_node n) words = (view : NodeView) × HasNodeWords view × (node_words view ≡ words)
-IsPacked (a_leaf n) words = (pair : List ℕ × ℕ) × HasLeafWords pair × (leaf_words pair ≡ words)
+IsPacked (a_leaf n) words = (pair : List ℕ × ℕ) × HasLeafWords pair × (leaf_words pair ≡ up_to_key words)
 
 -- ---- trees
 
@@ -83,8 +83,9 @@ entry_in (leaf n k v) j = None
 entry_in (node n x b) j = if nat_lt j (size (subtrie b)) then Some (entry_at (subtrie b) j) else None
 entry_in (fork p a b) j = None
 
--- the word at an offset, neither state nor entry, of the record at the tree's head
-abbrev pub word_in : Tree → ℕ → ℕ
-word_in (leaf n k v) offset = get_or (leaf_words (k, v)) (offset - 1) 0
-word_in (node n x b) offset = get_or (fixed_words (length x.rows) x.height x.columns x.rows) (offset - 1) 0
-word_in (fork p a b) offset = 0
+-- The record at the tree's head has this word at an offset that is neither its state's nor an entry's. Of a leaf, words behind its key
+-- may be any.
+abbrev pub HasWordAt : Tree → ℕ → ℕ → Type 0
+HasWordAt (leaf n k v) offset w = offset < words_for (length k) → get_or (leaf_words (k, v)) (offset - 1) 0 ≡ w
+HasWordAt (node n x b) offset w = get_or (fixed_words (length x.rows) x.height x.columns x.rows) (offset - 1) 0 ≡ w
+HasWordAt (fork p a b) offset w = w ≡ 0

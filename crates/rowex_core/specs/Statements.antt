@@ -30,7 +30,7 @@ use Rattle.rowex_core.specs.declared.event.Spot.TheVariants.{Root}
 use Rattle.rowex_core.specs.declared.known.Known.{Known}
 use Rattle.rowex_core.specs.declared.known.View.{View}
 use Rattle.rowex_core.specs.declared.known.View.TheVariants.{Dealer}
-use Rattle.rowex_core.specs.Reading.{entry_of, node_words_of, entry_in, word_in}
+use Rattle.rowex_core.specs.Reading.{entry_of, node_words_of, entry_in, HasWordAt}
 use Rattle.rowex_core.specs.Cores.{Core, IsLawful, heap_of}
 use Rattle.rowex_core.specs.Words.{record_word, word_at, Shows}
 use Rattle.rowex_core.specs.Events.{IsFixedOffset, Legal, after, location_of, writes, stored_words, stored_root, next_tree, next_change}
@@ -111,11 +111,11 @@ Parting =
     (i j : ℕ) → i < j → (k l : Key) → IsUnder a i k → IsUnder b j l → IsParted (between (subtrie a) i j) k l
 
 -- a record that stood in a version since a pass's pin is neither free nor held, and its words, state and entries aside, are
--- those that it had then
+-- those that it had then; but for those behind a leaf's key, which say nothing
 abbrev pub InReach : Type 0
 InReach =
     (c : Core) → IsLawful c → (q : ℕ) (p : Pin) → c.pins q ≡ Some p → (n : ℕ) (r : Rec) (u : Tree) → p.version ≤ n → n ≤ c.past.now → Stands c.past n r u →
-    (c.fate r ≢ Free) × ((o : ℕ) → c.fate r ≢ Held o) × ((offset : ℕ) → IsFixedOffset r offset → record_word c r offset ≡ word_in u offset)
+    (c.fate r ≢ Free) × ((o : ℕ) → c.fate r ≢ Held o) × ((offset : ℕ) → IsFixedOffset r offset → HasWordAt u offset (record_word c r offset))
 
 -- the record stood in version n as u, and at no later one
 pub record StoodLast (s : Past) (n : ℕ) (r : Rec) (u : Tree) : Type 0 where
