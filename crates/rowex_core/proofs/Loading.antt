@@ -117,10 +117,10 @@ fixed_fact c law since reach r offset fits = (
         let e = (same_words (sym i ∙ (ap (λ z. node_words_of (c.words (a_node z))) (sym (node_number r)) ∙ node_is v (c.words (a_node n)) (law.records.sized (a_node n)).1 has same))).1 in
         ap (λ (z : Fixed). get_or (fixed_words (length z.rows) z.height z.columns z.rows) (offset - 1) 0) e ∙
         (sym (fixed_word_is v (c.words (a_node n)) (law.records.sized (a_node n)).1 has same (offset - 1) (let a = f.0 in let b = f.1 in omega arith)) ∙ sym (later_word c (a_node n) offset f.0))
-    go (a_leaf n) (leaf m k v) f r i (p, has, same) before =
+    go (a_leaf n) (leaf m k v) f r i (p, has, same) = λ before.
         let words = c.words (a_leaf n) in
         let e = sym i ∙ (ap (λ z. leaf_of (c.words (a_leaf z))) (sym (leaf_number r)) ∙ leaf_is p words (law.records.sized (a_leaf n)).1 has same) in
-        let size : get_or words 1 0 ≡ length k = leaf_size_is p words same ∙ sym (ap (λ (z : LeafWords). length z.key) e) in
+        let key : length k ≡ get_or words 1 0 = ap (λ (z : LeafWords). length z.key) e ∙ sym (leaf_size_is p words same) in
         ap (λ (z : LeafWords). get_or (leaf_words (z.key, z.value)) (offset - 1) 0) e ∙
         (ap (λ z. get_or z (offset - 1) 0) same ∙
-        (up_to_key_before words (offset - 1) (omega (arith, before, size, f.0)) (omega (arith, f.0, f.1)) ∙ sym (later_word c (a_leaf n) offset f.0)))
+        (up_to_key_before words (offset - 1) (omega (arith, before, key, f.0)) (omega (arith, f.0, f.1)) ∙ sym (later_word c (a_leaf n) offset f.0)))

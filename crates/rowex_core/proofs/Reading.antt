@@ -225,27 +225,32 @@ whole_is pair words small has same = same_leaf (key_of_bytes (bytes_in (drop 2 w
     }
 
 -- words are read as those up to the end of their key
-read_up_to_key : (words : List ℕ) → get_or words 1 0 ≤ 240 → leaf_of words ≡ leaf_of (up_to_key words)
-unfolding leaf_of byte_of
-read_up_to_key words short = same_leaf
-    (ext_get_or 0 (take size (bytes_in (drop 2 words))) (take (get_or front 1 0) (bytes_in (drop 2 front))) (long words size short ∙ (sym (up_to_key_size words) ∙ sym (long front (get_or front 1 0) (omega (arith, short, up_to_key_size words)))))
-    (λ i inside. let low : i < size = omega (arith, inside, long words size short) in
-    get_or-take size (bytes_in (drop 2 words)) i 0 low ∙ (byte_at_is words i (omega (arith, low, short)) ∙
-    (ap (λ w. get_or (to_be_bytes w64 w) (i % 8) 0) (word i low) ∙
-    (sym (byte_at_is front i (omega (arith, low, short))) ∙ sym (get_or-take (get_or front 1 0) (bytes_in (drop 2 front)) i 0 (omega (arith, low, up_to_key_size words))))))))
-    (sym (up_to_key_value words))
-  where
-    abbrev size : ℕ
-    size = get_or words 1 0
+module _ (words : List ℕ) (short : get_or words 1 0 ≤ 240) where
+  abbrev key_size : ℕ
+  key_size = get_or words 1 0
 
-    abbrev front : List ℕ
-    front = up_to_key words
+  abbrev front : List ℕ
+  front = up_to_key words
 
-    long : (words : List ℕ) (n : ℕ) → n ≤ 240 → length (take n (bytes_in (drop 2 words))) ≡ n
-    long words n few = length-take-le n (bytes_in (drop 2 words)) (let l = length-map-range_with_len (λ i. get_or (to_be_bytes w64 (get_or (drop 2 words) (i / 8) 0)) (i % 8) 0) 0 240 in omega (arith, few, l))
+  long : (words : List ℕ) (n : ℕ) → n ≤ 240 → length (take n (bytes_in (drop 2 words))) ≡ n
+  long words n few = length-take-le n (bytes_in (drop 2 words)) (let l = length-map-range_with_len (λ i. get_or (to_be_bytes w64 (get_or (drop 2 words) (i / 8) 0)) (i % 8) 0) 0 240 in omega (arith, few, l))
 
-    word : (i : ℕ) → i < size → get_or (drop 2 words) (i / 8) 0 ≡ get_or (drop 2 front) (i / 8) 0
-    word i low = get_or-drop 2 words (i / 8) 0 ∙ (sym (up_to_key_before words (2 + i / 8) (omega (arith, low)) (omega (arith, low, short))) ∙ sym (get_or-drop 2 front (i / 8) 0))
+  key_word_same : (i : ℕ) → i < key_size → get_or (drop 2 words) (i / 8) 0 ≡ get_or (drop 2 front) (i / 8) 0
+  key_word_same i low = get_or-drop 2 words (i / 8) 0 ∙ (sym (up_to_key_before words (2 + i / 8) (omega (arith, low)) (omega (arith, low, short))) ∙ sym (get_or-drop 2 front (i / 8) 0))
+
+  key_byte_same : (i : ℕ) → i < key_size → get_or (bytes_in (drop 2 words)) i 0 ≡ get_or (bytes_in (drop 2 front)) i 0
+  unfolding byte_of
+  key_byte_same i low =
+      byte_at_is words i (omega (arith, low, short)) ∙ (ap (λ w. get_or (to_be_bytes w64 w) (i % 8) 0) (key_word_same i low) ∙ sym (byte_at_is front i (omega (arith, low, short))))
+
+  read_up_to_key : leaf_of words ≡ leaf_of front
+  unfolding leaf_of
+  read_up_to_key = same_leaf
+      (ext_get_or 0 (take key_size (bytes_in (drop 2 words))) (take (get_or front 1 0) (bytes_in (drop 2 front)))
+      (long words key_size short ∙ (sym (up_to_key_size words) ∙ sym (long front (get_or front 1 0) (omega (arith, short, up_to_key_size words)))))
+      (λ i inside. let low : i < key_size = omega (arith, inside, long words key_size short) in
+      get_or-take key_size (bytes_in (drop 2 words)) i 0 low ∙ (key_byte_same i low ∙ sym (get_or-take (get_or front 1 0) (bytes_in (drop 2 front)) i 0 (omega (arith, low, up_to_key_size words))))))
+      (sym (up_to_key_value words))
 
 -- the length of a leaf's key is its second word
 pub leaf_size_is : (pair : List ℕ × ℕ) (words : List ℕ) → leaf_words pair ≡ up_to_key words → get_or words 1 0 ≡ length pair.0
