@@ -8,7 +8,7 @@ ghost use Rattle.record_words.specs.Leaf.{HasLeafWords, key_word, leaf_words, wo
 use crate::{KEY_WORDS, LEAF_FIELDS};
 use key_bits::{Key, MAX_BYTES};
 
-/// How many words of a leaf have bytes of its key, which has this length; the words after them are 0.
+/// How many words of a leaf have bytes of its key, which has this length.
 pub fn key_words(length: u64) -> usize
     requires { length ≤ MAX_BYTES }
     ensures { result ≡ words_of_key length }

@@ -5,8 +5,10 @@ use Rattle.std.proofs.lemmas.Bool.{cases_lt}
 use Rattle.std.proofs.lemmas.List.{ext_get_or, get_or-set_other, length-set, take_all, take_more, take_more_set}
 use Rattle.std.proofs.lemmas.List.Elements.{All-head, All-tail, All-weaker}
 use Rattle.record_words.specs.declared.layout.Layout.{Layout}
-use Rattle.record_words.specs.Layout.{leaf_size}
-use Rattle.record_words.proofs.Locations.{size_fits}
+use Rattle.record_words.specs.declared.TheConstants.{LEAF_FIELDS}
+use Rattle.record_words.specs.Leaf.{HasLeafWords, leaf_words, up_to_key, words_for}
+use Rattle.record_words.proofs.Leaves.{leaf_words_parts}
+use Rattle.record_words.proofs.UpToKey.{spells_up_to_key}
 use Rattle.versions.specs.declared.Rec.{Rec}
 use Rattle.versions.specs.declared.Rec.TheVariants.{Leaf as a_leaf}
 use Rattle.versions.specs.Steps.{same_rec}
@@ -84,14 +86,20 @@ stored_past : (words : List ℕ) (i j : ℕ) (old : List ℕ) → i ≤ j → ge
 stored_past words zero j old past = refl
 stored_past words (suc i) j old past = get_or-set_other (stored words i old) i j (get_or words i 0) 0 (λ e. omega (arith, e, past)) ∙ stored_past words i j old (omega arith)
 
--- and all that are not 0, where the others are 0 already
-stored_within : (words old : List ℕ) (i : ℕ) → length old ≡ length words → i ≤ length words → ((j : ℕ) → i ≤ j → get_or old j 0 ≡ 0) → ((j : ℕ) → i ≤ j → get_or words j 0 ≡ 0) → stored words i old ≡ words
-stored_within words old i size low was is =
-    let first = stored_first words i old size low in
-    ext_get_or 0 (stored words i old) words first.0 (λ j h. ⊎_elim
-    (λ (before : j < i). sym (get_or-take i (stored words i old) j 0 before) ∙ (ap (λ l. get_or l j 0) first.1 ∙ get_or-take i words j 0 before))
-    (λ (past : i ≤ j). stored_past words i j old past ∙ (was j past ∙ sym (is j past)))
-    (cases_lt j i))
+stored_word : (words : List ℕ) (i j : ℕ) (old : List ℕ) → length old ≡ length words → i ≤ length words → j < i → get_or (stored words i old) j 0 ≡ get_or words j 0
+stored_word words i j old size low before =
+    sym (get_or-take i (stored words i old) j 0 before) ∙ (ap (λ l. get_or l j 0) (stored_first words i old size low).1 ∙ get_or-take i words j 0 before)
+
+-- where a leaf's words are stored up to the end of its key, they are its words up to there, whatever was there before
+pub leaf_stored : (leaf : List ℕ × ℕ) (old : List ℕ) → HasLeafWords leaf → length old ≡ LEAF_FIELDS → leaf_words leaf ≡ up_to_key (stored (leaf_words leaf) (words_for (length leaf.0) - 1) old)
+leaf_stored leaf old has size =
+    let parts = leaf_words_parts leaf (leaf_words leaf) refl in
+    let short = has.key.short in
+    let word : (j : ℕ) → j < words_for (length leaf.0) - 1 → get_or (stored (leaf_words leaf) (words_for (length leaf.0) - 1) old) j 0 ≡ get_or (leaf_words leaf) j 0 =
+    λ j before. stored_word (leaf_words leaf) (words_for (length leaf.0) - 1) j old (size ∙ sym parts.count) (omega (arith, short, parts.count)) before in
+    spells_up_to_key leaf (stored (leaf_words leaf) (words_for (length leaf.0) - 1) old)
+    (word 0 (omega arith) ∙ parts.value) (word 1 (omega arith) ∙ parts.size)
+    (λ j before few. word (2 + j) (omega (arith, before)) ∙ parts.bytes j few)
 
 -- each record has its number of words, and 0 for those that the table has none for
 abbrev pub AreWithin : Layout → List Owned → Type 0
@@ -100,19 +108,6 @@ AreWithin layout own = All (λ o. (length o.words ≡ word_count_of o.rec) × Is
 pub own_within : (layout : Layout) (c : Core) (k : Known) → c.layout ≡ layout → IsLawful c → Knows c k → AreWithin layout k.own
 own_within layout c k at lawful known = All-weaker (IsOwned k.pass c) (λ o. (length o.words ≡ word_count_of o.rec) × IsWithin layout o.rec o.words)
     (λ o is. (ap length (sym is.1) ∙ (lawful.records.sized o.rec).0, subst (λ z. IsWithin z o.rec o.words) at (subst (IsWithin c.layout o.rec) is.1 (lawful.records.within o.rec)))) k.own (knows_all c k known).own
-
-pub leaf_filled_with : (layout : Layout) (n : ℕ) (words : List ℕ) → length words ≡ word_count_of (a_leaf n) → ((j : ℕ) → leaf_size layout n ≤ j + 1 → get_or words j 0 ≡ 0) → (o : Owned) →
-    (length o.words ≡ word_count_of o.rec) × IsWithin layout o.rec o.words → stored_in (a_leaf n) words (leaf_size layout n - 1) o ≡ fill_with (a_leaf n) words o
-leaf_filled_with layout n words size zeros o held = go (same_rec o.rec (a_leaf n)) refl
-  where
-    go : (b : Bool) → same_rec o.rec (a_leaf n) ≡ b → stored_in (a_leaf n) words (leaf_size layout n - 1) o ≡ fill_with (a_leaf n) words o
-    go true e =
-        let this = same_rec_true o.rec (a_leaf n) e in
-        let was : IsWithin layout (a_leaf n) o.words = subst (λ z. IsWithin layout z o.words) this held.1 in
-        let (least, most) = size_fits layout n in
-        rw e (ap (λ l. record o { words = l }) (stored_within words o.words (leaf_size layout n - 1) (held.0 ∙ (ap word_count_of this ∙ sym size)) (omega (arith, size, most))
-        (λ j past. was j (omega (arith, past))) (λ j past. zeros j (omega (arith, past)))))
-    go false e = rw e refl
 
 pub filled_with : (r : Rec) (words : List ℕ) → length words ≡ word_count_of r → (o : Owned) → length o.words ≡ word_count_of o.rec → stored_in r words (length words) o ≡ fill_with r words o
 filled_with r words size o sized = go (same_rec o.rec r) refl

@@ -20,11 +20,11 @@ use Rattle.rowex_core.specs.declared.known.Fact.{Fact}
 use Rattle.rowex_core.specs.declared.known.Holding.TheVariants.{Held}
 use Rattle.rowex_core.specs.declared.known.Owned.{Owned}
 use Rattle.rowex_core.specs.declared.known.Known.{Known}
-use Rattle.record_words.specs.Layout.{leaf_size}
-use Rattle.record_words.proofs.Locations.{size_fits}
+use Rattle.record_words.specs.Leaf.{HasLeafWords, leaf_words, words_for}
 use Rattle.rowex_core.specs.Cores.{Core, IsWithin, word_count_of}
 use Rattle.rowex_core.specs.Events.{IsFixedOffset}
 use Rattle.rowex_core.specs.Words.{record_word}
+use Rattle.rowex_core.specs.Reading.{IsPacked}
 use Rattle.rowex_core.specs.Sharing.{IsOwned}
 use Rattle.rowex_core.specs.Knowing.{IsEvent, with_filled_word}
 use Rattle.rowex_core.proofs.Owning.{knows_all}
@@ -37,8 +37,8 @@ use Rattle.rowex_table.proofs.ActsBefore.{later_trans, recalls_on, same_later}
 use Rattle.rowex_table.proofs.Rights.{mapped}
 use Rattle.rowex_table.proofs.Running as running
 use Rattle.rowex_table.proofs.Running.{in_turn_more}
-use Rattle.rowex_records.specs.Records.{owning, filling, fill_with, load_of_word, fill_unless_found, unused_word, stored_in, Sets, SetsAll, SetsMore, SetsSome, SetsWord}
-use Rattle.rowex_records.proofs.Filled.{AreWithin, each_mapped, filled_with, leaf_filled_with, own_within, stored_more, stored_nothing, twice}
+use Rattle.rowex_records.specs.Records.{owning, filling, fill_with, load_of_word, fill_unless_found, stored, stored_in, IsFilledLeaf, IsLookedAt, Sets, SetsAll, SetsMore, SetsSome, SetsWord}
+use Rattle.rowex_records.proofs.Filled.{AreWithin, each_mapped, filled_with, leaf_stored, own_within, stored_more, stored_nothing, twice}
 use Rattle.rowex_records.proofs.Making.{owns_one}
 
 -- ---- one word
@@ -135,21 +135,21 @@ module _ {G : Type 0} (table : TableView) (becomes : G → Event → G → Type 
   later_step : (act : Act) (a b : SeatView × G) → KeepsRecall act → Steps table becomes act a b → IsLater a.0.known b.0.known
   later_step act a b keeps step = recalls_on table.layout silent a.0.known b.0.known act keeps step.event
 
-  -- a word that is used,
-  pub sets_stored : (r : Rec) (offset word : ℕ) (a b : SeatView × G) → word ≢ unused_word r offset → Steps table becomes (Fill r offset word) a b → Sets table becomes r offset word a b
-  sets_stored r offset word a b used step = record {
+  -- a word in whose place none is looked at,
+  pub sets_stored : (r : Rec) (offset word : ℕ) (a b : SeatView × G) → ¬ (IsLookedAt r offset word) → Steps table becomes (Fill r offset word) a b → Sets table becomes r offset word a b
+  sets_stored r offset word a b unseen step = record {
     acts = Fill r offset word ∷ [];
-    sets = inl (used, refl);
+    sets = inl (unseen, refl);
     does = fill_one r offset word a b step;
     later = later_step (Fill r offset word) a b tt step;
     own = ap (λ (z : Known). z.own) step.event.learned_is;
   }
 
-  -- an unused one that stands there already,
-  pub sets_found : (r : Rec) (offset word : ℕ) (a b : SeatView × G) → word ≡ unused_word r offset → Steps table becomes (load_of_word r offset word) a b → Sets table becomes r offset word a b
-  sets_found r offset word a b unused step = record {
+  -- one that stands there already, as a look tells,
+  pub sets_found : (r : Rec) (offset word : ℕ) (a b : SeatView × G) → IsLookedAt r offset word → Steps table becomes (load_of_word r offset word) a b → Sets table becomes r offset word a b
+  sets_found r offset word a b seen step = record {
     acts = load_of_word r offset word ∷ [];
-    sets = inr (unused, word, ap (λ l. load_of_word r offset word ∷ l) (sym mended));
+    sets = inr (seen, word, ap (λ l. load_of_word r offset word ∷ l) (sym mended));
     does = load_one r offset word a b step;
     later = later_step (load_of_word r offset word) a b (look_keeps word r offset) step;
     own = look_owns table.layout word a.0.known b.0.known r offset step.event ∙ sym (found_stands table.layout word a.0.known b.0.known r offset step.event);
@@ -159,11 +159,11 @@ module _ {G : Type 0} (table : TableView) (becomes : G → Event → G → Type 
       mended = rw (eq-eqb word word refl) refl
 
   -- and one in another's place
-  pub sets_mended : (r : Rec) (offset word found : ℕ) (a m b : SeatView × G) → word ≡ unused_word r offset → found ≢ word → Steps table becomes (load_of_word r offset found) a m → Steps table becomes (Fill r offset word) m b →
+  pub sets_mended : (r : Rec) (offset word found : ℕ) (a m b : SeatView × G) → IsLookedAt r offset word → found ≢ word → Steps table becomes (load_of_word r offset found) a m → Steps table becomes (Fill r offset word) m b →
       Sets table becomes r offset word a b
-  sets_mended r offset word found a m b unused other load step = record {
+  sets_mended r offset word found a m b seen other load step = record {
     acts = load_of_word r offset found ∷ Fill r offset word ∷ [];
-    sets = inr (unused, found, ap (λ l. load_of_word r offset found ∷ l) (sym (differs (nat_eq found word) refl)));
+    sets = inr (seen, found, ap (λ l. load_of_word r offset found ∷ l) (sym (differs (nat_eq found word) refl)));
     does = fillings_append (load_of_word r offset found ∷ []) (Fill r offset word ∷ []) a m b (load_one r offset found a m load) (fill_one r offset word m b step);
     later = later_trans (later_step (load_of_word r offset found) a m (look_keeps found r offset) load) (later_step (Fill r offset word) m b tt step);
     own = ap (λ (z : Known). z.own) step.event.learned_is ∙ ap (map (with_filled_word r offset word)) (look_owns table.layout found a.0.known m.0.known r offset load.event);
@@ -237,20 +237,6 @@ module _ {G : Type 0} (table : TableView) (becomes : G → Event → G → Type 
   runs_within [] a b some run = absurd (omega arith)
   runs_within (act ∷ acts) a b some run = own_within table.layout run.1.event.core a.0.known run.1.event.layout_is run.1.event.lawful run.1.event.knows
 
-  pub sets_all : (n : ℕ) (words : List ℕ) (a b : SeatView × G) → length words ≡ word_count_of (a_leaf n) → ((j : ℕ) → leaf_size table.layout n ≤ j + 1 → get_or words j 0 ≡ 0) →
-      SetsSome table becomes (a_leaf n) words (leaf_size table.layout n - 1) a b → SetsAll table becomes (a_leaf n) words a b
-  sets_all n words a b size zeros some = record {
-    sized = size;
-    acts = some.acts;
-    in_turn = some.in_turn;
-    does = some.does;
-    later = some.later;
-    own = some.own ∙
-        each_mapped (λ o. (length o.words ≡ word_count_of o.rec) × IsWithin table.layout o.rec o.words) (stored_in (a_leaf n) words (leaf_size table.layout n - 1)) (fill_with (a_leaf n) words)
-        (leaf_filled_with table.layout n words size zeros) a.0.known.own
-        (runs_within some.acts a b (let z = some.least in omega (arith, z, size_fits table.layout n)) some.does.steps);
-  }
-
   -- all words of a node
   pub sets_node : (n : ℕ) (words : List ℕ) (i : ℕ) (a b : SeatView × G) → length words ≡ word_count_of (a_node n) → i ≡ length words → SetsSome table becomes (a_node n) words i a b → SetsAll table becomes (a_node n) words a b
   sets_node n words i a b size all some = record {
@@ -275,3 +261,21 @@ module _ {G : Type 0} (table : TableView) (becomes : G → Event → G → Type 
       let o : Owned = record { rec = r; holding = Held; words = words } in
       let with : fill_with r words (record { rec = r; holding = Held; words = old }) ≡ o = rw (same_rec_refl r) refl in
       subst (λ l. Contains l o) (sym sets.own) (subst (Contains (map (fill_with r words) a.0.known.own)) with (mapped (fill_with r words) a.0.known.own (record { rec = r; holding = Held; words = old }) has))
+
+  -- a leaf has its words up to the end of its key
+  pub sets_leaf : (n : ℕ) (leaf : List ℕ × ℕ) (a b : SeatView × G) → HasLeafWords leaf → SetsSome table becomes (a_leaf n) (leaf_words leaf) (words_for (length leaf.0) - 1) a b → IsClaimed a.0.known (a_leaf n) → IsFilledLeaf b.0.known n leaf
+  unfolding IsPacked
+  sets_leaf n leaf a b has sets (old, size, held) =
+      let i : ℕ = words_for (length leaf.0) - 1 in
+      let words = stored (leaf_words leaf) i old in
+      let spells = leaf_stored leaf old has size in
+      let o : Owned = record { rec = a_leaf n; holding = Held; words = words } in
+      let with : stored_in (a_leaf n) (leaf_words leaf) i (record { rec = a_leaf n; holding = Held; words = old }) ≡ o = rw (same_rec_refl (a_leaf n)) refl in (
+        words,
+        (
+          subst (λ l. Contains l o) (sym sets.own) (subst (Contains (map (stored_in (a_leaf n) (leaf_words leaf) i) a.0.known.own)) with
+              (mapped (stored_in (a_leaf n) (leaf_words leaf) i) a.0.known.own (record { rec = a_leaf n; holding = Held; words = old }) held)),
+          (leaf, has, spells),
+        ),
+        spells,
+      )

@@ -1,17 +1,18 @@
 -- Steps on records of a pass's own that are not in the tree: filled, made ready, given up.
-use Rattle.std.specs.Prelude.{◌≡◌, ◌≢◌, ◌⊎◌, ℕ, zero, suc, ◌+◌, ◌-◌, ◌*◌, ◌^◌, ◌≤◌, List, [], ◌∷◌, length, map, set, get_or, nat_eq, nat_lt, All, Contains, if◌then◌else◌}
+use Rattle.std.specs.Prelude.{◌≡◌, ◌⊎◌, ℕ, zero, suc, ◌+◌, ◌-◌, ◌*◌, ◌^◌, ◌≤◌, List, [], ◌∷◌, length, map, set, get_or, nat_eq, nat_lt, All, Contains, if◌then◌else◌}
 use Rattle.versions.specs.declared.Rec.{Rec}
 use Rattle.versions.specs.declared.Rec.TheVariants.{Node as a_node, Leaf as a_leaf}
 use Rattle.versions.specs.Steps.{same_rec}
 use Rattle.rowex_core.specs.declared.event.Act.{Act}
 use Rattle.record_words.specs.declared.TheConstants.{FIRST_ENTRY}
+use Rattle.record_words.specs.Leaf.{leaf_words, up_to_key}
 use Rattle.rowex_core.specs.declared.event.Act.TheVariants.{Fill, LoadFixed, LoadRef, Ready, Release}
 use Rattle.rowex_core.specs.declared.event.Spot.TheVariants.{Slot}
 use Rattle.rowex_core.specs.declared.event.Event.{Event}
 use Rattle.rowex_core.specs.declared.known.Holding.TheVariants.{Held, Ready as IsReady}
 use Rattle.rowex_core.specs.declared.known.Known.{Known}
 use Rattle.rowex_core.specs.declared.known.Owned.{Owned}
-use Rattle.rowex_core.specs.Cores.{size_of, word_count_of}
+use Rattle.rowex_core.specs.Cores.{word_count_of}
 use Rattle.rowex_core.specs.Knowing.{with_filled_word, with_holding, without_record}
 use Rattle.rowex_core.specs.Reading.{IsPacked}
 use Rattle.rowex_table.specs.Made.{IsLater}
@@ -38,10 +39,15 @@ fill_with r words o = if same_rec o.rec r then record o { words = words } else o
 abbrev pub filling : Known → Known → Known
 filling k j = record k { own = j.own; front = j.front; facts = j.facts }
 
--- what stands at an offset where the record has no part of its value: all bits are set in the head of a node, and none elsewhere
-abbrev pub unused_word : Rec → ℕ → ℕ
-unused_word (a_node n) offset = if nat_lt offset FIRST_ENTRY then 2 ^ 64 - 1 else 0
-unused_word (a_leaf n) offset = 0
+-- what stands at an offset of a node's record where the node has nothing: all bits are set in the head, and none elsewhere
+abbrev pub unused_word : ℕ → ℕ
+unused_word offset = if nat_lt offset FIRST_ENTRY then 2 ^ 64 - 1 else 0
+
+-- The word that stands there is looked at before this one is stored, since it is often the same: of a node where it has nothing, of a leaf
+-- the length of its key.
+abbrev pub IsLookedAt : Rec → ℕ → ℕ → Type 0
+IsLookedAt (a_node n) offset word = word ≡ unused_word offset
+IsLookedAt (a_leaf n) offset word = offset ≡ 2
 
 -- a load of the word there
 abbrev pub load_of_word : Rec → ℕ → ℕ → Act
@@ -52,11 +58,11 @@ load_of_word (a_leaf n) offset w = LoadFixed (a_leaf n) offset w
 abbrev pub fill_unless_found : Rec → ℕ → ℕ → ℕ → List Act
 fill_unless_found r offset word found = if nat_eq found word then [] else Fill r offset word ∷ []
 
--- the word comes to stand at the offset: it is stored, but for an unused one the word there is loaded first
+-- the word comes to stand at the offset: it is stored, where that one is looked at unless it is the same
 abbrev pub SetsWord : Rec → ℕ → ℕ → List Act → Type 0
 SetsWord r offset word acts =
-    ((word ≢ unused_word r offset) × (acts ≡ Fill r offset word ∷ [])) ⊎
-    ((word ≡ unused_word r offset) × (found : ℕ) × (acts ≡ load_of_word r offset found ∷ fill_unless_found r offset word found))
+    (¬ (IsLookedAt r offset word) × (acts ≡ Fill r offset word ∷ [])) ⊎
+    (IsLookedAt r offset word × (found : ℕ) × (acts ≡ load_of_word r offset found ∷ fill_unless_found r offset word found))
 
 -- The pass goes on so for one word. Of its own records this one has the word then, and the others are as they were.
 pub record Sets {G : Type 0} (table : TableView) (becomes : G → Event → G → Type 0) (r : Rec) (offset word : ℕ) (a b : SeatView × G) : Type 0 where
@@ -89,15 +95,19 @@ pub record SetsSome {G : Type 0} (table : TableView) (becomes : G → Event → 
 abbrev pub SetsMore : {G : Type 0} → TableView → (G → Event → G → Type 0) → Rec → List ℕ → (i count : ℕ) → SeatView × G → SeatView × G → Type 0
 SetsMore {G = G} table becomes r words i count b c = (a : SeatView × G) → SetsSome table becomes r words i a b → SetsSome table becomes r words (i + count) a c
 
--- The words come to stand from offset 1 on, as far as the table has words for the record, one after the other; an unused one that stands
--- there already is not stored again. Of the pass's own records this one has them then, and the others are as they were.
+-- The words come to stand from offset 1 on, one after the other; one that is looked at and stands there already is not stored again. Of the
+-- pass's own records this one has them then, and the others are as they were.
 pub record SetsAll {G : Type 0} (table : TableView) (becomes : G → Event → G → Type 0) (r : Rec) (words : List ℕ) (a b : SeatView × G) : Type 0 where
   pub sized : length words ≡ word_count_of r
   pub acts : List Act
-  pub in_turn : InTurn (λ i. SetsWord r (i + 1) (get_or words i 0)) (size_of table.layout r - 1) acts
+  pub in_turn : InTurn (λ i. SetsWord r (i + 1) (get_or words i 0)) (word_count_of r) acts
   pub does : Does table becomes filling acts a b
   pub later : IsLater a.0.known b.0.known
   pub own : b.0.known.own ≡ map (fill_with r words) a.0.known.own
+
+-- The record has the words of this leaf up to the end of its key, and is not made ready.
+abbrev pub IsFilledLeaf : Known → ℕ → List ℕ × ℕ → Type 0
+IsFilledLeaf k n leaf = (words : List ℕ) × IsFilled k (a_leaf n) words × (leaf_words leaf ≡ up_to_key words)
 
 -- The record is made ready. Of the pass's own records this one is ready then, and the others are as they were.
 pub record Readies {G : Type 0} (table : TableView) (becomes : G → Event → G → Type 0) (r : Rec) (a b : SeatView × G) : Type 0 where

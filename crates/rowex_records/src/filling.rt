@@ -1,6 +1,6 @@
 //! Records filled with the words of a leaf or of a node, and made ready.
 
-ghost use Rattle.std.specs.Prelude.{◌≡◌, ◌<◌, ◌≤◌, ◌+◌, ◌*◌, ℕ, List, length};
+ghost use Rattle.std.specs.Prelude.{◌≡◌, ◌≢◌, ◌<◌, ◌≤◌, ◌+◌, ◌-◌, ◌*◌, ℕ, List, length};
 ghost use Rattle.versions.specs.declared.Rec.TheVariants.{Node as a_node, Leaf as a_leaf};
 ghost use Rattle.record_words.specs.Layout.{leaf_size};
 ghost use Rattle.record_words.specs.Leaf.{leaf_words, words_for};
@@ -13,15 +13,15 @@ ghost use Rattle.rowex_table.specs.Rights.{IsClaimed};
 ghost use Rattle.rowex_table.specs.Rule.{IsStartOf};
 ghost use Rattle.rowex_table.specs.Runs.{Steps};
 ghost use Rattle.rowex_table.specs.Seats.{IsSeatOf};
-ghost use Rattle.rowex_records.specs.Records.{IsFilled, Readies, Sets, SetsAll, SetsMore, load_of_word, unused_word};
+ghost use Rattle.rowex_records.specs.Records.{IsFilled, IsFilledLeaf, Readies, Sets, SetsAll, SetsMore, SetsSome, load_of_word, unused_word};
 
 use key_bits::Key;
 use record_words::{FIRST_ENTRY, HEAD_WORDS, NODE_FIELDS, key_word_at, key_words};
 use rowex_core::{Gate, Rec};
 use rowex_table::{HotTable, TableSeat};
 
-/// Fills a claimed leaf record with a key, which has room in it, and a value, in a step or two for each of its words but the
-/// state: a word that is to be 0 is loaded, and stored only where another stands.
+/// Fills a claimed leaf record with a key, which has room in it, and a value: stores the words up to the key's end, in a step for each, but
+/// for the length, which is loaded, and stored only where another stands. What stands behind the key stays there.
 pub fn fill_leaf<G: Gate>(
     table: &HotTable,
     seat: &mut TableSeat,
@@ -34,27 +34,23 @@ pub fn fill_leaf<G: Gate>(
     requires range { number < table.now.layout.leaves }
     requires held { IsClaimed seat.old.known (a_leaf number) }
     requires room { words_for (length key.now) ≤ leaf_size table.now.layout number }
-    ensures fills { SetsAll table.now G.becomes (a_leaf number) (leaf_words (key.now, value)) (seat.old, gate.old) (seat.new, gate.new) }
-    ensures filled { IsFilled seat.new.known (a_leaf number) (leaf_words (key.now, value)) }
+    ensures fills { SetsSome table.now G.becomes (a_leaf number) (leaf_words (key.now, value)) (words_for (length key.now) - 1) (seat.old, gate.old) (seat.new, gate.new) }
+    ensures filled { IsFilledLeaf seat.new.known number (key.now, value) }
     ensures steps { seat.new.known.steps ≤ seat.old.known.steps + 2 * LEAF_FIELDS }
 {
     let length = key.as_bytes().len() as u64;
     let start = table.start_of(Rec::Leaf(number));
-    set_leaf_word(table, seat, gate, number, start, 1, value);
-    set_leaf_word(table, seat, gate, number, start, 2, length);
-    let used = 2 + key_words(length);
-    for index in 2..used {
-        let word = key_word_at(key, index - 2);
-        set_leaf_word(table, seat, gate, number, start, index as u8 + 1, word);
-    }
-    let end = table.layout().leaf_size(number) as u8;
-    for offset in used as u8 + 1..end {
-        set_leaf_word(table, seat, gate, number, start, offset, 0);
+    store_leaf_word(table, seat, gate, number, start, 1, value);
+    set_length(table, seat, gate, number, start, length);
+    for index in 0..key_words(length) {
+        let word = key_word_at(key, index);
+        store_leaf_word(table, seat, gate, number, start, index as u8 + 3, word);
     }
 }
 
-/// Sees to it that a word of a claimed leaf record, which begins at `start`, is this one.
-fn set_leaf_word<G: Gate>(
+/// Stores a word of a claimed leaf record, which begins at `start`, other than the length of its key.
+#[inline(always)]
+fn store_leaf_word<G: Gate>(
     table: &HotTable,
     seat: &mut TableSeat,
     gate: &mut G,
@@ -67,13 +63,32 @@ fn set_leaf_word<G: Gate>(
     requires range { (number < table.now.layout.leaves) × IsOffset (a_leaf number) offset × HasWord table.now.layout (a_leaf number) offset }
     requires start { IsStartOf table.now.layout (a_leaf number) start }
     requires held { IsClaimed seat.old.known (a_leaf number) }
+    requires other { offset ≢ 2 }
     ensures { Sets table.now G.becomes (a_leaf number) offset word (seat.old, gate.old) (seat.new, gate.new) }
 {
+    table.fill_from(seat, gate, Rec::Leaf(number), start, offset, word);
+}
+
+/// Sees to it that the length of the key in a claimed leaf record, which begins at `start`, is this one. Keys are often as long as the one
+/// that was there.
+#[inline(always)]
+fn set_length<G: Gate>(
+    table: &HotTable,
+    seat: &mut TableSeat,
+    gate: &mut G,
+    number: u32,
+    start: usize,
+    length: u64,
+)
+    requires own { IsSeatOf table.now seat.old }
+    requires range { (number < table.now.layout.leaves) × HasWord table.now.layout (a_leaf number) 2 }
+    requires start { IsStartOf table.now.layout (a_leaf number) start }
+    requires held { IsClaimed seat.old.known (a_leaf number) }
+    ensures { Sets table.now G.becomes (a_leaf number) 2 length (seat.old, gate.old) (seat.new, gate.new) }
+{
     let rec = Rec::Leaf(number);
-    if word != 0 {
-        table.fill_from(seat, gate, rec, start, offset, word);
-    } else if table.load_fixed_from(seat, gate, rec, start, offset) != 0 {
-        table.fill_from(seat, gate, rec, start, offset, 0);
+    if table.load_fixed_from(seat, gate, rec, start, 2) != length {
+        table.fill_from(seat, gate, rec, start, 2, length);
     }
 }
 
@@ -161,7 +176,7 @@ fn set_node_word<G: Gate>(
 /// The word that stands at an offset of a node record where the node has nothing.
 #[inline(always)]
 fn unused_in_node(offset: u8) -> u64
-    ensures { (n : ℕ) → result ≡ unused_word (a_node n) offset }
+    ensures { result ≡ unused_word offset }
 {
     if (offset as usize) < FIRST_ENTRY {
         u64::MAX

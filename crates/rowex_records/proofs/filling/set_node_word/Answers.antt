@@ -21,14 +21,14 @@ pub returns-then-word-unused_in_node : goal.returns-then-word-unused_in_node
 returns-then-word-unused_in_node g c =
     elim c.then-word-unused_in_node.branch [
       | then-word-unused_in_node-via-then-word-unused_in_node w ↦
-          sets_stored _ _ (a_node c.args.number) _ _ _ _ (λ e. w.if-word-unused_in_node.true (e ∙ sym (c.unused_in_node.ensures c.args.number))) (rw w.gate-is at (rw w.seat-is at c.fill_from.ensures))
+          sets_stored _ _ (a_node c.args.number) _ _ _ _ (λ e. w.if-word-unused_in_node.true (e ∙ sym (c.unused_in_node.ensures))) (rw w.gate-is at (rw w.seat-is at c.fill_from.ensures))
       | then-word-unused_in_node-via-else-word-unused_in_node+then-load_node_word-word w ↦
-          let unused : c.args.word ≡ unused_word (a_node c.args.number) c.args.offset = w.if-word-unused_in_node.false ∙ c.unused_in_node.ensures c.args.number in
+          let unused : c.args.word ≡ unused_word c.args.offset = w.if-word-unused_in_node.false ∙ c.unused_in_node.ensures in
           sets_mended _ _ (a_node c.args.number) c.args.offset c.args.word _ _ _ _ unused w.if-load_node_word-word.true w.load_node_word.ensures (rw w.gate-is at (rw w.seat-is at c.fill_from.ensures))
     ]
 
 pub returns-else-load_node_word-word : goal.returns-else-load_node_word-word
 returns-else-load_node_word-word g c =
-    let unused : c.args.word ≡ unused_word (a_node c.args.number) c.args.offset = c.if-word-unused_in_node.false ∙ c.unused_in_node.ensures c.args.number in
+    let unused : c.args.word ≡ unused_word c.args.offset = c.if-word-unused_in_node.false ∙ c.unused_in_node.ensures in
     sets_found _ _ (a_node c.args.number) c.args.offset c.args.word _ _ unused
     (subst (λ w. Steps c.args.table.now g.G.Gate.becomes (load_of_word (a_node c.args.number) c.args.offset w) (c.args.seat.now, c.args.gate.now) (c.load_node_word.new.seat, c.load_node_word.new.gate)) c.if-load_node_word-word.false c.load_node_word.ensures)
