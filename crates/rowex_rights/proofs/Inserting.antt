@@ -34,7 +34,7 @@ insertion layout k held news gone has since x p l n w e at risen has_leaf place 
     may c law layout_is known =
         let stage = stage_of layout k held news has c law layout_is known in
         let s = stores_at layout k held news c stage known x.key (Node n place.height) at place.holds e w place.fits word in
-        let new = made_leaf layout k held news c stage x has_leaf.0 has_leaf.1 in
+        let new = made_leaf layout k held news c stage x has_leaf in
         let (i, news_are, gone_is) = risen c stage in
         let heap = heap_of (stored_words c at w) in
         let root = stored_root c at w in
@@ -44,16 +44,16 @@ insertion layout k held news gone has since x p l n w e at risen has_leaf place 
         (λ f. f)
 
 pub pair : MayPair
-pair layout k held x p j m w value l view at has spelled holds alone fits there agree differ anew shows word = publishes_made layout k at w (added_change k.pass x) None news [] has.own may
+pair layout k held x fresh p j m w value l view at has spelled holds alone fits there agree differ anew shows word = publishes_made layout k at w (added_change k.pass x) None news [] has.own may
   where
     news : List Made
-    news = made_of_node m view ∷ made_of_leaf x ∷ []
+    news = made_of_node m view ∷ made_of_leaf x fresh ∷ []
 
     may : MayPublish layout k at w (added_change k.pass x) None (a_node m ∷ a_leaf x.number ∷ []) []
     may c law layout_is known =
         let stage = stage_of layout k held news has c law layout_is known in
         let s = stores_at layout k held news c stage known x.key (Leaf j) at holds (Node m view.height) w fits word in
-        let new = made_leaf layout k held news c stage x (inr (inl refl)) spelled in
+        let new = made_leaf layout k held news c stage x (fresh, inr (inl refl), spelled) in
         let key : (leaf_of (c.words (a_leaf j))).key ≡ l = ap (λ (z : LeafWords). z.key) (there c stage) in
         let agreed = subst (λ z. AgreeBelow p x.key z) (sym key) agree in
         let differs = subst (λ z. bit x.key p ≢ bit z p) (sym key) differ in
@@ -65,12 +65,12 @@ pair layout k held x p j m w value l view at has spelled holds alone fits there 
         (pair_at_spot (bare c) k.pass law.core.state x p new j m (node_fixed view) s.spot (s.alone p alone) agreed differs subtrie_made s.low (heap_of (stored_words c at w)) (stored_root c at w) s.stored) (λ f. f)
 
 pub first_made : MayAddFirstKey
-first_made layout k held x w has spelled word anchor = publishes_made layout k Root w (added_change k.pass x) None (made_of_leaf x ∷ []) [] has.own may
+first_made layout k held x fresh w has spelled word anchor = publishes_made layout k Root w (added_change k.pass x) None (made_of_leaf x fresh ∷ []) [] has.own may
   where
     may : MayPublish layout k Root w (added_change k.pass x) None (a_leaf x.number ∷ []) []
     may c law layout_is known =
-        let stage = stage_of layout k held (made_of_leaf x ∷ []) has c law layout_is known in
-        let new = made_leaf layout k held (made_of_leaf x ∷ []) c stage x (inl refl) spelled in
+        let stage = stage_of layout k held (made_of_leaf x fresh ∷ []) has c law layout_is known in
+        let new = made_leaf layout k held (made_of_leaf x fresh ∷ []) c stage x (fresh, inl refl, spelled) in
         let (lock, root) = (knows_all c k known).anchor None anchor in
         publish_root c k.pass law known.pass w (Some (Leaf x.number)) lock word.0 word.1 (added_change k.pass x) None (a_leaf x.number ∷ []) []
         (first_root (bare c) k.pass law.core.state x lock root new) (λ f. f)

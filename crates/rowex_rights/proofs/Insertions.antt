@@ -1,7 +1,6 @@
 -- Each case of an insertion below a node.
 use Rattle.std.proofs.Common.{inl, inr, List, [], ◌∷◌, ◌++◌, refl, sym, subst}
 use Rattle.compound_node.specs.declared.entries.Entry.TheVariants.{Node}
-use Rattle.record_words.specs.Leaf.{leaf_words}
 use Rattle.tries.specs.Content.{Item}
 use Rattle.versions.specs.declared.Rec.TheVariants.{Node as a_node, Leaf as a_leaf}
 use Rattle.versions.proofs.Members.{of_right}
@@ -15,32 +14,32 @@ use Rattle.rowex_rights.proofs.Inserting.{insertion}
 
 -- more records leave the leaf among them
 leaf_still : (more news : List Made) (x : Item) → HasLeaf news x → HasLeaf (more ++ news) x
-leaf_still more news x (i, h) = (of_right (record { rec = a_leaf x.number; words = leaf_words (x.key, x.value) }) more news i, h)
+leaf_still more news x (fresh, i, h) = (fresh, of_right (made_of_leaf x fresh) more news i, h)
 
 pub normal_insert : NormalInsert
-normal_insert layout k held since x p l n m w words view at has found part built shows place word =
-    insertion layout k held (made_of_node m view ∷ made_of_leaf x ∷ []) (a_node n ∷ []) has since x p l n w (Node m view.height) at
-    (rises_copied layout k held (made_of_leaf x ∷ []) [] since x p l (inl refl, found.leaf) n words found.locked m view built
-    (subst (λ z. HasRisen layout k held (made_of_leaf x ∷ []) since x p l body n z []) (sym shows) (rise_grows layout k held since x p l n words found part)))
-    (inr (inl refl), found.leaf) place word
+normal_insert layout k held since x fresh p l n m w words view at has spelled found part built shows place word =
+    insertion layout k held (made_of_node m view ∷ made_of_leaf x fresh ∷ []) (a_node n ∷ []) has since x p l n w (Node m view.height) at
+    (rises_copied layout k held (made_of_leaf x fresh ∷ []) [] since x p l (fresh, inl refl, spelled) n words found.locked m view built
+    (subst (λ z. HasRisen layout k held (made_of_leaf x fresh ∷ []) since x p l body n z []) (sym shows) (rise_grows layout k held since x fresh p l n words found part)))
+    (fresh, inr (inl refl), spelled) place word
 
 pub overflow : Overflow
-overflow layout k held since x p l n m w f words view at a b d e us vs has found part cut lower upper built shows place word =
-    let first : List Made = made_of_leaf x ∷ [] in
+overflow layout k held since x fresh p l n m w f words view at a b d e us vs has spelled found part cut lower upper built shows place word =
+    let first : List Made = made_of_leaf x fresh ∷ [] in
     let halves : List Made = us ++ (vs ++ first) in
-    let has_leaf : HasLeaf halves x = leaf_still us (vs ++ first) x (leaf_still vs first x (inl refl, found.leaf)) in
-    let split = rises_halved layout k held first [] since x p l (inl refl, found.leaf) n words found.locked f a b d e us vs lower upper
-    (subst (λ z. HasRisen layout k held first since x p l body n z []) cut (rise_grows layout k held since x p l n words found part)) in
+    let has_leaf : HasLeaf halves x = leaf_still us (vs ++ first) x (leaf_still vs first x (fresh, inl refl, spelled)) in
+    let split = rises_halved layout k held first [] since x p l (fresh, inl refl, spelled) n words found.locked f a b d e us vs lower upper
+    (subst (λ z. HasRisen layout k held first since x p l body n z []) cut (rise_grows layout k held since x fresh p l n words found part)) in
     insertion layout k held (made_of_node m view ∷ halves) (a_node n ∷ []) has since x p l n w (Node m view.height) at
     (rises_wrapped layout k held halves (a_node n ∷ []) since x p l has_leaf n words found.locked m view built
     (subst (λ z. HasRisen layout k held halves since x p l entry n z (a_node n ∷ [])) (sym shows) split)) (leaf_still (made_of_node m view ∷ []) halves x has_leaf) place word
 
 pub stays_as_it_is : StaysWhole
-stays_as_it_is layout k held since x p l n m w words view at has found from built shows place word =
-    insertion layout k held (made_of_node m view ∷ made_of_leaf x ∷ []) [] has since x p l n w (Node m view.height) at
-    (rises_wrapped layout k held (made_of_leaf x ∷ []) [] since x p l (inl refl, found.leaf) n words found.locked m view built
-    (subst (λ z. HasRisen layout k held (made_of_leaf x ∷ []) since x p l entry n z []) (sym shows) (rise_whole layout k held since x p l n words found from)))
-    (inr (inl refl), found.leaf) place word
+stays_as_it_is layout k held since x fresh p l n m w words view at has spelled found from built shows place word =
+    insertion layout k held (made_of_node m view ∷ made_of_leaf x fresh ∷ []) [] has since x p l n w (Node m view.height) at
+    (rises_wrapped layout k held (made_of_leaf x fresh ∷ []) [] since x p l (fresh, inl refl, spelled) n words found.locked m view built
+    (subst (λ z. HasRisen layout k held (made_of_leaf x fresh ∷ []) since x p l entry n z []) (sym shows) (rise_whole layout k held since x fresh p l n words found from)))
+    (fresh, inr (inl refl), spelled) place word
 
 pub pull_up : PullUp
 pull_up layout k held news gone since x p l o n m w r view at has risen has_leaf up built shows place word =

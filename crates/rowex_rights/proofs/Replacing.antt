@@ -46,16 +46,16 @@ leaf_stays layout k held news since j key value pinned sure c stage =
     leaf_now (state_of c) stage.lawful.core.state since (reach_since k since pinned c stage.lawful stage.recalls) n j j key value lo hi st
 
 pub upsert : MayUpsert
-upsert layout k held x j w value at has spelled holds fits there word = publishes_made layout k at w (replaced_change k.pass x) (Some value) news (a_leaf j ∷ []) has.own may
+upsert layout k held x fresh j w value at has spelled holds fits there word = publishes_made layout k at w (replaced_change k.pass x) (Some value) news (a_leaf j ∷ []) has.own may
   where
     news : List Made
-    news = made_of_leaf x ∷ []
+    news = made_of_leaf x fresh ∷ []
 
     may : MayPublish layout k at w (replaced_change k.pass x) (Some value) (a_leaf x.number ∷ []) (a_leaf j ∷ [])
     may c law layout_is known =
         let stage = stage_of layout k held news has c law layout_is known in
         let s = stores_at layout k held news c stage known x.key (Leaf j) at holds (Leaf x.number) w fits word in
-        let new = made_leaf layout k held news c stage x (inl refl) spelled in
+        let new = made_leaf layout k held news c stage x (fresh, inl refl, spelled) in
         let is_leaf = there c stage in
         let (t, now) = newest_tree_if_spot_held (bare c) k.pass law.core.state s.spot in
         let stands : Within (leaf j x.key value) t = subst (λ (z : LeafWords). Within (leaf j z.key z.value) t) is_leaf (leaf_at (bare c) k.pass law.core.state t now x.key j s.spot).place in

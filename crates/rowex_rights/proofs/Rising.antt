@@ -137,22 +137,22 @@ found_in layout k held news since x p l n words f c stage =
     )
 
 -- The lowest node gets the new leaf,
-pub rise_grows : (layout : Layout) (k : Known) (held : List Locked) (since : ℕ) (x : Item) (p : ℕ) (l : Key) (n : ℕ) (words : List ℕ) →
+pub rise_grows : (layout : Layout) (k : Known) (held : List Locked) (since : ℕ) (x : Item) (fresh : List ℕ) (p : ℕ) (l : Key) (n : ℕ) (words : List ℕ) →
     HasFoundBelow k held since x p l n words →
     IsPartSubtrie (subtrie_affected p x.key (node_words_of words).subtrie) →
-    HasRisen layout k held (made_of_leaf x ∷ []) since x p l body n (subtrie_grown p x.key (Leaf x.number) (node_words_of words).subtrie) []
-rise_grows layout k held since x p l n words f part c stage =
-    let (found, same) = found_in layout k held (made_of_leaf x ∷ []) since x p l n words f c stage in
+    HasRisen layout k held (made_of_leaf x fresh ∷ []) since x p l body n (subtrie_grown p x.key (Leaf x.number) (node_words_of words).subtrie) []
+rise_grows layout k held since x fresh p l n words f part c stage =
+    let (found, same) = found_in layout k held (made_of_leaf x fresh ∷ []) since x p l n words f c stage in
     subst (λ (z : NodeWords). (i : IsRise (bare c) k.pass since x p l body n (subtrie_grown p x.key (Leaf x.number) z.subtrie)) × (linked_by_rise i ≡ a_leaf x.number ∷ []) × (unlinked_by_rise i ≡ [])) same
     (grows n found (subst (λ (z : NodeWords). IsPartSubtrie (subtrie_affected p x.key z.subtrie)) (sym same) part), refl, refl)
 
 -- or stays whole, and the new leaf stands beside it.
-pub rise_whole : (layout : Layout) (k : Known) (held : List Locked) (since : ℕ) (x : Item) (p : ℕ) (l : Key) (n : ℕ) (words : List ℕ) →
+pub rise_whole : (layout : Layout) (k : Known) (held : List Locked) (since : ℕ) (x : Item) (fresh : List ℕ) (p : ℕ) (l : Key) (n : ℕ) (words : List ℕ) →
     HasFoundBelow k held since x p l n words → FirstForkIsFrom p (node_words_of words).subtrie →
     let height = (node_words_of words).fixed.height in
-    HasRisen layout k held (made_of_leaf x ∷ []) since x p l entry n (subtrie_forked (bit x.key p) p (Leaf x.number) (Place (Node n height))) []
-rise_whole layout k held since x p l n words f first c stage =
-    let (found, same) = found_in layout k held (made_of_leaf x ∷ []) since x p l n words f c stage in
+    HasRisen layout k held (made_of_leaf x fresh ∷ []) since x p l entry n (subtrie_forked (bit x.key p) p (Leaf x.number) (Place (Node n height))) []
+rise_whole layout k held since x fresh p l n words f first c stage =
+    let (found, same) = found_in layout k held (made_of_leaf x fresh ∷ []) since x p l n words f c stage in
     subst (λ (z : NodeWords). (i : IsRise (bare c) k.pass since x p l entry n (subtrie_forked (bit x.key p) p (Leaf x.number) (Place (Node n z.fixed.height)))) × (linked_by_rise i ≡ a_leaf x.number ∷ []) × (unlinked_by_rise i ≡ [])) same
     (stays_whole n found (subst (λ (z : NodeWords). FirstForkIsFrom p z.subtrie) (sym same) first), refl, refl)
 

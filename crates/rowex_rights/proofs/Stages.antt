@@ -11,7 +11,7 @@ use Rattle.partial_keys.specs.Shows.{ShowsPiece}
 use Rattle.record_words.specs.declared.layout.Layout.{Layout}
 use Rattle.record_words.specs.Entry.{HasEntryWord, entry_word}
 use Rattle.record_words.specs.Node.{HasNodeWords, node_words}
-use Rattle.record_words.specs.Leaf.{HasLeafWords, leaf_words}
+use Rattle.record_words.specs.Leaf.{up_to_key}
 use Rattle.tries.specs.Keys.{Key}
 use Rattle.tries.specs.Tree.{Fixed, Subtrie, first_position}
 use Rattle.tries.specs.Content.{Item}
@@ -42,7 +42,7 @@ use Rattle.versions.proofs.Members.{of_left, of_right, all_of, map_of}
 use Rattle.rowex_core.proofs.Having.{node_used}
 use Rattle.rowex_core.proofs.Slots.{slot_is_stored}
 use Rattle.rowex_table.specs.Made.{Made, held_as}
-use Rattle.rowex_rights.specs.Stages.{HasReady, IsLockedAbove, IsStage}
+use Rattle.rowex_rights.specs.Stages.{HasReady, HasLeaf, IsLockedAbove, IsStage}
 
 node_number : {n o : ℕ} → a_node n ≡ a_node o → n ≡ o
 node_number e = cc
@@ -127,10 +127,10 @@ module _ (layout : Layout) (k : Known) (held : List Locked) (news : List Made) (
 
   -- New records
 
-  pub made_leaf : (x : Item) → IsOneOf (record { rec = a_leaf x.number; words = leaf_words (x.key, x.value) }) news → HasLeafWords (x.key, x.value) → IsNewLeaf (bare c) k.pass x
-  made_leaf x h has =
-      let (fate, words) = stage.made (record { rec = a_leaf x.number; words = leaf_words (x.key, x.value) }) h in
-      record { key = has.key; fate = fate; words = leaf_is (x.key, x.value) (c.words (a_leaf x.number)) (stage.lawful.records.sized (a_leaf x.number)).1 has (sym words) }
+  pub made_leaf : (x : Item) → HasLeaf news x → IsNewLeaf (bare c) k.pass x
+  made_leaf x (fresh, h, spelled) =
+      let (fate, words) = stage.made (record { rec = a_leaf x.number; words = fresh }) h in
+      record { key = spelled.0.key; fate = fate; words = leaf_is (x.key, x.value) (c.words (a_leaf x.number)) (stage.lawful.records.sized (a_leaf x.number)).1 spelled.0 (spelled.1 ∙ ap up_to_key (sym words)) }
 
   pub made_node : (m : ℕ) (view : NodeView) → IsOneOf (record { rec = a_node m; words = node_words view }) news → HasNodeWords view → view.height + first_position (piece view) ≤ 9 * MAX_BYTES →
       IsNewSubtrie (bare c) k.pass m (node_fixed view) (piece view)

@@ -6,7 +6,6 @@ use Rattle.compound_node.specs.declared.entries.Entry.TheVariants.{Leaf, Node}
 use Rattle.pieces.specs.Piece.{Place}
 use Rattle.record_words.specs.declared.layout.Layout.{Layout}
 use Rattle.record_words.specs.Entry.{HasEntryWord, entry_word}
-use Rattle.record_words.specs.Leaf.{HasLeafWords}
 use Rattle.tries.specs.Keys.{Key, bit, AgreeBelow}
 use Rattle.tries.specs.Search.{seek}
 use Rattle.tries.specs.Place.{subtrie_without}
@@ -22,7 +21,7 @@ use Rattle.rowex_core.specs.declared.known.Locked.{Locked}
 use Rattle.rowex_core.specs.Reading.{node_words_of}
 use Rattle.rowex_table.specs.Made.{Made}
 use Rattle.rowex_table.specs.Publishes.{Publishes}
-use Rattle.rowex_rights.specs.Stages.{HasReady, IsLeafThere}
+use Rattle.rowex_rights.specs.Stages.{HasReady, IsLeafThere, SpellsLeaf}
 use Rattle.rowex_rights.specs.Spots.{HoldsAt, FitsAt, AffectsSpotAlone}
 use Rattle.rowex_rights.specs.Rises.{made_of_node, made_of_leaf, IsBuiltAnew, IsSide}
 
@@ -33,24 +32,24 @@ IsWord e w = HasEntryWord (Some e) × (entry_word (Some e) ≡ w)
 -- The first key: where the root is empty, the new leaf.
 abbrev pub MayAddFirstKey : Type 0
 MayAddFirstKey =
-    (layout : Layout) (k : Known) (held : List Locked) (x : Item) (w : ℕ) → HasReady k held (made_of_leaf x ∷ []) → HasLeafWords (x.key, x.value) →
+    (layout : Layout) (k : Known) (held : List Locked) (x : Item) (fresh : List ℕ) (w : ℕ) → HasReady k held (made_of_leaf x fresh ∷ []) → SpellsLeaf x fresh →
     IsWord (Leaf x.number) w → k.anchor ≡ Some None → Publishes layout k Root w (added_change k.pass x) None []
 
 -- A pair: a new node of a leaf, which alone is affected, and the new one. In a node this is a leaf pushdown, at the root the second key.
 abbrev pub MayPair : Type 0
 MayPair =
-    (layout : Layout) (k : Known) (held : List Locked) (x : Item) (p j m w value : ℕ) (l : Key) (view : NodeView) (at : Spot) →
-    HasReady k held (made_of_node m view ∷ made_of_leaf x ∷ []) → HasLeafWords (x.key, x.value) →
+    (layout : Layout) (k : Known) (held : List Locked) (x : Item) (fresh : List ℕ) (p j m w value : ℕ) (l : Key) (view : NodeView) (at : Spot) →
+    HasReady k held (made_of_node m view ∷ made_of_leaf x fresh ∷ []) → SpellsLeaf x fresh →
     (s : HoldsAt k held x.key (Leaf j) at) → AffectsSpotAlone s p → FitsAt s (Node m view.height) →
-    IsLeafThere layout k held (made_of_node m view ∷ made_of_leaf x ∷ []) j l value → AgreeBelow p x.key l → bit x.key p ≢ bit l p →
+    IsLeafThere layout k held (made_of_node m view ∷ made_of_leaf x fresh ∷ []) j l value → AgreeBelow p x.key l → bit x.key p ≢ bit l p →
     IsBuiltAnew view → piece view ≡ subtrie_forked (bit x.key p) p (Leaf x.number) (Place (Leaf j)) → IsWord (Node m view.height) w →
     Publishes layout k at w (added_change k.pass x) None []
 
 -- Upsert of a held key: a new leaf in the place of the old one. The old value is that of the old leaf.
 abbrev pub MayUpsert : Type 0
 MayUpsert =
-    (layout : Layout) (k : Known) (held : List Locked) (x : Item) (j w value : ℕ) (at : Spot) → HasReady k held (made_of_leaf x ∷ []) → HasLeafWords (x.key, x.value) →
-    (s : HoldsAt k held x.key (Leaf j) at) → FitsAt s (Leaf x.number) → IsLeafThere layout k held (made_of_leaf x ∷ []) j x.key value → IsWord (Leaf x.number) w →
+    (layout : Layout) (k : Known) (held : List Locked) (x : Item) (fresh : List ℕ) (j w value : ℕ) (at : Spot) → HasReady k held (made_of_leaf x fresh ∷ []) → SpellsLeaf x fresh →
+    (s : HoldsAt k held x.key (Leaf j) at) → FitsAt s (Leaf x.number) → IsLeafThere layout k held (made_of_leaf x fresh ∷ []) j x.key value → IsWord (Leaf x.number) w →
     Publishes layout k at w (replaced_change k.pass x) (Some value) (a_leaf j ∷ [])
 
 -- Removal: what is left of the node that names the leaf, one entry or a new node, takes its place.

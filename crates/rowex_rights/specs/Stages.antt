@@ -2,7 +2,7 @@
 use Rattle.std.specs.Prelude.{◌≡◌, ℕ, List, map}
 use Rattle.compound_node.specs.declared.entries.Entry.TheVariants.{Node}
 use Rattle.record_words.specs.declared.layout.Layout.{Layout}
-use Rattle.record_words.specs.Leaf.{HasLeafWords, leaf_words}
+use Rattle.record_words.specs.Leaf.{HasLeafWords, leaf_words, up_to_key}
 use Rattle.tries.specs.Keys.{Key}
 use Rattle.tries.specs.Tree.{Subtrie}
 use Rattle.tries.specs.Search.{seek}
@@ -40,9 +40,13 @@ pub record HasReady (k : Known) (held : List Locked) (news : List Made) : Type 0
   pub locks : k.locks ≡ held
   pub own : k.own ≡ map (held_as Ready) news
 
--- Among the new records is the leaf with the words of this key and value.
+-- the words of a leaf record spell this key and value
+abbrev pub SpellsLeaf : Item → List ℕ → Type 0
+SpellsLeaf x words = HasLeafWords (x.key, x.value) × (leaf_words (x.key, x.value) ≡ up_to_key words)
+
+-- Among the new records is the leaf with this key and value.
 abbrev pub HasLeaf : List Made → Item → Type 0
-HasLeaf news x = IsOneOf (record { rec = a_leaf x.number; words = leaf_words (x.key, x.value) }) news × HasLeafWords (x.key, x.value)
+HasLeaf news x = (words : List ℕ) × IsOneOf (record { rec = a_leaf x.number; words = words }) news × SpellsLeaf x words
 
 -- In each stage the subtrie is what comes in the place of node n's body or entry when the key is added; it links anew just the
 -- records made, the one made last first, and unlinks just those.
