@@ -1,13 +1,15 @@
 -- A leaf's words compared with those of a key, while they are loaded.
-use Rattle.std.proofs.Common.{◌≡◌, ◌≢◌, inl, inr, ◌⊎◌, ⊎_elim, ℕ, ◌+◌, ◌-◌, ◌<◌, ◌≤◌, List, length, get_or, set, None, refl, ap, sym, ◌∙◌, subst, arith}
-use Rattle.std.proofs.lemmas.Bool.{cases_lt}
+use Rattle.std.proofs.Common.{◌≡◌, ◌≢◌, inl, inr, ◌⊎◌, ⊎_elim, ℕ, ◌+◌, ◌-◌, ◌<◌, ◌≤◌, List, length, get_or, set, None, refl, ap, sym, ◌∙◌, subst, arith, lit<}
+use Rattle.std.proofs.Math.Dec.{lit≤}
+use Rattle.std.proofs.lemmas.Bool.{cases_eq, cases_lt}
 use Rattle.std.proofs.lemmas.List.{length-set, get_or-set_same, get_or-set_other, get_or_past, set-get_or}
 use Rattle.compound_node.specs.declared.entries.Entry.TheVariants.{Leaf}
 use Rattle.record_words.specs.declared.layout.Layout.{Layout}
 use Rattle.record_words.specs.declared.TheConstants.{LEAF_FIELDS}
-use Rattle.record_words.specs.Leaf.{HasLeafWords, key_word, leaf_words, words_of_key}
+use Rattle.record_words.specs.Leaf.{HasLeafWords, key_word, leaf_words, words_for, words_of_key}
 use Rattle.record_words.proofs.Leaves.{IsLeafOf, leaf_words_made, leaf_words_parts, same_leaf}
 use Rattle.record_words.proofs.Unused.{leaf_word_past}
+use Rattle.record_words.proofs.UpToKey.{up_to_key_before}
 use Rattle.tries.specs.Keys.{Key}
 use Rattle.versions.specs.declared.Rec.TheVariants.{Leaf as a_leaf}
 use Rattle.rowex_core.specs.declared.event.Act.TheVariants.{LoadFixed}
@@ -56,6 +58,10 @@ value_set key value = leaf_words_made (key, value) (set (words_with key) 0 value
   bytes = λ j few. get_or-set_other (words_with key) 0 (2 + j) value 0 (λ e. omega (arith, e)) ∙ (parts key 0).bytes j few;
 }
 
+-- one of these, or this one
+abbrev IsThisToo : (ℕ → Type 0) → ℕ → ℕ → Type 0
+IsThisToo IsLoaded p o = (IsLoaded o × (o ≢ p)) ⊎ (o ≡ p)
+
 -- the words of a leaf's key, from its length up to some
 abbrev pub IsKeyWord : ℕ → ℕ → Type 0
 IsKeyWord i o = (1 ≤ o) × (o < i)
@@ -78,20 +84,34 @@ module _ (layout : Layout) (k : Known) (n : ℕ) (key : Key) (m : ℕ) (led : Is
       none = record { later = (none_loaded k (a_leaf n) (words_with key)).later; each = λ o stood a both. absurd (let low = both.0 in let high = both.1 in omega (arith, low, high)) }
 
   -- one is not: the leaf has another key
-  pub other_key : (j i : Known) (p w : ℕ) (IsLoaded : ℕ → Type 0) → AreLoaded k j (a_leaf n) IsLoaded (words_with key) → 1 ≤ p → p < LEAF_FIELDS → IsEvent layout (LoadFixed (a_leaf n) (p + 1) w) silent j i →
-      w ≢ get_or (words_with key) p 0 → Sure i (λ s. IsCompared s m n key None)
+  pub other_key : (j i : Known) (p w : ℕ) (IsLoaded : ℕ → Type 0) → AreLoaded k j (a_leaf n) IsLoaded (words_with key) → 1 ≤ p → p < LEAF_FIELDS → (p ≡ 1) ⊎ (IsLoaded 1 × (p < 2 + words_of_key (length key))) →
+      IsEvent layout (LoadFixed (a_leaf n) (p + 1) w) silent j i → w ≢ get_or (words_with key) p 0 → Sure i (λ s. IsCompared s m n key None)
   unfolding IsPacked
-  other_key j i p w IsLoaded loaded some low event differs c lawful known = go (leaf_packed k i now.later n m led c lawful known)
+  other_key j i p w IsLoaded loaded some low used event differs c lawful known = go (leaf_packed k i now.later n m led c lawful known)
     where
-      now : AreLoaded k i (a_leaf n) (λ o. o ≡ p) (set (words_with key) p w)
-      now = one_loaded layout k j i (a_leaf n) IsLoaded (λ o. o ≡ p) p w (words_with key) loaded (omega (arith, low, words_long key)) (λ o is. inr is) event m (led_stood k m (Leaf n) led)
+      now : AreLoaded k i (a_leaf n) (IsThisToo IsLoaded p) (set (words_with key) p w)
+      now = one_loaded layout k j i (a_leaf n) IsLoaded (IsThisToo IsLoaded p) p w (words_with key) loaded (omega (arith, low, words_long key)) (λ o is. is) event m (led_stood k m (Leaf n) led)
+
+      word : (o : ℕ) → IsThisToo IsLoaded p o → 1 ≤ o → o < LEAF_FIELDS → o + 1 < words_for (get_or (c.words (a_leaf n)) 1 0) → get_or (set (words_with key) p w) o 0 ≡ get_or (c.words (a_leaf n)) o 0
+      word o is past inside before = word_now k i (a_leaf n) (IsThisToo IsLoaded p) (set (words_with key) p w) now m (led_stood k m (Leaf n) led) c lawful known o is (omega arith, omega (arith, inside)) before
+
+      before_end : (p ≡ 1) ⊎ (p ≢ 1) → (p ≡ 1) ⊎ (IsLoaded 1 × (p < 2 + words_of_key (length key))) → p + 1 < words_for (get_or (c.words (a_leaf n)) 1 0)
+      before_end (inl first) used = omega (arith, first)
+      before_end (inr later) (inl first) = absurd (later first)
+      before_end (inr later) (inr (there, inside)) =
+          let size : length key ≡ get_or (c.words (a_leaf n)) 1 0 =
+          sym (get_or-set_other (words_with key) p 1 w 0 (λ e. later (sym e)) ∙ length_word key) ∙ word 1 (inl (there, (λ e. later (sym e)))) (lit≤ tt) (lit< tt) (omega arith) in
+          omega (arith, inside, size)
+
+      here : p + 1 < words_for (get_or (c.words (a_leaf n)) 1 0)
+      here = before_end (cases_eq p 1) used
 
       go : IsPacked (a_leaf n) (c.words (a_leaf n)) → IsCompared (seen c i) m n key None
       go (pair, has, same) = (pair.0, pair.1, leaf_stood k i now.later n m led c lawful known pair has same, another)
         where
           there : w ≡ get_or (leaf_words pair) p 0
           there = sym (get_or-set_same (words_with key) p w 0 (omega (arith, low, words_long key))) ∙
-              (word_now k i (a_leaf n) (λ o. o ≡ p) (set (words_with key) p w) now m (led_stood k m (Leaf n) led) c lawful known p refl (omega arith, omega (arith, low)) ∙ ap (λ l. get_or l p 0) (sym same))
+              (word p (inr refl) some low here ∙ (sym (up_to_key_before (c.words (a_leaf n)) p (omega (arith, here)) low) ∙ ap (λ l. get_or l p 0) (sym same)))
 
           another : key ≢ pair.0
           another is = differs (there ∙ (same_words pair.0 pair.1 p some low ∙ ap (λ z. get_or (words_with z) p 0) (sym is)))

@@ -95,7 +95,7 @@ module _ (layout : Layout) (k j : Known) (n : ℕ) (words : List ℕ) (possible 
       go (v, has, same) =
           let sized : IsSized (a_node n) (c.words (a_node n)) = lawful.records.sized (a_node n) in
           let are = words_now HEAD_WORDS words (c.words (a_node n)) long (omega (arith, sized.0))
-          (λ o low. word_now k j (a_node n) (λ o. o < HEAD_WORDS) words loaded m (led_stood k m (Node n h) led) c lawful known o low (omega arith, omega (arith, low))) in
+          (λ o low. word_now k j (a_node n) (λ o. o < HEAD_WORDS) words loaded m (led_stood k m (Node n h) led) c lawful known o low (omega arith, omega (arith, low)) tt) in
           record {
             view_now = v;
             lawful_now = has.lawful;

@@ -2,15 +2,16 @@
 use Rattle.std.proofs.Common.{◌≡◌, ◌≢◌, inl, inr, ◌⊎◌, ℕ, ◌+◌, ◌-◌, ◌<◌, ◌≤◌, List, length, get_or, set, replicate, take, drop, ⊎_elim, ap, sym, ◌∙◌, subst, arith, le_trans, lit<}
 use Rattle.std.proofs.Math.Dec.{lit≤}
 use Rattle.std.proofs.lemmas.Bool.{cases_eq, cases_lt}
-use Rattle.std.proofs.lemmas.List.{take_all, length-set, length-replicate, get_or-set_same, get_or-set_other, get_or-replicate, get_or_past}
+use Rattle.std.proofs.lemmas.List.{ext_get_or, length-set, length-replicate, get_or-set_same, get_or-set_other, get_or-replicate, get_or_past}
 use Rattle.compound_node.specs.declared.entries.Entry.TheVariants.{Leaf}
 use Rattle.record_words.specs.declared.layout.Layout.{Layout}
 use Rattle.key_bits.specs.declared.TheConstants.{MAX_BYTES}
 use Rattle.key_bits.specs.Key.{HoldsKey}
-use Rattle.record_words.specs.Leaf.{HasLeafWords, IsBytesOf, key_word, leaf_words, words_for, words_of_key}
+use Rattle.record_words.specs.Leaf.{HasLeafWords, IsBytesOf, key_word, leaf_words, up_to_key, words_for, words_of_key}
 use Rattle.record_words.proofs.Leaves.{key_of_bytes, key_part, leaf_words_parts, places_of_leaf, same_pair}
 use Rattle.record_words.proofs.Spelled.{spells_leaf}
-use Rattle.record_words.proofs.Unused.{first_long, first_rest, first_size, first_words, leaf_word_past, zero_word}
+use Rattle.record_words.proofs.Unused.{first_long, first_rest, first_size, first_words, zero_word}
+use Rattle.record_words.proofs.UpToKey.{up_to_key_before, up_to_key_long, up_to_key_past}
 use Rattle.record_words.specs.Reading.{IsSpelling, IsSpelledBy}
 use Rattle.record_words.specs.declared.TheConstants.{LEAF_FIELDS}
 use Rattle.tries.specs.Tree.{leaf}
@@ -28,7 +29,7 @@ use Rattle.rowex_table.specs.Runs.{Steps, silent}
 use Rattle.rowex_table.specs.Seats.{SeatView, TableView}
 use Rattle.rowex_core.proofs.Owning.{recalls}
 use Rattle.rowex_core.specs.Reading.{IsPacked}
-use Rattle.rowex_core.proofs.Reading.{leaf_is}
+use Rattle.rowex_core.proofs.Reading.{leaf_is, leaf_size_is}
 use Rattle.rowex_walks.specs.Scan.{EntryStoodSince, IsRead}
 use Rattle.rowex_walks.proofs.Search.{leaf_now}
 use Rattle.rowex_walks.proofs.Scans.{leaf_of}
@@ -39,7 +40,7 @@ use Rattle.rowex_reading.proofs.Led.{reader_then, reads_one, reads_trans}
 use Rattle.rowex_reading.proofs.Seeing.{recalls_before, seen_within, seen_grown, stands_in, stands_seen}
 use Rattle.record_words.specs.Layout.{leaf_size}
 use Rattle.rowex_reading.proofs.Standing.{reach, is_packed, fits_in}
-use Rattle.rowex_reading.proofs.Wording.{AreLoaded, none_loaded, next_loaded, led_stood, word_now, words_now}
+use Rattle.rowex_reading.proofs.Wording.{AreLoaded, none_loaded, next_loaded, led_stood, word_now}
 use Rattle.rowex_core.proofs.Loading.{view}
 
 -- they have been loaded
@@ -60,8 +61,8 @@ length_low layout k j n words possible loaded m led =
     let known = recalls c j possible.knows in
     let before = recalls_before loaded.later known in
     let packed = is_packed c k possible.lawful before m led.0 (Leaf n) (led.1 c possible.lawful before) in
-    let now = word_now k j (a_leaf n) (λ o. o < 2) words loaded m (led_stood k m (Leaf n) led) c possible.lawful known 1 (lit< tt) (lit≤ tt, lit≤ tt) in
-    let size = (leaf_words_parts packed.0 (c.words (a_leaf n)) (sym packed.2)).size in
+    let now = word_now k j (a_leaf n) (λ o. o < 2) words loaded m (led_stood k m (Leaf n) led) c possible.lawful known 1 (lit< tt) (lit≤ tt, lit≤ tt) (omega arith) in
+    let size = leaf_size_is packed.0 (c.words (a_leaf n)) packed.2 in
     let short = packed.1.key.short in omega (arith, now, size, short)
 
 -- and its bytes have room in the record
@@ -72,7 +73,7 @@ room_of layout k j n IsLoaded words possible loaded here m led =
     let known = recalls c j possible.knows in
     let before = recalls_before loaded.later known in
     let fits = fits_in c k possible.lawful before m led.0 (Leaf n) (led.1 c possible.lawful before) in
-    let now = word_now k j (a_leaf n) IsLoaded words loaded m (led_stood k m (Leaf n) led) c possible.lawful known 1 here (lit≤ tt, lit≤ tt) in
+    let now = word_now k j (a_leaf n) IsLoaded words loaded m (led_stood k m (Leaf n) led) c possible.lawful known 1 here (lit≤ tt, lit≤ tt) (omega arith) in
     subst (λ z. words_for z ≤ leaf_size layout n) (sym now) (subst (λ (z : Layout). words_for (get_or (c.words (a_leaf n)) 1 0) ≤ leaf_size z n) possible.layout_is fits)
 
 -- The value of a leaf and the length of its key have been loaded, the first words of it.
@@ -110,7 +111,7 @@ module _ (k j : Known) (later : IsLater k j) (n m : ℕ) (led : IsLedTo k m (Lea
   pub leaf_packed : IsPacked (a_leaf n) (c.words (a_leaf n))
   leaf_packed = is_packed c k lawful before m led.0 (Leaf n) led_there
 
-  pub leaf_stood : (pair : List ℕ × ℕ) → HasLeafWords pair → leaf_words pair ≡ c.words (a_leaf n) → IsRead (seen c j) m n pair.0 pair.1
+  pub leaf_stood : (pair : List ℕ × ℕ) → HasLeafWords pair → leaf_words pair ≡ up_to_key (c.words (a_leaf n)) → IsRead (seen c j) m n pair.0 pair.1
   leaf_stood pair has same = go (leaf_of n led_there.1 led_there.5)
     where
       go : (key : Key) × (value : ℕ) × (led_there.1 ≡ leaf n key value) → IsRead (seen c j) m n pair.0 pair.1
@@ -128,7 +129,7 @@ module _ (layout : Layout) (k j : Known) (n i : ℕ) (words : List ℕ) (possibl
     pair : List ℕ × ℕ
     has : HasLeafWords pair
     spelled : leaf_words pair ≡ words
-    there : leaf_words pair ≡ c.words (a_leaf n)
+    there : leaf_words pair ≡ up_to_key (c.words (a_leaf n))
 
   leaf_there : (c : Core) → IsLawful c → Recalls c j → LeafNow c
   unfolding IsPacked
@@ -136,24 +137,22 @@ module _ (layout : Layout) (k j : Known) (n i : ℕ) (words : List ℕ) (possibl
     where
       go : IsPacked (a_leaf n) (c.words (a_leaf n)) → LeafNow c
       go (pair, has, same) =
-          let sized = lawful.records.sized (a_leaf n) in
-          let are = words_now LEAF_FIELDS words (c.words (a_leaf n)) long (omega (arith, sized.0)) (λ o low. word o low (cases_lt o i)) in
           record {
             pair = pair;
             has = has;
-            spelled = same ∙ (sym (take_all LEAF_FIELDS (c.words (a_leaf n)) (omega (arith, sized.0))) ∙ sym are);
+            spelled = same ∙ sym (ext_get_or 0 words (up_to_key (c.words (a_leaf n))) (long ∙ sym (up_to_key_long (c.words (a_leaf n)))) (λ o inside. word o (omega (arith, inside, long)) (cases_lt o i)));
             there = same;
           }
         where
-          loaded_now : (o : ℕ) → o < i → o < LEAF_FIELDS → get_or words o 0 ≡ get_or (c.words (a_leaf n)) o 0
-          loaded_now o before low = word_now k j (a_leaf n) (λ o. o < i) words loaded m (led_stood k m (Leaf n) led) c lawful known o before (omega arith, omega (arith, low))
+          loaded_now : (o : ℕ) → o < i → o < LEAF_FIELDS → o + 1 < words_for (get_or (c.words (a_leaf n)) 1 0) → get_or words o 0 ≡ get_or (c.words (a_leaf n)) o 0
+          loaded_now o before low used = word_now k j (a_leaf n) (λ o. o < i) words loaded m (led_stood k m (Leaf n) led) c lawful known o before (omega arith, omega (arith, low)) used
 
-          size : get_or words 1 0 ≡ length pair.0
-          size = loaded_now 1 (omega (arith, all)) (lit< tt) ∙ (leaf_words_parts pair (c.words (a_leaf n)) (sym same)).size
+          size : get_or words 1 0 ≡ get_or (c.words (a_leaf n)) 1 0
+          size = loaded_now 1 (omega (arith, all)) (lit< tt) (omega arith)
 
-          word : (o : ℕ) → o < LEAF_FIELDS → (o < i) ⊎ (i ≤ o) → get_or words o 0 ≡ get_or (c.words (a_leaf n)) o 0
-          word o low (inl before) = loaded_now o before low
-          word o low (inr past) = rest o past ∙ (sym (leaf_word_past pair o (omega (arith, all, size, past)) low) ∙ ap (λ z. get_or z o 0) same)
+          word : (o : ℕ) → o < LEAF_FIELDS → (o < i) ⊎ (i ≤ o) → get_or words o 0 ≡ get_or (up_to_key (c.words (a_leaf n))) o 0
+          word o low (inl before) = loaded_now o before low (omega (arith, before, all, size)) ∙ sym (up_to_key_before (c.words (a_leaf n)) o (omega (arith, before, all, size)) low)
+          word o low (inr past) = rest o past ∙ sym (up_to_key_past (c.words (a_leaf n)) o (omega (arith, past, all, size)))
 
   -- the words spell a leaf
   pub leaf_spelled : IsSpelling HasLeafWords leaf_words words

@@ -20,7 +20,7 @@ use Rattle.rowex_core.specs.Cores.{Core, IsLawful, IsWhole, HasRecord, FitsIn}
 use Rattle.rowex_core.specs.Events.{IsFixedOffset}
 use Rattle.rowex_core.specs.Knowing.{Recalls, IsPinnedSince}
 use Rattle.rowex_core.proofs.Owning.{recalls}
-use Rattle.rowex_core.specs.Reading.{IsPacked, word_in}
+use Rattle.rowex_core.specs.Reading.{IsPacked, HasWordAt}
 use Rattle.rowex_core.specs.Words.{record_word}
 use Rattle.rowex_core.proofs.Promises.{in_reach}
 use Rattle.rowex_walks.specs.Scan.{EntryStoodSince}
@@ -42,8 +42,8 @@ module _ (c : Core) (k : Known) (lawful : IsLawful c) (known : Recalls c k) (m :
   pub reach : IsReach (view c) m
   reach = reach_later (view c) pinned.0.version m pinned.2 (lawful.core.state.reach k.pass pinned.0.version (ap pin_version (known.pin ∙ pinned.1)))
 
-  -- the words of a record that stood are those that it has now
-  pub word_stays : (n : ℕ) (r : Rec) (u : Tree) → m ≤ n → n ≤ c.past.now → Stands c.past n r u → (offset : ℕ) → IsFixedOffset r offset → record_word c r offset ≡ word_in u offset
+  -- a record that stood had the words that it has now, but for those that say nothing
+  pub word_stays : (n : ℕ) (r : Rec) (u : Tree) → m ≤ n → n ≤ c.past.now → Stands c.past n r u → (offset : ℕ) → IsFixedOffset r offset → HasWordAt u offset (record_word c r offset)
   word_stays n r u lo hi st = (in_reach c lawful k.pass pinned.0 (known.pin ∙ pinned.1) n r u (le_trans pinned.2 lo) hi st).2
 
   module _ (e : Entry) (led : EntryStoodSince (seen c k) m e) where

@@ -46,7 +46,7 @@ front_spelled layout k j n front possible loaded long m h led =
     let sized : IsSized (a_node n) (c.words (a_node n)) = possible.lawful.records.sized (a_node n) in
     let head = head_is packed.0 (c.words (a_node n)) sized.1 packed.1 packed.2 in
     let now = words_now FIRST_ROWS front (c.words (a_node n)) long (omega (arith, sized.0))
-    (λ o low. word_now k j (a_node n) (λ o. o < FIRST_ROWS) front loaded m (led_stood k m (Node n h) led) c possible.lawful known o low (omega arith, omega (arith, low))) in
+    (λ o low. word_now k j (a_node n) (λ o. o < FIRST_ROWS) front loaded m (led_stood k m (Node n h) led) c possible.lawful known o low (omega arith, omega (arith, low)) tt) in
     (head_of packed.0, (packed.0, packed.1.lawful, refl), ap (take FIRST_ROWS) head ∙ (take-take FIRST_ROWS HEAD_WORDS (c.words (a_node n)) (lit≤ tt) ∙ sym now))
 
 -- the words of the second part are still to be loaded

@@ -1,12 +1,16 @@
 -- The words of a record, loaded one after the other.
-use Rattle.std.proofs.Common.{◌≡◌, ◌≢◌, inl, inr, ◌⊎◌, ⊎_elim, ℕ, ◌+◌, ◌<◌, ◌≤◌, List, length, get_or, set, take, Some, sym, ◌∙◌, subst, arith, le_trans}
+use Rattle.std.proofs.Common.{◌≡◌, ◌≢◌, inl, inr, ◌⊎◌, ⊎_elim, ℕ, ◌+◌, ◌<◌, ◌≤◌, List, length, get_or, set, take, Some, refl, sym, ◌∙◌, subst, arith, le_trans}
 use Rattle.std.proofs.lemmas.Bool.{cases_lt}
 use Rattle.std.proofs.lemmas.List.{ext_get_or, get_or-set_same, get_or-set_other, get_or-take, length-take-le}
 use Rattle.compound_node.specs.declared.entries.Entry.{Entry}
 use Rattle.record_words.specs.declared.layout.Layout.{Layout}
+use Rattle.record_words.specs.Leaf.{leaf_words, words_for}
+use Rattle.record_words.proofs.Leaves.{leaf_words_parts}
+use Rattle.tries.specs.Tree.{Tree, leaf, node, fork}
 use Rattle.versions.specs.declared.Pin.{Pin}
 use Rattle.versions.specs.declared.Rec.{Rec}
-use Rattle.versions.specs.State.{Past, rec_of}
+use Rattle.versions.specs.declared.Rec.TheVariants.{Node as a_node, Leaf as a_leaf}
+use Rattle.versions.specs.State.{Past, IsRecord, rec_of}
 use Rattle.versions.proofs.Growth.{stands_grown}
 use Rattle.rowex_core.specs.declared.event.Act.TheVariants.{LoadFixed}
 use Rattle.rowex_core.specs.declared.known.Fact.TheVariants.{Fixed}
@@ -14,7 +18,8 @@ use Rattle.rowex_core.specs.declared.known.Known.{Known}
 use Rattle.rowex_core.specs.Cores.{Core, IsLawful}
 use Rattle.rowex_core.specs.Events.{IsFixedOffset}
 use Rattle.rowex_core.specs.Knowing.{Recalls, IsEvent, StoodAs, StoodBetween, IsPinnedSince}
-use Rattle.rowex_core.specs.Reading.{word_in}
+use Rattle.rowex_core.specs.Reading.{HasWordAt}
+use Rattle.rowex_core.specs.Words.{record_word}
 use Rattle.rowex_table.specs.Runs.{silent}
 use Rattle.rowex_reading.specs.Seen.{seen, Sure, IsLedTo}
 use Rattle.rowex_table.specs.Made.{IsLater}
@@ -24,7 +29,7 @@ use Rattle.rowex_reading.proofs.Standing.{word_stays, later_word}
 
 -- the record stood since m with this word at this offset
 abbrev pub HasWord : Past → ℕ → Rec → ℕ → ℕ → Type 0
-HasWord s m r offset w = StoodAs s m s.now r (λ u. word_in u offset ≡ w)
+HasWord s m r offset w = StoodAs s m s.now r (λ u. HasWordAt u offset w)
 
 word_stable : (m : ℕ) (r : Rec) (offset w : ℕ) → IsStable (λ s. HasWord s m r offset w)
 word_stable m r offset w a b g (n, u, lo, hi, st, is) = (n, u, lo, le_trans hi g.longer, stands_grown a b g n r u hi st, is)
@@ -69,7 +74,7 @@ module _ (layout : Layout) (k j i : Known) (r : Rec) (IsLoaded IsNow : ℕ → T
       new_word o from c lawful recalls =
           let since : IsPinnedSince j o = since_later so_far.later from.0 in
           let taught = is since.0 since.1 in
-          found_seen event.core c k i since.0.version o r (λ u. word_in u (n + 1) ≡ w) (taught_now event.lawful taught) both since.2 (from.1 c lawful (recalls_before both recalls)) (taught.fact c recalls).1
+          found_seen event.core c k i since.0.version o r (λ u. HasWordAt u (n + 1) w) (taught_now event.lawful taught) both since.2 (from.1 c lawful (recalls_before both recalls)) (taught.fact c recalls).1
 
       word_at : (o : ℕ) → IsStood k o r → (a : ℕ) → (IsLoaded a × (a ≢ n)) ⊎ (a ≡ n) → Sure i (λ s. HasWord s o r (a + 1) (get_or (set words n w) a 0))
       word_at o from a (inl (loaded, other)) =
@@ -95,12 +100,37 @@ pub next_loaded : (layout : Layout) (k j i : Known) (r : Rec) (n w : ℕ) (words
 next_loaded layout k j i r n w words so_far room event =
     one_loaded layout k j i r (λ o. o < n) (λ o. o < n + 1) n w words so_far room (λ o low. ⊎_elim (λ (before : o < n). inl (before, (λ e. omega (arith, e, before)))) (λ (after : n ≤ o). inr (omega (arith, low, after))) (cases_lt o n)) event
 
+-- of a leaf with these words, the offset is one up to the end of its key
+abbrev pub IsBeforeEnd : Rec → List ℕ → ℕ → Type 0
+IsBeforeEnd (a_node n) words offset = Unit {0}
+IsBeforeEnd (a_leaf n) words offset = offset < words_for (get_or words 1 0)
+
+-- and there it has one word
+one_word : (r : Rec) (u : Tree) (words : List ℕ) (offset v w : ℕ) → IsRecord r u → HasWordAt u 2 (get_or words 1 0) → IsBeforeEnd r words offset → HasWordAt u offset v → HasWordAt u offset w → v ≡ w
+one_word (a_leaf n) (leaf m k x) words offset v w is size before one other =
+    let long : get_or words 1 0 ≡ length k = sym (size (omega arith)) ∙ (leaf_words_parts (k, x) (leaf_words (k, x)) refl).size in
+    let low : offset < words_for (length k) = omega (arith, before, long) in
+    sym (one low) ∙ other low
+one_word (a_leaf n) (node m x b) words offset v w is size before one other = absurd cc
+one_word (a_leaf n) (fork p a b) words offset v w is size before one other = absurd is
+one_word (a_node n) (leaf m k x) words offset v w is size before one other = absurd cc
+one_word (a_node n) (node m x b) words offset v w is size before one other = sym one ∙ other
+one_word (a_node n) (fork p a b) words offset v w is size before one other = absurd is
+
+second_fixed : (r : Rec) → IsFixedOffset r 2
+second_fixed (a_node n) = (omega arith, omega arith)
+second_fixed (a_leaf n) = (omega arith, omega arith)
+
 -- in each core of which it knows true things, what was loaded is the record now
 module _ (k j : Known) (r : Rec) (IsLoaded : ℕ → Type 0) (words : List ℕ) (loaded : AreLoaded k j r IsLoaded words) (m : ℕ) (stood : IsStood k m r) (c : Core) (lawful : IsLawful c) (known : Recalls c j) where
-  pub word_now : (o : ℕ) → IsLoaded o → IsFixedOffset r (o + 1) → get_or words o 0 ≡ get_or (c.words r) o 0
-  word_now o has fixed =
+  pub word_now : (o : ℕ) → IsLoaded o → IsFixedOffset r (o + 1) → IsBeforeEnd r (c.words r) (o + 1) → get_or words o 0 ≡ get_or (c.words r) o 0
+  word_now o has fixed before =
       let h : HasWord (seen c j) m r (o + 1) (get_or words o 0) = loaded.each m stood o has c lawful known in
-      sym h.5 ∙ (sym (word_stays c j lawful known m (since_later loaded.later stood.0) h.0 r h.1 h.2 (le_trans h.3 (seen_within lawful known)) (stands_in c j h.4) (o + 1) fixed) ∙ later_word c r o)
+      let st = stands_in c j h.4 in
+      let stays : (offset : ℕ) → IsFixedOffset r offset → HasWordAt h.1 offset (record_word c r offset) =
+      word_stays c j lawful known m (since_later loaded.later stood.0) h.0 r h.1 h.2 (le_trans h.3 (seen_within lawful known)) st in
+      one_word r h.1 (c.words r) (o + 1) (get_or words o 0) (record_word c r (o + 1)) st.is_record (subst (HasWordAt h.1 2) (later_word c r 1) (stays 2 (second_fixed r))) before h.5 (stays (o + 1) fixed) ∙
+      later_word c r o
 
 -- words that are the record's, one by one
 pub words_now : (n : ℕ) (words now : List ℕ) → length words ≡ n → n ≤ length now → ((o : ℕ) → o < n → get_or words o 0 ≡ get_or now o 0) → words ≡ take n now

@@ -1,5 +1,5 @@
 -- The length, one word more, a word that is another key's, and the value.
-use Rattle.std.proofs.Common.{◌+◌, ◌-◌, ◌<◌, ◌≤◌, ◌∙◌, sym, subst, arith, lit<, lit≤, rules}
+use Rattle.std.proofs.Common.{inl, inr, refl, ◌+◌, ◌-◌, ◌<◌, ◌≤◌, ◌∙◌, sym, subst, arith, lit<, lit≤, rules}
 use Rattle.versions.specs.declared.Rec.TheVariants.{Leaf as a_leaf}
 use Rattle.record_words.specs.declared.TheConstants.{LEAF_FIELDS}
 use Rattle.rowex_core.specs.declared.event.Act.TheVariants.{LoadFixed}
@@ -25,7 +25,7 @@ returns-then-load_fixed_from-size-clause-reads g c = (1, lit≤ tt, reads_one (L
 
 pub returns-then-load_fixed_from-size-clause-leaf : goal.returns-then-load_fixed_from-size-clause-leaf
 returns-then-load_fixed_from-size-clause-leaf g c = λ m led.
-    other_key _ _ c.args.number c.args.key.now m led _ _ 1 c.load_fixed_from.result _ (none_loaded c.args.seat.now.known (a_leaf c.args.number) _) (lit≤ tt) (lit< tt) c.load_fixed_from.ensures.event
+    other_key _ _ c.args.number c.args.key.now m led _ _ 1 c.load_fixed_from.result _ (none_loaded c.args.seat.now.known (a_leaf c.args.number) _) (lit≤ tt) (lit< tt) (inl refl) c.load_fixed_from.ensures.event
     (λ e. c.if-load_fixed_from-size.true (e ∙ (length_word c.args.key.now ∙ sym c.requires.key.1)))
 
 pub loop-index-init : goal.loop-index-init
@@ -64,7 +64,8 @@ pub returns-then-word-key_word_at-clause-leaf : goal.returns-then-word-key_word_
 returns-then-word-key_word_at-clause-leaf g c = λ m led.
     let i = c.loop-index.invariant in
     let low : c.loop-index.index < LEAF_FIELDS = omega (arith, i.fits, c.loop-index-test.true) in
-    other_key _ _ c.args.number c.args.key.now m led _ _ c.loop-index.index c.load_fixed_from-word.result _ i.loaded (omega (arith, c.loop-index.auto.index)) low c.load_fixed_from-word.ensures.event
+    other_key _ _ c.args.number c.args.key.now m led _ _ c.loop-index.index c.load_fixed_from-word.result _ i.loaded (omega (arith, c.loop-index.auto.index)) low
+    (inr ((lit≤ tt, omega (arith, c.loop-index.auto.index)), omega (arith, i.end_is, c.loop-index-test.true))) c.load_fixed_from-word.ensures.event
     (λ e. c.if-word-key_word_at.true (e ∙ (byte_word c.args.key.now c.loop-index.index c.loop-index.auto.index low ∙ sym c.key_word_at.ensures)))
 
 pub loop-index-preserved : goal.loop-index-preserved
