@@ -132,10 +132,8 @@ module _ {G : Type 0} (table : TableView) (becomes : G → Event → G → Type 
 
 -- One record among those of a list
 
--- filling or making ready a record that is not among them leaves the others
-pub fill_beside : (r : Rec) (words : List ℕ) (own : List Owned) → All (λ o. o.rec ≢ r) own → map (fill_with r words) own ≡ own
-fill_beside r words [] apart = refl
-fill_beside r words (o ∷ own) apart = λ i. beside i ∷ fill_beside r words own (All-tail (λ x. x.rec ≢ r) o own apart) i
-  where
-    beside : fill_with r words o ≡ o
-    beside = rw (other_rec o.rec r (All-head (λ x. x.rec ≢ r) o own apart)) refl
+-- what changes just a record that is not among them leaves them
+pub left_beside : (r : Rec) (change : Owned → Owned) → ((o : Owned) → same_rec o.rec r ≡ false → change o ≡ o) → (own : List Owned) → All (λ o. o.rec ≢ r) own → map change own ≡ own
+left_beside r change just [] apart = refl
+left_beside r change just (o ∷ own) apart =
+    λ i. just o (other_rec o.rec r (All-head (λ x. x.rec ≢ r) o own apart)) i ∷ left_beside r change just own (All-tail (λ x. x.rec ≢ r) o own apart) i

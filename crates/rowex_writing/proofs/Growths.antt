@@ -27,7 +27,7 @@ use Rattle.rowex_core.specs.declared.event.Spot.TheVariants.{Root, Slot}
 use Rattle.rowex_core.specs.declared.known.Known.{Known}
 use Rattle.rowex_core.specs.declared.known.Locked.{Locked}
 use Rattle.rowex_rights.specs.Spots.{IsSpotOf}
-use Rattle.rowex_rights.specs.Rises.{made_of_leaf, HasFoundBelow}
+use Rattle.rowex_rights.specs.Rises.{HasFoundBelow}
 use Rattle.rowex_rights.specs.Stages.{HasRisen}
 use Rattle.rowex_rights.proofs.Holding.{spot_stays}
 use Rattle.rowex_rights.proofs.Inserting.{insertion}
@@ -35,7 +35,7 @@ use Rattle.rowex_rights.proofs.Rising.{risen_stays}
 use Rattle.rowex_table.specs.Made.{IsLater, nodes_of}
 use Rattle.rowex_table.specs.Publishes.{Publishes}
 use Rattle.rowex_table.specs.Rule.{HasSpot}
-use Rattle.record_words.specs.Leaf.{HasLeafWords, words_for}
+use Rattle.record_words.specs.Leaf.{words_for}
 use Rattle.insert_cases.proofs.Choosing.{some_at}
 use Rattle.rowex_core.specs.Reading.{node_words_of}
 use Rattle.rowex_rights.specs.Loops.{StaysLocked}
@@ -56,7 +56,7 @@ use Rattle.rowex_core.specs.declared.event.Event.{Event}
 use Rattle.rowex_rights.specs.Ending.{IsAtRest}
 use Rattle.rowex_rights.proofs.Loops.{later_transitive}
 use Rattle.rowex_writing.specs.declared.plan.Full.TheVariants.{Nodes, Leaves}
-use Rattle.rowex_writing.specs.Building.{FitsAbove, IsBuilding, IsChain, HasRisenTo, gone_unless_whole, gone_with_way}
+use Rattle.rowex_writing.specs.Building.{FitsAbove, HasLeafMade, IsBuilding, IsChain, HasRisenTo, gone_unless_whole, gone_with_way}
 use Rattle.rowex_writing.specs.Changes.{HasNoRoom, HasRun, HasTakenSpan, IsChecked, IsFull, IsPlanned, IsPutChange, MayPublishOnceReady}
 use Rattle.rowex_writing.specs.Going.{HasLocked, WorksOn}
 use Rattle.rowex_writing.specs.Growths.{HasNumber, MayGrow}
@@ -196,9 +196,9 @@ full_since layout key a b c Leaves count missed = λ q low room. (let (step, lat
 
 -- ---- the leaf's record is made
 pub may_grow : (table : TableView) (a b : SeatView) (made : List Rec) (m : ℕ) (key : Key) (value : ℕ) (way : List Step) (found : Found) (span : Span) (aim : Aim) (position first last leaf : ℕ) → HasTakenSpan table a m key way found span →
-    IsPlanned a.known m key way aim found (change span.len span.end (Grow position first last)) → StaysLocked a.known b.known → IsBuilding table b made (made_of_leaf (item leaf key value) ∷ []) → HasLeafWords (key, value) →
+    IsPlanned a.known m key way aim found (change span.len span.end (Grow position first last)) → StaysLocked a.known b.known → HasLeafMade table b made (item leaf key value) →
     MayGrow table b made way key value span position first last leaf
-may_grow table a b made m key value way found span aim position first last leaf t planned stays building spelled = record {
+may_grow table a b made m key value way found span aim position first last leaf t planned stays made_leaf = record {
   within = (omega (arith, upto, len_is), omega (arith, len_is, within));
   depth = w.depth;
   nodes = λ n d low. (w.nodes n (get_or way n d) (slice_get-get_or way n d low)).2.range;
@@ -219,7 +219,7 @@ may_grow table a b made m key value way found span aim position first last leaf 
       words = words;
       key_is = refl;
       leaf_is = refl;
-      building = building;
+      made_leaf = made_leaf;
       found = subst (λ held. HasFoundBelow b.known held m x position below.0 s.number words) (sym stays.1) (found_stays a.known b.known a.known.locks m x position below.0 s.number words stays.0 below.1);
       part = part.0;
       affects = part.1;
@@ -273,7 +273,7 @@ may_grow table a b made m key value way found span aim position first last leaf 
 
     below : (l : Key) × HasFoundBelow a.known a.known.locks m x position l s.number words
     below =
-        found_below table.layout a.known m key way plan.number plan.value position span (subst (IsWayOf table.layout a.known m key way) plan.found_is w) (subst (λ f. IsChecked a.known key way f span) plan.found_is t.checked) leaf value spelled
+        found_below table.layout a.known m key way plan.number plan.value position span (subst (IsWayOf table.layout a.known m key way) plan.found_is w) (subst (λ f. IsChecked a.known key way f span) plan.found_is t.checked) leaf value made_leaf.spelled.0
         plan.chosen.level s words (omega (arith, upto)) (omega (arith, len_is)) at held
 
     in_table : (spot : Spot) → IsSpotAbove way span.end spot → HasSpot table.layout spot

@@ -147,7 +147,7 @@ module _ {G : Type 0} (table : TableView) (becomes : G → Event → G → Type 
       after,
       record {
         building = building;
-        leaf = (made_keeps was g risen b.here.news after made _ now.leaf.0, now.leaf.1);
+        leaf = (now.leaf.0, made_keeps was g risen b.here.news after made _ now.leaf.1, now.leaf.2);
         risen = risen_on m c after (a_node above ∷ b.here.gone) b.here.since b.here.item b.here.mismatch b.here.like entry above (subtrie_of risen) goes
             (rises_made table.layout m.0.known m.0.known.locks b.here.news after b.here.gone b.here.since b.here.item b.here.mismatch b.here.like now.leaf above b.over.upper upper_locked node was g risen
             (with_subtrie b.here.item.key (Fork position (Place zero) (Place one)) (piece node))
@@ -168,13 +168,13 @@ module _ {G : Type 0} (table : TableView) (becomes : G → Event → G → Type 
   low_subtrie : (node_words_of b.words).subtrie ≡ piece node
   low_subtrie = ap (λ (z : NodeWords). z.subtrie) low_node.shows
 
-  low_grown : HasRisen table.layout a.0.known a.0.known.locks (made_of_leaf b.item ∷ []) b.since b.item position b.like body number (subtrie_grown position b.item.key (Leaf b.item.number) (piece node)) []
+  low_grown : HasRisen table.layout a.0.known a.0.known.locks (made_of_leaf b.item b.made_leaf.fresh ∷ []) b.since b.item position b.like body number (subtrie_grown position b.item.key (Leaf b.item.number) (piece node)) []
   low_grown =
-      subst (λ y. HasRisen table.layout a.0.known a.0.known.locks (made_of_leaf b.item ∷ []) b.since b.item position b.like body number (subtrie_grown position b.item.key (Leaf b.item.number) y) []) low_subtrie
-      (rise_grows table.layout a.0.known a.0.known.locks b.since b.item position b.like number b.words b.found b.part)
+      subst (λ y. HasRisen table.layout a.0.known a.0.known.locks (made_of_leaf b.item b.made_leaf.fresh ∷ []) b.since b.item position b.like body number (subtrie_grown position b.item.key (Leaf b.item.number) y) []) low_subtrie
+      (rise_grows table.layout a.0.known a.0.known.locks b.since b.item b.made_leaf.fresh position b.like number b.words b.found b.part)
 
-  low_leaf : HasLeaf (made_of_leaf b.item ∷ []) b.item
-  low_leaf = (inl refl, b.found.leaf)
+  low_leaf : HasLeaf (made_of_leaf b.item b.made_leaf.fresh ∷ []) b.item
+  low_leaf = (b.made_leaf.fresh, inl refl, b.made_leaf.spelled)
 
   same_subtrie : subtrie_grown position b.item.key (Leaf b.item.number) (piece node) ≡ subtrie_grown position key (Leaf leaf) (piece node)
   same_subtrie = ap₂ (λ k n. subtrie_grown position k (Leaf n) (piece node)) (sym b.key_is) (sym b.leaf_is)
@@ -182,17 +182,17 @@ module _ {G : Type 0} (table : TableView) (becomes : G → Event → G → Type 
   pub low_tree : IsSubtrieOfTree (subtrie_grown position key (Leaf leaf) (piece node))
   low_tree =
       subst IsSubtrieOfTree same_subtrie
-      (risen_subtrie table.layout a.0.known (made_of_leaf b.item ∷ []) [] b.since b.item position b.like body number b.words (subtrie_grown position b.item.key (Leaf b.item.number) (piece node))
-      b.building.possible b.building.holds b.building.packed low_leaf b.found.locked low_grown)
+      (risen_subtrie table.layout a.0.known (made_of_leaf b.item b.made_leaf.fresh ∷ []) [] b.since b.item position b.like body number b.words (subtrie_grown position b.item.key (Leaf b.item.number) (piece node))
+      b.made_leaf.building.possible b.made_leaf.building.holds b.made_leaf.building.packed low_leaf b.found.locked low_grown)
 
   pub low_affects : AffectsJust key position first last (piece node)
   low_affects = subst (λ k. AffectsJust k position first last (piece node)) (sym b.key_is) (subst (AffectsJust b.item.key position first last) low_subtrie b.affects)
 
-  pub low_building : IsBuilding table m.0 made (made_of_leaf b.item ∷ [])
-  low_building = building_on table becomes a m made (made_of_leaf b.item ∷ []) reads.goes reads.own b.building
+  pub low_building : IsBuilding table m.0 made (made_of_leaf b.item b.made_leaf.fresh ∷ [])
+  low_building = building_on table becomes a m made (made_of_leaf b.item b.made_leaf.fresh ∷ []) reads.goes reads.own b.made_leaf.building
 
   pub lowered : (c : SeatView × G) (after_made : List Rec) (g : Grown) (stays : Bool) (risen : Risen) → GrownShows node g (subtrie_grown position key (Leaf leaf) (piece node)) → stays ≡ keeps_node g →
-      (keeps_node g ≡ true → AtRootFork (λ q x y. position < q) (piece node)) → WorksOn table becomes m c → (after : List Made) → IsMadeFrom (Node number node.height) g risen (made_of_leaf b.item ∷ []) after →
+      (keeps_node g ≡ true → AtRootFork (λ q x y. position < q) (piece node)) → WorksOn table becomes m c → (after : List Made) → IsMadeFrom (Node number node.height) g risen (made_of_leaf b.item b.made_leaf.fresh ∷ []) after →
       IsBuilding table c.0 after_made after → IsRaising table c.0 after_made after (gone_unless_whole stays number) b.since b.item position b.like entry number (subtrie_of risen)
   lowered c after_made g stays risen shows is before goes after made building = go (kept_or_not stays)
     where
@@ -203,12 +203,12 @@ module _ {G : Type 0} (table : TableView) (becomes : G → Event → G → Type 
       all = goes_more table becomes a m c reads.goes goes
 
       leaf_stays : HasLeaf after b.item
-      leaf_stays = (made_keeps (Node number node.height) g risen (made_of_leaf b.item ∷ []) after made _ (inl refl), b.found.leaf)
+      leaf_stays = (b.made_leaf.fresh, made_keeps (Node number node.height) g risen (made_of_leaf b.item b.made_leaf.fresh ∷ []) after made _ (inl refl), b.made_leaf.spelled)
 
       go : (stays ≡ true) ⊎ (stays ≡ false) → IsRaising table c.0 after_made after (gone_unless_whole stays number) b.since b.item position b.like entry number (subtrie_of risen)
       go (inl whole) =
           let keeps : keeps_node g ≡ true = sym is ∙ whole in
-          let (kept, same) = rises_kept table.layout a.0.known a.0.known.locks after b.since b.item position b.like number b.words b.found node low_subtrie (ap (λ (z : NodeWords). z.fixed.height) low_node.shows) g risen here keeps (before keeps) made in
+          let (kept, same) = rises_kept table.layout a.0.known a.0.known.locks after b.since b.item b.made_leaf.fresh position b.like number b.words b.found node low_subtrie (ap (λ (z : NodeWords). z.fixed.height) low_node.shows) g risen here keeps (before keeps) made in
           subst (λ z. IsRaising table c.0 after_made after (gone_unless_whole z number) b.since b.item position b.like entry number (subtrie_of risen)) (sym whole)
           (record { building = building; leaf = leaf_stays; risen = risen_on table becomes a c after [] b.since b.item position b.like entry number (subtrie_of risen) all kept })
       go (inr cut) =
@@ -218,18 +218,18 @@ module _ {G : Type 0} (table : TableView) (becomes : G → Event → G → Type 
             building = building;
             leaf = leaf_stays;
             risen = risen_on table becomes a c after (a_node number ∷ []) b.since b.item position b.like entry number (subtrie_of risen) all
-                (rises_made table.layout a.0.known a.0.known.locks (made_of_leaf b.item ∷ []) after [] b.since b.item position b.like low_leaf number b.words b.found.locked node (Node number node.height) g risen
+                (rises_made table.layout a.0.known a.0.known.locks (made_of_leaf b.item b.made_leaf.fresh ∷ []) after [] b.since b.item position b.like low_leaf number b.words b.found.locked node (Node number node.height) g risen
                 (subtrie_grown position b.item.key (Leaf b.item.number) (piece node)) here fresh made low_grown);
           })
 
   -- the same, or no record for it
   pub lowest_made : (c : SeatView × G) (after_made : List Rec) (h : ℕ) → h ≡ node.height → (answer : Option (Risen × Bool)) → WorksOn table becomes m c →
       MatchOption answer (HasNotMade table c.0 after_made)
-      (λ r. (after : List Made) × IsGrownFrom (Node number h) node (subtrie_grown position key (Leaf leaf) (piece node)) position r.0 r.1 (made_of_leaf b.item ∷ []) after × IsBuilding table c.0 after_made after) →
+      (λ r. (after : List Made) × IsGrownFrom (Node number h) node (subtrie_grown position key (Leaf leaf) (piece node)) position r.0 r.1 (made_of_leaf b.item b.made_leaf.fresh ∷ []) after × IsBuilding table c.0 after_made after) →
       MatchOption answer (HasNotMade table c.0 after_made) (λ r. (after : List Made) × IsRaising table c.0 after_made after (gone_unless_whole r.1 number) b.since b.item position b.like entry number (subtrie_of r.0))
   lowest_made c after_made h tall None goes made = made
   lowest_made c after_made h tall (Some r) goes (after, grown, building) =
-      (after, lowered c after_made grown.grown r.1 r.0 grown.shows grown.keeps grown.above goes after (subst (λ z. IsMadeFrom (Node number z) grown.grown r.0 (made_of_leaf b.item ∷ []) after) tall grown.made) building)
+      (after, lowered c after_made grown.grown r.1 r.0 grown.shows grown.keeps grown.above goes after (subst (λ z. IsMadeFrom (Node number z) grown.grown r.0 (made_of_leaf b.item b.made_leaf.fresh ∷ []) after) tall grown.made) building)
 
 -- so of the node that was read
 pub grown_for : {view node : NodeView} → view ≡ node → (number : ℕ) (new : NewLeaf) (risen : Risen) (stays : Bool) (before after : List Made) →
@@ -283,7 +283,7 @@ settled table becomes a c made after_made number q z o risen is b view built goe
       made_of_node m view ∷ b.news,
       record {
         building = building;
-        leaf = (inr i.leaf.0, i.leaf.1);
+        leaf = (i.leaf.0, inr i.leaf.1, i.leaf.2);
         risen = risen_on table becomes a c (made_of_node m view ∷ b.news) b.gone b.since b.item b.mismatch b.like entry number (Place e) goes
             (subst (λ y. HasRisen table.layout a.0.known a.0.known.locks (made_of_node m view ∷ b.news) b.since b.item b.mismatch b.like entry number (Place y) b.gone) (sym e_is) wrapped);
       },
@@ -463,7 +463,7 @@ module _ (table : TableView) (a : SeatView) (made : List Rec) (way : List Step) 
     words = b.lowest.words;
     key_is = b.lowest.key_is;
     leaf_is = b.lowest.leaf_is;
-    building = b.lowest.building;
+    made_leaf = b.lowest.made_leaf;
     found = subst (λ n. HasFoundBelow a.known a.known.locks b.lowest.since b.lowest.item position b.lowest.like n b.lowest.words) (sym is) b.lowest.found;
     part = b.lowest.part;
     affects = b.lowest.affects;

@@ -1,5 +1,5 @@
 -- One record more for a change, or none.
-use Rattle.std.proofs.Common.{◌≡◌, ◌≢◌, inl, inr, ℕ, zero, suc, ◌+◌, ◌-◌, ◌≤◌, List, [], ◌∷◌, ◌++◌, get_or, map, refl, sym, ap, ap₂, subst, ◌∙◌, arith, Bool, true, false, nat_eq, nat_lt, if◌then◌else◌, Option, Some, None}
+use Rattle.std.proofs.Common.{◌≡◌, ◌≢◌, inl, inr, ℕ, zero, suc, ◌+◌, ◌-◌, ◌≤◌, List, [], ◌∷◌, ◌++◌, length, get_or, map, refl, sym, ap, ap₂, subst, ◌∙◌, arith, Bool, true, false, nat_eq, nat_lt, if◌then◌else◌, Option, Some, None}
 use Rattle.std.specs.Prelude.{All, MatchOption}
 use Rattle.std.proofs.lemmas.Grind.{reverse_onto}
 use Rattle.std.proofs.lemmas.List.Elements.{All-append, All-cons}
@@ -9,12 +9,16 @@ use Rattle.compound_node.specs.declared.entries.Entry.TheVariants.{Node}
 use Rattle.compound_node.specs.declared.halves.Half.{Half}
 use Rattle.compound_node.specs.declared.halves.Half.TheVariants.{Many}
 use Rattle.rowex_table.proofs.ActsLeave.{act_leaves}
+use Rattle.record_words.specs.Layout.{leaf_size}
+use Rattle.record_words.specs.Leaf.{HasLeafWords, leaf_words, words_for}
 use Rattle.record_words.specs.Node.{HasNodeWords}
 use Rattle.record_words.specs.declared.TheConstants.{FIRST_ENTRY}
+use Rattle.tries.specs.Content.{Item}
 use Rattle.tries.specs.Tree.{Subtrie}
 use Rattle.versions.specs.Trades.{IsOneOf}
 use Rattle.versions.specs.declared.Rec.{Rec}
 use Rattle.versions.specs.declared.Rec.TheVariants.{Node as a_node, Leaf as a_leaf}
+use Rattle.versions.specs.Steps.{same_rec}
 use Rattle.versions.proofs.Legal.{same_rec_refl}
 use Rattle.versions.proofs.Members.{all_of, of_map, map_of}
 use Rattle.rowex_core.specs.declared.event.Act.{Act}
@@ -24,19 +28,20 @@ use Rattle.rowex_core.specs.declared.event.Event.{Event}
 use Rattle.rowex_core.specs.declared.known.Holding.TheVariants.{Held}
 use Rattle.rowex_core.specs.declared.known.Known.{Known}
 use Rattle.rowex_core.specs.declared.known.Owned.{Owned}
-use Rattle.rowex_core.specs.Cores.{FitsIn, size_of}
+use Rattle.rowex_core.specs.Cores.{FitsIn, word_count_of}
 use Rattle.rowex_core.specs.Reading.{IsPacked}
-use Rattle.rowex_table.specs.Made.{Made, held_as, recs_of}
+use Rattle.rowex_core.proofs.Reading.{leaf_size_is}
+use Rattle.rowex_table.specs.Made.{IsLater, Made, held_as, recs_of}
 use Rattle.rowex_table.specs.Runs.{Runs, Does, InTurn}
 use Rattle.rowex_table.specs.Seats.{TableView, SeatView, IsSeatOf}
 use Rattle.rowex_table.proofs.Running.{runs_same}
 use Rattle.rowex_records.specs.Claims.{claiming, wrapped, Misses, MissesOne, MissesNumber, HoldsOneMore, ClaimsOne, FindsNone, Claims}
-use Rattle.rowex_records.specs.Records.{fill_with, load_of_word, fill_unless_found, owning, SetsAll, SetsWord}
-use Rattle.rowex_records.proofs.Filled.{fill_beside}
+use Rattle.rowex_records.specs.Records.{fill_with, filling, load_of_word, fill_unless_found, owning, stored, stored_in, SetsAll, SetsSome, SetsWord}
+use Rattle.rowex_records.proofs.Filled.{leaf_stored, left_beside}
 use Rattle.rowex_rights.specs.Rises.{made_of_node}
 use Rattle.rowex_reading.specs.Possible.{IsPossible}
 use Rattle.rowex_reading.proofs.Later.{event_possible}
-use Rattle.rowex_writing.specs.Building.{IsBuilding, IsHalfMade, HasNotMade}
+use Rattle.rowex_writing.specs.Building.{IsBuilding, IsHalfMade, HasLeafMade, HasNotMade}
 use Rattle.rowex_writing.specs.Going.{WorksOn, TriesNoLock}
 use Rattle.rowex_writing.proofs.Locking.{goes_none, goes_more}
 use Rattle.rowex_table.proofs.ActsBefore.{same_later}
@@ -129,13 +134,20 @@ module _ {G : Type 0} (table : TableView) (becomes : G → Event → G → Type 
   pub claim_on : (kind : ℕ → Rec) (n from m : ℕ) (a b : SeatView × G) → Claims table becomes kind n from m a b → WorksOn table becomes a b
   claim_on kind n from m a b claim = goes_more table becomes a claim.before b (none_on kind n from claim.tried a claim.before claim.none) (one_on (kind m) claim.before b claim.one)
 
-  pub set_on : (r : Rec) (words : List ℕ) (a b : SeatView × G) → SetsAll table becomes r words a b → WorksOn table becomes a b
-  set_on r words a b sets = record {
-    acts = sets.acts;
-    plain = sets_plain r words (size_of table.layout r - 1) sets.acts sets.in_turn;
-    steps = sets.does.steps;
-    stays = (sets.later, ap (λ (z : Known). z.locks) sets.does.rest, ap (λ (z : Known). z.anchor) sets.does.rest);
+  set_on : (r : Rec) (words : List ℕ) (n : ℕ) (acts : List Act) (a b : SeatView × G) → InTurn (λ i. SetsWord r (i + 1) (get_or words i 0)) n acts → Does table becomes filling acts a b →
+      IsLater a.0.known b.0.known → WorksOn table becomes a b
+  set_on r words n acts a b in_turn does later = record {
+    acts = acts;
+    plain = sets_plain r words n acts in_turn;
+    steps = does.steps;
+    stays = (later, ap (λ (z : Known). z.locks) does.rest, ap (λ (z : Known). z.anchor) does.rest);
   }
+
+  pub set_all_on : (r : Rec) (words : List ℕ) (a b : SeatView × G) → SetsAll table becomes r words a b → WorksOn table becomes a b
+  set_all_on r words a b sets = set_on r words (word_count_of r) sets.acts a b sets.in_turn sets.does sets.later
+
+  pub set_some_on : (r : Rec) (words : List ℕ) (n : ℕ) (a b : SeatView × G) → SetsSome table becomes r words n a b → WorksOn table becomes a b
+  set_some_on r words n a b sets = set_on r words n sets.acts a b sets.in_turn sets.does sets.later
 
   -- the same records, after steps that leave them
   pub building_on : (a b : SeatView × G) (made : List Rec) (news : List Made) → WorksOn table becomes a b → b.0.known.own ≡ a.0.known.own → IsBuilding table a.0 made news → IsBuilding table b.0 made news
@@ -147,16 +159,16 @@ module _ {G : Type 0} (table : TableView) (becomes : G → Event → G → Type 
     listed = i.listed;
   }
 
-  -- one record more, a node's or a leaf's
-  pub building_more : (r : Rec) (words : List ℕ) (a i b : SeatView × G) (made : List Rec) (news : List Made) → WorksOn table becomes a i → HoldsOneMore r a.0.known i.0.known →
-      WorksOn table becomes i b → b.0.known.own ≡ map (fill_with r words) i.0.known.own → IsPacked r words → FitsIn table.layout r words → IsBuilding table a.0 made news → IsBuilding table b.0 (made ++ r ∷ []) (record { rec = r; words = words } ∷ news)
-  building_more r words a i b made news claim held on filled packed fit was =
+  -- one record more, which was claimed and then filled, a node's or a leaf's
+  building_more : (r : Rec) (words : List ℕ) (fill : Owned → Owned) (a i b : SeatView × G) (made : List Rec) (news : List Made) → WorksOn table becomes a i → (held : HoldsOneMore r a.0.known i.0.known) →
+      WorksOn table becomes i b → b.0.known.own ≡ map fill i.0.known.own → fill (record { rec = r; holding = Held; words = held.words }) ≡ record { rec = r; holding = Held; words = words } →
+      ((o : Owned) → same_rec o.rec r ≡ false → fill o ≡ o) → IsPacked r words → FitsIn table.layout r words → IsBuilding table a.0 made news → IsBuilding table b.0 (made ++ r ∷ []) (record { rec = r; words = words } ∷ news)
+  building_more r words fill a i b made news claim held on filled first just packed fit was =
       let newest : Made = record { rec = r; words = words } in
       let goes = goes_more table becomes a i b claim on in
-      let first : fill_with r words (record { rec = r; holding = Held; words = held.words }) ≡ held_as Held newest = rw (same_rec_refl r) refl in
-      let others : map (fill_with r words) a.0.known.own ≡ a.0.known.own = fill_beside r words a.0.known.own held.apart in
+      let others : map fill a.0.known.own ≡ a.0.known.own = left_beside r fill just a.0.known.own held.apart in
       let own : b.0.known.own ≡ held_as Held newest ∷ map (held_as Held) news =
-      filled ∙ (ap (map (fill_with r words)) held.own ∙ ap₂ (λ y ys. y ∷ ys) first (others ∙ was.holds.0)) in
+      filled ∙ (ap (map fill) held.own ∙ ap₂ (λ y ys. y ∷ ys) first (others ∙ was.holds.0)) in
       record {
         seat = (runs_same table becomes goes.acts a b goes.steps).0 ∙ was.seat;
         possible = goes_possible a b goes was.possible;
@@ -170,6 +182,30 @@ module _ {G : Type 0} (table : TableView) (becomes : G → Event → G → Type 
         );
         packed = ((packed, fit), was.packed);
         listed = ap (λ z. z ++ r ∷ []) was.listed ∙ sym (reverse_onto (recs_of news) r []);
+      }
+
+  -- a node's, of which all words are stored,
+  pub building_node : (n : ℕ) (words : List ℕ) (a i b : SeatView × G) (made : List Rec) (news : List Made) → WorksOn table becomes a i → HoldsOneMore (a_node n) a.0.known i.0.known →
+      SetsAll table becomes (a_node n) words i b → IsPacked (a_node n) words → IsBuilding table a.0 made news → IsBuilding table b.0 (made ++ a_node n ∷ []) (record { rec = a_node n; words = words } ∷ news)
+  building_node n words a i b made news claim held sets packed was =
+      building_more (a_node n) words (fill_with (a_node n) words) a i b made news claim held (set_all_on (a_node n) words i b sets) sets.own (rw (same_rec_refl (a_node n)) refl) (λ o e. rw e refl) packed tt was
+
+  -- and a leaf's, of which those up to the end of its key are
+  pub building_leaf : (x : Item) (a i b : SeatView × G) → HasLeafWords (x.key, x.value) → words_for (length x.key) ≤ leaf_size table.layout x.number → WorksOn table becomes a i → HoldsOneMore (a_leaf x.number) a.0.known i.0.known →
+      SetsSome table becomes (a_leaf x.number) (leaf_words (x.key, x.value)) (words_for (length x.key) - 1) i b → IsBuilding table a.0 [] [] → HasLeafMade table b.0 (a_leaf x.number ∷ []) x
+  unfolding IsPacked
+  building_leaf x a i b has room claim held sets was =
+      let r = a_leaf x.number in
+      let pair : List ℕ × ℕ = (x.key, x.value) in
+      let n : ℕ = words_for (length x.key) - 1 in
+      let fresh = stored (leaf_words pair) n held.words in
+      let spells = leaf_stored pair held.words has held.sized in
+      let size : get_or fresh 1 0 ≡ length x.key = leaf_size_is pair fresh spells in
+      record {
+        fresh = fresh;
+        spelled = (has, spells);
+        building = building_more r fresh (stored_in r (leaf_words pair) n) a i b [] [] claim held (set_some_on r (leaf_words pair) n i b sets) sets.own (rw (same_rec_refl r) refl) (λ o e. rw e refl)
+            (pair, has, spells) (subst (λ z. words_for z ≤ leaf_size table.layout x.number) (sym size) room) was;
       }
 
 -- a pass that has nothing has made none yet

@@ -19,7 +19,6 @@ use Rattle.key_bits.specs.Key.{IsKey}
 use Rattle.pieces.specs.Piece.{Place, Fork, size, places}
 use Rattle.pieces.proofs.Paths.{size_pos}
 use Rattle.record_words.specs.Entry.{entry_word}
-use Rattle.record_words.specs.Leaf.{HasLeafWords}
 use Rattle.tries.specs.Affected.{subtrie_affected, subtrie_forked, IsTipSubtrie}
 use Rattle.tries.specs.Content.{Item, item}
 use Rattle.tries.specs.Keys.{Key, bit}
@@ -47,12 +46,12 @@ use Rattle.rowex_reading.proofs.Seeing.{read_stable, seen_within, since_later, s
 use Rattle.rowex_reading.proofs.Standing.{led_in_table}
 use Rattle.rowex_rights.specs.Cases.{IsWord}
 use Rattle.rowex_rights.specs.Rises.{made_of_leaf, made_of_node, IsBuiltAnew, IsSide, one, anew}
-use Rattle.rowex_rights.specs.Stages.{IsLeafThere, IsSure}
+use Rattle.rowex_rights.specs.Stages.{IsLeafThere, IsSure, SpellsLeaf}
 use Rattle.rowex_rights.proofs.Inserting.{first_made, pair}
 use Rattle.rowex_rights.proofs.Loops.{later_transitive}
 use Rattle.rowex_rights.proofs.Replacing.{leaf_stays, upsert}
 use Rattle.rowex_rights.proofs.Sure.{seen_is_sure, sure_stays}
-use Rattle.rowex_writing.specs.Building.{IsBuilding}
+use Rattle.rowex_writing.specs.Building.{HasLeafMade, IsBuilding}
 use Rattle.rowex_writing.specs.Changes.{AreAffected, HasTakenSpan, IsPlanned, IsPutChange, MayPublishOnceReady}
 use Rattle.rowex_writing.specs.Going.{HasLocked}
 use Rattle.rowex_writing.specs.Plans.{change, IsCase, IsNewLeafPlan, IsPlan}
@@ -263,9 +262,9 @@ no_single true p a y e is = cc
 no_single false p a y e is = cc
 
 module _ (table : TableView) (a : SeatView) (made : List Rec) (news : List Made) (b : IsBuilding table a made news) where
-  pub leaf_word : (x : Item) → IsOneOf (made_of_leaf x) news → IsWord (LeafEntry x.number) (4 * x.number + 1)
-  leaf_word x h =
-      let low : x.number < table.layout.leaves = made_record table a made news b (made_of_leaf x) h in
+  pub leaf_word : (x : Item) (fresh : List ℕ) → IsOneOf (made_of_leaf x fresh) news → IsWord (LeafEntry x.number) (4 * x.number + 1)
+  leaf_word x fresh h =
+      let low : x.number < table.layout.leaves = made_record table a made news b (made_of_leaf x fresh) h in
       let few : table.layout.leaves < 4294967296 = table.layout.leaves_in_range.1 in
       (omega arith, refl)
 
@@ -361,37 +360,37 @@ module _ (table : TableView) (a : SeatView) (m : ℕ) (key : Key) (way : List St
   end_named n v mismatch is last = named_end way found span.end (omega (arith, last)) ∙ ap end_of is
 
   -- ---- the store, once the records are made
-  module _ (b : SeatView) (made : List Rec) (number value : ℕ) (later : IsLater a.known b.known) (locks : b.known.locks ≡ a.known.locks) (anchor : b.known.anchor ≡ a.known.anchor) (spelled : HasLeafWords (key, value)) where
+  module _ (b : SeatView) (made : List Rec) (number value : ℕ) (later : IsLater a.known b.known) (locks : b.known.locks ≡ a.known.locks) (anchor : b.known.anchor ≡ a.known.anchor) where
     -- a new leaf alone
-    pub put_may : IsBuilding table b made (made_of_leaf (item number key value) ∷ []) → IsPutAt way found span.len span.end → (spot : Spot) → IsSpotAbove way span.end spot →
+    pub put_may : HasLeafMade table b made (item number key value) → IsPutAt way found span.len span.end → (spot : Spot) → IsSpotAbove way span.end spot →
         MayPublishOnceReady table b made spot (4 * number + 1) (put_change a.known.pass (item number key value) found) (put_was found) (leaf_found found)
-    put_may building at spot over = go found refl at spot over
+    put_may new at spot over = go found refl at spot over
       where
         news : List Made
-        news = made_of_leaf (item number key value) ∷ []
+        news = made_of_leaf (item number key value) new.fresh ∷ []
 
         word : IsWord (LeafEntry number) (4 * number + 1)
-        word = leaf_word table b made (made_of_leaf (item number key value) ∷ []) building (item number key value) (inl refl)
+        word = leaf_word table b made (made_of_leaf (item number key value) new.fresh ∷ []) new.building (item number key value) new.fresh (inl refl)
 
         go : (f : Found) → found ≡ f → IsPutAt way f span.len span.end → (spot : Spot) → IsSpotAbove way span.end spot →
             MayPublishOnceReady table b made spot (4 * number + 1) (put_change a.known.pass (item number key value) f) (put_was f) (leaf_found f)
         go Nothing is (l, e) Root over = record {
           news = news;
-          building = building;
+          building = new.building;
           publishes = λ j on ready same_anchor.
               subst (λ q. Publishes table.layout j Root (4 * number + 1) (added_change q (item number key value)) None []) (on.pass ∙ later.pass)
-              (first_made table.layout j b.known.locks (item number key value) (4 * number + 1) ready spelled word
+              (first_made table.layout j b.known.locks (item number key value) new.fresh (4 * number + 1) ready new.spelled word
               (same_anchor ∙ (anchor ∙ (t.checked.root e ∙ ap (λ (o : Option Entry). Some o) (ap (λ (f : Found). named way f 0) is ∙
               none_named way (λ i s d. IsWayNode table.layout a.known m key s d) (subst (λ f. IsWayOf table.layout a.known m key way f) is t.way_of).nodes)))));
         }
         go Nothing is (l, e) (Slot n i) (s, low, at_s, number_is, place) = absurd (omega arith)
         go (Leaf n v None) is (l, e) spot over = record {
           news = news;
-          building = building;
+          building = new.building;
           publishes = λ j on ready same_anchor.
               let h = holds_above table.layout a.known m key way found span t.possible t.way_of t.locked t.checked t.within.0 (LeafEntry n) (end_named n v None is e) j b.known.locks locks (same_anchor ∙ anchor) spot over in
               subst (λ q. Publishes table.layout j spot (4 * number + 1) (replaced_change q (item number key value)) (Some v) (a_leaf n ∷ [])) (on.pass ∙ later.pass)
-              (upsert table.layout j b.known.locks (item number key value) n (4 * number + 1) v spot ready spelled h.holds (h.fits (LeafEntry number) (λ s above. above.node.below))
+              (upsert table.layout j b.known.locks (item number key value) new.fresh n (4 * number + 1) v spot ready new.spelled h.holds (h.fits (LeafEntry number) (λ s above. above.node.below))
               (subst (λ z. IsLeafThere table.layout j b.known.locks news n z v) (sym (leaf_at n v None is).2)
               (there_still n v None is j b.known.locks news (later_transitive a.known b.known j later on))) word);
         }
@@ -399,26 +398,26 @@ module _ (table : TableView) (a : SeatView) (m : ℕ) (key : Key) (way : List St
 
     -- a new node of the found leaf and the new one
     pub pair_may : (p n : ℕ) (here : IsPairHere a.known m key way found span n p) (e : Entry) (more : List Made) → IsSide (subtrie_forked (bit key p) p (LeafEntry number) (Place (LeafEntry n))) e more →
-        IsBuilding table b made (more ++ made_of_leaf (item number key value) ∷ []) → (spot : Spot) → IsSpotAbove way span.end spot → MayPublishOnceReady table b made spot (entry_word (Some e)) (added_change a.known.pass (item number key value)) None []
-    pair_may p n here e more (one f is) building spot over = absurd (no_single (bit key p) p (LeafEntry number) (Place (LeafEntry n)) f is)
-    pair_may p n here e more (anew o view built shows) building spot over = record {
+        (fresh : List ℕ) → SpellsLeaf (item number key value) fresh → IsBuilding table b made (more ++ made_of_leaf (item number key value) fresh ∷ []) → (spot : Spot) → IsSpotAbove way span.end spot → MayPublishOnceReady table b made spot (entry_word (Some e)) (added_change a.known.pass (item number key value)) None []
+    pair_may p n here e more (one f is) fresh spelled building spot over = absurd (no_single (bit key p) p (LeafEntry number) (Place (LeafEntry n)) f is)
+    pair_may p n here e more (anew o view built shows) fresh spelled building spot over = record {
       news = news;
       building = building;
       publishes = λ j on ready same_anchor.
           let h = holds_above table.layout a.known m key way found span t.possible t.way_of t.locked t.checked t.within.0 (LeafEntry n) (end_named n here.value (Some p) here.is_found here.upto) j b.known.locks locks
           (same_anchor ∙ anchor) spot over in
           subst (λ q. Publishes table.layout j spot (entry_word (Some e)) (added_change q (item number key value)) None []) (on.pass ∙ later.pass)
-          (pair table.layout j b.known.locks (item number key value) p n o (entry_word (Some e)) here.value leaf.0 view spot ready spelled h.holds
+          (pair table.layout j b.known.locks (item number key value) fresh p n o (entry_word (Some e)) here.value leaf.0 view spot ready spelled h.holds
           (h.alone p (λ s above. (Place (LeafEntry n), refl, inr (alone_at s above.words above.low above.at above.has))))
           (h.fits e (λ s above. let high = (lowest above.low).high s (level_at s above.low above.at) in omega (arith, one_high, high)))
           (there_still n here.value (Some p) here.is_found j b.known.locks news (later_transitive a.known b.known j later on)) leaf.2.0 leaf.2.1 built shows word);
     }
       where
         news : List Made
-        news = made_of_node o view ∷ made_of_leaf (item number key value) ∷ []
+        news = made_of_node o view ∷ made_of_leaf (item number key value) fresh ∷ []
 
         word : IsWord (NodeEntry o view.height) (entry_word (Some (NodeEntry o view.height)))
-        word = node_word table b made (made_of_node o view ∷ made_of_leaf (item number key value) ∷ []) building o view (inl refl) built
+        word = node_word table b made (made_of_node o view ∷ made_of_leaf (item number key value) fresh ∷ []) building o view (inl refl) built
 
         leaf : (l : Key) × Sure a.known (λ past. IsRead past m n l here.value) × IsMismatch key l (Some p)
         leaf = leaf_at n here.value (Some p) here.is_found

@@ -98,10 +98,10 @@ kept_halves u p m was old h c (One e) (Many v) same s q z o lower upper is low h
 kept_halves u p m was old h c (Many v) (One e) same s q z o lower upper is low high = absurd cc
 kept_halves u p m was old h c (Many v) (Many w) same s q z o lower upper is low high = absurd cc
 
-module _ (layout : Layout) (k : Known) (held : List Locked) (after : List Made) (since : ℕ) (x : Item) (p : ℕ) (l : Key) (n : ℕ) (words : List ℕ) (found : HasFoundBelow k held since x p l n words)
+module _ (layout : Layout) (k : Known) (held : List Locked) (after : List Made) (since : ℕ) (x : Item) (fresh : List ℕ) (p : ℕ) (l : Key) (n : ℕ) (words : List ℕ) (found : HasFoundBelow k held since x p l n words)
     (old : NodeView) (shown : (node_words_of words).subtrie ≡ piece old) (height : (node_words_of words).fixed.height ≡ old.height) where
   pub rises_kept : (g : Grown) (risen : Risen) → GrownShows old g (subtrie_grown p x.key (Leaf x.number) (piece old)) → keeps_node g ≡ true → AtRootFork (λ q a b. p < q) (piece old) →
-      IsMadeFrom (Node n old.height) g risen (made_of_leaf x ∷ []) after → HasRisen layout k held after since x p l entry n (subtrie_of risen) [] × (after ≡ made_of_leaf x ∷ [])
+      IsMadeFrom (Node n old.height) g risen (made_of_leaf x fresh ∷ []) after → HasRisen layout k held after since x p l entry n (subtrie_of risen) [] × (after ≡ made_of_leaf x fresh ∷ [])
   rises_kept (Single view) risen shows kept before made = absurd cc
   rises_kept (Two cut) (Whole e) shows kept before made = elim made [ ]
   rises_kept (Two cut) (Split q z o) shows kept before (lower, upper, is, low, high, made) =
@@ -109,7 +109,7 @@ module _ (layout : Layout) (k : Known) (held : List Locked) (after : List Made) 
       let all = above_all p x.key (Leaf x.number) (piece old) before in
       let (subtrie, none, nor) = kept_halves u p x.number (Node n old.height) old before cut.position cut.zero cut.one kept
       (subst (GrownShows old (Two cut)) all.0 shows) q z o lower upper is low high in
-      let same : after ≡ made_of_leaf x ∷ [] = made ∙ (ap (λ y. y ++ (upper ++ made_of_leaf x ∷ [])) none ∙ ap (λ y. y ++ made_of_leaf x ∷ []) nor) in
-      let whole = rise_whole layout k held since x p l n words found (subst (FirstForkIsFrom p) (sym shown) all.1) in
+      let same : after ≡ made_of_leaf x fresh ∷ [] = made ∙ (ap (λ y. y ++ (upper ++ made_of_leaf x fresh ∷ [])) none ∙ ap (λ y. y ++ made_of_leaf x fresh ∷ []) nor) in
+      let whole = rise_whole layout k held since x fresh p l n words found (subst (FirstForkIsFrom p) (sym shown) all.1) in
       let tall : subtrie_forked u p (Leaf x.number) (Place (Node n (node_words_of words).fixed.height)) ≡ Fork q (Place z) (Place o) = ap (λ h. subtrie_forked u p (Leaf x.number) (Place (Node n h))) height ∙ sym subtrie in
       (subst (λ y. HasRisen layout k held after since x p l entry n y []) tall (subst (λ y. HasRisen layout k held y since x p l entry n (subtrie_forked u p (Leaf x.number) (Place (Node n (node_words_of words).fixed.height))) []) (sym same) whole), same)

@@ -31,7 +31,7 @@ use Rattle.rowex_table.specs.Made.{Made, recs_of, HoldsMade}
 use Rattle.rowex_table.specs.Seats.{TableView, SeatView, IsSeatOf}
 use Rattle.rowex_reading.specs.Possible.{IsPossible}
 use Rattle.rowex_rights.specs.Rises.{made_of_node, made_of_leaf, HasFoundBelow}
-use Rattle.rowex_rights.specs.Stages.{HasLeaf, HasRisen, IsLockedAbove}
+use Rattle.rowex_rights.specs.Stages.{HasLeaf, HasRisen, IsLockedAbove, SpellsLeaf}
 use Rattle.rowex_writing.specs.Going.{HasLocked}
 use Rattle.rowex_writing.specs.Remaking.{AffectsJust, AwaitsLeaf, IsNoHigher, subtrie_with_leaf}
 use Rattle.rowex_writing.specs.declared.plan.Span.{Span}
@@ -92,6 +92,12 @@ MakesGrown table a made b built number words new result =
     (news : List Made) (node : NodeView) → AwaitsLeaf words node new → IsBuilding table a made news → MatchOption result (HasNotMade table b built)
     (λ r. (after : List Made) × IsGrownFrom (Node number node.height) node (subtrie_with_leaf new (piece node)) new.position r.0 r.1 news after ×
     IsBuilding table b built after)
+
+-- The leaf of x is made and nothing else.
+pub record HasLeafMade (table : TableView) (a : SeatView) (made : List Rec) (x : Item) : Type 0 where
+  pub fresh : List ℕ
+  pub spelled : SpellsLeaf x fresh
+  pub building : IsBuilding table a made (made_of_leaf x fresh ∷ [])
 
 -- ---- on the way up
 -- The change adds x, of which the record is made: this is what comes in the place of node n's body or entry, and those go.
@@ -160,7 +166,7 @@ pub record IsLowest (table : TableView) (a : SeatView) (made : List Rec) (key : 
   pub words : List ℕ
   pub key_is : key ≡ item.key
   pub leaf_is : leaf ≡ item.number
-  pub building : IsBuilding table a made (made_of_leaf item ∷ [])
+  pub made_leaf : HasLeafMade table a made item
   pub found : HasFoundBelow a.known a.known.locks since item position like number words
   pub part : IsPartSubtrie (subtrie_affected position item.key (node_words_of words).subtrie)
   pub affects : AffectsJust item.key position first last (node_words_of words).subtrie

@@ -5,17 +5,16 @@ ghost use Rattle.finite_map.specs.declared.Change.{Change};
 ghost use Rattle.insert_cases.specs.declared.choice.Step.{Step as StepView};
 ghost use Rattle.key_bits.specs.Key.{IsKey};
 ghost use Rattle.record_words.specs.Entry.{HasEntryWord, entry_word};
-ghost use Rattle.record_words.specs.Leaf.{HasLeafWords, words_for};
+ghost use Rattle.record_words.specs.Leaf.{words_for};
 ghost use Rattle.versions.specs.declared.Rec.TheVariants.{Node as a_node};
 ghost use Rattle.rowex_core.specs.Reading.{entry_of};
 ghost use Rattle.rowex_table.specs.Made.{Made};
 ghost use Rattle.rowex_table.specs.Seats.{IsSeatOf};
 ghost use Rattle.rowex_reading.specs.Possible.{IsPossible};
 ghost use Rattle.rowex_records.specs.Claims.{AllMissedFrom};
-ghost use Rattle.rowex_rights.specs.Rises.{made_of_leaf};
 ghost use Rattle.rowex_rights.specs.Stages.{HasReady};
 ghost use Rattle.tries.specs.Content.{item};
-ghost use Rattle.rowex_writing.specs.Building.{IsBuilding};
+ghost use Rattle.rowex_writing.specs.Building.{HasLeafMade, IsBuilding};
 ghost use Rattle.rowex_writing.specs.Changes.{HasChanged, HasRun};
 ghost use Rattle.rowex_writing.specs.Counts.{leaf_steps};
 ghost use Rattle.rowex_writing.specs.Deeds.{MayReplace, leaf_gone};
@@ -53,10 +52,9 @@ pub(crate) fn make_leaf<G: Gate>(
     requires none { seat.old.known.own ≡ [] }
     requires key { IsKey key.now }
     ensures goes { WorksOn table.now G.becomes (seat.old, gate.old) (seat.new, gate.new) }
-    ensures leaf { HasLeafWords (key.now, value) }
     ensures made { MatchOption result
         (IsBuilding table.now seat.new build.new.made.items [] × AllMissedFrom table.now.layout (words_for (length key.now)) seat.new.known.failed seat.old.known.steps)
-        (λ n. IsBuilding table.now seat.new build.new.made.items (made_of_leaf (item n key.now value) ∷ [])) }
+        (λ n. HasLeafMade table.now seat.new build.new.made.items (item n key.now value)) }
     ensures few { seat.new.known.steps ≤ seat.old.known.steps + leaf_steps table.now.layout }
 {
     build.made.clear();

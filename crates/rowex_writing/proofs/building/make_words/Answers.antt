@@ -9,7 +9,7 @@ use Rattle.rowex_rights.specs.Rises.{made_of_node}
 use Rattle.rowex_writing.specs.Building.{IsBuilding}
 use Rattle.rowex_writing.specs.Walks.{IsClaimWalk}
 use Rattle.rowex_writing.proofs.Locking.{goes_more, seat_of}
-use Rattle.rowex_writing.proofs.Making.{set_on, building_more, not_made}
+use Rattle.rowex_writing.proofs.Making.{set_all_on, building_node, not_made}
 use Rattle.rowex_writing.proofs.Walked.{walk_on}
 use Rattle.rowex_writing.proofs.building.make_words.Goals as goal
 
@@ -31,7 +31,7 @@ pub returns-in_err-number-clause-few : goal.returns-in_err-number-clause-few
 returns-in_err-number-clause-few g c = rw c.from_residual.ensures (let few = c.in_err-number.ensures.few in omega arith)
 
 pub returns-clause-goes : goal.returns-clause-goes
-returns-clause-goes g c = goes_more c.args.table.now g.G.Gate.becomes _ _ _ c.claim_node.ensures.goes (set_on c.args.table.now g.G.Gate.becomes _ _ _ _ c.fill_words.ensures.fills)
+returns-clause-goes g c = goes_more c.args.table.now g.G.Gate.becomes _ _ _ c.claim_node.ensures.goes (set_all_on c.args.table.now g.G.Gate.becomes _ _ _ _ c.fill_words.ensures.fills)
 
 pub returns-clause-made : goal.returns-clause-made
 returns-clause-made g c = λ news node has spells b. (
@@ -39,9 +39,8 @@ returns-clause-made g c = λ news node has spells b. (
   ap (Node c.in_ok-number.number) (first_told node c.args.words.now has spells).1,
   subst (λ z. IsBuilding c.args.table.now c.fill_words.new.seat z (made_of_node c.in_ok-number.number node ∷ news)) (sym (c.push.ensures.items ∙ ap (λ z. z ++ a_node c.in_ok-number.number ∷ []) c.claim_node.ensures.made))
       (subst (λ (ws : List ℕ). IsBuilding c.args.table.now c.fill_words.new.seat (c.args.build.now.made.items ++ a_node c.in_ok-number.number ∷ []) (record { rec = a_node c.in_ok-number.number; words = ws } ∷ news)) (sym spells)
-      (building_more c.args.table.now g.G.Gate.becomes (a_node c.in_ok-number.number) c.args.words.now (c.args.seat.now, c.args.gate.now) (c.claim_node.new.seat, c.claim_node.new.gate) _
-      c.args.build.now.made.items news c.claim_node.ensures.goes c.in_ok-number.ensures.claims.1 (set_on c.args.table.now g.G.Gate.becomes _ _ _ _ c.fill_words.ensures.fills)
-      c.fill_words.ensures.fills.own c.fill_words.ensures.filled.1 tt b)),
+      (building_node c.args.table.now g.G.Gate.becomes c.in_ok-number.number c.args.words.now (c.args.seat.now, c.args.gate.now) (c.claim_node.new.seat, c.claim_node.new.gate) _
+      c.args.build.now.made.items news c.claim_node.ensures.goes c.in_ok-number.ensures.claims.1 c.fill_words.ensures.fills c.fill_words.ensures.filled.1 b)),
 )
 
 pub returns-clause-walk : goal.returns-clause-walk
@@ -50,7 +49,7 @@ returns-clause-walk g c = λ since w.
     (sym (c.push.ensures.items ∙ ap (λ z. z ++ a_node c.in_ok-number.number ∷ []) c.claim_node.ensures.made))
     (walk_on a_node c.args.table.now.layout.nodes c.args.table.now g.G.Gate.becomes since (c.claim_node.new.seat, c.claim_node.new.gate) (c.fill_words.new.seat, c.fill_words.new.gate)
     (c.args.build.now.made.items ++ a_node c.in_ok-number.number ∷ []) (c.args.build.now.made.items ++ a_node c.in_ok-number.number ∷ []) c.claim_node.new.build.nodes.next c.claim_node.new.build.left_nodes
-    (set_on c.args.table.now g.G.Gate.becomes _ _ _ _ c.fill_words.ensures.fills) (λ r h. h) (c.in_ok-number.ensures.walk since w))
+    (set_all_on c.args.table.now g.G.Gate.becomes _ _ _ _ c.fill_words.ensures.fills) (λ r h. h) (c.in_ok-number.ensures.walk since w))
 
 pub returns-clause-few : goal.returns-clause-few
 returns-clause-few g c = omega (arith, c.in_ok-number.ensures.few, c.fill_words.ensures.steps)

@@ -24,7 +24,7 @@ make_grown-requires-clause-takes g c =
 pub make_grown-requires-clause-building : goal.make_grown-requires-clause-building
 make_grown-requires-clause-building g c =
     let (view, is) = c.load_words.ensures.node in
-    (made_of_leaf c.requires.lowest.item ∷ [], low_building _ _ c.load_words.ensures.reads c.requires.lowest (words_shown c.args.seat.now.known c.args.number c.load_words.ensures.words view is))
+    (made_of_leaf c.requires.lowest.item c.requires.lowest.made_leaf.fresh ∷ [], low_building _ _ c.load_words.ensures.reads c.requires.lowest (words_shown c.args.seat.now.known c.args.number c.load_words.ensures.words view is))
 
 pub returns-clause-goes : goal.returns-clause-goes
 returns-clause-goes g c = goes_more c.args.table.now g.G.Gate.becomes _ _ _ c.load_words.ensures.reads.goes c.make_grown.ensures.goes
@@ -39,7 +39,7 @@ returns-clause-made g c = λ b.
       tree = low_tree _ _ c.load_words.ensures.reads b shown;
     } in
     lowest_made _ _ c.load_words.ensures.reads b shown (c.make_grown.new.seat, c.make_grown.new.gate) c.make_grown.new.build.made.items view.height refl c.make_grown.result c.make_grown.ensures.goes
-    (c.make_grown.ensures.made (made_of_leaf b.item ∷ []) view takes (low_building _ _ c.load_words.ensures.reads b shown))
+    (c.make_grown.ensures.made (made_of_leaf b.item b.made_leaf.fresh ∷ []) view takes (low_building _ _ c.load_words.ensures.reads b shown))
 
 pub returns-clause-level : goal.returns-clause-level
 returns-clause-level g c = λ words h.
@@ -51,8 +51,8 @@ returns-clause-level g c = λ words h.
       affects = low_affects _ _ c.load_words.ensures.reads b shown;
       tree = low_tree _ _ c.load_words.ensures.reads b shown;
     } in
-    leaf_level words view (Node c.args.number view.height) _ c.args.new.now.position c.make_grown.result _ (made_of_leaf b.item ∷ []) (IsBuilding c.args.table.now c.make_grown.new.seat c.make_grown.new.build.made.items)
-    (shown words h) refl (c.make_grown.ensures.made (made_of_leaf b.item ∷ []) view takes (low_building _ _ c.load_words.ensures.reads b shown))
+    leaf_level words view (Node c.args.number view.height) _ c.args.new.now.position c.make_grown.result _ (made_of_leaf b.item b.made_leaf.fresh ∷ []) (IsBuilding c.args.table.now c.make_grown.new.seat c.make_grown.new.build.made.items)
+    (shown words h) refl (c.make_grown.ensures.made (made_of_leaf b.item b.made_leaf.fresh ∷ []) view takes (low_building _ _ c.load_words.ensures.reads b shown))
 
 pub returns-clause-walk : goal.returns-clause-walk
 returns-clause-walk g c =

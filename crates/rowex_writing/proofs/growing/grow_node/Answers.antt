@@ -22,7 +22,7 @@ grow_with-requires g c =
     let (m, aim, t, planned) = c.requires.taken in
     record {
       may = may_grow c.args.table.now c.args.seat.now c.make_leaf.new.seat c.make_leaf.new.build.made.items m job.key.now job.value job.way.now job.found job.span aim c.args.affected.position c.args.affected.first c.args.affected.last c.in-Some.number t planned
-          c.in-Some.ensures.goes.stays c.in-Some.ensures.made c.in-Some.ensures.leaf;
+          c.in-Some.ensures.goes.stays c.in-Some.ensures.made;
     }
 
 pub returns : goal.returns

@@ -19,7 +19,7 @@ returns-in_default-clause-full g c =
     let may = c.requires.may in
     record {
       not_made = c.in_default.ensures.made may.growing;
-      few = omega (arith, made_one may.growing.lowest.building, c.raise_grown.ensures.more, may.within.0);
+      few = omega (arith, made_one may.growing.lowest.made_leaf.building, c.raise_grown.ensures.more, may.within.0);
       full_of = c.in_default.ensures.walk c.args.seat.now.known.steps
           (walk_begins a_node c.args.table.now.layout.nodes c.args.seat.now.known c.args.build.now.made.items c.args.build.now.nodes.next c.layout.result.nodes c.args.table.now.layout.nodes_in_range.0 (ap (λ (z : Layout). z.nodes) c.layout.ensures));
     }
@@ -29,7 +29,7 @@ returns-in_default-clause-few g c =
     let may = c.requires.may in
     let whole : c.layout.result.nodes ≡ c.args.table.now.layout.nodes = ap (λ (z : Layout). z.nodes) c.layout.ensures in
     let few : c.raise_grown.new.seat.known.steps + 2 * c.raise_grown.new.build.left_nodes ≤ c.args.seat.now.known.steps + 2 * c.layout.result.nodes + locks_of c.args.job.now.span * level_steps + length c.raise_grown.new.build.made.items = c.in_default.ensures.few in
-    omega (arith, whole, few, made_one may.growing.lowest.building, c.raise_grown.ensures.more, may.within.0)
+    omega (arith, whole, few, made_one may.growing.lowest.made_leaf.building, c.raise_grown.ensures.more, may.within.0)
 
 pub returns-clause-raised : goal.returns-clause-raised
 returns-clause-raised g c =
@@ -51,7 +51,7 @@ returns-clause-raised g c =
       ends = λ spot over.
           grown_ends c.args.table.now c.args.seat.now c.raise_grown.new.seat c.args.build.now.made.items c.raise_grown.new.build.made.items job.way.now c.args.new.now.key.now job.value job.span c.args.new.now.position c.args.new.now.first c.args.new.now.last c.args.new.now.number may
           goes.stays.0 goes.stays.1 goes.stays.2 c.in-Some.entry c.has_number.ensures c.in-Some.stays (c.in-Some.ensures.made may.growing) c.in-Some.ensures.low spot _ over gone;
-      few = omega (arith, made_one may.growing.lowest.building, c.raise_grown.ensures.more, may.within.0);
+      few = omega (arith, made_one may.growing.lowest.made_leaf.building, c.raise_grown.ensures.more, may.within.0);
     }
 
 pub returns-clause-few : goal.returns-clause-few

@@ -55,13 +55,13 @@ returns-in_default-make_node g c = record {
         (walk_begins a_node c.args.table.now.layout.nodes c.make_leaf.new.seat.known c.make_leaf.new.build.made.items c.make_leaf.new.build.nodes.next c.layout.result.nodes c.args.table.now.layout.nodes_in_range.0 (ap (λ (z : Layout). z.nodes) c.layout.ensures)) in
         let rise = steps_rise c.args.table.now g.G.Gate.becomes c.make_leaf.ensures.goes.acts (c.args.seat.now, c.args.gate.now) (c.make_leaf.new.seat, c.make_leaf.new.gate) c.make_leaf.ensures.goes.steps in
         record {
-          not_made = c.in_default-make_node.ensures.made (made_of_leaf (item c.in-Some.leaf c.args.job.now.key.now c.args.job.now.value) ∷ []) c.in-Some.ensures.made;
-          few = omega (arith, made_one c.in-Some.ensures.made, c.make_node.ensures.more);
+          not_made = c.in_default-make_node.ensures.made (made_of_leaf (item c.in-Some.leaf c.args.job.now.key.now c.args.job.now.value) c.in-Some.ensures.made.fresh ∷ []) c.in-Some.ensures.made.building;
+          few = omega (arith, made_one c.in-Some.ensures.made.building, c.make_node.ensures.more);
           full_of = full_since c.args.table.now.layout c.args.job.now.key.now c.args.seat.now.known c.make_leaf.new.seat.known c.make_node.new.seat.known Nodes rise missed;
         });
     few = (let whole : c.layout.result.nodes ≡ c.args.table.now.layout.nodes = ap (λ (z : Layout). z.nodes) c.layout.ensures in
         let few : c.make_node.new.seat.known.steps + 2 * c.make_node.new.build.left_nodes ≤ c.make_leaf.new.seat.known.steps + 2 * c.layout.result.nodes + node_steps + length c.make_node.new.build.made.items = c.in_default-make_node.ensures.few in
-        omega (arith, whole, c.make_leaf.ensures.few, few, made_one c.in-Some.ensures.made, c.make_node.ensures.more));
+        omega (arith, whole, c.make_leaf.ensures.few, few, made_one c.in-Some.ensures.made.building, c.make_node.ensures.more));
   };
 }
 
@@ -74,9 +74,10 @@ returns g c = record {
         let (m, aim, t, planned) = c.requires.taken in
         let here = pair_here c.args.seat.now.known m job.key.now job.way.now aim job.found job.span c.args.position planned c.in-Leaf.old _ _ c.in-Leaf.is in
         let goes = goes_more c.args.table.now g.G.Gate.becomes (c.args.seat.now, c.args.gate.now) (c.make_leaf.new.seat, c.make_leaf.new.gate) (c.make_node.new.seat, c.make_node.new.gate) c.make_leaf.ensures.goes c.make_node.ensures.goes in
-        let news = made_of_leaf (item c.in-Some.leaf job.key.now job.value) ∷ [] in
+        let leaf = c.in-Some.ensures.made in
+        let news = made_of_leaf (item c.in-Some.leaf job.key.now job.value) leaf.fresh ∷ [] in
         let (more, side, building) = paired c.args.table.now c.make_leaf.new.seat c.make_node.new.seat c.make_node.new.build.made.items news c.pair_with_leaf-pair.result
-        (subtrie_forked (bit job.key.now c.args.position) c.args.position (LeafEntry c.in-Some.leaf) (Place (LeafEntry c.in-Leaf.old))) (Some c.in-Some-make_node.entry) c.pair_with_leaf-pair.ensures (c.in-Some-make_node.ensures.made news c.in-Some.ensures.made) in
+        (subtrie_forked (bit job.key.now c.args.position) c.args.position (LeafEntry c.in-Some.leaf) (Place (LeafEntry c.in-Leaf.old))) (Some c.in-Some-make_node.entry) c.pair_with_leaf-pair.ensures (c.in-Some-make_node.ensures.made news leaf.building) in
         let x = added_change c.args.seat.now.known.pass (item c.in-Some.leaf job.key.now job.value) in (
           x,
           None,
@@ -89,13 +90,13 @@ returns g c = record {
             ends = λ spot over.
                 subst (MayPublishOnceReady c.args.table.now c.make_node.new.seat c.make_node.new.build.made.items spot (entry_word (Some c.in-Some-make_node.entry)) x None) (sym (just_leaf_gone job.way.now job.span.end job.span.len None here.len))
                 (pair_may c.args.table.now c.args.seat.now m job.key.now job.way.now job.found job.span t c.make_node.new.seat c.make_node.new.build.made.items c.in-Some.leaf job.value goes.stays.0 goes.stays.1 goes.stays.2
-                c.make_leaf.ensures.leaf c.args.position c.in-Leaf.old here c.in-Some-make_node.entry more side building spot over);
-            few = omega (arith, made_one c.in-Some.ensures.made, c.make_node.ensures.more);
+                c.args.position c.in-Leaf.old here c.in-Some-make_node.entry more side leaf.fresh leaf.spelled building spot over);
+            few = omega (arith, made_one c.in-Some.ensures.made.building, c.make_node.ensures.more);
           },
         ));
     full = tt;
     few = (let whole : c.layout.result.nodes ≡ c.args.table.now.layout.nodes = ap (λ (z : Layout). z.nodes) c.layout.ensures in
         let few : c.make_node.new.seat.known.steps + 2 * c.make_node.new.build.left_nodes ≤ c.make_leaf.new.seat.known.steps + 2 * c.layout.result.nodes + node_steps + 0 = c.in-Some-make_node.ensures.few in
-        omega (arith, whole, c.make_leaf.ensures.few, few, made_one c.in-Some.ensures.made, c.make_node.ensures.more));
+        omega (arith, whole, c.make_leaf.ensures.few, few, made_one c.in-Some.ensures.made.building, c.make_node.ensures.more));
   };
 }

@@ -1,16 +1,11 @@
 -- A claim and its fills are the first record.
 use Rattle.std.proofs.Common.{◌∷◌, [], ◌++◌, subst, sym, ap, ◌∙◌, ◌≤◌, length, refl, arith}
-use Rattle.record_words.specs.Layout.{leaf_size}
-use Rattle.record_words.specs.Leaf.{leaf_words, words_for}
-use Rattle.record_words.proofs.Leaves.{leaf_words_parts}
 use Rattle.versions.specs.declared.Rec.TheVariants.{Leaf as a_leaf}
-use Rattle.rowex_core.specs.Cores.{FitsIn}
 use Rattle.rowex_records.specs.Claims.{AllMissedFrom}
 use Rattle.rowex_records.proofs.Claimed.{more_is_claimed}
-use Rattle.rowex_rights.specs.Rises.{made_of_leaf}
-use Rattle.rowex_writing.specs.Building.{IsBuilding}
+use Rattle.rowex_writing.specs.Building.{HasLeafMade, IsBuilding}
 use Rattle.rowex_writing.proofs.Locking.{goes_more, seat_of}
-use Rattle.rowex_writing.proofs.Making.{set_on, building_none, building_on, building_more}
+use Rattle.rowex_writing.proofs.Making.{set_some_on, building_leaf, building_none, building_on}
 use Rattle.rowex_writing.proofs.publishing.make_leaf.Goals as goal
 use Rattle.tries.specs.Content.{item}
 
@@ -19,12 +14,6 @@ fill_leaf-requires-clause-own g c = seat_of c.args.table.now g.G.Gate.becomes (c
 
 pub fill_leaf-requires-clause-room : goal.fill_leaf-requires-clause-room
 fill_leaf-requires-clause-room g c = omega (arith, c.in_ok-number.ensures.claims.1, c.words_for.ensures.words)
-
-pub returns-in_err-number-clause-leaf : goal.returns-in_err-number-clause-leaf
-returns-in_err-number-clause-leaf g c = record { key = c.requires.key; value = c.ranges.value.fits }
-
-pub returns-clause-leaf : goal.returns-clause-leaf
-returns-clause-leaf g c = record { key = c.requires.key; value = c.ranges.value.fits }
 
 pub returns-in_err-number-clause-made : goal.returns-in_err-number-clause-made
 returns-in_err-number-clause-made g c = rw c.from_residual.ensures (
@@ -35,19 +24,14 @@ returns-in_err-number-clause-made g c = rw c.from_residual.ensures (
 
 pub returns-clause-goes : goal.returns-clause-goes
 returns-clause-goes g c =
-    goes_more c.args.table.now g.G.Gate.becomes _ _ _ c.claim_leaf.ensures.goes (set_on c.args.table.now g.G.Gate.becomes _ _ _ _ c.fill_leaf.ensures.fills)
+    goes_more c.args.table.now g.G.Gate.becomes _ _ _ c.claim_leaf.ensures.goes (set_some_on c.args.table.now g.G.Gate.becomes _ _ _ _ _ c.fill_leaf.ensures.fills)
 
 pub returns-clause-made : goal.returns-clause-made
 returns-clause-made g c =
-    let n = c.in_ok-number.number in
-    let leaf = leaf_words (c.args.key.now, c.args.value) in
-    let size = (leaf_words_parts (c.args.key.now, c.args.value) leaf refl).size in
-    let room : words_for (length c.args.key.now) ≤ leaf_size c.args.table.now.layout n = omega (arith, c.in_ok-number.ensures.claims.1, c.words_for.ensures.words) in
-    let fit : FitsIn c.args.table.now.layout (a_leaf n) leaf = subst (λ z. words_for z ≤ leaf_size c.args.table.now.layout n) (sym size) room in
-    subst (λ z. IsBuilding c.args.table.now c.fill_leaf.new.seat z (made_of_leaf (item n c.args.key.now c.args.value) ∷ [])) (sym (c.push.ensures.items ∙ ap (λ z. z ++ a_leaf n ∷ []) c.clear.ensures))
-    (building_more c.args.table.now g.G.Gate.becomes (a_leaf n) leaf (c.args.seat.now, c.args.gate.now) (c.claim_leaf.new.seat, c.claim_leaf.new.gate) _ [] []
-    c.claim_leaf.ensures.goes c.in_ok-number.ensures.claims.2
-    (set_on c.args.table.now g.G.Gate.becomes _ _ _ _ c.fill_leaf.ensures.fills) c.fill_leaf.ensures.fills.own c.fill_leaf.ensures.filled.1 fit
+    let x = item c.in_ok-number.number c.args.key.now c.args.value in
+    subst (λ z. HasLeafMade c.args.table.now c.fill_leaf.new.seat z x) (sym (c.push.ensures.items ∙ ap (λ z. z ++ a_leaf x.number ∷ []) c.clear.ensures))
+    (building_leaf c.args.table.now g.G.Gate.becomes x (c.args.seat.now, c.args.gate.now) (c.claim_leaf.new.seat, c.claim_leaf.new.gate) (c.fill_leaf.new.seat, c.fill_leaf.new.gate)
+    record { key = c.requires.key; value = c.ranges.value.fits } (omega (arith, c.in_ok-number.ensures.claims.1, c.words_for.ensures.words)) c.claim_leaf.ensures.goes c.in_ok-number.ensures.claims.2 c.fill_leaf.ensures.fills
     (building_none c.args.table.now c.args.seat.now c.requires.own c.requires.possible c.requires.none))
 
 pub returns-clause-few : goal.returns-clause-few

@@ -38,8 +38,8 @@ returns g c = record {
             ends = λ spot over.
                 subst (MayPublishOnceReady c.args.table.now c.make_leaf.new.seat c.make_leaf.new.build.made.items spot (4 * c.in-Some.number + 1) (put_change c.args.seat.now.known.pass (item c.in-Some.number job.key.now job.value) job.found) (put_was job.found)) (sym gone)
                 (put_may c.args.table.now c.args.seat.now m job.key.now job.way.now job.found job.span t c.make_leaf.new.seat c.make_leaf.new.build.made.items c.in-Some.number job.value goes.stays.0 goes.stays.1 goes.stays.2
-                c.make_leaf.ensures.leaf c.in-Some.ensures.made at spot over);
-            few = omega (arith, made_one c.in-Some.ensures.made, ap length c.found_leaf.ensures, found_few job.found);
+                c.in-Some.ensures.made at spot over);
+            few = omega (arith, made_one c.in-Some.ensures.made.building, ap length c.found_leaf.ensures, found_few job.found);
           },
         ));
     full = tt;
