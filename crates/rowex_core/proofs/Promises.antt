@@ -28,7 +28,7 @@ use Rattle.versions.proofs.Stepping.{opening_core, core_reach, core_steady}
 use Rattle.rowex_core.specs.declared.event.Act.TheVariants.{Lock, Publish}
 use Rattle.rowex_core.specs.declared.event.Target.TheVariants.{Node as NodeTarget}
 use Rattle.rowex_core.specs.Reading.{HasWordAt}
-use Rattle.rowex_core.specs.Cores.{IsLawful, IsWithin, bare, heap_of, word_count_of}
+use Rattle.rowex_core.specs.Cores.{IsLawful, bare, heap_of, word_count_of}
 use Rattle.rowex_core.specs.Words.{record_word, word_at, Shows}
 use Rattle.rowex_core.specs.Events.{IsFixedOffset, after, next_change, next_tree}
 use Rattle.rowex_core.specs.Opening.{opening, opening_words}
@@ -71,10 +71,6 @@ opening_shows layout = record { size = size; each = each }
     each (NodeWord n offset) h = other_zero layout (address layout (NodeWord n offset)) (omega arith) (omega arith) ∙ sym (opening_record layout (a_node n) offset)
     each (LeafWord n offset) h = other_zero layout (address layout (LeafWord n offset)) (omega arith) (omega arith) ∙ sym (opening_record layout (a_leaf n) offset)
 
-opening_within : (layout : Layout) (r : Rec) → IsWithin layout r (replicate (word_count_of r) 0)
-opening_within layout (a_node n) = tt
-opening_within layout (a_leaf n) = λ o past. zeros (word_count_of (a_leaf n)) o
-
 pub opening_is_lawful : OpeningIsLawful
 opening_is_lawful layout = (
   record {
@@ -82,7 +78,6 @@ opening_is_lawful layout = (
     records = record {
       sized = λ r. (length-replicate {A = ℕ} (word_count_of r) 0, All-replicate (λ (w : ℕ). w < 2 ^ 64) (word_count_of r) 0 (lit< tt));
       packed = λ r h. absurd h;
-      within = opening_within layout;
       fits = λ r h. absurd h;
       retired = λ n since last q e. absurd (let x : Free ≡ Unlinked since last q = e in cc);
       used = λ r. inl refl;

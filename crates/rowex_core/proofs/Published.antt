@@ -19,10 +19,10 @@ use Rattle.rowex_core.specs.declared.event.Act.TheVariants.{Publish}
 use Rattle.rowex_core.specs.declared.event.Spot.{Spot}
 use Rattle.rowex_core.specs.declared.event.Spot.TheVariants.{Root, Slot}
 use Rattle.rowex_core.specs.Reading.{node_words_of, leaf_of, entry_of, IsPacked}
-use Rattle.rowex_core.specs.Cores.{Core, IsLawful, bare, heap_of, HasRecord, IsSized, IsWithin, FitsIn, IsWhole}
+use Rattle.rowex_core.specs.Cores.{Core, IsLawful, bare, heap_of, HasRecord, IsSized, FitsIn, IsWhole}
 use Rattle.rowex_core.specs.Events.{after, stored_words, stored_root, next_tree, next_change, IsLegalPublish, IsPackedAt, IsLockedAt}
 use Rattle.rowex_core.proofs.Frames.{change_pass}
-use Rattle.rowex_core.proofs.Records.{sized_after, within_after}
+use Rattle.rowex_core.proofs.Records.{sized_after}
 use Rattle.rowex_core.proofs.Publishing.{other_words, unlinked_words, true_linked}
 use Rattle.rowex_core.proofs.Storing.{near_store}
 use Rattle.versions.proofs.Pace.{next_marked}
@@ -101,10 +101,6 @@ module _ (c : Core) (q : ℕ) (spot : Spot) (w : ℕ) (law : IsLawful c) (l : Is
   published_sizes Root r = law.records.sized r
   published_sizes (Slot n j) r = sized_after c.words (a_node n) (26 + j) w (subst (λ z. z < 2 ^ 64) l.entry.1 (entry_small (entry_of w) l.entry.0)) law.records.sized r
 
-  published_within : (s : Spot) → IsLockedAt c q s → (r : Rec) → IsWithin c.layout r (stored_words c s w r)
-  published_within Root k r = law.records.within r
-  published_within (Slot n j) k r = within_after c.layout c.words (a_node n) (26 + j) w (omega arith) (let y = k.1 in omega arith) law.records.within r
-
   -- a leaf's words stay
   published_fits : (s : Spot) (r : Rec) → IsWhole (c.fate r) → FitsIn c.layout r (stored_words c s w r)
   published_fits Root r h = law.records.fits r h
@@ -136,7 +132,6 @@ module _ (c : Core) (q : ℕ) (spot : Spot) (w : ℕ) (law : IsLawful c) (l : Is
     records = record {
       sized = published_sizes spot;
       packed = λ r h. published_words spot l.packed r (whole_before c.past.now q (is_linked (next_tree c spot w) r) (c.fate r) h);
-      within = published_within spot l.locked;
       fits = λ r h. published_fits spot r (whole_before c.past.now q (is_linked (next_tree c spot w) r) (c.fate r) h);
       retired = published_locks;
       used = published_used;

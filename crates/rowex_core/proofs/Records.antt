@@ -9,7 +9,7 @@ use Rattle.versions.proofs.Legal.{same_rec_refl, same_rec_true}
 use Rattle.std.proofs.lemmas.List.{get_or-set_other}
 use Rattle.record_words.specs.declared.layout.Layout.{Layout}
 use Rattle.versions.specs.declared.Rec.TheVariants.{Node as a_node, Leaf as a_leaf}
-use Rattle.rowex_core.specs.Cores.{IsSized, IsWithin, HasWord}
+use Rattle.rowex_core.specs.Cores.{IsSized}
 use Rattle.rowex_core.specs.Events.{with_word}
 
 -- a property of each record's words, after one word has changed
@@ -24,11 +24,3 @@ word_at_record words r offset w P here there i = go (cases_Bool (same_rec i r))
 pub sized_after : (words : Rec → List ℕ) (r : Rec) (offset w : ℕ) → w < 2 ^ 64 → ((i : Rec) → IsSized i (words i)) → (i : Rec) → IsSized i (with_word words r offset w i)
 sized_after words r offset w small sized = word_at_record words r offset w IsSized
     (length-set (words r) (offset - 1) w ∙ (sized r).0, All-set (λ z. z < 2 ^ 64) (words r) (offset - 1) w small (sized r).1) (λ i ne. sized i)
-
--- what the table has no word for stays 0
-pub within_after : (layout : Layout) (words : Rec → List ℕ) (r : Rec) (offset w : ℕ) → 1 ≤ offset → HasWord layout r offset → ((i : Rec) → IsWithin layout i (words i)) → (i : Rec) → IsWithin layout i (with_word words r offset w i)
-within_after layout words r offset w low has within = word_at_record words r offset w (IsWithin layout) (go r has (within r)) (λ i ne. within i)
-  where
-    go : (r : Rec) → HasWord layout r offset → IsWithin layout r (words r) → IsWithin layout r (set (words r) (offset - 1) w)
-    go (a_node n) h all = tt
-    go (a_leaf n) h all = λ o past. get_or-set_other (words (a_leaf n)) (offset - 1) o w 0 (λ e. omega (arith, h, past, e, low)) ∙ all o past

@@ -18,7 +18,7 @@ use Rattle.rowex_core.specs.Reading.{node_words_of, leaf_of, IsPacked}
 use Rattle.rowex_core.specs.Cores.{Core, IsLawful, bare, heap_of, HasRecord, HasWord, FitsIn, IsWhole}
 use Rattle.rowex_core.specs.Words.{tag_of}
 use Rattle.rowex_core.specs.Events.{Legal, IsOffset, after, with_word, claimed, marked, given_back, anchored, locked_where, advanced}
-use Rattle.rowex_core.proofs.Records.{word_at_record, sized_after, within_after}
+use Rattle.rowex_core.proofs.Records.{word_at_record, sized_after}
 use Rattle.rowex_core.proofs.Published.{publish_stays}
 
 -- One record's fate
@@ -50,7 +50,6 @@ fate_stays c r f law core has new packed = record {
   records = record {
     sized = law.records.sized;
     packed = fate_at c r f (λ i g. IsWhole g → IsPacked i (c.words i)) (λ w. (packed w).0) (λ i e. law.records.packed i);
-    within = law.records.within;
     fits = fate_at c r f (λ i g. IsWhole g → FitsIn c.layout i (c.words i)) (λ w. (packed w).1) (λ i e. law.records.fits i);
     retired = λ n since last q. fate_at c r f (λ i g. i ≡ a_node n → g ≡ Unlinked since last q → c.lock n ≡ Some q)
         (λ e x. absurd (new_unlinked f new since last q x)) (λ i e x y. law.records.retired n since last q (ap c.fate (sym x) ∙ y)) (a_node n) refl;
@@ -97,7 +96,6 @@ mark_stays c q r epoch since last law has same e late = record {
   records = record {
     sized = law.records.sized;
     packed = fate_at c r (Marked since last epoch) (λ i g. IsWhole g → IsPacked i (c.words i)) (λ w. law.records.packed r (subst IsWhole (sym e) tt)) (λ i x. law.records.packed i);
-    within = law.records.within;
     fits = fate_at c r (Marked since last epoch) (λ i g. IsWhole g → FitsIn c.layout i (c.words i)) (λ w. law.records.fits r (subst IsWhole (sym e) tt)) (λ i x. law.records.fits i);
     retired = λ n s l p. fate_at c r (Marked since last epoch) (λ i g. i ≡ a_node n → g ≡ Unlinked s l p → (unlocked c.shared r).lock n ≡ Some p)
         (λ x y. absurd cc) (λ i x y z. rw (subst (λ v. same_rec v r ≡ false) y x) (law.records.retired n s l p (ap c.fate (sym y) ∙ z))) (a_node n) refl;
@@ -137,7 +135,6 @@ fill_stays c q r offset w law e at small there = record {
   records = record {
     sized = sized_after c.words r offset w small law.records.sized;
     packed = word_at_record c.words r offset w (λ i words. IsWhole (c.fate i) → IsPacked i words) (λ x. absurd (subst IsWhole e x)) (λ i ne. law.records.packed i);
-    within = within_after c.layout c.words r offset w (low r at) there law.records.within;
     fits = word_at_record c.words r offset w (λ i words. IsWhole (c.fate i) → FitsIn c.layout i words) (λ x. absurd (subst IsWhole e x)) (λ i ne. law.records.fits i);
     retired = law.records.retired;
     used = law.records.used;
@@ -165,7 +162,7 @@ anchor_stays c q (Some p) small law e = law
 lock_stays : (c : Core) (n since : ℕ) (o : Option ℕ) → ((p : ℕ) → o ≡ Some p → p < c.layout.passes) → IsLawful c → c.fate (a_node n) ≡ InTree since → IsLawfulCore (bare (record c { shared = with_lock c.shared n o })) → IsLawful (record c { shared = with_lock c.shared n o })
 lock_stays c n since o by law e core = record {
   core = core;
-  records = record { sized = law.records.sized; packed = law.records.packed; within = law.records.within; fits = law.records.fits; retired = λ i s l q h. go i s l q h (cases_Bool (eqb i n)); used = law.records.used };
+  records = record { sized = law.records.sized; packed = law.records.packed; fits = law.records.fits; retired = λ i s l q h. go i s l q h (cases_Bool (eqb i n)); used = law.records.used };
   epochs = law.epochs;
   root = law.root;
   lockers = record { root = law.lockers.root; nodes = λ i p is. taken i p is (cases_Bool (eqb i n)) };

@@ -42,11 +42,6 @@ size_of layout (a_leaf n) = leaf_size layout n
 abbrev pub HasWord : Layout → Rec → ℕ → Type 0
 HasWord layout r offset = offset < size_of layout r
 
--- all words that the table has none for are 0; the words are those from offset 1 on
-abbrev pub IsWithin : Layout → Rec → List ℕ → Type 0
-IsWithin layout (a_node n) words = Unit {0}
-IsWithin layout (a_leaf n) words = (o : ℕ) → leaf_size layout n ≤ o + 1 → get_or words o 0 ≡ 0
-
 -- the table has a word for each that has bytes of the key
 abbrev pub FitsIn : Layout → Rec → List ℕ → Type 0
 FitsIn layout (a_node n) words = Unit {0}
@@ -71,8 +66,7 @@ pub record AreRecords (layout : Layout) (words : Rec → List ℕ) (fate : Rec �
   -- each has its number of words, and those of one that is neither free nor held spell a value
   pub sized : (r : Rec) → IsSized r (words r)
   pub packed : (r : Rec) → IsWhole (fate r) → IsPacked r (words r)
-  -- a leaf has no more than the table has words for
-  pub within : (r : Rec) → IsWithin layout r (words r)
+  -- a leaf's up to the end of its key are no more than the table has words for
   pub fits : (r : Rec) → IsWhole (fate r) → FitsIn layout r (words r)
   -- an unlinked node stays locked until it is marked
   pub retired : (n since last q : ℕ) → fate (a_node n) ≡ Unlinked since last q → lock n ≡ Some q

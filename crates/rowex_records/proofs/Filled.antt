@@ -18,7 +18,7 @@ use Rattle.rowex_core.specs.declared.event.Event.{Event}
 use Rattle.rowex_core.specs.declared.known.Holding.{Holding}
 use Rattle.rowex_core.specs.declared.known.Owned.{Owned}
 use Rattle.rowex_core.specs.declared.known.Known.{Known}
-use Rattle.rowex_core.specs.Cores.{Core, IsLawful, IsWithin, word_count_of}
+use Rattle.rowex_core.specs.Cores.{Core, IsLawful, word_count_of}
 use Rattle.rowex_core.specs.Sharing.{IsOwned}
 use Rattle.rowex_core.specs.Knowing.{Knows, with_filled_word}
 use Rattle.rowex_core.proofs.Lists.{kept}
@@ -101,13 +101,13 @@ leaf_stored leaf old has size =
     (word 0 (omega arith) ∙ parts.value) (word 1 (omega arith) ∙ parts.size)
     (λ j before few. word (2 + j) (omega (arith, before)) ∙ parts.bytes j few)
 
--- each record has its number of words, and 0 for those that the table has none for
-abbrev pub AreWithin : Layout → List Owned → Type 0
-AreWithin layout own = All (λ o. (length o.words ≡ word_count_of o.rec) × IsWithin layout o.rec o.words) own
+-- each record has its number of words
+abbrev pub AreSized : List Owned → Type 0
+AreSized own = All (λ o. length o.words ≡ word_count_of o.rec) own
 
-pub own_within : (layout : Layout) (c : Core) (k : Known) → c.layout ≡ layout → IsLawful c → Knows c k → AreWithin layout k.own
-own_within layout c k at lawful known = All-weaker (IsOwned k.pass c) (λ o. (length o.words ≡ word_count_of o.rec) × IsWithin layout o.rec o.words)
-    (λ o is. (ap length (sym is.1) ∙ (lawful.records.sized o.rec).0, subst (λ z. IsWithin z o.rec o.words) at (subst (IsWithin c.layout o.rec) is.1 (lawful.records.within o.rec)))) k.own (knows_all c k known).own
+pub own_sized : (c : Core) (k : Known) → IsLawful c → Knows c k → AreSized k.own
+own_sized c k lawful known =
+    All-weaker (IsOwned k.pass c) (λ o. length o.words ≡ word_count_of o.rec) (λ o is. ap length (sym is.1) ∙ (lawful.records.sized o.rec).0) k.own (knows_all c k known).own
 
 pub filled_with : (r : Rec) (words : List ℕ) → length words ≡ word_count_of r → (o : Owned) → length o.words ≡ word_count_of o.rec → stored_in r words (length words) o ≡ fill_with r words o
 filled_with r words size o sized = go (same_rec o.rec r) refl

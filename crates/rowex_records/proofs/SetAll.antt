@@ -21,7 +21,7 @@ use Rattle.rowex_core.specs.declared.known.Holding.TheVariants.{Held}
 use Rattle.rowex_core.specs.declared.known.Owned.{Owned}
 use Rattle.rowex_core.specs.declared.known.Known.{Known}
 use Rattle.record_words.specs.Leaf.{HasLeafWords, leaf_words, words_for}
-use Rattle.rowex_core.specs.Cores.{Core, IsWithin, word_count_of}
+use Rattle.rowex_core.specs.Cores.{Core, word_count_of}
 use Rattle.rowex_core.specs.Events.{IsFixedOffset}
 use Rattle.rowex_core.specs.Words.{record_word}
 use Rattle.rowex_core.specs.Reading.{IsPacked}
@@ -38,7 +38,7 @@ use Rattle.rowex_table.proofs.Rights.{mapped}
 use Rattle.rowex_table.proofs.Running as running
 use Rattle.rowex_table.proofs.Running.{in_turn_more}
 use Rattle.rowex_records.specs.Records.{owning, filling, fill_with, load_of_word, fill_unless_found, stored, stored_in, IsFilledLeaf, IsLookedAt, Sets, SetsAll, SetsMore, SetsSome, SetsWord}
-use Rattle.rowex_records.proofs.Filled.{AreWithin, each_mapped, filled_with, leaf_stored, own_within, stored_more, stored_nothing, twice}
+use Rattle.rowex_records.proofs.Filled.{AreSized, each_mapped, filled_with, leaf_stored, own_sized, stored_more, stored_nothing, twice}
 use Rattle.rowex_records.proofs.Making.{owns_one}
 
 -- ---- one word
@@ -233,9 +233,9 @@ module _ {G : Type 0} (table : TableView) (becomes : G → Event → G → Type 
       seven a (six a (five a (four a (three a (two a (one a (sets_more r words 0 word a a b (sets_none r words a held) is first)))))))
 
   -- a pass that makes a step knows of each of its records as many words as it has
-  runs_within : (acts : List Act) (a b : SeatView × G) → 1 ≤ length acts → Runs table becomes acts a b → AreWithin table.layout a.0.known.own
-  runs_within [] a b some run = absurd (omega arith)
-  runs_within (act ∷ acts) a b some run = own_within table.layout run.1.event.core a.0.known run.1.event.layout_is run.1.event.lawful run.1.event.knows
+  runs_sized : (acts : List Act) (a b : SeatView × G) → 1 ≤ length acts → Runs table becomes acts a b → AreSized a.0.known.own
+  runs_sized [] a b some run = absurd (omega arith)
+  runs_sized (act ∷ acts) a b some run = own_sized run.1.event.core a.0.known run.1.event.lawful run.1.event.knows
 
   -- all words of a node
   pub sets_node : (n : ℕ) (words : List ℕ) (i : ℕ) (a b : SeatView × G) → length words ≡ word_count_of (a_node n) → i ≡ length words → SetsSome table becomes (a_node n) words i a b → SetsAll table becomes (a_node n) words a b
@@ -247,8 +247,7 @@ module _ {G : Type 0} (table : TableView) (becomes : G → Event → G → Type 
     later = some.later;
     own = some.own ∙ (ap (λ m. map (stored_in (a_node n) words m) a.0.known.own) all ∙
         each_mapped (λ o. length o.words ≡ word_count_of o.rec) (stored_in (a_node n) words (length words)) (fill_with (a_node n) words) (filled_with (a_node n) words size) a.0.known.own
-        (All-weaker (λ o. (length o.words ≡ word_count_of o.rec) × IsWithin table.layout o.rec o.words) (λ o. length o.words ≡ word_count_of o.rec) (λ o is. is.0) a.0.known.own
-        (runs_within some.acts a b (let z = some.least in omega (arith, z, all, size)) some.does.steps)));
+        (runs_sized some.acts a b (let z = some.least in omega (arith, z, all, size)) some.does.steps));
   }
 
   -- in two steps at most for each
