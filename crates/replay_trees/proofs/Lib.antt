@@ -3,6 +3,7 @@ mod Lists
 mod Steps
 mod Keys
 mod Small
+mod Leafing
 mod Shown
 mod Grown
 mod Outcomes

@@ -7,6 +7,7 @@ use Rattle.pieces.proofs.Paths.{length-places}
 use Rattle.partial_keys.specs.Shows.{ShowsPiece}
 use Rattle.compound_node.specs.Nodes.{NodeView, head_of, piece, height_of, IsLawfulNode}
 use Rattle.compound_node.specs.declared.entries.Entry.TheVariants.{Leaf, Node}
+use Rattle.record_words.specs.Leaf.{up_to_key}
 use Rattle.record_words.specs.Node.{HasNodeWords, node_words}
 use Rattle.tries.specs.Keys.{IsParted}
 use Rattle.tries.specs.Tree.{Subtrie, Tree, leaf, node, fork, subtrie, first_position, IsFork, IsLower, IsFit}
@@ -18,9 +19,10 @@ use Rattle.versions.specs.State.{Links}
 use Rattle.versions.proofs.Heaps.{determined, leaf_parts, node_parts}
 use Rattle.rowex_core.specs.Reading.{node_words_of, leaf_of, IsPacked}
 use Rattle.rowex_core.specs.Cores.{heap_of}
-use Rattle.rowex_core.proofs.Reading.{node_is, leaf_is}
+use Rattle.rowex_core.proofs.Reading.{node_is}
 use Rattle.replay_trees.proofs.Lists.{all_parts}
-use Rattle.replay_trees.proofs.Small.{leaf_small, node_small}
+use Rattle.replay_trees.proofs.Leafing.{leaf_is}
+use Rattle.replay_trees.proofs.Small.{node_small}
 use Rattle.replay_trees.specs.Versions.{AreWordsOf, IsSpelled}
 use Rattle.replay_trees.specs.Parts.{IsForkedFrom, ShowsPart, IsLeafAt, SpellsNode}
 
@@ -51,12 +53,12 @@ module _ (nodes leaves : List (List ℕ)) (words : Rec → List ℕ) (are : AreW
 
   leaf_packed : (n : ℕ) (pair : List ℕ × ℕ) → IsLeafAt leaves n pair → IsPacked (a_leaf n) (words (a_leaf n))
   unfolding IsPacked
-  leaf_packed n pair at = (pair, at.has, at.spelling ∙ sym (are.leaves_are n at.in_table))
+  leaf_packed n pair at = (pair, at.has, at.spelling ∙ sym (ap up_to_key (are.leaves_are n at.in_table)))
 
   pub leaf_part : (least n : ℕ) (pair : List ℕ × ℕ) → IsLeafAt leaves n pair → ShowsPart nodes leaves words least (Place (Leaf n)) (leaf n pair.0 pair.1)
   leaf_part least n pair at = record {
     subtrie_is = refl;
-    shown = ap leaf_of (are.leaves_are n at.in_table) ∙ leaf_is pair (get_or leaves n []) (leaf_small pair (get_or leaves n []) at.has at.spelling) at.has at.spelling;
+    shown = ap leaf_of (are.leaves_are n at.in_table) ∙ leaf_is pair (get_or leaves n []) at.has at.spelling;
     local = at.has.key;
     built = tt;
     from = tt;
@@ -65,7 +67,7 @@ module _ (nodes leaves : List (List ℕ)) (words : Rec → List ℕ) (are : AreW
 
   leaf_spelled : (n : ℕ) → IsSpelled nodes leaves words (a_leaf n) → (pair : List ℕ × ℕ) × IsLeafAt leaves n pair
   unfolding IsPacked
-  leaf_spelled n s = (s.1.0, record { in_table = s.0; has = s.1.1; spelling = s.1.2 ∙ are.leaves_are n s.0 })
+  leaf_spelled n s = (s.1.0, record { in_table = s.0; has = s.1.1; spelling = s.1.2 ∙ ap up_to_key (are.leaves_are n s.0) })
 
   pub no_leaf : (least n : ℕ) (t : Tree) → ((pair : List ℕ × ℕ) → ¬ (IsLeafAt leaves n pair)) → ¬ (ShowsPart nodes leaves words least (Place (Leaf n)) t)
   no_leaf least n (leaf o k v) none part =

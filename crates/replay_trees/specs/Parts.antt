@@ -7,7 +7,7 @@ use Rattle.compound_node.specs.declared.halves.Cut.{Cut}
 use Rattle.compound_node.specs.declared.halves.Half.{Half}
 use Rattle.pieces.specs.Piece.{Place}
 use Rattle.record_words.specs.Node.{HasNodeWords, node_words}
-use Rattle.record_words.specs.Leaf.{HasLeafWords, leaf_words}
+use Rattle.record_words.specs.Leaf.{HasLeafWords, leaf_words, up_to_key}
 use Rattle.tries.specs.Tree.{Subtrie, Tree, leaf, node, fork, subtrie, IsBuilt}
 use Rattle.tries.specs.Content.{items, IsLocal}
 use Rattle.versions.specs.declared.Rec.{Rec}
@@ -66,11 +66,11 @@ pub record HasGrown (nodes leaves : List (List ℕ)) (good : Bool) (old new : Li
   pub room : HasMarks nodes leaves new
   pub longer : good ≡ true → length old.items.items < length new.items.items
 
--- a record of the table whose words spell this leaf
+-- a record of the table whose words up to the end of its key spell this leaf
 pub record IsLeafAt (leaves : List (List ℕ)) (n : ℕ) (pair : List ℕ × ℕ) : Type 0 where
   pub in_table : n < length leaves
   pub has : HasLeafWords pair
-  pub spelling : leaf_words pair ≡ slice_index_or leaves n []
+  pub spelling : leaf_words pair ≡ up_to_key (slice_index_or leaves n [])
 
 -- A leaf was added exactly where the record spells one.
 abbrev pub AddsLeaf : List (List ℕ) → ℕ → Bool → Linked → Linked → Type 0
