@@ -3,7 +3,7 @@ use Rattle.std.proofs.Common.{◌≡◌, ◌↔◌, ℕ, List, Some, None, Resul
 use Rattle.std.proofs.lemmas.Option.{same_Some, none-some}
 use Rattle.record_words.specs.Reading.{IsReading}
 use Rattle.record_words.specs.Node.{HasNodeWords, node_words}
-use Rattle.record_words.specs.Leaf.{HasLeafWords, leaf_words}
+use Rattle.record_words.specs.Leaf.{HasLeafWords, leaf_words, up_to_key}
 use Rattle.record_words.specs.declared.WordFault.{WordFault}
 use Rattle.compound_node.specs.Nodes.{NodeView}
 use Rattle.versions.specs.declared.Rec.{Rec}
@@ -21,9 +21,9 @@ pub packed_node : (words : List ℕ) (answer : Result NodeView WordFault) → Is
 unfolding IsPacked
 packed_node words answer h n = spelled HasNodeWords node_words words answer h
 
-pub packed_leaf : (words : List ℕ) (answer : Result (List ℕ × ℕ) WordFault) → IsReading HasLeafWords leaf_words words answer → (n : ℕ) → (is_ok answer ≡ true) ↔ IsPacked (a_leaf n) words
+pub packed_leaf : (words : List ℕ) (answer : Result (List ℕ × ℕ) WordFault) → IsReading HasLeafWords leaf_words (up_to_key words) answer → (n : ℕ) → (is_ok answer ≡ true) ↔ IsPacked (a_leaf n) words
 unfolding IsPacked
-packed_leaf words answer h n = spelled HasLeafWords leaf_words words answer h
+packed_leaf words answer h n = spelled HasLeafWords leaf_words (up_to_key words) answer h
 
 -- a leaf record's words, where the table has it
 pub leaf_is_packed : (s : RecordsView) (r : Rec) (n : ℕ) (words : List ℕ) → r ≡ a_leaf n → words_in s (a_leaf n) ≡ Some words → (b : Bool) →
