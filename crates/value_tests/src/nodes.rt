@@ -417,10 +417,37 @@ fn leaves_and_nodes_have_their_words(rt: HostRuntime) {
     }
 }
 
-// Of a node: a number, an unused position, an unused sparse partial key, an unused entry and a lower bit that are off. Of a leaf: a
-// byte behind the key and a length.
+/// What the leaf of the key a becomes where one of its words is another: the word's place, the word, and the key that is spelled, if
+/// any. A length above 240 is none of a key, and in a word with bytes of the key those behind it are 0; the words behind may be any.
+const OTHER_LEAVES: [(usize, u64, Option<&[u8]>); 10] = [
+    (1, 0, Some(b"")),
+    (1, 8, Some(b"a\0\0\0\0\0\0\0")),
+    (1, 241, None),
+    (1, u64::MAX, None),
+    (2, 0x6200_0000_0000_0000, Some(b"b")),
+    (2, 0x6101_0000_0000_0000, None),
+    (2, 0x6100_0000_0000_0001, None),
+    (3, 1, Some(b"a")),
+    (3, u64::MAX, Some(b"a")),
+    (31, 1, Some(b"a")),
+];
+
 #[test]
-fn other_words_are_refused(rt: HostRuntime) {
+fn leaves_are_read_up_to_the_end_of_their_keys(rt: HostRuntime) {
+    for (at, word, want) in OTHER_LEAVES {
+        let mut words = words_of_leaf(b'a', 5);
+        words[at] = word;
+        match (unpack_leaf(&words), want) {
+            (Ok(leaf), Some(bytes)) => assert!(rt; leaf == (key(&rt, bytes), 5), "{word} at {at}"),
+            (Err(_), None) => {}
+            _ => panic!(rt; "{word} at {at}"),
+        }
+    }
+}
+
+// A number, an unused position, an unused sparse partial key, an unused entry and a lower bit that are off.
+#[test]
+fn other_words_of_nodes_are_refused(rt: HostRuntime) {
     for (at, word) in [
         (0, 0x1_0204),
         (2, 0),
@@ -431,11 +458,6 @@ fn other_words_are_refused(rt: HostRuntime) {
         let mut words = words_of_three();
         words[at] = word;
         assert!(rt; unpack_node(&words).is_err(), "at {at}");
-    }
-    for (at, word) in [(31, 1), (1, 241)] {
-        let mut words = words_of_leaf(b'a', 5);
-        words[at] = word;
-        assert!(rt; unpack_leaf(&words).is_err(), "at {at}");
     }
     let mut head = [0; HEAD_WORDS];
     assert!(rt; unpack_head(&head).is_err());

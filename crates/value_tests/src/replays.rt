@@ -254,6 +254,35 @@ fn a_short_record_has_room_for_eight_bytes(rt: HostRuntime) {
     expect_all(&rt, &mut replay, &SHORT);
 }
 
+// The words behind the key may be any, but no byte behind it in its last word.
+const SPELLED: [Line; 9] = [
+    (0, Step::Claim(LEAF, 0), true),
+    (0, Step::Fill(LEAF, 1, 5), true),
+    (0, Step::Fill(LEAF, 2, 1), true),
+    (0, Step::Fill(LEAF, 4, 7), true),
+    (0, Step::Fill(LEAF, 3, 0x6101_0000_0000_0000), true),
+    (0, Step::Ready(LEAF), false),
+    (0, Step::Fill(LEAF, 3, 0x6100_0000_0000_0000), true),
+    (0, Step::Ready(LEAF), true),
+    (0, Step::Lock(Target::Anchor, 2), true),
+];
+
+#[test]
+fn what_stands_behind_a_key_says_nothing(rt: HostRuntime) {
+    let mut replay = begun(&rt, rt.alloc(), Layout::of(1, 1, 1));
+    expect_all(&rt, &mut replay, &SPELLED);
+    expect_all(&rt, &mut replay, &ONE_LEAF);
+    expect_pairs(&rt, rt.alloc(), &replay, 1, &[(b'a', 5)]);
+    expect_all(
+        &rt,
+        &mut replay,
+        &[
+            (0, Step::LoadFixed(LEAF, 4, 7), true),
+            (0, Step::LoadFixed(LEAF, 4, 0), false),
+        ],
+    );
+}
+
 /// The words of a reference to node 0 and to node 1, each of height 1.
 const NODE_0: u64 = 17_179_869_186;
 
