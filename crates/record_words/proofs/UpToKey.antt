@@ -1,14 +1,13 @@
 -- The words of a leaf record up to the end of its key.
-use Rattle.std.proofs.Common.{ℕ, ◌≡◌, ◌+◌, ◌-◌, ◌^◌, ◌<◌, ◌≤◌, arith, List, get_or, length, ◌⊎◌, inl, inr, ⊎_elim, if◌then◌else◌, refl, sym, ap, ◌∙◌, lit<}
-use Rattle.std.specs.Prelude.{All, nat_lt}
+use Rattle.std.proofs.Common.{ℕ, ◌≡◌, ◌+◌, ◌-◌, ◌<◌, ◌≤◌, arith, List, get_or, length, ⊎_elim, if◌then◌else◌, refl, sym, ap, ◌∙◌, lit<}
+use Rattle.std.specs.Prelude.{nat_lt}
 use Rattle.std.proofs.lemmas.Bool.{cases_lt, lt-ltb, le-ltb}
 use Rattle.std.proofs.lemmas.List.{get_or_past}
-use Rattle.std.proofs.lemmas.List.Elements.{All-get_or, All-from_get_or}
 use Rattle.std.proofs.lemmas.List.FromFn.{get_or-map-range_with_len, length-map-range_with_len}
 use Rattle.record_words.specs.declared.TheConstants.{LEAF_FIELDS}
 use Rattle.record_words.specs.Leaf.{key_word, leaf_words, up_to_key, words_of_key}
 use Rattle.record_words.proofs.Leaves.{leaf_words_made, leaf_words_parts}
-use Rattle.record_words.proofs.Unused.{key_word_past, leaf_word_past}
+use Rattle.record_words.proofs.Unused.{key_word_past}
 
 module _ (words : List ℕ) where
   -- where the words of its key end
@@ -42,18 +41,6 @@ module _ (words : List ℕ) where
 
   pub up_to_key_size : get_or (up_to_key words) 1 0 ≡ get_or words 1 0
   up_to_key_size = up_to_key_before 1 (omega arith) (lit< tt)
-
--- they are no greater
-pub up_to_key_small : (words : List ℕ) → All (λ w. w < 2 ^ 64) words → All (λ w. w < 2 ^ 64) (up_to_key words)
-up_to_key_small words small = All-from_get_or (λ w. w < 2 ^ 64) (up_to_key words) 0
-    (λ i inside. ⊎_elim
-    (λ (before : i < end words). rw (up_to_key_before words i before (omega (arith, inside, up_to_key_long words))) (at i (cases_lt i (length words))))
-    (λ (past : end words ≤ i). rw (up_to_key_past words i past) (lit< tt))
-    (cases_lt i (end words)))
-  where
-    at : (i : ℕ) → (i < length words) ⊎ (length words ≤ i) → get_or words i 0 < 2 ^ 64
-    at i (inl inside) = All-get_or (λ w. w < 2 ^ 64) words i 0 inside small
-    at i (inr past) = rw (get_or_past words i 0 past) (lit< tt)
 
 -- Words that have the three parts of a leaf, whatever stands behind its key, are those of the leaf up to there.
 pub spells_up_to_key : (leaf : List ℕ × ℕ) (words : List ℕ) → get_or words 0 0 ≡ leaf.1 → get_or words 1 0 ≡ length leaf.0 →

@@ -3,7 +3,6 @@ mod Lists
 mod Steps
 mod Keys
 mod Small
-mod Leafing
 mod Shown
 mod Grown
 mod Outcomes

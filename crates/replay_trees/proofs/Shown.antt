@@ -21,7 +21,7 @@ use Rattle.rowex_core.specs.Reading.{node_words_of, leaf_of, IsPacked}
 use Rattle.rowex_core.specs.Cores.{heap_of}
 use Rattle.rowex_core.proofs.Reading.{node_is}
 use Rattle.replay_trees.proofs.Lists.{all_parts}
-use Rattle.replay_trees.proofs.Leafing.{leaf_is}
+use Rattle.rowex_core.proofs.Leafing.{leaf_is}
 use Rattle.replay_trees.proofs.Small.{node_small}
 use Rattle.replay_trees.specs.Versions.{AreWordsOf, IsSpelled}
 use Rattle.replay_trees.specs.Parts.{IsForkedFrom, ShowsPart, IsLeafAt, SpellsNode}

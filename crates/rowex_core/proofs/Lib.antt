@@ -1,6 +1,7 @@
 -- The lemmas of the crate.
 pub mod Lists
 pub mod Reading
+pub mod Leafing
 pub mod Sharing
 pub mod Publishing
 pub mod Frames

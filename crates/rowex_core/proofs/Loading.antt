@@ -19,7 +19,8 @@ use Rattle.rowex_core.specs.Cores.{Core, IsLawful, IsWhole, heap_of, bare}
 use Rattle.rowex_core.specs.Words.{record_word}
 use Rattle.rowex_core.specs.Events.{IsFixedOffset}
 use Rattle.rowex_core.specs.Knowing.{StoodBetween, IsFact}
-use Rattle.rowex_core.proofs.Reading.{node_is, entry_at_is, fixed_word_is, leaf_is, leaf_size_is}
+use Rattle.rowex_core.proofs.Leafing.{leaf_is, leaf_size_is}
+use Rattle.rowex_core.proofs.Reading.{node_is, entry_at_is, fixed_word_is}
 
 -- the core without the words: versions, lives and pins
 abbrev pub view : Core → State
@@ -119,7 +120,7 @@ fixed_fact c law since reach r offset fits = (
         (sym (fixed_word_is v (c.words (a_node n)) (law.records.sized (a_node n)).1 has same (offset - 1) (let a = f.0 in let b = f.1 in omega arith)) ∙ sym (later_word c (a_node n) offset f.0))
     go (a_leaf n) (leaf m k v) f r i (p, has, same) = λ before.
         let words = c.words (a_leaf n) in
-        let e = sym i ∙ (ap (λ z. leaf_of (c.words (a_leaf z))) (sym (leaf_number r)) ∙ leaf_is p words (law.records.sized (a_leaf n)).1 has same) in
+        let e = sym i ∙ (ap (λ z. leaf_of (c.words (a_leaf z))) (sym (leaf_number r)) ∙ leaf_is p words has same) in
         let key : length k ≡ get_or words 1 0 = ap (λ (z : LeafWords). length z.key) e ∙ sym (leaf_size_is p words same) in
         ap (λ (z : LeafWords). get_or (leaf_words (z.key, z.value)) (offset - 1) 0) e ∙
         (ap (λ z. get_or z (offset - 1) 0) same ∙

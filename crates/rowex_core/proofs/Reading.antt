@@ -2,8 +2,6 @@
 use Rattle.std.proofs.Common.{◌≡◌, ◌⊎◌, inl, inr, ⊎_elim, ℕ, zero, suc, ◌+◌, ◌-◌, ◌*◌, ◌/◌, ◌%◌, ◌^◌, ◌<◌, ◌≤◌, List, [], ◌∷◌, ◌++◌, length, get_or, take, drop, map, Option, Some, None, nat_lt, eqb, ltb, if◌then◌else◌, true, false, refl, sym, ap, ap₂, ◌∙◌, arith, lit<, length-take, get_or-take, get_or-drop, length-append}
 use Rattle.std.specs.Prelude.{All, slice_get}
 use Rattle.std.specs.Option.{unwrap_or}
-use Rattle.std.specs.Int.{to_be_bytes, w64}
-use Rattle.std.specs.Int.{byte_at, bytes_high_first}
 use Rattle.std.proofs.lemmas.Bool.{eq-eqb, ne_eqb, cases_lt, lt-ltb, le-ltb}
 use Rattle.std.proofs.lemmas.List.{ext_get_or, get_or_past, take_at, drop_at, length-take-le, length-map, get_or-map}
 use Rattle.std.proofs.lemmas.List.FromFn.{length-map-range_with_len, get_or-map-range_with_len}
@@ -17,19 +15,15 @@ use Rattle.partial_keys.specs.Shown.{piece_of}
 use Rattle.pieces.specs.Piece.{Place, Fork, size, places}
 use Rattle.record_words.specs.Entry.{HasEntryWord, entry_word}
 use Rattle.record_words.specs.Node.{HasNodeWords, head_words, entry_words, node_words}
-use Rattle.record_words.specs.Leaf.{HasLeafWords, leaf_words, up_to_key, IsBytesOf}
 use Rattle.record_words.specs.Packed.{fixed_words, ArePositionsOf, AreRowsOf}
 use Rattle.record_words.proofs.Entries.{length-entry_words, entry_words_at}
 use Rattle.record_words.proofs.Fixing.{AreFixed, fixed_words_parts}
 use Rattle.record_words.proofs.Packings.{positions_from_parts, same_positions, rows_from_parts, same_rows}
 use Rattle.record_words.proofs.Lawful.{column-lt, row-lt}
-use Rattle.record_words.proofs.Leaves.{key_of_bytes, leaf_words_parts}
-use Rattle.record_words.proofs.Bytes.{key_word-bytes}
-use Rattle.record_words.proofs.UpToKey.{up_to_key_before, up_to_key_size, up_to_key_small, up_to_key_value}
 use Rattle.tries.specs.Tree.{Subtrie}
 use Rattle.tries.specs.Place.{entry_at}
-use Rattle.versions.specs.Heap.{NodeWords, LeafWords}
-use Rattle.rowex_core.specs.Reading.{entry_of, positions_in, rows_in, fixed_of, entries_of, node_words_of, bytes_in, leaf_of}
+use Rattle.versions.specs.Heap.{NodeWords}
+use Rattle.rowex_core.specs.Reading.{entry_of, positions_in, rows_in, fixed_of, entries_of, node_words_of}
 
 -- Entries
 
@@ -179,85 +173,3 @@ module _ (view : NodeView) (words : List ℕ) (small : All (λ w. w < 2 ^ 64) wo
   -- and each fixed word is that of its columns, rows and height
   pub fixed_word_is : (i : ℕ) → i < 25 → get_or words i 0 ≡ get_or (fixed_words (length view.rows) view.height view.columns view.rows) i 0
   fixed_word_is i h = sym (get_or-take 25 words i 0 h) ∙ ap (λ z. get_or z i 0) (sym head_is)
-
--- Leaves
-
-byte_at_small : (k n : ℕ) → byte_at k n < 256
-byte_at_small zero n = omega arith
-byte_at_small (suc k) n = omega arith
-
-byte_small : (k n i : ℕ) → get_or (bytes_high_first k n) i 0 < 256
-byte_small zero n i = lit< tt
-byte_small (suc k) n zero = byte_at_small k n
-byte_small (suc k) n (suc i) = byte_small k n i
-
-same_leaf : {k l : List ℕ} {v w : ℕ} → k ≡ l → v ≡ w → ◌≡◌ {A = LeafWords} (record { key = k; value = v }) (record { key = l; value = w })
-same_leaf a b = rw (a, b) refl
-
-byte_of : List ℕ → ℕ → ℕ
-byte_of words i = get_or (to_be_bytes w64 (get_or (drop 2 words) (i / 8) 0)) (i % 8) 0
-
-byte_at_is : (words : List ℕ) (i : ℕ) → i < 240 → get_or (bytes_in (drop 2 words)) i 0 ≡ byte_of words i
-unfolding byte_of
-byte_at_is words i h = get_or-map-range_with_len (λ i. get_or (to_be_bytes w64 (get_or (drop 2 words) (i / 8) 0)) (i % 8) 0) 0 240 i i 0 h (let e : 0 + i ≡ i = omega arith in e)
-
-byte_of_small : (words : List ℕ) (i : ℕ) → byte_of words i < 256
-unfolding byte_of
-byte_of_small words i = byte_small 8 (get_or (drop 2 words) (i / 8) 0) (i % 8)
-
--- the words of a leaf are read as that leaf
-whole_is : (pair : List ℕ × ℕ) (words : List ℕ) → All (λ w. w < 2 ^ 64) words → HasLeafWords pair → leaf_words pair ≡ words → leaf_of words ≡ record { key = pair.0; value = pair.1 }
-unfolding leaf_of
-whole_is pair words small has same = same_leaf (key_of_bytes (bytes_in (drop 2 words)) words pair (get_or words 1 0) of bytes_small has (sym same) refl) (leaf_words_parts pair words (sym same)).value
-  where
-    bytes_small : (i : ℕ) → get_or (bytes_in (drop 2 words)) i 0 < 256
-    bytes_small i = ⊎_elim
-        (λ (h : i < 240). rw (byte_at_is words i h) (byte_of_small words i))
-        (λ (h : 240 ≤ i). rw (get_or_past (bytes_in (drop 2 words)) i 0 (let l = length-map-range_with_len (λ i. get_or (to_be_bytes w64 (get_or (drop 2 words) (i / 8) 0)) (i % 8) 0) 0 240 in omega arith)) (lit< tt)) (cases_lt i 240)
-
-    of : IsBytesOf (bytes_in (drop 2 words)) (take 30 (drop 2 words))
-    of = record {
-      count = length-map-range_with_len (λ i. get_or (to_be_bytes w64 (get_or (drop 2 words) (i / 8) 0)) (i % 8) 0) 0 240;
-      words_are = λ j h. key_word-bytes (bytes_in (drop 2 words)) j (get_or (take 30 (drop 2 words)) j 0)
-          (small_at (take 30 (drop 2 words)) (All-take (λ w. w < 2 ^ 64) 30 (drop 2 words) (All-drop (λ w. w < 2 ^ 64) 2 words small)) j)
-          (λ i l. get_or-map-range_with_len (λ i. get_or (to_be_bytes w64 (get_or (drop 2 words) (i / 8) 0)) (i % 8) 0) 0 240 (8 * j + i) (8 * j + i) 0 (omega arith) (omega arith) ∙
-          ap₂ (λ x y. get_or (to_be_bytes w64 x) y 0) (ap (λ z. get_or (drop 2 words) z 0) (let e : (8 * j + i) / 8 ≡ j = omega arith in e) ∙ sym (get_or-take 30 (drop 2 words) j 0 h)) (let e : (8 * j + i) % 8 ≡ i = omega arith in e));
-    }
-
--- words are read as those up to the end of their key
-module _ (words : List ℕ) (short : get_or words 1 0 ≤ 240) where
-  abbrev key_size : ℕ
-  key_size = get_or words 1 0
-
-  abbrev front : List ℕ
-  front = up_to_key words
-
-  long : (words : List ℕ) (n : ℕ) → n ≤ 240 → length (take n (bytes_in (drop 2 words))) ≡ n
-  long words n few = length-take-le n (bytes_in (drop 2 words)) (let l = length-map-range_with_len (λ i. get_or (to_be_bytes w64 (get_or (drop 2 words) (i / 8) 0)) (i % 8) 0) 0 240 in omega (arith, few, l))
-
-  key_word_same : (i : ℕ) → i < key_size → get_or (drop 2 words) (i / 8) 0 ≡ get_or (drop 2 front) (i / 8) 0
-  key_word_same i low = get_or-drop 2 words (i / 8) 0 ∙ (sym (up_to_key_before words (2 + i / 8) (omega (arith, low)) (omega (arith, low, short))) ∙ sym (get_or-drop 2 front (i / 8) 0))
-
-  key_byte_same : (i : ℕ) → i < key_size → get_or (bytes_in (drop 2 words)) i 0 ≡ get_or (bytes_in (drop 2 front)) i 0
-  unfolding byte_of
-  key_byte_same i low =
-      byte_at_is words i (omega (arith, low, short)) ∙ (ap (λ w. get_or (to_be_bytes w64 w) (i % 8) 0) (key_word_same i low) ∙ sym (byte_at_is front i (omega (arith, low, short))))
-
-  read_up_to_key : leaf_of words ≡ leaf_of front
-  unfolding leaf_of
-  read_up_to_key = same_leaf
-      (ext_get_or 0 (take key_size (bytes_in (drop 2 words))) (take (get_or front 1 0) (bytes_in (drop 2 front)))
-      (long words key_size short ∙ (sym (up_to_key_size words) ∙ sym (long front (get_or front 1 0) (omega (arith, short, up_to_key_size words)))))
-      (λ i inside. let low : i < key_size = omega (arith, inside, long words key_size short) in
-      get_or-take key_size (bytes_in (drop 2 words)) i 0 low ∙ (key_byte_same i low ∙ sym (get_or-take (get_or front 1 0) (bytes_in (drop 2 front)) i 0 (omega (arith, low, up_to_key_size words))))))
-      (sym (up_to_key_value words))
-
--- the length of a leaf's key is its second word
-pub leaf_size_is : (pair : List ℕ × ℕ) (words : List ℕ) → leaf_words pair ≡ up_to_key words → get_or words 1 0 ≡ length pair.0
-leaf_size_is pair words same = sym (up_to_key_size words) ∙ (leaf_words_parts pair (up_to_key words) (sym same)).size
-
--- the words that a leaf has are read as that leaf, whatever stands behind its key
-pub leaf_is : (pair : List ℕ × ℕ) (words : List ℕ) → All (λ w. w < 2 ^ 64) words → HasLeafWords pair → leaf_words pair ≡ up_to_key words → leaf_of words ≡ record { key = pair.0; value = pair.1 }
-leaf_is pair words small has same =
-    read_up_to_key words (let size = leaf_size_is pair words same in let short = has.key.short in omega (arith, size, short)) ∙
-    whole_is pair (up_to_key words) (up_to_key_small words small) has same

@@ -1,14 +1,11 @@
 -- The words of one record changed at one offset.
-use Rattle.std.proofs.Common.{◌≡◌, ◌≢◌, ◌⊎◌, inl, inr, ℕ, ◌-◌, ◌^◌, ◌<◌, ◌≤◌, arith, List, set, true, false, sym, ◌∙◌, subst}
+use Rattle.std.proofs.Common.{◌≡◌, ◌≢◌, ◌⊎◌, inl, inr, ℕ, ◌-◌, ◌^◌, ◌<◌, List, set, true, false, sym, ◌∙◌, subst}
 use Rattle.std.proofs.lemmas.Bool.{cases_Bool, false≢true}
 use Rattle.std.proofs.lemmas.List.Elements.{All-set}
 use Rattle.std.proofs.Math.ListN.{length-set}
 use Rattle.versions.specs.declared.Rec.{Rec}
 use Rattle.versions.specs.Steps.{same_rec}
 use Rattle.versions.proofs.Legal.{same_rec_refl, same_rec_true}
-use Rattle.std.proofs.lemmas.List.{get_or-set_other}
-use Rattle.record_words.specs.declared.layout.Layout.{Layout}
-use Rattle.versions.specs.declared.Rec.TheVariants.{Node as a_node, Leaf as a_leaf}
 use Rattle.rowex_core.specs.Cores.{IsSized}
 use Rattle.rowex_core.specs.Events.{with_word}
 

@@ -1,5 +1,5 @@
 -- The state of the shared words and of all versions so far.
-use Rattle.std.specs.Prelude.{◌≡◌, ◌⊎◌, ℕ, ◌+◌, ◌<◌, ◌≤◌, ◌^◌, List, length, get_or, All, Option, Some}
+use Rattle.std.specs.Prelude.{◌≡◌, ◌⊎◌, ℕ, ◌<◌, ◌≤◌, ◌^◌, List, length, get_or, All, Option, Some}
 use Rattle.record_words.specs.declared.TheConstants.{EPOCHS, NODE_WORDS, NODE_FIELDS, LEAF_FIELDS}
 use Rattle.record_words.specs.declared.layout.Layout.{Layout}
 use Rattle.versions.specs.declared.Rec.{Rec}

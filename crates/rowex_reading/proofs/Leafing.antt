@@ -29,7 +29,7 @@ use Rattle.rowex_table.specs.Runs.{Steps, silent}
 use Rattle.rowex_table.specs.Seats.{SeatView, TableView}
 use Rattle.rowex_core.proofs.Owning.{recalls}
 use Rattle.rowex_core.specs.Reading.{IsPacked}
-use Rattle.rowex_core.proofs.Reading.{leaf_is, leaf_size_is}
+use Rattle.rowex_core.proofs.Leafing.{leaf_is, leaf_size_is}
 use Rattle.rowex_walks.specs.Scan.{EntryStoodSince, IsRead}
 use Rattle.rowex_walks.proofs.Search.{leaf_now}
 use Rattle.rowex_walks.proofs.Scans.{leaf_of}
@@ -118,7 +118,7 @@ module _ (k j : Known) (later : IsLater k j) (n m : ℕ) (led : IsLedTo k m (Lea
       go (key, value, is_leaf) =
           let st : Stands c.past led_there.0 (a_leaf n) (leaf n key value) = subst (λ z. Stands c.past led_there.0 (a_leaf n) z) is_leaf (stands_in c k led_there.4) in
           let now = leaf_now (view c) lawful.core.state m (reach c k lawful before m led.0) led_there.0 n n key value led_there.2 (le_trans led_there.3 (seen_within lawful before)) st in
-          subst (λ (z : LeafWords). IsRead (seen c j) m n z.key z.value) (sym now ∙ leaf_is pair (c.words (a_leaf n)) (lawful.records.sized (a_leaf n)).1 has same)
+          subst (λ (z : LeafWords). IsRead (seen c j) m n z.key z.value) (sym now ∙ leaf_is pair (c.words (a_leaf n)) has same)
           (led_there.0, led_there.2, le_trans led_there.3 (seen_grown c later).longer, stands_seen c j st)
 
 -- The first words of a leaf have been loaded, with all that have bytes of its key, and the others are 0.

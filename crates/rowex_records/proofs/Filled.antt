@@ -1,16 +1,13 @@
 -- What filling a record comes to, making it ready, and giving it up.
-use Rattle.std.proofs.Common.{◌≡◌, ◌≢◌, ℕ, zero, suc, ◌+◌, ◌-◌, ◌<◌, ◌≤◌, List, [], ◌∷◌, ◌++◌, length, map, take, set, get_or, Bool, true, false, if◌then◌else◌, refl, sym, ap, subst, ◌∙◌, ⊎_elim, arith, add-one, get_or-take}
+use Rattle.std.proofs.Common.{◌≡◌, ◌≢◌, ℕ, zero, suc, ◌+◌, ◌-◌, ◌<◌, ◌≤◌, List, [], ◌∷◌, ◌++◌, length, map, take, set, get_or, Bool, true, false, if◌then◌else◌, refl, sym, ap, subst, ◌∙◌, arith, add-one, get_or-take}
 use Rattle.std.specs.Prelude.{All, Contains, not}
-use Rattle.std.proofs.lemmas.Bool.{cases_lt}
-use Rattle.std.proofs.lemmas.List.{ext_get_or, get_or-set_other, length-set, take_all, take_more, take_more_set}
+use Rattle.std.proofs.lemmas.List.{get_or-set_other, length-set, take_all, take_more, take_more_set}
 use Rattle.std.proofs.lemmas.List.Elements.{All-head, All-tail, All-weaker}
-use Rattle.record_words.specs.declared.layout.Layout.{Layout}
 use Rattle.record_words.specs.declared.TheConstants.{LEAF_FIELDS}
 use Rattle.record_words.specs.Leaf.{HasLeafWords, leaf_words, up_to_key, words_for}
 use Rattle.record_words.proofs.Leaves.{leaf_words_parts}
 use Rattle.record_words.proofs.UpToKey.{spells_up_to_key}
 use Rattle.versions.specs.declared.Rec.{Rec}
-use Rattle.versions.specs.declared.Rec.TheVariants.{Leaf as a_leaf}
 use Rattle.versions.specs.Steps.{same_rec}
 use Rattle.versions.proofs.Legal.{same_rec_true}
 use Rattle.rowex_core.specs.declared.event.Act.TheVariants.{Ready, Release}

@@ -35,7 +35,8 @@ use Rattle.rowex_core.specs.Sharing.{IsLocked, IsOwned}
 use Rattle.rowex_core.specs.Knowing.{Knows}
 use Rattle.rowex_core.proofs.Owning.{knows_all, recalls}
 use Rattle.rowex_core.specs.declared.known.Holding.TheVariants.{Ready}
-use Rattle.rowex_core.proofs.Reading.{node_is, leaf_is}
+use Rattle.rowex_core.proofs.Leafing.{leaf_is}
+use Rattle.rowex_core.proofs.Reading.{node_is}
 use Rattle.rowex_core.proofs.Publishing.{other_words}
 use Rattle.versions.specs.Trades.{IsOneOf}
 use Rattle.versions.proofs.Members.{of_left, of_right, all_of, map_of}
@@ -130,7 +131,7 @@ module _ (layout : Layout) (k : Known) (held : List Locked) (news : List Made) (
   pub made_leaf : (x : Item) → HasLeaf news x → IsNewLeaf (bare c) k.pass x
   made_leaf x (fresh, h, spelled) =
       let (fate, words) = stage.made (record { rec = a_leaf x.number; words = fresh }) h in
-      record { key = spelled.0.key; fate = fate; words = leaf_is (x.key, x.value) (c.words (a_leaf x.number)) (stage.lawful.records.sized (a_leaf x.number)).1 spelled.0 (spelled.1 ∙ ap up_to_key (sym words)) }
+      record { key = spelled.0.key; fate = fate; words = leaf_is (x.key, x.value) (c.words (a_leaf x.number)) spelled.0 (spelled.1 ∙ ap up_to_key (sym words)) }
 
   pub made_node : (m : ℕ) (view : NodeView) → IsOneOf (record { rec = a_node m; words = node_words view }) news → HasNodeWords view → view.height + first_position (piece view) ≤ 9 * MAX_BYTES →
       IsNewSubtrie (bare c) k.pass m (node_fixed view) (piece view)

@@ -30,7 +30,7 @@ use Rattle.rowex_core.specs.declared.known.Known.{Known}
 use Rattle.rowex_core.specs.declared.known.Owned.{Owned}
 use Rattle.rowex_core.specs.Cores.{FitsIn, word_count_of}
 use Rattle.rowex_core.specs.Reading.{IsPacked}
-use Rattle.rowex_core.proofs.Reading.{leaf_size_is}
+use Rattle.rowex_core.proofs.Leafing.{leaf_size_is}
 use Rattle.rowex_table.specs.Made.{IsLater, Made, held_as, recs_of}
 use Rattle.rowex_table.specs.Runs.{Runs, Does, InTurn}
 use Rattle.rowex_table.specs.Seats.{TableView, SeatView, IsSeatOf}

@@ -1,9 +1,8 @@
 -- The value, the length, and one more word of the key: these are the leaf's words up to the end of its key.
-use Rattle.std.proofs.Common.{rules, arith, subst, sym, refl, length, get_or, ℕ, ap, ◌≡◌, ◌∙◌, ◌+◌, ◌-◌, ◌<◌, ◌≤◌}
+use Rattle.std.proofs.Common.{rules, arith, subst, sym, refl, length, get_or, ap, ◌≡◌, ◌∙◌, ◌+◌, ◌-◌}
 use Rattle.versions.specs.declared.Rec.TheVariants.{Leaf as a_leaf}
-use Rattle.record_words.specs.Leaf.{leaf_words, words_for, words_of_key}
+use Rattle.record_words.specs.Leaf.{leaf_words, words_for}
 use Rattle.record_words.proofs.Leaves.{leaf_words_parts}
-use Rattle.rowex_table.specs.Rights.{IsClaimed}
 use Rattle.rowex_records.specs.Records.{Sets, SetsSome}
 use Rattle.rowex_records.proofs.SetAll.{set_claimed, sets_none, sets_more, sets_count, sets_leaf}
 use Rattle.rowex_records.proofs.filling.fill_leaf.Goals as goal

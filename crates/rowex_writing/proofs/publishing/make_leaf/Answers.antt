@@ -1,5 +1,5 @@
 -- A claim and its fills are the first record.
-use Rattle.std.proofs.Common.{◌∷◌, [], ◌++◌, subst, sym, ap, ◌∙◌, ◌≤◌, length, refl, arith}
+use Rattle.std.proofs.Common.{◌∷◌, [], ◌++◌, subst, sym, ap, ◌∙◌, length, arith}
 use Rattle.versions.specs.declared.Rec.TheVariants.{Leaf as a_leaf}
 use Rattle.rowex_records.specs.Claims.{AllMissedFrom}
 use Rattle.rowex_records.proofs.Claimed.{more_is_claimed}

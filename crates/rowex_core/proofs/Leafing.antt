@@ -9,9 +9,8 @@ use Rattle.std.proofs.lemmas.List.FromFn.{get_or-map-range_with_len, length-map-
 use Rattle.record_words.specs.Leaf.{HasLeafWords, key_word, leaf_words, up_to_key}
 use Rattle.record_words.proofs.Bytes.{key_word-bytes, same_key_bytes, small_byte}
 use Rattle.record_words.proofs.Leaves.{IsLeafOf, leaf_words_parts}
-use Rattle.record_words.proofs.UpToKey.{up_to_key_before, up_to_key_value}
+use Rattle.record_words.proofs.UpToKey.{up_to_key_before, up_to_key_size, up_to_key_value}
 use Rattle.rowex_core.specs.Reading.{bytes_in, leaf_of}
-use Rattle.rowex_core.proofs.Reading.{leaf_size_is}
 
 -- ---- a word of a key, and its bytes
 
@@ -38,6 +37,10 @@ byte_of_key key small i =
     rw (at, first) at (same_key_bytes (to_be_bytes w64 word) key 0 (i / 8) (small_byte word) small same (i % 8) (omega arith))
 
 -- ---- the leaf of a record's words
+
+-- the length of a leaf's key is its second word
+pub leaf_size_is : (pair : List ℕ × ℕ) (words : List ℕ) → leaf_words pair ≡ up_to_key words → get_or words 1 0 ≡ length pair.0
+leaf_size_is pair words same = sym (up_to_key_size words) ∙ (leaf_words_parts pair (up_to_key words) (sym same)).size
 
 module _ (pair : List ℕ × ℕ) (words : List ℕ) (has : HasLeafWords pair) (same : leaf_words pair ≡ up_to_key words) where
   parts : IsLeafOf pair (up_to_key words)
