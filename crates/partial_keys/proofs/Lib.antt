@@ -15,4 +15,5 @@ pub mod Cutting
 pub mod Closing
 pub mod Worked
 pub mod Windows
+pub mod Sliding
 pub mod Reaching

@@ -172,7 +172,7 @@ place_at bytes first i long small fits low =
 abbrev pub over : List ℕ → List ℕ → List ℕ
 over xs ys = zip2 less8 (sel_l (map (top 7) (zip2 below8 xs ys)) ys xs) ys
 
-one_over : (a b : ℕ) → a < 256 → b < 256 → less8 (cond (top 7 (below8 a b)) b a) b ≡ a - b
+pub one_over : (a b : ℕ) → a < 256 → b < 256 → less8 (cond (top 7 (below8 a b)) b a) b ≡ a - b
 one_over a b A B = go (ltb a b) refl
   where
     go : (t : Bool) → ltb a b ≡ t → less8 (cond (top 7 (cond t (2 ^ 8 - 1) 0)) b a) b ≡ a - b

@@ -1,5 +1,6 @@
 -- The lanes of a gathering by vectors.
-use Rattle.std.specs.Prelude.{ℕ, List, min, bit_and, bit_or, slice_index, ◌+◌, ◌-◌, ◌*◌, ◌/◌, ◌%◌}
+use Rattle.std.specs.Prelude.{ℕ, List, Bool, min, bit_and, bit_or, nat_le, nat_lt, slice_index, ◌+◌, ◌-◌, ◌*◌, ◌/◌, ◌%◌, ◌&&◌}
+use Rattle.key_bits.specs.Bits.{bit_of}
 use Rattle.partial_keys.specs.declared.gathering.TheConstants.{MASKS}
 
 -- the byte in which a position is, if it is one of a key's, and else a greater number
@@ -14,3 +15,7 @@ mask_lane p = slice_index MASKS (p * 7282 % 65536 / 4096)
 abbrev pub missed_lane : List ℕ → ℕ → ℕ → ℕ → ℕ → ℕ → ℕ
 missed_lane window first last i byte mask =
     bit_or (bit_and mask (255 - slice_index window (16 * (i / 16) + (byte + 256 - first) % 16))) (byte - last)
+
+-- the bit of a key at a position, if its byte is one of the sixteen from this one on
+abbrev pub bit_within : ℕ → List ℕ → ℕ → Bool
+bit_within first key p = bit_of key p && (nat_le first (p / 9) && nat_lt (p / 9) (first + 16))

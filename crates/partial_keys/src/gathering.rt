@@ -1,14 +1,14 @@
 //! Bits of a key gathered by vectors.
 
-ghost use Rattle.std.specs.Prelude.{[], ◌∷◌, ◌++◌, ◌≡◌, ◌%◌, ◌*◌, ◌+◌, ◌-◌, ◌<◌, ◌≤◌, ◌⊎◌, IsTrue, ℕ, eqb, length, map, slice_index, take};
+ghost use Rattle.std.specs.Prelude.{[], ◌∷◌, ◌++◌, ◌≡◌, ◌%◌, ◌*◌, ◌+◌, ◌-◌, ◌<◌, ◌≤◌, ◌⊎◌, IsTrue, ℕ, eqb, length, map, min, slice_index, take};
 ghost use Rattle.key_bits.specs.Bits.{bit_of};
 ghost use Rattle.key_bits.specs.Gather.{gathered};
 ghost use Rattle.key_bits.specs.Key.{with_zeros};
 ghost use Rattle.partial_keys.specs.Columns.{AreColumnLanes};
 ghost use Rattle.partial_keys.specs.Rows.{dense_of};
-ghost use Rattle.partial_keys.specs.Windows.{byte_lane, mask_lane, missed_lane};
+ghost use Rattle.partial_keys.specs.Windows.{bit_within, byte_lane, mask_lane, missed_lane};
 
-use key_bits::{Key, MAX_BYTES, extract};
+use key_bits::{Key, MAX_BYTES};
 use std::simd::prelude::*;
 
 /// At each fraction of nine, in sixteenths, that a position can have: its bit in its byte, and none for the first of the nine bits.
@@ -121,13 +121,51 @@ fn has_none_between(bytes: u8x32, from: u8, to: u8) -> bool
         == 0
 }
 
-/// The same bits, one after the other. Never inline: so the lanes go into memory only where columns are far apart.
+/// The same bits, sixteen bytes of the key after the other. Never inline: so the lanes go into memory only where columns are far apart.
 #[inline(never)]
 fn dense_far(lanes: u16x32, count: u8, key: &Key) -> u32
     requires { AreColumnLanes lanes count }
     ensures { result ≡ dense_of (take count lanes) (bit_of key.now) }
 {
-    extract(key, &lanes.to_array()[..count as usize])
+    let first = lanes.to_array()[0] as usize / 9;
+    let parts = (key.as_bytes().len().saturating_sub(first) + 15) / 16;
+    let mut missing = u8x32::splat(255);
+    for part in 0..parts {
+        missing = missing.simd_min(missed_from(lanes, first + 16 * part, key));
+    }
+    zeros(missing)
+}
+
+/// For each lane 0 exactly where the key has its bit, in one of the sixteen places from this one on, or in the last sixteen if those
+/// would be past the end of the places.
+#[inline(always)]
+fn missed_from(lanes: u16x32, from: usize, key: &Key) -> u8x32
+    requires lanes { length lanes ≡ 32 }
+    requires some { from < length key.now }
+    ensures whole { length result ≡ 32 }
+    ensures each { (i : ℕ) → i < 32 → eqb (slice_index result i) 0 ≡ bit_within (min from (MAX_BYTES - 16)) key.now (slice_index lanes i) }
+{
+    let first = from.min(MAX_BYTES - 16);
+    let last = (first + 15).min(key.as_bytes().len() - 1);
+    let bytes = bytes_at(lanes);
+    let missed = missed(
+        bytes,
+        masks_at(lanes),
+        window_at(key, first),
+        first as u8,
+        last as u8,
+    );
+    missed | before(bytes, first as u8)
+}
+
+/// How many bytes each lane is before this one.
+#[inline(always)]
+fn before(bytes: u8x32, first: u8) -> u8x32
+    requires { length bytes ≡ 32 }
+    ensures whole { length result ≡ 32 }
+    ensures each { (i : ℕ) → i < 32 → slice_index result i ≡ first - slice_index bytes i }
+{
+    u8x32::splat(first).saturating_sub(bytes)
 }
 
 /// 31 positions as lanes, with 65,535 behind them.
