@@ -34,7 +34,8 @@ pub fn fill_leaf<G: Gate>(
     requires range { number < table.now.layout.leaves }
     requires held { IsClaimed seat.old.known (a_leaf number) }
     requires room { words_for (length key.now) ≤ leaf_size table.now.layout number }
-    ensures fills { SetsSome table.now G.becomes (a_leaf number) (leaf_words (key.now, value)) (words_for (length key.now) - 1) (seat.old, gate.old) (seat.new, gate.new) }
+    ensures fills { SetsSome table.now G.becomes (a_leaf number) (leaf_words (key.now, value)) (words_for (length key.now) - 1)
+        (seat.old, gate.old) (seat.new, gate.new) }
     ensures filled { IsFilledLeaf seat.new.known number (key.now, value) }
     ensures steps { seat.new.known.steps ≤ seat.old.known.steps + 2 * LEAF_FIELDS }
 {

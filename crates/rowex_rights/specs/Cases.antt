@@ -48,7 +48,8 @@ MayPair =
 -- Upsert of a held key: a new leaf in the place of the old one. The old value is that of the old leaf.
 abbrev pub MayUpsert : Type 0
 MayUpsert =
-    (layout : Layout) (k : Known) (held : List Locked) (x : Item) (fresh : List ℕ) (j w value : ℕ) (at : Spot) → HasReady k held (made_of_leaf x fresh ∷ []) → SpellsLeaf x fresh →
+    (layout : Layout) (k : Known) (held : List Locked) (x : Item) (fresh : List ℕ) (j w value : ℕ) (at : Spot) →
+    HasReady k held (made_of_leaf x fresh ∷ []) → SpellsLeaf x fresh →
     (s : HoldsAt k held x.key (Leaf j) at) → FitsAt s (Leaf x.number) → IsLeafThere layout k held (made_of_leaf x fresh ∷ []) j x.key value → IsWord (Leaf x.number) w →
     Publishes layout k at w (replaced_change k.pass x) (Some value) (a_leaf j ∷ [])
 

@@ -36,7 +36,8 @@ Insertion =
 -- Normal insert: a copy of the node with the new leaf. The node goes.
 abbrev pub NormalInsert : Type 0
 NormalInsert =
-    (layout : Layout) (k : Known) (held : List Locked) (since : ℕ) (x : Item) (fresh : List ℕ) (p : ℕ) (l : Key) (n m w : ℕ) (words : List ℕ) (view : NodeView) (at : Spot) →
+    (layout : Layout) (k : Known) (held : List Locked) (since : ℕ) (x : Item) (fresh : List ℕ) (p : ℕ) (l : Key) →
+    (n m w : ℕ) (words : List ℕ) (view : NodeView) (at : Spot) →
     HasReady k held (made_of_node m view ∷ made_of_leaf x fresh ∷ []) → SpellsLeaf x fresh → HasFoundBelow k held since x p l n words →
     IsPartSubtrie (subtrie_affected p x.key (node_words_of words).subtrie) →
     IsBuiltAnew view → piece view ≡ subtrie_grown p x.key (Leaf x.number) (node_words_of words).subtrie →
@@ -46,7 +47,8 @@ NormalInsert =
 -- its place. That is an intermediate node, or, at the root, a new root. The old node goes.
 abbrev pub Overflow : Type 0
 Overflow =
-    (layout : Layout) (k : Known) (held : List Locked) (since : ℕ) (x : Item) (fresh : List ℕ) (p : ℕ) (l : Key) (n m w f : ℕ) (words : List ℕ) (view : NodeView) (at : Spot) →
+    (layout : Layout) (k : Known) (held : List Locked) (since : ℕ) (x : Item) (fresh : List ℕ) (p : ℕ) (l : Key) →
+    (n m w f : ℕ) (words : List ℕ) (view : NodeView) (at : Spot) →
     (a b : Subtrie) (d e : Entry) (us vs : List Made) → HasReady k held (made_of_node m view ∷ (us ++ (vs ++ made_of_leaf x fresh ∷ []))) →
     SpellsLeaf x fresh → HasFoundBelow k held since x p l n words →
     IsPartSubtrie (subtrie_affected p x.key (node_words_of words).subtrie) →
@@ -57,8 +59,10 @@ Overflow =
 -- The full node that stays whole beside the new leaf: a node of the two takes its place. None goes.
 abbrev pub StaysWhole : Type 0
 StaysWhole =
-    (layout : Layout) (k : Known) (held : List Locked) (since : ℕ) (x : Item) (fresh : List ℕ) (p : ℕ) (l : Key) (n m w : ℕ) (words : List ℕ) (view : NodeView) (at : Spot) →
-    HasReady k held (made_of_node m view ∷ made_of_leaf x fresh ∷ []) → SpellsLeaf x fresh → HasFoundBelow k held since x p l n words → FirstForkIsFrom p (node_words_of words).subtrie →
+    (layout : Layout) (k : Known) (held : List Locked) (since : ℕ) (x : Item) (fresh : List ℕ) (p : ℕ) (l : Key) →
+    (n m w : ℕ) (words : List ℕ) (view : NodeView) (at : Spot) →
+    HasReady k held (made_of_node m view ∷ made_of_leaf x fresh ∷ []) → SpellsLeaf x fresh → HasFoundBelow k held since x p l n words →
+    FirstForkIsFrom p (node_words_of words).subtrie →
     IsBuiltAnew view → piece view ≡ subtrie_forked (bit x.key p) p (Leaf x.number) (Place (Node n (node_words_of words).fixed.height)) →
     IsSpotOf k held x.key p n (Node m view.height) at → IsWord (Node m view.height) w → Publishes layout k at w (added_change k.pass x) None []
 
