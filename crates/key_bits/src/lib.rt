@@ -237,8 +237,17 @@ pub fn mismatch(a: &Key, b: &Key) -> Option<u16>
     ensures order { IfSome result (λ p. (slice_cmp nat_cmp a.now b.now ≡ Ordering.Less) ↔ (bit_of a.now p ≡ false)) }
     ensures keys { IsKey a.now × IsKey b.now }
 {
-    let xs = a.as_bytes();
-    let ys = b.as_bytes();
+    mismatch_in(a.as_bytes(), b.as_bytes())
+}
+
+/// The same of the bytes of two keys.
+pub fn mismatch_in(xs: &[u8], ys: &[u8]) -> Option<u16>
+    requires { IsKey xs.now × IsKey ys.now }
+    ensures none { IsNone result ↔ (xs.now ≡ ys.now) }
+    ensures first { IfSome result (IsFirstDifference xs.now ys.now) }
+    ensures bound { IfSome result (λ p. p < 9 * MAX_BYTES) }
+    ensures order { IfSome result (λ p. (slice_cmp nat_cmp xs.now ys.now ≡ Ordering.Less) ↔ (bit_of xs.now p ≡ false)) }
+{
     let common = xs.len().min(ys.len());
     let begin = 8 * same_eights(xs, ys, common / 8);
     for i in begin..common {

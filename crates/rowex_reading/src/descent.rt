@@ -7,11 +7,11 @@ ghost use Rattle.rowex_reading.specs.Possible.{IsPossible};
 ghost use Rattle.rowex_reading.specs.Seen.{since};
 ghost use Rattle.rowex_reading.specs.Ways.{IsWayOf, value_of};
 
-use crate::reading::{find_step, load_entry_from, load_leaf, load_root};
+use crate::reading::{find_step, load_entry_from, load_places, load_root};
 use arrayvec::ArrayVec;
 use compound_node::Entry;
 use insert_cases::Step;
-use key_bits::{Key, MAX_BYTES, mismatch};
+use key_bits::{Key, MAX_BYTES, mismatch_in};
 use rowex_core::{Gate, Rec};
 use rowex_table::{HotTable, TableSeat};
 
@@ -57,11 +57,12 @@ pub fn search_way<G: Gate>(
     loop {
         match entry {
             Entry::Leaf(number) => {
-                let leaf = load_leaf(table, seat, gate, number);
+                let mut places = [0; MAX_BYTES];
+                let (length, value) = load_places(table, seat, gate, number, &mut places);
                 return Found::Leaf {
                     number,
-                    value: leaf.1,
-                    mismatch: mismatch(key, &leaf.0),
+                    value,
+                    mismatch: mismatch_in(key.as_bytes(), &places[..length]),
                 };
             }
             Entry::Node { number, .. } => {

@@ -13,6 +13,5 @@ pub use along::{MOST_TURNS, TOGETHER, Turn, go_down, look_up_along};
 pub use descent::{Found, MOST_NODES, search_way};
 pub use lookup::look_up;
 pub use reading::{
-    enter_node, load_entry, load_entry_from, load_leaf, load_places, load_places_from, load_root,
-    load_value,
+    enter_node, load_entry, load_entry_from, load_places, load_places_from, load_root, load_value,
 };

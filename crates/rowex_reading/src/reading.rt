@@ -185,25 +185,6 @@ pub fn load_entry_from<G: Gate>(
     read_some(word)
 }
 
-/// Loads the key and the value of a leaf. Inline, so that a caller has the key where it was made.
-#[inline(always)]
-pub fn load_leaf<G: Gate>(
-    table: &HotTable,
-    seat: &mut TableSeat,
-    gate: &mut G,
-    number: u32,
-) -> (Key, u64)
-    requires reader { IsReader table.now seat.old }
-    requires led { (m : ℕ) × IsLedTo seat.old.known m (LeafEntry number) }
-    ensures reads { Reads table.now G.becomes 0 (leaf_loads result.0) (seat.old, gate.old) (seat.new, gate.new) }
-    ensures few { leaf_loads result.0 ≤ LEAF_FIELDS }
-    ensures leaf { (m : ℕ) → IsLedTo seat.old.known m (LeafEntry number) → Sure seat.new.known (λ s. IsRead s m number result.0 result.1) }
-{
-    let mut places = [0; MAX_BYTES];
-    let (length, value) = load_places(table, seat, gate, number, &mut places);
-    (Key::of_places(places, length), value)
-}
-
 /// Loads the value of a leaf, the length of its key, and the words that have bytes of the key, each of which goes at once to its
 /// place among these, which may have anything: the key's bytes stand in the first of them then. The words behind are not loaded, and
 /// the places of theirs stay: where all were 0 the places are the key's (`Key::of_places`), else the others mean nothing. Gives the

@@ -1,5 +1,7 @@
 -- The empty root, the root's entry, one node down, and the leaf.
-use Rattle.std.proofs.Common.{length, sym, ap, subst, arith}
+use Rattle.std.proofs.Common.{◌≡◌, ◌↔◌, IsNone, length, take, sym, ap, subst, arith}
+use Rattle.std.specs.Prelude.{IfSome}
+use Rattle.key_bits.specs.Bits.{IsFirstDifference}
 use Rattle.rowex_reading.specs.Seen.{since, RootIs}
 use Rattle.compound_node.specs.declared.entries.Entry.TheVariants.{Node}
 use Rattle.rowex_reading.proofs.Looking.{none_searched, none_found, at_root, at_led, leaf_searched}
@@ -38,25 +40,28 @@ loop-entry-init g c =
       going = going_first _ _ _ _ _ _ c.clear.ensures e.low e.root;
     }
 
-pub load_leaf-leaf-requires-clause-led : goal.load_leaf-leaf-requires-clause-led
-load_leaf-leaf-requires-clause-led g c = (since c.loop-entry.seat.known, at_led c.loop-entry.invariant.at _ c.in-Leaf.is)
+pub load_places-length-requires-clause-led : goal.load_places-length-requires-clause-led
+load_places-length-requires-clause-led g c = (since c.loop-entry.seat.known, at_led c.loop-entry.invariant.at _ c.in-Leaf.is)
 
 pub returns-in-Leaf-clause-searched : goal.returns-in-Leaf-clause-searched
 returns-in-Leaf-clause-searched g c =
-    let e = c.load_leaf-leaf.ensures in leaf_searched c.loop-entry.invariant.at c.in-Leaf.number c.in-Leaf.is e.few e.reads
+    let e = c.load_places-length.ensures in leaf_searched c.loop-entry.invariant.at c.in-Leaf.number c.in-Leaf.is e.few e.reads
 
 pub returns-in-Leaf-clause-possible : goal.returns-in-Leaf-clause-possible
-returns-in-Leaf-clause-possible g c = (reader_then c.loop-entry.invariant.reader c.load_leaf-leaf.ensures.reads).1
+returns-in-Leaf-clause-possible g c = (reader_then c.loop-entry.invariant.reader c.load_places-length.ensures.reads).1
 
 pub returns-in-Leaf-clause-way : goal.returns-in-Leaf-clause-way
 returns-in-Leaf-clause-way g c =
-    let i = c.loop-entry.invariant in let e = c.load_leaf-leaf.ensures in let l = c.load_leaf-leaf.result in let p = c.mismatch.ensures in
-    way_ends i.at _ i.going c.in-Leaf.number c.in-Leaf.is e.few e.reads l.0 l.1 e.leaf p.keys.0 c.mismatch.result p.none p.first
+    let i = c.loop-entry.invariant in let e = c.load_places-length.ensures in let l = c.load_places-length.result in let p = c.mismatch_in.ensures in
+    way_ends i.at _ i.going c.in-Leaf.number c.in-Leaf.is e.few e.reads (take l.0 c.load_places-length.new.places) l.1 e.leaf c.as_bytes-in-Leaf.ensures.key c.mismatch_in.result
+    (subst (λ k. IsNone c.mismatch_in.result ↔ (k ≡ take l.0 c.load_places-length.new.places)) c.as_bytes-in-Leaf.ensures.bytes p.none)
+    (subst (λ k. IfSome c.mismatch_in.result (IsFirstDifference k (take l.0 c.load_places-length.new.places))) c.as_bytes-in-Leaf.ensures.bytes p.first)
 
 pub returns-in-Leaf-clause-found : goal.returns-in-Leaf-clause-found
 returns-in-Leaf-clause-found g c =
-    let i = c.loop-entry.invariant in let e = c.load_leaf-leaf.ensures in let l = c.load_leaf-leaf.result in let p = c.mismatch.ensures in
-    end_found i.at _ i.going c.in-Leaf.number c.in-Leaf.is e.few e.reads l.0 l.1 e.leaf p.keys.0 c.mismatch.result p.none
+    let i = c.loop-entry.invariant in let e = c.load_places-length.ensures in let l = c.load_places-length.result in let p = c.mismatch_in.ensures in
+    end_found i.at _ i.going c.in-Leaf.number c.in-Leaf.is e.few e.reads (take l.0 c.load_places-length.new.places) l.1 e.leaf c.as_bytes-in-Leaf.ensures.key c.mismatch_in.result
+    (subst (λ k. IsNone c.mismatch_in.result ↔ (k ≡ take l.0 c.load_places-length.new.places)) c.as_bytes-in-Leaf.ensures.bytes p.none)
 
 pub start_of-start-requires : goal.start_of-start-requires
 start_of-start-requires g c =

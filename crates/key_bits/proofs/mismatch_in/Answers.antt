@@ -4,12 +4,12 @@ use Rattle.std.proofs.Math.Seq.{drop-cons}
 use Rattle.key_bits.specs.Bits.{IsFirstDifference}
 use Rattle.key_bits.proofs.Difference.{first-bytes, first-drop, first-front}
 use Rattle.key_bits.proofs.Order.{less_by_first}
-use Rattle.key_bits.proofs.mismatch.Goals as goal
+use Rattle.key_bits.proofs.mismatch_in.Goals as goal
 
-first_at_byte : (c : goal.After-byte_mismatch) → IsFirstDifference c.as_bytes-xs.result.now c.as_bytes-ys.result.now (9 * c.loop-i.i + 1 + c.byte_mismatch.result)
+first_at_byte : (c : goal.After-byte_mismatch) → IsFirstDifference c.args.xs.now c.args.ys.now (9 * c.loop-i.i + 1 + c.byte_mismatch.result)
 first_at_byte c =
-    let xs : List ℕ = c.as_bytes-xs.result.now in
-    let ys : List ℕ = c.as_bytes-ys.result.now in
+    let xs : List ℕ = c.args.xs.now in
+    let ys : List ℕ = c.args.ys.now in
     let i : ℕ = c.loop-i.i in
     let n : ℕ = c.byte_mismatch.result in
     let at : 9 * i + 1 + n ≡ 9 * i + (1 + n) = omega arith in
@@ -17,21 +17,21 @@ first_at_byte c =
     (rw (drop-cons xs i 0 (omega arith), drop-cons ys i 0 (omega arith))
     (first-bytes (get_or xs i 0) (get_or ys i 0) (drop (suc i) xs) (drop (suc i) ys) n c.byte_mismatch.ensures.bound c.byte_mismatch.ensures.first)))
 
-first_at_end : (c : goal.Else-xs-ys) → IsFirstDifference c.as_bytes-xs.result.now c.as_bytes-ys.result.now (9 * c.min-common.result)
+first_at_end : (c : goal.Else-xs-ys) → IsFirstDifference c.args.xs.now c.args.ys.now (9 * c.min-common.result)
 first_at_end c =
     let e : c.loop-i.i ≡ c.min-common.result = omega arith in
-    first-front c.as_bytes-xs.result.now c.as_bytes-ys.result.now c.min-common.result c.min-common.ensures c.if-xs-ys.false (rw (← e) c.loop-i.invariant)
+    first-front c.args.xs.now c.args.ys.now c.min-common.result c.min-common.ensures c.if-xs-ys.false (rw (← e) c.loop-i.invariant)
 
 pub returns-then-xs-i-clause-first : goal.returns-then-xs-i-clause-first
-returns-then-xs-i-clause-first c = rw (← c.as_bytes-xs.ensures.bytes, ← c.as_bytes-ys.ensures.bytes) (first_at_byte c)
+returns-then-xs-i-clause-first c = first_at_byte c
 
 pub returns-then-xs-i-clause-order : goal.returns-then-xs-i-clause-order
 returns-then-xs-i-clause-order c =
-    less_by_first c.args.a.now c.args.b.now c.as_bytes-xs.ensures.key c.as_bytes-ys.ensures.key _ (returns-then-xs-i-clause-first c)
+    less_by_first c.args.xs.now c.args.ys.now c.requires.0 c.requires.1 _ (returns-then-xs-i-clause-first c)
 
 pub returns-else-xs-ys-clause-first : goal.returns-else-xs-ys-clause-first
-returns-else-xs-ys-clause-first c = rw (← c.as_bytes-xs.ensures.bytes, ← c.as_bytes-ys.ensures.bytes) (first_at_end c)
+returns-else-xs-ys-clause-first c = first_at_end c
 
 pub returns-else-xs-ys-clause-order : goal.returns-else-xs-ys-clause-order
 returns-else-xs-ys-clause-order c =
-    less_by_first c.args.a.now c.args.b.now c.as_bytes-xs.ensures.key c.as_bytes-ys.ensures.key _ (returns-else-xs-ys-clause-first c)
+    less_by_first c.args.xs.now c.args.ys.now c.requires.0 c.requires.1 _ (returns-else-xs-ys-clause-first c)
