@@ -205,20 +205,20 @@ static uint64_t look_up(uint64_t *pin, uint64_t key)
     return some;
 }
 
-/* Claims a leaf's record and fills it: looks at each word that has nothing. */
+/* Claims a leaf's record and fills it up to the end of its key: looks at the length, which is mostly the same. */
 static uint64_t make_leaf(uint64_t *leaf, uint64_t key)
 {
-    uint64_t some = 0, word;
+    uint64_t length = load(leaf + 2), word;
     store(leaf, 1);
-    for (word = 1; word < LEAF; word++) {
-        if (word < 3 + key_words) {
-            store(leaf + word, key);
-        } else {
-            some |= load(leaf + word);
-        }
+    store(leaf + 1, key);
+    if (length != 8 * key_words) {
+        store(leaf + 2, 8 * key_words);
+    }
+    for (word = 0; word < key_words; word++) {
+        store(leaf + 3 + word, key);
     }
     store(leaf, 2);
-    return some;
+    return length;
 }
 
 static uint64_t upsert(uint64_t *pin, uint64_t key)
