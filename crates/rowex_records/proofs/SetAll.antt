@@ -1,4 +1,4 @@
--- A record's words put in place one by one, where an unused word that stands there already is not stored again.
+-- A record's words put in place one by one, where a word that is looked at and stands there already is not stored again.
 use Rattle.std.proofs.Common.{◌≡◌, ◌≢◌, inl, inr, ℕ, zero, suc, ◌+◌, ◌*◌, ◌-◌, ◌≤◌, nat_eq, nat_lt, List, [], ◌∷◌, ◌++◌, length, map, set, get_or, Bool, true, false, refl, sym, ap, subst, ◌∙◌, arith, length-append, ap₂}
 use Rattle.std.specs.Prelude.{All, Contains}
 use Rattle.std.proofs.lemmas.List.{append-nil, length-set, set-get_or}

@@ -21,7 +21,7 @@ search_steps nodes = 1 + 26 * nodes + 32
 abbrev pub span_steps : ℕ → ℕ
 span_steps locks = HEAD_WORDS + 3 * locks + 1
 
--- a leaf's record: its claims take at most four steps for each leaf record of the table, and each of its words is loaded and stored
+-- a leaf's record: its claims take at most four steps for each leaf record of the table, and each of its words two at most
 abbrev pub leaf_steps : Layout → ℕ
 leaf_steps layout = 4 * layout.leaves + 2 * LEAF_FIELDS
 
