@@ -161,7 +161,7 @@ module _ {G : Type 0} (table : TableView) (becomes : G → Event → G → Type 
 
   -- all of them, where those of its entries have been loaded
   pub all_read : (b : SeatView × G) (number : ℕ) (loaded : List ℕ) (n : ℕ) → AreRead table becomes a b number loaded n →
-      (words : List ℕ) (view : NodeView) → HasLocked a.0.known number words → IsNodeOf words view → n ≡ 25 + length view.entries → loaded ≡ words
+      (words : List ℕ) (view : NodeView) → HasLocked a.0.known number words → IsNodeOf words view → 25 + length view.entries ≤ n → loaded ≡ words
   all_read b number loaded n i words view h is upto =
       let long : length words ≡ 57 = ap (λ (ws : List ℕ). length ws) (sym is.spells) ∙ length-node_words view in
       ext_get_or 0 loaded words (i.long ∙ sym long)

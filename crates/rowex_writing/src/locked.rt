@@ -12,8 +12,8 @@ use record_words::{HEAD_WORDS, NODE_FIELDS, read_node};
 use rowex_core::{Gate, Rec};
 use rowex_table::{HotTable, TableSeat};
 
-/// Loads the words of a node that the pass has locked, from offset 1 on: those of the lock. Those past its last entry are 0, as all of
-/// these are before, and are not loaded.
+/// Loads the words of a node that the pass has locked, from offset 1 on: those of the lock. Words of entries are loaded by eight, as far
+/// as there are entries. Those behind are 0, as all of these are before.
 pub(crate) fn load_words<G: Gate>(
     table: &HotTable,
     seat: &mut TableSeat,
@@ -35,16 +35,14 @@ pub(crate) fn load_words<G: Gate>(
         words[index] = load_word(table, seat, gate, number, start, index);
     }
     let end = HEAD_WORDS + (words[0] % 256) as usize;
-    let mut next = HEAD_WORDS;
-    while next + 4 <= end {
-        for place in 0..4 {
-            let index = next + place;
-            words[index] = load_word(table, seat, gate, number, start, index);
+    for block in 0..4 {
+        let first = HEAD_WORDS + 8 * block;
+        if first < end {
+            for place in 0..8 {
+                let index = first + place;
+                words[index] = load_word(table, seat, gate, number, start, index);
+            }
         }
-        next += 4;
-    }
-    for index in next..end {
-        words[index] = load_word(table, seat, gate, number, start, index);
     }
 }
 
