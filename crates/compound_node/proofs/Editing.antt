@@ -1,13 +1,17 @@
 -- Parts of lists that are edited in place.
 use Rattle.std.proofs.Common.{List, [], ap, arith, drop, get_or, length, length-append, map, refl, set, sym, take, ℕ, ◌++◌, ◌+◌, ◌-◌, ◌<◌, ◌∙◌, ◌∷◌, ◌≡◌, ◌≤◌}
-use Rattle.std.proofs.lemmas.List.{append_assoc, drop-drop, drop-take, drop_at, get_or-append_right, get_or-drop, get_or-take, get_or_default, length-drop, length-map, length-take-le, set-append_right, take-append-drop, take-take, take_at}
+use Rattle.std.proofs.lemmas.List.{append-nil, append_assoc, drop-drop, drop-take, drop_all, drop_at, get_or-append_right, get_or-drop, get_or-take, get_or_default, length-drop, length-map, length-take-le, set-append_right, take-append-drop, take-take, take_all, take_at}
 use Rattle.std.proofs.lemmas.List.Edits.{map_over_more}
 use Rattle.std.proofs.Math.Seq.{drop-append-add}
-use Rattle.std.specs.List.{insert}
+use Rattle.std.specs.List.{insert, refill}
 use Rattle.pieces.proofs.Edits.{edited-left}
 use Rattle.pieces.specs.Growth.{edited}
 
 module _ {X : Type 0} where
+  -- what fills a whole list anew
+  pub refill_same : (xs ws : List X) → length ws ≡ length xs → refill (length xs) xs ws ≡ ws
+  refill_same xs ws e = rw (drop_all (length ws) xs (omega arith), append-nil ws) (take_all (length xs) ws (omega arith))
+
   take_parts : (f n : ℕ) (xs : List X) → take (f + n) xs ≡ take f xs ++ take n (drop f xs)
   take_parts f n xs = sym (take-append-drop f (take (f + n) xs)) ∙ ap (λ ys. ys ++ drop f (take (f + n) xs)) (take-take f (f + n) xs (omega arith)) ∙ ap (λ ys. take f xs ++ ys) (drop-take f n xs)
 

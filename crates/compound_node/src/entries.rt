@@ -127,19 +127,6 @@ pub(crate) fn removed(entries: &[Entry], at: usize) -> ArrayVec<Entry, 32>
     list
 }
 
-/// The entries with another one at a place.
-pub(crate) fn replaced(entries: &[Entry], at: usize, entry: Entry) -> ArrayVec<Entry, 32>
-    requires room { length entries.now ≤ 32 }
-    requires in_range { at < length entries.now }
-    ensures { result.items ≡ slice_set entries.now at entry }
-{
-    let mut list = ArrayVec::new();
-    append(&mut list, &entries[..at]);
-    list.push(entry);
-    append(&mut list, &entries[at + 1..]);
-    list
-}
-
 fn append(list: &mut ArrayVec<Entry, 32>, entries: &[Entry])
     requires { array_vec_len list.old + length entries.now ≤ 32 }
     ensures { list.new.items ≡ list.old.items ++ entries.now }

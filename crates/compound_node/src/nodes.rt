@@ -1,7 +1,7 @@
 //! Compound nodes.
 
 use super::building::built;
-use super::entries::{Entry, all_stand_below, height_with, insert_beside, listed, replaced};
+use super::entries::{Entry, all_stand_below, height_with, insert_beside, listed};
 use super::halves::{Cut, Half, cut_of, rest_of};
 use super::heads::Head;
 use arrayvec::ArrayVec;
@@ -192,7 +192,8 @@ impl Node {
         self.head.add(height, position, first, last, bit);
     }
 
-    fn copy(&self) -> Node
+    /// The same node once more.
+    pub fn copy(&self) -> Node
         ensures { result ≡ self.now }
     {
         Node {
@@ -209,10 +210,20 @@ impl Node {
         ensures piece { piece result ≡ replaced_place i entry (piece self.now) }
         ensures lawful { IsLawfulNode result }
     {
-        Node::of(
-            self.head.copy(),
-            replaced(self.entries.as_slice(), i as usize, entry),
-        )
+        let mut node = self.copy();
+        node.set(i, entry);
+        node
+    }
+
+    /// Puts another entry at a place, as `replace` does in a copy.
+    pub fn set(&mut self, i: u8, entry: Entry)
+        requires in_range { i < length self.old.entries }
+        requires stands { StandsBelow self.old.height entry }
+        ensures fields { self.new ≡ record self.old { entries = slice_set self.old.entries i entry } }
+        ensures piece { piece self.new ≡ replaced_place i entry (piece self.old) }
+        ensures lawful { IsLawfulNode self.new }
+    {
+        self.entries[i as usize] = entry;
     }
 
     /// The two sides of the root fork, each without the columns that it doesn't use and with its

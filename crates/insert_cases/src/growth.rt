@@ -185,10 +185,8 @@ fn half_forked(half: &Half, at: u8, position: u16, zero: Entry, one: Entry) -> N
     }
 }
 
-/// The node with a fork of two entries in place of entry `at`, and its height anew. A leaf stands there first, so that
-/// the old entry's height does not count; and the higher entry is added before the lower one takes the leaf's place.
+/// The node with a fork of two entries in place of entry `at`.
 fn forked(node: &Node, at: u8, position: u16, zero: Entry, one: Entry) -> Node
-    requires lawful { IsLawfulNode node.now }
     requires room { length node.now.entries < 32 }
     requires place { at < length node.now.entries }
     requires path { IsAbovePath position at (piece node.now) }
@@ -197,12 +195,29 @@ fn forked(node: &Node, at: u8, position: u16, zero: Entry, one: Entry) -> Node
     requires one { IsEntry one }
     ensures { IsBuiltFrom result (grafted at (Fork position (At zero) (At one)) (piece node.now)) }
 {
-    let mut grown = node.replace(at, Entry::Leaf(0));
+    let mut grown = node.copy();
+    put_fork(&mut grown, at, position, zero, one);
+    grown
+}
+
+/// Puts a fork of two entries in the place of entry `at` of a node with room. The height is built anew: a leaf stands there first, so
+/// that the old entry's height does not count; and the higher entry is added before the lower one takes the leaf's place.
+pub fn put_fork(node: &mut Node, at: u8, position: u16, zero: Entry, one: Entry)
+    requires room { length node.old.entries < 32 }
+    requires place { at < length node.old.entries }
+    requires path { IsAbovePath position at (piece node.old) }
+    requires position { position < 65535 }
+    requires zero { IsEntry zero }
+    requires one { IsEntry one }
+    ensures { IsBuiltFrom node.new (grafted at (Fork position (At zero) (At one)) (piece node.old)) }
+{
+    prove!(node.count() < 32);
+    node.set(at, Entry::Leaf(0));
     if zero.height() <= one.height() {
-        grown.add(at, at, position, true, one);
-        grown.replace(at, zero)
+        node.add(at, at, position, true, one);
+        node.set(at, zero);
     } else {
-        grown.add(at, at, position, false, zero);
-        grown.replace(at + 1, one)
+        node.add(at, at, position, false, zero);
+        node.set(at + 1, one);
     }
 }

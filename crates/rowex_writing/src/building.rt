@@ -24,7 +24,7 @@ ghost use Rattle.rowex_writing.specs.Walks.{Spends, WalksOn};
 
 use crate::deeds::Job;
 use crate::locked::{load_words, read_locked};
-use crate::remaking::{Fork, NewLeaf, add_leaf, full_with_leaf, with_fork};
+use crate::remaking::{Fork, NewLeaf, add_fork, add_leaf, full_with_fork, full_with_leaf};
 use crate::supply::Supply;
 use crate::walking::claim_node;
 use arrayvec::ArrayVec;
@@ -209,7 +209,8 @@ fn make_risen<G: Gate>(
     }
 }
 
-/// What comes in the place of a locked node, when a fork takes the place of the entry that named the node below it.
+/// What comes in the place of a locked node, when a fork takes the place of the entry that named the node below it. A node with room
+/// gets the fork where it stands, so that no whole node is moved.
 fn raise_level<G: Gate>(
     table: &HotTable,
     seat: &mut TableSeat,
@@ -232,10 +233,15 @@ fn raise_level<G: Gate>(
     ensures walk { WalksOn table.now.layout seat.old.known build.old seat.new.known build.new result }
     ensures few { Spends level_steps seat.old.known build.old seat.new.known build.new result }
 {
-    let node = read_locked(table, seat, gate, number);
-    let grown = with_fork(&node, fork);
-    let old = entry_of(number, &node);
-    make_risen(table, seat, gate, build, old, &grown)
+    let mut node = read_locked(table, seat, gate, number);
+    if node.count() == 32 {
+        let old = entry_of(number, &node);
+        let grown = full_with_fork(&node, fork);
+        return make_risen(table, seat, gate, build, old, &grown);
+    }
+    add_fork(&mut node, fork);
+    let entry = make_node(table, seat, gate, build, &node)?;
+    Some(Risen::Whole(entry))
 }
 
 /// What [`make_grown`] makes, by a value of the node: one with room gets the leaf where it stands, so that no whole node is moved.

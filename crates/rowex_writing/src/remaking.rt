@@ -10,7 +10,7 @@ ghost use Rattle.insert_cases.specs.Grown.{GrownShows, is_whole, keeps_node};
 ghost use Rattle.rowex_writing.specs.Remaking.{IsSubtrieOfTree, AffectsJust, IsNoHigher, subtrie_with_fork, subtrie_with_leaf};
 
 use compound_node::{Entry, Node};
-use insert_cases::{Grown, grow_full, pull_up};
+use insert_cases::{Grown, grow_full, pull_up, put_fork};
 use key_bits::Key;
 
 /// A new leaf for a node. It goes beside the entries from `first` to `last`: those that the position affects, at which its key first
@@ -75,17 +75,32 @@ pub(crate) struct Fork<'a> {
     pub one: Entry,
 }
 
-/// The node with the fork. A full node gives the two sides of its first fork.
-pub(crate) fn with_fork(node: &Node, fork: &Fork<'_>) -> Grown
+/// Puts the fork into a node with room.
+pub(crate) fn add_fork(node: &mut Node, fork: &Fork<'_>)
+    requires room { length node.old.entries < 32 }
+    requires tree { IsSubtrieOfTree (subtrie_with_fork fork.now (piece node.old)) }
+    requires zero { height_of fork.now.zero < node.old.height }
+    requires one { height_of fork.now.one < node.old.height }
+    ensures shows { IsBuiltFrom node.new (subtrie_with_fork fork.now (piece node.old)) }
+    ensures low { node.new.height ≤ node.old.height }
+{
+    prove!(node.count() < 32);
+    let at = node.search(fork.key);
+    put_fork(node, at, fork.position, fork.zero, fork.one);
+}
+
+/// The two sides of a full node's first fork, with the fork.
+pub(crate) fn full_with_fork(node: &Node, fork: &Fork<'_>) -> Grown
+    requires full { length node.now.entries ≡ 32 }
     requires tree { IsSubtrieOfTree (subtrie_with_fork fork.now (piece node.now)) }
     requires zero { height_of fork.now.zero < node.now.height }
     requires one { height_of fork.now.one < node.now.height }
     ensures shows { GrownShows node.now result (subtrie_with_fork fork.now (piece node.now)) }
-    ensures whole { IsTrue (is_whole result) ↔ (length node.now.entries < 32) }
+    ensures whole { is_whole result ≡ false }
     ensures same { keeps_node result ≡ false }
     ensures low { IsNoHigher node.now.height result }
 {
-    prove!(node.count() <= 32);
+    prove!(node.count() == 32);
     let at = node.search(fork.key);
     pull_up(node, at, fork.position, fork.zero, fork.one)
 }

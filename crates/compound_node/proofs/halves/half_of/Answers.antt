@@ -1,7 +1,7 @@
 -- The used columns and the squeezed rows fit together.
-use Rattle.std.proofs.Common.{List, ap, arith, length, map, subst, ℕ, ◌∙◌, ◌≡◌}
-use Rattle.std.proofs.lemmas.List.{append-nil, drop_all, length-map, take_all}
-use Rattle.std.specs.List.{refill}
+use Rattle.std.proofs.Common.{ap, arith, length, map, subst, ◌∙◌, ◌≡◌}
+use Rattle.std.proofs.lemmas.List.{length-map}
+use Rattle.compound_node.proofs.Editing.{refill_same}
 use Rattle.compound_node.proofs.Sides.{fit_used, some_used}
 use Rattle.compound_node.specs.Nodes.{IsBuiltFrom}
 use Rattle.compound_node.specs.declared.entries.Entry.TheVariants.{Leaf}
@@ -12,10 +12,6 @@ use Rattle.partial_keys.specs.Squeezed.{or_all, squeezed}
 use Rattle.pieces.proofs.Paths.{one_place}
 use Rattle.compound_node.proofs.halves.half_of.Goals as goal
 use Rattle.compound_node.proofs.halves.half_of.Goals.{After-as_slice-2}
-
--- what fills a whole list anew
-refill_same : (xs ws : List ℕ) → length ws ≡ length xs → refill (length xs) xs ws ≡ ws
-refill_same xs ws e = rw (drop_all (length ws) xs (omega arith), append-nil ws) (take_all (length xs) ws (omega arith))
 
 pub drop_unused-requires : goal.drop_unused-requires
 drop_unused-requires c = record {

@@ -10,7 +10,7 @@ use Rattle.pieces.specs.Grafts.{grafted, IsAbovePath}
 use Rattle.pieces.proofs.Grafting.{old_at, size-replaced, size-grown, affected_alone, replaced-grown}
 use Rattle.tries.proofs.Building.{size-piece}
 use Rattle.insert_cases.proofs.NodeFacts.{height_positive, greatest-grown, greatest-grafted}
-use Rattle.insert_cases.proofs.growth.forked.Goals as goal
+use Rattle.insert_cases.proofs.growth.put_fork.Goals as goal
 
 -- the node with a leaf in the entry's place
 module _ (n d : NodeView) (i : ℕ) (lawful_n : IsLawfulNode n) (lawful_d : IsLawfulNode d) (cleared : piece d ≡ replaced i (Leaf 0) (piece n)) where
@@ -47,57 +47,57 @@ module _ (n d : NodeView) (i : ℕ) (lawful_n : IsLawfulNode n) (lawful_d : IsLa
         sym (ap greatest_height (grew.lawful.shows.entries_are ∙ ap places (grew.shows_it ∙ ap (grown position bit x i) cleared)))) in
         record { lawful = lawful_r; shows_it = shows; height_is = same_height ∙ (grew.height_is ∙ ap (λ m. 1 + m) (sym tall)) }
 
-pub replace-grown-requires-clause-stands : goal.replace-grown-requires-clause-stands
-replace-grown-requires-clause-stands c = (tt, height_positive c.args.node.now c.requires.lawful)
+pub set-requires-clause-stands : goal.set-requires-clause-stands
+set-requires-clause-stands c = (tt, height_positive c.args.node.now c.count.ensures.lawful)
 
 pub add-requires-clause-room : goal.add-requires-clause-room
 add-requires-clause-room c =
-    let e = same_length c.args.node.now c.replace-grown.result c.args.at c.requires.lawful c.replace-grown.ensures.lawful c.replace-grown.ensures.piece in omega (arith, c.requires.room)
+    let e = same_length c.args.node.now c.set.new.self c.args.at c.count.ensures.lawful c.set.ensures.lawful c.set.ensures.piece in omega (arith, c.requires.room)
 
 pub add-requires-clause-range : goal.add-requires-clause-range
 add-requires-clause-range c =
-    alone c.args.node.now c.replace-grown.result c.args.at c.requires.lawful c.replace-grown.ensures.lawful c.replace-grown.ensures.piece c.args.position c.requires.place c.requires.path
+    alone c.args.node.now c.set.new.self c.args.at c.count.ensures.lawful c.set.ensures.lawful c.set.ensures.piece c.args.position c.requires.place c.requires.path
 
-pub replace-requires-clause-in_range : goal.replace-requires-clause-in_range
-replace-requires-clause-in_range c =
-    let e = longer c.args.node.now c.replace-grown.result c.args.at c.requires.lawful c.replace-grown.ensures.lawful c.replace-grown.ensures.piece
+pub set-requires-then-height-clause-in_range : goal.set-requires-then-height-clause-in_range
+set-requires-then-height-clause-in_range c =
+    let e = longer c.args.node.now c.set.new.self c.args.at c.count.ensures.lawful c.set.ensures.lawful c.set.ensures.piece
     c.args.position true c.args.one c.args.zero c.add.new.self c.add.ensures in omega (arith, c.requires.place)
 
-pub replace-requires-clause-stands : goal.replace-requires-clause-stands
-replace-requires-clause-stands c = (
+pub set-requires-then-height-clause-stands : goal.set-requires-then-height-clause-stands
+set-requires-then-height-clause-stands c = (
   c.requires.zero,
-  taller c.args.node.now c.replace-grown.result c.args.at c.requires.lawful c.replace-grown.ensures.lawful c.replace-grown.ensures.piece
+  taller c.args.node.now c.set.new.self c.args.at c.count.ensures.lawful c.set.ensures.lawful c.set.ensures.piece
       c.args.position true c.args.one c.args.zero c.add.new.self c.add.ensures (omega arith),
 )
 
 pub add-requires-else-height-clause-room : goal.add-requires-else-height-clause-room
 add-requires-else-height-clause-room c =
-    let e = same_length c.args.node.now c.replace-grown.result c.args.at c.requires.lawful c.replace-grown.ensures.lawful c.replace-grown.ensures.piece in omega (arith, c.requires.room)
+    let e = same_length c.args.node.now c.set.new.self c.args.at c.count.ensures.lawful c.set.ensures.lawful c.set.ensures.piece in omega (arith, c.requires.room)
 
 pub add-requires-else-height-clause-range : goal.add-requires-else-height-clause-range
 add-requires-else-height-clause-range c =
-    alone c.args.node.now c.replace-grown.result c.args.at c.requires.lawful c.replace-grown.ensures.lawful c.replace-grown.ensures.piece c.args.position c.requires.place c.requires.path
+    alone c.args.node.now c.set.new.self c.args.at c.count.ensures.lawful c.set.ensures.lawful c.set.ensures.piece c.args.position c.requires.place c.requires.path
 
-pub replace-requires-else-height-clause-in_range : goal.replace-requires-else-height-clause-in_range
-replace-requires-else-height-clause-in_range c =
-    let e = longer c.args.node.now c.replace-grown.result c.args.at c.requires.lawful c.replace-grown.ensures.lawful c.replace-grown.ensures.piece
+pub set-requires-else-height-clause-in_range : goal.set-requires-else-height-clause-in_range
+set-requires-else-height-clause-in_range c =
+    let e = longer c.args.node.now c.set.new.self c.args.at c.count.ensures.lawful c.set.ensures.lawful c.set.ensures.piece
     c.args.position false c.args.zero c.args.one c.add-else-height.new.self c.add-else-height.ensures in omega (arith, c.requires.place)
 
-pub replace-requires-else-height-clause-stands : goal.replace-requires-else-height-clause-stands
-replace-requires-else-height-clause-stands c = (
+pub set-requires-else-height-clause-stands : goal.set-requires-else-height-clause-stands
+set-requires-else-height-clause-stands c = (
   c.requires.one,
-  taller c.args.node.now c.replace-grown.result c.args.at c.requires.lawful c.replace-grown.ensures.lawful c.replace-grown.ensures.piece
+  taller c.args.node.now c.set.new.self c.args.at c.count.ensures.lawful c.set.ensures.lawful c.set.ensures.piece
       c.args.position false c.args.zero c.args.one c.add-else-height.new.self c.add-else-height.ensures (omega arith),
 )
 
 pub returns-then-height : goal.returns-then-height
 returns-then-height c =
-    whole c.args.node.now c.replace-grown.result c.args.at c.requires.lawful c.replace-grown.ensures.lawful c.replace-grown.ensures.piece
+    whole c.args.node.now c.set.new.self c.args.at c.count.ensures.lawful c.set.ensures.lawful c.set.ensures.piece
     c.args.position true c.args.one c.args.zero c.add.new.self c.add.ensures
-    c.replace.result c.replace.ensures.lawful c.replace.ensures.piece (ap (λ (n : NodeView). n.height) c.replace.ensures.fields) (omega arith) c.requires.place c.requires.path
+    c.set-then-height.new.self c.set-then-height.ensures.lawful c.set-then-height.ensures.piece (ap (λ (n : NodeView). n.height) c.set-then-height.ensures.fields) (omega arith) c.requires.place c.requires.path
 
 pub returns-else-height : goal.returns-else-height
 returns-else-height c =
-    whole c.args.node.now c.replace-grown.result c.args.at c.requires.lawful c.replace-grown.ensures.lawful c.replace-grown.ensures.piece
+    whole c.args.node.now c.set.new.self c.args.at c.count.ensures.lawful c.set.ensures.lawful c.set.ensures.piece
     c.args.position false c.args.zero c.args.one c.add-else-height.new.self c.add-else-height.ensures
-    c.replace-else-height.result c.replace-else-height.ensures.lawful c.replace-else-height.ensures.piece (ap (λ (n : NodeView). n.height) c.replace-else-height.ensures.fields) (omega arith) c.requires.place c.requires.path
+    c.set-else-height.new.self c.set-else-height.ensures.lawful c.set-else-height.ensures.piece (ap (λ (n : NodeView). n.height) c.set-else-height.ensures.fields) (omega arith) c.requires.place c.requires.path

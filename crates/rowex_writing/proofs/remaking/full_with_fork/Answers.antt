@@ -8,7 +8,7 @@ use Rattle.tries.proofs.Places.{leads_spot}
 use Rattle.tries.proofs.Spots.{grafted_spot}
 use Rattle.insert_cases.specs.Grown.{GrownShows}
 use Rattle.rowex_writing.proofs.Remade.{fork_is_pair, entries_under, greatest_put, grown_low}
-use Rattle.rowex_writing.proofs.remaking.with_fork.Goals as goal
+use Rattle.rowex_writing.proofs.remaking.full_with_fork.Goals as goal
 
 pub pull_up-requires-clause-path : goal.pull_up-requires-clause-path
 pull_up-requires-clause-path c =
