@@ -114,6 +114,8 @@ fn pass_by(layout: Layout, classes: &mut [Supply; LEAF_CLASSES], first: u32) -> 
 }
 
 /// Claims one of the leaf records from one number on and below another, of the smallest class that has one free; answers its number.
+/// Inline, for it is known then of which class the first of them is.
+#[inline(always)]
 fn claim_between<G: Gate>(
     table: &HotTable,
     seat: &mut TableSeat,

@@ -23,7 +23,7 @@ ghost use Rattle.rowex_writing.specs.Jobs.{HoldsSpan};
 ghost use Rattle.rowex_writing.specs.Locks.{locks_of};
 ghost use Rattle.rowex_writing.specs.Putting.{IsSpotAbove};
 
-use crate::building::Build;
+use crate::building::{Build, MOST_MADE};
 use crate::claims::claim_leaf;
 use crate::deeds::{Job, Raised};
 use crate::ending::retire;
@@ -64,17 +64,21 @@ pub(crate) fn make_leaf<G: Gate>(
     Some(number)
 }
 
-/// Makes all records ready that the pass has made for a change, the one made last first: then they may be linked.
-fn ready_all<G: Gate>(table: &HotTable, seat: &mut TableSeat, gate: &mut G, made: &[Rec])
-    requires building { (news : List Made) × IsBuilding table.now seat.old made.now news }
+/// Makes all records ready that the pass has made for a change, the one made last first: then they may be linked. The list is empty then,
+/// one by one: to clear it would be a call for a record or two.
+fn ready_all<G: Gate>(
+    table: &HotTable,
+    seat: &mut TableSeat,
+    gate: &mut G,
+    made: &mut ArrayVec<Rec, MOST_MADE>,
+)
+    requires building { (news : List Made) × IsBuilding table.now seat.old made.old.items news }
     ensures goes { WorksOn table.now G.becomes (seat.old, gate.old) (seat.new, gate.new) }
-    ensures ready { (news : List Made) → IsBuilding table.now seat.old made.now news → HasReady seat.new.known seat.old.known.locks news }
-    ensures few { seat.new.known.steps ≤ seat.old.known.steps + length made.now }
+    ensures ready { (news : List Made) → IsBuilding table.now seat.old made.old.items news → HasReady seat.new.known seat.old.known.locks news }
+    ensures few { seat.new.known.steps ≤ seat.old.known.steps + length made.old.items }
 {
-    let mut left = made.len();
-    while left > 0 {
-        left -= 1;
-        make_ready(table, seat, gate, made[left]);
+    while let Some(rec) = made.pop() {
+        make_ready(table, seat, gate, rec);
     }
 }
 
@@ -113,7 +117,7 @@ pub(crate) fn publish_change<G: Gate>(
     name_gone(build, &way[span.end..raised.low], raised.leaf);
     let kept = kept_steps(way, span, raised.low);
     let spot = spot_above(way, span.end);
-    ready_all(table, seat, gate, build.made.as_slice());
+    ready_all(table, seat, gate, &mut build.made);
     table.publish(seat, gate, spot, stored_word(raised.entry));
     retire(
         table,

@@ -166,11 +166,10 @@ fn try_once<G: Gate>(
     requires idle { IsIdle table.now seat.old }
     ensures asked { HasAsked table.now G.becomes (IsAttempt table.now.layout) (once_steps table.now.layout) call.now result (seat.old, gate.old) (seat.new, gate.new) }
 {
-    room.build.gone.clear();
     pin(table, seat, gate);
     let outcome = attempt(table, seat, gate, &mut room.way, &mut room.build, call);
     end_try(table, seat, gate, call, outcome);
-    room.keep_gone(outcome.is_ok());
+    room.keep_gone();
     outcome
 }
 

@@ -25,12 +25,10 @@ pub struct Room {
 }
 
 impl Room {
-    /// After an attempt: if it was answered, puts what it has unlinked at the end of the limbo list.
-    pub fn keep_gone(&mut self, answered: bool) {
-        if answered {
-            for rec in self.build.gone.as_slice() {
-                self.limbo.push(*rec);
-            }
+    /// After an attempt: takes what it has unlinked, if anything, to the end of the limbo list.
+    pub fn keep_gone(&mut self) {
+        while let Some(rec) = self.build.gone.pop() {
+            self.limbo.push(rec);
         }
     }
 

@@ -26,7 +26,7 @@ pub ready_all-requires : goal.ready_all-requires
 ready_all-requires g c =
     let (x, was, may) = c.requires.may in
     let m = may.ends c.spot_above-spot.result c.spot_above-spot.ensures in
-    record { building = (m.news, subst (λ z. IsBuilding c.args.table.now c.args.seat.now z m.news) (sym (c.as_slice.ensures.value ∙ c.name_gone.ensures.made)) m.building) }
+    record { building = (m.news, subst (λ z. IsBuilding c.args.table.now c.args.seat.now z m.news) (sym c.name_gone.ensures.made) m.building) }
 
 pub stored_word-requires : goal.stored_word-requires
 stored_word-requires g c =
@@ -34,7 +34,7 @@ stored_word-requires g c =
     let m = may.ends c.spot_above-spot.result c.spot_above-spot.ensures in
     now_spells c.args.table.now g.G.Gate.becomes (c.args.seat.now, c.args.gate.now) (c.ready_all.new.seat, c.ready_all.new.gate) c.args.build.now.made.items c.spot_above-spot.result (entry_word c.args.raised.entry)
     (gone_of_span c.args.job.now.way.now c.args.job.now.span c.args.raised) c.ready_all.ensures.goes x was m
-    (all_ready c.args.table.now c.args.seat.now c.ready_all.new.seat c.as_slice.result.now c.args.build.now.made.items m.news (c.as_slice.ensures.value ∙ c.name_gone.ensures.made) c.ready_all.ensures.ready m.building)
+    (all_ready c.args.table.now c.args.seat.now c.ready_all.new.seat c.name_gone.new.build.made.items c.args.build.now.made.items m.news c.name_gone.ensures.made c.ready_all.ensures.ready m.building)
 
 pub publish-requires-clause-own : goal.publish-requires-clause-own
 publish-requires-clause-own g c = seat_of c.args.table.now g.G.Gate.becomes (c.args.seat.now, c.args.gate.now) (c.ready_all.new.seat, c.ready_all.new.gate) c.ready_all.ensures.goes c.requires.held.seat
@@ -51,7 +51,7 @@ publish-requires-clause-may g c =
     subst (λ w. MayStep c.args.table.now.layout (λ found. Publish c.spot_above-spot.result w) c.ready_all.new.seat.known) (sym c.stored_word.ensures)
     (now_publishes c.args.table.now g.G.Gate.becomes (c.args.seat.now, c.args.gate.now) (c.ready_all.new.seat, c.ready_all.new.gate) c.args.build.now.made.items c.spot_above-spot.result (entry_word c.args.raised.entry)
     (gone_of_span c.args.job.now.way.now c.args.job.now.span c.args.raised) c.ready_all.ensures.goes x was m
-    (all_ready c.args.table.now c.args.seat.now c.ready_all.new.seat c.as_slice.result.now c.args.build.now.made.items m.news (c.as_slice.ensures.value ∙ c.name_gone.ensures.made) c.ready_all.ensures.ready m.building)).may
+    (all_ready c.args.table.now c.args.seat.now c.ready_all.new.seat c.name_gone.new.build.made.items c.args.build.now.made.items m.news c.name_gone.ensures.made c.ready_all.ensures.ready m.building)).may
 
 pub retire-requires-clause-own : goal.retire-requires-clause-own
 retire-requires-clause-own g c =
@@ -61,13 +61,13 @@ pub retire-requires-clause-records : goal.retire-requires-clause-records
 retire-requires-clause-records g c =
     let (m, w) = c.requires.held.from in
     let (x, was, may) = c.requires.may in
-    subst (AreInTable c.args.table.now.layout) (sym (c.as_slice-2.ensures.value ∙ c.name_gone.ensures.gone))
+    subst (AreInTable c.args.table.now.layout) (sym (c.as_slice.ensures.value ∙ c.name_gone.ensures.gone))
     (gone_records c.args.job.now.way.now c.args.job.now.span c.args.raised c.args.table.now.layout (step_nodes c.args.table.now.layout c.args.seat.now.known m c.args.job.now.key.now c.args.job.now.way.now c.args.job.now.found w) may.leaf)
 
 pub retire-requires-clause-nodes : goal.retire-requires-clause-nodes
 retire-requires-clause-nodes g c =
     let (m, w) = c.requires.held.from in
-    subst (AreNodes c.args.table.now.layout) (sym (c.as_slice-3.ensures.value ∙ c.kept_steps-kept.ensures))
+    subst (AreNodes c.args.table.now.layout) (sym (c.as_slice-2.ensures.value ∙ c.kept_steps-kept.ensures))
     (kept_nodes c.args.job.now.way.now c.args.job.now.span c.args.raised c.args.table.now.layout (step_nodes c.args.table.now.layout c.args.seat.now.known m c.args.job.now.key.now c.args.job.now.way.now c.args.job.now.found w))
 
 pub retire-requires-clause-published : goal.retire-requires-clause-published
@@ -75,11 +75,11 @@ retire-requires-clause-published g c =
     let (x, was, may) = c.requires.may in
     let m = may.ends c.spot_above-spot.result c.spot_above-spot.ensures in
     let (kept, apart) = kept_raised c.args.job.now.way.now c.args.job.now.span c.args.raised c.args.seat.now.known c.requires.held.locked may.from may.upto in
-    subst (λ z. HasJustPublished c.publish.new.seat.known c.as_slice-2.result.now (numbers_of z)) (sym (c.as_slice-3.ensures.value ∙ c.kept_steps-kept.ensures))
-    (subst (λ z. HasJustPublished c.publish.new.seat.known z (numbers_of (kept_of_span c.args.job.now.way.now c.args.job.now.span c.args.raised))) (sym (c.as_slice-2.ensures.value ∙ c.name_gone.ensures.gone))
+    subst (λ z. HasJustPublished c.publish.new.seat.known c.as_slice.result.now (numbers_of z)) (sym (c.as_slice-2.ensures.value ∙ c.kept_steps-kept.ensures))
+    (subst (λ z. HasJustPublished c.publish.new.seat.known z (numbers_of (kept_of_span c.args.job.now.way.now c.args.job.now.span c.args.raised))) (sym (c.as_slice.ensures.value ∙ c.name_gone.ensures.gone))
     (just_published c.args.table.now g.G.Gate.becomes (c.args.seat.now, c.args.gate.now) (c.ready_all.new.seat, c.ready_all.new.gate) c.args.build.now.made.items c.spot_above-spot.result (entry_word c.args.raised.entry)
     (gone_of_span c.args.job.now.way.now c.args.job.now.span c.args.raised) c.ready_all.ensures.goes x was m
-    (all_ready c.args.table.now c.args.seat.now c.ready_all.new.seat c.as_slice.result.now c.args.build.now.made.items m.news (c.as_slice.ensures.value ∙ c.name_gone.ensures.made) c.ready_all.ensures.ready m.building)
+    (all_ready c.args.table.now c.args.seat.now c.ready_all.new.seat c.name_gone.new.build.made.items c.args.build.now.made.items m.news c.name_gone.ensures.made c.ready_all.ensures.ready m.building)
     (numbers_of (kept_of_span c.args.job.now.way.now c.args.job.now.span c.args.raised)) kept c.publish.new.seat.known
     (word_published c.args.table.now.layout c.spot_above-spot.result c.stored_word.result (entry_word c.args.raised.entry) c.ready_all.new.seat.known c.publish.new.seat.known c.stored_word.ensures c.publish.ensures.event) apart))
 
@@ -90,7 +90,7 @@ retire-requires-clause-anchored g c =
     let (kept, apart) = kept_raised c.args.job.now.way.now c.args.job.now.span c.args.raised c.args.seat.now.known c.requires.held.locked may.from may.upto in
     still_anchored c.args.table.now g.G.Gate.becomes (c.args.seat.now, c.args.gate.now) (c.ready_all.new.seat, c.ready_all.new.gate) c.args.build.now.made.items c.spot_above-spot.result (entry_word c.args.raised.entry)
     (gone_of_span c.args.job.now.way.now c.args.job.now.span c.args.raised) c.ready_all.ensures.goes x was m
-    (all_ready c.args.table.now c.args.seat.now c.ready_all.new.seat c.as_slice.result.now c.args.build.now.made.items m.news (c.as_slice.ensures.value ∙ c.name_gone.ensures.made) c.ready_all.ensures.ready m.building)
+    (all_ready c.args.table.now c.args.seat.now c.ready_all.new.seat c.name_gone.new.build.made.items c.args.build.now.made.items m.news c.name_gone.ensures.made c.ready_all.ensures.ready m.building)
     (numbers_of (kept_of_span c.args.job.now.way.now c.args.job.now.span c.args.raised)) kept c.publish.new.seat.known
     (word_published c.args.table.now.layout c.spot_above-spot.result c.stored_word.result (entry_word c.args.raised.entry) c.ready_all.new.seat.known c.publish.new.seat.known c.stored_word.ensures c.publish.ensures.event) _
     (span_anchor c.args.seat.now.known c.args.job.now.way.now c.args.job.now.span c.requires.held.locked)
@@ -109,7 +109,7 @@ returns-clause-changed g c = λ x was may.
     let (kept, apart) = kept_raised c.args.job.now.way.now c.args.job.now.span c.args.raised c.args.seat.now.known c.requires.held.locked may.from may.upto in
     has_changed c.args.table.now g.G.Gate.becomes (c.args.seat.now, c.args.gate.now) (c.ready_all.new.seat, c.ready_all.new.gate) c.args.build.now.made.items c.spot_above-spot.result (entry_word c.args.raised.entry)
     (gone_of_span c.args.job.now.way.now c.args.job.now.span c.args.raised) c.ready_all.ensures.goes x was m
-    (all_ready c.args.table.now c.args.seat.now c.ready_all.new.seat c.as_slice.result.now c.args.build.now.made.items m.news (c.as_slice.ensures.value ∙ c.name_gone.ensures.made) c.ready_all.ensures.ready m.building)
+    (all_ready c.args.table.now c.args.seat.now c.ready_all.new.seat c.name_gone.new.build.made.items c.args.build.now.made.items m.news c.name_gone.ensures.made c.ready_all.ensures.ready m.building)
     (numbers_of (kept_of_span c.args.job.now.way.now c.args.job.now.span c.args.raised)) kept c.publish.new.seat.known
     (word_published c.args.table.now.layout c.spot_above-spot.result c.stored_word.result (entry_word c.args.raised.entry) c.ready_all.new.seat.known c.publish.new.seat.known c.stored_word.ensures c.publish.ensures.event) c.retire.new.seat.known
     c.retire.ensures.rest c.retire.ensures.front (works_fresh c.args.table.now g.G.Gate.becomes (c.publish.new.seat, c.publish.new.gate) (c.retire.new.seat, c.retire.new.gate) c.retire.ensures.works)
@@ -117,9 +117,9 @@ returns-clause-changed g c = λ x was may.
 pub returns-clause-few : goal.returns-clause-few
 returns-clause-few g c =
     let (x, was, may) = c.requires.may in
-    let made = ap length (c.as_slice.ensures.value ∙ c.name_gone.ensures.made) in
-    let gone = ap length (c.as_slice-2.ensures.value ∙ c.name_gone.ensures.gone) in
-    let kept = ap length (c.as_slice-3.ensures.value ∙ c.kept_steps-kept.ensures) in
+    let made = ap length c.name_gone.ensures.made in
+    let gone = ap length (c.as_slice.ensures.value ∙ c.name_gone.ensures.gone) in
+    let kept = ap length (c.as_slice-2.ensures.value ∙ c.kept_steps-kept.ensures) in
     let nodes = gone_few c.args.job.now.way.now c.args.job.now.span c.args.raised in
     let stored = (act_leaves c.args.table.now.layout c.ready_all.new.seat.known c.publish.new.seat.known (Publish c.spot_above-spot.result c.stored_word.result) c.publish.ensures.event).steps in
     let stay = kept_few c.args.job.now.way.now c.args.job.now.span c.args.raised in
