@@ -305,7 +305,7 @@ fn visit<G: Gate>(
     let Some(epoch) = epoch_below(word, bound) else {
         return unripe(word);
     };
-    let found = table.give_back(seat, gate, rec, epoch);
+    let found = table.give_back_from(seat, gate, rec, start, epoch);
     given_if(found == word)
 }
 

@@ -260,7 +260,7 @@ fn try_record<G: Gate>(
     if table.load_state_from(seat, gate, rec, start) != 0 {
         return false;
     }
-    table.claim(seat, gate, rec) == 0
+    table.claim_from(seat, gate, rec, start) == 0
 }
 
 /// The number to begin at, of `all`.

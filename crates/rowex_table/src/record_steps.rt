@@ -32,14 +32,25 @@ impl HotTable {
         requires range { HasRecord self.now.layout rec }
         ensures { Steps self.now G.becomes (Claim rec result) (seat.old, gate.old) (seat.new, gate.new) }
     {
-        self.exchange_as::<Brand, G>(
-            seat,
-            gate,
-            Act::Claim { rec, found: 0 },
-            record_place(rec, 0),
-            pack_state(Tag::Free),
-            pack_state(Tag::Held),
-        )
+        self.claim_from(seat, gate, rec, self.start_of(rec))
+    }
+
+    /// Claims as `claim` does, a record that begins at this word: where its state has just been loaded its place is known.
+    #[inline(always)]
+    pub fn claim_from<G: Gate>(
+        &self,
+        seat: &mut TableSeat,
+        gate: &mut G,
+        rec: Rec,
+        start: usize,
+    ) -> u64
+        requires own { IsSeatOf self.now seat.old }
+        requires start { IsStartOf self.now.layout rec start }
+        ensures { Steps self.now G.becomes (Claim rec result) (seat.old, gate.old) (seat.new, gate.new) }
+    {
+        let act = Act::Claim { rec, found: 0 };
+        let (free, held) = (pack_state(Tag::Free), pack_state(Tag::Held));
+        self.exchange_at::<Brand, G>(seat, gate, act, start, free, held)
     }
 
     /// Stores a word other than the state of a record that the pass holds; offsets are from 1.
@@ -185,19 +196,28 @@ impl HotTable {
         requires may { MayStep self.now.layout (λ found. GiveBack rec epoch found) seat.old.known }
         ensures { Steps self.now G.becomes (GiveBack rec epoch result) (seat.old, gate.old) (seat.new, gate.new) }
     {
-        let obsolete = obsolete_word(epoch);
-        let act = Act::GiveBack {
-            rec,
-            epoch,
-            found: 0,
-        };
-        self.exchange_as::<Brand, G>(
-            seat,
-            gate,
-            act,
-            record_place(rec, 0),
-            obsolete,
-            pack_state(Tag::Free),
-        )
+        self.give_back_from(seat, gate, rec, self.start_of(rec), epoch)
+    }
+
+    /// Makes a record free as `give_back` does, one that begins at this word.
+    #[inline(always)]
+    pub fn give_back_from<G: Gate>(
+        &self,
+        seat: &mut TableSeat,
+        gate: &mut G,
+        rec: Rec,
+        start: usize,
+        epoch: u64,
+    ) -> u64
+        requires own { IsSeatOf self.now seat.old }
+        requires start { IsStartOf self.now.layout rec start }
+        requires range { epoch < EPOCHS }
+        requires may { MayStep self.now.layout (λ found. GiveBack rec epoch found) seat.old.known }
+        ensures { Steps self.now G.becomes (GiveBack rec epoch result) (seat.old, gate.old) (seat.new, gate.new) }
+    {
+        let found = 0;
+        let act = Act::GiveBack { rec, epoch, found };
+        let (obsolete, free) = (obsolete_word(epoch), pack_state(Tag::Free));
+        self.exchange_at::<Brand, G>(seat, gate, act, start, obsolete, free)
     }
 }

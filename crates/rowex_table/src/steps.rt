@@ -107,7 +107,25 @@ impl HotTable {
         requires apt { (Q.layout ≡ Some self.now.layout) × (act ≡ Q.act) × MayStep self.now.layout (found_by Q.act) seat.old.known }
         ensures { StepsWith self.now G.becomes (found_by Q.act result) Q.said (seat.old, gate.old) (seat.new, gate.new) }
     {
-        let address = self.origins.address(location);
+        self.exchange_at::<Q, G>(seat, gate, act, self.origins.address(location), old, new)
+    }
+
+    /// The same of the word at this address.
+    pub(crate) fn exchange_at<Q: Step, G: Gate>(
+        &self,
+        seat: &mut TableSeat,
+        gate: &mut G,
+        act: Act,
+        address: usize,
+        old: u64,
+        new: u64,
+    ) -> u64
+        requires own { IsSeatOf self.now seat.old }
+        requires place { IsAddressOf self.now.layout (location_of seat.old.known.pass Q.act) address }
+        requires exchange { (w : ℕ) → exchanged w old new ≡ writes Q.act w }
+        requires apt { (Q.layout ≡ Some self.now.layout) × (act ≡ Q.act) × MayStep self.now.layout (found_by Q.act) seat.old.known }
+        ensures { StepsWith self.now G.becomes (found_by Q.act result) Q.said (seat.old, gate.old) (seat.new, gate.new) }
+    {
         let found = self
             .table
             .shared

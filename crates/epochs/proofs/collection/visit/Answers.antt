@@ -11,5 +11,5 @@ returns-in_default-clause-steps g c =
 
 pub returns-clause-steps : goal.returns-clause-steps
 returns-clause-steps g c =
-    subst (λ (t : Bool). VisitsOne c.args.table.now g.G.Gate.becomes c.args.bound c.args.rec t (c.args.seat.now, c.args.gate.now) (c.give_back-found.new.seat, c.give_back-found.new.gate)) (sym c.given_if.ensures)
-    (visit_tries _ _ _ _ _ _ _ _ _ _ c.in-Some.ensures.3 c.in-Some.ensures.0 c.in-Some.ensures.2 c.load_state_from-word.ensures c.give_back-found.ensures)
+    subst (λ (t : Bool). VisitsOne c.args.table.now g.G.Gate.becomes c.args.bound c.args.rec t (c.args.seat.now, c.args.gate.now) (c.give_back_from-found.new.seat, c.give_back_from-found.new.gate)) (sym c.given_if.ensures)
+    (visit_tries _ _ _ _ _ _ _ _ _ _ c.in-Some.ensures.3 c.in-Some.ensures.0 c.in-Some.ensures.2 c.load_state_from-word.ensures c.give_back_from-found.ensures)

@@ -14,12 +14,12 @@ returns-then-load_state_from-ne0-clause-missed g c = λ refused.
 pub returns-clause-missed : goal.returns-clause-missed
 returns-clause-missed g c = λ refused.
     let free : c.load_state_from.result ≡ 0 = omega (arith, c.if-load_state_from-ne0.false) in
-    let taken = eqb-false c.claim.result 0 refused in
-    missed_by_claim c.args.table.now g.G.Gate.becomes c.args.rec c.claim.result _ _ _ (omega arith)
-    (subst (λ w. Steps c.args.table.now g.G.Gate.becomes (LoadState c.args.rec w) (c.args.seat.now, c.args.gate.now) (c.load_state_from.new.seat, c.load_state_from.new.gate)) free c.load_state_from.ensures) c.claim.ensures
+    let taken = eqb-false c.claim_from.result 0 refused in
+    missed_by_claim c.args.table.now g.G.Gate.becomes c.args.rec c.claim_from.result _ _ _ (omega arith)
+    (subst (λ w. Steps c.args.table.now g.G.Gate.becomes (LoadState c.args.rec w) (c.args.seat.now, c.args.gate.now) (c.load_state_from.new.seat, c.load_state_from.new.gate)) free c.load_state_from.ensures) c.claim_from.ensures
 
 pub returns-clause-claimed : goal.returns-clause-claimed
 returns-clause-claimed g c = λ taken.
     let free : c.load_state_from.result ≡ 0 = omega (arith, c.if-load_state_from-ne0.false) in
-    claimed_free c.args.table.now g.G.Gate.becomes c.args.rec c.claim.result _ _ _ (eqb-true c.claim.result 0 taken)
-    (subst (λ w. Steps c.args.table.now g.G.Gate.becomes (LoadState c.args.rec w) (c.args.seat.now, c.args.gate.now) (c.load_state_from.new.seat, c.load_state_from.new.gate)) free c.load_state_from.ensures) c.claim.ensures
+    claimed_free c.args.table.now g.G.Gate.becomes c.args.rec c.claim_from.result _ _ _ (eqb-true c.claim_from.result 0 taken)
+    (subst (λ w. Steps c.args.table.now g.G.Gate.becomes (LoadState c.args.rec w) (c.args.seat.now, c.args.gate.now) (c.load_state_from.new.seat, c.load_state_from.new.gate)) free c.load_state_from.ensures) c.claim_from.ensures

@@ -1,0 +1,18 @@
+-- A step as an event.
+use Rattle.std.proofs.Common.{rules, ◌≡◌, ◌<◌, refl, sym, ap, ◌∙◌}
+use Rattle.record_words.specs.Layout.{word_count}
+use Rattle.record_words.proofs.Locations.{address-below}
+use Rattle.rowex_core.specs.Events.{location_of}
+use Rattle.rowex_table.specs.Seats.{TableView, SeatView}
+use Rattle.rowex_table.proofs.Keeping.{allows_me}
+use Rattle.rowex_table.proofs.table.HotTable.exchange_at.Goals as goal
+
+pub compare_exchange-found-requires : goal.compare_exchange-found-requires
+compare_exchange-found-requires g c =
+    let layout : c.self.inside.origins.layout ≡ c.args.self.now.layout = ap (λ (z : TableView). z.layout) c.self.view_is in
+    let low : c.args.address < word_count c.self.inside.origins.layout =
+    rw (c.requires.place.0, layout) (address-below c.args.self.now.layout (location_of c.args.seat.now.known.pass g.Q.Step.act) c.requires.place.1) in (
+      search rules,
+      search rules,
+      allows_me _ _ _ _ _ _ _ _ _ _ _ _ (c.self.invariant.1 ∙ layout) c.requires.apt.0 c.seat.invariant.0 (sym (ap (λ (z : SeatView). z.known) c.seat.view_is)) c.requires.place.0 c.requires.exchange (λ w. refl) c.requires.apt.2,
+    )
