@@ -4,3 +4,4 @@ pub mod Filled
 pub mod GivenUp
 pub mod Making
 pub mod SetAll
+pub mod Used

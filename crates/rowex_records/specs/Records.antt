@@ -1,5 +1,5 @@
 -- Steps on records of a pass's own that are not in the tree: filled, made ready, given up.
-use Rattle.std.specs.Prelude.{◌≡◌, ◌⊎◌, ℕ, zero, suc, ◌+◌, ◌-◌, ◌*◌, ◌^◌, ◌≤◌, List, [], ◌∷◌, length, map, set, get_or, nat_eq, nat_lt, All, Contains, if◌then◌else◌}
+use Rattle.std.specs.Prelude.{◌≡◌, ◌≢◌, ◌⊎◌, ℕ, zero, suc, ◌+◌, ◌-◌, ◌*◌, ◌^◌, ◌<◌, ◌≤◌, List, [], ◌∷◌, length, map, set, get_or, nat_eq, nat_lt, All, Contains, if◌then◌else◌}
 use Rattle.versions.specs.declared.Rec.{Rec}
 use Rattle.versions.specs.declared.Rec.TheVariants.{Node as a_node, Leaf as a_leaf}
 use Rattle.versions.specs.Steps.{same_rec}
@@ -42,6 +42,11 @@ filling k j = record k { own = j.own; front = j.front; facts = j.facts }
 -- what stands at an offset of a node's record where the node has nothing: all bits are set in the head, and none elsewhere
 abbrev pub unused_word : ℕ → ℕ
 unused_word offset = if nat_lt offset FIRST_ENTRY then 2 ^ 64 - 1 else 0
+
+-- Of eight words of a node, from this index on, those below the end have something, and the others nothing.
+pub record HaveBelow (words : List ℕ) (first end : ℕ) : Type 0 where
+  pub used : (i : ℕ) → first ≤ i → i < first + 8 → i < end → get_or words i 0 ≢ unused_word (i + 1)
+  pub unused : (i : ℕ) → first ≤ i → i < first + 8 → end ≤ i → get_or words i 0 ≡ unused_word (i + 1)
 
 -- The word that stands there is looked at before this one is stored, since it is often the same: of a node where it has nothing, of a leaf
 -- the length of its key.

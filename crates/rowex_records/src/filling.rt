@@ -1,6 +1,6 @@
 //! Records filled with the words of a leaf or of a node, and made ready.
 
-ghost use Rattle.std.specs.Prelude.{◌≡◌, ◌≢◌, ◌<◌, ◌≤◌, ◌+◌, ◌-◌, ◌*◌, ℕ, List, length};
+ghost use Rattle.std.specs.Prelude.{◌≡◌, ◌≢◌, ◌<◌, ◌≤◌, ◌+◌, ◌-◌, ◌*◌, ℕ, List, length, true, false};
 ghost use Rattle.versions.specs.declared.Rec.TheVariants.{Node as a_node, Leaf as a_leaf};
 ghost use Rattle.record_words.specs.Layout.{leaf_size};
 ghost use Rattle.record_words.specs.Leaf.{leaf_words, words_for};
@@ -13,10 +13,10 @@ ghost use Rattle.rowex_table.specs.Rights.{IsClaimed};
 ghost use Rattle.rowex_table.specs.Rule.{IsStartOf};
 ghost use Rattle.rowex_table.specs.Runs.{Steps};
 ghost use Rattle.rowex_table.specs.Seats.{IsSeatOf};
-ghost use Rattle.rowex_records.specs.Records.{IsFilled, IsFilledLeaf, Readies, Sets, SetsAll, SetsMore, SetsSome, load_of_word, unused_word};
+ghost use Rattle.rowex_records.specs.Records.{HaveBelow, IsFilled, IsFilledLeaf, Readies, Sets, SetsAll, SetsMore, SetsSome, load_of_word, unused_word};
 
 use key_bits::Key;
-use record_words::{FIRST_ENTRY, HEAD_WORDS, NODE_FIELDS, key_word_at, key_words};
+use record_words::{FIRST_ENTRY, FIRST_ROWS, HEAD_WORDS, NODE_FIELDS, key_word_at, key_words};
 use rowex_core::{Gate, Rec};
 use rowex_table::{HotTable, TableSeat};
 
@@ -111,18 +111,24 @@ pub fn fill_words<G: Gate>(
     ensures steps { seat.new.known.steps ≤ seat.old.known.steps + 2 * NODE_FIELDS }
 {
     let start = table.start_of(Rec::Node(number));
-    set_node_word(table, seat, gate, number, start, 1, words[0]);
-    set_eight(table, seat, gate, number, start, words, 1);
-    set_eight(table, seat, gate, number, start, words, 9);
-    set_eight(table, seat, gate, number, start, words, 17);
-    set_eight(table, seat, gate, number, start, words, HEAD_WORDS);
-    set_eight(table, seat, gate, number, start, words, HEAD_WORDS + 8);
-    set_eight(table, seat, gate, number, start, words, HEAD_WORDS + 16);
-    set_eight(table, seat, gate, number, start, words, HEAD_WORDS + 24);
+    let entries = (words[0] % 256) as usize;
+    let columns = (words[0] / 256 % 256) as usize;
+    // A word has the positions of four columns, or two rows, or an entry.
+    let positions = 1 + (columns + 3) / 4;
+    let rows = FIRST_ROWS + (entries + 1) / 2;
+    let leads = HEAD_WORDS + entries;
+    set_node_word(table, seat, gate, number, start, 1, words[0], true);
+    set_eight(table, seat, gate, number, start, words, 1, positions);
+    set_eight(table, seat, gate, number, start, words, 9, rows);
+    set_eight(table, seat, gate, number, start, words, 17, rows);
+    set_eight(table, seat, gate, number, start, words, 25, leads);
+    set_eight(table, seat, gate, number, start, words, 33, leads);
+    set_eight(table, seat, gate, number, start, words, 41, leads);
+    set_eight(table, seat, gate, number, start, words, 49, leads);
 }
 
-/// Sees to it that eight words of a claimed node record, which begins at `start`, are these: those from `words[first]` on. Inline, so that
-/// it is known where each stands.
+/// Sees to it that eight words of a claimed node record, which begins at `start`, are these: those from `words[first]` on, of which the node
+/// has something in those before `words[end]`. Where that is in all of them, it is asked of none. Inline, so that it is known where each stands.
 #[inline(always)]
 fn set_eight<G: Gate>(
     table: &HotTable,
@@ -132,11 +138,41 @@ fn set_eight<G: Gate>(
     start: usize,
     words: &[u64; NODE_FIELDS],
     first: usize,
+    end: usize,
 )
     requires own { IsSeatOf table.now seat.old }
     requires range { (number < table.now.layout.nodes) × (first + 8 ≤ NODE_FIELDS) }
     requires start { IsStartOf table.now.layout (a_node number) start }
     requires held { IsClaimed seat.old.known (a_node number) }
+    requires have { HaveBelow words.now first end }
+    ensures own { IsSeatOf table.now seat.new }
+    ensures held { IsClaimed seat.new.known (a_node number) }
+    ensures sets { SetsMore table.now G.becomes (a_node number) words.now first 8 (seat.old, gate.old) (seat.new, gate.new) }
+{
+    if first + 8 <= end {
+        set_each(table, seat, gate, number, start, words, first, first + 8);
+    } else {
+        set_each(table, seat, gate, number, start, words, first, end);
+    }
+}
+
+/// The same, one word after the other.
+#[inline(always)]
+fn set_each<G: Gate>(
+    table: &HotTable,
+    seat: &mut TableSeat,
+    gate: &mut G,
+    number: u32,
+    start: usize,
+    words: &[u64; NODE_FIELDS],
+    first: usize,
+    end: usize,
+)
+    requires own { IsSeatOf table.now seat.old }
+    requires range { (number < table.now.layout.nodes) × (first + 8 ≤ NODE_FIELDS) }
+    requires start { IsStartOf table.now.layout (a_node number) start }
+    requires held { IsClaimed seat.old.known (a_node number) }
+    requires have { HaveBelow words.now first end }
     ensures own { IsSeatOf table.now seat.new }
     ensures held { IsClaimed seat.new.known (a_node number) }
     ensures sets { SetsMore table.now G.becomes (a_node number) words.now first 8 (seat.old, gate.old) (seat.new, gate.new) }
@@ -144,12 +180,12 @@ fn set_eight<G: Gate>(
     for place in 0..8 {
         let index = first + place;
         let offset = index as u8 + 1;
-        set_node_word(table, seat, gate, number, start, offset, words[index]);
+        let used = index < end;
+        set_node_word(table, seat, gate, number, start, offset, words[index], used);
     }
 }
 
-/// Sees to it that a word of a claimed node record, which begins at `start`, is this one. Inline, so that which one
-/// it is isn't asked.
+/// Sees to it that a word of a claimed node record, which begins at `start`, is this one, in which the node has something or nothing.
 #[inline(always)]
 fn set_node_word<G: Gate>(
     table: &HotTable,
@@ -159,18 +195,42 @@ fn set_node_word<G: Gate>(
     start: usize,
     offset: u8,
     word: u64,
+    used: bool,
 )
     requires own { IsSeatOf table.now seat.old }
     requires range { (number < table.now.layout.nodes) × IsOffset (a_node number) offset }
     requires start { IsStartOf table.now.layout (a_node number) start }
     requires held { IsClaimed seat.old.known (a_node number) }
+    requires used { used ≡ true → word ≢ unused_word offset }
+    requires unused { used ≡ false → word ≡ unused_word offset }
     ensures { Sets table.now G.becomes (a_node number) offset word (seat.old, gate.old) (seat.new, gate.new) }
 {
-    let rec = Rec::Node(number);
-    if word != unused_in_node(offset)
-        || load_node_word(table, seat, gate, number, start, offset) != word
-    {
-        table.fill_from(seat, gate, rec, start, offset, word);
+    if used {
+        table.fill_from(seat, gate, Rec::Node(number), start, offset, word);
+    } else {
+        clear_node_word(table, seat, gate, number, start, offset);
+    }
+}
+
+/// Sees to it that a word of a claimed node record, which begins at `start`, is the one where the node has nothing.
+#[inline(always)]
+fn clear_node_word<G: Gate>(
+    table: &HotTable,
+    seat: &mut TableSeat,
+    gate: &mut G,
+    number: u32,
+    start: usize,
+    offset: u8,
+)
+    requires own { IsSeatOf table.now seat.old }
+    requires range { (number < table.now.layout.nodes) × IsOffset (a_node number) offset }
+    requires start { IsStartOf table.now.layout (a_node number) start }
+    requires held { IsClaimed seat.old.known (a_node number) }
+    ensures { Sets table.now G.becomes (a_node number) offset (unused_word offset) (seat.old, gate.old) (seat.new, gate.new) }
+{
+    let unused = unused_in_node(offset);
+    if load_node_word(table, seat, gate, number, start, offset) != unused {
+        table.fill_from(seat, gate, Rec::Node(number), start, offset, unused);
     }
 }
 

@@ -3,7 +3,7 @@ use Rattle.std.proofs.Common.{rules, arith, subst, sym, add-zero, ◌≡◌, ◌
 use Rattle.versions.specs.declared.Rec.TheVariants.{Node as a_node}
 use Rattle.rowex_records.specs.Records.{SetsSome}
 use Rattle.rowex_records.proofs.SetAll.{set_claimed, sets_more}
-use Rattle.rowex_records.proofs.filling.set_eight.Goals as goal
+use Rattle.rowex_records.proofs.filling.set_each.Goals as goal
 
 pub loop-place-init : goal.loop-place-init
 loop-place-init g c = record {

@@ -3,7 +3,7 @@ use Rattle.versions.specs.declared.Rec.TheVariants.{Node}
 use Rattle.rowex_table.specs.Rights.{IsClaimed}
 use Rattle.rowex_table.specs.Seats.{IsSeatOf}
 use Rattle.rowex_records.specs.Records.{SetsMore}
-use Rattle.rowex_records.proofs.filling.set_eight.Given as goal
+use Rattle.rowex_records.proofs.filling.set_each.Given as goal
 
 abbrev pub invariant-loop-place : goal.invariant-loop-place
 invariant-loop-place g l = record {
