@@ -1,17 +1,16 @@
 //! Rounds of collection: records that no pinned pass can reach are given back.
 
-ghost use Rattle.std.specs.Prelude.{◌≡◌, ◌≢◌, ℕ, ◌+◌, ◌^◌, ◌<◌, ◌≤◌, List, None, true, false, length, min, if◌then◌else◌, MatchOption};
+ghost use Rattle.std.specs.Prelude.{◌≡◌, ◌≢◌, ℕ, ◌+◌, ◌^◌, ◌<◌, ◌≤◌, List, None, true, false, length, min, if◌then◌else◌, IfSome, MatchOption};
 ghost use Rattle.record_words.specs.declared.state.Tag.TheVariants.{Obsolete};
 ghost use Rattle.record_words.specs.Layout.{leaf_size};
 ghost use Rattle.record_words.specs.State.{state_word};
 ghost use Rattle.versions.specs.declared.Rec.TheVariants.{Node as a_node, Leaf as a_leaf};
-ghost use Rattle.rowex_core.specs.Cores.{HasRecord};
 ghost use Rattle.rowex_table.specs.Rule.{IsStartOf};
 ghost use Rattle.rowex_table.specs.Seats.{IsSeatOf};
 ghost use Rattle.epochs.specs.Rounds.{AdvancesEpoch, BeginsRound, FindsBound, HasBound, IsRound, IsSmallRound, VisitsAll, GoesOnVisiting, VisitsOne, VisitsSome, is_given};
 
 use crate::limbo::{Limbo, MOST_VISITED};
-use record_words::{EPOCHS, Layout, Tag, unpack_state};
+use record_words::{EPOCHS, Tag, unpack_state};
 use rowex_core::{Gate, Rec};
 use rowex_table::{HotTable, TableSeat};
 
@@ -243,45 +242,48 @@ fn visit_limbo<G: Gate>(
     ensures same { (seat.new.known.pin ≡ seat.old.known.pin) × (seat.new.known.round ≡ seat.old.known.round) }
     ensures steps { VisitsSome table.now G.becomes bound MOST_VISITED (seat.old, gate.old) (seat.new, gate.new) }
 {
-    for _visited in 0..MOST_VISITED {
-        if !visit_oldest(table, seat, gate, limbo, bound) {
+    let count = limbo.count().min(MOST_VISITED);
+    for place in 0..count {
+        if !visit_waiting(table, seat, gate, limbo, bound, place) {
+            limbo.leave(place);
             return;
         }
     }
+    limbo.leave(count);
 }
 
-/// Visits the oldest record of a limbo list; answers whether the next one is to be visited too. One that the table hasn't is
-/// dropped without a visit.
-fn visit_oldest<G: Gate>(
+/// Visits the record that waits at this place of a limbo list; answers whether it leaves the list. One that the table hasn't does so
+/// without a visit.
+fn visit_waiting<G: Gate>(
     table: &HotTable,
     seat: &mut TableSeat,
     gate: &mut G,
     limbo: &mut Limbo,
     bound: u64,
+    place: usize,
 ) -> bool
     requires own { IsSeatOf table.now seat.old }
     requires bound { HasBound table.now.layout.passes bound seat.old.known }
     ensures same { (seat.new.known.pin ≡ seat.old.known.pin) × (seat.new.known.round ≡ seat.old.known.round) }
     ensures steps { VisitsSome table.now G.becomes bound 1 (seat.old, gate.old) (seat.new, gate.new) }
 {
-    let Some(rec) = limbo.oldest() else {
-        return false;
-    };
-    if !has_record(table.layout(), rec) {
-        limbo.settle(rec, Visited::Other);
+    let rec = limbo.waiting_at(place);
+    let Some(start) = start_within(table, rec) else {
         return true;
-    }
-    let seen = visit(table, seat, gate, rec, table.start_of(rec), bound);
+    };
+    let seen = visit(table, seat, gate, rec, start, bound);
     limbo.settle(rec, seen)
 }
 
-/// Whether a table of this layout has the record.
-fn has_record(layout: Layout, rec: Rec) -> bool
-    ensures { result ≡ true → HasRecord layout rec }
+/// The word at which a record begins, if the table has it.
+fn start_within(table: &HotTable, rec: Rec) -> Option<usize>
+    ensures { IfSome result (λ start. IsStartOf table.now.layout rec start) }
 {
+    let layout = table.layout();
     match rec {
-        Rec::Node(number) => number < layout.nodes,
-        Rec::Leaf(number) => number < layout.leaves,
+        Rec::Node(number) if number < layout.nodes => Some(table.start_of(rec)),
+        Rec::Leaf(number) if number < layout.leaves => Some(table.start_of(rec)),
+        _ => None,
     }
 }
 
@@ -335,12 +337,9 @@ fn epoch_below(word: u64, bound: u64) -> Option<u64>
     ensures { MatchOption result ((epoch : ℕ) → 1 ≤ epoch → epoch < EPOCHS → epoch < bound → word ≢ state_word (Obsolete epoch))
         (λ epoch. (1 ≤ epoch) × (epoch < EPOCHS) × (epoch < bound) × (word ≡ state_word (Obsolete epoch))) }
 {
-    // Most records are live, and of those no more is read.
-    if word % 8 != 4 {
-        return None;
+    let epoch = word / 8;
+    if word % 8 == 4 && epoch != 0 && epoch < bound.min(EPOCHS) {
+        return Some(epoch);
     }
-    match unpack_state(word) {
-        Ok(Tag::Obsolete(epoch)) if epoch < bound => Some(epoch),
-        _ => None,
-    }
+    None
 }

@@ -63,23 +63,29 @@ impl Limbo {
         self.given.clear();
     }
 
-    /// The oldest record that waits.
-    pub(crate) fn oldest(&self) -> Option<Rec> {
-        if self.count == 0 {
-            return None;
-        }
-        Some(self.waiting[self.first % MOST_WAITING])
+    /// How many records wait.
+    pub(crate) fn count(&self) -> usize {
+        self.count
     }
 
-    /// After a visit of the oldest record: unless it has to wait, it leaves the list. Answers whether it did.
+    /// The record that waits at this place, counted from the oldest on.
+    pub(crate) fn waiting_at(&self, place: usize) -> Rec {
+        self.waiting[self.first.wrapping_add(place) % MOST_WAITING]
+    }
+
+    /// After a visit of a record: notes it if it was given back. Answers whether it leaves the list, as it does unless it has to wait.
     pub(crate) fn settle(&mut self, rec: Rec, seen: Visited) -> bool {
         match seen {
             Visited::Waits => return false,
             Visited::Given if !self.given.is_full() => self.given.push(rec),
             _ => {}
         }
-        self.first = self.first.wrapping_add(1) % MOST_WAITING;
-        self.count = self.count.saturating_sub(1);
         true
+    }
+
+    /// The oldest so many records leave the list.
+    pub(crate) fn leave(&mut self, count: usize) {
+        self.first = self.first.wrapping_add(count) % MOST_WAITING;
+        self.count = self.count.saturating_sub(count);
     }
 }
