@@ -200,12 +200,8 @@ pub fn put_in<T: Copy>(places: &mut [T], count: usize, at: usize, element: T)
     requires room { count < length places.old }
     ensures { places.new ≡ insert (take count places.old) at element ++ drop (count + 1) places.old }
 {
-    let mut moved = element;
-    for i in at..count + 1 {
-        let next = places[i];
-        places[i] = moved;
-        moved = next;
-    }
+    places.copy_within(at..count, at + 1);
+    places[at] = element;
 }
 
 /// Takes an element out of the first `count`: those behind it move down by one, and `fill` comes behind them.
