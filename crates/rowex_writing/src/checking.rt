@@ -1,7 +1,8 @@
 //! The check under the locks: what a search has found still stands.
 
-ghost use Rattle.std.specs.Prelude.{◌≡◌, ◌≢◌, ◌<◌, ◌≤◌, ℕ, List, length, true, false, Some, IsSome, ◌+◌, ◌-◌};
+ghost use Rattle.std.specs.Prelude.{◌≡◌, ◌≢◌, ◌<◌, ◌≤◌, ℕ, List, length, true, false, Option, Some, IsSome, ◌+◌, ◌-◌};
 ghost use Rattle.compound_node.specs.declared.entries.Entry.{Entry as EntryValue};
+ghost use Rattle.record_words.specs.Entry.{HasEntryWord, entry_word};
 ghost use Rattle.tries.specs.Place.{entry_at};
 ghost use Rattle.rowex_core.specs.Reading.{node_words_of};
 ghost use Rattle.rowex_walks.specs.Scan.{IsPlaced};
@@ -18,7 +19,7 @@ ghost use Rattle.rowex_reading.specs.Ways.{RootWas, named};
 use crate::deeds::Job;
 use compound_node::Entry;
 use insert_cases::Step;
-use record_words::read_entry;
+use record_words::pack_entry;
 use rowex_core::{Gate, Spot};
 use rowex_reading::{Found, load_root};
 use rowex_table::{HotTable, TableSeat};
@@ -133,7 +134,21 @@ fn entry_stands<G: Gate>(
         entry: step.at,
     };
     let word = table.load_ref(seat, gate, spot);
-    are_same(read_entry(word), entry)
+    is_word_of(entry, word)
+}
+
+/// Whether the entry, or none, that has this word is this one. Its word is made and compared, which takes less than to read the other.
+fn is_word_of(entry: Option<Entry>, word: u64) -> bool
+    ensures same { result ≡ true → HasEntryWord entry × (entry_word entry ≡ word) }
+    ensures differ { result ≡ false → (e : Option EntryValue) → HasEntryWord e → entry_word e ≡ word → e ≢ entry }
+{
+    match entry {
+        None => word == 0,
+        Some(Entry::Leaf(number)) => word == pack_entry(Some(Entry::Leaf(number))),
+        Some(Entry::Node { number, height }) => {
+            height > 0 && word == pack_entry(Some(Entry::Node { number, height }))
+        }
+    }
 }
 
 /// Whether two entries, or none, are the same.
