@@ -19,7 +19,8 @@ use std::simd::prelude::*;
 /// The sparse partial keys rise. So those that agree in the first columns are a run, from the least number with these bits in front up
 /// to the greatest.
 #[inline(always)]
-pub fn affected_in(words: &[u64; HEAD_WORDS], found: u8, position: u16) -> (u8, u8)
+pub fn affected_in(words: &[u64], found: u8, position: u16) -> (u8, u8)
+    requires long { length words.now ≡ HEAD_WORDS }
     requires spelling { IsSpelling HasHeadWords head_words words.now }
     requires in_range { InNodesOf words.now (λ node. found < length node.entries) }
     ensures from { InNodesOf words.now (λ node. affected_first position found (piece node) ≡ result.0) }
@@ -36,8 +37,8 @@ pub fn affected_in(words: &[u64; HEAD_WORDS], found: u8, position: u16) -> (u8, 
 
 /// The sparse partial key at a place, used or unused.
 #[inline(always)]
-fn row_in(words: &[u64; HEAD_WORDS], at: u8) -> u32
-    requires { at < 32 }
+fn row_in(words: &[u64], at: u8) -> u32
+    requires { (length words.now ≡ HEAD_WORDS) × (at < 32) }
     ensures { InNodesOf words.now (λ node. result ≡ row_at node.rows at) }
 {
     (words[FIRST_ROWS + at as usize / 2] >> (32 * (at % 2)) & 0xffff_ffff) as u32

@@ -1,6 +1,7 @@
 -- The rows that agree with one in the columns below a position stand side by side: they are counted from both sides.
 use Rattle.std.proofs.Common.{◌≡◌, ◌∙◌, ◌+◌, ◌-◌, ◌*◌, ◌/◌, ◌%◌, ◌^◌, ◌<◌, ◌≤◌, List, ℕ, ap, ap₂, arith, bit_and, bit_or, count_by, drop, get_or, length, length-drop, lit≤, min, nat_lt, sym, take}
 use Rattle.std.proofs.lemmas.List.{get_or_default, take_all}
+use Rattle.std.proofs.lemmas.Simd.{get_or-chunk}
 use lib.Lanes.{chunk}
 use Rattle.std.proofs.lemmas.Nat.{and_mask, pow_pos, shr_split}
 use Rattle.std.proofs.lemmas.Nat.Bits.{and_high_mask, ones_shr}
@@ -13,7 +14,7 @@ use Rattle.pieces.specs.Positions.{front_below}
 use Rattle.record_words.specs.Node.{HasHeadWords, head_words}
 use Rattle.record_words.specs.Reading.{IsSpelling}
 use Rattle.record_words.proofs.Fronts.{affected_by_counts, columns_below, end_some, few_below, rows_in_front}
-use Rattle.record_words.proofs.Lanes.{eight_at, place_lanes_read}
+use Rattle.record_words.proofs.Lanes.{place_lanes_read}
 use Rattle.record_words.proofs.Lawful.{row-lt}
 use Rattle.record_words.proofs.Nodes.{length-head_words}
 use Rattle.record_words.proofs.Spelled.{count_read}
@@ -33,11 +34,11 @@ module _ (words : List ℕ) (given : IsSpelling HasHeadWords head_words words) w
 
 -- how many of its columns are below the position
 columns_are : (words places : List ℕ) (position n : ℕ) → position < 2 ^ 16 → n ≡ front_below position places → length places ≡ 32 →
-    ((i : ℕ) → i < 32 → get_or places i 0 ≡ get_or (chunk 0 8 (take (25 - 1) (drop 1 words))) (i / 4) 0 / 2 ^ (16 * (i % 4)) % 2 ^ 16) →
+    ((i : ℕ) → i < 32 → get_or places i 0 ≡ get_or (chunk 1 8 words) (i / 4) 0 / 2 ^ (16 * (i % 4)) % 2 ^ 16) →
     (node : NodeView) → IsLawfulNode node → head_words (head_of node) ≡ words → n ≡ front_below position node.columns
 columns_are words places position n small counted long each node lawful same =
     counted ∙ columns_below node lawful position places small
-    (place_lanes_read node lawful words places same long (λ i l. each i l ∙ ap (λ w. w / 2 ^ (16 * (i % 4)) % 2 ^ 16) (eight_at words 25 1 (i / 4) (lit≤ tt) (omega (arith, l)))))
+    (place_lanes_read node lawful words places same long (λ i l. each i l ∙ ap (λ w. w / 2 ^ (16 * (i % 4)) % 2 ^ 16) (get_or-chunk 1 8 words (i / 4) 0 (omega (arith, l)))))
 
 -- the bounds of the run
 module _ (c : After-min-end) (node : NodeView) (lawful : IsLawfulNode node) (same : head_words (head_of node) ≡ c.args.words.now) where
@@ -76,8 +77,8 @@ module _ (c : After-min-end) (node : NodeView) (lawful : IsLawfulNode node) (sam
 
   rows_are : c.rows_in-rows.result ≡ with_unused node.rows
   rows_are =
-      let long : length (drop 9 (head_words (head_of node))) ≤ 16 = omega (arith, length-drop 9 (head_words (head_of node)), length-head_words node) in
-      c.rows_in-rows.ensures node lawful (sym (take_all 16 (drop 9 (head_words (head_of node))) long) ∙ ap (λ words. take 16 (drop 9 words)) same)
+      let words = c.args.words.now in
+      c.rows_in-rows.ensures node lawful (ap (drop 9) same ∙ sym (take_all (length words - 9) (drop 9 words) (omega (arith, length-drop 9 words))))
 
   first_is : c.rows_below-first.result ≡ front_below (row / 2 ^ (32 - n) * 2 ^ (32 - n)) (with_unused node.rows)
   first_is =
