@@ -29,6 +29,7 @@ use Rattle.rowex_table.proofs.ActsBefore.{entry_of_locked, fixed_of_locked}
 use Rattle.rowex_rights.proofs.Loops.{later_if_same, later_transitive, still_locked}
 use Rattle.versions.proofs.Members.{all_of}
 use Rattle.rowex_writing.specs.Going.{WorksOn, ReadsOn, HasLocked, IsNodeOf, TriesNoLock}
+use Rattle.rowex_writing.specs.Loads.{AreRead, AreThose}
 
 -- ---- one after the other
 module _ {G : Type 0} (table : TableView) (becomes : G → Event → G → Type 0) where
@@ -94,11 +95,6 @@ module _ {layout : Layout} {k j : Known} (n i w : ℕ) (words : List ℕ) (h : H
   pub entry_word_of : 25 ≤ i → IsEvent layout (LoadRef (Slot n (i - 25)) w) silent k j → w ≡ get_or words i 0
   entry_word_of l e = let at : 25 + (i - 25) ≡ i = omega arith in (entry_of_locked layout silent k j n (i - 25) w words e h).0 ∙ ap (λ z. get_or words z 0) at
 
--- the first words that were loaded are those of the lock, which spell a node
-pub record AreThose (loaded words : List ℕ) (n : ℕ) : Type 0 where
-  pub each : (o : ℕ) → o < n → get_or loaded o 0 ≡ get_or words o 0
-  pub spelled : 0 < n → (view : NodeView) × IsNodeOf words view
-
 pub none_those : (loaded words : List ℕ) → AreThose loaded words 0
 none_those loaded words = record { each = λ o l. absurd (omega arith); spelled = λ l. absurd (omega arith) }
 
@@ -125,15 +121,6 @@ locked_on k j n words same h = subst (λ locks. IsOneOf (record { node = n; word
 -- what was loaded is the node that the lock's words spell
 pub words_shown : (k : Known) (n : ℕ) {loaded : List ℕ} → ((words : List ℕ) → HasLocked k n words → loaded ≡ words) → (view : NodeView) → IsNodeOf loaded view → (words : List ℕ) → HasLocked k n words → IsNodeOf words view
 words_shown k n same view is words h = subst (λ ws. IsNodeOf ws view) (same words h) is
-
--- The first n words of a locked node have been loaded, each by one load, and none behind them.
-pub record AreRead {G : Type 0} (table : TableView) (becomes : G → Event → G → Type 0) (a b : SeatView × G) (number : ℕ) (loaded : List ℕ) (n : ℕ) : Type 0 where
-  pub own : IsSeatOf table b.0
-  pub reads : ReadsOn table becomes a b
-  pub long : length loaded ≡ 57
-  pub rest : (o : ℕ) → n ≤ o → get_or loaded o 0 ≡ 0
-  pub those : (words : List ℕ) → HasLocked a.0.known number words → AreThose loaded words n
-  pub few : b.0.known.steps ≤ a.0.known.steps + n
 
 module _ {G : Type 0} (table : TableView) (becomes : G → Event → G → Type 0) (a : SeatView × G) where
   pub none_read : (number : ℕ) → IsSeatOf table a.0 → AreRead table becomes a a number (replicate 57 0) 0

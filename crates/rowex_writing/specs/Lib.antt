@@ -5,6 +5,7 @@ pub mod Remaking
 pub mod Going
 pub mod Classes
 pub mod Building
+pub mod Loads
 pub mod Locks
 pub mod Retiring
 pub mod Checks

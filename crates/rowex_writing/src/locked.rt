@@ -6,6 +6,7 @@ ghost use Rattle.versions.specs.declared.Rec.TheVariants.{Node as a_node};
 ghost use Rattle.rowex_table.specs.Rule.{IsStartOf};
 ghost use Rattle.rowex_table.specs.Seats.{IsSeatOf};
 ghost use Rattle.rowex_writing.specs.Going.{ReadsOn, HasLocked, IsLockedBy, IsNodeOf};
+ghost use Rattle.rowex_writing.specs.Loads.{ReadsEight};
 
 use compound_node::Node;
 use record_words::{HEAD_WORDS, NODE_FIELDS, read_node};
@@ -35,13 +36,35 @@ pub(crate) fn load_words<G: Gate>(
         words[index] = load_word(table, seat, gate, number, start, index);
     }
     let end = HEAD_WORDS + (words[0] % 256) as usize;
-    for block in 0..4 {
-        let first = HEAD_WORDS + 8 * block;
-        if first < end {
-            for place in 0..8 {
-                let index = first + place;
-                words[index] = load_word(table, seat, gate, number, start, index);
-            }
+    load_eight(table, seat, gate, number, start, words, 25, end);
+    load_eight(table, seat, gate, number, start, words, 33, end);
+    load_eight(table, seat, gate, number, start, words, 41, end);
+    load_eight(table, seat, gate, number, start, words, 49, end);
+}
+
+/// Loads eight words of a locked node, whose record begins at `start`, to these places: those from this index on, if there are entries among
+/// them, as the words of these end before `end`. Inline, so that it is known where each stands.
+#[inline(always)]
+fn load_eight<G: Gate>(
+    table: &HotTable,
+    seat: &mut TableSeat,
+    gate: &mut G,
+    number: u32,
+    start: usize,
+    words: &mut [u64; NODE_FIELDS],
+    first: usize,
+    end: usize,
+)
+    requires own { IsSeatOf table.now seat.old }
+    requires start { IsStartOf table.now.layout (a_node number) start }
+    requires range { first + 8 ≤ NODE_FIELDS }
+    ensures own { IsSeatOf table.now seat.new }
+    ensures reads { ReadsEight table.now G.becomes (seat.old, gate.old) (seat.new, gate.new) number words.old words.new first end }
+{
+    if first < end {
+        for place in 0..8 {
+            let index = first + place;
+            words[index] = load_word(table, seat, gate, number, start, index);
         }
     }
 }

@@ -1,0 +1,29 @@
+-- Words of a locked node that have been loaded, the first one first.
+use Rattle.std.specs.Prelude.{◌≡◌, ◌⊎◌, ℕ, ◌+◌, ◌<◌, ◌≤◌, List, length, get_or}
+use Rattle.compound_node.specs.Nodes.{NodeView}
+use Rattle.rowex_core.specs.declared.event.Event.{Event}
+use Rattle.rowex_table.specs.Seats.{TableView, SeatView, IsSeatOf}
+use Rattle.rowex_writing.specs.Going.{HasLocked, IsNodeOf, ReadsOn}
+
+-- the first words that were loaded are those of the lock, which spell a node
+pub record AreThose (loaded words : List ℕ) (n : ℕ) : Type 0 where
+  pub each : (o : ℕ) → o < n → get_or loaded o 0 ≡ get_or words o 0
+  pub spelled : 0 < n → (view : NodeView) × IsNodeOf words view
+
+-- The first n words of a locked node have been loaded, each by one load, and none behind them.
+pub record AreRead {G : Type 0} (table : TableView) (becomes : G → Event → G → Type 0) (a b : SeatView × G) (number : ℕ) (loaded : List ℕ) (n : ℕ) : Type 0 where
+  pub own : IsSeatOf table b.0
+  pub reads : ReadsOn table becomes a b
+  pub long : length loaded ≡ 57
+  pub rest : (o : ℕ) → n ≤ o → get_or loaded o 0 ≡ 0
+  pub those : (words : List ℕ) → HasLocked a.0.known number words → AreThose loaded words n
+  pub few : b.0.known.steps ≤ a.0.known.steps + n
+
+-- They have been loaded up to this index, or at least up to the end, which is before it.
+abbrev pub IsReadTo : {G : Type 0} → TableView → (G → Event → G → Type 0) → (a b : SeatView × G) → (number : ℕ) → (loaded : List ℕ) → (upto end : ℕ) → Type 0
+IsReadTo table becomes a b number loaded upto end = (n : ℕ) × AreRead table becomes a b number loaded n × (n ≤ upto) × ((n ≡ upto) ⊎ (end ≤ n))
+
+-- the pass goes on so for eight words more
+abbrev pub ReadsEight : {G : Type 0} → TableView → (G → Event → G → Type 0) → (b c : SeatView × G) → (number : ℕ) → (old new : List ℕ) → (first end : ℕ) → Type 0
+ReadsEight {G} table becomes b c number old new first end =
+    (a : SeatView × G) → IsReadTo table becomes a b number old first end → IsReadTo table becomes a c number new (first + 8) end
