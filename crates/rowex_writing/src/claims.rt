@@ -18,7 +18,9 @@ use rowex_table::{HotTable, TableSeat};
 
 /// Claims a record of a kind; answers its number, or nothing where none was free.
 ///
-/// It tries the last of the supply's spare numbers first, which is spare no more, and else each record, from `next` on.
+/// It tries the last of the supply's spare numbers first, which is spare no more, and else each record, from `next` on. Inline, so that no
+/// claim asks of which kind it is.
+#[inline(always)]
 pub(crate) fn claim_next<G: Gate>(
     table: &HotTable,
     seat: &mut TableSeat,
