@@ -204,8 +204,8 @@ module _ (i j : Known) (key : Key) (value : ℕ) (found : Found) where
     where
       go : (case : Case) → IsCase (s ∷ way) p chosen case (a_change span deed) → HasDone i j Put key value found
       go LeafPushdown e = done_by span deed (Pair p) _ _ e done
-      go NormalInsert e = done_by span deed (Grow p chosen.first chosen.last) _ _ e done
-      go Overflow (end, upto, e) = done_by span deed (Grow p chosen.first chosen.last) _ _ e done
+      go NormalInsert e = done_by span deed (Grow p) _ _ e done
+      go Overflow (end, upto, e) = done_by span deed (Grow p) _ _ e done
 
 -- the change is the one that was aimed at
 plan_does : (i j k : Known) (m : ℕ) (key : Key) (value : ℕ) (way : List Step) (aim : Aim) (found : Found) (span : Span) (deed : Deed) →

@@ -68,10 +68,11 @@ use Rattle.rowex_writing.proofs.Above.{locked_at, holds_above}
 use Rattle.rowex_writing.proofs.Shapes.{IsStepOf, locked_shape, shape_affects, way_node_locked}
 use Rattle.rowex_writing.proofs.Staging.{stage_of_held}
 use Rattle.tries.specs.Content.{item}
+use Rattle.tries.specs.Place.{spot}
 
 -- ---- the plan
 -- a plan by which a node gets the new leaf
-pub record IsGrowPlan (k : Known) (m : ℕ) (key : Key) (way : List Step) (found : Found) (len end position first last : ℕ) : Type 0 where
+pub record IsGrowPlan (k : Known) (m : ℕ) (key : Key) (way : List Step) (found : Found) (len end position : ℕ) : Type 0 where
   pub number : ℕ
   pub value : ℕ
   pub level : ℕ
@@ -82,8 +83,6 @@ pub record IsGrowPlan (k : Known) (m : ℕ) (key : Key) (way : List Step) (found
   pub is_level : IsLevel way position level
   pub is_chosen : IsChosen way level low high chosen
   pub len_is : len ≡ chosen.level + 1
-  pub first_is : first ≡ chosen.first
-  pub last_is : last ≡ chosen.last
   pub chain : IsChainEnd way chosen.level end
   pub affected : AreAffected k m key way (Leaf number value (Some position)) low high
 
@@ -151,24 +150,24 @@ abbrev plan_end : Plan → ℕ
 plan_end (Answer reply) = 0
 plan_end (Change span deed) = span.end
 
-abbrev IsGrowOf : (position first last : ℕ) → Plan → Type 0
-IsGrowOf position first last (Answer reply) = ⊥
-IsGrowOf position first last (Change span (Grow p f l)) = (p ≡ position) × (f ≡ first) × (l ≡ last)
-IsGrowOf position first last (Change span (Put)) = ⊥
-IsGrowOf position first last (Change span (Pair p)) = ⊥
-IsGrowOf position first last (Change span (Take)) = ⊥
+abbrev IsGrowOf : (position : ℕ) → Plan → Type 0
+IsGrowOf position (Answer reply) = ⊥
+IsGrowOf position (Change span (Grow p)) = p ≡ position
+IsGrowOf position (Change span (Put)) = ⊥
+IsGrowOf position (Change span (Pair p)) = ⊥
+IsGrowOf position (Change span (Take)) = ⊥
 
-module _ (k : Known) (m : ℕ) (key : Key) (way : List Step) (len end position first last : ℕ) where
+module _ (k : Known) (m : ℕ) (key : Key) (way : List Step) (len end position : ℕ) where
   abbrev plan : Plan
-  plan = change len end (Grow position first last)
+  plan = change len end (Grow position)
 
-  no_other : (other : Plan) → plan ≡ other → ¬ (IsGrowOf position first last other) → ⊥
-  no_other other is other_deed = other_deed (subst (IsGrowOf position first last) is (refl, refl, refl))
+  no_other : (other : Plan) → plan ≡ other → ¬ (IsGrowOf position other) → ⊥
+  no_other other is other_deed = other_deed (subst (IsGrowOf position) is refl)
 
   grown : (number value p level low high : ℕ) (c : Choice) → IsLevel way p level → IsChosen way level low high c → AreAffected k m key way (Leaf number value (Some p)) low high → (end_at : ℕ) → IsChainEnd way c.level end_at →
-      plan ≡ change (c.level + 1) end_at (Grow p c.first c.last) → IsGrowPlan k m key way (Leaf number value (Some p)) len end position first last
+      plan ≡ change (c.level + 1) end_at (Grow p) → IsGrowPlan k m key way (Leaf number value (Some p)) len end position
   grown number value p level low high c at is affected end_at chain same =
-      let (pos, fir, las) : IsGrowOf position first last (change (c.level + 1) end_at (Grow p c.first c.last)) = subst (IsGrowOf position first last) same (refl, refl, refl) in
+      let pos : IsGrowOf position (change (c.level + 1) end_at (Grow p)) = subst (IsGrowOf position) same refl in
       record {
         number = number;
         value = value;
@@ -180,27 +179,25 @@ module _ (k : Known) (m : ℕ) (key : Key) (way : List Step) (len end position f
         is_level = subst (λ z. IsLevel way z level) pos at;
         is_chosen = is;
         len_is = ap len_of same;
-        first_is = sym fir;
-        last_is = sym las;
         chain = subst (IsChainEnd way c.level) (sym (ap plan_end same)) chain;
         affected = subst (λ z. AreAffected k m key way (Leaf number value (Some z)) low high) pos affected;
       }
 
   by_case : (number value p level low high : ℕ) (c : Choice) (case : Case) → c.case ≡ case → IsLevel way p level → IsChosen way level low high c → AreAffected k m key way (Leaf number value (Some p)) low high →
-      IsCase way p c case plan → IsGrowPlan k m key way (Leaf number value (Some p)) len end position first last
+      IsCase way p c case plan → IsGrowPlan k m key way (Leaf number value (Some p)) len end position
   by_case number value p level low high c LeafPushdown e at is affected same = absurd (no_other _ same (λ z. z))
   by_case number value p level low high c NormalInsert e at is affected same = grown number value p level low high c at is affected c.level (one_chain way level low high c at.within is e) same
   by_case number value p level low high c Overflow e at is affected (end_at, chain, same) = grown number value p level low high c at is affected end_at chain same
 
-  new_leaf : (number value p low high : ℕ) → IsNewLeafPlan way p low high plan → AreAffected k m key way (Leaf number value (Some p)) low high → IsGrowPlan k m key way (Leaf number value (Some p)) len end position first last
+  new_leaf : (number value p low high : ℕ) → IsNewLeafPlan way p low high plan → AreAffected k m key way (Leaf number value (Some p)) low high → IsGrowPlan k m key way (Leaf number value (Some p)) len end position
   new_leaf number value p low high is affected = go way refl is
     where
-      go : (w : List Step) → w ≡ way → IsNewLeafPlan w p low high plan → IsGrowPlan k m key way (Leaf number value (Some p)) len end position first last
+      go : (w : List Step) → w ≡ way → IsNewLeafPlan w p low high plan → IsGrowPlan k m key way (Leaf number value (Some p)) len end position
       go [] e same = absurd (no_other _ same (λ z. z))
       go (s ∷ ss) e (level, at, (c, chosen, case)) =
           by_case number value p level low high c c.case refl (subst (λ w. IsLevel w p level) e at) (subst (λ w. IsChosen w level low high c) e chosen) affected (subst (λ w. IsCase w p c c.case plan) e case)
 
-  pub grow_plan : (aim : Aim) (found : Found) → IsPlanned k m key way aim found (change len end (Grow position first last)) → IsGrowPlan k m key way found len end position first last
+  pub grow_plan : (aim : Aim) (found : Found) → IsPlanned k m key way aim found (change len end (Grow position)) → IsGrowPlan k m key way found len end position
   grow_plan Insert Nothing (low, high, is, affected) = absurd (no_other _ is (λ z. z))
   grow_plan Upsert Nothing (low, high, is, affected) = absurd (no_other _ is (λ z. z))
   grow_plan Remove Nothing (low, high, is, affected) = absurd (no_other _ is (λ z. z))
@@ -246,11 +243,9 @@ forked_big : (x : Subtrie) → 2 ≤ size x → IsForked x
 forked_big (Place e) h = absurd (omega arith)
 forked_big (Fork q a b) h = tt
 
-whole_part : (key : Key) (p last : ℕ) (x : Subtrie) → IsForked x → p ≤ first_position x → size x ≡ last + 1 → IsPartSubtrie (subtrie_affected p key x) × AffectsJust key p 0 last x
-whole_part key p last (Place e) f h n = elim f [ ]
-whole_part key p last (Fork q a b) f h n =
-    let e : nat_lt q p ≡ false = le-ltb q p h in
-    (rw e tt, record { from = rw e refl; upto = rw e (omega (arith, n)) })
+whole_part : (key : Key) (p : ℕ) (x : Subtrie) → IsForked x → p ≤ first_position x → IsPartSubtrie (subtrie_affected p key x)
+whole_part key p (Place e) f h = elim f [ ]
+whole_part key p (Fork q a b) f h = let e : nat_lt q p ≡ false = le-ltb q p h in rw e tt
 
 below_first : (p : ℕ) (x : Subtrie) → IsForked x → first_position x < p → FirstForkIsBefore p x
 below_first p (Place e) f h = elim f [ ]
@@ -338,7 +333,7 @@ module _ (layout : Layout) (k : Known) (m : ℕ) (key : Key) (way : List Step) (
 
 -- ---- where a new leaf goes
 module _ (layout : Layout) (k : Known) (m : ℕ) (key : Key) (way : List Step) (found : Found) (span : Span) (possible : IsPossible layout k) (own : k.own ≡ []) (w : IsWayOf layout k m key way found) (locked : HasLockedSpan k way span)
-    (checked : IsChecked k key way found span) (position first last : ℕ) (plan : IsGrowPlan k m key way found span.len span.end position first last) where
+    (checked : IsChecked k key way found span) (position : ℕ) (plan : IsGrowPlan k m key way found span.len span.end position) where
   abbrev top : ℕ
   top = plan.chosen.level
 
@@ -362,23 +357,18 @@ module _ (layout : Layout) (k : Known) (m : ℕ) (key : Key) (way : List Step) (
   tip_at few s at words h = let count = size_affected key position plan.low plan.high (node_words_of words).subtrie (affected_at s at words h) in tip_of_one_place (subtrie_affected position key (node_words_of words).subtrie) (omega (arith, count))
 
   -- the chosen node's affected part
-  pub part_at : (s : Step) → slice_get way top ≡ Some s → (words : List ℕ) → HasLocked k s.number words → IsPartSubtrie (subtrie_affected position key (node_words_of words).subtrie) × AffectsJust key position first last (node_words_of words).subtrie
+  pub part_at : (s : Step) → slice_get way top ≡ Some s → (words : List ℕ) → HasLocked k s.number words → IsPartSubtrie (subtrie_affected position key (node_words_of words).subtrie)
   part_at s at words h = elim (chosen_is way plan.level plan.low plan.high plan.chosen plan.is_level.within plan.is_chosen) [
     | inl (several, u, there, is) ↦
         let here : slice_get way plan.level ≡ Some s = ap (slice_get way) (sym (ap (λ (c : Choice). c.level) is)) ∙ at in
-        let affects = affected_at s here words h in
-        let count = size_affected key position plan.low plan.high (node_words_of words).subtrie affects in
-        (part_of_two (subtrie_affected position key (node_words_of words).subtrie) (omega (arith, count)), subst_range plan.low plan.high (ap (λ (c : Choice). c.first) is) (ap (λ (c : Choice). c.last) is) words affects)
+        let count = size_affected key position plan.low plan.high (node_words_of words).subtrie (affected_at s here words h) in
+        part_of_two (subtrie_affected position key (node_words_of words).subtrie) (omega (arith, count))
     | inr o ↦ elim o [
       | inl (few, u, there, is) ↦
           let here : slice_get way (plan.level + 1) ≡ Some s = ap (slice_get way) (sym (ap (λ (c : Choice). c.level) is)) ∙ at in
-          let same : u ≡ s = some_injective (sym there ∙ here) in
           let of_step = step_at layout k m key way found span possible own w locked checked (plan.level + 1) s here words h in
           let high = plan.is_level.rest (plan.level + 1) s (omega arith) here in
-          let some = size_pos (node_words_of words).subtrie in
-          let count : u.count ≡ s.count = ap (λ (z : Step). z.count) same in
-          let (part, affects) = whole_part key position (u.count - 1) (node_words_of words).subtrie (forked layout k m key way found span possible own w locked checked s.number words h) (omega (arith, high, of_step.first)) (omega (arith, some, of_step.count, count)) in
-          (part, subst_range 0 (u.count - 1) (ap (λ (c : Choice). c.first) is) (ap (λ (c : Choice). c.last) is) words affects)
+          whole_part key position (node_words_of words).subtrie (forked layout k m key way found span possible own w locked checked s.number words h) (omega (arith, high, of_step.first))
       | inr (few, past, u, there, is) ↦
           let level_is : top ≡ plan.level = ap (λ (c : Choice). c.level) is in
           let here : slice_get way plan.level ≡ Some s = ap (slice_get way) (sym level_is) ∙ at in
@@ -386,13 +376,13 @@ module _ (layout : Layout) (k : Known) (m : ℕ) (key : Key) (way : List Step) (
           let on : subtrie_affected position key (node_words_of words).subtrie ≡ Place (seek key (node_words_of words).subtrie) = tip_seek position key (node_words_of words).subtrie tip in
           let named_is = checked.entries plan.level s (let u = plan.chain.upto in omega (arith, level_is)) (omega (arith, level_is, top_below)) here words h in
           let leaf : seek key (node_words_of words).subtrie ≡ LeafEntry plan.number = some_injective (sym named_is ∙ (named_end way found (plan.level + 1) past ∙ ap end_of plan.found_is)) in
-          (subst IsPartSubtrie (sym (on ∙ ap (λ e. let z : Subtrie = Place e in z) leaf)) tt, subst_range plan.low plan.high (ap (λ (c : Choice). c.first) is) (ap (λ (c : Choice). c.last) is) words (affected_at s here words h))
+          subst IsPartSubtrie (sym (on ∙ ap (λ e. let z : Subtrie = Place e in z) leaf)) tt
     ]
   ]
-    where
-      subst_range : (f l : ℕ) → plan.chosen.first ≡ f → plan.chosen.last ≡ l → (words : List ℕ) → AffectsJust key position f l (node_words_of words).subtrie → AffectsJust key position first last (node_words_of words).subtrie
-      subst_range f l ef el words a =
-          subst (λ z. AffectsJust key position z last (node_words_of words).subtrie) (sym (plan.first_is ∙ ef)) (subst (λ z. AffectsJust key position f z (node_words_of words).subtrie) (sym (plan.last_is ∙ el)) a)
+
+  -- where the key's search leads in the chosen node, as it did before
+  pub leads_at : (s : Step) → slice_get way top ≡ Some s → (words : List ℕ) → HasLocked k s.number words → spot key (node_words_of words).subtrie ≡ s.at
+  leads_at s at words h = let (e, is, node) = w.nodes top s at in (way_node_locked layout k m key s e words possible w.since node h).at
 
   -- above the chosen node the insertion affects no more than the place on the way
   last_path : (i : ℕ) (s u : Step) (ws wu : List ℕ) → i + 1 ≡ top → slice_get way i ≡ Some s → slice_get way (i + 1) ≡ Some u → HasLocked k s.number ws → HasLocked k u.number wu →

@@ -37,12 +37,9 @@ use Rattle.rowex_table.specs.Publishes.{Publishes}
 use Rattle.rowex_table.specs.Rule.{HasSpot}
 use Rattle.record_words.specs.Leaf.{words_for}
 use Rattle.insert_cases.proofs.Choosing.{some_at}
-use Rattle.rowex_core.specs.Reading.{node_words_of}
 use Rattle.rowex_rights.specs.Loops.{StaysLocked}
 use Rattle.rowex_rights.proofs.Sure.{found_stays}
-use Rattle.tries.specs.Affected.{subtrie_affected, IsPartSubtrie}
 use Rattle.tries.proofs.Places.{spot_below}
-use Rattle.rowex_writing.specs.Remaking.{AffectsJust}
 use Rattle.rowex_writing.specs.Plans.{change}
 use Rattle.rowex_reading.specs.Ways.{IsWayOf}
 use Rattle.rowex_writing.specs.declared.plan.Aim.{Aim}
@@ -64,7 +61,7 @@ use Rattle.rowex_writing.specs.Locks.{AreNodes, Works, numbers_of, span_numbers}
 use Rattle.rowex_writing.specs.Putting.{IsSpotAbove}
 use Rattle.rowex_writing.specs.Retiring.{AreInTable}
 use Rattle.rowex_writing.specs.declared.plan.Span.{Span}
-use Rattle.rowex_writing.proofs.Bridging.{IsGrowPlan, chain_at, found_below, grow_plan, part_at, pulled_full, spot_of, top_within}
+use Rattle.rowex_writing.proofs.Bridging.{IsGrowPlan, chain_at, found_below, grow_plan, part_at, leads_at, pulled_full, spot_of, top_within}
 use Rattle.rowex_writing.proofs.Above.{locked_at}
 use Rattle.rowex_writing.proofs.Lifting.{gone_more}
 use Rattle.rowex_writing.proofs.Runs.{works_run}
@@ -195,10 +192,10 @@ full_since layout key a b c Nodes count missed = λ q low. (let (step, late, mis
 full_since layout key a b c Leaves count missed = λ q low room. (let (step, late, miss) = missed q low room in (step, le_trans count late, miss))
 
 -- ---- the leaf's record is made
-pub may_grow : (table : TableView) (a b : SeatView) (made : List Rec) (m : ℕ) (key : Key) (value : ℕ) (way : List Step) (found : Found) (span : Span) (aim : Aim) (position first last leaf : ℕ) → HasTakenSpan table a m key way found span →
-    IsPlanned a.known m key way aim found (change span.len span.end (Grow position first last)) → StaysLocked a.known b.known → HasLeafMade table b made (item leaf key value) →
-    MayGrow table b made way key value span position first last leaf
-may_grow table a b made m key value way found span aim position first last leaf t planned stays made_leaf = record {
+pub may_grow : (table : TableView) (a b : SeatView) (made : List Rec) (m : ℕ) (key : Key) (value : ℕ) (way : List Step) (found : Found) (span : Span) (aim : Aim) (position took leaf : ℕ) → HasTakenSpan table a m key way found span →
+    IsPlanned a.known m key way aim found (change span.len span.end (Grow position)) → ((s : Step) → slice_get way (span.len - 1) ≡ Some s → s.at ≡ took) → StaysLocked a.known b.known → HasLeafMade table b made (item leaf key value) →
+    MayGrow table b made way key value span position took leaf
+may_grow table a b made m key value way found span aim position took leaf t planned is_took stays made_leaf = record {
   within = (omega (arith, upto, len_is), omega (arith, len_is, within));
   depth = w.depth;
   nodes = λ n d low. (w.nodes n (get_or way n d) (slice_get-get_or way n d low)).2.range;
@@ -221,12 +218,12 @@ may_grow table a b made m key value way found span aim position first last leaf 
       leaf_is = refl;
       made_leaf = made_leaf;
       found = subst (λ held. HasFoundBelow b.known held m x position below.0 s.number words) (sym stays.1) (found_stays a.known b.known a.known.locks m x position below.0 s.number words stays.0 below.1);
-      part = part.0;
-      affects = part.1;
+      part = part_at table.layout a.known m key way found span t.possible t.own w t.locked t.checked position plan s at words held;
+      leads = leads_at table.layout a.known m key way found span t.possible t.own w t.locked t.checked position plan s at words held ∙ is_took s (ap (slice_get way) last_is ∙ at);
     };
-    full = λ more. pulled_full table.layout a.known m key way found span t.possible t.own w t.locked t.checked position first last plan plan.chosen.level s (omega (arith, more, len_is)) (omega arith) at words held;
+    full = λ more. pulled_full table.layout a.known m key way found span t.possible t.own w t.locked t.checked position plan plan.chosen.level s (omega (arith, more, len_is)) (omega arith) at words held;
     chain = subst (λ n. IsChain table.layout.nodes b.known.locks way key position span.end n) (sym last_is)
-        (subst (λ ls. IsChain table.layout.nodes ls way key position span.end plan.chosen.level) (sym stays.1) (chain_at table.layout a.known m key way found span t.possible t.own w t.locked t.checked position first last plan));
+        (subst (λ ls. IsChain table.layout.nodes ls way key position span.end plan.chosen.level) (sym stays.1) (chain_at table.layout a.known m key way found span t.possible t.own w t.locked t.checked position plan));
   };
   item_is = refl;
   place = λ u us e spot there locked fits where_it_is.
@@ -238,8 +235,8 @@ may_grow table a b made m key value way found span aim position first last leaf 
     w : IsWayOf table.layout a.known m key way found
     w = t.way_of
 
-    plan : IsGrowPlan a.known m key way found span.len span.end position first last
-    plan = grow_plan a.known m key way span.len span.end position first last aim found planned
+    plan : IsGrowPlan a.known m key way found span.len span.end position
+    plan = grow_plan a.known m key way span.len span.end position aim found planned
 
     x : Item
     x = item leaf key value
@@ -254,7 +251,7 @@ may_grow table a b made m key value way found span aim position first last leaf 
     last_is = omega (arith, len_is)
 
     within : plan.chosen.level < length way
-    within = top_within table.layout a.known m key way found span t.possible t.own w t.locked t.checked position first last plan
+    within = top_within table.layout a.known m key way found span t.possible t.own w t.locked t.checked position plan
 
     s : Step
     s = (some_at way plan.chosen.level within).0
@@ -267,9 +264,6 @@ may_grow table a b made m key value way found span aim position first last leaf 
 
     held : HasLocked a.known s.number words
     held = (locked_at a.known way span t.locked plan.chosen.level s (omega (arith, upto)) (omega (arith, len_is)) at).1
-
-    part : IsPartSubtrie (subtrie_affected position key (node_words_of words).subtrie) × AffectsJust key position first last (node_words_of words).subtrie
-    part = part_at table.layout a.known m key way found span t.possible t.own w t.locked t.checked position first last plan s at words held
 
     below : (l : Key) × HasFoundBelow a.known a.known.locks m x position l s.number words
     below =
@@ -285,22 +279,22 @@ may_grow table a b made m key value way found span aim position first last leaf 
 
     place : (u : Step) (us : List ℕ) (e : Entry) → slice_get way span.end ≡ Some u → HasLocked a.known u.number us → FitsAbove us e → (spot : Spot) → IsSpotAbove way span.end spot →
         IsSpotOf a.known a.known.locks key position u.number e spot × HasSpot table.layout spot
-    place u us e there locked fits spot is = (spot_of table.layout a.known m key way found span t.possible t.own w t.locked t.checked position first last plan u us e there locked fits spot is, in_table spot is)
+    place u us e there locked fits spot is = (spot_of table.layout a.known m key way found span t.possible t.own w t.locked t.checked position plan u us e there locked fits spot is, in_table spot is)
 
 -- the span of such a plan has a node
-pub grow_within : (table : TableView) (a : SeatView) (m : ℕ) (key : Key) (way : List Step) (found : Found) (span : Span) (aim : Aim) (position first last : ℕ) → HasTakenSpan table a m key way found span →
-    IsPlanned a.known m key way aim found (change span.len span.end (Grow position first last)) → (span.end < span.len) × (span.len ≤ length way)
-grow_within table a m key way found span aim position first last t planned =
-    let plan = grow_plan a.known m key way span.len span.end position first last aim found planned in
-    let within = top_within table.layout a.known m key way found span t.possible t.own t.way_of t.locked t.checked position first last plan in
+pub grow_within : (table : TableView) (a : SeatView) (m : ℕ) (key : Key) (way : List Step) (found : Found) (span : Span) (aim : Aim) (position : ℕ) → HasTakenSpan table a m key way found span →
+    IsPlanned a.known m key way aim found (change span.len span.end (Grow position)) → (span.end < span.len) × (span.len ≤ length way)
+grow_within table a m key way found span aim position t planned =
+    let plan = grow_plan a.known m key way span.len span.end position aim found planned in
+    let within = top_within table.layout a.known m key way found span t.possible t.own t.way_of t.locked t.checked position plan in
     let upto = plan.chain.upto in
     (omega (arith, upto, plan.len_is), omega (arith, within, plan.len_is))
 
 -- the change is that of a key which was absent
-pub grown_stored : (k : Known) (m : ℕ) (key : Key) (value : ℕ) (way : List Step) (found : Found) (span : Span) (aim : Aim) (position first last leaf : ℕ) →
-    IsPlanned k m key way aim found (change span.len span.end (Grow position first last)) → IsPutChange k.pass key value found (added_change k.pass (item leaf key value)) None
-grown_stored k m key value way found span aim position first last leaf planned =
-    let plan = grow_plan k m key way span.len span.end position first last aim found planned in
+pub grown_stored : (k : Known) (m : ℕ) (key : Key) (value : ℕ) (way : List Step) (found : Found) (span : Span) (aim : Aim) (position leaf : ℕ) →
+    IsPlanned k m key way aim found (change span.len span.end (Grow position)) → IsPutChange k.pass key value found (added_change k.pass (item leaf key value)) None
+grown_stored k m key value way found span aim position leaf planned =
+    let plan = grow_plan k m key way span.len span.end position aim found planned in
     subst (λ f. IsPutChange k.pass key value f (added_change k.pass (item leaf key value)) None) (sym plan.found_is) (refl, refl)
 
 -- ---- the store
@@ -312,8 +306,8 @@ entry_has : (e : Entry) → HasNumber e → IsEntry e → HasEntryWord (Some e)
 entry_has (LeafEntry n) low is = omega (arith, low)
 entry_has (Node n h) low is = (omega (arith, low), omega (arith, is.0), omega (arith, is.1))
 
-module _ (table : TableView) (a b : SeatView) (made after : List Rec) (way : List Step) (key : Key) (value : ℕ) (span : Span) (position first last leaf : ℕ)
-    (may : MayGrow table a made way key value span position first last leaf) (later : IsLater a.known b.known) (locks : b.known.locks ≡ a.known.locks) (anchor : b.known.anchor ≡ a.known.anchor) (e : Entry) (number : HasNumber e) (stays : Bool)
+module _ (table : TableView) (a b : SeatView) (made after : List Rec) (way : List Step) (key : Key) (value : ℕ) (span : Span) (position took leaf : ℕ)
+    (may : MayGrow table a made way key value span position took leaf) (later : IsLater a.known b.known) (locks : b.known.locks ≡ a.known.locks) (anchor : b.known.anchor ≡ a.known.anchor) (e : Entry) (number : HasNumber e) (stays : Bool)
     (risen : HasRisenTo table b after way may.growing.lowest.since may.growing.lowest.item position may.growing.lowest.like span.end (gone_with_way way span.end (span.len - 1) (gone_unless_whole stays may.growing.step.number)) e)
     (low : (s : Step) (words : List ℕ) → slice_get way span.end ≡ Some s → HasLocked a.known s.number words → FitsAbove words e) where
   -- the words of the topmost node

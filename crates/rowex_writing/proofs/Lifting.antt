@@ -22,7 +22,7 @@ use Rattle.tries.proofs.Building.{size-piece}
 use Rattle.tries.specs.Affected.{subtrie_grown}
 use Rattle.tries.specs.Content.{Item}
 use Rattle.tries.specs.Keys.{Key}
-use Rattle.tries.specs.Place.{with_subtrie}
+use Rattle.tries.specs.Place.{spot, with_subtrie}
 use Rattle.tries.specs.Tree.{Subtrie}
 use Rattle.versions.specs.Heap.{NodeWords}
 use Rattle.versions.specs.Trades.{IsOneOf}
@@ -39,7 +39,7 @@ use Rattle.rowex_rights.proofs.Rising.{risen_stays, rises_pulled, rises_wrapped,
 use Rattle.rowex_rights.specs.Rises.{made_of_node, made_of_leaf, IsSide, anew, HasFoundBelow}
 use Rattle.rowex_writing.specs.Building.{IsBuilding, IsHalfMade, IsMadeFrom, IsRaising, IsBelow, IsLevelRisen, IsLowest, IsLowRisen, IsNextTo, IsRisenAt, IsSingle, IsSplit, FitsAbove, IsChain, IsRisingOn, IsGrowing, IsGrownFrom, HasNotMade, HasRisenTo, gone_unless_whole, gone_with_way}
 use Rattle.rowex_writing.specs.Going.{WorksOn, ReadsOn, HasLocked, IsNodeOf}
-use Rattle.rowex_writing.specs.Remaking.{IsSubtrieOfTree, AffectsJust, IsLowHalf, IsNoHigher, subtrie_with_leaf}
+use Rattle.rowex_writing.specs.Remaking.{IsSubtrieOfTree, IsLowHalf, IsNoHigher, subtrie_with_leaf}
 use Rattle.rowex_writing.specs.declared.remaking.NewLeaf.{NewLeaf}
 use Rattle.rowex_writing.proofs.Remade.{built_low}
 use Rattle.rowex_writing.proofs.Making.{building_on}
@@ -160,8 +160,8 @@ kept_or_not : (stays : Bool) → (stays ≡ true) ⊎ (stays ≡ false)
 kept_or_not true = inl refl
 kept_or_not false = inr refl
 
-module _ {G : Type 0} (table : TableView) (becomes : G → Event → G → Type 0) {a m : SeatView × G} {made : List Rec} {key : Key} {number position first last leaf : ℕ} {node : NodeView}
-    (reads : ReadsOn table becomes a m) (b : IsLowest table a.0 made key number position first last leaf) (shown : (words : List ℕ) → HasLocked a.0.known number words → IsNodeOf words node) where
+module _ {G : Type 0} (table : TableView) (becomes : G → Event → G → Type 0) {a m : SeatView × G} {made : List Rec} {key : Key} {number position took leaf : ℕ} {node : NodeView}
+    (reads : ReadsOn table becomes a m) (b : IsLowest table a.0 made key number position took leaf) (shown : (words : List ℕ) → HasLocked a.0.known number words → IsNodeOf words node) where
   low_node : IsNodeOf b.words node
   low_node = shown b.words b.found.locked
 
@@ -185,8 +185,8 @@ module _ {G : Type 0} (table : TableView) (becomes : G → Event → G → Type 
       (risen_subtrie table.layout a.0.known (made_of_leaf b.item b.made_leaf.fresh ∷ []) [] b.since b.item position b.like body number b.words (subtrie_grown position b.item.key (Leaf b.item.number) (piece node))
       b.made_leaf.building.possible b.made_leaf.building.holds b.made_leaf.building.packed low_leaf b.found.locked low_grown)
 
-  pub low_affects : AffectsJust key position first last (piece node)
-  low_affects = subst (λ k. AffectsJust k position first last (piece node)) (sym b.key_is) (subst (AffectsJust b.item.key position first last) low_subtrie b.affects)
+  pub low_leads : spot key (piece node) ≡ took
+  low_leads = ap (λ k. spot k (piece node)) b.key_is ∙ (ap (spot b.item.key) (sym low_subtrie) ∙ b.leads)
 
   pub low_building : IsBuilding table m.0 made (made_of_leaf b.item b.made_leaf.fresh ∷ [])
   low_building = building_on table becomes a m made (made_of_leaf b.item b.made_leaf.fresh ∷ []) reads.goes reads.own b.made_leaf.building
@@ -454,8 +454,8 @@ settled_at_end table a c made after_made way key end level number risen same up 
     )
 
 -- ---- all of a span
-module _ (table : TableView) (a : SeatView) (made : List Rec) (way : List Step) (key : Key) (end top position first last leaf : ℕ) (b : IsGrowing table a made way key end top position first last leaf) (number : ℕ) (is : number ≡ b.step.number) where
-  abbrev pub low_at : IsLowest table a made key number position first last leaf
+module _ (table : TableView) (a : SeatView) (made : List Rec) (way : List Step) (key : Key) (end top position took leaf : ℕ) (b : IsGrowing table a made way key end top position took leaf) (number : ℕ) (is : number ≡ b.step.number) where
+  abbrev pub low_at : IsLowest table a made key number position took leaf
   low_at = record {
     since = b.lowest.since;
     item = b.lowest.item;
@@ -466,7 +466,7 @@ module _ (table : TableView) (a : SeatView) (made : List Rec) (way : List Step) 
     made_leaf = b.lowest.made_leaf;
     found = subst (λ n. HasFoundBelow a.known a.known.locks b.lowest.since b.lowest.item position b.lowest.like n b.lowest.words) (sym is) b.lowest.found;
     part = b.lowest.part;
-    affects = b.lowest.affects;
+    leads = b.lowest.leads;
   }
 
   abbrev pub up_first : (m : SeatView) (made_then : List Rec) (then : Risen) (stays : Bool) → m.known.locks ≡ a.known.locks → (after : List Made) →

@@ -1,17 +1,20 @@
 -- The span of a plan lies on the way.
-use Rattle.std.proofs.Common.{◌≡◌, ℕ, ◌+◌, ◌<◌, ◌≤◌, List, [], ◌∷◌, length, ap, sym, subst, arith, Some, None, ⊎_elim}
-use Rattle.std.proofs.lemmas.Bool.{cases_lt}
+use Rattle.std.proofs.Common.{◌≡◌, ℕ, ◌+◌, ◌<◌, ◌≤◌, ◌∙◌, Bool, true, false, List, [], ◌∷◌, length, nat_lt, refl, ap, sym, subst, arith, Some, None, ⊎_elim}
+use Rattle.std.proofs.lemmas.Bool.{cases_lt, le-ltb, lt-ltb}
+use Rattle.std.proofs.lemmas.Option.{slice_get_within}
 use Rattle.std.specs.Prelude.{slice_get}
 use Rattle.insert_cases.specs.declared.choice.Case.{Case}
 use Rattle.insert_cases.specs.declared.choice.Case.TheVariants.{LeafPushdown, NormalInsert, Overflow}
 use Rattle.insert_cases.specs.declared.choice.Choice.{Choice}
 use Rattle.insert_cases.specs.declared.choice.Step.{Step}
-use Rattle.insert_cases.specs.Levels.{IsChosen}
-use Rattle.insert_cases.proofs.Choosing.{some_at}
+use Rattle.insert_cases.specs.Levels.{IsChainEnd, IsChosen, IsLevel}
+use Rattle.insert_cases.specs.Ways.{case_of}
+use Rattle.insert_cases.proofs.Choosing.{some_at, some_injective}
 use Rattle.rowex_writing.specs.Plans.{change, LiesOnWay, IsCase, IsBeside, IsNewLeafPlan, IsPlan}
 use Rattle.rowex_writing.specs.declared.plan.Aim.{Aim}
 use Rattle.rowex_writing.specs.declared.plan.Aim.TheVariants.{Insert, Upsert, Remove}
 use Rattle.rowex_writing.specs.declared.plan.Deed.{Deed}
+use Rattle.rowex_writing.specs.declared.plan.Deed.TheVariants.{Grow}
 use Rattle.rowex_reading.specs.declared.descent.Found.{Found}
 use Rattle.rowex_reading.specs.declared.descent.Found.TheVariants.{Nothing, Leaf}
 use Rattle.rowex_writing.specs.declared.plan.Plan.{Plan}
@@ -61,3 +64,40 @@ plan_within way first last Upsert (Leaf n v None) plan is = changed way _ _ _ pl
 plan_within way first last Remove Nothing plan is = answered way plan is
 plan_within way first last Remove (Leaf n v (Some p)) plan is = answered way plan is
 plan_within way first last Remove (Leaf n v None) plan is = changed way _ _ _ plan (omega arith) (omega arith) is
+
+-- Where the last node of the way has leaves alone, the leaf goes into it, whichever entries are affected.
+module _ (way : List Step) (position level : ℕ) (s : Step) (plan : Plan) (last : level + 1 ≡ length way) (at : slice_get way level ≡ Some s) (low : s.height ≤ 1) (first upto : ℕ) where
+  abbrev low_choice : Choice
+  low_choice = record { level = level; first = first; last = upto; case = case_of s.height s.count false }
+
+  low_case : (one_leaf : Bool) → case_of s.height s.count false ≡ case_of s.height s.count one_leaf
+  low_case true = let e : nat_lt 1 s.height ≡ false = le-ltb 1 s.height low in rw e refl
+  low_case false = refl
+
+  same : (t : Step) → slice_get way level ≡ Some t → s ≡ t
+  same t there = some_injective (sym at ∙ there)
+
+  low_chosen : IsChosen way level first upto low_choice
+  low_chosen = record {
+    several = λ more t there. subst (λ (z : Step). low_choice ≡ record { level = level; first = first; last = upto; case = case_of z.height z.count false }) (same t there) refl;
+    next = λ few t there. absurd (let within = slice_get_within way (level + 1) t there in omega (arith, within, last));
+    leaf = λ few past t there. subst (λ (z : Step). low_choice ≡ record { level = level; first = first; last = upto; case = case_of z.height z.count true }) (same t there)
+        (ap (λ case. record { level = level; first = first; last = upto; case = case }) (low_case true));
+  }
+
+  pub low_room : s.count < 32 → plan ≡ change (level + 1) level (Grow position) → IsBeside way position level first upto plan
+  low_room room is = (low_choice, low_chosen, subst (λ case. IsCase way position low_choice case plan) (sym (case_room room)) is)
+    where
+      case_room : s.count < 32 → case_of s.height s.count false ≡ NormalInsert
+      case_room room = let e : nat_lt s.count 32 ≡ true = lt-ltb s.count 32 room in rw e refl
+
+  pub low_full : 32 ≤ s.count → (end : ℕ) → IsChainEnd way level end → plan ≡ change (level + 1) end (Grow position) → IsBeside way position level first upto plan
+  low_full full end chain is = (low_choice, low_chosen, subst (λ case. IsCase way position low_choice case plan) (sym (case_full full)) (end, chain, is))
+    where
+      case_full : 32 ≤ s.count → case_of s.height s.count false ≡ Overflow
+      case_full full = let e : nat_lt s.count 32 ≡ false = le-ltb s.count 32 full in rw e refl
+
+-- a plan at the level is that of the new leaf
+pub new_leaf_at : (way : List Step) (position level first upto : ℕ) (plan : Plan) → IsLevel way position level → IsBeside way position level first upto plan → IsNewLeafPlan way position first upto plan
+new_leaf_at [] position level first upto plan is beside = absurd (let within = is.within in omega (arith, within))
+new_leaf_at (s ∷ ss) position level first upto plan is beside = (level, is, beside)

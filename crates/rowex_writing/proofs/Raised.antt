@@ -103,16 +103,16 @@ spot_there layout k m key way found w end (Slot n i) (s, low, at, number, place)
     (omega (arith, number, node.range), omega (arith, place, node.at, within, node.room))
 
 -- ---- what is raised for a deed
-pub grown_raised : (table : TableView) (a m : Known) (b : SeatView) (made : List Rec) (job : Job) (position first last leaf : ℕ) (r : Result Raised Full) → IsLater a m →
+pub grown_raised : (table : TableView) (a m : Known) (b : SeatView) (made : List Rec) (job : Job) (position leaf : ℕ) (r : Result Raised Full) → IsLater a m →
     IsPutChange a.pass job.key.now job.value job.found (added_change a.pass (item leaf job.key.now job.value)) None →
-    IfOk r (λ raised. MayReplace table b made job.way.now job.span raised (added_change m.pass (item leaf job.key.now job.value)) None) → IfOk r (HasRaised table a b made job (Grow position first last))
-grown_raised table a m b made job position first last leaf (Ok raised) later stored may = (
+    IfOk r (λ raised. MayReplace table b made job.way.now job.span raised (added_change m.pass (item leaf job.key.now job.value)) None) → IfOk r (HasRaised table a b made job (Grow position))
+grown_raised table a m b made job position leaf (Ok raised) later stored may = (
   added_change a.pass (item leaf job.key.now job.value),
   None,
   stored,
   subst (λ q. MayReplace table b made job.way.now job.span raised (added_change q (item leaf job.key.now job.value)) None) later.pass may,
 )
-grown_raised table a m b made job position first last leaf (Err full) later stored may = tt
+grown_raised table a m b made job position leaf (Err full) later stored may = tt
 
 pub taken_raised : (table : TableView) (a : Known) (b : SeatView) (made : List Rec) (job : Job) (number value : ℕ) (r : Result Raised Full) → job.found ≡ Leaf number value None →
     IfOk r (λ raised. MayReplace table b made job.way.now job.span raised (removed_change a.pass (item number job.key.now value)) (Some value)) → IfOk r (HasRaised table a b made job Take)

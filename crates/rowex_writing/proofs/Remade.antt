@@ -1,5 +1,5 @@
 -- What the subtrie of a lawful tree tells of the fork that it got, and how high the nodes of a subtrie are.
-use Rattle.std.proofs.Common.{◌≡◌, inl, inr, ℕ, suc, Option, ◌+◌, ◌*◌, ◌<◌, ◌≤◌, Bool, true, false, List, [], ◌∷◌, ◌++◌, max, ap, sym, ◌∙◌, subst, arith, if◌then◌else◌, nat_lt}
+use Rattle.std.proofs.Common.{◌≡◌, inl, inr, ℕ, suc, Option, ◌+◌, ◌*◌, ◌<◌, ◌≤◌, Bool, true, false, List, [], ◌∷◌, ◌++◌, length, max, ap, sym, ◌∙◌, subst, arith, if◌then◌else◌, nat_lt}
 use Rattle.std.specs.Prelude.{All}
 use Rattle.key_bits.specs.Bits.{bit_of}
 use Rattle.key_bits.specs.declared.TheConstants.{MAX_BYTES}
@@ -19,7 +19,7 @@ use Rattle.tries.specs.Content.{first}
 use Rattle.tries.specs.Keys.{Key, bit}
 use Rattle.tries.specs.Place.{spot, with_subtrie, joined, subtrie_without}
 use Rattle.tries.specs.Tree.{Subtrie, Tree, fork, subtrie, IsTrie, Within, here, zero_side, one_side}
-use Rattle.tries.proofs.Building.{bit_below, greatest-append}
+use Rattle.tries.proofs.Building.{bit_below, greatest-append, size-piece}
 use Rattle.tries.proofs.Places.{spot_below}
 use Rattle.tries.proofs.Ranges.{has_key}
 use Rattle.tries.proofs.Spots.{path_low, path_high, without_spot}
@@ -155,26 +155,40 @@ greatest_leaf p k e (Fork q x y) = go (nat_lt q p) (bit k q) (greatest_leaf p k 
     go true false f g = omega (arith, f, greatest-append (places x) (places y), greatest-append (places (subtrie_grown p k e x)) (places y))
     go false o f g = greatest_forked (bit k p) p e (Fork q x y)
 
--- a new leaf's range and position at a node, and that all entries of the subtrie with it are lower than the node
+-- all entries of the subtrie with a new leaf are lower than the node
+pub leaf_low : (k : Key) (p n : ℕ) (v : NodeView) → IsLawfulNode v → greatest_height (places (subtrie_grown p k (Leaf n) (piece v))) < v.height
+leaf_low k p n v l = omega (arith, greatest_leaf p k (Leaf n) (piece v), entries_under v l, height_positive v l)
+
+-- a new leaf's range and position at a node
 pub record FitsLeaf (k : Key) (p first last n : ℕ) (v : NodeView) : Type 0 where
   pub range : IsAffected (piece v) p first last
   pub position : p < 9 * MAX_BYTES
-  pub low : greatest_height (places (subtrie_grown p k (Leaf n) (piece v))) < v.height
 
 pub fits_leaf : {k : Key} {p first last : ℕ} {v : NodeView} (n : ℕ) → IsLawfulNode v → AffectsJust k p first last (piece v) → IsSubtrieOfTree (subtrie_grown p k (Leaf n) (piece v)) → FitsLeaf k p first last n v
 fits_leaf {k} {p} {first} {last} {v} n l affects tree = record {
   range = leaf_range k p first last (Leaf n) (piece v) affects tree;
   position = leaf_position k p (Leaf n) (piece v) tree;
-  low = omega (arith, greatest_leaf p k (Leaf n) (piece v), entries_under v l, height_positive v l);
 }
 
+-- the entries that are affected, as the node tells them of the one to which the key's search leads
+pub just_affected : {k : Key} {p took first last : ℕ} {x : Subtrie} → spot k x ≡ took → affected_first p took x ≡ first → affected_count p took x + first ≡ last + 1 → AffectsJust k p first last x
+just_affected {k} {p} {took} {first} {last} {x} leads from upto = record {
+  from = subst (λ j. affected_first p j x ≡ first) (sym leads) from;
+  upto = subst (λ j. affected_count p j x + first ≡ last + 1) (sym leads) upto;
+}
+
+-- that one is an entry of the node
+pub leads_within : (k : Key) {took : ℕ} (v : NodeView) → IsLawfulNode v → spot k (piece v) ≡ took → took < length v.entries
+leads_within k v lawful leads = omega (arith, leads, spot_below k (piece v), size-piece v lawful)
+
 -- so in words that can take it
-pub growing_leaf : (words : List ℕ) (node : NodeView) (new : NewLeaf) → AwaitsLeaf words node new → CanTakeLeaf node → CanGrowAt words node new.position new.first new.last
-growing_leaf words node new takes can = record {
+pub growing_leaf : (words : List ℕ) (node : NodeView) (new : NewLeaf) (first last : ℕ) → AwaitsLeaf words node new → AffectsJust new.key.now new.position first last (piece node) → CanTakeLeaf node →
+    CanGrowAt words node new.position first last
+growing_leaf words node new first last takes affects can = record {
   has = takes.is.has;
   spells = takes.is.spells;
   takes = can;
-  range = (fits_leaf new.number takes.is.has.lawful takes.affects takes.tree).range;
+  range = (fits_leaf new.number takes.is.has.lawful affects takes.tree).range;
 }
 
 -- the node that is read of the words is the one

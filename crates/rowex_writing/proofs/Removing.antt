@@ -112,7 +112,7 @@ abbrev IsTakePlan : Plan → Type 0
 IsTakePlan (Answer reply) = ⊥
 IsTakePlan (Change span (Put)) = ⊥
 IsTakePlan (Change span (Pair p)) = ⊥
-IsTakePlan (Change span (Grow p first last)) = ⊥
+IsTakePlan (Change span (Grow p)) = ⊥
 IsTakePlan (Change span (Take)) = Unit {0}
 
 -- the span of such a plan is the last node of the way, and the found leaf has the key

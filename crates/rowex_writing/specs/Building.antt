@@ -21,6 +21,7 @@ use Rattle.record_words.specs.Node.{HasNodeWords}
 use Rattle.tries.specs.Content.{Item}
 use Rattle.tries.specs.Affected.{subtrie_affected, IsPartSubtrie}
 use Rattle.tries.specs.Keys.{Key}
+use Rattle.tries.specs.Place.{spot}
 use Rattle.tries.specs.Tree.{Subtrie}
 use Rattle.rowex_walks.specs.Rise.{Side, entry}
 use Rattle.versions.specs.declared.Rec.{Rec}
@@ -33,7 +34,7 @@ use Rattle.rowex_reading.specs.Possible.{IsPossible}
 use Rattle.rowex_rights.specs.Rises.{made_of_node, made_of_leaf, HasFoundBelow}
 use Rattle.rowex_rights.specs.Stages.{HasLeaf, HasRisen, IsLockedAbove, SpellsLeaf}
 use Rattle.rowex_writing.specs.Going.{HasLocked}
-use Rattle.rowex_writing.specs.Remaking.{AffectsJust, AwaitsLeaf, IsNoHigher, subtrie_with_leaf}
+use Rattle.rowex_writing.specs.Remaking.{AwaitsLeaf, IsNoHigher, subtrie_with_leaf}
 use Rattle.rowex_writing.specs.declared.plan.Span.{Span}
 use Rattle.rowex_writing.specs.declared.building.Rise.{Rise}
 use Rattle.rowex_writing.specs.declared.remaking.Fork.{Fork}
@@ -158,8 +159,8 @@ abbrev pub FitsAbove : List ℕ → Entry → Type 0
 FitsAbove words e = (height_of e ≤ (node_words_of words).fixed.height + 1) × (size (node_words_of words).subtrie < 32 → height_of e ≤ (node_words_of words).fixed.height)
 
 -- ---- at the lower end
--- The leaf of x is made and nothing else, and the locked node is where it goes: beside these entries.
-pub record IsLowest (table : TableView) (a : SeatView) (made : List Rec) (key : Key) (number position first last leaf : ℕ) : Type 0 where
+-- The leaf of x is made and nothing else, and the locked node is where it goes: there its search took this entry.
+pub record IsLowest (table : TableView) (a : SeatView) (made : List Rec) (key : Key) (number position took leaf : ℕ) : Type 0 where
   pub since : ℕ
   pub item : Item
   pub like : Key
@@ -169,11 +170,11 @@ pub record IsLowest (table : TableView) (a : SeatView) (made : List Rec) (key : 
   pub made_leaf : HasLeafMade table a made item
   pub found : HasFoundBelow a.known a.known.locks since item position like number words
   pub part : IsPartSubtrie (subtrie_affected position item.key (node_words_of words).subtrie)
-  pub affects : AffectsJust item.key position first last (node_words_of words).subtrie
+  pub leads : spot item.key (node_words_of words).subtrie ≡ took
 
 -- so for a new leaf
 abbrev pub GetsLeaf : TableView → SeatView → List Rec → ℕ → NewLeaf → Type 0
-GetsLeaf table a made number new = IsLowest table a made new.key.now number new.position new.first new.last new.number
+GetsLeaf table a made number new = IsLowest table a made new.key.now number new.position new.at new.number
 
 -- the node goes, where it doesn't stay whole
 abbrev pub gone_unless_whole : Bool → ℕ → List Rec
@@ -212,18 +213,18 @@ HasRisenTo table a made way since x p l end gone e =
     (news : List Made) × (top : Step) × (slice_get way end ≡ Some top) × IsRaising table a made news gone since x p l entry top.number (Place e)
 
 -- The lowest node of the span gets the new leaf, and what comes of it rises to `end`.
-pub record IsGrowing (table : TableView) (a : SeatView) (made : List Rec) (way : List Step) (key : Key) (end top position first last leaf : ℕ) : Type 0 where
+pub record IsGrowing (table : TableView) (a : SeatView) (made : List Rec) (way : List Step) (key : Key) (end top position took leaf : ℕ) : Type 0 where
   pub step : Step
   pub at : slice_get way top ≡ Some step
   pub upto : end ≤ top
   pub low : step.number < table.layout.nodes
-  pub lowest : IsLowest table a made key step.number position first last leaf
+  pub lowest : IsLowest table a made key step.number position took leaf
   pub full : end < top → size (node_words_of lowest.words).subtrie ≡ 32
   pub chain : IsChain table.layout.nodes a.known.locks way lowest.item.key position end top
 
 -- so for a new leaf
 abbrev pub IsGrowingBy : TableView → SeatView → List Rec → List Step → Span → NewLeaf → Type 0
-IsGrowingBy table a made way span new = IsGrowing table a made way new.key.now span.end (span.len - 1) new.position new.first new.last new.number
+IsGrowingBy table a made way span new = IsGrowing table a made way new.key.now span.end (span.len - 1) new.position new.at new.number
 
 -- so for a fork, and for what rises
 abbrev pub GetsFork : TableView → SeatView → List Rec → ℕ → Fork → Type 0

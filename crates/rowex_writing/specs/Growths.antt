@@ -27,12 +27,12 @@ HasNumber (Node n h) = n < 4294967296
 -- The new leaf's record is made and no other, under the locks of a span of the way. The leaf may rise from the lowest node of the
 -- span, and what has risen may stand at the spot above the topmost one.
 pub record MayGrow (table : TableView) (a : SeatView) (made : List Rec) (way : List Step) (key : Key) (value : ℕ)
-    (span : Span) (position first last leaf : ℕ) : Type 0 where
+    (span : Span) (position took leaf : ℕ) : Type 0 where
   pub within : (span.end < span.len) × (span.len ≤ length way)
   pub depth : length way ≤ 9 * MAX_BYTES
   pub nodes : AreNodes table.layout way
   pub locked : HasLockedSpan a.known way span
-  pub growing : IsGrowing table a made way key span.end (span.len - 1) position first last leaf
+  pub growing : IsGrowing table a made way key span.end (span.len - 1) position took leaf
   pub item_is : growing.lowest.item ≡ item leaf key value
   pub place : (s : Step) (words : List ℕ) (e : Entry) (spot : Spot) → slice_get way span.end ≡ Some s →
       HasLocked a.known s.number words → FitsAbove words e → IsSpotAbove way span.end spot →
@@ -40,4 +40,4 @@ pub record MayGrow (table : TableView) (a : SeatView) (made : List Rec) (way : L
 
 -- so for a new leaf, where that has the value
 abbrev pub MayTake : TableView → SeatView → List Rec → Job → NewLeaf → Type 0
-MayTake table a made job new = MayGrow table a made job.way.now new.key.now job.value job.span new.position new.first new.last new.number
+MayTake table a made job new = MayGrow table a made job.way.now new.key.now job.value job.span new.position new.at new.number

@@ -8,7 +8,6 @@ use Rattle.insert_cases.specs.declared.choice.Step.{Step}
 use Rattle.insert_cases.specs.Levels.{IsLevel, IsChosen, IsChainEnd}
 use Rattle.rowex_writing.specs.declared.plan.Aim.{Aim}
 use Rattle.rowex_writing.specs.declared.plan.Aim.TheVariants.{Insert, Upsert, Remove}
-use Rattle.rowex_writing.specs.declared.plan.Affected.{Affected}
 use Rattle.rowex_writing.specs.declared.plan.Deed.{Deed}
 use Rattle.rowex_writing.specs.declared.plan.Deed.TheVariants.{Put, Pair, Grow, Take}
 use Rattle.rowex_reading.specs.declared.descent.Found.{Found}
@@ -22,16 +21,12 @@ use Rattle.rowex_writing.specs.declared.plan.Plan.TheVariants.{Answer, Change}
 abbrev pub change : ℕ → ℕ → Deed → Plan
 change len end deed = Change (record { len = len; end = end }) deed
 
--- the lowest node gets the new leaf, beside the entries that a position affects
-abbrev pub grow : Affected → Deed
-grow at = Grow at.position at.first at.last
-
 -- ---- a new leaf beside affected entries
 -- what is done at the chosen node
 abbrev pub IsCase : List Step → ℕ → Choice → Case → Plan → Type 0
 IsCase way position chosen LeafPushdown plan = plan ≡ change (chosen.level + 1) (chosen.level + 1) (Pair position)
-IsCase way position chosen NormalInsert plan = plan ≡ change (chosen.level + 1) chosen.level (Grow position chosen.first chosen.last)
-IsCase way position chosen Overflow plan = (end : ℕ) × IsChainEnd way chosen.level end × (plan ≡ change (chosen.level + 1) end (Grow position chosen.first chosen.last))
+IsCase way position chosen NormalInsert plan = plan ≡ change (chosen.level + 1) chosen.level (Grow position)
+IsCase way position chosen Overflow plan = (end : ℕ) × IsChainEnd way chosen.level end × (plan ≡ change (chosen.level + 1) end (Grow position))
 
 -- where the position affects the entries from first to last at this level
 abbrev pub IsBeside : List Step → (position level first last : ℕ) → Plan → Type 0

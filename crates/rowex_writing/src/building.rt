@@ -31,7 +31,10 @@ use arrayvec::ArrayVec;
 use compound_node::{Entry, Half, Node};
 use insert_cases::{Grown, Risen, Step};
 use key_bits::Key;
-use record_words::{LEAF_CLASSES, NODE_FIELDS, can_take_leaf, drop_entry, pack_node, read_node};
+use record_words::{
+    HEAD_WORDS, LEAF_CLASSES, NODE_FIELDS, affected_in, can_take_leaf, drop_entry, pack_node,
+    read_node,
+};
 use rowex_core::{Gate, Rec};
 use rowex_records::fill_words;
 use rowex_table::{HotTable, TableSeat};
@@ -142,7 +145,8 @@ fn make_low<G: Gate>(
     ensures few { Spends node_steps seat.old.known build.old seat.new.known build.new result }
 {
     let bit = new.key.bit(new.position);
-    record_words::add_leaf(words, new.first, new.last, new.position, bit, new.number);
+    let (first, last) = affected_in(&words[..HEAD_WORDS], new.at, new.position);
+    record_words::add_leaf(words, first, last, new.position, bit, new.number);
     make_words(table, seat, gate, build, words)
 }
 

@@ -7,7 +7,7 @@ ghost use Rattle.rowex_writing.specs.Deeds.{CarriesOut};
 use crate::building::Build;
 use crate::growing::grow_node;
 use crate::pairing::pair_leaf;
-use crate::plan::{Affected, Deed, Full, Span};
+use crate::plan::{Deed, Full, Span};
 use crate::putting::put_leaf;
 use crate::taking::take_leaf;
 use compound_node::Entry;
@@ -56,18 +56,7 @@ pub(crate) fn carry_out<G: Gate>(
     match deed {
         Deed::Put => put_leaf(table, seat, gate, build, job),
         Deed::Pair { position } => pair_leaf(table, seat, gate, build, job, position),
-        Deed::Grow {
-            position,
-            first,
-            last,
-        } => {
-            let affected = Affected {
-                position,
-                first,
-                last,
-            };
-            grow_node(table, seat, gate, build, job, affected)
-        }
+        Deed::Grow { position } => grow_node(table, seat, gate, build, job, position),
         Deed::Take => take_leaf(table, seat, gate, build, job),
     }
 }

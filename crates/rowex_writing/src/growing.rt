@@ -3,7 +3,7 @@
 ghost use Rattle.std.specs.Prelude.{◌≤◌, ◌+◌, ◌<◌, IfErr, IfOk, None};
 ghost use Rattle.rowex_walks.specs.Writer.{added_change};
 ghost use Rattle.tries.specs.Content.{item};
-ghost use Rattle.rowex_writing.specs.Plans.{grow};
+ghost use Rattle.rowex_writing.specs.declared.plan.Deed.TheVariants.{Grow};
 ghost use Rattle.rowex_writing.specs.Changes.{HasTakenPlan};
 ghost use Rattle.rowex_writing.specs.Counts.{deed_steps, leaf_steps};
 ghost use Rattle.rowex_writing.specs.Deeds.{CarriesOut, HasNoneFree, MayReplace};
@@ -13,7 +13,7 @@ ghost use Rattle.rowex_writing.specs.Locks.{locks_of};
 
 use crate::building::{Build, raise_grown};
 use crate::deeds::{Job, Raised};
-use crate::plan::{Affected, Full};
+use crate::plan::Full;
 use crate::publishing::make_leaf;
 use crate::remaking::NewLeaf;
 use compound_node::Entry;
@@ -27,10 +27,10 @@ pub(crate) fn grow_node<G: Gate>(
     gate: &mut G,
     build: &mut Build,
     job: &Job<'_>,
-    affected: Affected,
+    position: u16,
 ) -> Result<Raised, Full>
-    requires taken { HasTakenPlan table.now seat.old job.now (grow affected) }
-    ensures done { CarriesOut table.now G.becomes (seat.old, gate.old) (seat.new, gate.new) build.new.made.items job.now (grow affected) result }
+    requires taken { HasTakenPlan table.now seat.old job.now (Grow position) }
+    ensures done { CarriesOut table.now G.becomes (seat.old, gate.old) (seat.new, gate.new) build.new.made.items job.now (Grow position) result }
 {
     let Some(number) = make_leaf(table, seat, gate, build, job.key, job.value) else {
         return Err(Full::Leaves);
@@ -38,9 +38,8 @@ pub(crate) fn grow_node<G: Gate>(
     let new = NewLeaf {
         key: job.key,
         number,
-        position: affected.position,
-        first: affected.first,
-        last: affected.last,
+        position,
+        at: job.way[job.span.len - 1].at,
     };
     grow_with(table, seat, gate, build, job, &new)
 }

@@ -1,7 +1,8 @@
 //! What a call is to do, from the way of its search: which nodes it remakes, and what it puts there.
 
-ghost use Rattle.std.specs.Prelude.{◌≡◌, ◌-◌, ◌<◌, length};
+ghost use Rattle.std.specs.Prelude.{◌≡◌, ◌+◌, ◌-◌, ◌<◌, ◌≤◌, ℕ, Some, length, slice_get};
 ghost use Rattle.insert_cases.specs.Levels.{IsLevel};
+ghost use Rattle.insert_cases.specs.declared.choice.Step.{Step as StepView};
 ghost use Rattle.rowex_writing.specs.Plans.{change as a_change, IsOutline, IsBeside, IsBesideFound};
 
 use finite_map::Reply;
@@ -37,14 +38,6 @@ impl Span {
     }
 }
 
-/// A position, and the entries of a node from `first` to `last`: those that it affects.
-#[derive(Clone, Copy)]
-pub(crate) struct Affected {
-    pub position: u16,
-    pub first: u8,
-    pub last: u8,
-}
-
 /// What is done at the lower end of a span.
 #[derive(Clone, Copy)]
 pub(crate) enum Deed {
@@ -52,8 +45,8 @@ pub(crate) enum Deed {
     Put,
     /// A node of the leaf that stands there and the new one, with a fork at the position.
     Pair { position: u16 },
-    /// The lowest node gets the new leaf, beside its entries from `first` to `last`.
-    Grow { position: u16, first: u8, last: u8 },
+    /// The lowest node gets the new leaf, beside the entries that the position affects.
+    Grow { position: u16 },
     /// The lowest node loses the leaf, or the root its only one.
     Take,
 }
@@ -127,7 +120,24 @@ fn beside(way: &[Step], position: u16) -> Outline
         return Outline::Known(change(0, 0, Deed::Pair { position }));
     }
     let level = level_below(way, position);
+    if level + 1 == way.len() && way[level].height <= 1 {
+        return Outline::Known(plan_low(way, position, level));
+    }
     Outline::Beside { position, level }
+}
+
+/// What a call does whose new leaf goes into the last node of the way, which has leaves alone: whichever of these the position affects.
+fn plan_low(way: &[Step], position: u16, level: usize) -> Plan
+    requires last { level + 1 ≡ length way.now }
+    requires low { (s : StepView) → slice_get way.now level ≡ Some s → s.height ≤ 1 }
+    ensures { (first last : ℕ) → IsBeside way.now position level first last result }
+{
+    let deed = Deed::Grow { position };
+    if way[level].count < 32 {
+        change(level + 1, level, deed)
+    } else {
+        change(level + 1, chain_end(way, level), deed)
+    }
 }
 
 /// What a call does whose new leaf goes beside the entries from `first` to `last` of the node at this level: those that
@@ -137,11 +147,7 @@ pub(crate) fn plan_beside(way: &[Step], position: u16, level: usize, first: u8, 
     ensures { IsBeside way.now position level first last result }
 {
     let choice = choose(way, level, first, last);
-    let deed = Deed::Grow {
-        position,
-        first: choice.first,
-        last: choice.last,
-    };
+    let deed = Deed::Grow { position };
     let len = choice.level + 1;
     match choice.case {
         Case::LeafPushdown => change(len, len, Deed::Pair { position }),

@@ -6,48 +6,43 @@ ghost use Rattle.pieces.specs.Piece.{Place as At};
 ghost use Rattle.compound_node.specs.Nodes.{piece, height_of, IsBuiltFrom};
 ghost use Rattle.tries.specs.Affected.{subtrie_forked};
 ghost use Rattle.tries.specs.Keys.{bit};
+ghost use Rattle.tries.specs.Place.{spot};
 ghost use Rattle.insert_cases.specs.Grown.{GrownShows, is_whole, keeps_node};
-ghost use Rattle.rowex_writing.specs.Remaking.{IsSubtrieOfTree, AffectsJust, IsNoHigher, subtrie_with_fork, subtrie_with_leaf};
+ghost use Rattle.rowex_writing.specs.Remaking.{IsSubtrieOfTree, IsNoHigher, subtrie_with_fork, subtrie_with_leaf};
 
 use compound_node::{Entry, Node};
 use insert_cases::{Grown, grow_full, pull_up, put_fork};
 use key_bits::Key;
 
-/// A new leaf for a node. It goes beside the entries from `first` to `last`: those that the position affects, at which its key first
-/// differs from theirs.
+/// A new leaf for a node. It goes beside the entries that the position affects, at which its key first differs from theirs: one of them
+/// is the entry at `at`, to which the key's search leads.
 #[derive(Drop)]
 pub(crate) struct NewLeaf<'a> {
     pub key: &'a Key,
     pub number: u32,
     pub position: u16,
-    pub first: u8,
-    pub last: u8,
+    pub at: u8,
 }
 
 /// Puts a new leaf into a node with room.
 pub(crate) fn add_leaf(node: &mut Node, new: &NewLeaf<'_>)
     requires room { length node.old.entries < 32 }
-    requires affects { AffectsJust new.now.key.now new.now.position new.now.first new.now.last (piece node.old) }
+    requires leads { spot new.now.key.now (piece node.old) ≡ new.now.at }
     requires tree { IsSubtrieOfTree (subtrie_with_leaf new.now (piece node.old)) }
     ensures shows { IsBuiltFrom node.new (subtrie_with_leaf new.now (piece node.old)) }
     ensures low { node.new.height ≤ node.old.height }
 {
     prove!(node.count() < 32);
     let bit = new.key.bit(new.position);
-    node.add(
-        new.first,
-        new.last,
-        new.position,
-        bit,
-        Entry::Leaf(new.number),
-    );
+    let (first, last) = node.affected(new.at, new.position);
+    node.add(first, last, new.position, bit, Entry::Leaf(new.number));
 }
 
 /// The two sides of a full node's first fork, with a new leaf. Where its position is before that fork, the node is one side as it
 /// is.
 pub(crate) fn full_with_leaf(node: &Node, new: &NewLeaf<'_>) -> Grown
     requires full { length node.now.entries ≡ 32 }
-    requires affects { AffectsJust new.now.key.now new.now.position new.now.first new.now.last (piece node.now) }
+    requires leads { spot new.now.key.now (piece node.now) ≡ new.now.at }
     requires tree { IsSubtrieOfTree (subtrie_with_leaf new.now (piece node.now)) }
     ensures shows { GrownShows node.now result (subtrie_with_leaf new.now (piece node.now)) }
     ensures whole { is_whole result ≡ false }
@@ -56,10 +51,11 @@ pub(crate) fn full_with_leaf(node: &Node, new: &NewLeaf<'_>) -> Grown
 {
     prove!(node.count() == 32);
     let bit = new.key.bit(new.position);
+    let (first, last) = node.affected(new.at, new.position);
     grow_full(
         node,
-        new.first,
-        new.last,
+        first,
+        last,
         new.position,
         bit,
         Entry::Leaf(new.number),

@@ -10,8 +10,8 @@ use Rattle.rowex_writing.proofs.building.make_by_value.Goals as goal
 pub read_node-node-requires : goal.read_node-node-requires
 read_node-node-requires g c = let (node, takes) = c.requires.takes in (node, takes.is.has, takes.is.spells)
 
-pub full_with_leaf-grown-requires-clause-affects : goal.full_with_leaf-grown-requires-clause-affects
-full_with_leaf-grown-requires-clause-affects g c = let (node, takes) = c.requires.takes in (takes_read c.read_node-node.ensures node c.args.new.now takes).affects
+pub full_with_leaf-grown-requires-clause-leads : goal.full_with_leaf-grown-requires-clause-leads
+full_with_leaf-grown-requires-clause-leads g c = let (node, takes) = c.requires.takes in (takes_read c.read_node-node.ensures node c.args.new.now takes).leads
 
 pub full_with_leaf-grown-requires-clause-tree : goal.full_with_leaf-grown-requires-clause-tree
 full_with_leaf-grown-requires-clause-tree g c = let (node, takes) = c.requires.takes in (takes_read c.read_node-node.ensures node c.args.new.now takes).tree
@@ -34,8 +34,8 @@ returns-then-count-eq32-clause-made g c = λ news node takes b.
       now,
     )
 
-pub add_leaf-requires-clause-affects : goal.add_leaf-requires-clause-affects
-add_leaf-requires-clause-affects g c = let (node, takes) = c.requires.takes in (takes_read c.read_node-node.ensures node c.args.new.now takes).affects
+pub add_leaf-requires-clause-leads : goal.add_leaf-requires-clause-leads
+add_leaf-requires-clause-leads g c = let (node, takes) = c.requires.takes in (takes_read c.read_node-node.ensures node c.args.new.now takes).leads
 
 pub add_leaf-requires-clause-tree : goal.add_leaf-requires-clause-tree
 add_leaf-requires-clause-tree g c = let (node, takes) = c.requires.takes in (takes_read c.read_node-node.ensures node c.args.new.now takes).tree

@@ -5,7 +5,7 @@ use Rattle.insert_cases.specs.declared.growth.Grown.TheVariants.{One as Single}
 use Rattle.record_words.specs.Node.{CanTakeLeaf}
 use Rattle.rowex_writing.specs.Remaking.{subtrie_with_leaf}
 use Rattle.rowex_writing.proofs.Counting.{one_few, one_more}
-use Rattle.rowex_writing.proofs.Remade.{built_low, fits_leaf}
+use Rattle.rowex_writing.proofs.Remade.{built_low, leaf_low}
 use Rattle.rowex_writing.proofs.building.make_grown.Goals as goal
 
 pub make_low-requires-clause-takes : goal.make_low-requires-clause-takes
@@ -24,7 +24,7 @@ returns-then-can_take_leaf-clause-made g c = λ news node takes b.
         whole = (λ t. can.1, λ t. refl);
         keeps = refl;
         above = λ t. absurd (let z : false ≡ true = t in cc);
-        low = built_low view (subtrie_with_leaf c.args.new.now (piece node)) node.height built (fits_leaf c.args.new.now.number takes.is.has.lawful takes.affects takes.tree).low;
+        low = built_low view (subtrie_with_leaf c.args.new.now (piece node)) node.height built (leaf_low c.args.new.now.key.now c.args.new.now.position c.args.new.now.number node takes.is.has.lawful);
         made = (m, is, refl, has);
       },
       building,

@@ -5,7 +5,7 @@ use Rattle.rowex_rights.specs.Rises.{made_of_leaf}
 use Rattle.rowex_writing.specs.Building.{IsBuilding}
 use Rattle.rowex_writing.specs.Remaking.{AwaitsLeaf}
 use Rattle.rowex_writing.proofs.Locking.{goes_more, words_shown}
-use Rattle.rowex_writing.proofs.Lifting.{low_tree, low_affects, low_building, lowest_made, leaf_level}
+use Rattle.rowex_writing.proofs.Lifting.{low_tree, low_leads, low_building, lowest_made, leaf_level}
 use Rattle.rowex_writing.proofs.Walked.{walks_later}
 use Rattle.rowex_writing.proofs.building.raise_lowest.Goals as goal
 
@@ -16,7 +16,7 @@ make_grown-requires-clause-takes g c =
       view,
       record {
         is = is;
-        affects = low_affects _ _ c.load_words.ensures.reads c.requires.lowest shown;
+        leads = low_leads _ _ c.load_words.ensures.reads c.requires.lowest shown;
         tree = low_tree _ _ c.load_words.ensures.reads c.requires.lowest shown;
       },
     )
@@ -35,7 +35,7 @@ returns-clause-made g c = λ b.
     let shown = words_shown c.args.seat.now.known c.args.number c.load_words.ensures.words view is in
     let takes : AwaitsLeaf c.load_words.new.words view c.args.new.now = record {
       is = is;
-      affects = low_affects _ _ c.load_words.ensures.reads b shown;
+      leads = low_leads _ _ c.load_words.ensures.reads b shown;
       tree = low_tree _ _ c.load_words.ensures.reads b shown;
     } in
     lowest_made _ _ c.load_words.ensures.reads b shown (c.make_grown.new.seat, c.make_grown.new.gate) c.make_grown.new.build.made.items view.height refl c.make_grown.result c.make_grown.ensures.goes
@@ -48,7 +48,7 @@ returns-clause-level g c = λ words h.
     let shown = words_shown c.args.seat.now.known c.args.number c.load_words.ensures.words view is in
     let takes : AwaitsLeaf c.load_words.new.words view c.args.new.now = record {
       is = is;
-      affects = low_affects _ _ c.load_words.ensures.reads b shown;
+      leads = low_leads _ _ c.load_words.ensures.reads b shown;
       tree = low_tree _ _ c.load_words.ensures.reads b shown;
     } in
     leaf_level words view (Node c.args.number view.height) _ c.args.new.now.position c.make_grown.result _ (made_of_leaf b.item b.made_leaf.fresh ∷ []) (IsBuilding c.args.table.now c.make_grown.new.seat c.make_grown.new.build.made.items)

@@ -12,8 +12,8 @@ put_adds is = cc
 pair_adds : (position : ℕ) → Pair position ≡ Take → ⊥
 pair_adds position is = cc
 
-grow_adds : (position first last : ℕ) → Grow position first last ≡ Take → ⊥
-grow_adds position first last is = cc
+grow_adds : (position : ℕ) → Grow position ≡ Take → ⊥
+grow_adds position is = cc
 
 pub put_leaf-requires : goal.put_leaf-requires
 put_leaf-requires g c = record { taken = subst (HasTakenPlan c.args.table.now c.args.seat.now c.args.job.now) c.in-Put.is c.requires.taken }
@@ -40,7 +40,7 @@ pub returns-in-Grow-clause-done : goal.returns-in-Grow-clause-done
 returns-in-Grow-clause-done g c = subst (λ d. CarriesOut c.args.table.now g.G.Gate.becomes (c.args.seat.now, c.args.gate.now) (c.grow_node.new.seat, c.grow_node.new.gate) c.grow_node.new.build.made.items c.args.job.now d c.grow_node.result) (sym c.in-Grow.is) c.grow_node.ensures.done
 
 pub returns-in-Grow-clause-leafless : goal.returns-in-Grow-clause-leafless
-returns-in-Grow-clause-leafless g c = λ take is. grow_adds c.in-Grow.position c.in-Grow.first c.in-Grow.last (sym c.in-Grow.is ∙ take)
+returns-in-Grow-clause-leafless g c = λ take is. grow_adds c.in-Grow.position (sym c.in-Grow.is ∙ take)
 
 pub take_leaf-requires : goal.take_leaf-requires
 take_leaf-requires g c = record { taken = subst (HasTakenPlan c.args.table.now c.args.seat.now c.args.job.now) c.in-Take.is c.requires.taken }

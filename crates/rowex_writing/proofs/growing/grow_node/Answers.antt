@@ -1,10 +1,15 @@
 -- The leaf's record, and the rest.
-use Rattle.std.proofs.Common.{arith}
+use Rattle.std.proofs.Common.{◌-◌, ap, arith, get_or, sym}
+use Rattle.std.proofs.lemmas.Option.{get_or_from_slice_get}
+use Rattle.insert_cases.specs.declared.choice.Step.{Step}
 use Rattle.rowex_writing.proofs.Raised.{grown_raised, no_leaf_free, none_free_since}
 use Rattle.rowex_writing.proofs.Growths.{grown_stored, may_grow}
 use Rattle.rowex_writing.proofs.Locking.{goes_more}
 use Rattle.rowex_writing.proofs.Runs.{goes_run, run_count}
 use Rattle.rowex_writing.proofs.growing.grow_node.Goals as goal
+
+abbrev no_step : Step
+no_step = record { number = 0; height = 0; first_position = 0; count = 0; at = 0 }
 
 pub returns-in_default : goal.returns-in_default
 returns-in_default g c = record {
@@ -21,7 +26,8 @@ grow_with-requires g c =
     let job = c.args.job.now in
     let (m, aim, t, planned) = c.requires.taken in
     record {
-      may = may_grow c.args.table.now c.args.seat.now c.make_leaf.new.seat c.make_leaf.new.build.made.items m job.key.now job.value job.way.now job.found job.span aim c.args.affected.position c.args.affected.first c.args.affected.last c.in-Some.number t planned
+      may = may_grow c.args.table.now c.args.seat.now c.make_leaf.new.seat c.make_leaf.new.build.made.items m job.key.now job.value job.way.now job.found job.span aim c.args.position (get_or job.way.now (job.span.len - 1) no_step).at c.in-Some.number t planned
+          (λ s there. ap (λ (z : Step). z.at) (sym (get_or_from_slice_get job.way.now (job.span.len - 1) s no_step there)))
           c.in-Some.ensures.goes.stays c.in-Some.ensures.made;
     }
 
@@ -31,8 +37,8 @@ returns g c = record {
     goes = (goes_more c.args.table.now g.G.Gate.becomes (c.args.seat.now, c.args.gate.now) (c.make_leaf.new.seat, c.make_leaf.new.gate) (c.grow_with.new.seat, c.grow_with.new.gate) c.in-Some.ensures.goes c.grow_with.ensures.goes);
     raised = (let job = c.args.job.now in
         let (m, aim, t, planned) = c.requires.taken in
-        grown_raised c.args.table.now c.args.seat.now.known c.make_leaf.new.seat.known c.grow_with.new.seat c.grow_with.new.build.made.items job c.args.affected.position c.args.affected.first c.args.affected.last c.in-Some.number c.grow_with.result c.in-Some.ensures.goes.stays.0
-        (grown_stored c.args.seat.now.known m job.key.now job.value job.way.now job.found job.span aim c.args.affected.position c.args.affected.first c.args.affected.last c.in-Some.number planned) c.grow_with.ensures.raised);
+        grown_raised c.args.table.now c.args.seat.now.known c.make_leaf.new.seat.known c.grow_with.new.seat c.grow_with.new.build.made.items job c.args.position c.in-Some.number c.grow_with.result c.in-Some.ensures.goes.stays.0
+        (grown_stored c.args.seat.now.known m job.key.now job.value job.way.now job.found job.span aim c.args.position c.in-Some.number planned) c.grow_with.ensures.raised);
     full = (none_free_since c.args.table.now c.args.seat.now.known c.make_leaf.new.seat.known c.grow_with.new.seat c.grow_with.new.build.made.items c.args.job.now c.grow_with.result
         (run_count c.args.table.now g.G.Gate.becomes (c.args.seat.now, c.args.gate.now) (c.make_leaf.new.seat, c.make_leaf.new.gate)
         (goes_run c.args.table.now g.G.Gate.becomes (c.args.seat.now, c.args.gate.now) (c.make_leaf.new.seat, c.make_leaf.new.gate) c.in-Some.ensures.goes)) c.grow_with.ensures.full);

@@ -1,0 +1,7 @@
+-- The plan of the last node with leaves alone is that of the new leaf.
+use Rattle.rowex_writing.proofs.Planning.{new_leaf_at}
+use Rattle.rowex_writing.proofs.plan.beside.Goals as goal
+
+pub returns-then-way-level-le1 : goal.returns-then-way-level-le1
+returns-then-way-level-le1 c = λ first upto.
+    new_leaf_at c.args.way.now c.args.position c.level_below-level.result first upto c.plan_low.result c.level_below-level.ensures (c.plan_low.ensures first upto)
