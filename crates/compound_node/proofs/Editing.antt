@@ -30,56 +30,7 @@ module _ {X : Type 0} where
   put-before f n x xs = ap (λ ys. take f xs ++ x ∷ ys) (drop_parts f n xs)
 
   -- the first element of a part
-  pub part_first : (f n c : ℕ) (d : X) (xs : List X) → 0 < n → f < c → get_or (take n (drop f (take c xs))) 0 d ≡ get_or xs f d
-  part_first f n c d xs l m =
+  pub part_first : (f n : ℕ) (d : X) (xs : List X) → 0 < n → get_or (take n (drop f xs)) 0 d ≡ get_or xs f d
+  part_first f n d xs l =
       let e : f + 0 ≡ f = omega arith in
-      get_or-take n (drop f (take c xs)) 0 d l ∙ get_or-drop f (take c xs) 0 d ∙ ap (λ k. get_or (take c xs) k d) e ∙ get_or-take c xs f d m
-
--- ---- a part each of whose elements is mapped
-module _ {X : Type 0} (g : X → X) (f n : ℕ) (xs : List X) where
-  length-mapped : f + n ≤ length xs → length (edited f n (map g) xs) ≡ length xs
-  length-mapped l =
-      let a : length (take f xs) ≡ f = length-take-le f xs (omega arith) in
-      let b : length (take n (drop f xs)) ≡ n = length-take-le n (drop f xs) (rw length-drop (omega arith)) in
-      let c : length (drop (f + n) xs) ≡ length xs - (f + n) = length-drop (f + n) xs in
-      rw (length-append (take f xs) (map g (take n (drop f xs)) ++ drop (f + n) xs), length-append (map g (take n (drop f xs))) (drop (f + n) xs), length-map (take n (drop f xs)) g, a, b, c)
-      (omega arith)
-
-  pub mapped-more : (ys : List X) (d : X) → f + n < length xs → ys ≡ edited f n (map g) xs → set ys (f + n) (g (get_or ys (f + n) d)) ≡ edited f (n + 1) (map g) xs
-  mapped-more ys d l e =
-      let a : length (take f xs) ≡ f = length-take-le f xs (omega arith) in
-      let k : f + n - f ≡ n = omega arith in
-      let i : f + n + 1 ≡ f + (n + 1) = omega arith in
-      let long : n < length (drop f xs) = rw length-drop (omega arith) in
-      let rest : List X = map g (take n (drop f xs)) ++ drop n (drop f xs) in
-      let split : ys ≡ take f xs ++ rest = e ∙ ap (λ zs. take f xs ++ (map g (take n (drop f xs)) ++ zs)) (sym (drop-drop n f xs)) in
-      let read : get_or ys (f + n) d ≡ get_or rest n d = ap (λ zs. get_or zs (f + n) d) split ∙ get_or-append_right (take f xs) rest f (f + n) d a (omega arith) ∙ ap (λ j. get_or rest j d) k in
-      let here : n < length rest = rw (length-append (map g (take n (drop f xs))) (drop n (drop f xs)), length-map (take n (drop f xs)) g, length-take-le n (drop f xs) (omega arith), length-drop n (drop f xs)) (omega arith) in
-      let written : set rest n (g (get_or rest n d)) ≡ map g (take (n + 1) (drop f xs)) ++ drop (n + 1) (drop f xs) =
-      map_over_more g (drop f xs) rest n (get_or rest n d) long refl (get_or_default rest n d (get_or rest n d) here) in
-      ap (λ zs. set zs (f + n) (g (get_or ys (f + n) d))) split
-      ∙ ap (λ x. set (take f xs ++ rest) (f + n) (g x)) read
-      ∙ set-append_right (take f xs) rest f (f + n) (g (get_or rest n d)) a (omega arith)
-      ∙ ap (λ j. take f xs ++ set rest j (g (get_or rest n d))) k
-      ∙ ap (λ zs. take f xs ++ zs) written
-      ∙ ap (λ zs. take f xs ++ (map g (take (n + 1) (drop f xs)) ++ zs)) (drop-drop (n + 1) f xs)
-
-module _ {X : Type 0} (g : X → X) (f n c : ℕ) (x : X) (xs : List X) where
-  -- an element put in before it, among the first c
-  pub mapped-put : f + n ≤ c → c < length xs →
-      insert (take c (edited f n (map g) xs)) f x ++ drop (c + 1) (edited f n (map g) xs) ≡ edited f n (λ ys. x ∷ map g ys) (take c xs) ++ drop (c + 1) xs
-  mapped-put l m =
-      let front : List X = take c xs in
-      let a : length front ≡ c = length-take-le c xs (omega arith) in
-      let b : length (take f front) ≡ f = length-take-le f front (omega arith) in
-      let rest : List X = map g (take n (drop f front)) ++ drop (f + n) front in
-      let long : length (take f front ++ rest) ≡ c = length-mapped g f n front (omega arith) ∙ a in
-      let whole : edited f n (map g) xs ≡ (take f front ++ rest) ++ drop c xs =
-      ap (edited f n (map g)) (sym (take-append-drop c xs)) ∙ edited-left f n (map g) front (drop c xs) (omega arith) in
-      let behind : drop (c + 1) (edited f n (map g) xs) ≡ drop (c + 1) xs =
-      ap (drop (c + 1)) whole ∙ ap (λ k. drop (k + 1) ((take f front ++ rest) ++ drop c xs)) (sym long) ∙ drop-append-add (take f front ++ rest) (drop c xs) 1 ∙ drop-drop 1 c xs in
-      let shown : take c (edited f n (map g) xs) ≡ take f front ++ rest = ap (take c) whole ∙ take_at (take f front ++ rest) (drop c xs) c long in
-      let put : insert (take f front ++ rest) f x ≡ take f front ++ x ∷ rest = rw (take_at (take f front) rest f b, drop_at (take f front) rest f b) refl in
-      ap (λ ys. insert ys f x ++ drop (c + 1) (edited f n (map g) xs)) shown
-      ∙ ap (λ ys. ys ++ drop (c + 1) (edited f n (map g) xs)) put
-      ∙ ap (λ ys. (take f front ++ x ∷ rest) ++ ys) behind
+      get_or-take n (drop f xs) 0 d l ∙ get_or-drop f xs 0 d ∙ ap (λ k. get_or xs k d) e

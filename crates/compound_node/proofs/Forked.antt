@@ -1,8 +1,8 @@
 -- The words of a head with a new fork.
-use Rattle.std.proofs.Common.{Bool, List, ap, arith, cond, drop, false, length, map, refl, replicate, subst, sym, take, true, ℕ, ◌%◌, ◌*◌, ◌++◌, ◌+◌, ◌-◌, ◌<◌, ◌^◌, ◌∙◌, ◌≡◌, ◌≤◌}
-use Rattle.std.proofs.lemmas.List.{drop-drop, length-map, length-replicate, length-take-le, take_at}
+use Rattle.std.proofs.Common.{Bool, List, [], ap, ap₂, arith, bit_or, cond, drop, false, get_or, length, length-append, map, replicate, subst, sym, take, true, ℕ, ◌%◌, ◌*◌, ◌++◌, ◌+◌, ◌-◌, ◌<◌, ◌^◌, ◌∙◌, ◌∷◌, ◌≡◌, ◌≤◌}
+use Rattle.std.proofs.lemmas.List.{drop_at, length-drop, length-map, length-replicate, length-take-le, take-replicate, take_at}
 use Rattle.std.proofs.lemmas.Nat.{one_shl}
-use Rattle.std.proofs.Math.Seq.{drop-append-add}
+use Rattle.std.proofs.Math.Seq.{take-append-add}
 use Rattle.compound_node.proofs.Lawful.{same_count}
 use Rattle.compound_node.specs.Forking.{forked_head}
 use Rattle.compound_node.specs.Nodes.{FitsHead, HeadView, IsLawfulNode, leaves, node_of}
@@ -10,6 +10,7 @@ use Rattle.compound_node.specs.declared.entries.Entry.TheVariants.{Leaf}
 use Rattle.partial_keys.proofs.Putting.{drop_pad}
 use Rattle.partial_keys.specs.Columns.{IsColumns}
 use Rattle.partial_keys.specs.Spread.{forked_rows, spread_row}
+use Rattle.pieces.proofs.Edits.{edited-left}
 use Rattle.pieces.proofs.Positions.{length-with_position}
 use Rattle.pieces.specs.Growth.{edited}
 use Rattle.pieces.specs.Positions.{front_below, has, with_position}
@@ -20,39 +21,91 @@ room_for_column p cs columns off =
     let more : IsColumns (with_position p cs) = subst (λ b. IsColumns (cond b cs (with_position p cs))) off columns in
     omega (arith, more.few, length-with_position p cs)
 
-pub words_shown : (is_column : Bool) (count below : ℕ) (words : List ℕ) → count ≤ length words →
-    take count (cond is_column words (map (spread_row below) (take count words) ++ drop count words)) ≡ cond is_column (take count words) (map (spread_row below) (take count words))
-words_shown true count below words l = refl
-words_shown false count below words l = take_at (map (spread_row below) (take count words)) (drop count words) count (length-map (take count words) (spread_row below) ∙ length-take-le count words l)
-
-pub words_behind : (is_column : Bool) (count below : ℕ) (words : List ℕ) → count ≤ length words →
-    drop (count + 1) (cond is_column words (map (spread_row below) (take count words) ++ drop count words)) ≡ drop (count + 1) words
-words_behind true count below words l = refl
-words_behind false count below words l =
-    let n : length (map (spread_row below) (take count words)) ≡ count = length-map (take count words) (spread_row below) ∙ length-take-le count words l in
-    ap (λ k. drop (k + 1) (map (spread_row below) (take count words) ++ drop count words)) (sym n)
-    ∙ drop-append-add (map (spread_row below) (take count words)) (drop count words) 1
-    ∙ drop-drop 1 count words
-
 -- the bit of a column
 bit_is : (below : ℕ) → below ≤ 31 → 1 * 2 ^ (31 - below) % 2 ^ 32 ≡ 2 ^ (31 - below)
 bit_is below l = one_shl (31 - below) 32 (omega arith)
 
--- what the words are in the end
-pub words_forked : (height position first last count below : ℕ) (bit : Bool) (head : HeadView) (words new : List ℕ) → count ≤ length words → below ≤ 31 → head.rows ≡ take count words → below ≡ front_below position head.columns →
-    let with_column = cond (has head.columns position) words (map (spread_row below) (take count words) ++ drop count words) in
-    new ≡ edited first (last + 1 - first) (forked_rows (1 * 2 ^ (31 - below) % 2 ^ 32) bit) (take count with_column) ++ drop (count + 1) with_column →
-    new ≡ (forked_head height position first last bit head).rows ++ drop (count + 1) words
-words_forked height position first last count below bit head words new l few rows_are place e =
-    let is_column : Bool = has head.columns position in
-    e
-    ∙ ap (λ w. edited first (last + 1 - first) (forked_rows w bit) (take count (cond is_column words (map (spread_row below) (take count words) ++ drop count words))) ++ drop (count + 1) (cond is_column words (map (spread_row below) (take count words) ++ drop count words))) (bit_is below few)
-    ∙ ap (λ rs. edited first (last + 1 - first) (forked_rows (2 ^ (31 - below)) bit) rs ++ drop (count + 1) (cond is_column words (map (spread_row below) (take count words) ++ drop count words))) (words_shown is_column count below words l)
-    ∙ ap (λ ys. edited first (last + 1 - first) (forked_rows (2 ^ (31 - below)) bit) (cond is_column (take count words) (map (spread_row below) (take count words))) ++ ys) (words_behind is_column count below words l)
-    ∙ ap (λ rs. edited first (last + 1 - first) (forked_rows (2 ^ (31 - below)) bit) (cond is_column rs (map (spread_row below) rs)) ++ drop (count + 1) words) (sym rows_are)
-    ∙ ap (λ k. edited first (last + 1 - first) (forked_rows (2 ^ (31 - k)) bit) (cond is_column head.rows (map (spread_row k) head.rows)) ++ drop (count + 1) words) place
+-- ---- rows with a new fork, in front of unused places
+module _ (weight : ℕ) (bit : Bool) (first n : ℕ) (rows : List ℕ) (inside : first + n ≤ length rows) where
+  length-forked_rows : (ys : List ℕ) → length (forked_rows weight bit ys) ≡ length ys + 1
+  length-forked_rows ys = elim bit as (λ v. length (forked_rows weight v ys) ≡ length ys + 1) [
+    | true ↦ length-append ys (bit_or (get_or ys 0 0) weight ∷ [])
+    | false ↦ omega (arith, length-map ys (λ row. bit_or row weight))
+  ]
 
--- rows more, in front of unused places
+  length-edited : length (edited first n (forked_rows weight bit) rows) ≡ length rows + 1
+  length-edited =
+      let part : List ℕ = take n (drop first rows) in
+      let rest : List ℕ = drop (first + n) rows in
+      omega (
+        arith,
+        inside,
+        length-append (take first rows) (forked_rows weight bit part ++ rest),
+        length-append (forked_rows weight bit part) rest,
+        length-forked_rows part,
+        length-take-le first rows (omega (arith, inside)),
+        length-take-le n (drop first rows) (omega (arith, inside, length-drop first rows)),
+        length-drop first rows,
+        length-drop (first + n) rows,
+      )
+
+  -- the last place is dropped, which is unused
+  last_dropped : (count : ℕ) → length rows ≡ count → count < 32 →
+      take 32 (edited first n (forked_rows weight bit) (rows ++ replicate (32 - count) 4294967295)) ≡ edited first n (forked_rows weight bit) rows ++ replicate (32 - (count + 1)) 4294967295
+  last_dropped count counted room =
+      let forked : List ℕ = edited first n (forked_rows weight bit) rows in
+      let unused : List ℕ = replicate (32 - count) 4294967295 in
+      ap (take 32) (edited-left first n (forked_rows weight bit) rows unused inside)
+      ∙ ap (λ k. take k (forked ++ unused)) (let e : 32 ≡ length forked + (32 - (count + 1)) = omega (arith, length-edited, counted, room) in e)
+      ∙ take-append-add forked unused (32 - (count + 1))
+      ∙ ap (λ ys. forked ++ ys) (take-replicate (32 - (count + 1)) (32 - count) 4294967295 (omega arith))
+
+module _ (count : ℕ) (head : HeadView) (words : List ℕ) (fits : FitsHead count words head) where
+  used : take count words ≡ head.rows
+  used = ap (take count) fits.padded ∙ take_at head.rows _ count fits.counted
+
+  unused : drop count words ≡ replicate (32 - count) 4294967295
+  unused = ap (drop count) fits.padded ∙ drop_at head.rows _ count fits.counted ∙ ap (λ n. replicate (32 - n) 4294967295) fits.counted
+
+  -- what stands behind one row more
+  behind : drop (count + 1) words ≡ replicate (32 - (count + 1)) 4294967295
+  behind =
+      ap (drop (count + 1)) fits.padded
+      ∙ ap (λ n. drop (count + 1) (head.rows ++ replicate (32 - n) 4294967295)) fits.counted
+      ∙ drop_pad 32 count head.rows 4294967295 fits.counted
+
+  module _ (is_column : Bool) (below : ℕ) where
+    abbrev with_column : List ℕ
+    with_column = cond is_column head.rows (map (spread_row below) head.rows)
+
+    length-with_column : length with_column ≡ count
+    length-with_column = elim is_column as (λ b. length (cond b head.rows (map (spread_row below) head.rows)) ≡ count) [
+      | true ↦ fits.counted
+      | false ↦ length-map head.rows (spread_row below) ∙ fits.counted
+    ]
+
+    column_words : cond is_column words (map (spread_row below) (take count words) ++ drop count words) ≡ with_column ++ replicate (32 - count) 4294967295
+    column_words = elim is_column as (λ b. cond b words (map (spread_row below) (take count words) ++ drop count words) ≡ cond b head.rows (map (spread_row below) head.rows) ++ replicate (32 - count) 4294967295) [
+      | true ↦ fits.padded ∙ ap (λ n. head.rows ++ replicate (32 - n) 4294967295) fits.counted
+      | false ↦ ap₂ (λ xs ys. map (spread_row below) xs ++ ys) used unused
+    ]
+
+  -- what the words are in the end
+  pub words_forked : (height position first last below : ℕ) (bit : Bool) (new : List ℕ) → first ≤ last → last < count → count < 32 → below ≤ 31 → below ≡ front_below position head.columns →
+      new ≡ take 32 (edited first (last + 1 - first) (forked_rows (1 * 2 ^ (31 - below) % 2 ^ 32) bit) (cond (has head.columns position) words (map (spread_row below) (take count words) ++ drop count words))) →
+      new ≡ (forked_head height position first last bit head).rows ++ drop (count + 1) words
+  words_forked height position first last below bit new order inside room few place e =
+      let is_column : Bool = has head.columns position in
+      let n : ℕ = last + 1 - first in
+      let rows : List ℕ = with_column is_column below in
+      let counted : length rows ≡ count = length-with_column is_column below in
+      e
+      ∙ ap (λ ws. take 32 (edited first n (forked_rows (1 * 2 ^ (31 - below) % 2 ^ 32) bit) ws)) (column_words is_column below)
+      ∙ last_dropped (1 * 2 ^ (31 - below) % 2 ^ 32) bit first n rows (omega (arith, order, inside, counted)) count counted room
+      ∙ ap₂ (λ w ys. edited first n (forked_rows w bit) rows ++ ys) (bit_is below few) (sym behind)
+      ∙ ap (λ k. edited first n (forked_rows (2 ^ (31 - k)) bit) (cond is_column head.rows (map (spread_row k) head.rows)) ++ drop (count + 1) words) place
+
+-- a row more
 module _ (count : ℕ) (head : HeadView) (words : List ℕ) (fits : FitsHead count words head) (next : HeadView) (new : List ℕ) (lawful : IsLawfulNode (node_of next (leaves (count + 1)))) (is : new ≡ next.rows ++ drop (count + 1) words) where
   longer : length next.rows ≡ count + 1
   longer = same_count (node_of next (leaves (count + 1))) lawful ∙ length-replicate (count + 1) (Leaf 0)
@@ -60,15 +113,9 @@ module _ (count : ℕ) (head : HeadView) (words : List ℕ) (fits : FitsHead cou
   pub new_rows : take (count + 1) new ≡ next.rows
   new_rows = ap (take (count + 1)) is ∙ take_at next.rows (drop (count + 1) words) (count + 1) longer
 
-  new_behind : drop (count + 1) words ≡ replicate (32 - (count + 1)) 4294967295
-  new_behind =
-      ap (drop (count + 1)) fits.padded
-      ∙ ap (λ n. drop (count + 1) (head.rows ++ replicate (32 - n) 4294967295)) fits.counted
-      ∙ drop_pad 32 count head.rows 4294967295 fits.counted
-
   pub new_fits : FitsHead (count + 1) new next
   new_fits = record {
-    padded = is ∙ ap (λ ys. next.rows ++ ys) (new_behind ∙ ap (λ n. replicate (32 - n) 4294967295) (sym longer));
+    padded = is ∙ ap (λ ys. next.rows ++ ys) (behind count head words fits ∙ ap (λ n. replicate (32 - n) 4294967295) (sym longer));
     counted = longer;
     lawful = lawful;
   }

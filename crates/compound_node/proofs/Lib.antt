@@ -1,5 +1,6 @@
 -- The lemmas, lowest first.
 pub mod Editing
+pub mod Shifting
 pub mod Ladders
 pub mod Full
 pub mod Heights

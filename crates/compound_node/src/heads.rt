@@ -16,6 +16,7 @@ use super::rows::{
 use key_bits::Key;
 use partial_keys::{Columns, search_lanes};
 use std::marker::Model;
+use std::simd::prelude::*;
 
 /// A node without its entries: its stored height, its columns, and a sparse partial key for each
 /// entry. A search reads no more.
@@ -155,7 +156,8 @@ impl Head {
     {
         let count = self.count as usize;
         let below = make_column(&mut self.columns, &mut self.sparse, count, position);
-        fork_rows(&mut self.sparse, count, first, last, 1 << (31 - below), bit);
+        let rows = u32x32::from_array(self.sparse);
+        self.sparse = fork_rows(rows, first, last, 1 << (31 - below), bit).to_array();
         self.count += 1;
         self.height = height;
     }

@@ -1,7 +1,7 @@
 //! Sparse partial keys as rows of 32 bits, the column of the lowest position as the highest bit.
 
 ghost use Rattle.std.specs.List.{All};
-ghost use Rattle.std.specs.Prelude.{◌≡◌, ◌+◌, ◌-◌, ◌%◌, ◌^◌, ◌<◌, ◌≤◌, ◌↔◌, ◌++◌, ◌∷◌, IsTrue, drop, map, length, take, bit_or};
+ghost use Rattle.std.specs.Prelude.{◌≡◌, ◌+◌, ◌-◌, ◌%◌, ◌^◌, ◌<◌, ◌≤◌, ◌↔◌, ◌++◌, ◌∷◌, IsTrue, bit_or, drop, false, insert, length, map, take};
 ghost use Rattle.arrayvec.specs.ArrayVec.{array_vec_len};
 ghost use Rattle.partial_keys.specs.Rows.{with_unused};
 ghost use Rattle.partial_keys.specs.Runs.{agree_in, IsRunStart, IsRunEnd};
@@ -13,7 +13,8 @@ ghost use Rattle.compound_node.specs.Ladders.{AreSparseKeys, IsLadder};
 ghost use Rattle.compound_node.specs.Removal.{lowest, bit_after, cleared_front, removed_row};
 
 use arrayvec::ArrayVec;
-use partial_keys::{put_in, take_out};
+use partial_keys::take_out;
+use std::simd::prelude::*;
 
 /// The rows, with the unused places filled.
 pub(crate) fn padded(rows: &[u32]) -> [u32; 32]
@@ -103,37 +104,50 @@ pub(crate) fn spread_all(rows: &mut [u32; 32], count: usize, j: u8)
     }
 }
 
-/// Joins bits to the rows from `first` up to `end`.
-fn join_bits(rows: &mut [u32; 32], first: usize, end: usize, bits: u32)
-    requires ordered { first ≤ end }
-    requires in_range { end ≤ 32 }
-    ensures { rows.new ≡ edited first (end - first) (map (λ row. bit_or row bits)) rows.old }
+/// The lanes' own places.
+const PLACES: [u32; 32] = [
+    0, 1, 2, 3, 4, 5, 6, 7, 8, 9, 10, 11, 12, 13, 14, 15, 16, 17, 18, 19, 20, 21, 22, 23, 24, 25,
+    26, 27, 28, 29, 30, 31,
+];
+
+/// Puts a row in at a place: those from there on move up by one, over the last of all.
+#[inline(always)]
+fn with_row(rows: u32x32, at: u32, row: u32) -> u32x32
+    requires { at < 32 }
+    ensures { result ≡ take 32 (insert rows at row) }
 {
-    for i in first..end {
-        rows[i] |= bits;
-    }
+    let (places, at) = (u32x32::from_array(PLACES), u32x32::splat(at));
+    let moved = rows.rotate_elements_right::<1>();
+    let put = places.simd_eq(at).select(u32x32::splat(row), moved);
+    places.simd_lt(at).select(rows, put)
 }
 
-/// Puts a new fork in over those from `first` to `last` of the first `count` rows.
-pub fn fork_rows(
-    rows: &mut [u32; 32],
-    count: usize,
-    first: usize,
-    last: usize,
-    weight: u32,
-    bit: bool,
-)
-    requires room { count < 32 }
-    requires range { first ≤ last }
-    requires in_range { last < count }
-    ensures { rows.new ≡ edited first (last + 1 - first) (forked_rows weight bit) (take count rows.old) ++ drop (count + 1) rows.old }
+/// Moves the rows from `first` on up by one, over the last of all, and joins bits to those that stand before `end` then. Row `first`
+/// stays in its place, too.
+#[inline(always)]
+fn with_joined(rows: u32x32, first: u32, end: u32, bits: u32) -> u32x32
+    requires order { first + 1 < end }
+    requires in_range { end ≤ 32 }
+    ensures { result ≡ take 32 (edited first (end - 1 - first) (forked_rows bits false) rows) }
 {
-    let row = rows[first];
+    let (places, zeros) = (u32x32::from_array(PLACES), u32x32::splat(0));
+    let joined = places.simd_lt(u32x32::splat(end));
+    let moved = rows.rotate_elements_right::<1>() | joined.select(u32x32::splat(bits), zeros);
+    places.simd_lt(u32x32::splat(first + 1)).select(rows, moved)
+}
+
+/// Puts a new fork in over the rows from `first` to `last`, and with it one row more: those behind move up by one, over the last of all.
+#[inline(always)]
+pub fn fork_rows(rows: u32x32, first: usize, last: usize, weight: u32, bit: bool) -> u32x32
+    requires range { first ≤ last }
+    requires in_range { last < 31 }
+    ensures { result ≡ take 32 (edited first (last + 1 - first) (forked_rows weight bit) rows) }
+{
     if bit {
-        put_in(rows, count, last + 1, row | weight);
+        let row = rows.to_array()[first] | weight;
+        with_row(rows, last as u32 + 1, row)
     } else {
-        join_bits(rows, first, last + 1, weight);
-        put_in(rows, count, first, row);
+        with_joined(rows, first as u32, last as u32 + 2, weight)
     }
 }
 

@@ -2,13 +2,13 @@
 use Rattle.std.proofs.Common.{ℕ, ◌≡◌, ◌+◌, ◌-◌, ◌*◌, ◌/◌, ◌%◌, ◌^◌, ◌<◌, ◌≤◌, ◌++◌, ◌⊎◌, ⊎_elim, inl, inr, arith, Bool, true, cond, List, drop, get_or, get_or-take, length, replicate, take, map, ap, refl, subst, sym, lit<, ◌∙◌}
 use Rattle.std.specs.List.{insert}
 use Rattle.std.proofs.lemmas.Bool.{cases_lt}
-use Rattle.std.proofs.lemmas.List.{ext_get_or, get_or-append_right, get_or-drop, get_or-replicate, get_or_append_left, take_at}
+use Rattle.std.proofs.lemmas.List.{ext_get_or, get_or-append_right, get_or-drop, get_or-replicate, get_or_append_left}
 use Rattle.std.proofs.lemmas.Simd.{get_or-chunk}
 use Rattle.compound_node.proofs.Forked.{new_fits, words_forked}
 use Rattle.compound_node.proofs.Forks.{NewLeaf, new_leaf}
 use Rattle.compound_node.proofs.Lawful.{same_count, with_leaves}
 use Rattle.compound_node.specs.Forking.{forked_head}
-use Rattle.compound_node.specs.Nodes.{FitsHead, HeadView, IsBuiltFrom, IsLawfulNode, NodeView, head_of, leaves, node_of, piece}
+use Rattle.compound_node.specs.Nodes.{FitsHead, HeadView, IsBuiltFrom, NodeView, head_of, node_of, piece}
 use Rattle.compound_node.specs.declared.entries.Entry.TheVariants.{Leaf}
 use Rattle.partial_keys.proofs.Reaching.{front_below-columns}
 use Rattle.partial_keys.specs.Rows.{with_unused}
@@ -20,7 +20,7 @@ use Rattle.record_words.specs.Node.{CanGrowAt, HasFork, head_words}
 use Rattle.record_words.specs.Packed.{meta_word, position_word, row_at, row_word}
 use Rattle.record_words.proofs.Fixing.{AreFixed, fixed_words_parts}
 use Rattle.record_words.proofs.Lanes.{column_lanes, place_lanes_read}
-use Rattle.record_words.proofs.Lawful.{length-with_unused, row_at-with_unused}
+use Rattle.record_words.proofs.Lawful.{row_at-with_unused}
 use Rattle.record_words.proofs.Nodes.{head_part, length-node_words}
 use Rattle.record_words.proofs.Packings.{row_word-same}
 use Rattle.record_words.proofs.Written.{behind_head, head_word, length-with_head, numbers_word, rows_word, with_head}
@@ -50,9 +50,6 @@ module _ {words : List ℕ} {node : NodeView} {position first last : ℕ} (growi
   -- the number of entries in the first word
   numbers_are : get_or words 0 0 ≡ meta_word (length node.rows) (length node.columns) 1
   numbers_are = sym (word_is 0 (lit< tt)) ∙ (parts.numbers ∙ ap (meta_word (length node.rows) (length node.columns)) growing.takes.0)
-
-  pub count_is : get_or words 0 0 % 256 ≡ length node.rows
-  count_is = omega (arith, numbers_are, same_count node growing.has.lawful, growing.has.lawful.room, growing.has.lawful.positions.few)
 
   pub room : length node.rows < 32
   room = omega (arith, same_count node growing.has.lawful, growing.takes.1)
@@ -100,25 +97,25 @@ module _ {words : List ℕ} {node : NodeView} {position first last : ℕ} (growi
     pub in_range : last < length node.rows
     in_range = leaf.in_range
 
-    module _ (column : has node.columns position ≡ true) (count below : ℕ) (old rows : List ℕ) (counted : count ≡ length node.rows) (few : below ≤ 31) (place : below ≡ front_below position node.columns)
+    module _ (column : has node.columns position ≡ true) (below : ℕ) (old rows : List ℕ) (few : below ≤ 31) (place : below ≡ front_below position node.columns)
         (old_are : old ≡ with_unused node.rows)
-        (rows_are : rows ≡ edited first (last + 1 - first) (forked_rows (1 * 2 ^ (31 - below) % 2 ^ 32) bit) (take count old) ++ drop (count + 1) old) where
+        (rows_are : rows ≡ take 32 (edited first (last + 1 - first) (forked_rows (1 * 2 ^ (31 - below) % 2 ^ 32) bit) old)) where
+      abbrev count : ℕ
+      count = length node.rows
+
       fits : FitsHead count old (head_of node)
       fits = record {
         padded = old_are;
-        counted = sym counted;
-        lawful = with_leaves node growing.has.lawful count (counted ∙ same_count node growing.has.lawful);
+        counted = refl;
+        lawful = with_leaves node growing.has.lawful count (same_count node growing.has.lawful);
       }
 
       kept : rows ≡ next.rows ++ drop (count + 1) old
-      kept = words_forked 1 position first last count below bit (head_of node) old rows
-          (omega (arith, counted, room, ap length old_are, length-with_unused node.rows (omega (arith, room)))) few
-          (sym (ap (take count) old_are ∙ take_at node.rows _ count (sym counted))) place
-          (rows_are ∙ ap (λ b. edited first (last + 1 - first) (forked_rows (1 * 2 ^ (31 - below) % 2 ^ 32) bit) (take count (cond b old (map (spread_row below) (take count old) ++ drop count old)))
-          ++ drop (count + 1) (cond b old (map (spread_row below) (take count old) ++ drop count old))) (sym column))
+      kept = words_forked count (head_of node) old fits 1 position first last below bit rows ordered in_range room few place
+          (rows_are ∙ ap (λ b. take 32 (edited first (last + 1 - first) (forked_rows (1 * 2 ^ (31 - below) % 2 ^ 32) bit) (cond b old (map (spread_row below) (take count old) ++ drop count old)))) (sym column))
 
       forked : FitsHead (count + 1) rows next
-      forked = new_fits count (head_of node) old fits next rows (subst (λ n. IsLawfulNode (node_of next (leaves (n + 1)))) (sym counted) leaf.leaves_fit) kept
+      forked = new_fits count (head_of node) old fits next rows leaf.leaves_fit kept
 
       columns_stay : next.columns ≡ node.columns
       columns_stay = ap (λ b. cond b node.columns (with_position position node.columns)) column
@@ -139,7 +136,7 @@ module _ {words : List ℕ} {node : NodeView} {position first last : ℕ} (growi
 
           first_word : get_or out 0 0 ≡ get_or new 0 0
           first_word =
-              numbers ∙ (omega (arith, numbers_are, forked.counted, counted, ap length columns_stay)
+              numbers ∙ (omega (arith, numbers_are, forked.counted, ap length columns_stay)
               ∙ numbers_word (length next.rows) 1 next.columns next.rows words)
 
           position_words : (j : ℕ) → j < 8 → get_or out (1 + j) 0 ≡ get_or new (1 + j) 0

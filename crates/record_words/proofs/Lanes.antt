@@ -1,15 +1,16 @@
 -- Words as lanes of fewer bits.
-use Rattle.std.proofs.Common.{ℕ, zero, suc, ◌≡◌, ◌+◌, ◌-◌, ◌*◌, ◌/◌, ◌%◌, ◌^◌, ◌<◌, ◌≤◌, ◌++◌, List, [], ◌∷◌, arith, get_or, length, length-append, replicate, take, drop, refl, sym, ap, subst, ◌∙◌, w64, Fits, below_more}
+use Rattle.std.proofs.Common.{ℕ, zero, suc, ◌≡◌, ◌+◌, ◌-◌, ◌*◌, ◌/◌, ◌%◌, ◌^◌, ◌<◌, ◌≤◌, ◌++◌, List, [], ◌∷◌, arith, get_or, length, length-append, replicate, take, drop, refl, sym, ap, subst, ◌∙◌, w32, w64, Fits, below_more}
 use borrow.Author.Count.{below_none}
-use Rattle.std.proofs.Math.Nat.{pow-suc, pow-zero}
+use Rattle.std.proofs.Math.Nat.{mul-le-mul_left, pow-suc, pow-zero}
 use Rattle.std.proofs.lemmas.List.{ext_get_or, get_or_default, get_or-append_right, get_or-drop, get_or-take, length-replicate, take_at}
-use Rattle.std.proofs.lemmas.Simd.{below_from_Fits, get_or-chunk, get_or_narrower}
+use Rattle.std.proofs.lemmas.Simd.{below_from_Fits, get_or-chunk, get_or_narrower, get_or_wider, length-chunk}
 use lib.Lanes.{Each1, chunk, digits_l, number_l}
 use Rattle.std.proofs.Common.{ap₂, inl, inr}
 use Rattle.std.proofs.Math.ListN.{get_or-append}
 use Rattle.std.proofs.lemmas.Bool.{cases_lt}
 use Rattle.compound_node.specs.Nodes.{NodeView, IsLawfulNode, head_of}
 use Rattle.record_words.specs.Node.{head_words}
+use Rattle.record_words.specs.Packed.{row_at, row_word}
 use Rattle.record_words.proofs.Fixing.{AreFixed, fixed_words_parts}
 use Rattle.record_words.proofs.Lawful.{column-lt, get_or-padded}
 use Rattle.record_words.proofs.Parts.{position_in_word}
@@ -19,11 +20,20 @@ number_of_digits : (n x : ℕ) → x < 256 ^ n → number_l 256 (digits_l 256 n 
 number_of_digits zero x h = omega (arith, h, pow-zero 256)
 number_of_digits (suc n) x h = omega (arith, number_of_digits n (x / 256) (omega (arith, h, pow-suc 256 n)))
 
-number-lt : (n : ℕ) (xs : List ℕ) → length xs ≡ n → Each1 (λ x. x < 2 ^ 64) xs → number_l (2 ^ 64) xs < (2 ^ 64) ^ n
-number-lt zero [] e h = omega (arith, pow-zero (2 ^ 64))
-number-lt zero (x ∷ xs) e h = absurd (omega (arith, e))
-number-lt (suc n) [] e h = absurd (omega (arith, e))
-number-lt (suc n) (x ∷ xs) e h = omega (arith, h.0, number-lt n xs (omega (arith, e)) h.1, pow-suc (2 ^ 64) n)
+number-lt : (p n : ℕ) (xs : List ℕ) → length xs ≡ n → Each1 (λ x. x < p) xs → number_l p xs < p ^ n
+number-lt p zero [] e h = omega (arith, pow-zero p)
+number-lt p zero (x ∷ xs) e h = absurd (omega (arith, e))
+number-lt p (suc n) [] e h = absurd (omega (arith, e))
+number-lt p (suc n) (x ∷ xs) e h =
+    let low = number-lt p n xs (omega (arith, e)) h.1 in
+    let more : number_l p xs + 1 ≤ p ^ n = omega (arith, low) in
+    omega (arith, h.0, mul-le-mul_left p more, pow-suc p n)
+
+number_of_two : (p : ℕ) (xs : List ℕ) → length xs ≡ 2 → number_l p xs ≡ get_or xs 0 0 + p * get_or xs 1 0
+number_of_two p [] e = absurd (omega (arith, e))
+number_of_two p (x ∷ []) e = absurd (omega (arith, e))
+number_of_two p (x ∷ y ∷ []) e = omega arith
+number_of_two p (x ∷ y ∷ z ∷ zs) e = absurd (omega (arith, e))
 
 -- eight of n words from an offset on
 pub eight_at : (words : List ℕ) (n s j : ℕ) → s + 8 ≤ n → j < 8 → get_or (chunk 0 8 (take (n - s) (drop s words))) j 0 ≡ get_or words (s + j) 0
@@ -41,7 +51,7 @@ module _ (xs : List ℕ) (long : length xs ≡ 8) (fits : Each1 (Fits w64) xs) w
   number = number_l (2 ^ 64) xs
 
   same : number_l 256 (digits_l 256 64 number) ≡ number
-  same = number_of_digits 64 number (let below = number-lt 8 xs long small in omega (arith, below))
+  same = number_of_digits 64 number (let below = number-lt (2 ^ 64) 8 xs long small in omega (arith, below))
 
   pub quarter_at : (i : ℕ) → i < 32 → get_or (digits_l 65536 32 (number_l 256 (digits_l 256 64 (number_l (2 ^ 64) xs)))) i 0 ≡ get_or xs (i / 4) 0 / 2 ^ (16 * (i % 4)) % 2 ^ 16
   quarter_at i low =
@@ -102,3 +112,17 @@ column_lanes columns lanes count are counted same =
         unused = ap₂ (λ (cs : List ℕ) (n : ℕ). cs ++ replicate (32 - n) 65535) taken counted ∙ sym same;
       },
     )
+
+-- ---- words as lanes of more bits
+-- two numbers in a word
+pub pair_at : (xs : List ℕ) → length xs ≡ 16 → Each1 (Fits w32) xs → (j : ℕ) → j < 8 →
+    get_or (digits_l (2 ^ 64) 8 (number_l 256 (digits_l 256 64 (number_l (2 ^ 32) xs)))) j 0 ≡ row_word xs j
+unfolding row_word
+pair_at xs long fits j low =
+    let small : Each1 (λ x. x < 2 ^ 32) xs = below_from_Fits w32 xs fits in
+    let number : ℕ = number_l (2 ^ 32) xs in
+    let at : (i : ℕ) → i < 2 → get_or (chunk (2 * j) 2 xs) i 0 ≡ row_at xs (2 * j + i) =
+    λ i l. get_or-chunk (2 * j) 2 xs i 0 l ∙ sym (get_or_default xs (2 * j + i) 4294967295 0 (omega (arith, long, low, l))) in
+    ap (λ x. get_or (digits_l (2 ^ 64) 8 x) j 0) (number_of_digits 64 number (let below = number-lt (2 ^ 32) 16 xs long small in omega (arith, below)))
+    ∙ (get_or_wider (2 ^ 32) 2 (2 ^ 64) 8 xs j refl small low
+    ∙ (number_of_two (2 ^ 32) (chunk (2 * j) 2 xs) (length-chunk (2 * j) 2 xs (omega (arith, long, low))) ∙ ap₂ (λ x y. x + 2 ^ 32 * y) (at 0 (omega arith) ∙ ap (row_at xs) (omega arith)) (at 1 (omega arith))))

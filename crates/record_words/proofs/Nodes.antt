@@ -1,10 +1,11 @@
 -- A node against its words.
-use Rattle.std.proofs.Common.{ℕ, ◌≡◌, ◌+◌, ◌<◌, ◌≤◌, arith, List, get_or, length, take, drop, refl, sym, ap, ◌∙◌, length-append}
+use Rattle.std.proofs.Common.{ℕ, ◌≡◌, ◌+◌, ◌<◌, ◌≤◌, arith, List, get_or, length, length-drop, take, drop, refl, sym, ap, ◌∙◌, length-append}
 use Rattle.std.specs.Prelude.{slice_get}
-use Rattle.std.proofs.lemmas.List.{take_at, drop_at, take_all, get_or-append_right}
+use Rattle.std.proofs.lemmas.List.{take_at, drop-take, drop_at, take_all, take-take, get_or-append_right}
 use Rattle.compound_node.specs.Nodes.{NodeView, HeadView, IsLawfulNode, head_of, node_of}
 use Rattle.compound_node.proofs.Lawful.{same_count}
 use Rattle.record_words.specs.Entry.{entry_word}
+use Rattle.record_words.specs.HeadParts.{back_words}
 use Rattle.record_words.specs.Node.{HasNodeWords, head_words, entry_words, node_words}
 use Rattle.record_words.proofs.Entries.{length-entry_words, entry_words_at, same_entries}
 use Rattle.record_words.proofs.Fixing.{AreFixed, columns_same, fixed_words_parts, rows_same, same_numbers}
@@ -17,6 +18,15 @@ length-head_words node = (fixed_words_parts (length node.rows) node.height node.
 
 pub head_part : (node : NodeView) (words : List ℕ) → node_words node ≡ words → head_words (head_of node) ≡ take 25 words
 head_part node words same = sym (take_at (head_words (head_of node)) (entry_words node.entries) 25 (length-head_words node)) ∙ ap (take 25) same
+
+-- the words of the sparse partial keys
+pub rows_of : (node : NodeView) (words : List ℕ) → head_words (head_of node) ≡ words → back_words (head_of node) ≡ take 16 (drop 9 words)
+rows_of node words same =
+    let long : length (drop 9 (head_words (head_of node))) ≤ 16 = omega (arith, length-drop 9 (head_words (head_of node)), length-head_words node) in
+    sym (take_all 16 (drop 9 (head_words (head_of node))) long) ∙ ap (λ ws. take 16 (drop 9 ws)) same
+
+pub rows_part : (node : NodeView) (words : List ℕ) → node_words node ≡ words → back_words (head_of node) ≡ take 16 (drop 9 words)
+rows_part node words same = rows_of node (take 25 words) (head_part node words same) ∙ ap (take 16) (drop-take 9 16 words) ∙ take-take 16 16 (drop 9 words) (omega arith)
 
 pub entry_part : (node : NodeView) (words : List ℕ) → node_words node ≡ words → entry_words node.entries ≡ take 32 (drop 25 words)
 entry_part node words same =

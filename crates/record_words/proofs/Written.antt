@@ -1,20 +1,23 @@
 -- A node's words, written one after another.
-use Rattle.std.proofs.Common.{ℕ, ◌≡◌, ◌+◌, ◌-◌, ◌<◌, ◌≤◌, ◌++◌, arith, List, drop, get_or, set, replicate, length, length-append, sym, ap, refl, ◌∙◌, ⊎_elim, below_more, get_or-set_other, get_or-set_same, inl, inr, subst, ◌⊎◌}
+use Rattle.std.proofs.Common.{ℕ, ◌≡◌, ◌+◌, ◌-◌, ◌*◌, ◌^◌, ◌<◌, ◌≤◌, ◌++◌, arith, List, drop, get_or, get_or-take, set, take, replicate, length, length-append, sym, ap, ap₂, refl, ◌∙◌, ⊎_elim, below_more, get_or-set_other, get_or-set_same, inl, inr, subst, ◌⊎◌}
 use Rattle.std.specs.Prelude.{slice_get, Option}
 use Rattle.std.proofs.lemmas.Bool.{cases_lt}
-use Rattle.std.proofs.lemmas.List.{ext_get_or, get_or-append_right, get_or-drop, get_or_append_left, length-drop, length-replicate, length-set}
+use Rattle.std.proofs.lemmas.List.{ext_get_or, get_or-append_right, get_or-drop, get_or_append_left, length-drop, length-replicate, length-set, length-take-le}
 use Rattle.std.proofs.lemmas.Option.{slice_get_past}
+use Rattle.std.proofs.lemmas.Simd.{get_or-chunk, get_or-put_chunk_above, get_or-put_chunk_at, length-put_chunk}
 use Rattle.compound_node.specs.declared.entries.Entry.{Entry}
 use Rattle.compound_node.specs.Nodes.{HeadView, NodeView, head_of}
 use Rattle.partial_keys.specs.Columns.{with_free}
 use Rattle.partial_keys.specs.Rows.{with_unused}
 use Rattle.record_words.specs.Entry.{HasEntryWord, entry_word}
 use Rattle.record_words.specs.Node.{HaveEntryWords, head_words, entry_words, node_words}
-use Rattle.record_words.specs.Packed.{fixed_words, meta_word, position_word, row_word}
+use Rattle.record_words.specs.Packed.{fixed_words, meta_word, position_word, row_at, row_word}
 use Rattle.record_words.proofs.Fixing.{AreFixed, fixed_words-same, fixed_words_parts}
 use Rattle.record_words.proofs.Lawful.{get_or-padded, row_at-with_unused}
 use Rattle.record_words.proofs.Nodes.{length-head_words, node_words-entry}
 use Rattle.record_words.proofs.Packings.{position_word-same}
+use borrow.Rule.Slice.PartMut.{mid_of, put_mid}
+use lib.Lanes.{chunk, put_chunk}
 
 -- the words before place n are the new ones, and the others the old
 pub record AreSoFar (new old words : List ℕ) (n : ℕ) : Type 0 where
@@ -40,6 +43,54 @@ all_so_far new old words n so_far whole rest =
     ext_get_or 0 words new (so_far.whole ∙ sym whole)
     (λ k inside. ⊎_elim (λ (before : k < n). so_far.written k before)
     (λ (past : n ≤ k). so_far.unwritten k past ∙ sym (rest k past (omega (arith, so_far.whole)))) (cases_lt k n))
+
+-- ---- numbers that are stored from a place on, in front of the others
+module _ (a k : ℕ) (xs ys : List ℕ) (whole : length xs ≡ a + k) (few : length ys ≤ k) where
+  abbrev pub stored : List ℕ
+  stored = put_mid a k xs (put_chunk 0 (mid_of a k xs) ys)
+
+  front : length (take a xs) ≡ a
+  front = length-take-le a xs (omega (arith, whole))
+
+  middle : length (mid_of a k xs) ≡ k
+  middle = length-take-le k (drop a xs) (omega (arith, length-drop a xs, whole))
+
+  length-part : length (put_chunk 0 (mid_of a k xs) ys) ≡ k
+  length-part = length-put_chunk 0 (mid_of a k xs) ys ∙ middle
+
+  pub length-stored : length stored ≡ a + k
+  length-stored =
+      length-append (take a xs) (put_chunk 0 (mid_of a k xs) ys ++ drop k (drop a xs))
+      ∙ omega (arith, front, length-append (put_chunk 0 (mid_of a k xs) ys) (drop k (drop a xs)), length-part, length-drop k (drop a xs), length-drop a xs, whole)
+
+  pub before_stored : (i : ℕ) → i < a → get_or stored i 0 ≡ get_or xs i 0
+  before_stored i low = get_or_append_left (take a xs) (put_chunk 0 (mid_of a k xs) ys ++ drop k (drop a xs)) 0 i (omega (arith, low, front)) ∙ get_or-take a xs i 0 low
+
+  in_part : (j : ℕ) → j < k → get_or stored (a + j) 0 ≡ get_or (put_chunk 0 (mid_of a k xs) ys) j 0
+  in_part j low =
+      get_or-append_right (take a xs) (put_chunk 0 (mid_of a k xs) ys ++ drop k (drop a xs)) a (a + j) 0 front (omega arith)
+      ∙ (get_or_append_left (put_chunk 0 (mid_of a k xs) ys) (drop k (drop a xs)) 0 (a + j - a) (omega (arith, low, length-part))
+      ∙ ap (λ i. get_or (put_chunk 0 (mid_of a k xs) ys) i 0) (let e : a + j - a ≡ j = omega arith in e))
+
+  pub at_stored : (j : ℕ) → j < length ys → get_or stored (a + j) 0 ≡ get_or ys j 0
+  at_stored j low =
+      in_part j (omega (arith, low, few))
+      ∙ (ap (λ i. get_or (put_chunk 0 (mid_of a k xs) ys) i 0) (let e : j ≡ 0 + j = omega arith in e) ∙ get_or-put_chunk_at 0 (mid_of a k xs) ys j 0 low (omega (arith, few, middle)))
+
+  pub behind_stored : (i : ℕ) → a + length ys ≤ i → i < a + k → get_or stored i 0 ≡ get_or xs i 0
+  behind_stored i past inside =
+      let j : ℕ = i - a in
+      let e : a + j ≡ i = omega (arith, past) in
+      ap (λ n. get_or stored n 0) (sym e)
+      ∙ (in_part j (omega (arith, past, inside)) ∙ (get_or-put_chunk_above 0 (mid_of a k xs) ys j 0 (omega (arith, past))
+      ∙ (get_or-take k (drop a xs) j 0 (omega (arith, past, inside)) ∙ (get_or-drop a xs j 0 ∙ ap (λ n. get_or xs n 0) e))))
+
+-- the words of sixteen rows of 32 are eight of the words of all
+pub half_words : (rows : List ℕ) (h k : ℕ) → k < 8 → row_word (chunk (2 * h) 16 rows) k ≡ row_word rows (h + k)
+unfolding row_word
+half_words rows h k low =
+    ap₂ (λ x y. x + 2 ^ 32 * y) (get_or-chunk (2 * h) 16 rows (2 * k) 4294967295 (omega (arith, low)) ∙ ap (row_at rows) (omega arith))
+    (get_or-chunk (2 * h) 16 rows (2 * k + 1) 4294967295 (omega (arith, low)) ∙ ap (row_at rows) (omega arith))
 
 -- ---- the words of a head before the old ones of the entries
 abbrev pub with_head : (count height : ℕ) (columns rows old : List ℕ) → List ℕ

@@ -1,12 +1,12 @@
 //! The fixed words of a node: all but its state and its entries.
 
-ghost use Rattle.std.specs.Prelude.{◌≡◌, ◌+◌, ◌*◌, ◌/◌, ◌%◌, ◌^◌, ◌<◌, length, slice_index};
+ghost use Rattle.std.specs.Prelude.{ℕ, ◌≡◌, ◌+◌, ◌*◌, ◌/◌, ◌%◌, ◌^◌, ◌<◌, length, slice_index};
 ghost use Rattle.record_words.specs.Packed.{meta_word, position_at, position_word, row_word};
 ghost use Rattle.record_words.specs.Node.{InNodesOf};
 ghost use Rattle.partial_keys.specs.Columns.{with_free};
-ghost use Rattle.partial_keys.specs.Rows.{with_unused};
 
-use crate::{HEAD_WORDS, MAX_ENTRIES, NODE_FIELDS};
+use crate::{HEAD_WORDS, NODE_FIELDS};
+use std::simd::prelude::*;
 
 /// The positions that a head's words have, as far as there are places for them.
 pub(crate) fn read_places(words: &[u64]) -> [u16; 31]
@@ -26,18 +26,6 @@ pub(crate) fn place_in(words: &[u64; NODE_FIELDS], at: u8) -> u16
     ensures { result ≡ slice_index words.now (1 + at / 4) / 2 ^ (16 * (at % 4)) % 2 ^ 16 }
 {
     (words[1 + at as usize / 4] >> (16 * (at % 4)) & 0xffff) as u16
-}
-
-/// The sparse partial keys that a head's words have.
-pub(crate) fn read_rows(words: &[u64]) -> [u32; MAX_ENTRIES]
-    requires { length words.now ≡ HEAD_WORDS }
-    ensures { InNodesOf words.now (λ node. result ≡ with_unused node.rows) }
-{
-    let mut rows = [0; MAX_ENTRIES];
-    for i in 0..MAX_ENTRIES {
-        rows[i] = (words[9 + i / 2] >> (32 * (i % 2)) & 0xffff_ffff) as u32;
-    }
-    rows
 }
 
 /// The number of entries, the number of columns and the stored height in a word.
@@ -64,10 +52,11 @@ fn place(places: &[u16; 31], at: usize) -> u16
     if at < 31 { places[at] } else { u16::MAX }
 }
 
-/// Two sparse partial keys in a word, the first in its low half.
-pub(crate) fn word_of_rows(rows: &[u32; MAX_ENTRIES], j: usize) -> u64
-    requires { j < 16 }
-    ensures { result ≡ row_word rows.now j }
+/// Two and two sparse partial keys in a word each, the first in its low half.
+#[inline(always)]
+pub(crate) fn words_of_rows(rows: u32x16) -> u64x8
+    ensures whole { length result ≡ 8 }
+    ensures each { (j : ℕ) → j < 8 → slice_index result j ≡ row_word rows j }
 {
-    rows[2 * j] as u64 + ((rows[2 * j + 1] as u64) << 32)
+    u64x8::from_le_bytes(rows.to_le_bytes())
 }

@@ -11,10 +11,8 @@ ghost use Rattle.record_words.specs.Packed.{fixed_words, row_word};
 ghost use Rattle.record_words.specs.Reading.{IsSpelledBy, IsSpelling};
 
 use crate::entry::{pack_entry, read_some};
-use crate::fixed::{
-    place_in, read_places, read_rows, word_of_numbers, word_of_places, word_of_rows,
-};
-use crate::search::quarters;
+use crate::fixed::{place_in, read_places, word_of_numbers, word_of_places, words_of_rows};
+use crate::search::{quarters, rows_in};
 use crate::{FIRST_ROWS, HEAD_WORDS, HEIGHT_BIT, MAX_ENTRIES, NODE_FIELDS};
 use arrayvec::ArrayVec;
 use compound_node::{Entry, Head, Node, fork_rows};
@@ -56,17 +54,17 @@ fn put_head(
     for j in 0..8 {
         words[1 + j] = word_of_places(places, j);
     }
-    put_rows(words, rows);
+    put_rows(words, u32x32::from_array(*rows));
 }
 
 /// Puts in the words of these sparse partial keys.
-fn put_rows(words: &mut [u64; NODE_FIELDS], rows: &[u32; MAX_ENTRIES])
-    ensures rows { (k : ℕ) → k < 16 → slice_index words.new (FIRST_ROWS + k) ≡ row_word rows.now k }
+#[inline(always)]
+fn put_rows(words: &mut [u64; NODE_FIELDS], rows: u32x32)
+    ensures rows { (k : ℕ) → k < 16 → slice_index words.new (FIRST_ROWS + k) ≡ row_word rows k }
     ensures others { (k : ℕ) → (k < FIRST_ROWS) ⊎ (HEAD_WORDS ≤ k) → slice_index words.new k ≡ slice_index words.old k }
 {
-    for k in 0..16 {
-        words[FIRST_ROWS + k] = word_of_rows(rows, k);
-    }
+    words_of_rows(rows.extract::<0, 16>()).copy_to_slice(&mut words[FIRST_ROWS..]);
+    words_of_rows(rows.extract::<16, 16>()).copy_to_slice(&mut words[FIRST_ROWS + 8..]);
 }
 
 /// Whether the node that these words spell has leaves alone, and room for one more.
@@ -112,12 +110,11 @@ fn add_fork(words: &mut [u64; NODE_FIELDS], first: u8, last: u8, position: u16, 
     if place_in(words, below) != position {
         return add_column(words, first, last, position, bit);
     }
-    let count = (words[0] % 256) as usize;
-    let mut rows = read_rows(&words[..HEAD_WORDS]);
     let weight = 1 << (31 - below);
-    fork_rows(&mut rows, count, first as usize, last as usize, weight, bit);
+    let rows = rows_in(&words[FIRST_ROWS..HEAD_WORDS]);
+    let rows = fork_rows(rows, first as usize, last as usize, weight, bit);
     words[0] += 1;
-    put_rows(words, &rows);
+    put_rows(words, rows);
 }
 
 /// The same, whether or not the position is a column.
@@ -199,7 +196,7 @@ fn head_of_words(words: &[u64]) -> Head
         (numbers % 256) as u8,
         (numbers / 65_536) as u16,
         columns,
-        read_rows(words),
+        rows_in(&words[FIRST_ROWS..HEAD_WORDS]).to_array(),
     )
 }
 

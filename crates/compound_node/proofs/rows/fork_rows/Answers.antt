@@ -1,29 +1,18 @@
--- The rows with the new fork stand in front of unused places.
-use Rattle.std.proofs.Common.{[], ap, arith, drop, get_or, map, sym, take, ◌++◌, ◌+◌, ◌-◌, ◌∙◌, ◌∷◌, ◌≡◌}
-use Rattle.std.specs.List.{insert}
-use Rattle.std.specs.Prelude.{bit_or}
-use Rattle.compound_node.proofs.Editing.{mapped-put, part_first, put-behind}
+-- A row of the bit comes behind the others, and one without it before them.
+use Rattle.std.proofs.Common.{[], ap, arith, bit_or, drop, get_or, insert, map, sym, take, ◌++◌, ◌+◌, ◌-◌, ◌∙◌, ◌∷◌, ◌≡◌}
+use Rattle.compound_node.proofs.Editing.{part_first, put-behind}
 use Rattle.pieces.specs.Growth.{edited}
 use Rattle.compound_node.proofs.rows.fork_rows.Goals as goal
+use Rattle.compound_node.proofs.rows.fork_rows.Goals.{then-bit, else-bit}
 
-pub returns-then-bit : goal.returns-then-bit
-returns-then-bit c =
-    let rows = c.args.rows.now in
-    let n = c.args.last + 1 - c.args.first in
-    let end : c.args.first + (c.args.last + 1 - c.args.first) ≡ c.args.last + 1 = omega (arith, c.requires.range) in
-    let row : get_or (take (c.args.last + 1 - c.args.first) (drop c.args.first (take c.args.count c.args.rows.now))) 0 0 ≡ get_or c.args.rows.now c.args.first 0 =
-    part_first c.args.first (c.args.last + 1 - c.args.first) c.args.count 0 c.args.rows.now (omega arith) (omega arith) in
-    rw c.if-bit.true (c.put_in.ensures
-    ∙ ap (λ k. insert (take c.args.count c.args.rows.now) k (bit_or (get_or c.args.rows.now c.args.first 0) c.args.weight) ++ drop (c.args.count + 1) c.args.rows.now) (sym end)
-    ∙ ap (λ ys. ys ++ drop (c.args.count + 1) c.args.rows.now)
-    (put-behind c.args.first (c.args.last + 1 - c.args.first) (bit_or (get_or c.args.rows.now c.args.first 0) c.args.weight) (take c.args.count c.args.rows.now))
-    ∙ ap (λ x. edited c.args.first (c.args.last + 1 - c.args.first) (λ ys. ys ++ bit_or x c.args.weight ∷ []) (take c.args.count c.args.rows.now) ++ drop (c.args.count + 1) c.args.rows.now) (sym row))
-
-pub returns-else-bit : goal.returns-else-bit
-returns-else-bit c =
-    let row : get_or (take (c.args.last + 1 - c.args.first) (drop c.args.first (take c.args.count c.args.rows.now))) 0 0 ≡ get_or c.args.rows.now c.args.first 0 =
-    part_first c.args.first (c.args.last + 1 - c.args.first) c.args.count 0 c.args.rows.now (omega arith) (omega arith) in
-    rw c.if-bit.false (c.put_in-else-bit.ensures
-    ∙ ap (λ xs. insert (take c.args.count xs) c.args.first (get_or c.args.rows.now c.args.first 0) ++ drop (c.args.count + 1) xs) c.join_bits.ensures
-    ∙ mapped-put (λ r. bit_or r c.args.weight) c.args.first (c.args.last + 1 - c.args.first) c.args.count (get_or c.args.rows.now c.args.first 0) c.args.rows.now (omega arith) (omega arith)
-    ∙ ap (λ x. edited c.args.first (c.args.last + 1 - c.args.first) (λ ys. x ∷ map (λ r. bit_or r c.args.weight) ys) (take c.args.count c.args.rows.now) ++ drop (c.args.count + 1) c.args.rows.now) (sym row))
+pub returns : goal.returns
+returns c =
+    let rows = c.args.rows in let first = c.args.first in let n = c.args.last + 1 - first in
+    let end : first + n ≡ c.args.last + 1 = omega (arith, c.requires.range) in
+    let row : get_or (take n (drop first rows)) 0 0 ≡ get_or rows first 0 = part_first first n 0 rows (omega (arith, c.requires.range)) in
+    elim c.if-bit.branch [
+      | then-bit w ↦ rw w.if-bit.true (w.result-is ∙ (w.with_row.ensures ∙ ap (take 32)
+          (ap (λ k. insert rows k (bit_or (get_or rows first 0) c.args.weight)) (sym end)
+          ∙ (put-behind first n (bit_or (get_or rows first 0) c.args.weight) rows ∙ ap (λ x. edited first n (λ ys. ys ++ bit_or x c.args.weight ∷ []) rows) (sym row)))))
+      | else-bit w ↦ rw w.if-bit.false (w.result-is ∙ (w.with_joined.ensures ∙ ap (λ k. take 32 (edited first k (λ ys. get_or ys 0 0 ∷ map (λ r. bit_or r c.args.weight) ys) rows)) (omega arith)))
+    ]

@@ -16,7 +16,6 @@ use Rattle.record_words.specs.Reading.{IsSpelling}
 use Rattle.record_words.proofs.Fronts.{affected_by_counts, columns_below, end_some, few_below, rows_in_front}
 use Rattle.record_words.proofs.Lanes.{place_lanes_read}
 use Rattle.record_words.proofs.Lawful.{row-lt}
-use Rattle.record_words.proofs.Nodes.{length-head_words}
 use Rattle.record_words.proofs.Spelled.{count_read}
 use Rattle.record_words.proofs.affected.affected_in.Goals as goal
 use Rattle.record_words.proofs.affected.affected_in.Goals.{After-min-end}

@@ -4,8 +4,8 @@ use Rattle.compound_node.specs.Nodes.{NodeView}
 use Rattle.partial_keys.proofs.Reaching.{front_below-le}
 use Rattle.pieces.specs.Positions.{front_below, has}
 use Rattle.record_words.specs.Node.{CanGrowAt}
-use Rattle.record_words.proofs.Forking.{column_found, count_is, eight_of, few_numbers, front_is, has_fork, in_range, ordered, room}
-use Rattle.record_words.proofs.Nodes.{head_part}
+use Rattle.record_words.proofs.Forking.{column_found, eight_of, few_numbers, front_is, has_fork, in_range, ordered, room}
+use Rattle.record_words.proofs.Nodes.{rows_part}
 use Rattle.record_words.proofs.node.add_fork.Goals as goal
 use Rattle.record_words.proofs.node.add_fork.Goals.{After-count_below-below}
 
@@ -25,14 +25,11 @@ place_in-requires c = omega (arith, few c)
 pub overflow_sub-weight : goal.overflow_sub-weight
 overflow_sub-weight c = few (goal.at.overflow_sub-weight c).After-count_below-below
 
-pub fork_rows-requires-clause-room : goal.fork_rows-requires-clause-room
-fork_rows-requires-clause-room c = let (node, g) = c.requires.growing in omega (arith, count_is g c.requires.below, room g c.requires.below)
+pub fork_rows-rows-requires-clause-range : goal.fork_rows-rows-requires-clause-range
+fork_rows-rows-requires-clause-range c = let (node, g) = c.requires.growing in ordered g c.requires.below c.args.bit
 
-pub fork_rows-requires-clause-range : goal.fork_rows-requires-clause-range
-fork_rows-requires-clause-range c = let (node, g) = c.requires.growing in ordered g c.requires.below c.args.bit
-
-pub fork_rows-requires-clause-in_range : goal.fork_rows-requires-clause-in_range
-fork_rows-requires-clause-in_range c = let (node, g) = c.requires.growing in omega (arith, count_is g c.requires.below, in_range g c.requires.below c.args.bit)
+pub fork_rows-rows-requires-clause-in_range : goal.fork_rows-rows-requires-clause-in_range
+fork_rows-rows-requires-clause-in_range c = let (node, g) = c.requires.growing in omega (arith, room g c.requires.below, in_range g c.requires.below c.args.bit)
 
 pub overflow_add-words : goal.overflow_add-words
 overflow_add-words c = let (node, g) = c.requires.growing in record { fits = few_numbers g c.requires.below }
@@ -47,8 +44,8 @@ returns c = λ node g.
     let whole : length out ≡ 57 = search rules in
     let found : get_or c.quarters.result at 0 ≡ c.args.position = part d at (omega (arith, few d)) ∙ (sym c.place_in.ensures ∙ c.if-place_in-position.false) in
     let column : has node.columns c.args.position ≡ true = column_found g c.requires.below c.quarters.result c.quarters.ensures.whole (part d) at (omega (arith, few d)) found in
-    has_fork g c.requires.below c.args.bit column _ at c.read_rows-rows.result c.fork_rows.new.rows (count_is g c.requires.below) (few d) (place d node g)
-    (c.read_rows-rows.ensures node g.has.lawful (head_part node words g.spells)) c.fork_rows.ensures out whole
+    has_fork g c.requires.below c.args.bit column at c.rows_in-rows.result c.fork_rows-rows.result (few d) (place d node g)
+    (c.rows_in-rows.ensures node g.has.lawful (rows_part node words g.spells)) c.fork_rows-rows.ensures out whole
     (c.put_rows.ensures.others 0 (inl (omega arith)) ∙ get_or-set_same words 0 _ 0 (omega (arith, long)))
     (λ k more outside. c.put_rows.ensures.others k outside ∙ get_or-set_other words 0 k _ 0 (λ e. omega (arith, e, more)))
     c.put_rows.ensures.rows

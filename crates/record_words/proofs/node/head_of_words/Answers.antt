@@ -4,6 +4,7 @@ use Rattle.compound_node.specs.Nodes.{NodeView, IsLawfulNode, head_of}
 use Rattle.partial_keys.proofs.Keeping.{holds_front}
 use Rattle.record_words.specs.Node.{HasHeadWords, head_words}
 use Rattle.record_words.specs.Reading.{IsSpelling}
+use Rattle.record_words.proofs.Nodes.{rows_of}
 use Rattle.record_words.proofs.Spelled.{columns_counted, columns_in_front, count_read, head_is, height-lt, height_read, is_head_read, spells_head, whole}
 use Rattle.record_words.proofs.node.head_of_words.Goals as goal
 
@@ -40,10 +41,10 @@ overflow_cast-numbers-3 c =
     let words = c.args.words.now in
     record { fits = height-lt (node words c.requires) (lawful words c.requires) words (same words c.requires) }
 
-pub read_rows-requires : goal.read_rows-requires
-read_rows-requires c =
+pub slice_bounds-rows_in-end : goal.slice_bounds-rows_in-end
+slice_bounds-rows_in-end c =
     let words = c.args.words.now in
-    whole (node words c.requires) (lawful words c.requires) words (same words c.requires)
+    omega (arith, whole (node words c.requires) (lawful words c.requires) words (same words c.requires))
 
 pub of-requires : goal.of-requires
 of-requires c =
@@ -53,7 +54,7 @@ of-requires c =
     let told = same words c.requires in
     let columns : c.of_places-columns.result ≡ its.columns =
     c.of_places-columns.ensures ∙ columns_in_front its.columns _ _ (c.read_places.ensures its is told) (columns_counted its is words told) in
-    is_head_read its is words told _ _ c.of_places-columns.result c.read_rows.result (count_read its is words told) (height_read its is words told) columns (c.read_rows.ensures its is told)
+    is_head_read its is words told _ _ c.of_places-columns.result c.rows_in.result (count_read its is words told) (height_read its is words told) columns (c.rows_in.ensures its is (rows_of its words told))
 
 pub returns : goal.returns
 returns c =
@@ -64,4 +65,4 @@ returns c =
     let columns : c.of_places-columns.result ≡ its.columns =
     c.of_places-columns.ensures ∙ columns_in_front its.columns _ _ (c.read_places.ensures its is told) (columns_counted its is words told) in
     spells_head its is words told c.of.result
-    (c.of.ensures ∙ head_is its is words told _ _ c.of_places-columns.result c.read_rows.result (count_read its is words told) (height_read its is words told) columns (c.read_rows.ensures its is told))
+    (c.of.ensures ∙ head_is its is words told _ _ c.of_places-columns.result c.rows_in.result (count_read its is words told) (height_read its is words told) columns (c.rows_in.ensures its is (rows_of its words told)))
