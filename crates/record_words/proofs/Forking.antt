@@ -2,7 +2,7 @@
 use Rattle.std.proofs.Common.{ℕ, ◌≡◌, ◌+◌, ◌-◌, ◌*◌, ◌/◌, ◌%◌, ◌^◌, ◌<◌, ◌≤◌, ◌++◌, ◌⊎◌, ⊎_elim, inl, inr, arith, Bool, true, cond, List, drop, get_or, get_or-take, length, replicate, take, map, ap, refl, subst, sym, lit<, ◌∙◌}
 use Rattle.std.specs.List.{insert}
 use Rattle.std.proofs.lemmas.Bool.{cases_lt}
-use Rattle.std.proofs.lemmas.List.{ext_get_or, get_or-append_right, get_or-drop, get_or-replicate, get_or_append_left}
+use Rattle.std.proofs.lemmas.List.{ext_get_or, get_or-drop}
 use Rattle.std.proofs.lemmas.Simd.{get_or-chunk}
 use Rattle.compound_node.proofs.Forked.{new_fits, words_forked}
 use Rattle.compound_node.proofs.Forks.{NewLeaf, new_leaf}
@@ -13,13 +13,12 @@ use Rattle.compound_node.specs.declared.entries.Entry.TheVariants.{Leaf}
 use Rattle.partial_keys.proofs.Reaching.{front_below-columns}
 use Rattle.partial_keys.specs.Rows.{with_unused}
 use Rattle.partial_keys.specs.Spread.{forked_rows, spread_row}
-use Rattle.pieces.proofs.Positions.{has-from}
 use Rattle.pieces.specs.Growth.{edited, grown}
 use Rattle.pieces.specs.Positions.{front_below, has, with_position}
 use Rattle.record_words.specs.Node.{CanGrowAt, HasFork, head_words}
 use Rattle.record_words.specs.Packed.{meta_word, position_word, row_at, row_word}
 use Rattle.record_words.proofs.Fixing.{AreFixed, fixed_words_parts}
-use Rattle.record_words.proofs.Lanes.{column_lanes, place_lanes_read}
+use Rattle.record_words.proofs.Lanes.{column_lanes, has-unused, place_lanes_read}
 use Rattle.record_words.proofs.Lawful.{row_at-with_unused}
 use Rattle.record_words.proofs.Nodes.{head_part, length-node_words}
 use Rattle.record_words.proofs.Packings.{row_word-same}
@@ -70,14 +69,8 @@ module _ {words : List ℕ} {node : NodeView} {position first last : ℕ} (growi
         front_below-columns position (length node.columns) lanes are.1 (omega (arith, low)) ∙ ap (front_below position) are.0
 
     -- the position stands in a lane where it is a column
-    pub column_found : (at : ℕ) → at < 32 → get_or lanes at 0 ≡ position → has node.columns position ≡ true
-    column_found at inside found = ⊎_elim
-        (λ (used : at < length node.columns). has-from position node.columns at used
-        (sym (get_or_append_left node.columns (replicate (32 - length node.columns) 65535) 0 at used) ∙ (ap (λ xs. get_or xs at 0) (sym lanes_are) ∙ found)))
-        (λ (unused : length node.columns ≤ at). absurd (let e : position ≡ 65535 = sym found ∙ (ap (λ xs. get_or xs at 0) lanes_are
-        ∙ (get_or-append_right node.columns (replicate (32 - length node.columns) 65535) (length node.columns) at 0 refl unused
-        ∙ get_or-replicate (32 - length node.columns) (at - length node.columns) 65535 0 (omega (arith, inside, unused)))) in omega (arith, e, low)))
-        (cases_lt at (length node.columns))
+    pub column_found : has lanes position ≡ true → has node.columns position ≡ true
+    column_found found = sym (has-unused position (32 - length node.columns) node.columns low) ∙ (ap (λ xs. has xs position) (sym lanes_are) ∙ found)
 
   -- ---- the rows with the fork
   module _ (bit : Bool) where

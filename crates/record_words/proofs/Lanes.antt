@@ -1,13 +1,14 @@
 -- Words as lanes of fewer bits.
-use Rattle.std.proofs.Common.{ℕ, zero, suc, ◌≡◌, ◌+◌, ◌-◌, ◌*◌, ◌/◌, ◌%◌, ◌^◌, ◌<◌, ◌≤◌, ◌++◌, List, [], ◌∷◌, arith, get_or, length, length-append, replicate, take, drop, refl, sym, ap, subst, ◌∙◌, w32, w64, Fits, below_more}
+use Rattle.std.proofs.Common.{Bool, true, false, cond, eqb, map, not, ◌||◌, ℕ, zero, suc, ◌≡◌, ◌+◌, ◌-◌, ◌*◌, ◌/◌, ◌%◌, ◌^◌, ◌<◌, ◌≤◌, ◌++◌, List, [], ◌∷◌, arith, get_or, length, length-append, replicate, take, drop, refl, sym, ap, subst, ◌∙◌, w32, w64, Fits, below_more}
 use borrow.Author.Count.{below_none}
 use Rattle.std.proofs.Math.Nat.{mul-le-mul_left, pow-suc, pow-zero}
 use Rattle.std.proofs.lemmas.List.{ext_get_or, get_or_default, get_or-append_right, get_or-drop, get_or-take, length-replicate, take_at}
 use Rattle.std.proofs.lemmas.Simd.{below_from_Fits, get_or-chunk, get_or_narrower, get_or_wider, length-chunk}
-use lib.Lanes.{Each1, chunk, digits_l, number_l}
+use lib.Lanes.{Each1, chunk, digits_l, mask_l, number_l}
 use Rattle.std.proofs.Common.{ap₂, inl, inr}
 use Rattle.std.proofs.Math.ListN.{get_or-append}
-use Rattle.std.proofs.lemmas.Bool.{cases_lt}
+use Rattle.std.proofs.lemmas.Bool.{cases_lt, eq-eqb, eqb-false, eqb-true, ne_eqb}
+use Rattle.pieces.specs.Positions.{has}
 use Rattle.compound_node.specs.Nodes.{NodeView, IsLawfulNode, head_of}
 use Rattle.record_words.specs.Node.{head_words}
 use Rattle.record_words.specs.Packed.{row_at, row_word}
@@ -126,3 +127,24 @@ pair_at xs long fits j low =
     ap (λ x. get_or (digits_l (2 ^ 64) 8 x) j 0) (number_of_digits 64 number (let below = number-lt (2 ^ 32) 16 xs long small in omega (arith, below)))
     ∙ (get_or_wider (2 ^ 32) 2 (2 ^ 64) 8 xs j refl small low
     ∙ (number_of_two (2 ^ 32) (chunk (2 * j) 2 xs) (length-chunk (2 * j) 2 xs (omega (arith, long, low))) ∙ ap₂ (λ x y. x + 2 ^ 32 * y) (at 0 (omega arith) ∙ ap (row_at xs) (omega arith)) (at 1 (omega arith))))
+
+-- ---- whether a number is among lanes
+twice_zero : (m : ℕ) → eqb (0 + 2 * m) 0 ≡ eqb m 0
+twice_zero m = go (eqb m 0) refl
+  where
+    go : (t : Bool) → eqb m 0 ≡ t → eqb (0 + 2 * m) 0 ≡ eqb m 0
+    go true e = eq-eqb (0 + 2 * m) 0 (omega (arith, eqb-true _ _ e)) ∙ sym e
+    go false e = ne_eqb (0 + 2 * m) 0 (λ same. eqb-false _ _ e (omega (arith, same))) ∙ sym e
+
+pub some_told : (p : ℕ) (xs : List ℕ) → not (eqb (mask_l (map (λ x. eqb x p) xs)) 0) ≡ has xs p
+some_told p [] = refl
+some_told p (x ∷ xs) = elim (eqb x p) as (λ b. not (eqb (cond b 1 0 + 2 * mask_l (map (λ y. eqb y p) xs)) 0) ≡ (b || has xs p)) [
+  | true ↦ ap not (ne_eqb (1 + 2 * mask_l (map (λ y. eqb y p) xs)) 0 (λ e. omega (arith, e)))
+  | false ↦ ap not (twice_zero (mask_l (map (λ y. eqb y p) xs))) ∙ some_told p xs
+]
+
+-- what stands at the unused places is no position
+pub has-unused : (p k : ℕ) (xs : List ℕ) → p < 65535 → has (xs ++ replicate k 65535) p ≡ has xs p
+has-unused p zero [] low = refl
+has-unused p (suc k) [] low = ap (λ b. b || has (replicate k 65535) p) (ne_eqb 65535 p (λ e. omega (arith, e, low))) ∙ has-unused p k [] low
+has-unused p k (x ∷ xs) low = ap (λ b. eqb x p || b) (has-unused p k xs low)

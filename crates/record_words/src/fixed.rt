@@ -1,11 +1,11 @@
 //! The fixed words of a node: all but its state and its entries.
 
-ghost use Rattle.std.specs.Prelude.{ℕ, ◌≡◌, ◌+◌, ◌*◌, ◌/◌, ◌%◌, ◌^◌, ◌<◌, length, slice_index};
+ghost use Rattle.std.specs.Prelude.{ℕ, ◌≡◌, ◌<◌, length, slice_index};
 ghost use Rattle.record_words.specs.Packed.{meta_word, position_at, position_word, row_word};
 ghost use Rattle.record_words.specs.Node.{InNodesOf};
 ghost use Rattle.partial_keys.specs.Columns.{with_free};
 
-use crate::{HEAD_WORDS, NODE_FIELDS};
+use crate::HEAD_WORDS;
 use std::simd::prelude::*;
 
 /// The positions that a head's words have, as far as there are places for them.
@@ -18,14 +18,6 @@ pub(crate) fn read_places(words: &[u64]) -> [u16; 31]
         places[i] = (words[1 + i / 4] >> (16 * (i % 4)) & 0xffff) as u16;
     }
     places
-}
-
-/// The position at a place of a node's words, or what stands past the last one.
-pub(crate) fn place_in(words: &[u64; NODE_FIELDS], at: u8) -> u16
-    requires { at < 32 }
-    ensures { result ≡ slice_index words.now (1 + at / 4) / 2 ^ (16 * (at % 4)) % 2 ^ 16 }
-{
-    (words[1 + at as usize / 4] >> (16 * (at % 4)) & 0xffff) as u16
 }
 
 /// The number of entries, the number of columns and the stored height in a word.

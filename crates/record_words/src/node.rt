@@ -11,8 +11,8 @@ ghost use Rattle.record_words.specs.Packed.{fixed_words, row_word};
 ghost use Rattle.record_words.specs.Reading.{IsSpelledBy, IsSpelling};
 
 use crate::entry::{pack_entry, read_some};
-use crate::fixed::{place_in, read_places, word_of_numbers, word_of_places, words_of_rows};
-use crate::search::{quarters, rows_in};
+use crate::fixed::{read_places, word_of_numbers, word_of_places, words_of_rows};
+use crate::search::{has_lane, quarters, rows_in};
 use crate::{FIRST_ROWS, HEAD_WORDS, HEIGHT_BIT, MAX_ENTRIES, NODE_FIELDS};
 use arrayvec::ArrayVec;
 use compound_node::{Entry, Head, Node, fork_rows};
@@ -106,11 +106,11 @@ fn add_fork(words: &mut [u64; NODE_FIELDS], first: u8, last: u8, position: u16, 
     requires below { position < 65535 }
     ensures { (node : NodeView) → CanGrowAt words.old node position first last → HasFork words.old words.new node position first last bit }
 {
-    let below = count_below(quarters(u64x8::from_slice(&words[1..])), position);
-    if place_in(words, below) != position {
+    let places = quarters(u64x8::from_slice(&words[1..]));
+    if !has_lane(places, position) {
         return add_column(words, first, last, position, bit);
     }
-    let weight = 1 << (31 - below);
+    let weight = 1 << (31 - count_below(places, position));
     let rows = rows_in(&words[FIRST_ROWS..HEAD_WORDS]);
     let rows = fork_rows(rows, first as usize, last as usize, weight, bit);
     words[0] += 1;

@@ -5,6 +5,7 @@ ghost use Rattle.compound_node.specs.Nodes.{NodeView, IsLawfulNode, head_of, pie
 ghost use Rattle.key_bits.specs.Bits.{bit_of};
 ghost use Rattle.partial_keys.specs.Rows.{dense_of, with_unused};
 ghost use Rattle.pieces.specs.Piece.{leads_to};
+ghost use Rattle.pieces.specs.Positions.{has};
 ghost use Rattle.record_words.specs.HeadParts.{back_words, front_words};
 ghost use Rattle.record_words.specs.Node.{HasHeadWords};
 ghost use Rattle.record_words.specs.Reading.{IsSpelling};
@@ -60,6 +61,14 @@ pub(crate) fn quarters(words: u64x8) -> u16x32
     ensures each { (i : ℕ) → i < 32 → slice_index result i ≡ slice_index words (i / 4) / 2 ^ (16 * (i % 4)) % 2 ^ 16 }
 {
     u16x32::from_le_bytes(words.to_le_bytes())
+}
+
+/// Whether one of these lanes is this number.
+#[inline(always)]
+pub(crate) fn has_lane(lanes: u16x32, number: u16) -> bool
+    ensures { result ≡ has lanes number }
+{
+    lanes.simd_eq(u16x32::splat(number)).to_bitmask() != 0
 }
 
 /// The halves of these words, the low one of each first.

@@ -7,23 +7,20 @@ use Rattle.record_words.specs.Node.{CanGrowAt}
 use Rattle.record_words.proofs.Forking.{column_found, eight_of, few_numbers, front_is, has_fork, in_range, ordered, room}
 use Rattle.record_words.proofs.Nodes.{rows_part}
 use Rattle.record_words.proofs.node.add_fork.Goals as goal
-use Rattle.record_words.proofs.node.add_fork.Goals.{After-count_below-below}
+use Rattle.record_words.proofs.node.add_fork.Goals.{After-count_below}
 
 -- each lane has its part of its word
-part : (c : After-count_below-below) → (i : ℕ) → i < 32 → get_or c.quarters.result i 0 ≡ get_or c.args.words.now (1 + i / 4) 0 / 2 ^ (16 * (i % 4)) % 2 ^ 16
-part c i low = c.quarters.ensures.each i low ∙ ap (λ w. w / 2 ^ (16 * (i % 4)) % 2 ^ 16) (eight_of c.args.words.now 57 (i / 4) (omega arith) (omega (arith, low)))
+part : (c : After-count_below) → (i : ℕ) → i < 32 → get_or c.quarters-places.result i 0 ≡ get_or c.args.words.now (1 + i / 4) 0 / 2 ^ (16 * (i % 4)) % 2 ^ 16
+part c i low = c.quarters-places.ensures.each i low ∙ ap (λ w. w / 2 ^ (16 * (i % 4)) % 2 ^ 16) (eight_of c.args.words.now 57 (i / 4) (omega arith) (omega (arith, low)))
 
-place : (c : After-count_below-below) → (node : NodeView) → CanGrowAt c.args.words.now node c.args.position c.args.first c.args.last → c.count_below-below.result ≡ front_below c.args.position node.columns
-place c node g = c.count_below-below.ensures ∙ front_is g c.requires.below c.quarters.result c.quarters.ensures.whole (part c)
+place : (c : After-count_below) → (node : NodeView) → CanGrowAt c.args.words.now node c.args.position c.args.first c.args.last → c.count_below.result ≡ front_below c.args.position node.columns
+place c node g = c.count_below.ensures ∙ front_is g c.requires.below c.quarters-places.result c.quarters-places.ensures.whole (part c)
 
-few : (c : After-count_below-below) → c.count_below-below.result ≤ 31
+few : (c : After-count_below) → c.count_below.result ≤ 31
 few c = let (node, g) = c.requires.growing in omega (arith, place c node g, front_below-le c.args.position node.columns, g.has.lawful.positions.few)
 
-pub place_in-requires : goal.place_in-requires
-place_in-requires c = omega (arith, few c)
-
 pub overflow_sub-weight : goal.overflow_sub-weight
-overflow_sub-weight c = few (goal.at.overflow_sub-weight c).After-count_below-below
+overflow_sub-weight c = few (goal.at.overflow_sub-weight c).After-count_below
 
 pub fork_rows-rows-requires-clause-range : goal.fork_rows-rows-requires-clause-range
 fork_rows-rows-requires-clause-range c = let (node, g) = c.requires.growing in ordered g c.requires.below c.args.bit
@@ -36,14 +33,14 @@ overflow_add-words c = let (node, g) = c.requires.growing in record { fits = few
 
 pub returns : goal.returns
 returns c = λ node g.
-    let d = (goal.at.returns c).After-count_below-below in
+    let d = (goal.at.returns c).After-count_below in
     let words = c.args.words.now in
     let out = c.put_rows.new.words in
-    let at = c.count_below-below.result in
+    let at = c.count_below.result in
     let long : length words ≡ 57 = search rules in
     let whole : length out ≡ 57 = search rules in
-    let found : get_or c.quarters.result at 0 ≡ c.args.position = part d at (omega (arith, few d)) ∙ (sym c.place_in.ensures ∙ c.if-place_in-position.false) in
-    let column : has node.columns c.args.position ≡ true = column_found g c.requires.below c.quarters.result c.quarters.ensures.whole (part d) at (omega (arith, few d)) found in
+    let column : has node.columns c.args.position ≡ true =
+    column_found g c.requires.below c.quarters-places.result c.quarters-places.ensures.whole (part d) (sym c.has_lane.ensures ∙ c.if-not-has_lane.false) in
     has_fork g c.requires.below c.args.bit column at c.rows_in-rows.result c.fork_rows-rows.result (few d) (place d node g)
     (c.rows_in-rows.ensures node g.has.lawful (rows_part node words g.spells)) c.fork_rows-rows.ensures out whole
     (c.put_rows.ensures.others 0 (inl (omega arith)) ∙ get_or-set_same words 0 _ 0 (omega (arith, long)))
