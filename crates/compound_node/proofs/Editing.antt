@@ -1,10 +1,7 @@
 -- Parts of lists that are edited in place.
-use Rattle.std.proofs.Common.{List, [], ap, arith, drop, get_or, length, length-append, map, refl, set, sym, take, ℕ, ◌++◌, ◌+◌, ◌-◌, ◌<◌, ◌∙◌, ◌∷◌, ◌≡◌, ◌≤◌}
-use Rattle.std.proofs.lemmas.List.{append-nil, append_assoc, drop-drop, drop-take, drop_all, drop_at, get_or-append_right, get_or-drop, get_or-take, get_or_default, length-drop, length-map, length-take-le, set-append_right, take-append-drop, take-take, take_all, take_at}
-use Rattle.std.proofs.lemmas.List.Edits.{map_over_more}
-use Rattle.std.proofs.Math.Seq.{drop-append-add}
+use Rattle.std.proofs.Common.{List, [], ap, arith, drop, get_or, length, sym, take, ℕ, ◌++◌, ◌+◌, ◌<◌, ◌∙◌, ◌∷◌, ◌≡◌}
+use Rattle.std.proofs.lemmas.List.{append-nil, append_assoc, drop-drop, drop-take, drop_all, get_or-drop, get_or-take, take-append-drop, take-take, take_all}
 use Rattle.std.specs.List.{insert, refill}
-use Rattle.pieces.proofs.Edits.{edited-left}
 use Rattle.pieces.specs.Growth.{edited}
 
 module _ {X : Type 0} where
