@@ -75,7 +75,8 @@ impl RecordKind {
 /// Claims the first record of a kind that it finds free; answers its number.
 ///
 /// Each record is tried once, from number `from` on, and from 0 on after the last; `None` if no try found one free. A try loads the
-/// state, and claims only what it saw free. A `from` that is out of range counts as 0.
+/// state, and claims only what it saw free. A `from` that is out of range counts as 0. Inline, for callers know the kind.
+#[inline(always)]
 pub fn claim_record<G: Gate>(
     table: &HotTable,
     seat: &mut TableSeat,

@@ -281,15 +281,6 @@ may_grow table a b made m key value way found span aim position took leaf t plan
         IsSpotOf a.known a.known.locks key position u.number e spot × HasSpot table.layout spot
     place u us e there locked fits spot is = (spot_of table.layout a.known m key way found span t.possible t.own w t.locked t.checked position plan u us e there locked fits spot is, in_table spot is)
 
--- the span of such a plan has a node
-pub grow_within : (table : TableView) (a : SeatView) (m : ℕ) (key : Key) (way : List Step) (found : Found) (span : Span) (aim : Aim) (position : ℕ) → HasTakenSpan table a m key way found span →
-    IsPlanned a.known m key way aim found (change span.len span.end (Grow position)) → (span.end < span.len) × (span.len ≤ length way)
-grow_within table a m key way found span aim position t planned =
-    let plan = grow_plan a.known m key way span.len span.end position aim found planned in
-    let within = top_within table.layout a.known m key way found span t.possible t.own t.way_of t.locked t.checked position plan in
-    let upto = plan.chain.upto in
-    (omega (arith, upto, plan.len_is), omega (arith, within, plan.len_is))
-
 -- the change is that of a key which was absent
 pub grown_stored : (k : Known) (m : ℕ) (key : Key) (value : ℕ) (way : List Step) (found : Found) (span : Span) (aim : Aim) (position leaf : ℕ) →
     IsPlanned k m key way aim found (change span.len span.end (Grow position)) → IsPutChange k.pass key value found (added_change k.pass (item leaf key value)) None

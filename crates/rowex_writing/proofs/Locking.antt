@@ -105,15 +105,6 @@ more_those loaded words n w long those is spelled = record { each = λ o l. at o
     at o l (inl older) = get_or-set_other loaded n o w 0 (λ e. omega arith) ∙ those.each o older
     at o l (inr newest) = let e : n ≡ o = omega arith in subst (λ z. get_or (set loaded n w) z 0 ≡ get_or words z 0) e (get_or-set_same loaded n w 0 long ∙ is)
 
--- the first of them tells how many have entries
-pub slots_told : (loaded words : List ℕ) → AreThose loaded words 25 → (view : NodeView) × IsNodeOf words view × (get_or loaded 0 0 % 256 ≡ length view.entries)
-slots_told loaded words those =
-    let (view, is) = those.spelled (omega arith) in
-    (view, is, ap (λ z. z % 256) (those.each 0 (omega arith)) ∙ entries_counted view words is.has is.spells)
-
-pub slots_fit : (loaded words : List ℕ) → AreThose loaded words 25 → get_or loaded 0 0 % 256 ≤ 32
-slots_fit loaded words those = let (view, is, told) = slots_told loaded words those in omega (arith, told, is.has.lawful.room)
-
 -- what was locked is
 pub locked_on : (k j : Known) (n : ℕ) (words : List ℕ) → j.locks ≡ k.locks → HasLocked k n words → HasLocked j n words
 locked_on k j n words same h = subst (λ locks. IsOneOf (record { node = n; words = words }) locks) (sym same) h

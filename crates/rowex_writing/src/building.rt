@@ -354,7 +354,8 @@ fn is_same(half: &Half) -> bool
     }
 }
 
-/// The one entry for what has risen: a fork of two gets a node of its own.
+/// The one entry for what has risen: a fork of two gets a node of its own. Inline, for mostly it is the entry already.
+#[inline(always)]
 fn settle<G: Gate>(
     table: &HotTable,
     seat: &mut TableSeat,
