@@ -6,14 +6,20 @@
 #include <pthread.h>
 #include <stdint.h>
 #ifdef __AVX2__
-#include <immintrin.h>
+#include "search.h"
+#else
+static uint64_t load(const uint64_t *word)
+{
+    return __atomic_load_n(word, __ATOMIC_SEQ_CST);
+}
+enum { ROWS_FROM = 10, HEAD_END = 26 };
 #endif
 
 /* Words of the table: those of the epoch, the root and the anchor, of a pin, of a node's record and of a leaf's. */
 enum { FRONT = 48, PIN = 16, NODE = 58, LEAF = 33 };
 
-/* Words of a node: its head begins behind the state, and its entries behind the head. */
-enum { COLUMNS_FROM = 2, ROWS_FROM = 10, HEAD_END = 26, ENTRIES = 22, NUMBERS_AND_COLUMNS = 7, ROWS = 11 };
+/* What a node has: so many entries, words with its numbers and the positions of its columns, and words with sparse partial keys. */
+enum { ENTRIES = 22, NUMBERS_AND_COLUMNS = 7, ROWS = 11 };
 
 /* The most levels of nodes, the spare records of each kind, which changes take by turns (but an insert takes leaf records that none has
  * used for long), pairs of a scan, threads, and repetitions. */
@@ -34,11 +40,6 @@ static uint64_t *node_at(uint64_t record)
 static uint64_t *leaf_at(uint64_t record)
 {
     return leaves + LEAF * record;
-}
-
-static uint64_t load(const uint64_t *word)
-{
-    return __atomic_load_n(word, __ATOMIC_SEQ_CST);
 }
 
 /* Whether stores are plain ones, and whether nodes are searched. */
@@ -116,60 +117,15 @@ static uint64_t load_head(const uint64_t *node)
     return some;
 }
 
+/* Searches a node, of which each word of the head is 0. So the last sparse partial key complies, and it gives 0. */
+static uint64_t found_beyond(const uint64_t *node, const uint8_t *sought)
+{
 #ifdef __AVX2__
-/* Four words from this one on, side by side. */
-static __m256i four(const uint64_t *word)
-{
-    uint64_t first = load(word), second = load(word + 1), third = load(word + 2), fourth = load(word + 3);
-    return _mm256_set_epi64x((long long)fourth, (long long)third, (long long)second, (long long)first);
-}
-
-/* 32 bytes of 32 numbers of two bytes each, in their order. */
-static __m256i narrowed(__m256i first, __m256i second)
-{
-    return _mm256_permute4x64_epi64(_mm256_packus_epi16(first, second), 0xd8);
-}
-
-/* Which bits of a key are set at the 32 columns of a node, each of which is nine times a byte's number, and a bit's. */
-static uint32_t gathered(const uint64_t *node, const uint8_t *sought)
-{
-    const __m256i ninth = _mm256_set1_epi16(7282), most = _mm256_set1_epi16(255), low = _mm256_set1_epi8(15);
-    const __m256i bits = _mm256_set1_epi64x(0x0102040810204080), turned = _mm256_set1_epi64x(0x0001020304050607);
-    __m256i some = four(node + COLUMNS_FROM), others = four(node + COLUMNS_FROM + 4), bytes, bit, key;
-    uint32_t first = (uint32_t)_mm256_cvtsi256_si32(some) / 9 % 16;
-    bytes = narrowed(_mm256_min_epu16(_mm256_mulhi_epu16(some, ninth), most), _mm256_min_epu16(_mm256_mulhi_epu16(others, ninth), most));
-    bit = narrowed(_mm256_srli_epi16(_mm256_mullo_epi16(some, ninth), 12), _mm256_srli_epi16(_mm256_mullo_epi16(others, ninth), 12));
-    key = _mm256_broadcastsi128_si256(_mm_loadu_si128((const __m128i *)(sought + first)));
-    key = _mm256_shuffle_epi8(key, _mm256_and_si256(_mm256_sub_epi8(bytes, _mm256_set1_epi8((char)first)), low));
-    key = _mm256_andnot_si256(key, _mm256_shuffle_epi8(bits, bit));
-    key = _mm256_or_si256(key, _mm256_subs_epu8(bytes, _mm256_set1_epi8((char)(8 * key_words - 1))));
-    key = _mm256_permute4x64_epi64(_mm256_shuffle_epi8(key, turned), 0x4e);
-    return (uint32_t)_mm256_movemask_epi8(_mm256_cmpeq_epi8(key, _mm256_setzero_si256()));
-}
-
-/* Which of eight sparse partial keys have no bit but these. */
-static __m256i within(const uint64_t *word, __m256i others)
-{
-    return _mm256_cmpeq_epi32(_mm256_and_si256(four(word), others), _mm256_setzero_si256());
-}
-
-/* Searches a node, of which each word of the head is 0, as the library does where it is compiled for AVX2: the key's bits at the columns,
- * and the last of 32 sparse partial keys that has no others. Here that is the one at 31; it gives 0. */
-static uint64_t search(const uint64_t *node, const uint8_t *sought)
-{
-    uint64_t numbers = load(node + 1);
-    __m256i others = _mm256_set1_epi32((int)~gathered(node, sought));
-    __m256i some = _mm256_packs_epi32(within(node + ROWS_FROM, others), within(node + ROWS_FROM + 4, others));
-    __m256i rest = _mm256_packs_epi32(within(node + ROWS_FROM + 8, others), within(node + ROWS_FROM + 12, others));
-    some = _mm256_packs_epi16(_mm256_permute4x64_epi64(some, 0xd8), _mm256_permute4x64_epi64(rest, 0xd8));
-    return numbers | (uint64_t)__builtin_clz((uint32_t)_mm256_movemask_epi8(_mm256_permute4x64_epi64(some, 0xd8)));
-}
+    return 31 - search(node, sought, 8 * key_words);
 #else
-static uint64_t search(const uint64_t *node, const uint8_t *sought)
-{
     return load_head(node) | (sought[0] & 0);
-}
 #endif
+}
 
 /* Loads the nodes on the way to a key's leaf, whose record it gives: of each the head, and then an entry, at a place that the head tells. */
 static uint64_t descend(uint64_t key)
@@ -180,7 +136,7 @@ static uint64_t descend(uint64_t key)
     memcpy(sought, &key, sizeof key);
     for (at = 0; at < depth; at++) {
         uint64_t *node = node_at(record), place = key / span[at] % ENTRIES;
-        place += is_searching ? search(node, sought) : load_head(node);
+        place += is_searching ? found_beyond(node, sought) : load_head(node);
         record = load(node + HEAD_END + place);
     }
     return record;
