@@ -1,12 +1,12 @@
 -- The words of a leaf record up to the end of its key.
-use Rattle.std.proofs.Common.{ℕ, ◌≡◌, ◌+◌, ◌<◌, ◌≤◌, arith, List, get_or, length, ⊎_elim, if◌then◌else◌, refl, sym, ap, ◌∙◌, lit<}
+use Rattle.std.proofs.Common.{ℕ, ◌≡◌, ◌+◌, ◌<◌, ◌≤◌, arith, List, get_or, length, ⊎_elim, if◌then◌else◌, sym, ap, ◌∙◌, lit<}
 use Rattle.std.specs.Prelude.{nat_lt}
 use Rattle.std.proofs.lemmas.Bool.{cases_lt, lt-ltb, le-ltb}
 use Rattle.std.proofs.lemmas.List.{get_or_past}
 use Rattle.std.proofs.lemmas.List.FromFn.{get_or-map-range_with_len, length-map-range_with_len}
 use Rattle.record_words.specs.declared.TheConstants.{LEAF_FIELDS}
 use Rattle.record_words.specs.Leaf.{key_word, leaf_words, up_to_key, words_of_key}
-use Rattle.record_words.proofs.Leaves.{leaf_words_made, leaf_words_parts}
+use Rattle.record_words.proofs.Leaves.{leaf_words_made}
 use Rattle.record_words.proofs.Unused.{key_word_past}
 
 module _ (words : List ℕ) where
@@ -54,9 +54,3 @@ spells_up_to_key leaf words value size bytes = sym (leaf_words_made leaf (up_to_
       (λ (past : words_of_key (length leaf.0) ≤ j). up_to_key_past words (2 + j) (omega (arith, past, size)) ∙ sym (key_word_past leaf.0 j (omega (arith, past))))
       (cases_lt j (words_of_key (length leaf.0)));
 })
-
--- so are a leaf's own
-pub up_to_key_of_leaf : (leaf : List ℕ × ℕ) → leaf_words leaf ≡ up_to_key (leaf_words leaf)
-up_to_key_of_leaf leaf =
-    let parts = leaf_words_parts leaf (leaf_words leaf) refl in
-    spells_up_to_key leaf (leaf_words leaf) parts.value parts.size (λ j before few. parts.bytes j few)

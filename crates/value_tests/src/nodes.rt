@@ -1,12 +1,12 @@
 //! Keys, nodes and their words by value. The keys a, b and c fork at the positions 7 and 8, as e, f and g do; d parts from a, b, c at 6.
 
-ghost use Rattle.std.specs.Prelude.{◌≡◌};
+ghost use Rattle.std.specs.Prelude.{◌≡◌, ◌≤◌, length};
 ghost use Rattle.compound_node.specs.Nodes.{piece};
 ghost use Rattle.compound_node.specs.declared.entries.Entry.TheVariants.{Leaf as LeafEntry};
 ghost use Rattle.pieces.specs.Piece.{Fork, Place};
 
 use compound_node::{Entry, Half, Node};
-use key_bits::{Key, KeyFault, extract, mismatch};
+use key_bits::{Key, KeyFault, mismatch};
 use partial_keys::{search_lanes, search_plain};
 use record_words::{
     HEAD_WORDS, LEAF_FIELDS, Layout, LayoutFault, LeafClass, Location, NODE_FIELDS, Stock, Tag,
@@ -51,7 +51,7 @@ fn keys_differ_first(rt: HostRuntime) {
     assert!(rt; Key::from_bytes(&[0x61; 241]).err() == Some(KeyFault::TooLong));
 }
 
-/// A key, positions, and the key's bits there.
+/// A key, positions, and the key's bits there. The last two have columns further apart than sixteen bytes.
 const GATHERED: [(&[u8], &[u16], u32); 7] = [
     (b"a", &[7, 8], 0x4000_0000),
     (b"b", &[7, 8], 0x8000_0000),
@@ -66,14 +66,30 @@ const GATHERED: [(&[u8], &[u16], u32); 7] = [
         0xffff_fffe,
     ),
     (&[0xff; 4], &[35, 36, 2159], 0x8000_0000),
-    (&[0xff; 4], &[], 0),
+    (&[1; 40], &[8, 187, 188, 359], 0xb000_0000),
 ];
+
+/// A node with columns at these positions: each fork but the first stands on the 1 side of the one before.
+fn comb(rt: &impl Abort, positions: &[u16]) -> Node
+    requires { length positions.now ≤ 31 }
+{
+    let mut sparse = [u32::MAX; 32];
+    for i in 0..positions.len() + 1 {
+        sparse[i] = !(u32::MAX >> i);
+    }
+    let entries = [Entry::Leaf(0); 32];
+    match Node::from_parts(1, positions, &sparse, &entries[..positions.len() + 1]) {
+        Some(node) => node,
+        None => panic!(rt; "no node"),
+    }
+}
 
 #[test]
 fn bits_are_gathered_from_the_highest(rt: HostRuntime) {
     for (bytes, positions, want) in GATHERED {
         assert!(rt; positions.len() <= 31);
-        assert!(rt; extract(&key(&rt, bytes), positions) == want);
+        let node = comb(&rt, positions);
+        assert!(rt; node.columns().dense(&key(&rt, bytes)) == want);
     }
 }
 
