@@ -1,5 +1,5 @@
-/* Makes so many calls of one kind on an index that has so many random keys of 8 bytes. bench/count runs it with two numbers of calls,
- * under valgrind, and subtracts. The keys of the calls are made before the first, as many in each run, so they don't count. */
+/* Makes so many calls of one kind on an index that has so many random keys of 8 bytes, or URLs. bench/count runs it with two numbers of
+ * calls, under valgrind, and subtracts. The keys of the calls are made before the first, as many in each run, so they don't count. */
 #include "keys.h"
 
 enum { PAGE = 100, MOST_KEYS = 200000, MOST_CALLS = 20000 };
@@ -44,18 +44,19 @@ int main(int words, char **word)
 {
     uint64_t keys = words > 3 ? strtoull(word[2], NULL, 10) : 0, calls = words > 3 ? strtoull(word[3], NULL, 10) : 0, number;
     hot_handle handle = HOT_HANDLE;
-    if (words != 4 || !strchr("iurgsp", word[1][0]) || keys < 1 || keys > MOST_KEYS || calls > keys || calls > MOST_CALLS) {
-        fprintf(stderr, "usage: count insert|upsert|remove|get|scan|packed KEYS CALLS    at most 200,000 and 20,000, and no more calls than keys\n");
+    int of = words == 5 && !strcmp(word[4], "urls") ? PAGES : RANDOM;
+    if (words != (of == PAGES ? 5 : 4) || !strchr("iurgsp", word[1][0]) || keys < 1 || keys > MOST_KEYS || calls > keys || calls > MOST_CALLS) {
+        fprintf(stderr, "usage: count insert|upsert|remove|get|scan|packed KEYS CALLS [urls]    at most 200,000 and 20,000, and no more calls than keys\n");
         return 2;
     }
     must(hot_create(MOST_KEYS / 8, MOST_KEYS + 2 * MOST_CALLS, &handle, 1), HOT_DONE);
     for (number = 0; number < keys; number++) {
         uint8_t key[LONGEST];
         uint64_t had;
-        must(hot_try_insert(&handle, key, key_of(RANDOM, number, key), number, &had), HOT_INSERTED);
+        must(hot_try_insert(&handle, key, key_of(of, number, key), number, &had), HOT_INSERTED);
     }
     for (number = 0; number < MOST_CALLS; number++) {
-        keys_of_calls[number].length = key_of(RANDOM, word[1][0] == 'i' ? keys + number : number, keys_of_calls[number].bytes);
+        keys_of_calls[number].length = key_of(of, word[1][0] == 'i' ? keys + number : number, keys_of_calls[number].bytes);
     }
     for (number = 0; number < calls; number++) {
         call(&handle, word[1], number);
