@@ -3,10 +3,10 @@ use Rattle.std.proofs.Common.{◌≡◌, inl, inr, ℕ, suc, Option, ◌+◌, �
 use Rattle.std.specs.Prelude.{All}
 use Rattle.key_bits.specs.Bits.{bit_of}
 use Rattle.key_bits.specs.declared.TheConstants.{MAX_BYTES}
-use Rattle.pieces.specs.Grafts.{IsAbovePath}
+use Rattle.pieces.specs.Grafts.{grafted, IsAbovePath}
 use Rattle.pieces.specs.Growth.{affected_first, affected_count, grown, IsAffected, IsFresh}
 use Rattle.pieces.specs.Changes.{without}
-use Rattle.pieces.specs.Piece.{Place, Fork, places, size}
+use Rattle.pieces.specs.Piece.{Place, Fork, leads_to, places, size}
 use Rattle.pieces.proofs.Affected.{affected_again}
 use Rattle.compound_node.specs.Halves.{HalfShows}
 use Rattle.compound_node.specs.Nodes.{NodeView, piece, IsLawfulNode, IsBuiltFrom, IsEntry, height_of, greatest_height}
@@ -20,9 +20,9 @@ use Rattle.tries.specs.Keys.{Key, bit}
 use Rattle.tries.specs.Place.{spot, with_subtrie, joined, subtrie_without}
 use Rattle.tries.specs.Tree.{Subtrie, Tree, fork, subtrie, IsTrie, Within, here, zero_side, one_side}
 use Rattle.tries.proofs.Building.{bit_below, greatest-append, size-piece}
-use Rattle.tries.proofs.Places.{spot_below}
+use Rattle.tries.proofs.Places.{leads_spot, spot_below}
 use Rattle.tries.proofs.Ranges.{has_key}
-use Rattle.tries.proofs.Spots.{path_low, path_high, without_spot}
+use Rattle.tries.proofs.Spots.{grafted_spot, path_low, path_high, without_spot}
 use Rattle.tries.proofs.Tries.{has_first, rises, trie_within, built_within}
 use Rattle.insert_cases.specs.Grown.{GrownShows, SidesShow}
 use Rattle.insert_cases.specs.declared.growth.Grown.{Grown}
@@ -33,7 +33,8 @@ use Rattle.insert_cases.proofs.Pairs.{IsPairOf, pair_facts}
 use Rattle.insert_cases.proofs.NodeFacts.{height_positive}
 use Rattle.record_words.specs.Node.{CanTakeLeaf, HasNodeWords, CanGrowAt, SpellLeft, node_words}
 use Rattle.record_words.specs.Reading.{IsSpelledBy}
-use Rattle.rowex_writing.specs.Remaking.{IsSubtrieOfTree, AffectsJust, IsLowHalf, IsNoHigher, AwaitsLeaf}
+use Rattle.rowex_writing.specs.Remaking.{IsSubtrieOfTree, AffectsJust, IsLowHalf, IsNoHigher, AwaitsLeaf, subtrie_with_fork}
+use Rattle.rowex_writing.specs.declared.remaking.Fork.{Fork as NewFork}
 use Rattle.rowex_writing.specs.declared.remaking.NewLeaf.{NewLeaf}
 use Rattle.rowex_walks.proofs.Rising.{fork_parts}
 
@@ -120,10 +121,33 @@ hung k q a b (Fork f y z) t is trie = go (bit k f) (hung k q a b y) (hung k q a 
         (record { tree = u.tree; within = subst (Within u.tree) (sym e) (zero_side u.within); is = u.is }, path_low q f y z (spot k y) (spot_below k y) low path)
 
 -- what is owed for the fork in the entry's place
-pub fork_is_pair : (k : Key) (q : ℕ) (z o : Entry) (x : Subtrie) → IsSubtrieOfTree (with_subtrie k (Fork q (Place z) (Place o)) x) → IsPairOf q z o × IsAbovePath q (spot k x) x
+fork_is_pair : (k : Key) (q : ℕ) (z o : Entry) (x : Subtrie) → IsSubtrieOfTree (with_subtrie k (Fork q (Place z) (Place o)) x) → IsPairOf q z o × IsAbovePath q (spot k x) x
 fork_is_pair k q z o x (t, is, trie, built) =
     let (h, path) = hung k q (Place z) (Place o) x t is trie in
     (pair_facts q z o h.tree h.is (trie_within h.within trie) (built_within h.within built), path)
+
+-- what a fork owes at the place to which its key's search leads, and what it makes there
+pub record FitsFork (new : NewFork) (i : ℕ) (x : Subtrie) : Type 0 where
+  pub path : IsAbovePath new.position i x
+  pub position : new.position < 65535
+  pub zero : IsEntry new.zero
+  pub one : IsEntry new.one
+  pub makes : grafted i (Fork new.position (Place new.zero) (Place new.one)) x ≡ subtrie_with_fork new x
+
+pub fits_fork : (new : NewFork) (i : ℕ) (x : Subtrie) → i ≡ leads_to (bit_of new.key.now) x → IsSubtrieOfTree (subtrie_with_fork new x) → FitsFork new i x
+fits_fork new i x leads tree =
+    let k = new.key.now in
+    let r = Fork new.position (Place new.zero) (Place new.one) in
+    let (f, path) = fork_is_pair k new.position new.zero new.one x tree in
+    let is : i ≡ spot k x = leads ∙ leads_spot k x in
+    let h = f.position in
+    record {
+      path = subst (λ j. IsAbovePath new.position j x) (sym is) path;
+      position = omega arith;
+      zero = f.zero;
+      one = f.one;
+      makes = ap (λ j. grafted j r x) is ∙ grafted_spot k r x;
+    }
 
 -- a leaf beside an entry
 pub pair_is_lawful : (u : Bool) (q : ℕ) (new old : Entry) → IsSubtrieOfTree (subtrie_forked u q new (Place old)) → (q < 9 * MAX_BYTES) × IsEntry old
@@ -198,7 +222,7 @@ takes_same spelled node new takes = spelled.only node takes.is.has takes.is.spel
 pub takes_read : {words : List ℕ} {view : NodeView} → IsSpelledBy HasNodeWords node_words words view → (node : NodeView) (new : NewLeaf) → AwaitsLeaf words node new → AwaitsLeaf words view new
 takes_read {words} spelled node new takes = subst (λ v. AwaitsLeaf words v new) (sym (takes_same spelled node new takes)) takes
 
-pub greatest_put : (k : Key) (r x : Subtrie) → greatest_height (places (with_subtrie k r x)) ≤ max (greatest_height (places r)) (greatest_height (places x))
+greatest_put : (k : Key) (r x : Subtrie) → greatest_height (places (with_subtrie k r x)) ≤ max (greatest_height (places r)) (greatest_height (places x))
 greatest_put k r (Place d) = omega arith
 greatest_put k r (Fork q x y) = go (bit k q) (greatest_put k r x) (greatest_put k r y)
   where
@@ -207,6 +231,11 @@ greatest_put k r (Fork q x y) = go (bit k q) (greatest_put k r x) (greatest_put 
         greatest_height (places (if o then Fork q x (with_subtrie k r y) else Fork q (with_subtrie k r x) y)) ≤ max (greatest_height (places r)) (greatest_height (places x ++ places y))
     go true f g = omega (arith, g, greatest-append (places x) (places y), greatest-append (places x) (places (with_subtrie k r y)))
     go false f g = omega (arith, f, greatest-append (places x) (places y), greatest-append (places (with_subtrie k r x)) (places y))
+
+-- a fork of entries that are low enough for a node leaves it as high
+pub fork_low : (new : NewFork) (v : NodeView) → IsLawfulNode v → height_of new.zero < v.height → height_of new.one < v.height →
+    greatest_height (places (subtrie_with_fork new (piece v))) < v.height
+fork_low new v l z o = omega (arith, greatest_put new.key.now (Fork new.position (Place new.zero) (Place new.one)) (piece v), entries_under v l)
 
 greatest_joined : (q : ℕ) (o : Bool) (x y r : Subtrie) → greatest_height (places r) ≤ greatest_height (places (if o then y else x)) →
     greatest_height (places (joined q o x y r)) ≤ greatest_height (places x ++ places y)

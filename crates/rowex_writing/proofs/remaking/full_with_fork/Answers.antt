@@ -1,42 +1,28 @@
 -- The fork's tree tells what it owes.
-use Rattle.std.proofs.Common.{◌≡◌, ap, ◌∙◌, sym, subst, arith}
-use Rattle.pieces.specs.Grafts.{grafted, IsAbovePath}
-use Rattle.pieces.specs.Piece.{Place, Fork}
+use Rattle.std.proofs.Common.{subst}
 use Rattle.compound_node.specs.Nodes.{piece}
-use Rattle.tries.specs.Place.{with_subtrie}
-use Rattle.tries.proofs.Places.{leads_spot}
-use Rattle.tries.proofs.Spots.{grafted_spot}
 use Rattle.insert_cases.specs.Grown.{GrownShows}
-use Rattle.rowex_writing.proofs.Remade.{fork_is_pair, entries_under, greatest_put, grown_low}
+use Rattle.rowex_writing.specs.Remaking.{subtrie_with_fork}
+use Rattle.rowex_writing.proofs.Remade.{grown_low, fits_fork, fork_low}
 use Rattle.rowex_writing.proofs.remaking.full_with_fork.Goals as goal
 
 pub pull_up-requires-clause-path : goal.pull_up-requires-clause-path
-pull_up-requires-clause-path c =
-    let k = c.args.fork.now.key.now in
-    let x = piece c.args.node.now in
-    let owed = fork_is_pair k c.args.fork.now.position c.args.fork.now.zero c.args.fork.now.one x c.requires.tree in
-    subst (λ j. IsAbovePath c.args.fork.now.position j x) (sym (c.search-at.ensures.leads ∙ leads_spot k x)) owed.1
+pull_up-requires-clause-path c = (fits_fork c.args.fork.now c.search-at.result (piece c.args.node.now) c.search-at.ensures.leads c.requires.tree).path
 
 pub pull_up-requires-clause-position : goal.pull_up-requires-clause-position
-pull_up-requires-clause-position c = let h = (fork_is_pair c.args.fork.now.key.now c.args.fork.now.position c.args.fork.now.zero c.args.fork.now.one (piece c.args.node.now) c.requires.tree).0.position in omega arith
+pull_up-requires-clause-position c = (fits_fork c.args.fork.now c.search-at.result (piece c.args.node.now) c.search-at.ensures.leads c.requires.tree).position
 
 pub pull_up-requires-clause-zero : goal.pull_up-requires-clause-zero
-pull_up-requires-clause-zero c = (fork_is_pair c.args.fork.now.key.now c.args.fork.now.position c.args.fork.now.zero c.args.fork.now.one (piece c.args.node.now) c.requires.tree).0.zero
+pull_up-requires-clause-zero c = (fits_fork c.args.fork.now c.search-at.result (piece c.args.node.now) c.search-at.ensures.leads c.requires.tree).zero
 
 pub pull_up-requires-clause-one : goal.pull_up-requires-clause-one
-pull_up-requires-clause-one c = (fork_is_pair c.args.fork.now.key.now c.args.fork.now.position c.args.fork.now.zero c.args.fork.now.one (piece c.args.node.now) c.requires.tree).0.one
+pull_up-requires-clause-one c = (fits_fork c.args.fork.now c.search-at.result (piece c.args.node.now) c.search-at.ensures.leads c.requires.tree).one
 
 pub returns-clause-shows : goal.returns-clause-shows
-returns-clause-shows c =
-    let k = c.args.fork.now.key.now in
-    let x = piece c.args.node.now in
-    let r = Fork c.args.fork.now.position (Place c.args.fork.now.zero) (Place c.args.fork.now.one) in
-    let same : grafted c.search-at.result r x ≡ with_subtrie k r x = ap (λ j. grafted j r x) (c.search-at.ensures.leads ∙ leads_spot k x) ∙ grafted_spot k r x in
-    subst (GrownShows c.args.node.now c.pull_up.result) same c.pull_up.ensures.shows
+returns-clause-shows c = subst (GrownShows c.args.node.now c.pull_up.result) (fits_fork c.args.fork.now c.search-at.result (piece c.args.node.now) c.search-at.ensures.leads c.requires.tree).makes c.pull_up.ensures.shows
 
 pub returns-clause-low : goal.returns-clause-low
 returns-clause-low c =
     let v = c.args.node.now in
-    let r = Fork c.args.fork.now.position (Place c.args.fork.now.zero) (Place c.args.fork.now.one) in
-    let g = greatest_put c.args.fork.now.key.now r (piece v) in
-    grown_low v c.pull_up.result (with_subtrie c.args.fork.now.key.now r (piece v)) v.height (returns-clause-shows c) (omega (arith, g, entries_under v c.count.ensures.lawful, c.requires.zero, c.requires.one))
+    grown_low c.args.node.now c.pull_up.result (subtrie_with_fork c.args.fork.now (piece v)) v.height (returns-clause-shows c)
+    (fork_low c.args.fork.now v c.count.ensures.lawful c.requires.zero c.requires.one)
