@@ -1,4 +1,36 @@
 //! Epochs: a pass is pinned while it reads, and rounds of collection give back the records that no pinned pass can reach.
+//!
+//! # Mechanism
+//!
+//! The table has one epoch, a number that only grows, and a pin for each pass, which is 0 or an epoch + 1.
+//!
+//! 1. *Pin.* A pass loads the epoch and stores it as its pin, before it reads the root. It clears the pin at the end of its call.
+//! 2. *Retire.* A writer that has unlinked records by its store loads the epoch after the store, and marks each of them as
+//!    obsolete in that epoch. A marked record keeps its words: a reader may still stand in it.
+//! 3. *Collect.* A round loads the epoch and, unless it is the last one, tries to make it the next. Then it loads the epoch again
+//!    and each pin. The bound of the round is the least of that epoch and of the pins that are set. A record that is obsolete in
+//!    an epoch below the bound goes from obsolete to free by one exchange. From then on any pass may claim it.
+//!
+//! # Why nothing in reach is given back
+//!
+//! Let a pass reach a record that was unlinked by a store. Then it loaded the epoch for its pin before that store, so its pin is
+//! at most the record's mark, which was loaded after the store. If the round loaded this pin, the bound is at most the mark, and
+//! the record stays. If the round loaded the pin before it was set, the pass had not yet read the root. Then either the store
+//! came first, and the pass can't reach the record; or the epoch that the round had loaded for its bound is at most the mark, and
+//! the record stays again. The laws [`laws::reach_is_kept`] and [`laws::given_is_out_of_reach`] say so of each step.
+//!
+//! # Rounds
+//!
+//! A full round ([`collect_round`]) visits each record of the table, so its cost grows with the table. A small round
+//! ([`collect_small`]) visits the records that the pass has retired itself. These stand in its limbo list ([`Limbo`]), oldest
+//! first. A call that changes the index begins with a small round once the pass has retired 32 records since its last one. So
+//! each retired record is visited soon, and a full round is left for an attempt that was refused as full.
+//!
+//! The limbo list promises nothing. It has plain numbers, and before a record is given back its state is loaded and exchanged. A
+//! record that finds no place in the list is left to full rounds.
+//!
+//! A pass that is stopped while it is pinned holds back what others retire from then on, and nothing else: nobody waits for it
+//! here. Whoever needs records learns by [`Collected`] that some were held back.
 #![tactic(auto)]
 
 mod collection;

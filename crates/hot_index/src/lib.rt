@@ -1,5 +1,34 @@
 //! An ordered index from byte keys to 64-bit values, shared by threads: a height optimized trie (HOT, Binna and others,
 //! SIGMOD 2018) whose readers take no lock (ROWEX, Leis and others, DaMoN 2016).
+//!
+//! # Parts
+//!
+//! An [`Index`] is a table of words of a fixed size. [`create`] makes one with leaf records for the longest keys,
+//! [`create_with`] by a [`Stock`]: how many node records, and how many leaf records of each size. Each thread works through
+//! a pass of its own: a [`Pass`] with the index beside it, or a [`Handle`], which has both. There are as many passes as the index was
+//! made with. A call takes its pass by `&mut`, so each pass makes one call at a time.
+//!
+//! # Calls
+//!
+//! - *Look-ups*: `get`, `get_many`. They take no lock, and make a bounded number of atomic steps, whatever other threads do.
+//! - *Changes*: `insert`, `upsert`, `remove`, `exchange`, `remove_if`. Each makes one store that other threads see at once. These
+//!   forms wait while another pass is in the way. The `try_` forms return [`TryFault`] instead, after a bounded number of steps.
+//! - *Scans*: `scan`, `scan_into`, downwards `scan_reverse`, `prefix_into`, `first`, `last`, and [`Cursor`]s. A scan is no single
+//!   moment: each pair was there at a moment of it, and no key is left out that was there all along.
+//! - *Upkeep*: `collect` gives back what was retired, and `census` counts the records. Calls collect by themselves.
+//! - *Order in time*: passes that `meet` share one history from then on. A [`Stamp`] carries what one pass has seen to another.
+//!
+//! # What contracts say
+//!
+//! Contracts see of a pass its seat: the changes that it has seen, its front, and the calls that were answered, its notes. Each answered
+//! call adds its note with its last step. The notes of a pass are one legal history of a finite map; those of passes that have
+//! met share one. A call that is refused changes nothing, and its clause says why it was refused: another pass held a lock, or
+//! each record of the kind was found other than free.
+//!
+//! # Gates
+//!
+//! The forms `_with` take a [`Gate`], which is told each atomic step that the call makes. Tests stop a call there and let another
+//! pass go on. The plain forms use [`NoGate`], which does nothing.
 #![tactic(auto)]
 
 mod calls;

@@ -1,13 +1,17 @@
--- The definitions of the crate.
+-- The definitions of the crate, in the order in which to read them.
+-- First what there is: what words say, the core, and the words that show a core.
 pub mod Reading
 pub mod Cores
 pub mod Words
+-- Then what happens: when a step is legal and what it makes, whose each thing is, what a pass knows and is taught.
 pub mod Events
 pub mod Sharing
 pub mod Knowing
-pub mod Frames
-pub mod Opening
 pub mod Runs
-pub mod Statements
+-- Then what a pass may count on: what others' steps leave to it, and what it has, by lists.
+pub mod Frames
 pub mod Having
+-- At last the core of a new table, and the laws.
+pub mod Opening
+pub mod Statements
 pub mod Writers

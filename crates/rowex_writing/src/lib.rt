@@ -1,4 +1,37 @@
 //! The writers of a shared trie: what a call does to the index, and what it builds for that.
+//!
+//! # Mechanism
+//!
+//! An attempt ([`attempt`]) of a call that may change the index goes through these stages. Each has a file of its own.
+//!
+//! 1. *Search* (`rowex_reading`): the path of the key, and the leaf at its end with the key's first mismatch. A call whose answer
+//!    needs no change ends here.
+//! 2. *Plan* (`plan`, `finding`): which nodes of the path are remade, the span, and what is done at its lower end, the deed. A
+//!    deed puts a leaf in an entry's place, pushes a leaf down into a node of two, grows a node by a leaf, or takes a leaf out.
+//!    The cases of an insertion are those of HOT: normal insert, leaf pushdown, parent pull up, intermediate node, new root.
+//! 3. *Locks* (`locks`): the nodes of the span and the one above it are locked, from the lowest up; the anchor stands for the
+//!    root. Each is tried once. A node that is locked or obsolete makes the attempt busy, after all locks are given back.
+//! 4. *Check* (`checking`): one entry of each locked node is loaded and compared with what the search found. If all are the same,
+//!    the path still stands, since nobody else changes a locked node.
+//! 5. *Build* (`deeds`, `building`, `remaking`, `claims`): records are claimed and filled with what takes the place of the span.
+//!    Nobody else can reach them yet. If no record is free, all is given up and undone.
+//! 6. *Publish* (`publishing`): the new records are made ready, and one store of an entry's word, or of the root, makes the change
+//!    visible. This store is the change: before it all readers see the old tree, after it the new one.
+//! 7. *End* (`ending`): the epoch is loaded, what the store has unlinked is marked with it, and the rest is unlocked.
+//!
+//! # What carries the proof
+//!
+//! A locked node's words stay as they are, so what was loaded under the locks is true at the store. `rowex_rights` has for each case
+//! of a change the law that allows the store: from the words of the locked nodes and of the new records to a lawful next version,
+//! which differs by one key. A pass recalls what its loads have shown, whatever others publish elsewhere.
+//!
+//! Nobody waits for a lock while holding one, so no order of locks can block. Lowest first means that those that more passes want
+//! are held for the shortest time.
+//!
+//! # What is kept between calls
+//!
+//! [`Build`] has the lists that a change fills, and hints where free records are ([`Supply`]). The hints are plain numbers of which
+//! no contract speaks: a claim is an exchange of the record's state, which fails if the record isn't free.
 #![tactic(auto)]
 
 mod asking;
