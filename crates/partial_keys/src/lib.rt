@@ -115,13 +115,6 @@ impl Columns {
         count_below(lanes_of(&self.positions), position)
     }
 
-    /// Whether the position is a column.
-    pub fn contains(&self, position: u16) -> bool
-        ensures { result ≡ has self.now position }
-    {
-        self.is_column_at(self.below(position), position)
-    }
-
     /// Whether the position is a column, where so many columns are below it.
     pub fn is_column_at(&self, below: u8, position: u16) -> bool
         requires { below ≡ front_below position self.now }

@@ -275,16 +275,6 @@ impl Layout {
             + (LEAF_WORDS - WIDE_WORDS) * number.saturating_sub(self.long_from) as usize
     }
 
-    /// The first word of the leaf record behind this one, which begins at `start`: where this one ends.
-    ///
-    /// On a walk over many records it takes the place of [`Layout::leaf`], which costs more.
-    pub fn leaf_behind(&self, number: u32, start: usize) -> usize
-        requires { start ≡ leaf_start self.now number }
-        ensures { result ≡ leaf_start self.now (number + 1) }
-    {
-        start + self.leaf_size(number)
-    }
-
     /// How many words the table has.
     pub fn words(&self) -> usize
         ensures { result ≡ word_count self.now }
