@@ -1,6 +1,6 @@
 //! A node with one entry more: whole, or cut in two where it was full.
 
-ghost use Rattle.std.specs.Prelude.{◌≡◌, ◌↔◌, ◌<◌, IsTrue, length, false, if◌then◌else◌};
+ghost use Rattle.std.specs.Prelude.{◌≡◌, ◌↔◌, ◌<◌, IsTrue, length, false, true, if◌then◌else◌};
 ghost use Rattle.pieces.specs.Piece.{size, Place as At, Fork};
 ghost use Rattle.pieces.specs.Growth.{grown, IsAffected};
 ghost use Rattle.pieces.specs.Changes.{AtRootFork};
@@ -18,6 +18,21 @@ pub enum Grown {
     One(Node),
     /// The root fork of 33 entries and its two sides. `Half::Same` stands for the node that was handed in.
     Two(Cut),
+}
+
+/// A node with a new entry beside the entries from `first` to `last`, which `Node::affected` gives for the position: one node where it
+/// has room, and else the cut that [`grow_full`] returns.
+pub fn grow(node: &Node, first: u8, last: u8, position: u16, bit: bool, entry: Entry) -> Grown
+    requires range { IsAffected (piece node.now) position first last }
+    requires position { position < 65535 }
+    requires entry { IsEntry entry }
+    ensures shows { GrownShows node.now result (grown position bit entry first (piece node.now)) }
+    ensures whole { (is_whole result ≡ true) ↔ (length node.now.entries < 32) }
+{
+    if node.count() < 32 {
+        return Grown::One(node.insert(first, last, position, bit, entry));
+    }
+    grow_full(node, first, last, position, bit, entry)
 }
 
 /// A full node with a new entry beside the entries from `first` to `last`, where `Node::add` would put it: the node is

@@ -1,4 +1,4 @@
-//! Byte keys of bounded length, their bits, and the first bit at which two keys differ.
+//! Byte keys of bounded length, their bits, the first bit at which two keys differ, and bits gathered into a word.
 #![tactic(auto)]
 
 ghost use Rattle.std.specs.Prelude.{[], ◌≡◌, ◌≢◌, ℕ, ◌+◌, ◌*◌, ◌≤◌, ◌<◌, ◌↔◌, ◌++◌, drop, length, take, IsTrue, IsOk, IsNone, IfOk, IfErr, IfSome, false, if◌then◌else◌};
@@ -6,6 +6,7 @@ ghost use Rattle.std.specs.Cmp.Lexicographic.{slice_cmp};
 ghost use Rattle.std.specs.Int.{to_be_bytes, w64};
 ghost use Rattle.std.specs.Ordering.{nat_cmp};
 ghost use Rattle.key_bits.specs.Bits.{bit_of, IsFirstDifference, BytesDifferAt};
+ghost use Rattle.key_bits.specs.Gather.{gathered};
 ghost use Rattle.key_bits.specs.Key.{HoldsKey, IsKey, with_zeros};
 
 use std::cmp::Ordering;
@@ -293,6 +294,19 @@ fn byte_mismatch(x: u8, y: u8) -> u32
     ensures first { BytesDifferAt x y result }
 {
     (x ^ y).leading_zeros()
+}
+
+/// The key's bits at the positions, the bit at `positions[j]` as bit `31 - j`. All lower bits are 0.
+pub fn extract(key: &Key, positions: &[u16]) -> u32
+    requires { length positions.now ≤ 31 }
+    ensures { result ≡ gathered (bit_of key.now) positions.now }
+{
+    let bytes = key.as_bytes();
+    let mut bits = 0;
+    for position in positions {
+        bits = bits << 1 | bit_in(bytes, *position);
+    }
+    bits << (31 - positions.len()) << 1
 }
 
 /// The bit at a position of a key with these bytes, as a number.

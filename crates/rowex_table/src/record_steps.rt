@@ -26,8 +26,16 @@ impl HotTable {
         }
     }
 
-    /// Claims a record, which begins at this word, if it finds it free; answers the state word that it found. Its state has been loaded
-    /// before, so its place is known.
+    /// Claims a record, if it finds it free; returns the state word that it found.
+    pub fn claim<G: Gate>(&self, seat: &mut TableSeat, gate: &mut G, rec: Rec) -> u64
+        requires own { IsSeatOf self.now seat.old }
+        requires range { HasRecord self.now.layout rec }
+        ensures { Steps self.now G.becomes (Claim rec result) (seat.old, gate.old) (seat.new, gate.new) }
+    {
+        self.claim_from(seat, gate, rec, self.start_of(rec))
+    }
+
+    /// Claims as `claim` does, a record that begins at this word: where its state has been loaded before, its place is known.
     #[inline(always)]
     pub fn claim_from<G: Gate>(
         &self,
@@ -175,8 +183,17 @@ impl HotTable {
         self.load_at::<Brand, G>(seat, gate, act, start)
     }
 
-    /// Makes a record free, which begins at this word, if it finds it obsolete in this epoch; answers the state word that it found. Its
-    /// state has been loaded before, so its place is known.
+    /// Makes a record free, if it finds it obsolete in this epoch; returns the state word that it found.
+    pub fn give_back<G: Gate>(&self, seat: &mut TableSeat, gate: &mut G, rec: Rec, epoch: u64) -> u64
+        requires own { IsSeatOf self.now seat.old }
+        requires range { HasRecord self.now.layout rec × (epoch < EPOCHS) }
+        requires may { MayStep self.now.layout (λ found. GiveBack rec epoch found) seat.old.known }
+        ensures { Steps self.now G.becomes (GiveBack rec epoch result) (seat.old, gate.old) (seat.new, gate.new) }
+    {
+        self.give_back_from(seat, gate, rec, self.start_of(rec), epoch)
+    }
+
+    /// Gives back as `give_back` does, a record that begins at this word: where its state has been loaded before, its place is known.
     #[inline(always)]
     pub fn give_back_from<G: Gate>(
         &self,

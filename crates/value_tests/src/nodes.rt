@@ -6,7 +6,8 @@ ghost use Rattle.compound_node.specs.declared.entries.Entry.TheVariants.{Leaf as
 ghost use Rattle.pieces.specs.Piece.{Fork, Place};
 
 use compound_node::{Entry, Half, Node};
-use key_bits::{Key, KeyFault, mismatch};
+use insert_cases::{Grown, grow};
+use key_bits::{Key, KeyFault, extract, mismatch};
 use partial_keys::{search_lanes, search_plain};
 use record_words::{
     HEAD_WORDS, LEAF_FIELDS, Layout, LayoutFault, LeafClass, Location, NODE_FIELDS, Stock, Tag,
@@ -88,8 +89,9 @@ fn comb(rt: &impl Abort, positions: &[u16]) -> Node
 fn bits_are_gathered_from_the_highest(rt: HostRuntime) {
     for (bytes, positions, want) in GATHERED {
         assert!(rt; positions.len() <= 31);
-        let node = comb(&rt, positions);
-        assert!(rt; node.columns().dense(&key(&rt, bytes)) == want);
+        let key = key(&rt, bytes);
+        assert!(rt; extract(&key, positions) == want);
+        assert!(rt; comb(&rt, positions).columns().dense(&key) == want);
     }
 }
 
@@ -209,6 +211,14 @@ fn heights_and_single_entries(rt: HostRuntime) {
     assert!(rt; matches!(node.without(0), Half::One(Entry::Leaf(1))));
     let cut = four().cut();
     assert!(rt; cut.position == 6 && matches!(cut.one, Half::One(Entry::Leaf(3))));
+}
+
+#[test]
+fn a_node_with_room_grows_whole(rt: HostRuntime) {
+    let Grown::One(node) = grow(&three(), 0, 2, 6, true, Entry::Leaf(3)) else {
+        panic!(rt; "no node");
+    };
+    expect_node(&rt, &node, &[6, 7, 8], &FOUR_ROWS, &[0, 1, 2, 3]);
 }
 
 /// The words of the node of the keys a, b and c over the leaves 0, 1 and 2, from offset 1 on.
