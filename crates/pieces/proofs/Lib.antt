@@ -11,4 +11,5 @@ pub mod Replacing
 pub mod Removing
 pub mod Grafting
 pub mod Mapping
+pub mod Beside
 pub mod Worked
