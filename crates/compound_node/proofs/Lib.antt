@@ -12,4 +12,6 @@ pub mod Removing
 pub mod Roots
 pub mod Forked
 pub mod Clearing
+pub mod Widening
+pub mod Joined
 pub mod Taken

@@ -10,6 +10,7 @@ mod building;
 mod entries;
 mod halves;
 mod heads;
+mod joining;
 mod nodes;
 mod rows;
 

@@ -1,9 +1,10 @@
 //! Compound nodes.
 
 use super::building::built;
-use super::entries::{Entry, all_stand_below, height_with, insert_beside, listed};
+use super::entries::{Entry, all_stand_below, both, height_with, insert_beside, listed};
 use super::halves::{Cut, Half, cut_of, rest_of};
 use super::heads::Head;
+use super::joining::{both_rows, widen};
 use arrayvec::ArrayVec;
 use key_bits::Key;
 use partial_keys::Columns;
@@ -38,7 +39,7 @@ impl Node {
     ghost use Rattle.pieces.specs.Changes.{AtRootFork, without};
     ghost use Rattle.pieces.specs.Changes.{replaced as replaced_place};
     ghost use Rattle.pieces.specs.Growth.{IsAffected, affected_count, affected_first, grown};
-    ghost use Rattle.pieces.specs.Piece.{Fork, Place, leads_to};
+    ghost use Rattle.pieces.specs.Piece.{Fork, Place, RisesFrom, leads_to};
 
     /// The node of these fields, where they fit together: the columns are 1 to 31 positions that
     /// rise strictly, the sparse partial keys show a piece over them, the unused ones are
@@ -78,6 +79,35 @@ impl Node {
         entries.push(zero);
         entries.push(one);
         built(Columns::of(&[position]), &[0, 1 << 31], entries)
+    }
+
+    /// The node of all entries of two nodes, with a fork at a position above them. The height is built anew.
+    pub fn join(position: u16, zero: &Node, one: &Node) -> Node
+        requires room { length zero.now.entries + length one.now.entries ≤ 32 }
+        requires after { RisesFrom 0 (Fork position (piece zero.now) (piece one.now)) }
+        ensures { IsBuiltFrom result (Fork position (piece zero.now) (piece one.now)) }
+    {
+        let (zero_count, one_count) = (zero.count() as usize, one.count() as usize);
+        let (mut columns, mut zero_rows) = (*zero.columns(), *zero.sparse_places());
+        widen(
+            &mut columns,
+            &mut zero_rows,
+            zero_count,
+            position,
+            one.columns(),
+        );
+        let (mut same_columns, mut one_rows) = (*one.columns(), *one.sparse_places());
+        widen(
+            &mut same_columns,
+            &mut one_rows,
+            one_count,
+            position,
+            zero.columns(),
+        );
+        let bit = 1 << (31 - columns.below(position));
+        let rows = both_rows(&zero_rows[..zero_count], &one_rows[..one_count], bit);
+        let entries = both(zero.entries.as_slice(), one.entries.as_slice());
+        built(columns, rows.as_slice(), entries)
     }
 
     /// How many entries there are, 2 to 32.

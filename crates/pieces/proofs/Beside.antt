@@ -1,10 +1,10 @@
 -- The one place on the other side of the last fork on a path.
-use Rattle.std.proofs.Common.{Bool, List, ap, arith, cond, false, get_or, length, nat_lt, refl, suc, sym, true, zero, ℕ, ⊎_elim, Option, None, Some, ◌++◌, ◌+◌, ◌-◌, ◌<◌, ◌∙◌, ◌≡◌, ◌≤◌}
+use Rattle.std.proofs.Common.{ap, arith, cond, false, get_or, length, nat_lt, refl, sym, true, ℕ, ⊎_elim, Option, None, Some, ◌++◌, ◌+◌, ◌-◌, ◌<◌, ◌∙◌, ◌≡◌, ◌≤◌}
 use Rattle.std.proofs.lemmas.Bool.{cases_Bool, le-ltb, lt-ltb, ltb-false, ltb-true}
 use Rattle.std.proofs.lemmas.List.{get_or-append-add, get_or_append_left}
 use Rattle.std.proofs.lemmas.Option.{get_or_from_slice_get}
 use Rattle.std.specs.List.{slice_get}
-use Rattle.pieces.proofs.Paths.{length-places, size_pos}
+use Rattle.pieces.proofs.Paths.{length-places}
 use Rattle.pieces.specs.Changes.{beside, collapsed, is_place, moved_by, replaced, sibling, without}
 use Rattle.pieces.specs.Piece.{Piece, Place, Fork, places, size}
 
