@@ -14,4 +14,5 @@ pub mod Forked
 pub mod Clearing
 pub mod Widening
 pub mod Joined
+pub mod Neighbours
 pub mod Taken

@@ -5,3 +5,4 @@ pub mod Nodes
 pub mod Forking
 pub mod Halves
 pub mod Joining
+pub mod Beside

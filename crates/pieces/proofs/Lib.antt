@@ -12,4 +12,5 @@ pub mod Removing
 pub mod Grafting
 pub mod Mapping
 pub mod Beside
+pub mod Seams
 pub mod Worked
