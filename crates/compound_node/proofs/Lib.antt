@@ -12,4 +12,7 @@ pub mod Removing
 pub mod Roots
 pub mod Forked
 pub mod Clearing
+pub mod Widening
+pub mod Joined
+pub mod Neighbours
 pub mod Taken

@@ -26,7 +26,7 @@ lowest-raised w r p l = let e : bit_and (2 ^ w + r) (2 ^ w + r - 1) ≡ 2 ^ w + 
 lowest-power : (w : ℕ) → lowest (2 ^ w) ≡ 2 ^ w
 lowest-power w = let e : bit_and (2 ^ w) (2 ^ w - 1) ≡ 0 = without_lowest-power w in rw e (omega arith)
 
-later_positive : (rows : List ℕ) → IsLadder rows → (k : ℕ) → 0 < k → k < length rows → 0 < get_or rows k 0
+pub later_positive : (rows : List ℕ) → IsLadder rows → (k : ℕ) → 0 < k → k < length rows → 0 < get_or rows k 0
 later_positive rows ladder zero p l = absurd (omega arith)
 later_positive rows ladder (suc k) p l =
     let e : k + 1 ≡ suc k = omega arith in

@@ -4,3 +4,5 @@ pub mod Removal
 pub mod Nodes
 pub mod Forking
 pub mod Halves
+pub mod Joining
+pub mod Beside

@@ -127,6 +127,16 @@ pub(crate) fn removed(entries: &[Entry], at: usize) -> ArrayVec<Entry, 32>
     list
 }
 
+/// The entries of two nodes, in order.
+pub(crate) fn both(zero: &[Entry], one: &[Entry]) -> ArrayVec<Entry, 32>
+    requires { length zero.now + length one.now ≤ 32 }
+    ensures { result.items ≡ zero.now ++ one.now }
+{
+    let mut list = listed(zero);
+    append(&mut list, one);
+    list
+}
+
 fn append(list: &mut ArrayVec<Entry, 32>, entries: &[Entry])
     requires { array_vec_len list.old + length entries.now ≤ 32 }
     ensures { list.new.items ≡ list.old.items ++ entries.now }

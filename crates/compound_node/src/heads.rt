@@ -233,7 +233,12 @@ impl Head {
 }
 
 /// Makes a position a column, where it is none: the first `count` rows have 0 in it. Answers how many columns are below it.
-fn make_column(columns: &mut Columns, rows: &mut [u32; 32], count: usize, position: u16) -> u8
+pub(crate) fn make_column(
+    columns: &mut Columns,
+    rows: &mut [u32; 32],
+    count: usize,
+    position: u16,
+) -> u8
     requires columns { length columns.old ≤ 31 }
     requires room { has columns.old position ≡ false → length columns.old < 31 }
     requires few { count ≤ 32 }

@@ -10,6 +10,7 @@ mod building;
 mod entries;
 mod halves;
 mod heads;
+mod joining;
 mod nodes;
 mod rows;
 
@@ -17,4 +18,4 @@ pub use entries::Entry;
 pub use halves::{Cut, Half};
 pub use heads::Head;
 pub use nodes::Node;
-pub use rows::fork_rows;
+pub use rows::{fork_rows, place_beside};

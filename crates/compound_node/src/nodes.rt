@@ -1,9 +1,11 @@
 //! Compound nodes.
 
 use super::building::built;
-use super::entries::{Entry, all_stand_below, height_with, insert_beside, listed};
+use super::entries::{Entry, all_stand_below, both, height_with, insert_beside, listed};
 use super::halves::{Cut, Half, cut_of, rest_of};
 use super::heads::Head;
+use super::joining::{both_rows, widen};
+use super::rows::place_beside;
 use arrayvec::ArrayVec;
 use key_bits::Key;
 use partial_keys::Columns;
@@ -30,15 +32,15 @@ impl Model for Node {
 }
 
 impl Node {
-    ghost use Rattle.std.specs.Prelude.{◌≡◌, ℕ, ◌↔◌, ◌+◌, ◌<◌, ◌≤◌, IsSome, IfSome, Some, length, slice_get, slice_index, slice_set};
+    ghost use Rattle.std.specs.Prelude.{◌≡◌, ℕ, ◌↔◌, ◌+◌, ◌<◌, ◌≤◌, IsSome, IfSome, Some, length, slice_get, slice_index, slice_index_or, slice_set};
     ghost use Rattle.compound_node.specs.Halves.{CutShows, HalfShows};
     ghost use Rattle.compound_node.specs.Nodes.{AgreeBefore, IsBuiltFrom, IsEntry, IsLawfulNode, IsNode, StandsBelow, head_of, node_from, node_of, piece};
     ghost use Rattle.key_bits.specs.Bits.{bit_of};
     ghost use Rattle.partial_keys.specs.Rows.{with_unused};
-    ghost use Rattle.pieces.specs.Changes.{AtRootFork, without};
+    ghost use Rattle.pieces.specs.Changes.{AtRootFork, beside, without};
     ghost use Rattle.pieces.specs.Changes.{replaced as replaced_place};
     ghost use Rattle.pieces.specs.Growth.{IsAffected, affected_count, affected_first, grown};
-    ghost use Rattle.pieces.specs.Piece.{Fork, Place, leads_to};
+    ghost use Rattle.pieces.specs.Piece.{Fork, Place, RisesFrom, leads_to};
 
     /// The node of these fields, where they fit together: the columns are 1 to 31 positions that
     /// rise strictly, the sparse partial keys show a piece over them, the unused ones are
@@ -78,6 +80,35 @@ impl Node {
         entries.push(zero);
         entries.push(one);
         built(Columns::of(&[position]), &[0, 1 << 31], entries)
+    }
+
+    /// The node of all entries of two nodes, with a fork at a position above them. The height is built anew.
+    pub fn join(position: u16, zero: &Node, one: &Node) -> Node
+        requires room { length zero.now.entries + length one.now.entries ≤ 32 }
+        requires after { RisesFrom 0 (Fork position (piece zero.now) (piece one.now)) }
+        ensures { IsBuiltFrom result (Fork position (piece zero.now) (piece one.now)) }
+    {
+        let (zero_count, one_count) = (zero.count() as usize, one.count() as usize);
+        let (mut columns, mut zero_rows) = (*zero.columns(), *zero.sparse_places());
+        widen(
+            &mut columns,
+            &mut zero_rows,
+            zero_count,
+            position,
+            one.columns(),
+        );
+        let (mut same_columns, mut one_rows) = (*one.columns(), *one.sparse_places());
+        widen(
+            &mut same_columns,
+            &mut one_rows,
+            one_count,
+            position,
+            zero.columns(),
+        );
+        let bit = 1 << (31 - columns.below(position));
+        let rows = both_rows(&zero_rows[..zero_count], &one_rows[..one_count], bit);
+        let entries = both(zero.entries.as_slice(), one.entries.as_slice());
+        built(columns, rows.as_slice(), entries)
     }
 
     /// How many entries there are, 2 to 32.
@@ -161,6 +192,32 @@ impl Node {
         ensures upto { affected_count position found (piece self.now) + result.0 ≡ result.1 + 1 }
     {
         self.head.affected(found, position)
+    }
+
+    /// Where the other side of the last fork on the path to a place is one place: that place, and the fork's position. None where it
+    /// has several.
+    pub fn beside(&self, at: u8) -> Option<(u8, u16)>
+        requires { at < length self.now.entries }
+        ensures { result ≡ beside at (piece self.now) }
+    {
+        let columns = self.head.columns();
+        let before = self.row(at.saturating_sub(1));
+        let (own, after, second) = (self.row(at), self.row(at + 1), self.row(at + 2));
+        match place_beside(at, before, own, after, second) {
+            Some((place, column)) => Some((place, columns.position(column))),
+            None => None,
+        }
+    }
+
+    /// The sparse partial key at a place, or 4,294,967,295 past the last one.
+    fn row(&self, at: u8) -> u32
+        ensures { result ≡ slice_index_or self.now.rows at 4294967295 }
+    {
+        if at < 32 {
+            self.head.word(at)
+        } else {
+            u32::MAX
+        }
     }
 
     /// The node with a new fork over the entries from `first` to `last`, where they part from the

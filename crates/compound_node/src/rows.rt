@@ -10,6 +10,8 @@ ghost use Rattle.partial_keys.specs.Squeezed.{IsRowOver, closed_row, or_all, squ
 ghost use Rattle.pieces.specs.Growth.{edited};
 ghost use Rattle.pieces.specs.Positions.{front_below};
 ghost use Rattle.compound_node.specs.Ladders.{AreSparseKeys, IsLadder};
+ghost use Rattle.compound_node.specs.Beside.{AreRound, IsBesideIn, column_before};
+ghost use Rattle.compound_node.specs.Nodes.{IsLawfulNode, NodeView};
 ghost use Rattle.compound_node.specs.Removal.{lowest, bit_after, cleared_front, removed_row};
 
 use arrayvec::ArrayVec;
@@ -336,4 +338,35 @@ pub(crate) fn take_row(rows: &mut [u32; 32], count: usize, at: usize)
     let bit = sibling_bit(&rows[..count], at);
     clear_front(rows, at + 1, count, bit);
     take_out(rows, count, at, u32::MAX);
+}
+
+// ---- the place beside one
+
+/// The column of the fork between a row and the one before, counted from 1: 0 of the first row, and of an unused place.
+fn fork_column(row: u32) -> u8
+    ensures { result ≡ column_before row }
+{
+    ((32 - row.trailing_zeros()) % 32) as u8
+}
+
+/// The place beside one, and the column of the fork between the two, told by the rows at the places from `at - 1` to `at + 2`: in each
+/// node that has them there.
+#[inline(always)]
+pub fn place_beside(at: u8, before: u32, own: u32, after: u32, second: u32) -> Option<(u8, u8)>
+    requires { at < 32 }
+    ensures { (node : NodeView) → IsLawfulNode node → at < length node.entries → AreRound node.rows at before own after second → IsBesideIn node at result }
+{
+    let (before, own) = (fork_column(before), fork_column(own));
+    let (after, second) = (fork_column(after), fork_column(second));
+    if own < after {
+        if after < second {
+            None
+        } else {
+            Some((at + 1, after - 1))
+        }
+    } else if own < before {
+        None
+    } else {
+        Some((at.saturating_sub(1), own.saturating_sub(1)))
+    }
 }

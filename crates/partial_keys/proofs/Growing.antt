@@ -20,19 +20,22 @@ weight_is : (p : ℕ) (xs ys : List ℕ) → length xs ≤ 31 → Ascends 0 (xs 
 weight_is p xs ys l a = let e : 32 - 1 - length xs ≡ 31 - length xs = omega arith in
     one_shl (31 - length xs) 32 (omega arith) ∙ sym (ap (λ m. 2 ^ m) e) ∙ sym (column_bit 32 p 0 xs ys (omega arith) a)
 
+-- the 1 of the column of a position
+pub weight_at : (p : ℕ) (cs : List ℕ) → length cs ≤ 31 → Ascends 0 cs → has cs p ≡ true → weight (front_below p cs) ≡ row_of cs (p ∷ [])
+weight_at p cs few rise here =
+    let j : ℕ = front_below p cs in
+    let at : (j < length cs) × (get_or cs j 0 ≡ p) = has-at p 0 cs rise here in
+    let xs : List ℕ = take j cs in let ys : List ℕ = drop (j + 1) cs in
+    let long : length xs ≡ j = length-take-le j cs (omega (arith, at.0)) in
+    let split : xs ++ p ∷ ys ≡ cs = ap (λ ds. xs ++ ds) (ap (λ c. c ∷ ys) (sym at.1) ∙ sym (drop_more cs j 0 at.0)) ∙ take-append-drop j cs in
+    ap weight (sym long) ∙ weight_is p xs ys (omega (arith, at.0)) (subst (λ ds. Ascends 0 ds) (sym split) rise) ∙ ap (λ ds. row_of ds (p ∷ [])) split
+
 module _ {A : Type 0} (cs rows : List ℕ) (es : List A) (Q : Piece A) (p first last : ℕ) (bit : Bool) (x : A) (sh : ShowsPiece cs rows es Q) (aff : IsAffected Q p first last) where
   -- the position is a column
   pub shows-at_column : has cs p ≡ true →
       ShowsPiece cs (edited first (last + 1 - first) (forked_rows (weight (front_below p cs)) bit) rows) (edited first (last + 1 - first) (forked_places bit x) es) (grown p bit x first Q)
   shows-at_column here =
-      let j : ℕ = front_below p cs in
-      let at : (j < length cs) × (get_or cs j 0 ≡ p) = has-at p 0 cs sh.columns_rise here in
-      let xs : List ℕ = take j cs in let ys : List ℕ = drop (j + 1) cs in
-      let long : length xs ≡ j = length-take-le j cs (omega (arith, at.0)) in
-      let split : xs ++ p ∷ ys ≡ cs = ap (λ ds. xs ++ ds) (ap (λ c. c ∷ ys) (sym at.1) ∙ sym (drop_more cs j 0 at.0)) ∙ take-append-drop j cs in
-      let few : length cs ≤ 31 = sh.few in
-      let rise : Ascends 0 (xs ++ p ∷ ys) = subst (λ ds. Ascends 0 ds) (sym split) sh.columns_rise in
-      let w : weight j ≡ row_of cs (p ∷ []) = ap weight (sym long) ∙ weight_is p xs ys (omega (arith, at.0)) rise ∙ ap (λ ds. row_of ds (p ∷ [])) split in
+      let w : weight (front_below p cs) ≡ row_of cs (p ∷ []) = weight_at p cs sh.few sh.columns_rise here in
       let r : (first ≤ last) × (last < length es) × (last + 1 - first ≡ affected_count p first Q) = affected_range cs rows es Q p first last sh aff in
       let g = shows-grown p bit x Q first cs rows es sh here aff.fresh in
       rw (w, r.2) (rw aff.from at g)

@@ -9,6 +9,7 @@ pub mod Rowing
 pub mod Reading
 pub mod Showing
 pub mod Growing
+pub mod Joining
 pub mod Affected
 pub mod Squeezing
 pub mod Cutting

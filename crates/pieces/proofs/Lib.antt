@@ -11,4 +11,6 @@ pub mod Replacing
 pub mod Removing
 pub mod Grafting
 pub mod Mapping
+pub mod Beside
+pub mod Seams
 pub mod Worked

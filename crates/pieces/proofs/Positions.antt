@@ -146,6 +146,25 @@ front_below-column low (c ∷ cs) (suc j) a l =
     rises low (c ∷ cs) zero a l = let k : low < c + 1 = a.0 in omega arith
     rises low (c ∷ cs) (suc j) a l = let k : low < c + 1 = a.0 in let m : c + 1 ≤ get_or cs j 0 = rises (c + 1) cs j a.1 (omega arith) in omega arith
 
+-- rising lists with the same positions are the same
+pub same_rising : (low : ℕ) (cs ds : List ℕ) → Ascends low cs → Ascends low ds → ((q : ℕ) → has cs q ≡ has ds q) → cs ≡ ds
+same_rising low [] [] a b h = refl
+same_rising low [] (d ∷ ds) a b h = absurd (false≢true (h d ∙ or_left (eqb d d) (has ds d) (eq-eqb d d refl)))
+same_rising low (c ∷ cs) [] a b h = absurd (false≢true (sym (h c) ∙ or_left (eqb c c) (has cs c) (eq-eqb c c refl)))
+same_rising low (c ∷ cs) (d ∷ ds) a b h =
+    let first : c ≡ d = omega (arith, from_first cs c d ds a b h, from_first ds d c cs b a (λ q. sym (h q))) in
+    let later : Ascends (c + 1) ds = (rw (← first) at b.1) in
+    rw (← first) (ap (λ es. c ∷ es) (same_rising (c + 1) cs ds a.1 later (λ q. same_bools (has cs q) (has ds q)
+    (λ g. rest c q ds (ne_eqb c q (let m : c + 1 ≤ q = has_after (c + 1) q cs a.1 g in omega arith)) (rw (← first) at (sym (h q) ∙ or_right (eqb c q) (has cs q) g)))
+    (λ g. rest c q cs (ne_eqb c q (let m : c + 1 ≤ q = has_after (c + 1) q ds later g in omega arith)) (h q ∙ or_right (eqb d q) (has ds q) g)))))
+  where
+    -- the first of the one is not above that of the other
+    from_first : (cs : List ℕ) (c d : ℕ) (ds : List ℕ) → Ascends low (c ∷ cs) → Ascends low (d ∷ ds) → ((q : ℕ) → has (c ∷ cs) q ≡ has (d ∷ ds) q) → d ≤ c
+    from_first cs c d ds a b h = has_after d c (d ∷ ds) (omega arith, b.1) (sym (h c) ∙ or_left (eqb c c) (has cs c) (eq-eqb c c refl))
+
+    rest : (c q : ℕ) (cs : List ℕ) → eqb c q ≡ false → has (c ∷ cs) q ≡ true → has cs q ≡ true
+    rest c q cs e h = rw e at h
+
 -- ---- what flags keep
 pub kept_nil : {X : Type 0} (us : List Bool) → kept {X = X} us [] ≡ []
 kept_nil [] = refl

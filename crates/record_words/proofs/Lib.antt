@@ -1,5 +1,6 @@
 -- The lemmas of the crate.
 pub mod Bytes
+pub mod Closed
 pub mod Dropping
 pub mod Entries
 pub mod Fixing

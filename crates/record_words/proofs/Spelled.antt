@@ -12,7 +12,7 @@ use Rattle.compound_node.specs.Nodes.{NodeView, HeadView, IsHead, IsLawfulNode, 
 use Rattle.compound_node.proofs.Lawful.{same_count}
 use Rattle.record_words.specs.Node.{HasHeadWords, HasNodeWords, head_words, node_words}
 use Rattle.record_words.specs.Leaf.{HasLeafWords, leaf_words}
-use Rattle.record_words.specs.Reading.{IsSpelledBy}
+use Rattle.record_words.specs.Reading.{IsSpelledBy, IsSpelling}
 use Rattle.record_words.proofs.Fixing.{AreFixed, fixed_words_parts}
 use Rattle.record_words.proofs.Heads.{head_used, is_head}
 use Rattle.record_words.proofs.Lawful.{column-lt, get_or-padded, length-with_unused, row-lt}
@@ -34,6 +34,17 @@ length-with_free columns few = length-append columns _ ∙ omega (arith, length-
 
 pub columns_in_front : (columns places : List ℕ) (count : ℕ) → places ≡ with_free columns → count ≡ length columns → take count places ≡ columns
 columns_in_front columns places count same counted = rw (same, counted) (take_at columns _ (length columns) refl)
+
+-- some node whose head has the words
+module _ (words : List ℕ) (given : IsSpelling HasHeadWords head_words words) where
+  abbrev pub its : NodeView
+  its = given.1.0
+
+  pub lawful_its : IsLawfulNode its
+  lawful_its = given.1.1
+
+  pub same_its : head_words (head_of its) ≡ words
+  same_its = ap head_words given.1.2 ∙ given.2
 
 -- a node whose head has these words
 module _ (node : NodeView) (lawful : IsLawfulNode node) (words : List ℕ) (same : head_words (head_of node) ≡ words) where

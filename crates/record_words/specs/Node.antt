@@ -4,6 +4,7 @@ use Rattle.std.specs.Prelude.{ℕ, ◌≡◌, ◌<◌, ◌≤◌, ◌++◌, Bool
 use Rattle.compound_node.specs.declared.entries.Entry.{Entry}
 use Rattle.compound_node.specs.Forking.{forked_head}
 use Rattle.compound_node.specs.Nodes.{NodeView, HeadView, IsBuiltFrom, IsEntry, IsLawfulNode, StandsBelow, head_of, piece}
+use Rattle.pieces.specs.Changes.{beside}
 use Rattle.pieces.specs.Growth.{IsAffected}
 use Rattle.pieces.specs.Piece.{Piece, Place}
 use Rattle.record_words.specs.Entry.{HasEntryWord, entry_word}
@@ -69,6 +70,15 @@ pub record SpellEntries (height : ℕ) (words : List ℕ) (entries : List Entry)
   pub spells : map (λ entry. entry_word (Some entry)) entries ≡ words
   pub each : All (λ entry. HasEntryWord (Some entry)) entries
   pub stand : All (StandsBelow height) entries
+
+-- The words are those of this node, in which the place is the one beside `at`, and the entry can stand
+pub record CanCloseAt (words : List ℕ) (node : NodeView) (at place : ℕ) (entry : Entry) : Type 0 where
+  pub has : HasNodeWords node
+  pub spells : node_words node ≡ words
+  pub in_range : at < length node.entries
+  pub position : ℕ
+  pub is_beside : beside at (piece node) ≡ Some (place, position)
+  pub stands : StandsBelow node.height entry
 
 -- what is left of a node: the one entry, or a node that was built anew and that the words spell
 abbrev pub SpellLeft : List ℕ → Option Entry → Piece Entry → Type 0

@@ -37,7 +37,7 @@ pub fn affected_in(words: &[u64], found: u8, position: u16) -> (u8, u8)
 
 /// The sparse partial key at a place, used or unused.
 #[inline(always)]
-fn row_in(words: &[u64], at: u8) -> u32
+pub(crate) fn row_in(words: &[u64], at: u8) -> u32
     requires { (length words.now ≡ HEAD_WORDS) × (at < 32) }
     ensures { InNodesOf words.now (λ node. result ≡ row_at node.rows at) }
 {

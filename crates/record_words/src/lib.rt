@@ -2,6 +2,7 @@
 #![tactic(auto)]
 
 mod affected;
+mod beside;
 mod entry;
 mod fixed;
 mod layout;
@@ -13,11 +14,12 @@ mod state;
 mod stock;
 
 pub use affected::affected_in;
+pub use beside::beside_in;
 pub use entry::{pack_entry, read_entry, read_some};
 use key_bits::MAX_BYTES;
 pub use layout::{Layout, LayoutFault, LeafClass, Location, Stock};
 pub use leaf::{key_word_at, key_words, pack_leaf, words_for, write_word};
-pub use node::{add_leaf, can_take_leaf, drop_entry, pack_node, read_node};
+pub use node::{add_leaf, can_take_leaf, close_fork, drop_entry, pack_node, read_node};
 pub use origins::Origins;
 pub use search::{dense_in, search_in};
 pub use state::{Tag, pack_state, unpack_state};

@@ -3,10 +3,10 @@
 ghost use Rattle.std.specs.Prelude.{ℕ, ◌≡◌, ◌↔◌, ◌+◌, ◌<◌, ◌≤◌, ◌/◌, ◌%◌, ◌++◌, ◌⊎◌, IsTrue, List, drop, length, slice_get, slice_index};
 ghost use Rattle.compound_node.specs.Nodes.{NodeView, greatest_height, piece};
 ghost use Rattle.compound_node.specs.declared.entries.Entry.TheVariants.{Leaf as LeafEntry};
-ghost use Rattle.pieces.specs.Changes.{without};
+ghost use Rattle.pieces.specs.Changes.{collapsed, without};
 ghost use Rattle.pieces.specs.Growth.{grown};
 ghost use Rattle.record_words.specs.Entry.{HasEntryWord, entry_word};
-ghost use Rattle.record_words.specs.Node.{CanTakeLeaf, HasHeadWords, HasNodeWords, CanGrowAt, HasFork, SpellBuilt, SpellEntries, SpellLeft, head_words, node_words};
+ghost use Rattle.record_words.specs.Node.{CanCloseAt, CanTakeLeaf, HasHeadWords, HasNodeWords, CanGrowAt, HasFork, SpellBuilt, SpellEntries, SpellLeft, head_words, node_words};
 ghost use Rattle.record_words.specs.Packed.{fixed_words, row_word};
 ghost use Rattle.record_words.specs.Reading.{IsSpelledBy, IsSpelling};
 
@@ -156,6 +156,16 @@ pub fn drop_entry(words: &mut [u64; NODE_FIELDS], at: u8) -> Option<Entry>
         head.places(),
     );
     None
+}
+
+/// Makes the words those of the node with one entry in place of two, those at a place and at the one beside it, and of the fork between
+/// the two. If the node has no others, the entry is returned.
+pub fn close_fork(words: &mut [u64; NODE_FIELDS], at: u8, place: u8, entry: Entry) -> Option<Entry>
+    requires { (node : NodeView) × CanCloseAt words.old node at place entry }
+    ensures { (node : NodeView) → CanCloseAt words.old node at place entry → SpellLeft words.new result (collapsed at entry (piece node)) }
+{
+    words[HEAD_WORDS + place as usize] = pack_entry(Some(entry));
+    drop_entry(words, at)
 }
 
 /// The height of a new node over the entries with these words, all of which stood in a node of this height.

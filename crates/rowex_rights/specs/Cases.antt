@@ -1,5 +1,5 @@
 -- Each case of an insertion, an upsert and a removal: from what a pass knows to its publish, and to what it knows then.
-use Rattle.std.specs.Prelude.{◌≡◌, ◌≢◌, ℕ, List, [], ◌∷◌, Some, None}
+use Rattle.std.specs.Prelude.{◌≡◌, ◌≢◌, ◌++◌, ℕ, List, [], ◌∷◌, Some, None}
 use Rattle.compound_node.specs.Nodes.{NodeView, piece}
 use Rattle.compound_node.specs.declared.entries.Entry.{Entry}
 use Rattle.compound_node.specs.declared.entries.Entry.TheVariants.{Leaf, Node}
@@ -8,7 +8,7 @@ use Rattle.record_words.specs.declared.layout.Layout.{Layout}
 use Rattle.record_words.specs.Entry.{HasEntryWord, entry_word}
 use Rattle.tries.specs.Keys.{Key, bit, AgreeBelow}
 use Rattle.tries.specs.Search.{seek}
-use Rattle.tries.specs.Place.{subtrie_without}
+use Rattle.tries.specs.Place.{subtrie_collapsed, subtrie_without}
 use Rattle.tries.specs.Content.{Item, item}
 use Rattle.tries.specs.Affected.{subtrie_forked}
 use Rattle.versions.specs.declared.Rec.TheVariants.{Node as a_node, Leaf as a_leaf}
@@ -21,7 +21,7 @@ use Rattle.rowex_core.specs.declared.known.Locked.{Locked}
 use Rattle.rowex_core.specs.Reading.{node_words_of}
 use Rattle.rowex_table.specs.Made.{Made}
 use Rattle.rowex_table.specs.Publishes.{Publishes}
-use Rattle.rowex_rights.specs.Stages.{HasReady, IsLeafThere, SpellsLeaf}
+use Rattle.rowex_rights.specs.Stages.{AreBeside, HasReady, IsLeafThere, SpellsLeaf, merged}
 use Rattle.rowex_rights.specs.Spots.{HoldsAt, FitsAt, AffectsSpotAlone}
 use Rattle.rowex_rights.specs.Rises.{made_of_node, made_of_leaf, IsBuiltAnew, IsSide}
 
@@ -60,6 +60,16 @@ MayRemove =
     HasReady k held news → IsSide (subtrie_without key (node_words_of words).subtrie) e news → IsOneOf (record { node = n; words = words }) held →
     seek key (node_words_of words).subtrie ≡ Leaf j → (s : HoldsAt k held key (Node n height) at) → FitsAt s e → IsLeafThere layout k held news j key value → IsWord e w →
     Publishes layout k at w (removed_change k.pass (item j key value)) (Some value) (a_node n ∷ a_leaf j ∷ [])
+
+-- And one that merges: what is left of the node and the node beside it become one new node z, whose entry closes the fork between them in
+-- the node o above. What is left of that, one entry or a new node, takes its place.
+abbrev pub MayMerge : Type 0
+MayMerge =
+    (layout : Layout) (k : Known) (held : List Locked) (us : List Made) (key : Key) (o n m j z height w value : ℕ) (view : NodeView) (e : Entry) (at : Spot) →
+    HasReady k held (us ++ made_of_node z view ∷ []) → (b : AreBeside held key o n m j) → IsBuiltAnew view → piece view ≡ merged b →
+    IsSide (subtrie_collapsed key (Node z view.height) (node_words_of b.upper).subtrie) e us →
+    (s : HoldsAt k held key (Node o height) at) → FitsAt s e → IsLeafThere layout k held (us ++ made_of_node z view ∷ []) j key value → IsWord e w →
+    Publishes layout k at w (removed_change k.pass (item j key value)) (Some value) (a_node o ∷ a_node n ∷ a_node m ∷ a_leaf j ∷ [])
 
 -- And of the last key.
 abbrev pub MayRemoveLast : Type 0

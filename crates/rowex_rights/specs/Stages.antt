@@ -1,11 +1,13 @@
 -- What a writer has before its publish, by lists of its locks and of the records that it makes.
-use Rattle.std.specs.Prelude.{◌≡◌, ℕ, List, map}
-use Rattle.compound_node.specs.declared.entries.Entry.TheVariants.{Node}
+use Rattle.std.specs.Prelude.{◌≡◌, ℕ, List, Some, map}
+use Rattle.compound_node.specs.declared.entries.Entry.TheVariants.{Leaf, Node}
+use Rattle.pieces.specs.Piece.{Place}
 use Rattle.record_words.specs.declared.layout.Layout.{Layout}
 use Rattle.record_words.specs.Leaf.{HasLeafWords, leaf_words, up_to_key}
-use Rattle.tries.specs.Keys.{Key}
+use Rattle.tries.specs.Keys.{Key, bit}
 use Rattle.tries.specs.Tree.{Subtrie}
 use Rattle.tries.specs.Search.{seek}
+use Rattle.tries.specs.Place.{fork_of, subtrie_sibling, subtrie_without}
 use Rattle.tries.specs.Content.{Item}
 use Rattle.versions.specs.declared.Rec.{Rec}
 use Rattle.versions.specs.declared.Rec.TheVariants.{Leaf as a_leaf}
@@ -64,6 +66,26 @@ pub record IsLockedAbove (held : List Locked) (key : Key) (p o n : ℕ) : Type 0
   pub height : ℕ
   pub entry : seek key (node_words_of upper).subtrie ≡ Node n height
   pub path : AffectsOne p key (node_words_of upper).subtrie (node_words_of lower).subtrie
+
+-- By their words, the locked node n's entry on the key's way names leaf j, the locked node o's names node n, and the last fork on the
+-- key's way in o has on its other side just the entry of the locked node m.
+pub record AreBeside (held : List Locked) (key : Key) (o n m j : ℕ) : Type 0 where
+  pub upper : List ℕ
+  pub lower : List ℕ
+  pub other : List ℕ
+  pub has_upper : IsOneOf (record { node = o; words = upper }) held
+  pub has_lower : IsOneOf (record { node = n; words = lower }) held
+  pub has_other : IsOneOf (record { node = m; words = other }) held
+  pub leaf : seek key (node_words_of lower).subtrie ≡ Leaf j
+  pub height : ℕ
+  pub entry : seek key (node_words_of upper).subtrie ≡ Node n height
+  pub position : ℕ
+  pub other_height : ℕ
+  pub sibling : subtrie_sibling key (node_words_of upper).subtrie ≡ Some (position, Place (Node m other_height))
+
+-- what is left of node n without the leaf, and all of node m, with the fork between the two on top
+abbrev pub merged : {held : List Locked} {key : Key} {o n m j : ℕ} → AreBeside held key o n m j → Subtrie
+merged {key = key} b = fork_of (bit key b.position) b.position (subtrie_without key (node_words_of b.lower).subtrie) (node_words_of b.other).subtrie
 
 -- In each stage leaf j has this key, and this value.
 abbrev pub IsLeafThere : Layout → Known → List Locked → List Made → ℕ → Key → ℕ → Type 0

@@ -7,7 +7,7 @@ use Rattle.pieces.specs.Piece.{Place, Fork}
 use Rattle.tries.specs.Tree.{Fixed, Subtrie, IsFit}
 use Rattle.tries.specs.Search.{seek}
 use Rattle.tries.specs.Content.{Item}
-use Rattle.tries.specs.Place.{with_subtrie}
+use Rattle.tries.specs.Place.{fork_of, subtrie_sibling, subtrie_without, with_subtrie}
 use Rattle.tries.specs.Affected.{subtrie_affected, subtrie_forked, subtrie_grown, IsPartSubtrie, IsLowerSubtrie, IsTipSubtrie}
 use Rattle.versions.specs.State.{FirstForkIsFrom}
 use Rattle.versions.specs.declared.Rec.{Rec}
@@ -89,3 +89,18 @@ pub record IsLeafOf (c : BareCore) (q : ℕ) (k : Key) (n j : ℕ) : Type 0 wher
   pub lock : c.lock n ≡ Some q
   pub entry : seek k (c.heap.nodes n).subtrie ≡ Leaf j
   pub key : (c.heap.leaves j).key ≡ k
+
+-- A locked node's entry on the key's way names node `n`, and the last fork on that way has on its other side just the entry of node `m`,
+-- which is locked, too.
+pub record IsBesideNode (c : BareCore) (q : ℕ) (k : Key) (o n m : ℕ) : Type 0 where
+  pub locked : c.lock o ≡ Some q
+  pub height : ℕ
+  pub entry : seek k (c.heap.nodes o).subtrie ≡ Node n height
+  pub position : ℕ
+  pub other_height : ℕ
+  pub sibling : subtrie_sibling k (c.heap.nodes o).subtrie ≡ Some (position, Place (Node m other_height))
+  pub locked_too : c.lock m ≡ Some q
+
+-- What is left of node `n` without the key's leaf, and all of node `m`, with the fork between the two on top.
+abbrev pub subtrie_merged : (c : BareCore) (q : ℕ) (k : Key) (o n m : ℕ) → IsBesideNode c q k o n m → Subtrie
+subtrie_merged c q k o n m b = fork_of (bit k b.position) b.position (subtrie_without k (c.heap.nodes n).subtrie) (c.heap.nodes m).subtrie

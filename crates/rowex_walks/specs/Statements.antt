@@ -11,20 +11,20 @@ use Rattle.pieces.specs.Piece.{Place, size}
 use Rattle.tries.specs.Keys.{Key, bit, AgreeBelow}
 use Rattle.tries.specs.Tree.{Fixed, Tree, Subtrie}
 use Rattle.tries.specs.Content.{Item, item}
-use Rattle.tries.specs.Place.{subtrie_without, spot, entry_at, shape}
+use Rattle.tries.specs.Place.{subtrie_collapsed, subtrie_without, spot, entry_at, shape}
 use Rattle.tries.specs.Affected.{subtrie_forked, FirstForkIsBefore}
 use Rattle.versions.specs.Heap.{Heap}
 use Rattle.versions.specs.State.{State, Past, IsLawfulState, IsReach, IsSteady, IsLed, WasAbsentSince, IsHeldSince}
 use Rattle.versions.specs.declared.Rec.{Rec}
 use Rattle.versions.specs.declared.Rec.TheVariants.{Node as a_node, Leaf as a_leaf}
-use Rattle.versions.specs.Trades.{HasTraded}
+use Rattle.versions.specs.Trades.{AreApart, HasTraded}
 use Rattle.versions.specs.Core.{BareCore, view}
 use Rattle.versions.specs.declared.Pin.{Pin}
 use Rattle.versions.specs.Told.{TellChanges, items_of}
 use Rattle.versions.specs.Steps.{IsVersionPublish}
 use Rattle.rowex_walks.specs.Writer.{added_change, replaced_change, removed_change, IsFoundBelow, IsNewLeaf}
 use Rattle.rowex_walks.specs.Spots.{HoldsSpot, IsLowAt, AffectsSpotAloneInCore, IsStoredAt}
-use Rattle.rowex_walks.specs.Rise.{IsNewSubtrie, IsEntryFor, IsUpper, IsLeafOf, entry, IsRise, linked_for_entry, linked_by_rise, unlinked_by_rise}
+use Rattle.rowex_walks.specs.Rise.{IsNewSubtrie, IsEntryFor, IsUpper, IsLeafOf, IsBesideNode, subtrie_merged, entry, IsRise, linked_for_entry, linked_by_rise, unlinked_by_rise}
 use Rattle.rowex_walks.specs.Scan.{Pair, Range, IsComplete, IsCut, in_order_taken, IsRooted, IsPlaced, IsShaped, IsRead, EntryStoodSince}
 use Rattle.rowex_walks.specs.Reverse.{IsDownComplete, IsDownCut}
 use Rattle.compound_node.specs.Nodes.{height_of}
@@ -80,6 +80,17 @@ RemoveAtSpot =
     (i : IsEntryFor c q (subtrie_without k (c.heap.nodes n).subtrie) e) → (s : HoldsSpot c q k (Node n h)) → IsLowAt s e →
     (heap : Heap) (root : Option Entry) → IsStoredAt s heap root e →
     IsPublished c q heap root (removed_change q (item j k (c.heap.leaves j).value)) (linked_for_entry i) (a_node n ∷ a_leaf j ∷ [])
+
+-- Removal that merges: what is left of the leaf's node and the node beside it become one new node, whose entry closes the fork between
+-- them in the node above. What is left of that, one entry or a new node, takes its place.
+abbrev pub MergeAtSpot : Type 0
+MergeAtSpot =
+    (c : BareCore) (q : ℕ) → IsLawfulState (view c) → (k : Key) (n j : ℕ) → IsLeafOf c q k n j → (o m : ℕ) (b : IsBesideNode c q k o n m) →
+    (z : ℕ) (g : Fixed) → IsNewSubtrie c q z g (subtrie_merged c q k o n m b) →
+    (h : ℕ) (e : Entry) (i : IsEntryFor c q (subtrie_collapsed k (Node z g.height) (c.heap.nodes o).subtrie) e) → AreApart (linked_for_entry i ++ a_node z ∷ []) →
+    (s : HoldsSpot c q k (Node o h)) → IsLowAt s e → (heap : Heap) (root : Option Entry) → IsStoredAt s heap root e →
+    IsPublished c q heap root (removed_change q (item j k (c.heap.leaves j).value)) (linked_for_entry i ++ a_node z ∷ [])
+    (a_node o ∷ a_node n ∷ a_node m ∷ a_leaf j ∷ [])
 
 -- Removal of the last key.
 abbrev pub RemoveLast : Type 0

@@ -1,15 +1,17 @@
 -- The place to which a key's search leads, in a tree and in a subtrie.
-use Rattle.std.proofs.Common.{◌≡◌, ℕ, ◌+◌, ◌-◌, ◌<◌, Bool, true, false, refl, ap, sym, ◌∙◌, subst, arith, if◌then◌else◌, ltb, cond, MatchBool}
+use Rattle.std.proofs.Common.{◌≡◌, ℕ, ◌+◌, ◌-◌, ◌<◌, Bool, true, false, Option, None, Some, refl, ap, sym, ◌∙◌, subst, arith, if◌then◌else◌, ltb, cond, MatchBool}
 use Rattle.std.proofs.lemmas.Bool.{cond-true, cond-false, lt-ltb, le-ltb, ltb-true}
+use Rattle.pieces.proofs.Tests.{same_bools}
 use Rattle.compound_node.specs.declared.entries.Entry.{Entry}
-use Rattle.pieces.specs.Changes.{is_place, without}
+use Rattle.pieces.proofs.Beside.{found, same_place, unmoved}
+use Rattle.pieces.specs.Changes.{beside, collapsed, is_place, moved_by, sibling, without}
 use Rattle.pieces.specs.Grafts.{grafted, IsAbovePath}
 use Rattle.pieces.specs.Piece.{Place, Fork, size}
 use Rattle.tries.specs.Keys.{Key, bit}
 use Rattle.tries.specs.Tree.{Subtrie, Tree, leaf, node, fork, subtrie, IsTip, Within, here, zero_side, one_side}
 use Rattle.tries.specs.Search.{child}
 use Rattle.tries.proofs.Changes.{put, IsPathBelow, IsInOwnSubtrie}
-use Rattle.tries.specs.Place.{spot, with_entry, with_subtrie, joined, subtrie_without}
+use Rattle.tries.specs.Place.{fork_closed, side_beside, spot, subtrie_collapsed, subtrie_sibling, with_entry, with_subtrie, joined, subtrie_without}
 use Rattle.tries.specs.Affected.{affected}
 use Rattle.tries.proofs.Places.{spot_below}
 
@@ -74,6 +76,93 @@ without_spot k (Fork q x y) = go (bit k q) (without_spot k x) (without_spot k y)
         without (if u then size x + spot k y else spot k x) (Fork q x y) ≡ joined q u x y (if u then subtrie_without k y else subtrie_without k x)
     go true f g = without_high q x y (spot k y) ∙ (ap (λ z. cond (is_place y) x (Fork q x z)) g ∙ joined_one q x y (subtrie_without k y))
     go false f g = without_low q x y (spot k x) (spot_below k x) ∙ (ap (λ z. cond (is_place x) y (Fork q z y)) f ∙ joined_zero q x y (subtrie_without k x))
+
+sibling_low : (q : ℕ) (x y : Subtrie) (i : ℕ) → i < size x → sibling i (Fork q x y) ≡ cond (is_place x) (Some (q, y)) (sibling i x)
+sibling_low q x y i h = cond-true (ltb i (size x)) _ _ (lt-ltb i (size x) h)
+
+sibling_high : (q : ℕ) (x y : Subtrie) (i : ℕ) → sibling (size x + i) (Fork q x y) ≡ cond (is_place y) (Some (q, x)) (sibling i y)
+sibling_high q x y i =
+    let d : size x + i - size x ≡ i = omega arith in
+    cond-false (ltb (size x + i) (size x)) _ _ (le-ltb (size x + i) (size x) (omega arith)) ∙ ap (λ j. cond (is_place y) (Some (q, x)) (sibling j y)) d
+
+beside_zero : (q : ℕ) (x y : Subtrie) (r : Option (ℕ × Subtrie)) → cond (is_place x) (Some (q, y)) r ≡ side_beside q false x y r
+beside_zero q (Place e) y r = refl
+beside_zero q (Fork p a b) y r = refl
+
+beside_one : (q : ℕ) (x y : Subtrie) (r : Option (ℕ × Subtrie)) → cond (is_place y) (Some (q, x)) r ≡ side_beside q true x y r
+beside_one q x (Place e) r = refl
+beside_one q x (Fork p a b) r = refl
+
+-- The other side of the last fork on the way to it.
+pub sibling_spot : (k : Key) (x : Subtrie) → sibling (spot k x) x ≡ subtrie_sibling k x
+sibling_spot k (Place e) = refl
+sibling_spot k (Fork q x y) = go (bit k q) (sibling_spot k x) (sibling_spot k y)
+  where
+    go : (u : Bool) → sibling (spot k x) x ≡ subtrie_sibling k x → sibling (spot k y) y ≡ subtrie_sibling k y →
+        sibling (if u then size x + spot k y else spot k x) (Fork q x y) ≡ side_beside q u x y (if u then subtrie_sibling k y else subtrie_sibling k x)
+    go true f g = sibling_high q x y (spot k y) ∙ (ap (λ z. cond (is_place y) (Some (q, x)) z) g ∙ beside_one q x y (subtrie_sibling k y))
+    go false f g = sibling_low q x y (spot k x) (spot_below k x) ∙ (ap (λ z. cond (is_place x) (Some (q, y)) z) f ∙ beside_zero q x y (subtrie_sibling k x))
+
+collapsed_low : (q : ℕ) (f : Entry) (x y : Subtrie) (i : ℕ) → i < size x → collapsed i f (Fork q x y) ≡ cond (is_place x) (Place f) (Fork q (collapsed i f x) y)
+collapsed_low q f x y i h = cond-true (ltb i (size x)) _ _ (lt-ltb i (size x) h)
+
+collapsed_high : (q : ℕ) (f : Entry) (x y : Subtrie) (i : ℕ) → collapsed (size x + i) f (Fork q x y) ≡ cond (is_place y) (Place f) (Fork q x (collapsed i f y))
+collapsed_high q f x y i =
+    let d : size x + i - size x ≡ i = omega arith in
+    cond-false (ltb (size x + i) (size x)) _ _ (le-ltb (size x + i) (size x) (omega arith)) ∙ ap (λ j. cond (is_place y) (Place f) (Fork q x (collapsed j f y))) d
+
+closed_zero : (q : ℕ) (f : Entry) (x y r : Subtrie) → cond (is_place x) (Place f) (Fork q r y) ≡ fork_closed q false f x y r
+closed_zero q f (Place e) y r = refl
+closed_zero q f (Fork p a b) y r = refl
+
+closed_one : (q : ℕ) (f : Entry) (x y r : Subtrie) → cond (is_place y) (Place f) (Fork q x r) ≡ fork_closed q true f x y r
+closed_one q f x (Place e) r = refl
+closed_one q f x (Fork p a b) r = refl
+
+-- An entry in place of that fork.
+pub collapsed_spot : (k : Key) (f : Entry) (x : Subtrie) → collapsed (spot k x) f x ≡ subtrie_collapsed k f x
+collapsed_spot k f (Place e) = refl
+collapsed_spot k f (Fork q x y) = go (bit k q) (collapsed_spot k f x) (collapsed_spot k f y)
+  where
+    go : (u : Bool) → collapsed (spot k x) f x ≡ subtrie_collapsed k f x → collapsed (spot k y) f y ≡ subtrie_collapsed k f y →
+        collapsed (if u then size x + spot k y else spot k x) f (Fork q x y) ≡ fork_closed q u f x y (if u then subtrie_collapsed k f y else subtrie_collapsed k f x)
+    go true g h = collapsed_high q f x y (spot k y) ∙ (ap (λ z. cond (is_place y) (Place f) (Fork q x z)) h ∙ closed_one q f x y (subtrie_collapsed k f y))
+    go false g h = collapsed_low q f x y (spot k x) (spot_below k x) ∙ (ap (λ z. cond (is_place x) (Place f) (Fork q z y)) g ∙ closed_zero q f x y (subtrie_collapsed k f x))
+
+beside_low : (p : ℕ) (x y : Subtrie) (i : ℕ) → i < size x → beside i (Fork p x y) ≡ cond (is_place x) (cond (is_place y) (Some (1, p)) None) (beside i x)
+beside_low p x y i h = cond-true (ltb i (size x)) _ _ (lt-ltb i (size x) h)
+
+beside_high : (p : ℕ) (x y : Subtrie) (i : ℕ) → beside (size x + i) (Fork p x y) ≡ cond (is_place y) (cond (is_place x) (Some (0, p)) None) (moved_by (size x) (beside i y))
+beside_high p x y i =
+    let d : size x + i - size x ≡ i = omega arith in
+    cond-false (ltb (size x + i) (size x)) _ _ (le-ltb (size x + i) (size x) (omega arith))
+    ∙ ap (λ j. cond (is_place y) (cond (is_place x) (Some (0, p)) None) (moved_by (size x) (beside j y))) d
+
+order_low : (k : Key) (p : ℕ) (x y : Subtrie) (j q : ℕ) → bit k p ≡ false → (beside (spot k x) x ≡ found j q → ltb j (spot k x) ≡ bit k q) →
+    cond (is_place x) (cond (is_place y) (Some (1, p)) None) (beside (spot k x) x) ≡ found j q → ltb j (spot k x) ≡ bit k q
+order_low k p (Place d) (Place e) j q zero f h = let s : (1 ≡ j) × (p ≡ q) = same_place 1 j p q h in rw (← s.0, ← s.1) (sym zero)
+order_low k p (Place d) (Fork r a b) j q zero f h = absurd cc
+order_low k p (Fork o a b) y j q zero f h = f h
+
+order_high : (k : Key) (p : ℕ) (x y : Subtrie) (j q : ℕ) → bit k p ≡ true → ((i : ℕ) → beside (spot k y) y ≡ found i q → ltb i (spot k y) ≡ bit k q) →
+    cond (is_place y) (cond (is_place x) (Some (0, p)) None) (moved_by (size x) (beside (spot k y) y)) ≡ found j q → ltb j (size x + spot k y) ≡ bit k q
+order_high k p (Place d) (Place e) j q one f h = let s : (0 ≡ j) × (p ≡ q) = same_place 0 j p q h in rw (← s.0, ← s.1) (sym one)
+order_high k p (Fork o a b) (Place e) j q one f h = absurd cc
+order_high k p x (Fork r a b) j q one f h =
+    let y : Subtrie = Fork r a b in
+    let u : (i : ℕ) × (beside (spot k y) y ≡ found i q) × (size x + i ≡ j) = unmoved (size x) j q (beside (spot k y) y) h in
+    let g : ltb u.0 (spot k y) ≡ bit k q = f u.0 u.1 in
+    same_bools (ltb j (size x + spot k y)) (ltb u.0 (spot k y)) (λ l. lt-ltb _ _ (omega (arith, u.2, ltb-true j (size x + spot k y) l))) (λ l. lt-ltb _ _ (omega (arith, u.2, ltb-true u.0 (spot k y) l))) ∙ g
+
+-- The one place on that side is before it exactly where the way takes the 1 side of the fork.
+pub beside_order : (k : Key) (x : Subtrie) (j q : ℕ) → beside (spot k x) x ≡ Some (j, q) → ltb j (spot k x) ≡ bit k q
+beside_order k (Place e) j q h = absurd cc
+beside_order k (Fork p x y) j q h = go (bit k p) refl (beside_order k x j q) (λ i. beside_order k y i q) h
+  where
+    go : (u : Bool) → bit k p ≡ u → (beside (spot k x) x ≡ found j q → ltb j (spot k x) ≡ bit k q) → ((i : ℕ) → beside (spot k y) y ≡ found i q → ltb i (spot k y) ≡ bit k q) →
+        beside (if u then size x + spot k y else spot k x) (Fork p x y) ≡ found j q → ltb j (if u then size x + spot k y else spot k x) ≡ bit k q
+    go true e f g h = order_high k p x y j q e g (sym (beside_high p x y (spot k y)) ∙ h)
+    go false e f g h = order_low k p x y j q e f (sym (beside_low p x y (spot k x) (spot_below k x)) ∙ h)
 
 -- The place: in the record's own subtrie, what a tree put there makes of the subtrie, and that it is below forks before `p`
 -- alone where it alone is affected.

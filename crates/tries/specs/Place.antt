@@ -1,5 +1,5 @@
 -- The places of a subtrie, by number.
-use Rattle.std.specs.Prelude.{ℕ, ◌+◌, ◌-◌, if◌then◌else◌, nat_lt, Bool, true, false}
+use Rattle.std.specs.Prelude.{ℕ, ◌+◌, ◌-◌, if◌then◌else◌, nat_lt, Bool, true, false, Option, None, Some}
 use Rattle.tries.specs.Keys.{Key, bit}
 use Rattle.compound_node.specs.declared.entries.Entry.{Entry}
 use Rattle.compound_node.specs.declared.entries.Entry.TheVariants.{Leaf}
@@ -46,3 +46,30 @@ joined q false (Fork p a b) y r = Fork q r y
 abbrev pub subtrie_without : Key → Subtrie → Subtrie
 subtrie_without k (Place e) = Place e
 subtrie_without k (Fork q x y) = joined q (bit k q) x y (if bit k q then subtrie_without k y else subtrie_without k x)
+
+-- The last fork on a key's way: its position, and the subtrie on its other side, the key's sibling there.
+abbrev pub side_beside : ℕ → Bool → Subtrie → Subtrie → Option (ℕ × Subtrie) → Option (ℕ × Subtrie)
+side_beside q true x (Place e) below = Some (q, x)
+side_beside q true x (Fork p a b) below = below
+side_beside q false (Place e) y below = Some (q, y)
+side_beside q false (Fork p a b) y below = below
+
+abbrev pub subtrie_sibling : Key → Subtrie → Option (ℕ × Subtrie)
+subtrie_sibling k (Place e) = None
+subtrie_sibling k (Fork q x y) = side_beside q (bit k q) x y (if bit k q then subtrie_sibling k y else subtrie_sibling k x)
+
+-- A subtrie with an entry in place of that fork, and of all that is below it.
+abbrev pub fork_closed : ℕ → Bool → Entry → Subtrie → Subtrie → Subtrie → Subtrie
+fork_closed q true f x (Place e) below = Place f
+fork_closed q true f x (Fork p a b) below = Fork q x below
+fork_closed q false f (Place e) y below = Place f
+fork_closed q false f (Fork p a b) y below = Fork q below y
+
+abbrev pub subtrie_collapsed : Key → Entry → Subtrie → Subtrie
+subtrie_collapsed k f (Place e) = Place e
+subtrie_collapsed k f (Fork q x y) = fork_closed q (bit k q) f x y (if bit k q then subtrie_collapsed k f y else subtrie_collapsed k f x)
+
+-- A fork of two subtries, the first on the side of the bit.
+abbrev pub fork_of : Bool → ℕ → Subtrie → Subtrie → Subtrie
+fork_of false q x y = Fork q x y
+fork_of true q x y = Fork q y x

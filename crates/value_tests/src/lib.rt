@@ -4,6 +4,8 @@
 #[cfg(test)]
 mod maps;
 #[cfg(test)]
+mod merges;
+#[cfg(test)]
 mod nodes;
 #[cfg(test)]
 mod replays;

@@ -71,7 +71,7 @@ const GATHERED: [(&[u8], &[u16], u32); 7] = [
 ];
 
 /// A node with columns at these positions: each fork but the first stands on the 1 side of the one before.
-fn comb(rt: &impl Abort, positions: &[u16]) -> Node
+pub fn comb(rt: &impl Abort, positions: &[u16]) -> Node
     requires { length positions.now ≤ 31 }
 {
     let mut sparse = [u32::MAX; 32];
@@ -154,7 +154,7 @@ fn many(rt: &impl Abort, half: Half) -> Node {
 }
 
 /// The node has these positions, rows and leaves.
-fn expect_node(rt: &impl Abort, node: &Node, positions: &[u16], rows: &[u32], leaves: &[u32]) {
+pub fn expect_node(rt: &impl Abort, node: &Node, positions: &[u16], rows: &[u32], leaves: &[u32]) {
     let count = node.count() as usize;
     assert!(rt; node.height() == 1 && node.columns().as_slice() == positions);
     assert!(rt; rows.len() == count && leaves.len() == count);

@@ -11,25 +11,13 @@ use Rattle.compound_node.specs.Nodes.{IsLawfulNode, NodeView, head_of, piece}
 use Rattle.partial_keys.specs.Rows.{with_unused}
 use Rattle.pieces.specs.Growth.{affected_count, affected_first}
 use Rattle.pieces.specs.Positions.{front_below}
-use Rattle.record_words.specs.Node.{HasHeadWords, head_words}
-use Rattle.record_words.specs.Reading.{IsSpelling}
+use Rattle.record_words.specs.Node.{head_words}
 use Rattle.record_words.proofs.Fronts.{affected_by_counts, columns_below, end_some, few_below, rows_in_front}
 use Rattle.record_words.proofs.Lanes.{place_lanes_read}
 use Rattle.record_words.proofs.Lawful.{row-lt}
-use Rattle.record_words.proofs.Spelled.{count_read}
+use Rattle.record_words.proofs.Spelled.{count_read, its, lawful_its, same_its}
 use Rattle.record_words.proofs.affected.affected_in.Goals as goal
 use Rattle.record_words.proofs.affected.affected_in.Goals.{After-min-end}
-
--- a node whose head has the words
-module _ (words : List ℕ) (given : IsSpelling HasHeadWords head_words words) where
-  abbrev its : NodeView
-  its = given.1.0
-
-  lawful_its : IsLawfulNode its
-  lawful_its = given.1.1
-
-  same_its : head_words (head_of its) ≡ words
-  same_its = ap head_words given.1.2 ∙ given.2
 
 -- how many of its columns are below the position
 columns_are : (words places : List ℕ) (position n : ℕ) → position < 2 ^ 16 → n ≡ front_below position places → length places ≡ 32 →

@@ -1,0 +1,30 @@
+-- The four cases.
+use Rattle.std.proofs.Common.{◌+◌, ◌-◌, ◌<◌, ◌≡◌, ◌≤◌, Option, ap₂, arith, length, subst, sym, ℕ, ◌∙◌}
+use Rattle.compound_node.proofs.Neighbours.{told_beside}
+use Rattle.compound_node.specs.Beside.{AreRound, IsBesideIn, column_before}
+use Rattle.compound_node.specs.Nodes.{IsLawfulNode, NodeView}
+use Rattle.pieces.proofs.Beside.{found}
+use Rattle.pieces.proofs.Seams.{beside_by, by_before, by_next, by_several_before, by_several_next}
+use Rattle.compound_node.proofs.rows.place_beside.Goals as goal
+
+-- from what the columns tell
+told_as : (at before own after second : ℕ) (result : Option (ℕ × ℕ)) → beside_by at (column_before before) (column_before own) (column_before after) (column_before second) ≡ result →
+    (node : NodeView) → IsLawfulNode node → at < length node.entries → AreRound node.rows at before own after second → IsBesideIn node at result
+told_as at before own after second result e = λ node lawful l round. subst (IsBesideIn node at) e (told_beside node lawful at before own after second l round)
+
+pub returns-then-after-second : goal.returns-then-after-second
+returns-then-after-second c = told_as c.args.at c.args.before c.args.own c.args.after c.args.second _
+    (by_several_next c.args.at (column_before c.args.before) (column_before c.args.own) (column_before c.args.after) (column_before c.args.second) (omega arith) (omega arith))
+
+pub returns-else-after-second : goal.returns-else-after-second
+returns-else-after-second c = told_as c.args.at c.args.before c.args.own c.args.after c.args.second _
+    (rw (← c.fork_column-after.ensures) (by_next c.args.at (column_before c.args.before) (column_before c.args.own) c.fork_column-after.result (column_before c.args.second) (omega arith) (omega arith)))
+
+pub returns-then-own-before : goal.returns-then-own-before
+returns-then-own-before c = told_as c.args.at c.args.before c.args.own c.args.after c.args.second _
+    (by_several_before c.args.at (column_before c.args.before) (column_before c.args.own) (column_before c.args.after) (column_before c.args.second) (omega arith) (omega arith))
+
+pub returns-else-own-before : goal.returns-else-own-before
+returns-else-own-before c = told_as c.args.at c.args.before c.args.own c.args.after c.args.second _
+    (by_before c.args.at (column_before c.args.before) (column_before c.args.own) (column_before c.args.after) (column_before c.args.second) (omega arith) (omega arith)
+    ∙ ap₂ found (sym c.saturating_sub.ensures) (omega arith))

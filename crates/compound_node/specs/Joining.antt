@@ -1,0 +1,13 @@
+-- What more columns do to the rows of a node.
+use Rattle.std.specs.Prelude.{ℕ, ◌≡◌, ◌||◌, List, take}
+use Rattle.compound_node.specs.declared.entries.Entry.{Entry}
+use Rattle.partial_keys.specs.Columns.{IsColumns}
+use Rattle.partial_keys.specs.Shows.{Covers}
+use Rattle.pieces.specs.Piece.{Piece}
+use Rattle.pieces.specs.Positions.{has}
+
+-- the new columns are the old ones and these positions, and the first `count` rows show what they showed before
+pub record IsWidened (count : ℕ) (further old old_rows new new_rows : List ℕ) : Type 0 where
+  pub columns : (q : ℕ) → has new q ≡ (has old q || has further q)
+  pub positions : IsColumns old → IsColumns new
+  pub rows : (entries : List Entry) (shown : Piece Entry) → Covers old (take count old_rows) entries shown → Covers new (take count new_rows) entries shown

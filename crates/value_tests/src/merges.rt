@@ -1,0 +1,111 @@
+//! Nodes that become one, by value: the place beside one, and two nodes under a fork.
+
+use crate::nodes::{comb, expect_node, three};
+use compound_node::{Entry, Node};
+use std::process::Abort;
+
+/// A node of two entries below a third one at position 4: the two part at position 6, and the third is the last or the first.
+fn upper(rt: &impl Abort, rows: [u32; 3]) -> Node {
+    let mut sparse = [u32::MAX; 32];
+    for i in 0..3 {
+        sparse[i] = rows[i];
+    }
+    let entries = [child(10), child(11), Entry::Leaf(12)];
+    match Node::from_parts(2, &[4, 6], &sparse, &entries) {
+        Some(node) => node,
+        None => panic!(rt; "no node"),
+    }
+}
+
+/// An entry for a node of height 1.
+fn child(number: u32) -> Entry {
+    Entry::Node { number, height: 1 }
+}
+
+/// These stand beside the node's places.
+fn expect_beside(rt: &impl Abort, node: &Node, want: &[Option<(u8, u16)>]) {
+    assert!(rt; want.len() == node.count() as usize);
+    for i in 0..node.count() {
+        assert!(rt; node.beside(i) == want[i as usize], "{i}");
+    }
+}
+
+#[test]
+fn places_are_beside_others(rt: HostRuntime) {
+    let last = upper(&rt, [0, 0x4000_0000, 0x8000_0000]);
+    expect_beside(&rt, &last, &[Some((1, 6)), Some((0, 6)), None]);
+    let first = upper(&rt, [0, 0x8000_0000, 0xc000_0000]);
+    expect_beside(&rt, &first, &[None, Some((2, 6)), Some((1, 6))]);
+    let two = Node::pair(7, Entry::Leaf(0), Entry::Leaf(1));
+    expect_beside(&rt, &two, &[Some((1, 7)), Some((0, 7))]);
+    let mut want = [None; 32];
+    want[30] = Some((31, 30));
+    want[31] = Some((30, 30));
+    expect_beside(&rt, &comb(&rt, &POSITIONS), &want);
+}
+
+/// 31 positions.
+const POSITIONS: [u16; 31] = [
+    0, 1, 2, 3, 4, 5, 6, 7, 8, 9, 10, 11, 12, 13, 14, 15, 16, 17, 18, 19, 20, 21, 22, 23, 24, 25,
+    26, 27, 28, 29, 30,
+];
+
+/// The node of two, which have room in it and fork later than at the position.
+fn joined(rt: &impl Abort, position: u16, zero: &Node, one: &Node) -> Node {
+    assert!(rt; zero.count() + one.count() <= 32);
+    assert!(rt; position < zero.first_position() && position < one.first_position());
+    Node::join(position, zero, one)
+}
+
+#[test]
+fn two_nodes_become_one(rt: HostRuntime) {
+    let two = Node::pair(7, Entry::Leaf(3), Entry::Leaf(4));
+    let rows = [0, 0x4000_0000, 0x8000_0000, 0xc000_0000];
+    expect_node(
+        &rt,
+        &joined(&rt, 6, &two, &two),
+        &[6, 7],
+        &rows,
+        &[3, 4, 3, 4],
+    );
+    let later = Node::pair(8, Entry::Leaf(3), Entry::Leaf(4));
+    let rows = [0, 0x4000_0000, 0x6000_0000, 0x8000_0000, 0xa000_0000];
+    expect_node(
+        &rt,
+        &joined(&rt, 6, &three(), &later),
+        &[6, 7, 8],
+        &rows,
+        &[0, 1, 2, 3, 4],
+    );
+    let rows = [0, 0x2000_0000, 0x8000_0000, 0xc000_0000, 0xe000_0000];
+    expect_node(
+        &rt,
+        &joined(&rt, 6, &later, &three()),
+        &[6, 7, 8],
+        &rows,
+        &[3, 4, 0, 1, 2],
+    );
+}
+
+/// Odd and even positions.
+const ODD: [u16; 15] = [1, 3, 5, 7, 9, 11, 13, 15, 17, 19, 21, 23, 25, 27, 29];
+
+const EVEN: [u16; 15] = [2, 4, 6, 8, 10, 12, 14, 16, 18, 20, 22, 24, 26, 28, 30];
+
+#[test]
+fn two_nodes_become_a_full_one(rt: HostRuntime) {
+    let node = joined(&rt, 0, &comb(&rt, &ODD), &comb(&rt, &EVEN));
+    assert!(rt; node.count() == 32 && node.columns().as_slice() == POSITIONS.as_slice());
+    for (at, row) in [
+        (0, 0),
+        (1, 0x4000_0000),
+        (2, 0x5000_0000),
+        (15, 0x5555_5554),
+        (16, 0x8000_0000),
+        (17, 0xa000_0000),
+        (18, 0xa800_0000),
+        (31, 0xaaaa_aaaa),
+    ] {
+        assert!(rt; node.sparse(at) == row, "{at}");
+    }
+}
