@@ -1,14 +1,14 @@
 -- What a writer has in words makes its publish legal: removals that merge.
-use Rattle.std.proofs.Common.{◌≡◌, inl, inr, ℕ, List, [], ◌∷◌, ◌++◌, Bool, true, false, refl, ap, ap₂, sym, ◌∙◌, subst, Some, None, Option, ◌⊎◌, if◌then◌else◌}
+use Rattle.std.proofs.Common.{◌≡◌, inl, inr, ℕ, List, [], ◌∷◌, ◌++◌, Bool, true, false, refl, ap, ap₂, sym, ◌∙◌, subst, Some, ◌⊎◌}
 use Rattle.tries.specs.Keys.{Key, bit}
 use Rattle.compound_node.specs.declared.entries.Entry.{Entry}
 use Rattle.compound_node.specs.declared.entries.Entry.TheVariants.{Node}
-use Rattle.pieces.specs.Piece.{Place, Fork}
+use Rattle.pieces.specs.Piece.{Place}
 use Rattle.tries.specs.Tree.{Fixed, Tree, leaf, node, fork, subtrie, IsTrie, IsBuilt, Subtrie, Within, here, inside, zero_side, one_side}
 use Rattle.tries.specs.Search.{child}
 use Rattle.tries.proofs.Changes.{put, IsInOwnSubtrie, IsRemoved}
 use Rattle.tries.specs.Content.{Item, item}
-use Rattle.tries.specs.Place.{fork_of, side_beside, subtrie_collapsed, subtrie_sibling, subtrie_without}
+use Rattle.tries.specs.Place.{fork_of, subtrie_collapsed, subtrie_without}
 use Rattle.versions.specs.Heap.{NodeWords, Heap, IsShown}
 use Rattle.versions.specs.State.{IsLawfulState, Links}
 use Rattle.versions.specs.Core.{BareCore, Ready, view}
@@ -25,89 +25,12 @@ use Rattle.rowex_walks.proofs.Now.{built_now, shown_now, trie_now}
 use Rattle.rowex_walks.proofs.AtHand.{IsAtHand, IsNewNode}
 use Rattle.rowex_walks.proofs.Hands.{hand_around, hand_open, hand_put}
 use Rattle.rowex_walks.proofs.Removal.{removed_in_whole, removed_open}
-use Rattle.rowex_walks.proofs.Standing.{entry_leaf, entry_node}
+use Rattle.rowex_walks.proofs.Standing.{entry_leaf}
 use Rattle.rowex_walks.proofs.Trading.{IsTrade, IsTraded, old_now, not_beside, traded_in_whole, traded_around, traded_open}
 use Rattle.rowex_walks.proofs.Rising.{new_node}
-use Rattle.rowex_walks.proofs.Scans.{node_of}
 use Rattle.rowex_walks.proofs.Holding.{newest_tree_if_spot_held, node_at, published_at}
-use Rattle.rowex_walks.proofs.Taking.{without}
-
--- The last fork on a key's way
-
--- a fork of two trees, the first on the side of the bit
-abbrev pub fork_on : Bool → ℕ → Tree → Tree → Tree
-fork_on false p x y = fork p x y
-fork_on true p x y = fork p y x
-
-pub shows_both : (u : Bool) (p : ℕ) (x y : Tree) → subtrie (fork_on u p x y) ≡ fork_of u p (subtrie x) (subtrie y)
-shows_both false p x y = refl
-shows_both true p x y = refl
-
--- A body has this fork, which the key's way passes last: with one record in its place, what the body has at its places is closed there.
-pub record HasLastFork (k : Key) (b : Tree) (u : Bool) (p : ℕ) (x y : Tree) : Type 0 where
-  pub place : Within (fork_on u p x y) b
-  pub own : IsInOwnSubtrie place
-  pub closed : (f : Entry) (r : Tree) → subtrie r ≡ Place f → subtrie (put place r) ≡ subtrie_collapsed k f (subtrie b)
-
-last_as : (k : Key) (b : Tree) {u w : Bool} {p q : ℕ} {x z : Tree} (y : Tree) → u ≡ w → p ≡ q → x ≡ z → HasLastFork k b u p x y → HasLastFork k b w q z y
-last_as k b {u} {w} {p} {q} {x} {z} y f g h l =
-    subst (λ u. HasLastFork k b u q z y) f (subst (λ p. HasLastFork k b u p z y) g (subst (λ x. HasLastFork k b u p x y) h l))
-
-some_same : {X : Type 0} {a b : X} → Some a ≡ Some b → a ≡ b
-some_same e = cc
-
-none_some : {X : Type 0} {a : X} → None ≡ Some a → ⊥
-none_some e = cc
-
--- The last fork on a key's way has its child on one side, and on the other what the words show there.
-abbrev pub IsLastFork : Key → Tree → ℕ → Entry → Type 0
-IsLastFork k b p e = (y : Tree) × (subtrie y ≡ Place e) × HasLastFork k b (bit k p) p (child k b) y
-
--- it is the body's first fork
-last_here : (k : Key) (u : Bool) (q : ℕ) (x y : Tree) (p : ℕ) (e : Entry) → bit k q ≡ u → x ≡ child k (fork_on u q x y) → ((f : Entry) → subtrie_collapsed k f (subtrie (fork_on u q x y)) ≡ Place f) →
-    ◌≡◌ {A = Option (ℕ × Subtrie)} (Some (q, subtrie y)) (Some (p, Place e)) → IsLastFork k (fork_on u q x y) p e
-last_here k u q x y p e g c f h =
-    let same : ◌≡◌ {A = ℕ × Subtrie} (q, subtrie y) (p, Place e) = some_same h in
-    let at : q ≡ p = ap (λ (z : ℕ × Subtrie). z.0) same in (
-      y,
-      ap (λ (z : ℕ × Subtrie). z.1) same,
-      last_as k (fork_on u q x y) y (sym g ∙ ap (bit k) at) at c (record { place = here; own = tt; closed = λ f r z. z ∙ sym (f_is f) }),
-    )
-  where
-    f_is : (e : Entry) → subtrie_collapsed k e (subtrie (fork_on u q x y)) ≡ Place e
-    f_is = f
-
-last_one : (k : Key) (q : ℕ) (x y : Tree) (p : ℕ) (e : Entry) → bit k q ≡ true → side_beside q true (subtrie x) (subtrie y) (subtrie_sibling k (subtrie y)) ≡ Some (p, Place e) →
-    (subtrie_sibling k (subtrie y) ≡ Some (p, Place e) → IsLastFork k y p e) → IsLastFork k (fork q x y) p e
-last_one k q x (leaf n l v) p e g h rest = last_here k true q (leaf n l v) x p e g (rw g refl) (λ f. rw g refl) h
-last_one k q x (node n l v) p e g h rest = last_here k true q (node n l v) x p e g (rw g refl) (λ f. rw g refl) h
-last_one k q x (fork n l v) p e g h rest =
-    let (z, shows, last) = rest h in (
-      z,
-      shows,
-      last_as k (fork q x (fork n l v)) z refl refl (rw g refl) (record { place = one_side last.place; own = last.own; closed = λ f r i. rw g (ap (Fork q (subtrie x)) (last.closed f r i)) }),
-    )
-
-last_zero : (k : Key) (q : ℕ) (x y : Tree) (p : ℕ) (e : Entry) → bit k q ≡ false → side_beside q false (subtrie x) (subtrie y) (subtrie_sibling k (subtrie x)) ≡ Some (p, Place e) →
-    (subtrie_sibling k (subtrie x) ≡ Some (p, Place e) → IsLastFork k x p e) → IsLastFork k (fork q x y) p e
-last_zero k q (leaf n l v) y p e g h rest = last_here k false q (leaf n l v) y p e g (rw g refl) (λ f. rw g refl) h
-last_zero k q (node n l v) y p e g h rest = last_here k false q (node n l v) y p e g (rw g refl) (λ f. rw g refl) h
-last_zero k q (fork n l v) y p e g h rest =
-    let (z, shows, last) = rest h in (
-      z,
-      shows,
-      last_as k (fork q (fork n l v) y) z refl refl (rw g refl) (record { place = zero_side last.place; own = last.own; closed = λ f r i. rw g (ap (λ w. Fork q w (subtrie y)) (last.closed f r i)) }),
-    )
-
-pub last_fork : (k : Key) (b : Tree) (p : ℕ) (e : Entry) → subtrie_sibling k (subtrie b) ≡ Some (p, Place e) → IsLastFork k b p e
-last_fork k (leaf n l v) p e h = absurd (none_some h)
-last_fork k (node n l v) p e h = absurd (none_some h)
-last_fork k (fork q x y) p e h = go (bit k q) refl h (last_fork k x p e) (last_fork k y p e)
-  where
-    go : (u : Bool) → bit k q ≡ u → side_beside q u (subtrie x) (subtrie y) (if u then subtrie_sibling k (subtrie y) else subtrie_sibling k (subtrie x)) ≡ Some (p, Place e) →
-        (subtrie_sibling k (subtrie x) ≡ Some (p, Place e) → IsLastFork k x p e) → (subtrie_sibling k (subtrie y) ≡ Some (p, Place e) → IsLastFork k y p e) → IsLastFork k (fork q x y) p e
-    go true g h l r = last_one k q x y p e g h r
-    go false g h l r = last_zero k q x y p e g h l
+use Rattle.rowex_walks.proofs.Taking.{IsWithout, without}
+use Rattle.rowex_walks.proofs.Beside.{StandBeside, beside_now, bodies_built, bodies_linked, bodies_shown, bodies_trie, first_within, fork_on, second_within, shows_both, two, two_within}
 
 -- Two nodes that are dissolved at once
 
@@ -250,31 +173,6 @@ module _ (c : BareCore) (q : ℕ) (x : Item) where
   left_side false p b s e new gone trie built shown l = left_whole (zero_side here) tt s new gone trie built shown l
   left_side true p b s e new gone trie built shown l = left_whole (one_side here) tt s new gone trie built shown l
 
--- the bodies of the two
-bodies_trie : (u : Bool) (p a d : ℕ) (y z : Fixed) (b e : Tree) → IsTrie (fork_on u p (node a y b) (node d z e)) → IsTrie (fork_on u p b e)
-bodies_trie false p a d y z b e i = i
-bodies_trie true p a d y z b e i = i
-
-bodies_built : (u : Bool) (p a d : ℕ) (y z : Fixed) (b e : Tree) → IsBuilt (fork_on u p (node a y b) (node d z e)) → IsBuilt (fork_on u p b e)
-bodies_built false p a d y z b e i = (i.0.2, i.1.2)
-bodies_built true p a d y z b e i = (i.0.2, i.1.2)
-
-bodies_shown : (m : Heap) (u : Bool) (p a d : ℕ) (y z : Fixed) (b e : Tree) → IsShown m (fork_on u p (node a y b) (node d z e)) → IsShown m (fork_on u p b e)
-bodies_shown m false p a d y z b e i = (i.0.1, i.1.1)
-bodies_shown m true p a d y z b e i = (i.0.1, i.1.1)
-
-bodies_linked : (u : Bool) (p a d : ℕ) (y z : Fixed) (b e : Tree) (i : Rec) → Links (fork_on u p b e) i → Links (fork_on u p (node a y b) (node d z e)) i
-bodies_linked false p a d y z b e i h = elim h [ inl f ↦ inl (inr f) | inr f ↦ inr (inr f) ]
-bodies_linked true p a d y z b e i h = elim h [ inl f ↦ inl (inr f) | inr f ↦ inr (inr f) ]
-
-first_within : (u : Bool) (p : ℕ) (x y : Tree) → Within x (fork_on u p x y)
-first_within false p x y = zero_side here
-first_within true p x y = one_side here
-
-second_within : (u : Bool) (p : ℕ) (x y : Tree) → Within y (fork_on u p x y)
-second_within false p x y = one_side here
-second_within true p x y = zero_side here
-
 -- The node above, with the two below one fork of it
 
 -- What is left of a body, with its subtrie.
@@ -297,53 +195,36 @@ module _ (c : BareCore) (q : ℕ) (law : IsLawfulState (view c)) (k : Key) (n j 
   abbrev gone_item : Item
   gone_item = item j k (c.heap.leaves j).value
 
-  -- both nodes stand on the sides of a fork of this body
-  record StandBeside (d : Tree) : Type 0 where
-    fixed : Fixed
-    lower : Tree
-    fixed_too : Fixed
-    other : Tree
-    last : HasLastFork k d (bit k b.position) b.position (node n fixed lower) (node m fixed_too other)
+  here_beside : (y : Fixed) (d : Tree) → Within (node o y d) t → StandBeside k d b.position n m
+  here_beside y d v = beside_now c law t now k o n m b.height b.position b.other_height b.entry b.sibling y d v
 
-  beside_now : (y : Fixed) (d : Tree) → Within (node o y d) t → StandBeside d
-  beside_now y d v =
-      let words : (c.heap.nodes o).subtrie ≡ subtrie d = ap (λ (w : NodeWords). w.subtrie) (shown_within c.heap v (shown_now c law t now)).0 in
-      let (f, s, is, there) = entry_node c law t now v k n b.height b.entry in
-      let (u, pg, last) = last_fork k d b.position (Node m b.other_height) (ap (subtrie_sibling k) (sym words) ∙ b.sibling) in
-      let (g, r, same, high) = node_of m b.other_height u pg in
-      record {
-        fixed = f;
-        lower = s;
-        fixed_too = g;
-        other = r;
-        last = subst (λ u. HasLastFork k d (bit k b.position) b.position (node n f s) u) same (subst (λ s. HasLastFork k d (bit k b.position) b.position s u) is last);
-      }
+  module _ (y : Fixed) (d : Tree) (v : Within (node o y d) t) (st : StandBeside k d b.position n m) where
+    two_in : Within (two st) t
+    two_in = two_within st v
 
-  module _ (y : Fixed) (d : Tree) (v : Within (node o y d) t) (st : StandBeside d) where
-    abbrev two : Tree
-    two = fork_on (bit k b.position) b.position (node n st.fixed st.lower) (node m st.fixed_too st.other)
+    two_trie : IsTrie (two st)
+    two_trie = trie_within two_in (trie_now c law t now)
 
-    two_within : Within two t
-    two_within = within_trans st.last.place (within_trans (inside here) v)
+    two_built : IsBuilt (two st)
+    two_built = built_within two_in (built_now c law t now)
 
-    two_trie : IsTrie two
-    two_trie = trie_within two_within (trie_now c law t now)
+    two_shown : IsShown c.heap (two st)
+    two_shown = shown_within c.heap two_in (shown_now c law t now)
 
-    two_built : IsBuilt two
-    two_built = built_within two_within (built_now c law t now)
+    lower_in : Within (node n st.fixed st.lower) t
+    lower_in = within_trans (first_within (bit k b.position) b.position (node n st.fixed st.lower) (node m st.fixed_too st.other)) two_in
 
-    two_shown : IsShown c.heap two
-    two_shown = shown_within c.heap two_within (shown_now c law t now)
+    lower_without : IsWithout c q k j (c.heap.leaves j).value st.lower
+    lower_without =
+        let built = built_within lower_in (built_now c law t now) in
+        let old : child k st.lower ≡ leaf j k (c.heap.leaves j).value = entry_leaf c law t now lower_in k j seen.entry ∙ ap (λ z. leaf j z (c.heap.leaves j).value) seen.key in
+        without c q k j (c.heap.leaves j).value st.lower built.0 old (trie_within (within_trans (inside here) lower_in) (trie_now c law t now)) built.2 (shown_within c.heap lower_in (shown_now c law t now)).1
 
     -- the lower node without the leaf
     lower_left : IsLeftAs c q gone_item st.lower (subtrie_without k (c.heap.nodes n).subtrie) [] (a_leaf j ∷ [])
     lower_left =
-        let w = within_trans (first_within (bit k b.position) b.position (node n st.fixed st.lower) (node m st.fixed_too st.other)) two_within in
-        let shown = shown_within c.heap w (shown_now c law t now) in
-        let built = built_within w (built_now c law t now) in
-        let words : (c.heap.nodes n).subtrie ≡ subtrie st.lower = ap (λ (w : NodeWords). w.subtrie) shown.0 in
-        let old : child k st.lower ≡ leaf j k (c.heap.leaves j).value = entry_leaf c law t now w k j seen.entry ∙ ap (λ z. leaf j z (c.heap.leaves j).value) seen.key in
-        let (s, pg, less, hand, trade) = without c q k j (c.heap.leaves j).value st.lower built.0 old (trie_within (within_trans (inside here) w) (trie_now c law t now)) built.2 shown.1 in
+        let words : (c.heap.nodes n).subtrie ≡ subtrie st.lower = ap (λ (w : NodeWords). w.subtrie) (shown_within c.heap lower_in (shown_now c law t now)).0 in
+        let (s, pg, less, hand, trade) = lower_without in
         (s, pg ∙ ap (subtrie_without k) (sym words), record { less = less; hand = hand; trade = record { trade = trade; ready = λ i h. absurd h; apart = ((λ h. absurd h), tt) } })
 
     -- and the other one beside it
@@ -362,10 +243,10 @@ module _ (c : BareCore) (q : ℕ) (law : IsLawfulState (view c)) (k : Key) (n j 
 
     module _ (z : ℕ) (g : Fixed) (new : IsNewSubtrie c q z g (subtrie_merged c q k o n m b)) where
       -- one new node in place of both
-      two_left : IsLeftAs c q gone_item two (Place (Node z g.height)) (a_node z ∷ []) (a_node n ∷ a_node m ∷ a_leaf j ∷ [])
+      two_left : IsLeftAs c q gone_item (two st) (Place (Node z g.height)) (a_node z ∷ []) (a_node n ∷ a_node m ∷ a_leaf j ∷ [])
       two_left =
           let (r, pg, l) = bodies_left in
-          let old = old_now c q law t now two_within in (
+          let old = old_now c q law t now two_in in (
             node z g r,
             refl,
             left_two c q gone_item (bit k b.position) b.position n m st.fixed st.fixed_too st.lower st.other (node z g r) (a_node z ∷ []) (a_leaf j ∷ []) two_trie two_built two_shown old seen.lock b.locked_too
@@ -388,18 +269,18 @@ module _ (c : BareCore) (q : ℕ) (law : IsLawfulState (view c)) (k : Key) (n j 
 
   -- What the new nodes show are subtries of lawful trees.
   pub merged_tree : (y : Fixed) (d : Tree) → Within (node o y d) t → (s : Tree) × (subtrie s ≡ subtrie_merged c q k o n m b) × IsTrie s × IsBuilt s
-  merged_tree y d v = let (r, pg, l) = bodies_left y d v (beside_now y d v) in (r, pg, l.less.trie, l.hand.built)
+  merged_tree y d v = let (r, pg, l) = bodies_left y d v (here_beside y d v) in (r, pg, l.less.trie, l.hand.built)
 
   pub collapsed_tree : (y : Fixed) (d : Tree) → Within (node o y d) t → (z : ℕ) (g : Fixed) → IsNewSubtrie c q z g (subtrie_merged c q k o n m b) →
       (s : Tree) × (subtrie s ≡ subtrie_collapsed k (Node z g.height) (c.heap.nodes o).subtrie) × IsTrie s × IsBuilt s
-  collapsed_tree y d v z g new = let (r, pg, l) = body_left y d v (beside_now y d v) z g new in (r, pg, l.less.trie, l.hand.built)
+  collapsed_tree y d v z g new = let (r, pg, l) = body_left y d v (here_beside y d v) z g new in (r, pg, l.less.trie, l.hand.built)
 
   pub merged_now : (y : Fixed) (d : Tree) → Within (node o y d) t → (z : ℕ) (g : Fixed) → IsNewSubtrie c q z g (subtrie_merged c q k o n m b) →
       (e : Entry) (i : IsEntryFor c q (subtrie_collapsed k (Node z g.height) (c.heap.nodes o).subtrie) e) →
       IsLeftAs c q gone_item (node o y d) (Place e) (linked_for_entry i ++ a_node z ∷ []) (a_node o ∷ a_node n ∷ a_node m ∷ a_leaf j ∷ [])
   merged_now y d v z g new e i =
       entry_left c q gone_item o y d (subtrie_collapsed k (Node z g.height) (c.heap.nodes o).subtrie) (a_node z ∷ []) (a_node n ∷ a_node m ∷ a_leaf j ∷ [])
-      b.locked (built_within v (built_now c law t now)) (shown_within c.heap v (shown_now c law t now)) (old_now c q law t now v) (body_left y d v (beside_now y d v) z g new) e i
+      b.locked (built_within v (built_now c law t now)) (shown_within c.heap v (shown_now c law t now)) (old_now c q law t now v) (body_left y d v (here_beside y d v) z g new) e i
 
 -- At the spot of the node above.
 pub merge_at_spot : MergeAtSpot
