@@ -15,7 +15,7 @@ use Rattle.versions.specs.State.{IsLawfulState, Links}
 use Rattle.versions.specs.Core.{BareCore, view}
 use Rattle.versions.specs.declared.Rec.{Rec}
 use Rattle.versions.specs.declared.Rec.TheVariants.{Node as a_node}
-use Rattle.tries.proofs.Building.{greatest-append, greatest_if_lower}
+use Rattle.tries.proofs.Building.{greatest-append, greatest_if_lower, greatest_without}
 use Rattle.tries.proofs.Spots.{without_spot}
 use Rattle.tries.proofs.Tries.{built_within, rises, within_trans}
 use Rattle.versions.proofs.Heaps.{shown_within}
@@ -186,22 +186,6 @@ both_rise {k} {d} {p} {n} {m} st i =
     (subst (RisesFrom (p + 1)) (without_spot k (subtrie st.lower)) (RisesFrom-without (p + 1) (spot k (subtrie st.lower)) (subtrie st.lower) x)) y
 
 -- Heights
-
-greatest_joined : (q : ℕ) (o : Bool) (x y r : Subtrie) → greatest_height (places r) ≤ greatest_height (places (if o then y else x)) →
-    greatest_height (places (joined q o x y r)) ≤ greatest_height (places x ++ places y)
-greatest_joined q true x (Place e) r h = omega (arith, greatest-append (places x) (e ∷ []))
-greatest_joined q true x (Fork p a b) r h = omega (arith, h, greatest-append (places x) (places (Fork p a b)), greatest-append (places x) (places r))
-greatest_joined q false (Place e) y r h = omega (arith, greatest-append (e ∷ []) (places y))
-greatest_joined q false (Fork p a b) y r h = omega (arith, h, greatest-append (places (Fork p a b)) (places y), greatest-append (places r) (places y))
-
-greatest_without : (k : Key) (x : Subtrie) → greatest_height (places (subtrie_without k x)) ≤ greatest_height (places x)
-greatest_without k (Place e) = omega arith
-greatest_without k (Fork q x y) = go (bit k q) (greatest_without k x) (greatest_without k y)
-  where
-    go : (o : Bool) → greatest_height (places (subtrie_without k x)) ≤ greatest_height (places x) → greatest_height (places (subtrie_without k y)) ≤ greatest_height (places y) →
-        greatest_height (places (joined q o x y (if o then subtrie_without k y else subtrie_without k x))) ≤ greatest_height (places x ++ places y)
-    go true f g = greatest_joined q true x y (subtrie_without k y) g
-    go false f g = greatest_joined q false x y (subtrie_without k x) f
 
 fork_low : (u : Bool) (p h : ℕ) (x y : Subtrie) → greatest_height (places x) < h → greatest_height (places y) < h → greatest_height (places (fork_of u p x y)) < h
 fork_low false p h x y i j = omega (arith, greatest-append (places x) (places y))
