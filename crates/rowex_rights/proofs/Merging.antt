@@ -31,7 +31,6 @@ use Rattle.rowex_walks.proofs.Replaced.{linked_fate}
 use Rattle.rowex_walks.proofs.Scans.{node_of}
 use Rattle.rowex_walks.proofs.Standing.{newest_tree_if_node, stands_now}
 use Rattle.rowex_walks.proofs.Taking.{same_entry}
-use Rattle.rowex_core.specs.declared.event.Target.TheVariants.{Node as NodeTarget}
 use Rattle.rowex_core.specs.declared.known.Known.{Known}
 use Rattle.rowex_core.specs.declared.known.Locked.{Locked}
 use Rattle.rowex_core.specs.Reading.{node_words_of}
@@ -42,8 +41,8 @@ use Rattle.rowex_core.specs.Sharing.{IsLocked}
 use Rattle.rowex_core.proofs.Having.{node_used}
 use Rattle.rowex_core.proofs.Owning.{knows_all, recalls}
 use Rattle.rowex_table.specs.Made.{Made, recs_of}
-use Rattle.rowex_table.specs.Rights.{MayLock}
 use Rattle.rowex_table.proofs.ActsAfter.{publishes_made, MayPublish}
+use Rattle.rowex_rights.specs.Acts.{BesideMayLock}
 use Rattle.rowex_rights.specs.Cases.{MayMerge}
 use Rattle.rowex_rights.specs.Rises.{made_of_node, IsBuiltAnew, IsSide}
 use Rattle.rowex_rights.specs.Stages.{AreBeside, IsLeafThere, IsStage, merged}
@@ -230,8 +229,7 @@ module _ (layout : Layout) (k : Known) (c : Core) (law : IsLawful c) (layout_is 
             (shown_within (bare c).heap stands.place (shown_now (bare c) law.core.state stands.tree stands.now))
 
 -- The pass may lock it.
-pub beside_may_lock : (layout : Layout) (k : Known) (key : Key) (o m q h : ℕ) (words : List ℕ) → IsOneOf (record { node = o; words = words }) k.locks →
-    subtrie_sibling key (node_words_of words).subtrie ≡ Some (q, Place (Node m h)) → MayLock layout (NodeTarget m) k
+pub beside_may_lock : BesideMayLock
 beside_may_lock layout k key o m q h words has sibling c law layout_is known live = beside_linked layout k c law layout_is known o words has key m q h sibling
 
 -- Closed with a lower entry a subtrie stays lower.
