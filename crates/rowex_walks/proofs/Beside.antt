@@ -59,16 +59,13 @@ IsLastFork k b p e = (y : Tree) × (subtrie y ≡ Place e) × HasLastFork k b (b
 -- it is the body's first fork
 last_here : (k : Key) (u : Bool) (q : ℕ) (x y : Tree) (p : ℕ) (e : Entry) → bit k q ≡ u → x ≡ child k (fork_on u q x y) → ((f : Entry) → subtrie_collapsed k f (subtrie (fork_on u q x y)) ≡ Place f) →
     ◌≡◌ {A = Option (ℕ × Subtrie)} (Some (q, subtrie y)) (Some (p, Place e)) → IsLastFork k (fork_on u q x y) p e
-last_here k u q x y p e g c f h =
+last_here k u q x y p e g c closed h =
     let same : ◌≡◌ {A = ℕ × Subtrie} (q, subtrie y) (p, Place e) = some_same h in
     let at : q ≡ p = ap (λ (z : ℕ × Subtrie). z.0) same in (
       y,
       ap (λ (z : ℕ × Subtrie). z.1) same,
-      last_as k (fork_on u q x y) y (sym g ∙ ap (bit k) at) at c (record { place = here; own = tt; closed = λ f r z. z ∙ sym (f_is f) }),
+      last_as k (fork_on u q x y) y (sym g ∙ ap (bit k) at) at c (record { place = here; own = tt; closed = λ f r z. z ∙ sym (closed f) }),
     )
-  where
-    f_is : (e : Entry) → subtrie_collapsed k e (subtrie (fork_on u q x y)) ≡ Place e
-    f_is = f
 
 last_one : (k : Key) (q : ℕ) (x y : Tree) (p : ℕ) (e : Entry) → bit k q ≡ true → side_beside q true (subtrie x) (subtrie y) (subtrie_sibling k (subtrie y)) ≡ Some (p, Place e) →
     (subtrie_sibling k (subtrie y) ≡ Some (p, Place e) → IsLastFork k y p e) → IsLastFork k (fork q x y) p e
