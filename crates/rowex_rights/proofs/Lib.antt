@@ -8,6 +8,7 @@ pub mod Rising
 pub mod Inserting
 pub mod Insertions
 pub mod Replacing
+pub mod Merging
 pub mod Acting
 pub mod Loops
 pub mod Ending

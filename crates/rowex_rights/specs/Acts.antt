@@ -1,8 +1,11 @@
 -- Locks and loads under them, and what a pass recalls after an act.
-use Rattle.std.specs.Prelude.{◌≡◌, ℕ, ◌+◌, List, get_or}
+use Rattle.std.specs.Prelude.{◌≡◌, ℕ, ◌+◌, List, Some, get_or}
 use Rattle.compound_node.specs.declared.entries.Entry.TheVariants.{Node}
+use Rattle.pieces.specs.Piece.{Place}
 use Rattle.record_words.specs.declared.layout.Layout.{Layout}
 use Rattle.record_words.specs.declared.TheConstants.{HEAD_WORDS}
+use Rattle.tries.specs.Keys.{Key}
+use Rattle.tries.specs.Place.{subtrie_sibling}
 use Rattle.versions.specs.declared.Rec.TheVariants.{Node as a_node}
 use Rattle.versions.specs.Trades.{IsOneOf}
 use Rattle.rowex_walks.specs.Scan.{EntryStoodSince}
@@ -11,6 +14,7 @@ use Rattle.rowex_core.specs.declared.event.Act.TheVariants.{LoadRef, LoadFixed}
 use Rattle.rowex_core.specs.declared.event.Spot.TheVariants.{Slot}
 use Rattle.rowex_core.specs.declared.event.Target.TheVariants.{Node as NodeTarget}
 use Rattle.rowex_core.specs.declared.known.Known.{Known}
+use Rattle.rowex_core.specs.Reading.{node_words_of}
 use Rattle.rowex_core.specs.Knowing.{IsEvent, IsPinnedSince}
 use Rattle.rowex_table.specs.Rights.{MayLock}
 use Rattle.rowex_table.specs.Made.{IsLater}
@@ -22,6 +26,12 @@ use Rattle.rowex_rights.specs.Stages.{IsSure}
 abbrev pub LedMayLock : Type 0
 LedMayLock =
     (layout : Layout) (k : Known) (since n h : ℕ) → IsPinnedSince k since → IsSure k (λ s. EntryStoodSince s since (Node n h)) → MayLock layout (NodeTarget n) k
+
+-- And so the node that stands beside the key's way in one that it has locked: as the one entry on the other side of the last fork.
+abbrev pub BesideMayLock : Type 0
+BesideMayLock =
+    (layout : Layout) (k : Known) (key : Key) (o m position height : ℕ) (words : List ℕ) → IsOneOf (record { node = o; words = words }) k.locks →
+    subtrie_sibling key (node_words_of words).subtrie ≡ Some (position, Place (Node m height)) → MayLock layout (NodeTarget m) k
 
 -- What it loads of a node that it has locked is a word of those that it holds.
 abbrev pub LoadsOfLocked : Type 0

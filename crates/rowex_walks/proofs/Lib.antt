@@ -18,6 +18,8 @@ pub mod Rising
 pub mod Upwards
 pub mod Leaves
 pub mod Taking
+pub mod Beside
+pub mod Merging
 pub mod Scans
 pub mod Walk
 pub mod Downs

@@ -31,7 +31,7 @@ use Rattle.rowex_walks.proofs.AtHand.{IsAtHand}
 use Rattle.tries.specs.Content.{item}
 
 -- A body without one of its leaves: what is left, its subtrie, that the pass has it at hand, and that the leaf alone goes.
-abbrev IsWithout : BareCore → ℕ → Key → ℕ → ℕ → Tree → Type 0
+abbrev pub IsWithout : BareCore → ℕ → Key → ℕ → ℕ → Tree → Type 0
 IsWithout c q k j a b = (s : Tree) × (subtrie s ≡ subtrie_without k (subtrie b)) × IsRemoved (item j k a) b s × IsAtHand c q b s × IsTraded b s [] (a_leaf j ∷ [])
 
 -- a fork without one side, a leaf
@@ -82,7 +82,7 @@ module _ (c : BareCore) (q : ℕ) (k : Key) (j a : ℕ) where
       let (s, pg, r, d, tr) = rest tt in
       (fork p s y, rw e (ap (λ z. Fork p z (subtrie y)) pg), removed_in_whole (zero_side here) s (item j k a) i r, hand_put c q (zero_side here) tt s b h d, traded_in_whole c.heap (zero_side here) s [] (a_leaf j ∷ []) i b h tr)
 
-  without : (b : Tree) → IsFork b → child k b ≡ leaf j k a → IsTrie b → IsBuilt b → IsShown c.heap b → IsWithout c q k j a b
+  pub without : (b : Tree) → IsFork b → child k b ≡ leaf j k a → IsTrie b → IsBuilt b → IsShown c.heap b → IsWithout c q k j a b
   without (leaf n l v) f e i o h = absurd f
   without (node n l v) f e i o h = absurd f
   without (fork p x y) f e i o h = go (bit k p) refl e (λ g z. without x g z i.0 o.0 h.0) (λ g z. without y g z i.1 o.1 h.1)

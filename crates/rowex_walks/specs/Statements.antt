@@ -17,7 +17,7 @@ use Rattle.versions.specs.Heap.{Heap}
 use Rattle.versions.specs.State.{State, Past, IsLawfulState, IsReach, IsSteady, IsLed, WasAbsentSince, IsHeldSince}
 use Rattle.versions.specs.declared.Rec.{Rec}
 use Rattle.versions.specs.declared.Rec.TheVariants.{Node as a_node, Leaf as a_leaf}
-use Rattle.versions.specs.Trades.{AreApart, HasTraded}
+use Rattle.versions.specs.Trades.{HasTraded}
 use Rattle.versions.specs.Core.{BareCore, view}
 use Rattle.versions.specs.declared.Pin.{Pin}
 use Rattle.versions.specs.Told.{TellChanges, items_of}
@@ -87,7 +87,7 @@ abbrev pub MergeAtSpot : Type 0
 MergeAtSpot =
     (c : BareCore) (q : ℕ) → IsLawfulState (view c) → (k : Key) (n j : ℕ) → IsLeafOf c q k n j → (o m : ℕ) (b : IsBesideNode c q k o n m) →
     (z : ℕ) (g : Fixed) → IsNewSubtrie c q z g (subtrie_merged c q k o n m b) →
-    (h : ℕ) (e : Entry) (i : IsEntryFor c q (subtrie_collapsed k (Node z g.height) (c.heap.nodes o).subtrie) e) → AreApart (linked_for_entry i ++ a_node z ∷ []) →
+    (h : ℕ) (e : Entry) (i : IsEntryFor c q (subtrie_collapsed k (Node z g.height) (c.heap.nodes o).subtrie) e) →
     (s : HoldsSpot c q k (Node o h)) → IsLowAt s e → (heap : Heap) (root : Option Entry) → IsStoredAt s heap root e →
     IsPublished c q heap root (removed_change q (item j k (c.heap.leaves j).value)) (linked_for_entry i ++ a_node z ∷ [])
     (a_node o ∷ a_node n ∷ a_node m ∷ a_leaf j ∷ [])

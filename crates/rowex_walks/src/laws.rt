@@ -1,7 +1,7 @@
 //! The laws of walks. The functions do nothing: their contracts are the laws.
 
 ghost use Rattle.rowex_walks.specs.Ways.{FoundSame, OneBody, PlacedSame, RootedSame, StillGrows, StillPlaced, StillRooted, WayBegins, WayEnds, WayGoesOn, WayIsBelow, WayOfLeaf};
-ghost use Rattle.rowex_walks.specs.Statements.{DownScanCompletes, DownScanIsCut, FirstKey, FoundIsKept, GetEnds, InsertAtSpot, LedPlaced, LoadsLeaf, LoadsNone, LoadsPlace, LoadsRoot, LoadsShape, PairAtSpot, RemoveAtSpot, RemoveLast, ScanCompletes, ScanIsCut, UpperGoesOn, UpsertAtSpot};
+ghost use Rattle.rowex_walks.specs.Statements.{DownScanCompletes, DownScanIsCut, FirstKey, FoundIsKept, GetEnds, InsertAtSpot, LedPlaced, LoadsLeaf, LoadsNone, LoadsPlace, LoadsRoot, LoadsShape, MergeAtSpot, PairAtSpot, RemoveAtSpot, RemoveLast, ScanCompletes, ScanIsCut, UpperGoesOn, UpsertAtSpot};
 
 /// An insertion that was checked under its locks is a legal publish that adds the key, in a node or at the root.
 pub fn insert_at_spot()
@@ -31,6 +31,11 @@ pub fn upsert_at_spot()
 /// A removal that leaves something of the leaf's node is a legal publish that takes the key away.
 pub fn remove_at_spot()
     ensures { RemoveAtSpot }
+{}
+
+/// A removal that merges what is left of the leaf's node with the node beside it is a legal publish that takes the key away.
+pub fn merge_at_spot()
+    ensures { MergeAtSpot }
 {}
 
 /// The removal of the one leaf is a legal publish that leaves the index empty.

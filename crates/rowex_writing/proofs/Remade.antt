@@ -17,9 +17,9 @@ use Rattle.compound_node.specs.declared.halves.Half.TheVariants.{One, Many, Same
 use Rattle.tries.specs.Affected.{subtrie_affected, subtrie_forked, subtrie_grown}
 use Rattle.tries.specs.Content.{first}
 use Rattle.tries.specs.Keys.{Key, bit}
-use Rattle.tries.specs.Place.{spot, with_subtrie, joined, subtrie_without}
+use Rattle.tries.specs.Place.{spot, with_subtrie, subtrie_without}
 use Rattle.tries.specs.Tree.{Subtrie, Tree, fork, subtrie, IsTrie, Within, here, zero_side, one_side}
-use Rattle.tries.proofs.Building.{bit_below, greatest-append, size-piece}
+use Rattle.tries.proofs.Building.{bit_below, greatest-append, size-piece, greatest_without}
 use Rattle.tries.proofs.Places.{leads_spot, spot_below}
 use Rattle.tries.proofs.Ranges.{has_key}
 use Rattle.tries.proofs.Spots.{grafted_spot, path_low, path_high, without_spot}
@@ -236,22 +236,6 @@ greatest_put k r (Fork q x y) = go (bit k q) (greatest_put k r x) (greatest_put 
 pub fork_low : (new : NewFork) (v : NodeView) → IsLawfulNode v → height_of new.zero < v.height → height_of new.one < v.height →
     greatest_height (places (subtrie_with_fork new (piece v))) < v.height
 fork_low new v l z o = omega (arith, greatest_put new.key.now (Fork new.position (Place new.zero) (Place new.one)) (piece v), entries_under v l)
-
-greatest_joined : (q : ℕ) (o : Bool) (x y r : Subtrie) → greatest_height (places r) ≤ greatest_height (places (if o then y else x)) →
-    greatest_height (places (joined q o x y r)) ≤ greatest_height (places x ++ places y)
-greatest_joined q true x (Place e) r h = omega (arith, greatest-append (places x) (e ∷ []))
-greatest_joined q true x (Fork p a b) r h = omega (arith, h, greatest-append (places x) (places (Fork p a b)), greatest-append (places x) (places r))
-greatest_joined q false (Place e) y r h = omega (arith, greatest-append (e ∷ []) (places y))
-greatest_joined q false (Fork p a b) y r h = omega (arith, h, greatest-append (places (Fork p a b)) (places y), greatest-append (places r) (places y))
-
-pub greatest_without : (k : Key) (x : Subtrie) → greatest_height (places (subtrie_without k x)) ≤ greatest_height (places x)
-greatest_without k (Place e) = omega arith
-greatest_without k (Fork q x y) = go (bit k q) (greatest_without k x) (greatest_without k y)
-  where
-    go : (o : Bool) → greatest_height (places (subtrie_without k x)) ≤ greatest_height (places x) → greatest_height (places (subtrie_without k y)) ≤ greatest_height (places y) →
-        greatest_height (places (joined q o x y (if o then subtrie_without k y else subtrie_without k x))) ≤ greatest_height (places x ++ places y)
-    go true f g = greatest_joined q true x y (subtrie_without k y) g
-    go false f g = greatest_joined q false x y (subtrie_without k x) f
 
 -- what is left of a node's words without the entry to which a key's search leads
 pub left_subtrie : (k : Key) (v : NodeView) (at : ℕ) (words : List ℕ) (answer : Option Entry) → spot k (piece v) ≡ at → SpellLeft words answer (without at (piece v)) → SpellLeft words answer (subtrie_without k (piece v))

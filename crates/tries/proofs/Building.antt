@@ -1,16 +1,17 @@
 -- A node around a body: heights, and the bound on them.
-use Rattle.std.proofs.Common.{◌≡◌, inl, inr, ℕ, ◌+◌, ◌*◌, ◌/◌, ◌<◌, ◌≤◌, ◌++◌, Bool, true, false, List, [], ◌∷◌, length, max, ap, sym, ◌∙◌, subst, arith, nat_lt, refl}
+use Rattle.std.proofs.Common.{◌≡◌, inl, inr, ℕ, ◌+◌, ◌*◌, ◌/◌, ◌<◌, ◌≤◌, ◌++◌, if◌then◌else◌, Bool, true, false, List, [], ◌∷◌, length, max, ap, sym, ◌∙◌, subst, arith, nat_lt, refl}
 use Rattle.std.proofs.lemmas.Bool.{and_parts, ltb-true}
 use Rattle.key_bits.specs.Key.{IsKey}
 use Rattle.key_bits.specs.declared.TheConstants.{MAX_BYTES}
 use Rattle.compound_node.specs.Nodes.{NodeView, piece, head_of, IsLawfulNode, IsBuiltFrom, height_of, greatest_height}
 use Rattle.compound_node.specs.declared.entries.Entry.{Entry}
 use Rattle.partial_keys.specs.Shows.{ShowsPiece}
-use Rattle.pieces.specs.Piece.{places, size}
+use Rattle.pieces.specs.Piece.{Fork, Place, places, size}
 use Rattle.pieces.proofs.Paths.{length-places}
 use Rattle.tries.specs.Keys.{Key, bit, AgreeBelow}
-use Rattle.tries.specs.Tree.{Tree, leaf, node, fork, subtrie, Has, IsTrie, IsBuilt, IsFork, IsLower, first_position, Within, here, inside}
+use Rattle.tries.specs.Tree.{Subtrie, Tree, leaf, node, fork, subtrie, Has, IsTrie, IsBuilt, IsFork, IsLower, first_position, Within, here, inside}
 use Rattle.tries.specs.Content.{first}
+use Rattle.tries.specs.Place.{joined, subtrie_without}
 use Rattle.tries.proofs.Tries.{has_first, rises}
 use Rattle.tries.proofs.Ranges.{has_key}
 
@@ -42,6 +43,23 @@ greatest_if_lower h (node n x b) l = omega arith
 greatest_if_lower h (fork p a c) l =
     let x = greatest_if_lower h a l.0 in let y = greatest_if_lower h c l.1 in
     omega (arith, greatest-append (places (subtrie a)) (places (subtrie c)))
+
+-- Without one of its entries a subtrie is no higher.
+greatest_joined : (q : ℕ) (o : Bool) (x y r : Subtrie) → greatest_height (places r) ≤ greatest_height (places (if o then y else x)) →
+    greatest_height (places (joined q o x y r)) ≤ greatest_height (places x ++ places y)
+greatest_joined q true x (Place e) r h = omega (arith, greatest-append (places x) (e ∷ []))
+greatest_joined q true x (Fork p a b) r h = omega (arith, h, greatest-append (places x) (places (Fork p a b)), greatest-append (places x) (places r))
+greatest_joined q false (Place e) y r h = omega (arith, greatest-append (e ∷ []) (places y))
+greatest_joined q false (Fork p a b) y r h = omega (arith, h, greatest-append (places (Fork p a b)) (places y), greatest-append (places r) (places y))
+
+pub greatest_without : (k : Key) (x : Subtrie) → greatest_height (places (subtrie_without k x)) ≤ greatest_height (places x)
+greatest_without k (Place e) = omega arith
+greatest_without k (Fork q x y) = go (bit k q) (greatest_without k x) (greatest_without k y)
+  where
+    go : (o : Bool) → greatest_height (places (subtrie_without k x)) ≤ greatest_height (places x) → greatest_height (places (subtrie_without k y)) ≤ greatest_height (places y) →
+        greatest_height (places (joined q o x y (if o then subtrie_without k y else subtrie_without k x))) ≤ greatest_height (places x ++ places y)
+    go true f g = greatest_joined q true x y (subtrie_without k y) g
+    go false f g = greatest_joined q false x y (subtrie_without k x) f
 
 -- A bit that is 1 is one of the key's.
 pub bit_below : (k : Key) (q : ℕ) → IsKey k → bit k q ≡ true → q < 9 * MAX_BYTES
