@@ -36,7 +36,7 @@ use Rattle.rowex_reading.specs.declared.descent.Found.TheVariants.{Leaf}
 use Rattle.rowex_reading.proofs.Seeing.{later_trans}
 use Rattle.rowex_reading.proofs.Ways.{way_later}
 use Rattle.rowex_writing.specs.Going.{HasLocked, IsLockedBy, IsNodeOf, WorksOn}
-use Rattle.rowex_writing.specs.Merging.{IsBeside, IsTaking, TakesOn, lower, no_step, upper}
+use Rattle.rowex_writing.specs.Merging.{IsNeighbour, IsTaking, TakesOn, lower, no_step, upper}
 use Rattle.rowex_writing.specs.declared.deeds.Job.{Job}
 use Rattle.rowex_writing.proofs.Above.{locked_at}
 use Rattle.rowex_writing.proofs.Locking.{locked_on, seat_of}
@@ -128,7 +128,7 @@ module _ (table : TableView) (a : SeatView) (job : Job) (takes : TakesOn table a
       pub place_shown : place < size shown
       place_shown = (beside_elsewhere (spot job.key.now shown) place position shown (spot_below job.key.now shown) forks_shown).0
 
-      pub found_beside : (number height : ℕ) → Node number height ≡ entry_at shown place → IsBeside a.known job (record { place = place; position = position; number = number })
+      pub found_beside : (number height : ℕ) → Node number height ≡ entry_at shown place → IsNeighbour a.known job (record { place = place; position = position; number = number })
       found_beside number height entry = record {
         words = words;
         has = h;

@@ -64,7 +64,7 @@ use Rattle.rowex_writing.specs.Changes.{HasTakenPlan, IsTakeChange, MayPublishOn
 use Rattle.rowex_writing.specs.Growths.{HasNumber}
 use Rattle.rowex_writing.specs.Going.{HasLocked, IsNodeOf, WorksOn}
 use Rattle.rowex_writing.specs.Locks.{HasTheSame, numbers_of, span_numbers}
-use Rattle.rowex_writing.specs.Merging.{ClosesFork, HasHeight, IsBeside, IsTaking, IsWide, LocksAbove, MayMergeInto, by_anchor, by_node, lower, merged_gone, no_step, upper}
+use Rattle.rowex_writing.specs.Merging.{ClosesFork, HasHeight, IsNeighbour, IsTaking, IsWide, LocksAbove, MayMergeInto, by_anchor, by_node, lower, merged_gone, no_step, upper}
 use Rattle.rowex_writing.specs.Putting.{IsSpotAbove}
 use Rattle.rowex_writing.specs.Retiring.{AreInTable, IsAnchored}
 use Rattle.rowex_writing.specs.declared.deeds.Job.{Job}
@@ -145,7 +145,7 @@ wide_on table becomes a b job number goes w = record {
     still (by_node s low at ((words, is), new) free names) =
         by_node s low at ((words, goes.stays.1 ∙ is), new) (goes.stays.2 ∙ free) (λ ws h. names ws (locked_on b.0.known a.0.known s.number ws (sym goes.stays.1) h))
 
-abbrev pub beside_on : (a b : Known) (job : Job) (x : Beside) → b.locks ≡ a.locks → IsBeside a job x → IsBeside b job x
+abbrev pub beside_on : (a b : Known) (job : Job) (x : Beside) → b.locks ≡ a.locks → IsNeighbour a job x → IsNeighbour b job x
 beside_on a b job x same is = record { words = is.words; has = locked_on a b (upper job).number is.words same is.has; forks = is.forks; height = is.height; sibling = is.sibling }
 
 module _ (table : TableView) (b : SeatView) (job : Job) (number : ℕ) (w : IsWide table b job number) where
@@ -165,7 +165,7 @@ module _ (table : TableView) (b : SeatView) (job : Job) (number : ℕ) (w : IsWi
   other_wide = held_above _ job.key.now job.way.now job.found (job.span.end - 1) b.known (record { node = number; words = w.words }) w.above (inl refl)
 
   -- the two nodes are beside each other
-  pub beside_wide : (x : Beside) → x.number ≡ number → (is : IsBeside b.known job x) → (s : AreBeside b.known.locks job.key.now (upper job).number (lower job).number number t.number) × (s.position ≡ x.position) × (s.upper ≡ is.words)
+  pub beside_wide : (x : Beside) → x.number ≡ number → (is : IsNeighbour b.known job x) → (s : AreBeside b.known.locks job.key.now (upper job).number (lower job).number number t.number) × (s.position ≡ x.position) × (s.upper ≡ is.words)
   beside_wide x same is =
       let (up, h) = upper_locked table job t in
       let (low, i) = lower_locked table job t in
@@ -325,7 +325,7 @@ side_low x e us h (anew m view built is) low =
     let high = built.1 in
     omega (arith, low, g, high)
 
-module _ (table : TableView) (b : SeatView) (job : Job) (number : ℕ) (w : IsWide table b job number) (x : Beside) (same : x.number ≡ number) (is : IsBeside b.known job x) where
+module _ (table : TableView) (b : SeatView) (job : Job) (number : ℕ) (w : IsWide table b job number) (x : Beside) (same : x.number ≡ number) (is : IsNeighbour b.known job x) where
   abbrev its : IsTaking table job
   its = w.taking
 
@@ -549,12 +549,12 @@ pub made_claimed : (table : TableView) (b : SeatView) (made : List Rec) (us : Li
 made_claimed table b made us m n is building = subst (IsClaimed b.known) is (claimed table b made (us ++ m ∷ []) building m.rec (last_claimed us m))
 
 -- ---- one node of the two, some loads later
-module _ {G : Type 0} (table : TableView) (becomes : G → Event → G → Type 0) (a b : SeatView × G) (job : Job) (x : Beside) (goes : WorksOn table becomes a b) (w : IsWide table a.0 job x.number) (is : IsBeside a.0.known job x) (view : NodeView)
+module _ {G : Type 0} (table : TableView) (becomes : G → Event → G → Type 0) (a b : SeatView × G) (job : Job) (x : Beside) (goes : WorksOn table becomes a b) (w : IsWide table a.0 job x.number) (is : IsNeighbour a.0.known job x) (view : NodeView)
     (joined : (leaf : ℕ) (s : AreBeside a.0.known.locks job.key.now (upper job).number (lower job).number x.number leaf) → s.position ≡ x.position → IsBuiltFrom view (merged s)) where
   abbrev pub wide_now : IsWide table b.0 job x.number
   wide_now = wide_on table becomes a b job x.number goes w
 
-  abbrev pub beside_now : IsBeside b.0.known job x
+  abbrev pub beside_now : IsNeighbour b.0.known job x
   beside_now = beside_on a.0.known b.0.known job x goes.stays.1 is
 
   pub merged_for : IsBuiltFrom view (merged (beside_wide table b.0 job x.number wide_now x refl beside_now).0)
@@ -583,7 +583,7 @@ module _ {G : Type 0} (table : TableView) (becomes : G → Event → G → Type 
       )
 
 -- so under the wider locks
-pub beside_wider : (table : TableView) (k : Known) (b : SeatView) (job : Job) (x : Beside) (w : IsWide table b job x.number) → w.taking.before.known.locks ≡ k.locks → IsBeside k job x → IsBeside b.known job x
+pub beside_wider : (table : TableView) (k : Known) (b : SeatView) (job : Job) (x : Beside) (w : IsWide table b job x.number) → w.taking.before.known.locks ≡ k.locks → IsNeighbour k job x → IsNeighbour b.known job x
 beside_wider table k b job x w same is = record {
   words = is.words;
   has = held_wide table b job x.number w (upper job).number is.words (locked_on k w.taking.before.known (upper job).number is.words same is.has);

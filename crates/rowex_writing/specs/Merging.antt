@@ -65,7 +65,7 @@ abbrev pub TakesOn : TableView → SeatView → Job → Type 0
 TakesOn table a job = (t : IsTaking table job) × IsSeatOf table a × IsPossible table.layout a.known × StaysLocked t.before.known a.known
 
 -- In the upper node, by the words under its lock, the place alone is beside that of the lower one, and names the node.
-pub record IsBeside (k : Known) (job : Job) (b : Beside) : Type 0 where
+pub record IsNeighbour (k : Known) (job : Job) (b : Beside) : Type 0 where
   pub words : List ℕ
   pub has : HasLocked k (upper job).number words
   pub forks : beside (spot job.key.now (node_words_of words).subtrie) (node_words_of words).subtrie ≡ Some (b.place, b.position)

@@ -19,7 +19,7 @@ ghost use Rattle.rowex_writing.specs.Building.{IsBuilding};
 ghost use Rattle.rowex_writing.specs.Changes.{HasRun};
 ghost use Rattle.rowex_writing.specs.Going.{HasLocked, IsLockedBy, ReadsOn, WorksOn};
 ghost use Rattle.rowex_writing.specs.Locks.{HasTheSame, span_numbers};
-ghost use Rattle.rowex_writing.specs.Merging.{ClosesFork, HasHeight, IsBeside, IsWide, MayMergeInto, TakesOn, TriesFew, lower, merged_gone, upper};
+ghost use Rattle.rowex_writing.specs.Merging.{ClosesFork, HasHeight, IsNeighbour, IsWide, MayMergeInto, TakesOn, TriesFew, lower, merged_gone, upper};
 ghost use Rattle.rowex_writing.specs.declared.plan.Deed.TheVariants.{Take};
 
 use crate::building::{Build, make_words};
@@ -99,7 +99,7 @@ fn find_beside<G: Gate>(
 ) -> Option<Beside>
     requires takes { TakesOn table.now seat.old job.now }
     ensures reads { ReadsOn table.now G.becomes (seat.old, gate.old) (seat.new, gate.new) }
-    ensures beside { IfSome result (λ b. IsBeside seat.new.known job.now b) }
+    ensures beside { IfSome result (λ b. IsNeighbour seat.new.known job.now b) }
     ensures few { seat.new.known.steps ≤ seat.old.known.steps + HEAD_WORDS + 2 }
 {
     let above = job.way[job.span.end - 1];
@@ -133,7 +133,7 @@ fn merge_under_locks<G: Gate>(
     number: u32,
 ) -> bool
     requires wide { IsWide table.now seat.old job.now beside.now.number }
-    requires beside { IsBeside seat.old.known job.now beside.now }
+    requires beside { IsNeighbour seat.old.known job.now beside.now }
     requires made { build.old.made.items ≡ a_node number ∷ [] }
     requires building { (news : List Made) × IsBuilding table.now seat.old build.old.made.items news }
     ensures run { HasRun table.now G.becomes (seat.old, gate.old) (seat.new, gate.new) }
@@ -164,7 +164,7 @@ fn make_merged<G: Gate>(
     number: u32,
 ) -> Option<Entry>
     requires wide { IsWide table.now seat.old job.now beside.now.number }
-    requires beside { IsBeside seat.old.known job.now beside.now }
+    requires beside { IsNeighbour seat.old.known job.now beside.now }
     requires made { build.old.made.items ≡ a_node number ∷ [] }
     requires building { (news : List Made) × IsBuilding table.now seat.old build.old.made.items news }
     ensures goes { WorksOn table.now G.becomes (seat.old, gate.old) (seat.new, gate.new) }
@@ -198,7 +198,7 @@ fn join_beside<G: Gate>(
     beside: &Beside,
 ) -> Option<Node>
     requires wide { IsWide table.now seat.old job.now beside.now.number }
-    requires beside { IsBeside seat.old.known job.now beside.now }
+    requires beside { IsNeighbour seat.old.known job.now beside.now }
     ensures reads { ReadsOn table.now G.becomes (seat.old, gate.old) (seat.new, gate.new) }
     ensures joined { (leaf : ℕ) (b : AreBeside seat.old.known.locks job.now.key.now (upper job.now).number (lower job.now).number beside.now.number leaf) →
         b.position ≡ beside.now.position → IfSome result (λ node. IsBuiltFrom node (merged b)) }

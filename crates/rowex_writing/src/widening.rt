@@ -16,7 +16,7 @@ ghost use Rattle.rowex_writing.specs.Jobs.{IsJobFrom};
 ghost use Rattle.rowex_writing.specs.Locks.{AreNodes, HasTheSame, LocksLast, Works, span_numbers};
 ghost use Rattle.rowex_reading.specs.declared.descent.Found.{Found as FoundView};
 ghost use Rattle.tries.specs.Keys.{Key as KeyView};
-ghost use Rattle.rowex_writing.specs.Merging.{IsBeside, IsTargetAbove, IsWide, LocksAbove, TakesOn, TriesMore};
+ghost use Rattle.rowex_writing.specs.Merging.{IsNeighbour, IsTargetAbove, IsWide, LocksAbove, TakesOn, TriesMore};
 ghost use Rattle.rowex_writing.specs.declared.merging.Beside.{Beside as BesideView};
 
 use crate::checking::{entry_stands, named_at, root_stands};
@@ -38,7 +38,7 @@ pub(crate) fn widen<G: Gate>(
     number: u32,
 ) -> bool
     requires takes { TakesOn table.now seat.old job.now }
-    requires beside { (b : BesideView) × IsBeside seat.old.known job.now b × (b.number ≡ number) }
+    requires beside { (b : BesideView) × IsNeighbour seat.old.known job.now b × (b.number ≡ number) }
     ensures tries { TriesMore table.now G.becomes (span_numbers job.now.way.now job.now.span) result (seat.old, gate.old) (seat.new, gate.new) }
     ensures later { IsLater seat.old.known seat.new.known × IsSeatOf table.now seat.new × IsPossible table.now.layout seat.new.known × (seat.new.known.own ≡ seat.old.known.own) }
     ensures wide { result ≡ true → (w : IsWide table.now seat.new job.now number) ×
