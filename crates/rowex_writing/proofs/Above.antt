@@ -46,7 +46,7 @@ locked_at k way span locked i s low high at =
     let (lock, is, same) = locked.nodes.0.each s.number (map_of (λ (z : Step). z.number) s (take (span.len - (span.end - 1)) (drop (span.end - 1) way)) there) in
     (lock.words, subst (λ n. IsOneOf (record { node = n; words = lock.words }) k.locks) same is)
 
-lower_entry : (h : ℕ) (e : Entry) → height_of e < h → IsLowerSubtrie h (Place e)
+pub lower_entry : (h : ℕ) (e : Entry) → height_of e < h → IsLowerSubtrie h (Place e)
 lower_entry h (LeafEntry n) l = l
 lower_entry h (Node n g) l = l
 

@@ -1,5 +1,5 @@
 -- The steps of an attempt: a search, and what comes after it.
-use Rattle.std.proofs.Common.{◌≡◌, Bool, true, ℕ, zero, suc, ◌+◌, ◌*◌, ◌<◌, ◌≤◌, List, [], ◌∷◌, ◌++◌, length, refl, sym, ap, subst, ◌∙◌, arith}
+use Rattle.std.proofs.Common.{◌≡◌, inl, inr, Bool, true, ℕ, zero, suc, ◌+◌, ◌-◌, ◌*◌, ◌<◌, ◌≤◌, List, [], ◌∷◌, ◌++◌, length, refl, sym, ap, subst, ◌∙◌, arith}
 use Rattle.std.specs.Prelude.{All}
 use Rattle.std.proofs.lemmas.List.Elements.{All-append, All-cons, All-head, All-tail, All-weaker}
 use Rattle.record_words.specs.declared.layout.Layout.{Layout}
@@ -20,7 +20,10 @@ use Rattle.record_words.specs.declared.TheConstants.{HEAD_WORDS}
 use Rattle.rowex_writing.proofs.Onward.{reads_run}
 use Rattle.rowex_writing.proofs.Runs.{once_run, run_once}
 use Rattle.rowex_writing.specs.Counts.{attempt_steps, change_steps, most_locks, most_steps, rest_steps, span_steps}
-use Rattle.rowex_writing.specs.Locks.{targets_of}
+use Rattle.rowex_writing.specs.Locks.{TriesNodesBy, locks_of, span_numbers, targets_of}
+use Rattle.rowex_writing.specs.Merging.{EndsChange}
+use Rattle.rowex_writing.specs.declared.deeds.Job.{Job}
+use Rattle.rowex_writing.proofs.Counting.{numbers_few}
 use Rattle.rowex_writing.proofs.Tried.{once_after, targets_append}
 
 below_search : (act : Act) → IsBelowRoot act → IsOfSearch act
@@ -108,6 +111,19 @@ pub changed_run : {G : Type 0} (table : TableView) (becomes : G → Event → G 
     (locks : ℕ) × HasTriedOnce table becomes locks a b × (0 < locks) × (locks ≤ most_locks) × (b.0.known.steps + HEAD_WORDS ≤ a.0.known.steps + span_steps locks + change_steps table.layout locks)
 changed_run table becomes a m b taken all (locks, tried, some, upto, each, few) is most run spent =
     let whole = each is in (locks, once_run table becomes a m b tried run, some, omega (arith, upto, most), omega (arith, whole, few, spent))
+
+-- or a change that tries more of them
+pub ended_run : {G : Type 0} (table : TableView) (becomes : G → Event → G → Type 0) (job : Job) (a m b : SeatView × G) (taken : Bool) → ((locks : ℕ) × HasTriedOnce table becomes locks a m ×
+    (0 < locks) × (locks ≤ locks_of job.span) × (taken ≡ true → locks ≡ locks_of job.span) × (m.0.known.steps ≤ a.0.known.steps + 3 * locks + 1)) →
+    (0 < job.span.end → TriesNodesBy LeavesPin table becomes (span_numbers job.way.now job.span) a m × (m.0.known.steps ≤ a.0.known.steps + 3 * locks_of job.span + 1)) → taken ≡ true →
+    (job.span.end ≤ job.span.len) × (job.span.len ≤ length job.way.now) → locks_of job.span ≤ most_locks → EndsChange table becomes job m b →
+    (locks : ℕ) × HasTriedOnce table becomes locks a b × (0 < locks) × (locks ≤ most_locks) × (b.0.known.steps + HEAD_WORDS ≤ a.0.known.steps + span_steps locks + change_steps table.layout locks)
+ended_run table becomes job a m b taken took nodes is within most (inl (run, few)) = changed_run table becomes a m b taken (locks_of job.span) took is most run few
+ended_run table becomes job a m b taken took nodes is within most (inr (some, last, ends)) =
+    let (tried, spent) = nodes some in
+    let (locks, all, least, upto, few) = ends a tried in
+    let count = numbers_few job.way.now (job.span.end - 1) job.span.len (omega (arith, within.0)) within.1 in
+    (locks, all, omega (arith, least, count, some, last), omega (arith, upto, count, some, last), omega (arith, few, spent, least, count, some, last))
 
 -- after a search and a plan
 pub tried_after : {G : Type 0} (table : TableView) (becomes : G → Event → G → Type 0) (e n : ℕ) (a m p b : SeatView × G) → HasSearched table becomes a m → Reads table becomes e n m p → p.0.known.steps ≤ m.0.known.steps + HEAD_WORDS →

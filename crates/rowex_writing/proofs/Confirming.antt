@@ -57,7 +57,7 @@ use Rattle.rowex_writing.proofs.Locking.{locked_spells}
 use Rattle.rowex_writing.proofs.Shapes.{way_node_locked}
 use Rattle.rowex_writing.proofs.Spans.{locked_same}
 
-some_of : (o : Option Entry) → IsSome o → (e : Entry) × (o ≡ Some e)
+pub some_of : (o : Option Entry) → IsSome o → (e : Entry) × (o ≡ Some e)
 some_of None h = absurd (let e : ⊥ = cc in e)
 some_of (Some e) h = (e, refl)
 

@@ -139,7 +139,7 @@ module _ (table : TableView) (a : SeatView) (made : List Rec) (news : List Made)
       has_it y (z ∷ ys) (inl e) = (0, omega arith, sym e)
       has_it y (z ∷ ys) (inr i) = one_more ys z y (has_it y ys i)
 
-  claimed : (r : Rec) → IsOneOf r (recs_of news) → IsClaimed a.known r
+  pub claimed : (r : Rec) → IsOneOf r (recs_of news) → IsClaimed a.known r
   claimed r h =
       let (m, at, is) = of_map (λ (m : Made). m.rec) r news h in
       let o = is_owned m at in

@@ -31,3 +31,6 @@ pub mod Growths
 pub mod Raised
 pub mod Counting
 pub mod Walked
+pub mod Wider
+pub mod Beside
+pub mod Merged

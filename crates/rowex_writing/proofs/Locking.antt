@@ -1,13 +1,12 @@
 -- Loads under a lock, and steps one after the other.
-use Rattle.std.proofs.Common.{◌≡◌, ℕ, ◌+◌, ◌-◌, ◌%◌, ◌<◌, ◌≤◌, List, [], ◌∷◌, ◌++◌, length, get_or, set, replicate, refl, sym, ap, subst, ◌∙◌, arith, add-one, inl, inr, ◌⊎◌, ⊎_elim}
+use Rattle.std.proofs.Common.{◌≡◌, ℕ, ◌+◌, ◌-◌, ◌<◌, ◌≤◌, List, [], ◌∷◌, ◌++◌, length, get_or, set, replicate, take, refl, sym, ap, subst, ◌∙◌, arith, add-one, inl, inr, ◌⊎◌, ⊎_elim}
 use Rattle.std.proofs.lemmas.Bool.{cases_lt}
 use Rattle.std.proofs.lemmas.List.Elements.{All-append, All-cons}
-use Rattle.std.proofs.lemmas.List.{ext_get_or, get_or-set_same, get_or-set_other, length-replicate, length-set}
+use Rattle.std.proofs.lemmas.List.{ext_get_or, get_or-set_same, get_or-set_other, get_or-take, length-replicate, length-set, length-take}
 use Rattle.record_words.specs.declared.layout.Layout.{Layout}
 use Rattle.compound_node.specs.Nodes.{NodeView}
 use Rattle.rowex_core.proofs.Reading.{node_is}
 use Rattle.record_words.proofs.Nodes.{length-node_words}
-use Rattle.record_words.proofs.Spelled.{entries_counted}
 use Rattle.record_words.proofs.Unused.{zero_in}
 use Rattle.record_words.proofs.Written.{no_entry_word}
 use Rattle.versions.specs.declared.Rec.TheVariants.{Node as a_node}
@@ -147,3 +146,11 @@ module _ {G : Type 0} (table : TableView) (becomes : G → Event → G → Type 
       (λ (past : n ≤ o).
       i.rest o past ∙ sym (ap (λ ws. get_or ws o 0) (sym is.spells) ∙ no_entry_word view (length view.entries) o (omega arith) (omega (arith, past, upto)) (omega (arith, l, i.long))))
       (cases_lt o n))
+
+-- the words of a head alone
+pub head_read : (loaded words : List ℕ) → length loaded ≡ 25 → AreThose loaded words 25 → loaded ≡ take 25 words
+head_read loaded words long those =
+    let (view, is) = those.spelled (omega arith) in
+    let all : length words ≡ 57 = ap (λ (ws : List ℕ). length ws) (sym is.spells) ∙ length-node_words view in
+    let part : length (take 25 words) ≡ 25 = omega (arith, length-take 25 words, all) in
+    ext_get_or 0 loaded (take 25 words) (long ∙ sym part) (λ o low. those.each o (omega (arith, low, long)) ∙ sym (get_or-take 25 words o 0 (omega (arith, low, long))))

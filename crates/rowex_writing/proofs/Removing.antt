@@ -199,6 +199,14 @@ module _ (table : TableView) (a : SeatView) (m : ℕ) (key : Key) (way : List St
         low,
       )
 
+-- so on a way with a node, whatever the search found
+pub taken_below : (table : TableView) (a : SeatView) (m : ℕ) (key : Key) (way : List Step) (aim : Aim) (found : Found) (span : Span) → HasTakenSpan table a m key way found span → IsPlanned a.known m key way aim found (change span.len span.end Take) → 0 < span.len →
+    (number : ℕ) × (value : ℕ) × (found ≡ Leaf number value None) × HasLeafBelow table a m key way number value span
+taken_below table a m key way aim found span taken planned some =
+    let (first, last, is, affected) = planned in
+    let p = plan_takes way first last aim found span.len span.end is in
+    (p.number, p.value, p.found_is, take_below table a m key way aim found span taken planned p.number p.value None p.found_is some)
+
 -- ---- entries
 -- a node's height is at least 1
 abbrev pub IsRaised : Entry → Type 0
@@ -263,7 +271,7 @@ module _ (table : TableView) (a : SeatView) (m : ℕ) (key : Key) (way : List St
   pub lowest_leads : LeadsLocked a.known s.number key s.at
   lowest_leads words h = let (e, is, node) = w.nodes span.end s at in (way_node_locked table.layout a.known m key s e words b.taken.possible w.since node h).at
 
-  low_names : (words : List ℕ) → HasLocked a.known s.number words → seek key (node_words_of words).subtrie ≡ LeafEntry number
+  pub low_names : (words : List ℕ) → HasLocked a.known s.number words → seek key (node_words_of words).subtrie ≡ LeafEntry number
   low_names words h =
       let e = b.last in
       let n = b.len in

@@ -22,7 +22,7 @@ use Rattle.rowex_table.proofs.ActsLeave.{act_leaves}
 use Rattle.rowex_writing.specs.Attempts.{HasLoadedRoot}
 use Rattle.rowex_writing.specs.Changes.{HasRun, HasTried, HasTriedOnce}
 use Rattle.rowex_writing.specs.Going.{TriesNoLock, WorksOn}
-use Rattle.rowex_writing.specs.Locks.{LoadsNoRoot, Tries, TriesOnce, Works, targets_of}
+use Rattle.rowex_writing.specs.Locks.{LoadsNoRoot, Tries, TriesNodes, TriesNodesBy, TriesOnce, Works, targets_of}
 use Rattle.rowex_writing.proofs.Tried.{once_then, then_once, no_lock_is_tried, tries_more, tries_none, tries_one}
 
 -- ---- kinds of steps
@@ -161,6 +161,10 @@ module _ {G : Type 0} (table : TableView) (becomes : G → Event → G → Type 
   pub tries_once : {locks : ℕ} (a b : SeatView × G) → TriesOnce table becomes locks a b → HasTriedOnce table becomes locks a b
   unfolding works_run
   tries_once a b (tried, run, once, count) = (tried, works_run a b run, once, count)
+
+  pub nodes_run : (nodes : List ℕ) (a b : SeatView × G) → TriesNodes table becomes nodes a b → TriesNodesBy LeavesPin table becomes nodes a b
+  unfolding works_run
+  nodes_run nodes a b h = record { tried = h.tried; run = works_run a b h.run; once = h.once; count = h.count; among = h.among }
 
   pub goes_run : (a b : SeatView × G) → WorksOn table becomes a b → HasRun table becomes a b
   goes_run a b w = record { acts = w.acts; each = All-weaker TriesNoLock LeavesPin (λ act t. recalls_pin act (quiet_recalls act t)) w.acts w.plain; tried_are = no_lock_is_tried w.acts w.plain; steps = w.steps }

@@ -2,7 +2,7 @@
 use Rattle.std.proofs.Common.{◌≡◌, ◌≢◌, inl, inr, ℕ, ◌+◌, ◌-◌, ◌<◌, ◌≤◌, List, [], ◌∷◌, length, get_or, take, drop, refl, sym, ap, subst, ◌∙◌, arith, suc}
 use Rattle.std.specs.Prelude.{Contains, slice_range}
 use Rattle.std.proofs.lemmas.List.{drop_more, drop_all}
-use Rattle.std.proofs.lemmas.List.Elements.{All-cons, All-drop, All-take, All-weaker}
+use Rattle.std.proofs.lemmas.List.Elements.{All-drop, All-take, All-weaker}
 use Rattle.record_words.specs.declared.layout.Layout.{Layout}
 use Rattle.insert_cases.specs.declared.choice.Step.{Step}
 use Rattle.compound_node.specs.declared.entries.Entry.TheVariants.{Node}
@@ -61,8 +61,8 @@ none_locked k steps i past (just, apart) = none_of k.locks (λ l there. subst (�
 pub led_step_later : (layout : Layout) (k j : Known) (s : Step) → IsLater k j → IsLedStep layout k s → IsLedStep layout j s
 led_step_later layout k j s later (low, (m, h, (pin, pinned, early), sure)) = (low, (m, h, (pin, later.pin ∙ pinned, early), sure_stays k j (λ past. EntryStoodSince past m (Node s.number h)) later sure))
 
-pub led_one : (layout : Layout) (k j : Known) (way : List Step) (i : ℕ) (d : Step) → i < length way → IsLater k j → AreLed layout k way → AreLed layout j (get_or way i d ∷ [])
-led_one layout k j way i d low later led = All-cons (IsLedStep layout j) (get_or way i d) [] (led_step_later layout k j (get_or way i d) later (led i d low)) (λ o e l. absurd (omega arith))
+pub led_at : (layout : Layout) (k j : Known) (way : List Step) (i : ℕ) (d : Step) → i < length way → IsLater k j → AreLed layout k way → IsLedStep layout j (get_or way i d)
+led_at layout k j way i d low later led = led_step_later layout k j (get_or way i d) later (led i d low)
 
 pub led_nodes : (layout : Layout) (k : Known) (way : List Step) (i j : ℕ) → AreLed layout k way → AreNodes layout (slice_range way i j)
 led_nodes layout k way i j led =

@@ -15,7 +15,7 @@ use Rattle.rowex_table.specs.Runs.{Steps}
 use Rattle.rowex_table.specs.Seats.{TableView, SeatView}
 use Rattle.rowex_table.proofs.Running.{runs_append, runs_one}
 use Rattle.rowex_writing.specs.Going.{TriesNoLock}
-use Rattle.rowex_writing.specs.Locks.{Tries, TriesBy, TriesOnceBy, TriesLocksOnce, TriesOnce, numbers_of, targets_of}
+use Rattle.rowex_writing.specs.Locks.{TriesBy, TriesNodesBy, TriesOnceBy, TriesLocksOnce, numbers_of, targets_of}
 use Rattle.rowex_writing.proofs.Spans.{slice_more}
 
 -- ---- of two lists
@@ -99,28 +99,31 @@ module _ {G : Type 0} {Is : Act → Type 0} (table : TableView) (becomes : G →
   unfolding tries_more
   then_once a m b first (tried, run, once, count) = (tried, tries_more {s = []} a m b first run, once_after first.acts run.acts first.tried_are once, count)
 
-module _ {G : Type 0} (table : TableView) (becomes : G → Event → G → Type 0) where
-  -- Each is tried once, and these are locks of these nodes.
-  pub record TriesNodes (nodes : List ℕ) (a b : SeatView × G) : Type 0 where
-    pub tried : List Target
-    pub run : Tries table becomes tried a b
-    pub once : TriesLocksOnce run.acts
-    pub count : length tried ≡ length nodes
-    pub among : (t : Target) → IsOneOf t tried → IsOneOf t (map NodeTarget nodes)
-
-  pub nodes_none : (a : SeatView × G) → TriesNodes [] a a
+module _ {G : Type 0} {Is : Act → Type 0} (table : TableView) (becomes : G → Event → G → Type 0) where
+  pub nodes_none : (a : SeatView × G) → TriesNodesBy Is table becomes [] a a
   unfolding tries_none
   nodes_none a = record { tried = []; run = tries_none table becomes a; once = tt; count = refl; among = λ t i. i }
 
-  pub nodes_once : (ns : List ℕ) (a b : SeatView × G) → TriesNodes ns a b → TriesOnce table becomes (length ns) a b
+  pub nodes_once : (ns : List ℕ) (a b : SeatView × G) → TriesNodesBy Is table becomes ns a b → TriesOnceBy Is table becomes (length ns) a b
   nodes_once ns a b h = (h.tried, h.run, h.once, h.count)
 
+  -- none more
+  pub nodes_then : (ns : List ℕ) (a m b : SeatView × G) → TriesNodesBy Is table becomes ns a m → TriesBy Is table becomes [] m b → TriesNodesBy Is table becomes ns a b
+  unfolding tries_more
+  nodes_then ns a m b h works = record {
+    tried = h.tried ++ [];
+    run = tries_more table becomes a m b h.run works;
+    once = once_before h.run.acts works.acts h.once works.tried_are;
+    count = ap length (append-nil h.tried) ∙ h.count;
+    among = λ t i. h.among t (subst (IsOneOf t) (append-nil h.tried) i);
+  }
+
   -- a lock more, which is none of those before
-  apart_more : (target : Target) (tried : List Target) (a b : SeatView × G) (run : Tries table becomes tried a b) → TriesLocksOnce run.acts → (IsOneOf target tried → ⊥) → AreApart (tried ++ target ∷ [])
+  apart_more : (target : Target) (tried : List Target) (a b : SeatView × G) (run : TriesBy Is table becomes tried a b) → TriesLocksOnce run.acts → (IsOneOf target tried → ⊥) → AreApart (tried ++ target ∷ [])
   apart_more target tried a b run once new = apart_end target tried (subst AreApart run.tried_are once) new
 
   -- of a node
-  pub nodes_more : (n : ℕ) (ns : List ℕ) (a m b : SeatView × G) → (IsOneOf n ns → ⊥) → TriesNodes ns a m → Tries table becomes (NodeTarget n ∷ []) m b → TriesNodes (n ∷ ns) a b
+  pub nodes_more : (n : ℕ) (ns : List ℕ) (a m b : SeatView × G) → (IsOneOf n ns → ⊥) → TriesNodesBy Is table becomes ns a m → TriesBy Is table becomes (NodeTarget n ∷ []) m b → TriesNodesBy Is table becomes (n ∷ ns) a b
   nodes_more n ns a m b new h lock =
       let all = tries_more table becomes a m b h.run lock in
       record { tried = h.tried ++ NodeTarget n ∷ []; run = all; once = subst AreApart (sym all.tried_are) (apart_more (NodeTarget n) h.tried a m h.run h.once none); count = omega (arith, length-append h.tried (NodeTarget n ∷ []), h.count); among = within }
@@ -132,7 +135,7 @@ module _ {G : Type 0} (table : TableView) (becomes : G → Event → G → Type 
       within t i = elim (of_append t h.tried (NodeTarget n ∷ []) i) [ inl older ↦ inr (h.among t older) | inr last ↦ elim last [ inl e ↦ inl e | inr nothing ↦ absurd nothing ] ]
 
   -- of the anchor
-  pub anchor_more : (ns : List ℕ) (a m b : SeatView × G) → TriesNodes ns a m → Tries table becomes (Anchor ∷ []) m b → TriesOnce table becomes (suc (length ns)) a b
+  pub anchor_more : (ns : List ℕ) (a m b : SeatView × G) → TriesNodesBy Is table becomes ns a m → TriesBy Is table becomes (Anchor ∷ []) m b → TriesOnceBy Is table becomes (suc (length ns)) a b
   anchor_more ns a m b h lock =
       let all = tries_more table becomes a m b h.run lock in (h.tried ++ Anchor ∷ [], all, subst AreApart (sym all.tried_are) (apart_more Anchor h.tried a m h.run h.once none), omega (arith, length-append h.tried (Anchor ∷ []), h.count))
     where

@@ -50,7 +50,7 @@ use Rattle.rowex_rights.specs.Stages.{IsSure}
 use Rattle.rowex_rights.proofs.Loops.{later_if_same, later_transitive}
 use Rattle.rowex_writing.proofs.Runs.{plain_recalls}
 use Rattle.rowex_writing.proofs.Tried.{tries_none, tries_one, tries_more}
-use Rattle.rowex_writing.specs.Locks.{Tries, Works, LoadsNoRoot, IsTakenWord, LocksOne, LocksAnchor, IsRefusedLock, NoChangeFrom, HasMadeNoChange, targets_of}
+use Rattle.rowex_writing.specs.Locks.{Tries, Works, HasTheSame, LoadsNoRoot, IsTakenWord, LocksOne, LocksAnchor, IsRefusedLock, NoChangeFrom, HasMadeNoChange, targets_of}
 
 module _ {G : Type 0} (table : TableView) (becomes : G → Event → G → Type 0) where
   pub works_none : (a : SeatView × G) → Works table becomes a a
@@ -198,6 +198,11 @@ module _ (layout : Layout) (k j : Known) where
   anchor_met found free e ne =
       let is = e.legal.1 in
       met Anchor found e ne (subst IsTakenWord (sym is) (taken_anchor e.core.anchor (λ z. ne (is ∙ z)))) (anchor_taker e.core k e.lawful e.knows free e.core.anchor refl (λ z. ne (is ∙ z)))
+
+  -- whoever is in the way, the pass has what it had
+  pub node_same : (n found : ℕ) → IsEvent layout (Lock (NodeTarget n) found) silent k j → found ≢ 2 → HasTheSame k j
+  node_same n found e ne =
+      let is = before.lock_fails layout k j (NodeTarget n) found e ne in (ap (λ (z : Known). z.locks) is, ap (λ (z : Known). z.anchor) is, ap (λ (z : Known). z.own) is)
 
   -- ---- a lock that is taken
   pub node_locked : (n found : ℕ) → IsEvent layout (Lock (NodeTarget n) found) silent k j → found ≡ 2 → LocksOne n k j

@@ -18,3 +18,4 @@ pub mod Attempts
 pub mod Growths
 pub mod Counts
 pub mod Walks
+pub mod Merging

@@ -14,9 +14,11 @@ use Rattle.rowex_core.specs.declared.event.Act.TheVariants.{LoadRef, Lock}
 use Rattle.rowex_core.specs.declared.event.Event.{Event}
 use Rattle.rowex_core.specs.declared.event.Spot.TheVariants.{Root}
 use Rattle.rowex_core.specs.declared.event.Target.{Target}
+use Rattle.rowex_core.specs.declared.event.Target.TheVariants.{Node as NodeTarget}
 use Rattle.rowex_core.specs.declared.known.Failed.{Failed}
 use Rattle.rowex_core.specs.declared.known.FailedAct.TheVariants.{Lock as a_lock}
 use Rattle.rowex_core.specs.declared.known.Known.{Known}
+use Rattle.rowex_core.specs.declared.known.Locked.{Locked}
 use Rattle.rowex_core.specs.Events.{target_word}
 use Rattle.rowex_core.specs.Having.{LocksJust}
 use Rattle.rowex_core.specs.Knowing.{IsPinnedSince}
@@ -64,6 +66,17 @@ Works table becomes a b = Tries table becomes [] a b
 -- or so many, each once.
 abbrev pub TriesOnce : {G : Type 0} → TableView → (G → Event → G → Type 0) → ℕ → SeatView × G → SeatView × G → Type 0
 TriesOnce table becomes locks a b = TriesOnceBy LoadsNoRoot table becomes locks a b
+
+-- Each of these nodes' locks is tried once, and no other one is.
+pub record TriesNodesBy {G : Type 0} (Is : Act → Type 0) (table : TableView) (becomes : G → Event → G → Type 0) (nodes : List ℕ) (a b : SeatView × G) : Type 0 where
+  pub tried : List Target
+  pub run : TriesBy Is table becomes tried a b
+  pub once : TriesLocksOnce run.acts
+  pub count : length tried ≡ length nodes
+  pub among : (t : Target) → IsOneOf t tried → IsOneOf t (map NodeTarget nodes)
+
+abbrev pub TriesNodes : {G : Type 0} → TableView → (G → Event → G → Type 0) → List ℕ → SeatView × G → SeatView × G → Type 0
+TriesNodes table becomes nodes a b = TriesNodesBy LoadsNoRoot table becomes nodes a b
 
 -- no node is locked by the pass, and the anchor is not
 abbrev pub HasNoLock : Known → Type 0
@@ -138,9 +151,28 @@ abbrev pub LocksOne : ℕ → Known → Known → Type 0
 LocksOne n k j =
     ((words : List ℕ) × (j.locks ≡ record { node = n; words = words } ∷ k.locks)) × ¬ (IsOneOf n (nodes_of k.locks)) × (j.own ≡ k.own) × (j.anchor ≡ k.anchor)
 
+-- it has locked the node, in front of these
+abbrev pub LocksLast : ℕ → List Locked → Known → Type 0
+LocksLast n held j = ((words : List ℕ) × (j.locks ≡ record { node = n; words = words } ∷ held)) × ¬ (IsOneOf n (nodes_of held))
+
 -- it has locked the anchor
 abbrev pub LocksAnchor : Known → Known → Type 0
 LocksAnchor k j = IsSome j.anchor × (j.locks ≡ k.locks) × (j.own ≡ k.own)
+
+-- its locks and its records are the same
+abbrev pub HasTheSame : Known → Known → Type 0
+HasTheSame k j = (j.locks ≡ k.locks) × (j.anchor ≡ k.anchor) × (j.own ≡ k.own)
+
+-- The pass was led to the node since its pin and has made no change since. It has nothing of its own and has not locked the node: so
+-- only another pass may be in the way of its lock.
+pub record HasNotLocked (k : Known) (n : ℕ) : Type 0 where
+  pub since : ℕ
+  pub height : ℕ
+  pub pinned : IsPinnedSince k since
+  pub led : IsSure k (λ past. EntryStoodSince past since (Node n height))
+  pub own : k.own ≡ []
+  pub free : ¬ (IsOneOf n (nodes_of k.locks))
+  pub quiet : HasMadeNoChange k
 
 -- its lock was refused
 abbrev pub IsRefusedLock : Layout → Known → Known → Type 0

@@ -1,6 +1,6 @@
 //! One attempt of a call that may change the index, from a pinned pass that has nothing to one that has nothing.
 
-ghost use Rattle.std.specs.Prelude.{◌≡◌, ◌≢◌, ◌⊎◌, ◌<◌, ◌≤◌, ℕ, length, true, false, IfErr, IfOk, IsSome, Err, Ok, ◌+◌, ◌*◌};
+ghost use Rattle.std.specs.Prelude.{◌≡◌, ◌≢◌, ◌⊎◌, ◌<◌, ◌≤◌, ℕ, Option, length, true, false, IfErr, IfOk, IsSome, Err, Ok, ◌+◌, ◌*◌};
 ghost use Rattle.finite_map.specs.Maps.{key_of as the_key};
 ghost use Rattle.rowex_core.specs.declared.known.Known.{Known};
 ghost use Rattle.rowex_reading.specs.Possible.{IsPossible};
@@ -8,21 +8,28 @@ ghost use Rattle.rowex_rights.specs.Ending.{IsAtRest};
 ghost use Rattle.rowex_table.specs.Made.{IsLater};
 ghost use Rattle.rowex_table.specs.Seats.{IsSeatOf};
 ghost use Rattle.rowex_writing.specs.Attempts.{HasAnswered, HasAttempted, HasDone, HasLoadedRoot, HasRefused, IsLeafless, refusal_of as the_refusal};
-ghost use Rattle.rowex_writing.specs.Changes.{HasNoRoom, HasPlanned, HasRun, HasTakenPlan, HasTakenSpan, HasTriedOnce};
+ghost use Rattle.finite_map.specs.declared.Change.{Change};
+ghost use Rattle.rowex_table.specs.Stays.{LeavesPin};
+ghost use Rattle.rowex_writing.specs.Changes.{HasNoRoom, HasPlanned, HasRun, HasTakenPlan, HasTakenSpan, HasTriedOnce, IsTakeChange};
+ghost use Rattle.rowex_writing.specs.Deeds.{MayReplace};
+ghost use Rattle.rowex_writing.specs.Merging.{ChangesOn, EndsChange, TakesOn, TriesFew};
+ghost use Rattle.rowex_writing.specs.declared.plan.Deed.TheVariants.{Take};
 ghost use Rattle.rowex_writing.specs.Jobs.{IsJobFrom, IsWithinWay};
-ghost use Rattle.rowex_writing.specs.Locks.{HasMadeNoChange, HasMetLock, locks_of};
+ghost use Rattle.rowex_writing.specs.Locks.{HasMadeNoChange, HasMetLock, TriesNodesBy, locks_of, span_numbers};
 ghost use Rattle.rowex_writing.specs.Counts.{change_steps, most_locks, most_steps, span_steps};
 ghost use Rattle.record_words.specs.declared.TheConstants.{HEAD_WORDS};
 
 use crate::asking::{aim_of, key_of, reply_to, value_in, value_of};
 use crate::building::Build;
 use crate::checking::check_span;
-use crate::deeds::{Job, carry_out};
+use crate::deeds::{Job, Raised, carry_out};
 use crate::ending::undo;
 use crate::finding::find_plan;
 use crate::locks::lock_span;
+use crate::merging::try_merge;
 use crate::plan::{Deed, Full, Plan};
 use crate::publishing::publish_change;
+use crate::taking::take_leaf;
 use arrayvec::ArrayVec;
 use finite_map::{Call, Reply};
 use insert_cases::Step;
@@ -121,10 +128,100 @@ fn try_change<G: Gate>(
     if !take_span(table, seat, gate, job) {
         return Err(TryFault::Busy);
     }
-    match make_change(table, seat, gate, build, job, deed) {
+    match change_taken(table, seat, gate, build, job, deed) {
         Ok(()) => Ok(()),
         Err(full) => Err(refusal_of(full)),
     }
+}
+
+/// Makes the change of a plan whose nodes are locked and checked, as [`make_change`] and [`make_removal`] do.
+fn change_taken<G: Gate>(
+    table: &HotTable,
+    seat: &mut TableSeat,
+    gate: &mut G,
+    build: &mut Build,
+    job: &Job<'_>,
+    deed: Deed,
+) -> Result<(), Full>
+    requires taken { HasTakenPlan table.now seat.old job.now deed }
+    ensures run { EndsChange table.now G.becomes job.now (seat.old, gate.old) (seat.new, gate.new) }
+    ensures done { result ≡ Ok tt → HasDone seat.old.known seat.new.known deed job.now.key.now job.now.value job.now.found }
+    ensures full { IfErr result (λ full. HasNoRoom table.now.layout job.now.key.now seat.old.known seat.new.known full) }
+    ensures leafless { deed ≡ Deed.Take → result ≢ Err Full.Leaves }
+{
+    match deed {
+        Deed::Take => take_away(table, seat, gate, build, job),
+        _ => make_change(table, seat, gate, build, job, deed),
+    }
+}
+
+/// Makes a removal: where the leaf's node has one above it on the way, as [`make_removal`] does.
+fn take_away<G: Gate>(
+    table: &HotTable,
+    seat: &mut TableSeat,
+    gate: &mut G,
+    build: &mut Build,
+    job: &Job<'_>,
+) -> Result<(), Full>
+    requires taken { HasTakenPlan table.now seat.old job.now Take }
+    ensures run { EndsChange table.now G.becomes job.now (seat.old, gate.old) (seat.new, gate.new) }
+    ensures done { result ≡ Ok tt → HasDone seat.old.known seat.new.known Take job.now.key.now job.now.value job.now.found }
+    ensures full { IfErr result (λ full. HasNoRoom table.now.layout job.now.key.now seat.old.known seat.new.known full) }
+    ensures leafless { result ≢ Err Full.Leaves }
+{
+    if job.span.end > 0 {
+        return make_removal(table, seat, gate, build, job);
+    }
+    make_change(table, seat, gate, build, job, Deed::Take)
+}
+
+/// Makes a removal from a node that has one above it on the way: what is left of the node takes its place, or becomes one with the
+/// node beside it. It is undone if no record was free.
+fn make_removal<G: Gate>(
+    table: &HotTable,
+    seat: &mut TableSeat,
+    gate: &mut G,
+    build: &mut Build,
+    job: &Job<'_>,
+) -> Result<(), Full>
+    requires taken { HasTakenPlan table.now seat.old job.now Take }
+    requires some { 0 < job.now.span.end }
+    ensures run { ChangesOn table.now G.becomes (span_numbers job.now.way.now job.now.span) (seat.old, gate.old) (seat.new, gate.new) }
+    ensures done { result ≡ Ok tt → HasDone seat.old.known seat.new.known Take job.now.key.now job.now.value job.now.found }
+    ensures full { IfErr result (λ full. HasNoRoom table.now.layout job.now.key.now seat.old.known seat.new.known full) }
+    ensures leafless { result ≢ Err Full.Leaves }
+{
+    match take_leaf(table, seat, gate, build, job) {
+        Ok(raised) => {
+            end_removal(table, seat, gate, build, job, raised);
+            Ok(())
+        }
+        Err(full) => {
+            undo(table, seat, gate, build.made.as_slice(), job.way, job.span);
+            Err(full)
+        }
+    }
+}
+
+/// The end of a removal that is carried out: it merges, or is published as it is.
+fn end_removal<G: Gate>(
+    table: &HotTable,
+    seat: &mut TableSeat,
+    gate: &mut G,
+    build: &mut Build,
+    job: &Job<'_>,
+    raised: Raised,
+)
+    requires takes { TakesOn table.now seat.old job.now }
+    requires may { (x : Change) × (was : Option ℕ) × IsTakeChange seat.old.known.pass job.now.key.now job.now.found x was ×
+        MayReplace table.now seat.old build.old.made.items job.now.way.now job.now.span raised x was }
+    ensures tries { TriesFew table.now G.becomes (span_numbers job.now.way.now job.now.span) build.old.left_nodes 80 (seat.old, gate.old) (seat.new, gate.new) }
+    ensures done { HasDone seat.old.known seat.new.known Take job.now.key.now job.now.value job.now.found }
+{
+    if try_merge(table, seat, gate, build, job) {
+        return;
+    }
+    publish_change(table, seat, gate, build, job, raised);
 }
 
 /// Locks what is to change, and checks that it still stands as the search found it. Where a lock is refused, or something else
@@ -139,6 +236,8 @@ fn take_span<G: Gate>(table: &HotTable, seat: &mut TableSeat, gate: &mut G, job:
     ensures run { (locks : ℕ) × HasTriedOnce table.now G.becomes locks (seat.old, gate.old) (seat.new, gate.new) ×
         (0 < locks) × (locks ≤ locks_of job.now.span) × (result ≡ true → locks ≡ locks_of job.now.span) ×
         (seat.new.known.steps ≤ seat.old.known.steps + 3 * locks + 1) }
+    ensures nodes { result ≡ true → 0 < job.now.span.end → TriesNodesBy LeavesPin table.now G.becomes (span_numbers job.now.way.now job.now.span) (seat.old, gate.old) (seat.new, gate.new) ×
+        (seat.new.known.steps ≤ seat.old.known.steps + 3 * locks_of job.now.span + 1) }
     ensures later { IsLater seat.old.known seat.new.known }
     ensures taken { result ≡ true → (m : ℕ) → IsJobFrom table.now.layout seat.old.known m job.now →
         HasTakenSpan table.now seat.new m job.now.key.now job.now.way.now job.now.found job.now.span }

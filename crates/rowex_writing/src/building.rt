@@ -1,6 +1,6 @@
 //! Records for what takes a node's place.
 
-ghost use Rattle.std.specs.Prelude.{◌≡◌, ◌≢◌, ◌<◌, ◌≤◌, ◌+◌, ◌-◌, ◌*◌, ◌++◌, ◌∷◌, [], List, ℕ, length, slice_get, IfSome, MatchOption, Some};
+ghost use Rattle.std.specs.Prelude.{◌≡◌, ◌≢◌, ◌<◌, ◌≤◌, ◌+◌, ◌-◌, ◌*◌, ◌++◌, ◌∷◌, [], List, ℕ, length, slice_get, IfSome, MatchOption, None, Some};
 ghost use Rattle.insert_cases.specs.declared.choice.Step.{Step as StepView};
 ghost use Rattle.record_words.specs.Node.{CanTakeLeaf, HasNodeWords, node_words};
 ghost use Rattle.record_words.specs.Reading.{IsSpelling};
@@ -85,7 +85,7 @@ pub(crate) fn make_node<G: Gate>(
 }
 
 /// Makes a record of a node's words, as [`make_node`] does for the node.
-fn make_words<G: Gate>(
+pub(crate) fn make_words<G: Gate>(
     table: &HotTable,
     seat: &mut TableSeat,
     gate: &mut G,
@@ -99,6 +99,7 @@ fn make_words<G: Gate>(
     ensures made { (news : List Made) (node : NodeView) → HasNodeWords node → node_words node ≡ words.now → IsBuilding table.now seat.old build.old.made.items news →
         MatchOption result (HasNotMade table.now seat.new build.new.made.items)
         (λ e. (number : ℕ) × (e ≡ Entry.Node number node.height) × IsBuilding table.now seat.new build.new.made.items (made_of_node number node ∷ news)) }
+    ensures same { result ≡ None → (seat.new.known.own ≡ seat.old.known.own) × (build.new.made.items ≡ build.old.made.items) }
     ensures more { length build.new.made.items ≤ length build.old.made.items + 1 }
     ensures walk { WalksOn table.now.layout seat.old.known build.old seat.new.known build.new result }
     ensures few { Spends node_steps seat.old.known build.old seat.new.known build.new result }

@@ -50,7 +50,7 @@ pub(crate) fn check_span<G: Gate>(
 }
 
 /// What names the node at this index of the way; after the last one, what the search ended at.
-fn named_at(way: &[Step], found: Found, index: usize) -> Option<Entry>
+pub(crate) fn named_at(way: &[Step], found: Found, index: usize) -> Option<Entry>
     ensures { result ≡ named way.now found index }
 {
     if index < way.len() {
@@ -67,7 +67,7 @@ fn named_at(way: &[Step], found: Found, index: usize) -> Option<Entry>
 }
 
 /// Whether the root has this entry, under the anchor's lock.
-fn root_stands<G: Gate>(
+pub(crate) fn root_stands<G: Gate>(
     table: &HotTable,
     seat: &mut TableSeat,
     gate: &mut G,
@@ -111,7 +111,7 @@ fn entries_stand<G: Gate>(
 }
 
 /// Whether a locked node has this entry at the place that the search took.
-fn entry_stands<G: Gate>(
+pub(crate) fn entry_stands<G: Gate>(
     table: &HotTable,
     seat: &mut TableSeat,
     gate: &mut G,

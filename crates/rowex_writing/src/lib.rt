@@ -45,6 +45,7 @@ mod finding;
 mod growing;
 mod locked;
 mod locks;
+mod merging;
 mod pairing;
 mod plan;
 mod publishing;
@@ -53,6 +54,7 @@ mod remaking;
 mod supply;
 mod taking;
 mod walking;
+mod widening;
 
 pub use attempts::{TryFault, attempt};
 pub use building::Build;

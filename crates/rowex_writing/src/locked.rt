@@ -1,16 +1,21 @@
 //! What a pass reads of a node that it has locked.
 
-ghost use Rattle.std.specs.Prelude.{◌≡◌, ◌<◌, ℕ, List, get_or, replicate, ◌≤◌, ◌+◌};
+ghost use Rattle.std.specs.Prelude.{◌≡◌, ◌<◌, ℕ, List, get_or, replicate, take, ◌≤◌, ◌+◌};
 ghost use Rattle.compound_node.specs.Nodes.{NodeView};
 ghost use Rattle.versions.specs.declared.Rec.TheVariants.{Node as a_node};
+ghost use Rattle.record_words.specs.declared.TheConstants.{HEAD_WORDS};
+ghost use Rattle.tries.specs.Place.{entry_at};
+ghost use Rattle.rowex_core.specs.Reading.{node_words_of};
+ghost use Rattle.rowex_reading.specs.Possible.{IsPossible};
+ghost use Rattle.rowex_reading.specs.Seen.{HasPlace};
 ghost use Rattle.rowex_table.specs.Rule.{IsStartOf};
 ghost use Rattle.rowex_table.specs.Seats.{IsSeatOf};
 ghost use Rattle.rowex_writing.specs.Going.{ReadsOn, HasLocked, IsLockedBy, IsNodeOf};
 ghost use Rattle.rowex_writing.specs.Loads.{ReadsEight};
 
-use compound_node::Node;
-use record_words::{HEAD_WORDS, NODE_FIELDS, read_node};
-use rowex_core::{Gate, Rec};
+use compound_node::{Entry, Node};
+use record_words::{HEAD_WORDS, NODE_FIELDS, read_node, read_some};
+use rowex_core::{Gate, Rec, Spot};
 use rowex_table::{HotTable, TableSeat};
 
 /// Loads the words of a node that the pass has locked, from offset 1 on: those of the lock. Words of entries are loaded by eight, as far
@@ -40,6 +45,51 @@ pub(crate) fn load_words<G: Gate>(
     load_eight(table, seat, gate, number, start, words, 33, end);
     load_eight(table, seat, gate, number, start, words, 41, end);
     load_eight(table, seat, gate, number, start, words, 49, end);
+}
+
+/// Loads the words of the head of a node that the pass has locked.
+pub(crate) fn load_head<G: Gate>(
+    table: &HotTable,
+    seat: &mut TableSeat,
+    gate: &mut G,
+    number: u32,
+) -> [u64; HEAD_WORDS]
+    requires own { IsSeatOf table.now seat.old }
+    requires range { number < table.now.layout.nodes }
+    requires locked { IsLockedBy seat.old.known number }
+    ensures reads { ReadsOn table.now G.becomes (seat.old, gate.old) (seat.new, gate.new) }
+    ensures words { (those : List ℕ) → HasLocked seat.old.known number those → result ≡ take HEAD_WORDS those }
+    ensures few { seat.new.known.steps ≤ seat.old.known.steps + HEAD_WORDS }
+{
+    let start = table.start_of(Rec::Node(number));
+    let mut words = [0; HEAD_WORDS];
+    for index in 0..HEAD_WORDS {
+        words[index] = load_word(table, seat, gate, number, start, index);
+    }
+    words
+}
+
+/// Loads the entry at a place that a locked node has.
+pub(crate) fn load_place<G: Gate>(
+    table: &HotTable,
+    seat: &mut TableSeat,
+    gate: &mut G,
+    number: u32,
+    place: u8,
+) -> Entry
+    requires own { IsSeatOf table.now seat.old }
+    requires possible { IsPossible table.now.layout seat.old.known }
+    requires place { (m h : ℕ) × HasPlace seat.old.known m number h place }
+    requires locked { IsLockedBy seat.old.known number }
+    ensures reads { ReadsOn table.now G.becomes (seat.old, gate.old) (seat.new, gate.new) }
+    ensures entry { (words : List ℕ) → HasLocked seat.old.known number words → result ≡ entry_at (node_words_of words).subtrie place }
+    ensures few { seat.new.known.steps ≤ seat.old.known.steps + 1 }
+{
+    let spot = Spot::Slot {
+        node: number,
+        entry: place,
+    };
+    read_some(table.load_ref(seat, gate, spot))
 }
 
 /// Loads eight words of a locked node, whose record begins at `start`, to these places: those from this index on, if there are entries among

@@ -1,10 +1,10 @@
 //! The locks of a writer: those of a span of the way, taken upwards, and given back.
 
 ghost use Rattle.std.specs.Prelude.{◌≡◌, ◌<◌, ◌≤◌, ℕ, [], ◌∷◌, length, true, false, None, ◌+◌, ◌*◌};
-ghost use Rattle.versions.specs.Trades.{AreApart, IsOneOf};
-ghost use Rattle.rowex_table.specs.Made.{nodes_of};
+ghost use Rattle.versions.specs.Trades.{AreApart};
 ghost use Rattle.rowex_table.specs.Seats.{IsSeatOf};
-ghost use Rattle.rowex_writing.specs.Locks.{AreLed, AreNodes, HasJustLocked, HasLockedSpan, HasMadeNoChange, HasMetLock, HasNoLock, IsRefusedLock, KnowsSameButLocks, LocksAnchor, LocksOne, Tries, TriesOnce, Works, locks_of, numbers_of};
+ghost use Rattle.rowex_table.specs.Rights.{MayLock};
+ghost use Rattle.rowex_writing.specs.Locks.{AreLed, AreNodes, HasJustLocked, HasLockedSpan, HasMadeNoChange, HasMetLock, HasNoLock, HasNotLocked, HasTheSame, IsRefusedLock, KnowsSameButLocks, LocksAnchor, LocksOne, Tries, TriesNodes, TriesOnce, Works, locks_of, numbers_of, span_numbers};
 
 use crate::plan::Span;
 use insert_cases::Step;
@@ -35,13 +35,14 @@ pub(crate) fn lock_span<G: Gate>(
     ensures same { seat.new.known.own ≡ seat.old.known.own }
     ensures locked { result ≡ true → HasLockedSpan seat.new.known way.now span }
     ensures refused { result ≡ false → HasNoLock seat.new.known × HasMetLock table.now.layout seat.old.known seat.new.known }
+    ensures nodes { result ≡ true → 0 < span.end → TriesNodes table.now G.becomes (span_numbers way.now span) (seat.old, gate.old) (seat.new, gate.new) }
     ensures few { result ≡ true → seat.new.known.steps ≤ seat.old.known.steps + locks_of span }
 {
     let first = span.first_locked();
     let mut index = span.len;
     while index > first {
         index -= 1;
-        if !lock_node(table, seat, gate, way[index]) {
+        if !lock_node(table, seat, gate, way[index].number) {
             unlock_nodes(table, seat, gate, &way[index + 1..span.len]);
             return false;
         }
@@ -56,24 +57,28 @@ pub(crate) fn lock_span<G: Gate>(
     false
 }
 
-/// Locks a node to which the pass was led, if it is live.
-fn lock_node<G: Gate>(table: &HotTable, seat: &mut TableSeat, gate: &mut G, step: Step) -> bool
+/// Locks a node that the pass may lock, if it is live.
+pub(crate) fn lock_node<G: Gate>(
+    table: &HotTable,
+    seat: &mut TableSeat,
+    gate: &mut G,
+    number: u32,
+) -> bool
     requires own { IsSeatOf table.now seat.old }
-    requires led { AreLed table.now.layout seat.old.known (step ∷ []) }
-    requires free { ¬ (IsOneOf step.number (nodes_of seat.old.known.locks)) }
-    requires none { seat.old.known.own ≡ [] }
-    requires quiet { HasMadeNoChange seat.old.known }
-    ensures tries { Tries table.now G.becomes (Target.Node step.number ∷ []) (seat.old, gate.old) (seat.new, gate.new) }
-    ensures locked { result ≡ true → LocksOne step.number seat.old.known seat.new.known }
-    ensures refused { result ≡ false → IsRefusedLock table.now.layout seat.old.known seat.new.known }
+    requires range { number < table.now.layout.nodes }
+    requires may { MayLock table.now.layout (Target.Node number) seat.old.known }
+    ensures tries { Tries table.now G.becomes (Target.Node number ∷ []) (seat.old, gate.old) (seat.new, gate.new) }
+    ensures locked { result ≡ true → LocksOne number seat.old.known seat.new.known }
+    ensures same { result ≡ false → HasTheSame seat.old.known seat.new.known }
+    ensures refused { result ≡ false → HasNotLocked seat.old.known number → HasMetLock table.now.layout seat.old.known seat.new.known }
     ensures few { seat.new.known.steps ≤ seat.old.known.steps + 1 }
 {
-    let found = table.lock(seat, gate, Target::Node(step.number));
+    let found = table.lock(seat, gate, Target::Node(number));
     found == pack_state(Tag::Live)
 }
 
 /// Locks the anchor, if it is live.
-fn lock_anchor<G: Gate>(table: &HotTable, seat: &mut TableSeat, gate: &mut G) -> bool
+pub(crate) fn lock_anchor<G: Gate>(table: &HotTable, seat: &mut TableSeat, gate: &mut G) -> bool
     requires own { IsSeatOf table.now seat.old }
     requires free { seat.old.known.anchor ≡ None }
     ensures tries { Tries table.now G.becomes (Target.Anchor ∷ []) (seat.old, gate.old) (seat.new, gate.new) }

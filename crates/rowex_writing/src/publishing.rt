@@ -66,7 +66,7 @@ pub(crate) fn make_leaf<G: Gate>(
 
 /// Makes all records ready that the pass has made for a change, the one made last first: then they may be linked. The list is empty then,
 /// one by one: to clear it would be a call for a record or two.
-fn ready_all<G: Gate>(
+pub(crate) fn ready_all<G: Gate>(
     table: &HotTable,
     seat: &mut TableSeat,
     gate: &mut G,
@@ -83,7 +83,7 @@ fn ready_all<G: Gate>(
 }
 
 /// The word of an entry, or of none, of which it is known that its word spells an entry: so a node's height is at least 1.
-fn stored_word(entry: Option<Entry>) -> u64
+pub(crate) fn stored_word(entry: Option<Entry>) -> u64
     requires { HasEntryWord (entry_of (entry_word entry)) }
     ensures { result ≡ entry_word entry }
 {
@@ -160,7 +160,7 @@ fn kept_steps(way: &[Step], span: Span, low: usize) -> ArrayVec<Step, 2>
 }
 
 /// The spot that names what comes in the place of the nodes of the way from `end` on: in the node above them, or the root.
-fn spot_above(way: &[Step], end: usize) -> Spot
+pub(crate) fn spot_above(way: &[Step], end: usize) -> Spot
     requires { end ≤ length way.now }
     ensures { IsSpotAbove way.now end result }
 {

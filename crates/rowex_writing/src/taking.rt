@@ -1,10 +1,10 @@
 //! The end of a leaf: its node is made anew without it, or the root is empty.
 
-ghost use Rattle.std.specs.Prelude.{◌≡◌, ◌≢◌, Err, ◌<◌, ℕ, [], IfErr, IfOk, None, Some, ◌≤◌, ◌+◌};
+ghost use Rattle.std.specs.Prelude.{◌≡◌, ◌≢◌, Err, ◌<◌, ℕ, [], IfErr, IfOk, None, Some, ◌≤◌, ◌+◌, ◌*◌};
 ghost use Rattle.rowex_walks.specs.Writer.{removed_change};
 ghost use Rattle.tries.specs.Content.{item};
 ghost use Rattle.rowex_writing.specs.Changes.{HasTakenPlan};
-ghost use Rattle.rowex_writing.specs.Counts.{deed_steps};
+ghost use Rattle.rowex_writing.specs.Counts.{deed_steps, level_steps};
 ghost use Rattle.rowex_writing.specs.Deeds.{CarriesOut, HasNoneFree, MayReplace};
 ghost use Rattle.rowex_writing.specs.Going.{WorksOn};
 ghost use Rattle.rowex_writing.specs.Locks.{locks_of};
@@ -29,6 +29,7 @@ pub(crate) fn take_leaf<G: Gate>(
     requires taken { HasTakenPlan table.now seat.old job.now Take }
     ensures done { CarriesOut table.now G.becomes (seat.old, gate.old) (seat.new, gate.new) build.new.made.items job.now Take result }
     ensures leafless { result ≢ Err Full.Leaves }
+    ensures walk { 0 < job.now.span.len → seat.new.known.steps + 2 * build.new.left_nodes ≤ seat.old.known.steps + 2 * table.now.layout.nodes + level_steps + 1 }
 {
     build.made.clear();
     let Found::Leaf { number, .. } = job.found else {
@@ -60,6 +61,7 @@ fn remake_without<G: Gate>(
         IfOk result (λ raised. MayReplace table.now seat.new build.new.made.items job.now.way.now job.now.span raised
         (removed_change seat.old.known.pass (item number job.now.key.now value)) (Some value)) }
     ensures full { IfErr result (λ full. (full ≡ Full.Nodes) × HasNoneFree table.now seat.old.known seat.new build.new.made.items job.now full) }
+    ensures walk { seat.new.known.steps + 2 * build.new.left_nodes ≤ seat.old.known.steps + 2 * table.now.layout.nodes + level_steps + 1 }
     ensures few { seat.new.known.steps ≤ seat.old.known.steps + deed_steps table.now.layout (locks_of job.now.span) result }
 {
     build.left_nodes = table.layout().nodes;

@@ -3,7 +3,9 @@ use Rattle.std.proofs.Common.{◌≡◌, true, false, inl, inr, sym, ◌∙◌, 
 use Rattle.rowex_reading.proofs.Seeing.{later_trans}
 use Rattle.rowex_writing.proofs.Onward.{longer, run_possible, run_seat}
 use Rattle.rowex_writing.proofs.Confirming.{span_later}
-use Rattle.rowex_writing.proofs.Runs.{goes_run, once_run, tries_once, works_run}
+use Rattle.rowex_writing.specs.Locks.{span_numbers}
+use Rattle.rowex_writing.proofs.Tried.{nodes_then}
+use Rattle.rowex_writing.proofs.Runs.{goes_run, nodes_run, once_run, tries_once, works_run}
 use Rattle.rowex_writing.proofs.Keeping.{step_nodes}
 use Rattle.rowex_writing.proofs.Ways.{way_apart, way_led}
 use Rattle.rowex_reading.proofs.Ways.{way_later}
@@ -155,3 +157,19 @@ returns-then-check_span-clause-rest g c = λ e. not_taken (sym e)
 
 pub returns-clause-rest : goal.returns-clause-rest
 returns-clause-rest g c = λ e. c.undo.ensures.rest
+
+pub returns-then-not-lock_span-clause-nodes : goal.returns-then-not-lock_span-clause-nodes
+returns-then-not-lock_span-clause-nodes g c = λ e. not_taken e
+
+pub returns-then-check_span-clause-nodes : goal.returns-then-check_span-clause-nodes
+returns-then-check_span-clause-nodes g c = λ e some.
+    let table = c.args.table.now in
+    let numbers = span_numbers c.args.job.now.way.now c.args.job.now.span in (
+      nodes_then table g.G.Gate.becomes numbers (c.args.seat.now, c.args.gate.now) (c.lock_span.new.seat, c.lock_span.new.gate) (c.check_span.new.seat, c.check_span.new.gate)
+          (nodes_run table g.G.Gate.becomes numbers (c.args.seat.now, c.args.gate.now) (c.lock_span.new.seat, c.lock_span.new.gate) (c.lock_span.ensures.nodes c.if-not-lock_span.false some))
+          (goes_run table g.G.Gate.becomes (c.lock_span.new.seat, c.lock_span.new.gate) (c.check_span.new.seat, c.check_span.new.gate) c.check_span.ensures.reads.goes),
+      omega (arith, c.lock_span.ensures.few c.if-not-lock_span.false, c.check_span.ensures.few, c.requires.within.0),
+    )
+
+pub returns-clause-nodes : goal.returns-clause-nodes
+returns-clause-nodes g c = λ e. not_taken e

@@ -79,3 +79,9 @@ fill_words-requires-clause-spelling g c = c.requires.spelling
 
 pub claim_node-requires : goal.claim_node-requires
 claim_node-requires g c = record { building = c.requires.building }
+
+pub returns-in_err-number-clause-same : goal.returns-in_err-number-clause-same
+returns-in_err-number-clause-same g c = λ none. (c.in_err-number.ensures.claims, c.claim_node.ensures.made)
+
+pub returns-clause-same : goal.returns-clause-same
+returns-clause-same g c = λ none. absurd cc

@@ -2,12 +2,13 @@
 use Rattle.std.proofs.Common.{ℕ, ◌≡◌, ◌∷◌, ◌+◌, ◌-◌, ◌<◌, ◌≤◌, le_trans, length, rules, true, false, refl, sym, ap, subst, ◌∙◌, arith, get_or}
 use Rattle.std.specs.Prelude.{slice_range}
 use Rattle.insert_cases.specs.declared.choice.Step.{Step}
-use Rattle.rowex_writing.specs.Locks.{HasJustLocked, numbers_of}
+use Rattle.rowex_rights.proofs.Acting.{led_may_lock}
+use Rattle.rowex_writing.specs.Locks.{HasJustLocked, HasNotLocked, TriesNodes, numbers_of}
 use Rattle.versions.specs.Trades.{IsOneOf}
 use Rattle.rowex_writing.proofs.Counting.{numbers_few, slice_few}
-use Rattle.rowex_writing.proofs.Tried.{TriesNodes, anchor_more, nodes_more, nodes_none, nodes_once, number_new, once_then}
+use Rattle.rowex_writing.proofs.Tried.{anchor_more, nodes_more, nodes_none, nodes_once, number_new, once_then}
 use Rattle.rowex_writing.proofs.Works.{works_seat, works_later, works_count, no_change_made_later}
-use Rattle.rowex_writing.proofs.Spans.{slice_more, slice_none, none_taken, locked_more, locked_same, led_one, led_nodes, met_since, not_locked}
+use Rattle.rowex_writing.proofs.Spans.{slice_more, slice_none, none_taken, locked_more, locked_same, led_at, led_nodes, met_since, not_locked}
 use Rattle.rowex_writing.proofs.locks.lock_span.Goals as goal
 
 not_taken : {A : Type 0} → false ≡ true → A
@@ -39,26 +40,22 @@ loop-index-init g c = record {
   same = refl;
 }
 
-pub lock_node-requires-clause-led : goal.lock_node-requires-clause-led
-lock_node-requires-clause-led g c =
+-- the node of the way at an index, to which the pass was led
+abbrev no_step : Step
+no_step = record { number = 0; height = 0; first_position = 0; count = 0; at = 0 }
+
+pub lock_node-requires-clause-range : goal.lock_node-requires-clause-range
+lock_node-requires-clause-range g c =
     let i = c.loop-index.invariant in
-    led_one c.args.table.now.layout c.args.seat.now.known c.loop-index.seat.known c.args.way.now (c.loop-index.index - 1) _ (below c.loop-index-test.true (le_trans i.range.1 c.requires.span.1))
-    (works_later c.args.table.now g.G.Gate.becomes (c.args.seat.now, c.args.gate.now) (c.loop-index.seat, c.loop-index.gate) i.tries.run) c.requires.led
+    (led_at c.args.table.now.layout c.args.seat.now.known c.loop-index.seat.known c.args.way.now (c.loop-index.index - 1) no_step (below c.loop-index-test.true (le_trans i.range.1 c.requires.span.1))
+    (works_later c.args.table.now g.G.Gate.becomes (c.args.seat.now, c.args.gate.now) (c.loop-index.seat, c.loop-index.gate) i.tries.run) c.requires.led).0
 
-pub lock_node-requires-clause-free : goal.lock_node-requires-clause-free
-lock_node-requires-clause-free g c =
+pub lock_node-requires-clause-may : goal.lock_node-requires-clause-may
+lock_node-requires-clause-may g c =
     let i = c.loop-index.invariant in
-    let at = again c.loop-index-test.true in
-    not_locked c.loop-index.seat.known _ _ (subst (λ n. HasJustLocked c.loop-index.seat.known (numbers_of (slice_range c.args.way.now n c.args.span.len))) at i.locked)
-    (number_new c.args.way.now (c.loop-index.index - 1) c.args.span.len _ (below c.loop-index-test.true i.range.1) c.requires.span.1 c.requires.apart)
-
-pub lock_node-requires-clause-none : goal.lock_node-requires-clause-none
-lock_node-requires-clause-none g c = c.loop-index.invariant.same ∙ c.requires.none
-
-pub lock_node-requires-clause-quiet : goal.lock_node-requires-clause-quiet
-lock_node-requires-clause-quiet g c =
-    no_change_made_later c.args.seat.now.known c.loop-index.seat.known
-    (works_later c.args.table.now g.G.Gate.becomes (c.args.seat.now, c.args.gate.now) (c.loop-index.seat, c.loop-index.gate) c.loop-index.invariant.tries.run) c.requires.quiet
+    let (low, (m, h, since, sure)) = led_at c.args.table.now.layout c.args.seat.now.known c.loop-index.seat.known c.args.way.now (c.loop-index.index - 1) no_step (below c.loop-index-test.true (le_trans i.range.1 c.requires.span.1))
+    (works_later c.args.table.now g.G.Gate.becomes (c.args.seat.now, c.args.gate.now) (c.loop-index.seat, c.loop-index.gate) i.tries.run) c.requires.led in
+    led_may_lock c.args.table.now.layout c.loop-index.seat.known m (get_or c.args.way.now (c.loop-index.index - 1) no_step).number h since sure
 
 pub unlock_nodes-requires-clause-own : goal.unlock_nodes-requires-clause-own
 unlock_nodes-requires-clause-own g c =
@@ -70,9 +67,9 @@ unlock_nodes-requires-clause-nodes g c = led_nodes c.args.table.now.layout c.arg
 pub unlock_nodes-requires-clause-locked : goal.unlock_nodes-requires-clause-locked
 unlock_nodes-requires-clause-locked g c =
     let i = c.loop-index.invariant in
-    let r = c.lock_node.ensures.refused c.if-not-lock_node.true in
+    let r = c.lock_node.ensures.same c.if-not-lock_node.true in
     let at = again c.loop-index-test.true in
-    locked_same c.loop-index.seat.known c.lock_node.new.seat.known _ r.1 (subst (λ n. HasJustLocked c.loop-index.seat.known (numbers_of (slice_range c.args.way.now n c.args.span.len))) at i.locked)
+    locked_same c.loop-index.seat.known c.lock_node.new.seat.known _ r.0 (subst (λ n. HasJustLocked c.loop-index.seat.known (numbers_of (slice_range c.args.way.now n c.args.span.len))) at i.locked)
 
 pub returns-then-not-lock_node-clause-tries : goal.returns-then-not-lock_node-clause-tries
 returns-then-not-lock_node-clause-tries g c =
@@ -91,17 +88,30 @@ returns-then-not-lock_node-clause-tries g c =
     )
 
 pub returns-then-not-lock_node-clause-same : goal.returns-then-not-lock_node-clause-same
-returns-then-not-lock_node-clause-same g c = c.unlock_nodes.ensures.rest.0 ∙ ((c.lock_node.ensures.refused c.if-not-lock_node.true).3 ∙ c.loop-index.invariant.same)
+returns-then-not-lock_node-clause-same g c = c.unlock_nodes.ensures.rest.0 ∙ ((c.lock_node.ensures.same c.if-not-lock_node.true).2 ∙ c.loop-index.invariant.same)
 
 pub returns-then-not-lock_node-clause-refused : goal.returns-then-not-lock_node-clause-refused
 returns-then-not-lock_node-clause-refused g c e =
     let i = c.loop-index.invariant in
-    let r = c.lock_node.ensures.refused c.if-not-lock_node.true in
+    let r = c.lock_node.ensures.same c.if-not-lock_node.true in
+    let later = works_later c.args.table.now g.G.Gate.becomes (c.args.seat.now, c.args.gate.now) (c.loop-index.seat, c.loop-index.gate) i.tries.run in
+    let (low, (m, h, since, sure)) = led_at c.args.table.now.layout c.args.seat.now.known c.loop-index.seat.known c.args.way.now (c.loop-index.index - 1) no_step (below c.loop-index-test.true (le_trans i.range.1 c.requires.span.1)) later c.requires.led in
+    let at = again c.loop-index-test.true in
+    let others : HasNotLocked c.loop-index.seat.known (get_or c.args.way.now (c.loop-index.index - 1) no_step).number = record {
+      since = m;
+      height = h;
+      pinned = since;
+      led = sure;
+      own = i.same ∙ c.requires.none;
+      free = not_locked c.loop-index.seat.known _ _ (subst (λ n. HasJustLocked c.loop-index.seat.known (numbers_of (slice_range c.args.way.now n c.args.span.len))) at i.locked)
+          (number_new c.args.way.now (c.loop-index.index - 1) c.args.span.len no_step (below c.loop-index-test.true i.range.1) c.requires.span.1 c.requires.apart);
+      quiet = no_change_made_later c.args.seat.now.known c.loop-index.seat.known later c.requires.quiet;
+    } in
     let u = c.unlock_nodes.ensures in (
-      (u.free, u.rest.1 ∙ (r.2 ∙ i.anchor)),
+      (u.free, u.rest.1 ∙ (r.1 ∙ i.anchor)),
       met_since c.args.table.now.layout c.args.seat.now.known c.loop-index.seat.known c.lock_node.new.seat.known c.unlock_nodes.new.seat.known
           (works_count c.args.table.now g.G.Gate.becomes (c.args.seat.now, c.args.gate.now) (c.loop-index.seat, c.loop-index.gate) i.tries.run)
-          (works_later c.args.table.now g.G.Gate.becomes (c.args.seat.now, c.args.gate.now) (c.loop-index.seat, c.loop-index.gate) i.tries.run).pass u.rest.4 r.0,
+          later.pass u.rest.4 (c.lock_node.ensures.refused c.if-not-lock_node.true others),
     )
 
 pub loop-index-preserved : goal.loop-index-preserved
@@ -109,7 +119,7 @@ loop-index-preserved g c =
     let i = c.loop-index.invariant in
     let l = c.lock_node.ensures.locked c.if-not-lock_node.false in
     let at = sym (again c.loop-index-test.true) in
-    let d : Step = record { number = 0; height = 0; first_position = 0; count = 0; at = 0 } in
+    let d : Step = no_step in
     let part = slice_more c.args.way.now (c.loop-index.index - 1) c.args.span.len d (below c.loop-index-test.true i.range.1) c.requires.span.1 ∙
     ap (λ n. get_or c.args.way.now (c.loop-index.index - 1) d ∷ slice_range c.args.way.now n c.args.span.len) at in
     let fresh = number_new c.args.way.now (c.loop-index.index - 1) c.args.span.len d (below c.loop-index-test.true i.range.1) c.requires.span.1 c.requires.apart in
@@ -137,6 +147,21 @@ returns-then-span-gt0-clause-tries g c =
       λ e. omega (arith, all, first, c.requires.span.0, c.if-span-gt0.true),
       omega (arith, all, first, c.requires.span.0, c.if-span-gt0.true, i.few),
     )
+
+pub returns-then-span-gt0-clause-nodes : goal.returns-then-span-gt0-clause-nodes
+returns-then-span-gt0-clause-nodes g c e some =
+    let i = c.loop-index.invariant in
+    let at = the_top c.args.span.end i.range.0 i.top c.loop-index-test.false in
+    subst (λ n. TriesNodes c.args.table.now g.G.Gate.becomes (numbers_of (slice_range c.args.way.now n c.args.span.len)) (c.args.seat.now, c.args.gate.now) (c.loop-index.seat, c.loop-index.gate)) at i.tries
+
+pub returns-then-not-lock_node-clause-nodes : goal.returns-then-not-lock_node-clause-nodes
+returns-then-not-lock_node-clause-nodes g c = λ e. not_taken e
+
+pub returns-then-lock_anchor-clause-nodes : goal.returns-then-lock_anchor-clause-nodes
+returns-then-lock_anchor-clause-nodes g c = λ e some. absurd (omega (arith, some, c.if-span-gt0.false))
+
+pub returns-clause-nodes : goal.returns-clause-nodes
+returns-clause-nodes g c = λ e. not_taken e
 
 pub returns-then-span-gt0-clause-few : goal.returns-then-span-gt0-clause-few
 returns-then-span-gt0-clause-few g c e =

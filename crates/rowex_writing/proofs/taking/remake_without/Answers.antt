@@ -117,3 +117,15 @@ raise_without-requires-clause-range g c =
     let job = c.args.job.now in
     let (m, value, b) = c.requires.below in
     (b.taken.way_of.nodes job.span.end _ (low_step c.args.table.now c.args.seat.now m job.key.now job.way.now c.args.number value job.span b)).2.range
+
+pub returns-in_default-clause-walk : goal.returns-in_default-clause-walk
+returns-in_default-clause-walk g c =
+    let whole : c.layout.result.nodes ≡ c.args.table.now.layout.nodes = ap (λ (z : Layout). z.nodes) c.layout.ensures in
+    let few : c.raise_without.new.seat.known.steps + 2 * c.raise_without.new.build.left_nodes ≤ c.args.seat.now.known.steps + 2 * c.layout.result.nodes + level_steps + length c.raise_without.new.build.made.items = c.in_default.ensures.few in
+    omega (arith, whole, few, ap length c.requires.made, c.raise_without.ensures.more)
+
+pub returns-clause-walk : goal.returns-clause-walk
+returns-clause-walk g c =
+    let whole : c.layout.result.nodes ≡ c.args.table.now.layout.nodes = ap (λ (z : Layout). z.nodes) c.layout.ensures in
+    let few : c.raise_without.new.seat.known.steps + 2 * c.raise_without.new.build.left_nodes ≤ c.args.seat.now.known.steps + 2 * c.layout.result.nodes + level_steps + 0 = c.in-Some.ensures.few in
+    omega (arith, whole, few)

@@ -1,0 +1,139 @@
+-- What a pass knows of the two nodes that become one.
+use Rattle.std.proofs.Common.{◌≡◌, ℕ, ◌-◌, ◌<◌, Bool, List, take, length, if◌then◌else◌, Some, None, refl, sym, ap, subst, ◌∙◌, arith}
+use Rattle.std.specs.Prelude.{slice_get}
+use Rattle.std.proofs.lemmas.Bool.{lt-ltb}
+use Rattle.std.proofs.lemmas.Option.{slice_get-get_or}
+use Rattle.compound_node.specs.Nodes.{NodeView, HeadView, head_of, piece}
+use Rattle.compound_node.specs.declared.entries.Entry.TheVariants.{Node}
+use Rattle.compound_node.proofs.Lawful.{same_count}
+use Rattle.pieces.specs.Changes.{beside}
+use Rattle.pieces.specs.Piece.{size}
+use Rattle.pieces.proofs.Beside.{beside_elsewhere, sibling_beside}
+use Rattle.record_words.specs.declared.layout.Layout.{Layout}
+use Rattle.record_words.specs.Node.{HasHeadWords, InNodesOf, head_words}
+use Rattle.record_words.specs.Reading.{IsSpelling}
+use Rattle.record_words.proofs.Nodes.{head_part, same_head}
+use Rattle.tries.specs.Place.{entry_at, spot}
+use Rattle.tries.specs.Tree.{Subtrie}
+use Rattle.tries.proofs.Building.{size-piece}
+use Rattle.tries.proofs.Places.{spot_below}
+use Rattle.tries.proofs.Spots.{sibling_spot}
+use Rattle.versions.specs.Heap.{NodeWords}
+use Rattle.versions.specs.declared.Rec.TheVariants.{Node as a_node}
+use Rattle.versions.proofs.Members.{all_of}
+use Rattle.rowex_core.specs.Cores.{IsWhole}
+use Rattle.rowex_core.specs.Reading.{IsPacked, node_words_of}
+use Rattle.rowex_core.specs.Sharing.{IsLocked}
+use Rattle.rowex_core.specs.declared.event.Event.{Event}
+use Rattle.rowex_core.specs.declared.known.Known.{Known}
+use Rattle.rowex_core.proofs.Owning.{knows_all}
+use Rattle.rowex_core.proofs.Reading.{node_is, place_is}
+use Rattle.rowex_table.specs.Seats.{TableView, SeatView}
+use Rattle.rowex_reading.specs.Possible.{IsPossible}
+use Rattle.rowex_reading.specs.Seen.{HasPlace}
+use Rattle.rowex_reading.specs.Ways.{IsWayOf}
+use Rattle.rowex_reading.specs.declared.descent.Found.TheVariants.{Leaf}
+use Rattle.rowex_reading.proofs.Seeing.{later_trans}
+use Rattle.rowex_reading.proofs.Ways.{way_later}
+use Rattle.rowex_writing.specs.Going.{HasLocked, IsLockedBy, IsNodeOf, WorksOn}
+use Rattle.rowex_writing.specs.Merging.{IsNeighbour, IsTaking, TakesOn, lower, no_step, upper}
+use Rattle.rowex_writing.specs.declared.deeds.Job.{Job}
+use Rattle.rowex_writing.proofs.Above.{locked_at}
+use Rattle.rowex_writing.proofs.Locking.{locked_on, seat_of}
+use Rattle.rowex_writing.proofs.Making.{goes_possible}
+use Rattle.rowex_writing.proofs.Shapes.{shape_size, way_node_locked}
+
+-- the words of a locked node are those of one
+pub locked_node : (layout : Layout) (k : Known) (n : ℕ) (words : List ℕ) → IsPossible layout k → HasLocked k n words → (view : NodeView) × IsNodeOf words view
+unfolding IsPacked
+locked_node layout k n words possible h =
+    let c = possible.core in
+    let (lock, tree, same) = all_of (IsLocked k.pass c) (record { node = n; words = words }) k.locks (knows_all c k possible.knows).locks h in
+    let (view, has, spells) = possible.lawful.records.packed (a_node n) (subst IsWhole (sym tree.1) tt) in
+    let shows = node_is view (c.words (a_node n)) (possible.lawful.records.sized (a_node n)).1 has spells in
+    (view, record { has = has; spells = spells ∙ same; shows = ap node_words_of (sym same) ∙ shows })
+
+-- the pass goes on
+pub takes_on : {G : Type 0} (table : TableView) (becomes : G → Event → G → Type 0) (a b : SeatView × G) (job : Job) → WorksOn table becomes a b → TakesOn table a.0 job → TakesOn table b.0 job
+takes_on table becomes a b job goes (t, seat, possible, stays) = (
+  t,
+  seat_of table becomes a b goes seat,
+  goes_possible table becomes a b goes possible,
+  (later_trans stays.0 goes.stays.0, goes.stays.1 ∙ stays.1, goes.stays.2 ∙ stays.2),
+)
+
+module _ (table : TableView) (job : Job) (t : IsTaking table job) where
+  pub upper_at : slice_get job.way.now (job.span.end - 1) ≡ Some (upper job)
+  upper_at = slice_get-get_or job.way.now (job.span.end - 1) no_step (let e = t.below.last in let n = t.below.len in omega (arith, e, n))
+
+  pub lower_at : slice_get job.way.now job.span.end ≡ Some (lower job)
+  lower_at = slice_get-get_or job.way.now job.span.end no_step (let e = t.below.last in let n = t.below.len in omega (arith, e, n))
+
+  pub upper_locked : IsLockedBy t.before.known (upper job).number
+  upper_locked = locked_at t.before.known job.way.now job.span t.below.taken.locked (job.span.end - 1) (upper job) (omega arith) (let e = t.below.last in omega (arith, e)) upper_at
+
+  pub lower_locked : IsLockedBy t.before.known (lower job).number
+  lower_locked = locked_at t.before.known job.way.now job.span t.below.taken.locked job.span.end (lower job) (omega arith) (let e = t.below.last in omega (arith, e)) lower_at
+
+  pub upper_range : (upper job).number < table.layout.nodes
+  upper_range = (t.below.taken.way_of.nodes (job.span.end - 1) (upper job) upper_at).2.range
+
+  pub lower_range : (lower job).number < table.layout.nodes
+  lower_range = (t.below.taken.way_of.nodes job.span.end (lower job) lower_at).2.range
+
+module _ (table : TableView) (a : SeatView) (job : Job) (takes : TakesOn table a job) where
+  abbrev t : IsTaking table job
+  t = takes.0
+
+  pub way_now : IsWayOf table.layout a.known t.since job.key.now job.way.now (Leaf t.number t.value None)
+  way_now = way_later table.layout t.before.known a.known t.since job.key.now job.way.now (Leaf t.number t.value None) takes.3.0 t.below.taken.way_of
+
+  pub upper_held : IsLockedBy a.known (upper job).number
+  upper_held = let (words, h) = upper_locked table job t in (words, locked_on t.before.known a.known (upper job).number words takes.3.1 h)
+
+  -- of the words under its lock
+  module _ (words : List ℕ) (h : HasLocked a.known (upper job).number words) where
+    abbrev shown : Subtrie
+    shown = (node_words_of words).subtrie
+
+    pub upper_shows : spot job.key.now shown ≡ (upper job).at
+    upper_shows =
+        let (e, is, node) = way_now.nodes (job.span.end - 1) (upper job) (upper_at table job t) in (way_node_locked table.layout a.known t.since job.key.now (upper job) e words takes.2 way_now.since node h).at
+
+    pub upper_place : (place : ℕ) → place < size shown → HasPlace a.known t.since (upper job).number (upper job).height place
+    upper_place place low =
+        let (e, is, node) = way_now.nodes (job.span.end - 1) (upper job) (upper_at table job t) in
+        let same = (way_node_locked table.layout a.known t.since job.key.now (upper job) e words takes.2 way_now.since node h).forks_are in
+        ((way_now.since, node.seen), λ c law known. (node.forks, node.shaped c law known, subst (λ n. place < n) (shape_size shown node.forks same) low))
+
+    pub upper_head : (head : List ℕ) → head ≡ take 25 words → IsSpelling HasHeadWords head_words head
+    upper_head head is =
+        let (view, node) = locked_node table.layout a.known (upper job).number words takes.2 h in (head_of view, (view, node.has.lawful, refl), head_part view words node.spells ∙ sym is)
+
+    pub upper_within : (head : List ℕ) → head ≡ take 25 words → InNodesOf head (λ node. (upper job).at < length node.entries)
+    upper_within head is other lawful same =
+        let (view, node) = locked_node table.layout a.known (upper job).number words takes.2 h in
+        let heads = same_head view other node.has.lawful lawful (head_part view words node.spells ∙ sym (same ∙ is)) in
+        let sub : shown ≡ piece view = ap (λ (z : NodeWords). z.subtrie) node.shows in
+        let low : (upper job).at < size (piece view) = subst (λ i. i < size (piece view)) (sym (ap (spot job.key.now) sub) ∙ upper_shows) (spot_below job.key.now (piece view)) in
+        omega (arith, low, size-piece view node.has.lawful, ap (λ (v : HeadView). length v.rows) heads, same_count view node.has.lawful, same_count other lawful)
+
+    module _ (head : List ℕ) (is : head ≡ take 25 words) (place position : ℕ) (forks : InNodesOf head (λ node. Some (place, position) ≡ beside (upper job).at (piece node))) where
+      pub forks_shown : beside (spot job.key.now shown) shown ≡ Some (place, position)
+      forks_shown =
+          let (view, node) = locked_node table.layout a.known (upper job).number words takes.2 h in
+          let sub : shown ≡ piece view = ap (λ (z : NodeWords). z.subtrie) node.shows in
+          ap (λ i. beside i shown) upper_shows ∙ (ap (beside (upper job).at) sub ∙ sym (forks view node.has.lawful (head_part view words node.spells ∙ sym is)))
+
+      pub place_shown : place < size shown
+      place_shown = (beside_elsewhere (spot job.key.now shown) place position shown (spot_below job.key.now shown) forks_shown).0
+
+      pub found_beside : (number height : ℕ) → Node number height ≡ entry_at shown place → IsNeighbour a.known job (record { place = place; position = position; number = number })
+      found_beside number height entry = record {
+        words = words;
+        has = h;
+        forks = forks_shown;
+        height = height;
+        sibling = sym (sibling_spot job.key.now shown) ∙ sibling_beside (spot job.key.now shown) place position (Node number height) shown (spot_below job.key.now shown) forks_shown
+            (sym (place_is shown place) ∙ (ap (λ (b : Bool). if b then Some (entry_at shown place) else None) (lt-ltb place (size shown) place_shown) ∙ ap Some (sym entry)));
+      }

@@ -1,0 +1,24 @@
+-- One node more.
+use Rattle.std.proofs.Common.{◌≡◌, ◌<◌, ◌≤◌, ⊎_elim, arith, sym, ap, ◌∙◌, get_or}
+use Rattle.std.proofs.lemmas.Bool.{cases_lt}
+use Rattle.std.proofs.lemmas.Option.{get_or_from_slice_get}
+use Rattle.insert_cases.specs.declared.choice.Step.{Step}
+use Rattle.rowex_writing.specs.Merging.{no_step}
+use Rattle.rowex_writing.proofs.widening.is_near.Goals as goal
+
+pub loop-index-init : goal.loop-index-init
+loop-index-init c = record { none = λ step i at from low. absurd (omega (arith, from, low)) }
+
+pub loop-index-preserved : goal.loop-index-preserved
+loop-index-preserved c = record {
+  none = λ step i at from low.
+      ⊎_elim (λ (before : i < c.loop-index.index). c.loop-index.invariant.none step i at from before)
+      (λ (here : c.loop-index.index ≤ i).
+      let same : i ≡ c.loop-index.index = omega (arith, low, here) in
+      let is = get_or_from_slice_get c.args.job.now.way.now i step no_step at in
+      λ e. c.if-job-index.false (sym (e ∙ (ap (λ (s : Step). s.number) (sym is) ∙ ap (λ n. (get_or c.args.job.now.way.now n no_step).number) same))))
+      (cases_lt i c.loop-index.index);
+}
+
+pub returns : goal.returns
+returns c = record { none = λ e step i at from low. c.loop-index.invariant.none step i at from (omega (arith, low, c.loop-index-test.false)) }

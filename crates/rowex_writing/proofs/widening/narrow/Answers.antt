@@ -1,0 +1,52 @@
+-- What names the upper node, and then the node beside the lower one.
+use Rattle.std.proofs.Common.{sym, ◌∙◌, arith}
+use Rattle.rowex_reading.proofs.Seeing.{later_trans}
+use Rattle.rowex_writing.proofs.Keeping.{step_nodes}
+use Rattle.rowex_writing.proofs.Runs.{works_run}
+use Rattle.rowex_writing.proofs.Works.{works_later, works_more, works_seat}
+use Rattle.rowex_writing.proofs.widening.narrow.Goals as goal
+
+pub unlock_above-requires-clause-own : goal.unlock_above-requires-clause-own
+unlock_above-requires-clause-own g c = c.requires.wide.seat
+
+pub unlock_above-requires-clause-nodes : goal.unlock_above-requires-clause-nodes
+unlock_above-requires-clause-nodes g c =
+    let t = c.requires.wide.taking in step_nodes c.args.table.now.layout t.before.known t.since c.args.job.now.key.now c.args.job.now.way.now _ t.below.taken.way_of
+
+pub unlock_above-requires-clause-range : goal.unlock_above-requires-clause-range
+unlock_above-requires-clause-range g c = let t = c.requires.wide.taking in omega (arith, t.below.taken.within.0, t.below.taken.within.1)
+
+pub unlock_above-requires-clause-above : goal.unlock_above-requires-clause-above
+unlock_above-requires-clause-above g c = (_, c.args.job.now.key.now, c.args.job.now.found, c.requires.wide.above)
+
+pub unlock_last-requires-clause-own : goal.unlock_last-requires-clause-own
+unlock_last-requires-clause-own g c = works_seat c.args.table.now g.G.Gate.becomes (c.args.seat.now, c.args.gate.now) (c.unlock_above.new.seat, c.unlock_above.new.gate) c.unlock_above.ensures.works c.requires.wide.seat
+
+pub unlock_last-requires-clause-range : goal.unlock_last-requires-clause-range
+unlock_last-requires-clause-range g c = c.requires.wide.low
+
+pub unlock_last-requires-clause-last : goal.unlock_last-requires-clause-last
+unlock_last-requires-clause-last g c =
+    let w = c.requires.wide in
+    (w.taking.before.known.locks, ((w.words, (c.unlock_above.ensures.less _ c.args.job.now.key.now c.args.job.now.found w.above).0), w.new))
+
+pub returns-clause-run : goal.returns-clause-run
+returns-clause-run g c =
+    works_run c.args.table.now g.G.Gate.becomes (c.args.seat.now, c.args.gate.now) (c.unlock_last.new.seat, c.unlock_last.new.gate)
+    (works_more c.args.table.now g.G.Gate.becomes (c.args.seat.now, c.args.gate.now) (c.unlock_above.new.seat, c.unlock_above.new.gate) (c.unlock_last.new.seat, c.unlock_last.new.gate) c.unlock_above.ensures.works c.unlock_last.ensures.works)
+
+pub returns-clause-later : goal.returns-clause-later
+returns-clause-later g c =
+    later_trans (works_later c.args.table.now g.G.Gate.becomes (c.args.seat.now, c.args.gate.now) (c.unlock_above.new.seat, c.unlock_above.new.gate) c.unlock_above.ensures.works)
+    (works_later c.args.table.now g.G.Gate.becomes (c.unlock_above.new.seat, c.unlock_above.new.gate) (c.unlock_last.new.seat, c.unlock_last.new.gate) c.unlock_last.ensures.works)
+
+pub returns-clause-same : goal.returns-clause-same
+returns-clause-same g c = λ w.
+    let gone = c.unlock_above.ensures.less _ c.args.job.now.key.now c.args.job.now.found w.above in (
+      c.unlock_last.ensures.less w.taking.before.known.locks ((w.words, gone.0), w.new),
+      c.unlock_last.ensures.same.0 ∙ (gone.1 ∙ sym (w.taking.below.taken.locked.below w.taking.some)),
+      c.unlock_last.ensures.same.1 ∙ c.unlock_above.ensures.own,
+    )
+
+pub returns-clause-few : goal.returns-clause-few
+returns-clause-few g c = omega (arith, c.unlock_above.ensures.few, c.unlock_last.ensures.few)

@@ -1,0 +1,220 @@
+-- The node beside, and then what names the upper one.
+use Rattle.std.proofs.Common.{◌≡◌, ◌∷◌, ◌-◌, ◌<◌, true, false, refl, sym, ap, subst, ◌∙◌, arith}
+use Rattle.versions.specs.Trades.{IsOneOf}
+use Rattle.rowex_reading.specs.Ways.{IsWayOf}
+use Rattle.rowex_reading.proofs.Seeing.{later_trans}
+use Rattle.rowex_reading.proofs.Ways.{way_later}
+use Rattle.rowex_rights.proofs.Merging.{beside_in_table, beside_may_lock}
+use Rattle.rowex_rights.proofs.Loops.{later_if_same}
+use Rattle.rowex_core.specs.declared.event.Target.TheVariants.{Node as NodeTarget}
+use Rattle.rowex_table.specs.Made.{nodes_of}
+use Rattle.rowex_table.specs.Rights.{MayLock}
+use Rattle.rowex_writing.specs.Locks.{span_numbers}
+use Rattle.rowex_writing.specs.Merging.{LocksAbove}
+use Rattle.rowex_writing.proofs.Onward.{run_possible, run_seat}
+use Rattle.rowex_writing.proofs.Runs.{run_none, works_run}
+use Rattle.rowex_writing.proofs.Wider.{above_none, far_none, last_same, more_none, more_one, more_two, one_last}
+use Rattle.rowex_writing.proofs.Ways.{way_apart}
+use Rattle.rowex_writing.proofs.Works.{works_later, works_seat}
+use Rattle.rowex_writing.proofs.widening.widen.Goals as goal
+
+not_taken : {A : Type 0} → false ≡ true → A
+not_taken e = absurd (cc)
+
+pub is_near-requires : goal.is_near-requires
+is_near-requires g c = record { within = c.requires.takes.0.below.taken.within }
+
+pub returns-then-is_near-clause-tries : goal.returns-then-is_near-clause-tries
+returns-then-is_near-clause-tries g c = more_none c.args.table.now g.G.Gate.becomes (span_numbers c.args.job.now.way.now c.args.job.now.span) (c.args.seat.now, c.args.gate.now) (c.args.seat.now, c.args.gate.now) (run_none c.args.table.now g.G.Gate.becomes (c.args.seat.now, c.args.gate.now))
+
+pub returns-then-is_near-clause-later : goal.returns-then-is_near-clause-later
+returns-then-is_near-clause-later g c = (later_if_same c.args.seat.now.known c.args.seat.now.known refl, c.requires.takes.1, c.requires.takes.2, refl)
+
+pub returns-then-is_near-clause-wide : goal.returns-then-is_near-clause-wide
+returns-then-is_near-clause-wide g c = λ e. not_taken e
+
+pub returns-then-is_near-clause-same : goal.returns-then-is_near-clause-same
+returns-then-is_near-clause-same g c = λ e. (refl, refl, refl)
+
+pub lock_node-requires-clause-own : goal.lock_node-requires-clause-own
+lock_node-requires-clause-own g c = c.requires.takes.1
+
+pub lock_node-requires-clause-range : goal.lock_node-requires-clause-range
+lock_node-requires-clause-range g c =
+    let p = c.requires.takes.2 in
+    let (b, is, same) = c.requires.beside in
+    subst (λ n. n < c.args.table.now.layout.nodes) same (beside_in_table c.args.table.now.layout c.args.seat.now.known p.core p.lawful p.layout_is p.knows c.args.job.now.key.now _ b.number b.position is.height is.words is.has is.sibling)
+
+pub lock_node-requires-clause-may : goal.lock_node-requires-clause-may
+lock_node-requires-clause-may g c =
+    let (b, is, same) = c.requires.beside in
+    subst (λ n. MayLock c.args.table.now.layout (NodeTarget n) c.args.seat.now.known) same (beside_may_lock c.args.table.now.layout c.args.seat.now.known c.args.job.now.key.now _ b.number b.position is.height is.words is.has is.sibling)
+
+pub returns-then-not-lock_node-clause-tries : goal.returns-then-not-lock_node-clause-tries
+returns-then-not-lock_node-clause-tries g c =
+    let table = c.args.table.now in
+    more_one table g.G.Gate.becomes (span_numbers c.args.job.now.way.now c.args.job.now.span) c.args.number (c.args.seat.now, c.args.gate.now) (c.lock_node.new.seat, c.lock_node.new.gate) (c.lock_node.new.seat, c.lock_node.new.gate)
+    (far_none c.args.job.now.way.now c.args.job.now.span c.args.number (c.is_near.ensures.none c.if-is_near.false))
+    (works_run table g.G.Gate.becomes (c.args.seat.now, c.args.gate.now) (c.lock_node.new.seat, c.lock_node.new.gate) c.lock_node.ensures.tries)
+    (run_none table g.G.Gate.becomes (c.lock_node.new.seat, c.lock_node.new.gate))
+
+pub returns-then-not-lock_node-clause-later : goal.returns-then-not-lock_node-clause-later
+returns-then-not-lock_node-clause-later g c =
+    let table = c.args.table.now in
+    let tries = c.lock_node.ensures.tries in (
+      works_later table g.G.Gate.becomes (c.args.seat.now, c.args.gate.now) (c.lock_node.new.seat, c.lock_node.new.gate) tries,
+      works_seat table g.G.Gate.becomes (c.args.seat.now, c.args.gate.now) (c.lock_node.new.seat, c.lock_node.new.gate) tries c.requires.takes.1,
+      run_possible table g.G.Gate.becomes (c.args.seat.now, c.args.gate.now) (c.lock_node.new.seat, c.lock_node.new.gate) (works_run table g.G.Gate.becomes (c.args.seat.now, c.args.gate.now) (c.lock_node.new.seat, c.lock_node.new.gate) tries) c.requires.takes.2,
+      (c.lock_node.ensures.same c.if-not-lock_node.true).2,
+    )
+
+pub returns-then-not-lock_node-clause-wide : goal.returns-then-not-lock_node-clause-wide
+returns-then-not-lock_node-clause-wide g c = λ e. not_taken e
+
+pub returns-then-not-lock_node-clause-same : goal.returns-then-not-lock_node-clause-same
+returns-then-not-lock_node-clause-same g c = λ e. c.lock_node.ensures.same c.if-not-lock_node.true
+
+pub returns-then-not-lock_node-clause-few : goal.returns-then-not-lock_node-clause-few
+returns-then-not-lock_node-clause-few g c = omega (arith, c.lock_node.ensures.few)
+
+pub lock_above-requires-clause-own : goal.lock_above-requires-clause-own
+lock_above-requires-clause-own g c = works_seat c.args.table.now g.G.Gate.becomes (c.args.seat.now, c.args.gate.now) (c.lock_node.new.seat, c.lock_node.new.gate) c.lock_node.ensures.tries c.requires.takes.1
+
+pub lock_above-requires-clause-possible : goal.lock_above-requires-clause-possible
+lock_above-requires-clause-possible g c =
+    let table = c.args.table.now in
+    run_possible table g.G.Gate.becomes (c.args.seat.now, c.args.gate.now) (c.lock_node.new.seat, c.lock_node.new.gate)
+    (works_run table g.G.Gate.becomes (c.args.seat.now, c.args.gate.now) (c.lock_node.new.seat, c.lock_node.new.gate) c.lock_node.ensures.tries) c.requires.takes.2
+
+pub lock_above-requires-clause-way : goal.lock_above-requires-clause-way
+lock_above-requires-clause-way g c =
+    let (t, seat, possible, stays) = c.requires.takes in
+    let later = later_trans stays.0 (works_later c.args.table.now g.G.Gate.becomes (c.args.seat.now, c.args.gate.now) (c.lock_node.new.seat, c.lock_node.new.gate) c.lock_node.ensures.tries) in
+    (t.since, subst (λ f. IsWayOf c.args.table.now.layout c.lock_node.new.seat.known t.since c.args.job.now.key.now c.args.job.now.way.now f) (sym t.found) (way_later c.args.table.now.layout t.before.known c.lock_node.new.seat.known t.since c.args.job.now.key.now c.args.job.now.way.now _ later t.below.taken.way_of))
+
+pub lock_above-requires-clause-some : goal.lock_above-requires-clause-some
+lock_above-requires-clause-some g c = let t = c.requires.takes.0 in (t.some, omega (arith, t.below.taken.within.0, t.below.taken.within.1))
+
+pub lock_above-requires-clause-free : goal.lock_above-requires-clause-free
+lock_above-requires-clause-free g c =
+    let (t, seat, possible, stays) = c.requires.takes in (c.lock_node.ensures.locked c.if-not-lock_node.false).3 ∙ (stays.2 ∙ t.below.taken.locked.below t.some)
+
+pub returns-then-lock_above-clause-tries : goal.returns-then-lock_above-clause-tries
+returns-then-lock_above-clause-tries g c =
+    let table = c.args.table.now in
+    let t = c.requires.takes.0 in
+    let (target, above, top) = c.lock_above.ensures.tries in
+    let far = c.is_near.ensures.none c.if-is_near.false in
+    let apart = way_apart table.layout t.before.known t.since c.args.job.now.key.now _ c.args.job.now.way.now t.below.taken.possible t.below.taken.way_of in
+    more_two table g.G.Gate.becomes (span_numbers c.args.job.now.way.now c.args.job.now.span) c.args.number c.args.job.now.way.now (c.args.job.now.span.end - 1) true
+    (c.args.seat.now, c.args.gate.now) (c.lock_node.new.seat, c.lock_node.new.gate) (c.lock_above.new.seat, c.lock_above.new.gate) (c.lock_above.new.seat, c.lock_above.new.gate)
+    (far_none c.args.job.now.way.now c.args.job.now.span c.args.number far)
+    (works_run table g.G.Gate.becomes (c.args.seat.now, c.args.gate.now) (c.lock_node.new.seat, c.lock_node.new.gate) c.lock_node.ensures.tries) target above top
+    (above_none c.args.job.now.way.now c.args.job.now.span c.args.number apart t.below.taken.within.0 t.below.taken.within.1 far)
+    (run_none table g.G.Gate.becomes (c.lock_above.new.seat, c.lock_above.new.gate))
+
+pub returns-then-lock_above-clause-later : goal.returns-then-lock_above-clause-later
+returns-then-lock_above-clause-later g c =
+    let table = c.args.table.now in
+    let tries = c.lock_node.ensures.tries in
+    let (target, above, top) = c.lock_above.ensures.tries in (
+      later_trans (works_later table g.G.Gate.becomes (c.args.seat.now, c.args.gate.now) (c.lock_node.new.seat, c.lock_node.new.gate) tries) c.lock_above.ensures.later.0,
+      run_seat table g.G.Gate.becomes (c.lock_node.new.seat, c.lock_node.new.gate) (c.lock_above.new.seat, c.lock_above.new.gate) above (works_seat table g.G.Gate.becomes (c.args.seat.now, c.args.gate.now) (c.lock_node.new.seat, c.lock_node.new.gate) tries c.requires.takes.1),
+      run_possible table g.G.Gate.becomes (c.lock_node.new.seat, c.lock_node.new.gate) (c.lock_above.new.seat, c.lock_above.new.gate) above
+          (run_possible table g.G.Gate.becomes (c.args.seat.now, c.args.gate.now) (c.lock_node.new.seat, c.lock_node.new.gate) (works_run table g.G.Gate.becomes (c.args.seat.now, c.args.gate.now) (c.lock_node.new.seat, c.lock_node.new.gate) tries) c.requires.takes.2),
+      c.lock_above.ensures.later.1 ∙ (c.lock_node.ensures.locked c.if-not-lock_node.false).2,
+    )
+
+pub returns-then-lock_above-clause-wide : goal.returns-then-lock_above-clause-wide
+returns-then-lock_above-clause-wide g c = λ e.
+    let table = c.args.table.now in
+    let (t, seat, possible, stays) = c.requires.takes in
+    let tries = c.lock_node.ensures.tries in
+    let l = c.lock_node.ensures.locked c.if-not-lock_node.false in
+    let (target, above, top) = c.lock_above.ensures.tries in
+    let (b, is, same) = c.requires.beside in (
+      record {
+        taking = t;
+        seat = run_seat table g.G.Gate.becomes (c.lock_node.new.seat, c.lock_node.new.gate) (c.lock_above.new.seat, c.lock_above.new.gate) above (works_seat table g.G.Gate.becomes (c.args.seat.now, c.args.gate.now) (c.lock_node.new.seat, c.lock_node.new.gate) tries seat);
+        possible = run_possible table g.G.Gate.becomes (c.lock_node.new.seat, c.lock_node.new.gate) (c.lock_above.new.seat, c.lock_above.new.gate) above
+            (run_possible table g.G.Gate.becomes (c.args.seat.now, c.args.gate.now) (c.lock_node.new.seat, c.lock_node.new.gate) (works_run table g.G.Gate.becomes (c.args.seat.now, c.args.gate.now) (c.lock_node.new.seat, c.lock_node.new.gate) tries) possible);
+        later = later_trans stays.0 (later_trans (works_later table g.G.Gate.becomes (c.args.seat.now, c.args.gate.now) (c.lock_node.new.seat, c.lock_node.new.gate) tries) c.lock_above.ensures.later.0);
+        words = l.0.0;
+        new = subst (λ z. ¬ (IsOneOf c.args.number (nodes_of z))) stays.1 l.1;
+        low = subst (λ n. n < table.layout.nodes) same (beside_in_table table.layout c.args.seat.now.known possible.core possible.lawful possible.layout_is possible.knows c.args.job.now.key.now _ b.number b.position is.height is.words is.has is.sibling);
+        above = subst (λ z. LocksAbove z c.args.job.now.key.now c.args.job.now.way.now c.args.job.now.found (c.args.job.now.span.end - 1) c.lock_above.new.seat.known)
+            (l.0.1 ∙ ap (λ z. record { node = c.args.number; words = l.0.0 } ∷ z) stays.1) (c.lock_above.ensures.above c.if-lock_above.true);
+      },
+      sym stays.1,
+      sym stays.2,
+    )
+
+pub returns-then-lock_above-clause-same : goal.returns-then-lock_above-clause-same
+returns-then-lock_above-clause-same g c = λ e. not_taken (sym e)
+
+pub returns-then-lock_above-clause-few : goal.returns-then-lock_above-clause-few
+returns-then-lock_above-clause-few g c = omega (arith, c.lock_node.ensures.few, c.lock_above.ensures.few)
+
+pub unlock_last-requires-clause-own : goal.unlock_last-requires-clause-own
+unlock_last-requires-clause-own g c =
+    let table = c.args.table.now in
+    let (target, above, top) = c.lock_above.ensures.tries in
+    run_seat table g.G.Gate.becomes (c.lock_node.new.seat, c.lock_node.new.gate) (c.lock_above.new.seat, c.lock_above.new.gate) above (works_seat table g.G.Gate.becomes (c.args.seat.now, c.args.gate.now) (c.lock_node.new.seat, c.lock_node.new.gate) c.lock_node.ensures.tries c.requires.takes.1)
+
+pub unlock_last-requires-clause-range : goal.unlock_last-requires-clause-range
+unlock_last-requires-clause-range g c =
+    let p = c.requires.takes.2 in
+    let (b, is, same) = c.requires.beside in
+    subst (λ n. n < c.args.table.now.layout.nodes) same (beside_in_table c.args.table.now.layout c.args.seat.now.known p.core p.lawful p.layout_is p.knows c.args.job.now.key.now _ b.number b.position is.height is.words is.has is.sibling)
+
+pub unlock_last-requires-clause-last : goal.unlock_last-requires-clause-last
+unlock_last-requires-clause-last g c = (
+  c.args.seat.now.known.locks,
+  last_same c.args.number c.args.seat.now.known.locks c.lock_node.new.seat.known c.lock_above.new.seat.known (c.lock_above.ensures.same c.if-lock_above.false).0
+      (one_last c.args.number c.args.seat.now.known c.lock_node.new.seat.known (c.lock_node.ensures.locked c.if-not-lock_node.false)),
+)
+
+pub returns-clause-tries : goal.returns-clause-tries
+returns-clause-tries g c =
+    let table = c.args.table.now in
+    let t = c.requires.takes.0 in
+    let (target, above, top) = c.lock_above.ensures.tries in
+    let far = c.is_near.ensures.none c.if-is_near.false in
+    let apart = way_apart table.layout t.before.known t.since c.args.job.now.key.now _ c.args.job.now.way.now t.below.taken.possible t.below.taken.way_of in
+    more_two table g.G.Gate.becomes (span_numbers c.args.job.now.way.now c.args.job.now.span) c.args.number c.args.job.now.way.now (c.args.job.now.span.end - 1) false
+    (c.args.seat.now, c.args.gate.now) (c.lock_node.new.seat, c.lock_node.new.gate) (c.lock_above.new.seat, c.lock_above.new.gate) (c.unlock_last.new.seat, c.unlock_last.new.gate)
+    (far_none c.args.job.now.way.now c.args.job.now.span c.args.number far)
+    (works_run table g.G.Gate.becomes (c.args.seat.now, c.args.gate.now) (c.lock_node.new.seat, c.lock_node.new.gate) c.lock_node.ensures.tries) target above top
+    (above_none c.args.job.now.way.now c.args.job.now.span c.args.number apart t.below.taken.within.0 t.below.taken.within.1 far)
+    (works_run table g.G.Gate.becomes (c.lock_above.new.seat, c.lock_above.new.gate) (c.unlock_last.new.seat, c.unlock_last.new.gate) c.unlock_last.ensures.works)
+
+pub returns-clause-later : goal.returns-clause-later
+returns-clause-later g c =
+    let table = c.args.table.now in
+    let tries = c.lock_node.ensures.tries in
+    let (target, above, top) = c.lock_above.ensures.tries in
+    let seat = run_seat table g.G.Gate.becomes (c.lock_node.new.seat, c.lock_node.new.gate) (c.lock_above.new.seat, c.lock_above.new.gate) above (works_seat table g.G.Gate.becomes (c.args.seat.now, c.args.gate.now) (c.lock_node.new.seat, c.lock_node.new.gate) tries c.requires.takes.1) in
+    let possible = run_possible table g.G.Gate.becomes (c.lock_node.new.seat, c.lock_node.new.gate) (c.lock_above.new.seat, c.lock_above.new.gate) above
+    (run_possible table g.G.Gate.becomes (c.args.seat.now, c.args.gate.now) (c.lock_node.new.seat, c.lock_node.new.gate) (works_run table g.G.Gate.becomes (c.args.seat.now, c.args.gate.now) (c.lock_node.new.seat, c.lock_node.new.gate) tries) c.requires.takes.2) in
+    let works = c.unlock_last.ensures.works in (
+      later_trans (later_trans (works_later table g.G.Gate.becomes (c.args.seat.now, c.args.gate.now) (c.lock_node.new.seat, c.lock_node.new.gate) tries) c.lock_above.ensures.later.0)
+          (works_later table g.G.Gate.becomes (c.lock_above.new.seat, c.lock_above.new.gate) (c.unlock_last.new.seat, c.unlock_last.new.gate) works),
+      works_seat table g.G.Gate.becomes (c.lock_above.new.seat, c.lock_above.new.gate) (c.unlock_last.new.seat, c.unlock_last.new.gate) works seat,
+      run_possible table g.G.Gate.becomes (c.lock_above.new.seat, c.lock_above.new.gate) (c.unlock_last.new.seat, c.unlock_last.new.gate) (works_run table g.G.Gate.becomes (c.lock_above.new.seat, c.lock_above.new.gate) (c.unlock_last.new.seat, c.unlock_last.new.gate) works) possible,
+      c.unlock_last.ensures.same.1 ∙ (c.lock_above.ensures.later.1 ∙ (c.lock_node.ensures.locked c.if-not-lock_node.false).2),
+    )
+
+pub returns-clause-wide : goal.returns-clause-wide
+returns-clause-wide g c = λ e. not_taken e
+
+pub returns-clause-same : goal.returns-clause-same
+returns-clause-same g c = λ e.
+    let l = c.lock_node.ensures.locked c.if-not-lock_node.false in
+    let s = c.lock_above.ensures.same c.if-lock_above.false in (
+      c.unlock_last.ensures.less c.args.seat.now.known.locks (last_same c.args.number c.args.seat.now.known.locks c.lock_node.new.seat.known c.lock_above.new.seat.known s.0 (one_last c.args.number c.args.seat.now.known c.lock_node.new.seat.known l)),
+      c.unlock_last.ensures.same.0 ∙ (s.1 ∙ l.3),
+      c.unlock_last.ensures.same.1 ∙ (s.2 ∙ l.2),
+    )
+
+pub returns-clause-few : goal.returns-clause-few
+returns-clause-few g c = omega (arith, c.lock_node.ensures.few, c.lock_above.ensures.few, c.unlock_last.ensures.few)

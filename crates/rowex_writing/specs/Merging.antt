@@ -1,0 +1,142 @@
+-- A removal after which what is left of the leaf's node and the node beside it are one node.
+use Rattle.std.specs.Prelude.{◌≡◌, ◌⊎◌, ℕ, ◌+◌, ◌-◌, ◌*◌, ◌<◌, ◌≤◌, List, [], ◌∷◌, length, get_or, slice_get, Bool, true, Option, Some, None}
+use Rattle.compound_node.specs.Nodes.{StandsBelow}
+use Rattle.compound_node.specs.declared.entries.Entry.{Entry}
+use Rattle.compound_node.specs.declared.entries.Entry.TheVariants.{Leaf as LeafEntry, Node}
+use Rattle.finite_map.specs.declared.Change.{Change}
+use Rattle.insert_cases.specs.declared.choice.Step.{Step}
+use Rattle.pieces.specs.Piece.{Place}
+use Rattle.pieces.specs.Changes.{beside}
+use Rattle.record_words.specs.Entry.{entry_word}
+use Rattle.tries.specs.Keys.{Key}
+use Rattle.tries.specs.Place.{spot, subtrie_sibling}
+use Rattle.tries.specs.Search.{seek}
+use Rattle.versions.specs.Trades.{IsOneOf}
+use Rattle.versions.specs.declared.Rec.{Rec}
+use Rattle.versions.specs.declared.Rec.TheVariants.{Node as a_node, Leaf as a_leaf}
+use Rattle.rowex_core.specs.Reading.{node_words_of}
+use Rattle.rowex_core.specs.declared.event.Event.{Event}
+use Rattle.rowex_core.specs.declared.event.Spot.{Spot}
+use Rattle.rowex_core.specs.declared.event.Target.{Target}
+use Rattle.rowex_core.specs.declared.event.Target.TheVariants.{Anchor, Node as NodeTarget}
+use Rattle.rowex_core.specs.declared.known.Known.{Known}
+use Rattle.rowex_core.specs.declared.known.Locked.{Locked}
+use Rattle.rowex_table.specs.Made.{IsLater, nodes_of}
+use Rattle.rowex_table.specs.Seats.{TableView, SeatView, IsSeatOf}
+use Rattle.rowex_table.specs.Stays.{LeavesPin}
+use Rattle.rowex_reading.specs.Possible.{IsPossible}
+use Rattle.rowex_reading.specs.Ways.{named}
+use Rattle.rowex_reading.specs.declared.descent.Found.{Found}
+use Rattle.rowex_reading.specs.declared.descent.Found.TheVariants.{Leaf}
+use Rattle.rowex_rights.specs.Loops.{StaysLocked}
+use Rattle.rowex_writing.specs.Changes.{HasRun, HasTriedOnce, IsTakeChange, MayPublishOnceReady}
+use Rattle.rowex_writing.specs.Counts.{change_steps, level_steps}
+use Rattle.rowex_writing.specs.Going.{HasLocked}
+use Rattle.rowex_writing.specs.Locks.{LocksLast, TriesNodesBy, locks_of, span_numbers}
+use Rattle.rowex_writing.specs.Putting.{IsSpotAbove}
+use Rattle.rowex_writing.specs.Taking.{HasLeafBelow}
+use Rattle.rowex_writing.specs.declared.deeds.Job.{Job}
+use Rattle.rowex_writing.specs.declared.merging.Beside.{Beside}
+
+-- what stands past the end of a way
+abbrev pub no_step : Step
+no_step = record { number = 0; height = 0; first_position = 0; count = 0; at = 0 }
+
+-- the last node of a job's way, which loses the leaf, and the one above it
+abbrev pub lower : Job → Step
+lower job = get_or job.way.now job.span.end no_step
+
+abbrev pub upper : Job → Step
+upper job = get_or job.way.now (job.span.end - 1) no_step
+
+-- ---- before the change
+-- The pass has locked the last two nodes of the way, of which the lower one names the leaf that goes.
+pub record IsTaking (table : TableView) (job : Job) : Type 0 where
+  pub before : SeatView
+  pub since : ℕ
+  pub number : ℕ
+  pub value : ℕ
+  pub found : job.found ≡ Leaf number value None
+  pub below : HasLeafBelow table before since job.key.now job.way.now number value job.span
+  pub some : 0 < job.span.end
+
+-- and since then it has gone on, with these locks and no other
+abbrev pub TakesOn : TableView → SeatView → Job → Type 0
+TakesOn table a job = (t : IsTaking table job) × IsSeatOf table a × IsPossible table.layout a.known × StaysLocked t.before.known a.known
+
+-- In the upper node, by the words under its lock, the place alone is beside that of the lower one, and names the node.
+pub record IsNeighbour (k : Known) (job : Job) (b : Beside) : Type 0 where
+  pub words : List ℕ
+  pub has : HasLocked k (upper job).number words
+  pub forks : beside (spot job.key.now (node_words_of words).subtrie) (node_words_of words).subtrie ≡ Some (b.place, b.position)
+  pub height : ℕ
+  pub sibling : subtrie_sibling job.key.now (node_words_of words).subtrie ≡ Some (b.position, Place (Node b.number height))
+
+-- In the locked node of this step, by its words, the place alone is beside the one that the key's search takes; and the entry can stand in it.
+abbrev pub ClosesFork : Known → Step → Key → ℕ → Entry → Type 0
+ClosesFork k s key place e = (words : List ℕ) → HasLocked k s.number words → (spot key (node_words_of words).subtrie ≡ s.at) ×
+    ((position : ℕ) × (beside s.at (node_words_of words).subtrie ≡ Some (place, position))) × StandsBelow (node_words_of words).fixed.height e
+
+-- the height of the entry's node is one that a word tells
+abbrev pub HasHeight : Entry → Type 0
+HasHeight (LeafEntry n) = Unit {0}
+HasHeight (Node n h) = (1 ≤ h) × (h < 65536)
+
+-- ---- wider locks
+-- the lock of what names the first of the nodes from `end` on
+abbrev pub IsTargetAbove : List Step → ℕ → Target → Type 0
+IsTargetAbove way end Anchor = end ≡ 0
+IsTargetAbove way end (NodeTarget n) = (s : Step) × (0 < end) × (slice_get way (end - 1) ≡ Some s) × (n ≡ s.number)
+
+-- Beside these locks the pass has that one, and no other; and what the lock's target names is what the search found there.
+pub data LocksAbove (held : List Locked) (key : Key) (way : List Step) (found : Found) (end : ℕ) (j : Known) : Type 0 where
+  by_anchor : end ≡ 0 → j.locks ≡ held → j.anchor ≡ Some (named way found 0) → LocksAbove held key way found end j
+  by_node : (s : Step) → 0 < end → slice_get way (end - 1) ≡ Some s → LocksLast s.number held j → j.anchor ≡ None →
+      ((words : List ℕ) → HasLocked j s.number words → named way found end ≡ Some (seek key (node_words_of words).subtrie)) → LocksAbove held key way found end j
+
+-- Beside the locks of its span the pass has locked the node beside the lower one, and what names the upper one.
+pub record IsWide (table : TableView) (b : SeatView) (job : Job) (number : ℕ) : Type 0 where
+  pub taking : IsTaking table job
+  pub seat : IsSeatOf table b
+  pub possible : IsPossible table.layout b.known
+  pub later : IsLater taking.before.known b.known
+  pub words : List ℕ
+  pub new : ¬ (IsOneOf number (nodes_of taking.before.known.locks))
+  pub low : number < table.layout.nodes
+  pub above : LocksAbove (record { node = number; words = words } ∷ taking.before.known.locks) job.key.now job.way.now job.found (job.span.end - 1) b.known
+
+-- After the locks of these nodes the pass tries two more, or fewer: each that it has tried until then, once. It has tried both where this is
+-- true.
+abbrev pub TriesMore : {G : Type 0} → TableView → (G → Event → G → Type 0) → List ℕ → Bool → SeatView × G → SeatView × G → Type 0
+TriesMore {G} table becomes nodes both b c = (a : SeatView × G) → TriesNodesBy LeavesPin table becomes nodes a b →
+    (locks : ℕ) × HasTriedOnce table becomes locks a c × (length nodes ≤ locks) × (locks ≤ length nodes + 2) × (both ≡ true → locks ≡ length nodes + 2)
+
+-- so many steps at most and these more, where each record may be tried that is left
+abbrev pub TriesFew : {G : Type 0} → TableView → (G → Event → G → Type 0) → List ℕ → (left more : ℕ) → SeatView × G → SeatView × G → Type 0
+TriesFew {G} table becomes nodes left more b c = (a : SeatView × G) → TriesNodesBy LeavesPin table becomes nodes a b →
+    (locks : ℕ) × HasTriedOnce table becomes locks a c × (length nodes ≤ locks) × (locks ≤ length nodes + 2) ×
+    (c.0.known.steps ≤ b.0.known.steps + 2 * left + (locks - length nodes) * level_steps + more)
+
+-- and a change under all these locks
+abbrev pub ChangesOn : {G : Type 0} → TableView → (G → Event → G → Type 0) → List ℕ → SeatView × G → SeatView × G → Type 0
+ChangesOn {G} table becomes nodes b c = (a : SeatView × G) → TriesNodesBy LeavesPin table becomes nodes a b →
+    (locks : ℕ) × HasTriedOnce table becomes locks a c × (length nodes ≤ locks) × (locks ≤ length nodes + 2) × (c.0.known.steps ≤ b.0.known.steps + change_steps table.layout locks)
+
+-- a change that tries no lock, or one that tries more beside those of its span
+abbrev pub EndsChange : {G : Type 0} → TableView → (G → Event → G → Type 0) → Job → SeatView × G → SeatView × G → Type 0
+EndsChange {G} table becomes job b c = (HasRun table becomes b c × (c.0.known.steps ≤ b.0.known.steps + change_steps table.layout (locks_of job.span))) ⊎
+    ((0 < job.span.end) × (job.span.end + 1 ≡ job.span.len) × ChangesOn table becomes (span_numbers job.way.now job.span) b c)
+
+-- ---- the store
+-- the records that go: both nodes of the span, the one beside, and the leaf
+abbrev pub merged_gone : Job → (number leaf : ℕ) → List Rec
+merged_gone job number leaf = a_node (upper job).number ∷ a_node (lower job).number ∷ a_node number ∷ a_leaf leaf ∷ []
+
+-- Once the records that the pass has made are ready, it may make the removal by a store of the entry above the upper node.
+pub record MayMergeInto (table : TableView) (b : SeatView) (made : List Rec) (job : Job) (number : ℕ) (e : Entry) : Type 0 where
+  pub change : Change
+  pub was : Option ℕ
+  pub takes : IsTakeChange b.known.pass job.key.now job.found change was
+  pub ends : (leaf : ℕ) (value : ℕ) (spot : Spot) → job.found ≡ Leaf leaf value None → IsSpotAbove job.way.now (job.span.end - 1) spot →
+      MayPublishOnceReady table b made spot (entry_word (Some e)) change was (merged_gone job number leaf)
+  pub few : length made ≤ 2

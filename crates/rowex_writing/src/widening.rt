@@ -1,0 +1,206 @@
+//! Locks beyond those of a span: of the node beside its lower one, and of what names its upper one.
+
+ghost use Rattle.std.specs.Prelude.{◌≡◌, ◌≢◌, ◌<◌, ◌≤◌, ◌+◌, ◌-◌, ◌∷◌, [], ℕ, List, true, false, None, Some, IsSome, length, slice_get};
+ghost use Rattle.insert_cases.specs.declared.choice.Step.{Step as StepView};
+ghost use Rattle.tries.specs.Place.{entry_at};
+ghost use Rattle.rowex_core.specs.Reading.{node_words_of};
+ghost use Rattle.rowex_core.specs.declared.known.Locked.{Locked};
+ghost use Rattle.rowex_core.specs.declared.event.Target.{Target as TargetView};
+ghost use Rattle.rowex_reading.specs.Possible.{IsPossible};
+ghost use Rattle.rowex_reading.specs.Seen.{HasPlace};
+ghost use Rattle.rowex_table.specs.Made.{IsLater};
+ghost use Rattle.rowex_table.specs.Seats.{IsSeatOf};
+ghost use Rattle.rowex_writing.specs.Changes.{HasRun, HasTried};
+ghost use Rattle.rowex_writing.specs.Going.{HasLocked};
+ghost use Rattle.rowex_writing.specs.Jobs.{IsJobFrom};
+ghost use Rattle.rowex_writing.specs.Locks.{AreNodes, HasTheSame, LocksLast, Works, span_numbers};
+ghost use Rattle.rowex_reading.specs.declared.descent.Found.{Found as FoundView};
+ghost use Rattle.tries.specs.Keys.{Key as KeyView};
+ghost use Rattle.rowex_writing.specs.Merging.{IsNeighbour, IsTargetAbove, IsWide, LocksAbove, TakesOn, TriesMore};
+ghost use Rattle.rowex_writing.specs.declared.merging.Beside.{Beside as BesideView};
+
+use crate::checking::{entry_stands, named_at, root_stands};
+use crate::deeds::Job;
+use crate::locks::{lock_anchor, lock_node};
+use crate::merging::Beside;
+use compound_node::Entry;
+use insert_cases::Step;
+use rowex_core::{Gate, Target};
+use rowex_table::{HotTable, TableSeat};
+
+/// Locks the node beside the lower one of a removal's span, and then what names the upper one, and checks that it still does. Each is
+/// tried once at most. Where a lock is refused, or something else is named there now, both are given back, and the answer is `false`.
+pub(crate) fn widen<G: Gate>(
+    table: &HotTable,
+    seat: &mut TableSeat,
+    gate: &mut G,
+    job: &Job<'_>,
+    number: u32,
+) -> bool
+    requires takes { TakesOn table.now seat.old job.now }
+    requires beside { (b : BesideView) × IsNeighbour seat.old.known job.now b × (b.number ≡ number) }
+    ensures tries { TriesMore table.now G.becomes (span_numbers job.now.way.now job.now.span) result (seat.old, gate.old) (seat.new, gate.new) }
+    ensures later { IsLater seat.old.known seat.new.known × IsSeatOf table.now seat.new × IsPossible table.now.layout seat.new.known × (seat.new.known.own ≡ seat.old.known.own) }
+    ensures wide { result ≡ true → (w : IsWide table.now seat.new job.now number) ×
+        (w.taking.before.known.locks ≡ seat.old.known.locks) × (w.taking.before.known.anchor ≡ seat.old.known.anchor) }
+    ensures same { result ≡ false → HasTheSame seat.old.known seat.new.known }
+    ensures few { seat.new.known.steps ≤ seat.old.known.steps + 5 }
+{
+    if is_near(job, number) {
+        return false;
+    }
+    if !lock_node(table, seat, gate, number) {
+        return false;
+    }
+    if lock_above(table, seat, gate, job) {
+        return true;
+    }
+    unlock_last(table, seat, gate, number);
+    false
+}
+
+/// Whether this is the number of a node of the span, or of the one above it.
+fn is_near(job: &Job<'_>, number: u32) -> bool
+    requires within { (job.now.span.end ≤ job.now.span.len) × (job.now.span.len ≤ length job.now.way.now) }
+    ensures none { result ≡ false → (step : StepView) (i : ℕ) → slice_get job.now.way.now i ≡ Some step → job.now.span.end ≤ i + 2 → i < job.now.span.len → number ≢ step.number }
+{
+    for index in job.span.end.saturating_sub(2)..job.span.len {
+        if job.way[index].number == number {
+            return true;
+        }
+    }
+    false
+}
+
+/// Locks what names the upper node of a removal's span, the node above it or the anchor, and checks that it still does. Else what is
+/// locked is as before.
+fn lock_above<G: Gate>(table: &HotTable, seat: &mut TableSeat, gate: &mut G, job: &Job<'_>) -> bool
+    requires own { IsSeatOf table.now seat.old }
+    requires possible { IsPossible table.now.layout seat.old.known }
+    requires way { (m : ℕ) × IsJobFrom table.now.layout seat.old.known m job.now }
+    requires some { (0 < job.now.span.end) × (job.now.span.end ≤ length job.now.way.now) }
+    requires free { seat.old.known.anchor ≡ None }
+    ensures tries { (target : TargetView) × HasTried table.now G.becomes (target ∷ []) (seat.old, gate.old) (seat.new, gate.new) × IsTargetAbove job.now.way.now (job.now.span.end - 1) target }
+    ensures later { IsLater seat.old.known seat.new.known × (seat.new.known.own ≡ seat.old.known.own) }
+    ensures above { result ≡ true → LocksAbove seat.old.known.locks job.now.key.now job.now.way.now job.now.found (job.now.span.end - 1) seat.new.known }
+    ensures same { result ≡ false → HasTheSame seat.old.known seat.new.known }
+    ensures few { seat.new.known.steps ≤ seat.old.known.steps + 3 }
+{
+    let end = job.span.end - 1;
+    let named = named_at(job.way, job.found, end);
+    if end == 0 {
+        return lock_root(table, seat, gate, named);
+    }
+    lock_step(table, seat, gate, job.way[end - 1], named)
+}
+
+/// Locks the anchor, where the root is this one then.
+fn lock_root<G: Gate>(
+    table: &HotTable,
+    seat: &mut TableSeat,
+    gate: &mut G,
+    root: Option<Entry>,
+) -> bool
+    requires own { IsSeatOf table.now seat.old }
+    requires pinned { IsSome seat.old.known.pin }
+    requires free { seat.old.known.anchor ≡ None }
+    ensures tries { HasTried table.now G.becomes (Target.Anchor ∷ []) (seat.old, gate.old) (seat.new, gate.new) }
+    ensures later { IsLater seat.old.known seat.new.known × (seat.new.known.own ≡ seat.old.known.own) }
+    ensures locked { result ≡ true → (seat.new.known.locks ≡ seat.old.known.locks) × (seat.new.known.anchor ≡ Some root) }
+    ensures same { result ≡ false → HasTheSame seat.old.known seat.new.known }
+    ensures few { seat.new.known.steps ≤ seat.old.known.steps + 3 }
+{
+    if !lock_anchor(table, seat, gate) {
+        return false;
+    }
+    if root_stands(table, seat, gate, root) {
+        return true;
+    }
+    table.unlock(seat, gate, Target::Anchor);
+    false
+}
+
+/// Locks a node of the way, where the entry that the search took there is this one then.
+fn lock_step<G: Gate>(
+    table: &HotTable,
+    seat: &mut TableSeat,
+    gate: &mut G,
+    step: Step,
+    entry: Option<Entry>,
+) -> bool
+    requires own { IsSeatOf table.now seat.old }
+    requires possible { IsPossible table.now.layout seat.old.known }
+    requires range { step.number < table.now.layout.nodes }
+    requires place { (m h : ℕ) × HasPlace seat.old.known m step.number h step.at }
+    ensures tries { HasTried table.now G.becomes (Target.Node step.number ∷ []) (seat.old, gate.old) (seat.new, gate.new) }
+    ensures later { IsLater seat.old.known seat.new.known × (seat.new.known.own ≡ seat.old.known.own) }
+    ensures locked { result ≡ true → LocksLast step.number seat.old.known.locks seat.new.known × (seat.new.known.anchor ≡ seat.old.known.anchor) ×
+        ((words : List ℕ) → HasLocked seat.new.known step.number words → entry ≡ Some (entry_at (node_words_of words).subtrie step.at)) }
+    ensures same { result ≡ false → HasTheSame seat.old.known seat.new.known }
+    ensures few { seat.new.known.steps ≤ seat.old.known.steps + 3 }
+{
+    if !lock_node(table, seat, gate, step.number) {
+        return false;
+    }
+    if entry_stands(table, seat, gate, step, entry) {
+        return true;
+    }
+    unlock_last(table, seat, gate, step.number);
+    false
+}
+
+/// Unlocks the node that the pass has locked last.
+fn unlock_last<G: Gate>(table: &HotTable, seat: &mut TableSeat, gate: &mut G, number: u32)
+    requires own { IsSeatOf table.now seat.old }
+    requires range { number < table.now.layout.nodes }
+    requires last { (held : List Locked) × LocksLast number held seat.old.known }
+    ensures works { Works table.now G.becomes (seat.old, gate.old) (seat.new, gate.new) }
+    ensures less { (held : List Locked) → LocksLast number held seat.old.known → seat.new.known.locks ≡ held }
+    ensures same { (seat.new.known.anchor ≡ seat.old.known.anchor) × (seat.new.known.own ≡ seat.old.known.own) }
+    ensures few { seat.new.known.steps ≤ seat.old.known.steps + 1 }
+{
+    table.unlock(seat, gate, Target::Node(number));
+}
+
+/// Unlocks what names the nodes of the way from `end` on, the last lock that the pass has taken.
+fn unlock_above<G: Gate>(
+    table: &HotTable,
+    seat: &mut TableSeat,
+    gate: &mut G,
+    way: &[Step],
+    end: usize,
+)
+    requires own { IsSeatOf table.now seat.old }
+    requires nodes { AreNodes table.now.layout way.now }
+    requires range { end ≤ length way.now }
+    requires above { (held : List Locked) × (key : KeyView) × (found : FoundView) × LocksAbove held key way.now found end seat.old.known }
+    ensures works { Works table.now G.becomes (seat.old, gate.old) (seat.new, gate.new) }
+    ensures less { (held : List Locked) (key : KeyView) (found : FoundView) → LocksAbove held key way.now found end seat.old.known → (seat.new.known.locks ≡ held) × (seat.new.known.anchor ≡ None) }
+    ensures own { seat.new.known.own ≡ seat.old.known.own }
+    ensures few { seat.new.known.steps ≤ seat.old.known.steps + 1 }
+{
+    if end == 0 {
+        table.unlock(seat, gate, Target::Anchor);
+    } else {
+        unlock_last(table, seat, gate, way[end - 1].number);
+    }
+}
+
+/// Unlocks what [`widen`] has locked.
+pub(crate) fn narrow<G: Gate>(
+    table: &HotTable,
+    seat: &mut TableSeat,
+    gate: &mut G,
+    job: &Job<'_>,
+    number: u32,
+)
+    requires wide { IsWide table.now seat.old job.now number }
+    ensures run { HasRun table.now G.becomes (seat.old, gate.old) (seat.new, gate.new) }
+    ensures later { IsLater seat.old.known seat.new.known }
+    ensures same { (w : IsWide table.now seat.old job.now number) →
+        (seat.new.known.locks ≡ w.taking.before.known.locks) × (seat.new.known.anchor ≡ w.taking.before.known.anchor) × (seat.new.known.own ≡ seat.old.known.own) }
+    ensures few { seat.new.known.steps ≤ seat.old.known.steps + 2 }
+{
+    unlock_above(table, seat, gate, job.way, job.span.end - 1);
+    unlock_last(table, seat, gate, number);
+}
