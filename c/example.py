@@ -3,7 +3,7 @@
 
     put KEY NUMBER     get KEY     del KEY     list
 
-usage: example.py [LIBRARY]     where it lies, if it is not libhot.so.1 of the loader's folders
+usage: example.py [LIBRARY]     where it lies, if it is not libhot.so.2 of the loader's folders
 """
 import ctypes
 import sys
@@ -11,7 +11,7 @@ from ctypes import POINTER, byref, c_char_p, c_size_t, c_uint8, c_uint32, c_uint
 
 MAX_KEY, PAGE = 240, 64
 FOUND, WAS, REMOVED, EXCHANGED, DIFFERS = 1, 6, 7, 16, 17
-REFUSALS = range(8, 16)
+REFUSALS = (*range(8, 16), 18)
 
 
 class Handle(ctypes.Structure):
@@ -212,7 +212,7 @@ def answer(index: Index, line: str) -> list:
 
 
 def main() -> None:
-    hot = load(sys.argv[1] if len(sys.argv) > 1 else "libhot.so.1")
+    hot = load(sys.argv[1] if len(sys.argv) > 1 else "libhot.so.2")
     index = Index(hot, stock_for_keys(hot, 16384, MAX_KEY))
     for line in sys.stdin:
         try:

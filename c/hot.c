@@ -1,5 +1,5 @@
 /* What of the library for C is written in C, and tested: the texts of statuses, scans of a prefix, pairs that are handed over one by
- * one, and the calls that wait. */
+ * one, and the calls that wait: the proved library may neither wait nor yield, so it says when to try again, and the wait is here. */
 #include "hot.h"
 #include <sched.h>
 #include <string.h>
@@ -15,8 +15,8 @@ const char *hot_status_text(hot_status status) {
     case HOT_WAS: return "replaced";
     case HOT_REMOVED: return "removed";
     case HOT_BUSY: return "another call stood in the way";
-    case HOT_FULL_NODES: return "no node record is free";
-    case HOT_FULL_LEAVES: return "no leaf record is free";
+    case HOT_FULL_NODES: return "all node records are in use";
+    case HOT_FULL_LEAVES: return "all leaf records are in use";
     case HOT_KEY_TOO_LONG: return "a key is too long";
     case HOT_CLOSED: return "the handle is closed";
     case HOT_OPEN: return "a handle is open";
@@ -24,6 +24,7 @@ const char *hot_status_text(hot_status status) {
     case HOT_NO_MEMORY: return "out of memory";
     case HOT_EXCHANGED: return "exchanged";
     case HOT_DIFFERS: return "the key has another value";
+    case HOT_HELD_BACK: return "other calls hold records back";
     default: return "not a status";
     }
 }
@@ -71,37 +72,45 @@ hot_status hot_each(hot_handle *handle, const uint8_t *from, size_t from_length,
     return status;
 }
 
+/* Whether a change is to be tried again, once other threads have run: another call is in its way, or holds records back. */
+static int is_to_wait(hot_status status) {
+    int waits = status == HOT_BUSY || status == HOT_HELD_BACK;
+    if (waits)
+        sched_yield();
+    return waits;
+}
+
 hot_status hot_insert(hot_handle *handle, const uint8_t *key, size_t length, uint64_t value, uint64_t *had) {
     hot_status status;
-    while ((status = hot_try_insert(handle, key, length, value, had)) == HOT_BUSY)
-        sched_yield();
+    while (is_to_wait(status = hot_try_insert(handle, key, length, value, had)))
+        ;
     return status;
 }
 
 hot_status hot_upsert(hot_handle *handle, const uint8_t *key, size_t length, uint64_t value, uint64_t *had) {
     hot_status status;
-    while ((status = hot_try_upsert(handle, key, length, value, had)) == HOT_BUSY)
-        sched_yield();
+    while (is_to_wait(status = hot_try_upsert(handle, key, length, value, had)))
+        ;
     return status;
 }
 
 hot_status hot_remove(hot_handle *handle, const uint8_t *key, size_t length, uint64_t *had) {
     hot_status status;
-    while ((status = hot_try_remove(handle, key, length, had)) == HOT_BUSY)
-        sched_yield();
+    while (is_to_wait(status = hot_try_remove(handle, key, length, had)))
+        ;
     return status;
 }
 
 hot_status hot_exchange(hot_handle *handle, const uint8_t *key, size_t length, uint64_t expected, uint64_t value, uint64_t *had) {
     hot_status status;
-    while ((status = hot_try_exchange(handle, key, length, expected, value, had)) == HOT_BUSY)
-        sched_yield();
+    while (is_to_wait(status = hot_try_exchange(handle, key, length, expected, value, had)))
+        ;
     return status;
 }
 
 hot_status hot_remove_if(hot_handle *handle, const uint8_t *key, size_t length, uint64_t expected, uint64_t *had) {
     hot_status status;
-    while ((status = hot_try_remove_if(handle, key, length, expected, had)) == HOT_BUSY)
-        sched_yield();
+    while (is_to_wait(status = hot_try_remove_if(handle, key, length, expected, had)))
+        ;
     return status;
 }

@@ -13,10 +13,12 @@
  *
  * When the index is full. A change writes new records before it retires those that it replaces. Retired records can be used again once
  * the calls that ran at that time, or began soon after, have returned: the next collection gives them back, and a change that finds no
- * record free makes a collection itself before it answers HOT_FULL_NODES or HOT_FULL_LEAVES. If no other call is running, the index
- * stays full until keys are removed. If others are running, records may come back when they return: keep some records to spare, and
- * try a refused change again after a while. A thread that is stopped in the middle of a call, even of a look-up or a scan, may hold
- * back everything that is retired meanwhile.
+ * record free makes a collection itself, tries again, and then counts all records. If it finds each record that it could use in use, it
+ * returns HOT_FULL_NODES or HOT_FULL_LEAVES: keys must be removed first. If it finds one free, claimed by a change that is under way,
+ * or retired, other calls hold records back, and it is to be tried again: hot_insert and the like do so, and hot_try_insert and the like
+ * return HOT_HELD_BACK. A thread that is stopped in the middle of a call, even of a look-up or a scan, may hold back everything that is
+ * retired meanwhile. The count loads one record after another: with a handful of records to spare, changes that are under way may
+ * have a few of them in use for a moment.
  *
  * What the library relies on, and doesn't check. No pointer is NULL, not even a key's if its length is 0; each points to what its type
  * says, and what a call writes overlaps no other argument. A handle is zeroed before hot_create, and the program never copies, moves
@@ -44,15 +46,15 @@ extern "C" {
 #endif
 
 /* The version of this header. A program that is right with an earlier version of the same major number is right with this one. */
-#define HOT_VERSION_MAJOR 1
-#define HOT_VERSION_MINOR 6
+#define HOT_VERSION_MAJOR 2
+#define HOT_VERSION_MINOR 0
 #define HOT_VERSION_PATCH 0
 
 /* The greatest length of a key, in bytes. */
 #define HOT_MAX_KEY 240
 
-/* How a call came out. Each call says which of these it answers. From HOT_BUSY to HOT_NO_MEMORY the call was refused and changed
- * nothing; with any other status it was made. */
+/* How a call came out. Each call says which of these it returns. From HOT_BUSY to HOT_NO_MEMORY, and from HOT_HELD_BACK on, the call
+ * was refused and changed nothing; with any other status it was made. */
 typedef uint32_t hot_status;
 enum {
     HOT_DONE = 0,          /* it was made; there is nothing else to tell */
@@ -64,15 +66,16 @@ enum {
     HOT_WAS = 6,           /* the key had this value, and has the new one */
     HOT_REMOVED = 7,       /* the key had this value, and is gone */
     HOT_BUSY = 8,          /* another call is in the way: try again */
-    HOT_FULL_NODES = 9,    /* too few node records were free, even after a collection; if other calls run, try later */
-    HOT_FULL_LEAVES = 10,  /* no leaf record was free, in the same way */
-    HOT_KEY_TOO_LONG = 11, /* a key has more than HOT_MAX_KEY bytes */
+    HOT_FULL_NODES = 9,    /* too few node records were free, and a count found all in use */
+    HOT_FULL_LEAVES = 10,  /* no leaf record was free, and a count found all in use that have room for the key */
+    HOT_KEY_TOO_LONG = 11, /* a key has more than HOT_MAX_KEY bytes, or is to be put in and no leaf record has room for it */
     HOT_CLOSED = 12,       /* the handle is closed */
     HOT_OPEN = 13,         /* a handle that was to be opened is open */
     HOT_OUT_OF_RANGE = 14, /* the number of handles, nodes or leaves is out of range */
     HOT_NO_MEMORY = 15,
     HOT_EXCHANGED = 16,    /* the key had the expected value, and has the new one */
-    HOT_DIFFERS = 17       /* the key has this value, which is not the expected one, and keeps it */
+    HOT_DIFFERS = 17,      /* the key has this value, which is not the expected one, and keeps it */
+    HOT_HELD_BACK = 18     /* too few records were free, but other calls hold some back: try again */
 };
 
 /* A few words of English for a status. The text is static; a number that is no status has a text too. */
@@ -154,30 +157,30 @@ typedef struct hot_lookup {
 hot_status hot_get_many(hot_handle *handle, hot_lookup *lookups, size_t count);
 
 /* Gives a key a value if it is absent. If it is there, it keeps its value, which is written to `had`. This and each other call
- * hot_try_.. makes at most 1396470 steps, 2 for each handle of the index, 6 for each node record and 10 for each leaf record.
- * HOT_INSERTED, HOT_EXISTS; or HOT_BUSY, HOT_FULL_NODES, HOT_FULL_LEAVES, HOT_KEY_TOO_LONG, HOT_CLOSED. */
+ * hot_try_.. makes at most 1396470 steps, 2 for each handle of the index, 7 for each node record and 11 for each leaf record.
+ * HOT_INSERTED, HOT_EXISTS; or HOT_BUSY, HOT_HELD_BACK, HOT_FULL_NODES, HOT_FULL_LEAVES, HOT_KEY_TOO_LONG, HOT_CLOSED. */
 hot_status hot_try_insert(hot_handle *handle, const uint8_t *key, size_t length, uint64_t value, uint64_t *had);
 
 /* Gives a key a value. If it had one before, that is written to `had`.
- * HOT_NEW, HOT_WAS; or HOT_BUSY, HOT_FULL_NODES, HOT_FULL_LEAVES, HOT_KEY_TOO_LONG, HOT_CLOSED. */
+ * HOT_NEW, HOT_WAS; or HOT_BUSY, HOT_HELD_BACK, HOT_FULL_NODES, HOT_FULL_LEAVES, HOT_KEY_TOO_LONG, HOT_CLOSED. */
 hot_status hot_try_upsert(hot_handle *handle, const uint8_t *key, size_t length, uint64_t value, uint64_t *had);
 
 /* Compare and exchange: gives a key a new value if it has the expected one. If it has another, it keeps that, which is written to
  * `had`.
- * HOT_EXCHANGED, HOT_DIFFERS, HOT_ABSENT; or HOT_BUSY, HOT_FULL_NODES, HOT_FULL_LEAVES, HOT_KEY_TOO_LONG, HOT_CLOSED. */
+ * HOT_EXCHANGED, HOT_DIFFERS, HOT_ABSENT; or HOT_BUSY, HOT_HELD_BACK, HOT_FULL_NODES, HOT_FULL_LEAVES, HOT_KEY_TOO_LONG, HOT_CLOSED. */
 hot_status hot_try_exchange(hot_handle *handle, const uint8_t *key, size_t length, uint64_t expected, uint64_t value, uint64_t *had);
 
 /* Removes a key. If it had a value, that is written to `had`.
- * HOT_REMOVED, HOT_ABSENT; or HOT_BUSY, HOT_FULL_NODES, HOT_KEY_TOO_LONG, HOT_CLOSED. */
+ * HOT_REMOVED, HOT_ABSENT; or HOT_BUSY, HOT_HELD_BACK, HOT_FULL_NODES, HOT_KEY_TOO_LONG, HOT_CLOSED. */
 hot_status hot_try_remove(hot_handle *handle, const uint8_t *key, size_t length, uint64_t *had);
 
 /* Removes a key if it has the expected value. The value that it had, or has and keeps, is written to `had`.
- * HOT_REMOVED, HOT_DIFFERS, HOT_ABSENT; or HOT_BUSY, HOT_FULL_NODES, HOT_KEY_TOO_LONG, HOT_CLOSED. */
+ * HOT_REMOVED, HOT_DIFFERS, HOT_ABSENT; or HOT_BUSY, HOT_HELD_BACK, HOT_FULL_NODES, HOT_KEY_TOO_LONG, HOT_CLOSED. */
 hot_status hot_try_remove_if(hot_handle *handle, const uint8_t *key, size_t length, uint64_t expected, uint64_t *had);
 
-/* hot_try_insert, hot_try_upsert and hot_try_remove, repeated as long as they are busy, with a sched_yield between two tries. If the
- * index is full, they say so at once. There is no bound on how long they wait: a thread that is stopped in the middle of a change
- * keeps others waiting that want to change the same nodes. They write and answer what those do, except HOT_BUSY. */
+/* hot_try_insert, hot_try_upsert and hot_try_remove, repeated as long as another call is in the way or holds records back, with a
+ * sched_yield between two tries. There is no bound on how long they wait: a thread that is stopped in the middle of a change keeps
+ * others waiting that want to change the same nodes. They write and return what those do, except HOT_BUSY and HOT_HELD_BACK. */
 hot_status hot_insert(hot_handle *handle, const uint8_t *key, size_t length, uint64_t value, uint64_t *had);
 hot_status hot_upsert(hot_handle *handle, const uint8_t *key, size_t length, uint64_t value, uint64_t *had);
 hot_status hot_remove(hot_handle *handle, const uint8_t *key, size_t length, uint64_t *had);

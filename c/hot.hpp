@@ -16,7 +16,7 @@
 
 namespace hot {
 
-/// How a change came out. If it is `busy` or full, it was refused and changed nothing.
+/// How a change came out. If it is `busy`, `held_back` or full, it was refused and changed nothing.
 enum class status : hot_status {
     inserted = HOT_INSERTED,
     exists = HOT_EXISTS,
@@ -28,14 +28,17 @@ enum class status : hot_status {
     differs = HOT_DIFFERS,
     busy = HOT_BUSY,
     full_nodes = HOT_FULL_NODES,
-    full_leaves = HOT_FULL_LEAVES
+    full_leaves = HOT_FULL_LEAVES,
+    held_back = HOT_HELD_BACK
 };
 
 /// A change's status, and the value that the key had, if it had one. For an exchange that was made this is the expected value.
 struct change {
     status what;
     std::optional<std::uint64_t> had;
-    bool is_refused() const { return what >= status::busy && what <= status::full_leaves; }
+    bool is_refused() const {
+        return what == status::busy || what == status::held_back || what == status::full_nodes || what == status::full_leaves;
+    }
     const char *text() const { return hot_status_text(static_cast<hot_status>(what)); }
 };
 
@@ -50,7 +53,8 @@ struct collected {
     std::uint32_t nodes, leaves;
 };
 
-/// Throws for each status that isn't an answer: std::length_error for a key of more than HOT_MAX_KEY bytes, std::bad_alloc,
+/// Throws for each status that isn't an answer: std::length_error for a key of more than HOT_MAX_KEY bytes, or one for which no leaf
+/// record has room; std::bad_alloc,
 /// std::invalid_argument for numbers out of range, std::logic_error for handles that are closed or open.
 inline void check(hot_status status) {
     switch (status) {
@@ -208,7 +212,8 @@ class handle {
         return found;
     }
 
-    /// Give a key a value if it is absent; give a key a value; remove a key. Each waits while other calls are in its way.
+    /// Give a key a value if it is absent; give a key a value; remove a key. Each waits while other calls are in its way or hold
+    /// records back.
     change insert(std::string_view key, std::uint64_t value) { return put(hot_insert, key, value); }
     change upsert(std::string_view key, std::uint64_t value) { return put(hot_upsert, key, value); }
     change remove(std::string_view key) { return take(hot_remove, key); }
@@ -220,7 +225,7 @@ class handle {
     }
     change remove_if(std::string_view key, std::uint64_t expected) { return put(hot_remove_if, key, expected); }
 
-    /// The same calls, tried once: they may answer `busy`.
+    /// The same calls, tried once: they may answer `busy` or `held_back`.
     change try_insert(std::string_view key, std::uint64_t value) { return put(hot_try_insert, key, value); }
     change try_upsert(std::string_view key, std::uint64_t value) { return put(hot_try_upsert, key, value); }
     change try_remove(std::string_view key) { return take(hot_try_remove, key); }

@@ -408,10 +408,10 @@ static void test_before(void) {
 
 /* Each status has a text, and what is none has another. */
 static void test_texts(void) {
-    for (hot_status one = HOT_DONE; one <= HOT_DIFFERS + 1; one++)
+    for (hot_status one = HOT_DONE; one <= HOT_HELD_BACK + 1; one++)
         for (hot_status other = HOT_DONE; other < one; other++)
             CHECK(strcmp(hot_status_text(one), hot_status_text(other)));
-    CHECK(!strcmp(hot_status_text(UINT32_MAX), hot_status_text(HOT_DIFFERS + 1)));
+    CHECK(!strcmp(hot_status_text(UINT32_MAX), hot_status_text(HOT_HELD_BACK + 1)));
 }
 
 /* Keys of the greatest length and beyond. */
@@ -473,7 +473,8 @@ static void test_stock(void) {
     CHECK(hot_create_with(&stock, &handle, 1) == HOT_DONE);
     CHECK(hot_create_with(&stock, &handle, 1) == HOT_OPEN);
     CHECK(hot_try_insert(&handle, key, 8, 1, &had) == HOT_INSERTED);
-    CHECK(hot_try_insert(&handle, key, 25, 2, &had) == HOT_FULL_LEAVES);
+    CHECK(hot_try_insert(&handle, key, 25, 2, &had) == HOT_KEY_TOO_LONG && hot_upsert(&handle, key, 25, 2, &had) == HOT_KEY_TOO_LONG);
+    CHECK(hot_try_remove(&handle, key, 25, &had) == HOT_ABSENT && hot_get(&handle, key, 25, &had) == HOT_ABSENT && had == 7);
     CHECK(hot_try_insert(&handle, key, 24, 2, &had) == HOT_INSERTED);
     CHECK(hot_try_insert(&handle, key, 7, 3, &had) == HOT_FULL_LEAVES);
     CHECK(hot_try_remove(&handle, key, 8, &had) == HOT_REMOVED && had == 1);
@@ -586,10 +587,10 @@ typedef struct worker {
     long busy;
 } worker;
 
-/* Whether a call is to be made again: another stood in its way, or holds what a collection would have given back. */
+/* Whether a call is to be made again: another stood in its way, or holds records back. */
 static int again(worker *me, hot_status status) {
-    me->busy += status == HOT_BUSY;
-    return status == HOT_BUSY || status == HOT_FULL_NODES || status == HOT_FULL_LEAVES;
+    me->busy += status == HOT_BUSY || status == HOT_HELD_BACK;
+    return status == HOT_BUSY || status == HOT_HELD_BACK;
 }
 
 /* Puts keys of its own and one that all threads put, looks them up, and removes them. */

@@ -2,12 +2,11 @@
 
 ghost use Rattle.std.specs.Prelude.{◌≡◌, ◌≢◌, ◌⊎◌, ◌↔◌, ℕ, List, Err, IsOk, IsSome, None, Some, length};
 ghost use Rattle.finite_map.specs.declared.Call.TheVariants.{Exchange, Get, Insert, Remove, RemoveIf, Upsert};
-ghost use Rattle.rowex_writing.specs.declared.attempts.TryFault.{TryFault};
+ghost use Rattle.rowex_writing.specs.declared.attempts.TryFault.TheVariants.{FullLeaves};
 ghost use Rattle.seat_calls.specs.Answers.{MayRefuse};
 ghost use Rattle.hot_c.specs.declared.opened.Opened.{Opened};
 ghost use Rattle.hot_c.specs.Calls.{Answers, AreClosed, FitsInKey, HasGivenBack, HasSeenRecords, HaveOpened, HaveOpenedStock, IsSize, IsStockSize, StaysOpen, for_key};
 ghost use Rattle.hot_c.specs.Lookups.{LooksUpAll};
-ghost use Rattle.hot_c.specs.Statuses.{reply_status};
 ghost use Rattle.hot_c.specs.Stocks.{TakesBytes, stock_in};
 ghost use Rattle.record_words.specs.Layout.{stock_for};
 
@@ -15,7 +14,8 @@ use crate::handle::Handle;
 use crate::lookups::{Lookup, are_fit, keys_of, write_found};
 use crate::opening::{are_closed, make_passes, make_stocked, open_all};
 use crate::status::{
-    BUSY, CLOSED, DONE, FULL_LEAVES, FULL_NODES, KEY_TOO_LONG, NO_MEMORY, OPEN, OUT_OF_RANGE, tell,
+    BUSY, CLOSED, DONE, FULL_LEAVES, FULL_NODES, HELD_BACK, KEY_TOO_LONG, NO_MEMORY, OPEN, OUT_OF_RANGE,
+    tell_reply,
 };
 use crate::stock::HotStock;
 use hot_index::{Call, IndexFault, RecordCounts};
@@ -117,14 +117,14 @@ pub extern "C" fn hot_number(handle: &mut Handle, number: &mut u16) -> u32
 #[unsafe(no_mangle)]
 pub extern "C" fn hot_get(handle: &mut Handle, key: &[u8], value: &mut u64) -> u32
     ensures call { Answers key.now (Get key.now) handle.old.slot.opened handle.new.slot.opened value.old value.new result }
-    ensures unrefused { (result ≢ BUSY) × (result ≢ FULL_NODES) × (result ≢ FULL_LEAVES) }
+    ensures unrefused { (result ≢ BUSY) × (result ≢ HELD_BACK) × (result ≢ FULL_NODES) × (result ≢ FULL_LEAVES) }
 {
     if !handle.is_open() {
         return CLOSED;
     }
     let mut asked = Key::empty();
     match asked.set_bytes(key) {
-        Ok(()) => tell(Ok(handle.slot.lend().get(&asked)), value),
+        Ok(()) => tell_reply(handle.slot.lend().get(&asked), value),
         Err(_) => KEY_TOO_LONG,
     }
 }
@@ -220,13 +220,13 @@ pub extern "C" fn hot_try_remove_if(
 #[inline(always)]
 fn make_call(handle: &mut Handle, call: &mut Call, key: &[u8], had: &mut u64) -> u32
     ensures call { Answers key.now (for_key key.now call.old) handle.old.slot.opened handle.new.slot.opened had.old had.new result }
-    ensures may { (fault : TryFault) → ¬ MayRefuse (for_key key.now call.old) fault → result ≢ reply_status (Err fault) }
+    ensures leafless { ¬ MayRefuse (for_key key.now call.old) FullLeaves → result ≢ FULL_LEAVES }
 {
     if !handle.is_open() {
         return CLOSED;
     }
     match set_key(call, key) {
-        Ok(()) => make_open(handle, call, had),
+        Ok(()) => make_open(handle, call, key.len(), had),
         Err(_) => KEY_TOO_LONG,
     }
 }
@@ -247,14 +247,14 @@ fn set_key(call: &mut Call, key: &[u8]) -> Result<(), KeyFault>
     }
 }
 
-/// Makes a call through an open handle.
+/// Makes a call for a key of this length through an open handle.
 #[inline(never)]
-fn make_open(handle: &mut Handle, call: &Call, had: &mut u64) -> u32
+fn make_open(handle: &mut Handle, call: &Call, size: usize, had: &mut u64) -> u32
     requires { IsSome handle.old.slot.opened }
-    ensures call { (key : List ℕ) → FitsInKey key → Answers key call.now handle.old.slot.opened handle.new.slot.opened had.old had.new result }
-    ensures may { (fault : TryFault) → ¬ MayRefuse call.now fault → result ≢ reply_status (Err fault) }
+    ensures call { (key : List ℕ) → FitsInKey key → length key ≡ size → Answers key call.now handle.old.slot.opened handle.new.slot.opened had.old had.new result }
+    ensures leafless { ¬ MayRefuse call.now FullLeaves → result ≢ FULL_LEAVES }
 {
-    tell(handle.slot.lend().handle.try_call(call), had)
+    handle.slot.lend().make(call, size, had)
 }
 
 /// Makes one round of collection, and writes how many node and leaf records it gave back.
