@@ -1,8 +1,25 @@
 /* What of the library for C is written in C, and tested: the texts of statuses, scans of a prefix, pairs that are handed over one by
- * one, and the calls that wait: the proved library may neither wait nor yield, so it says when to try again, and the wait is here. */
+ * one, an index that opens its handles one by one, and the calls that wait: the proved library may neither wait nor yield, so it says when to try again, and the wait is here. */
 #include "hot.h"
 #include <sched.h>
+#include <stdlib.h>
 #include <string.h>
+
+/* The proved calls of which c/run changes the names: there `had` is never NULL, and a handle is closed for good. */
+hot_status proved_try_insert(hot_handle *handle, const uint8_t *key, size_t length, uint64_t value, uint64_t *had);
+hot_status proved_try_upsert(hot_handle *handle, const uint8_t *key, size_t length, uint64_t value, uint64_t *had);
+hot_status proved_try_exchange(hot_handle *handle, const uint8_t *key, size_t length, uint64_t expected, uint64_t value, uint64_t *had);
+hot_status proved_try_remove(hot_handle *handle, const uint8_t *key, size_t length, uint64_t *had);
+hot_status proved_try_remove_if(hot_handle *handle, const uint8_t *key, size_t length, uint64_t expected, uint64_t *had);
+hot_status proved_destroy(hot_handle *handle);
+
+uint32_t hot_version(void) {
+    return HOT_VERSION_MAJOR << 16 | HOT_VERSION_MINOR << 8 | HOT_VERSION_PATCH;
+}
+
+#define TEN 255, 255, 255, 255, 255, 255, 255, 255, 255, 255
+#define EIGHTY TEN, TEN, TEN, TEN, TEN, TEN, TEN, TEN
+const uint8_t hot_last_key[HOT_MAX_KEY] = {EIGHTY, EIGHTY, EIGHTY};
 
 const char *hot_status_text(hot_status status) {
     switch (status) {
@@ -25,6 +42,7 @@ const char *hot_status_text(hot_status status) {
     case HOT_EXCHANGED: return "exchanged";
     case HOT_DIFFERS: return "the key has another value";
     case HOT_HELD_BACK: return "other calls hold records back";
+    case HOT_NO_HANDLE: return "no handle is free";
     default: return "not a status";
     }
 }
@@ -34,7 +52,7 @@ static int is_below(const uint8_t *one, size_t one_length, const uint8_t *other,
     return order < 0 || (order == 0 && one_length < other_length);
 }
 
-hot_status hot_scan_prefix(hot_handle *handle, const uint8_t *prefix, size_t length, const hot_pair *after,
+hot_status hot_scan_prefix(hot_handle *handle, const uint8_t *prefix, size_t length, const uint8_t *after, size_t after_length,
                            hot_pair *pairs, size_t limit, size_t *count, uint32_t *more) {
     uint8_t from[HOT_MAX_KEY], upto[HOT_MAX_KEY];
     size_t from_length = length;
@@ -43,9 +61,11 @@ hot_status hot_scan_prefix(hot_handle *handle, const uint8_t *prefix, size_t len
     memset(upto, 0xff, HOT_MAX_KEY);
     if (length > 0)
         memcpy(upto, prefix, length);
-    if (after != NULL && hot_after(after, from, &from_length) == HOT_ABSENT)
-        /* No key comes after it: the range is empty. */
+    switch (after == NULL ? HOT_DONE : hot_after(after, after_length, from, &from_length)) {
+    case HOT_ABSENT: /* No key comes after it: the range is empty. */
         return hot_scan(handle, upto, HOT_MAX_KEY, upto, 0, pairs, limit, count, more);
+    case HOT_KEY_TOO_LONG: return hot_scan(handle, after, after_length, upto, 0, pairs, limit, count, more);
+    }
     if (after == NULL || is_below(from, from_length, upto, length)) {
         memcpy(from, upto, length);
         from_length = length;
@@ -65,11 +85,36 @@ hot_status hot_each(hot_handle *handle, const uint8_t *from, size_t from_length,
         for (place = 0; place < count; place++)
             if (!visit(context, &pairs[place]))
                 return HOT_DONE;
-        if (!more || hot_after(&pairs[count - 1], next, &from_length) == HOT_ABSENT)
+        if (!more || hot_after(pairs[count - 1].key, pairs[count - 1].length, next, &from_length) == HOT_ABSENT)
             return HOT_DONE;
         from = next;
     }
     return status;
+}
+
+hot_status hot_try_insert(hot_handle *handle, const uint8_t *key, size_t length, uint64_t value, uint64_t *had) {
+    uint64_t unread;
+    return proved_try_insert(handle, key, length, value, had ? had : &unread);
+}
+
+hot_status hot_try_upsert(hot_handle *handle, const uint8_t *key, size_t length, uint64_t value, uint64_t *had) {
+    uint64_t unread;
+    return proved_try_upsert(handle, key, length, value, had ? had : &unread);
+}
+
+hot_status hot_try_remove(hot_handle *handle, const uint8_t *key, size_t length, uint64_t *had) {
+    uint64_t unread;
+    return proved_try_remove(handle, key, length, had ? had : &unread);
+}
+
+hot_status hot_try_exchange(hot_handle *handle, const uint8_t *key, size_t length, uint64_t expected, uint64_t value, uint64_t *had) {
+    uint64_t unread;
+    return proved_try_exchange(handle, key, length, expected, value, had ? had : &unread);
+}
+
+hot_status hot_try_remove_if(hot_handle *handle, const uint8_t *key, size_t length, uint64_t expected, uint64_t *had) {
+    uint64_t unread;
+    return proved_try_remove_if(handle, key, length, expected, had ? had : &unread);
 }
 
 /* Whether a change is to be tried again, once other threads have run: another call is in its way, or holds records back. */
@@ -113,4 +158,99 @@ hot_status hot_remove_if(hot_handle *handle, const uint8_t *key, size_t length, 
     while (is_to_wait(status = hot_try_remove_if(handle, key, length, expected, had)))
         ;
     return status;
+}
+
+/* An index whose handles are given out one by one. Those that are free wait in `passes`, each at the place of its number; a place that is
+ * taken has a closed handle. Whoever exchanges 1 for the 0 in `taken` has the place, until it stores 0 there. */
+struct hot_index {
+    size_t count;
+    hot_handle *passes;
+    uint32_t *taken;
+};
+
+static int take_place(hot_index *index, size_t place) {
+    return __atomic_exchange_n(&index->taken[place], 1, __ATOMIC_SEQ_CST) == 0;
+}
+
+static void give_place(hot_index *index, size_t place) {
+    __atomic_store_n(&index->taken[place], 0, __ATOMIC_SEQ_CST);
+}
+
+/* Moves a handle to a place that has a closed one. */
+static void move_handle(hot_handle *to, hot_handle *from) {
+    static const hot_handle closed = HOT_HANDLE;
+    *to = *from;
+    *from = closed;
+}
+
+static void free_index(hot_index *index) {
+    free(index->passes);
+    free(index->taken);
+    free(index);
+}
+
+hot_status hot_open_index(const hot_stock *stock, size_t handles, hot_index **index) {
+    size_t bytes;
+    hot_index *made;
+    hot_status status = hot_stock_bytes(stock, handles, &bytes);
+    if (status != HOT_DONE)
+        return status;
+    made = malloc(sizeof *made);
+    if (made == NULL)
+        return HOT_NO_MEMORY;
+    made->count = handles;
+    made->passes = calloc(handles, sizeof *made->passes);
+    made->taken = calloc(handles, sizeof *made->taken);
+    status = made->passes == NULL || made->taken == NULL ? HOT_NO_MEMORY : hot_create_with(stock, made->passes, handles);
+    if (status != HOT_DONE) {
+        free_index(made);
+        return status;
+    }
+    *index = made;
+    return HOT_DONE;
+}
+
+hot_status hot_open(hot_index *index, hot_handle *handle) {
+    size_t place;
+    uint16_t number;
+    if (hot_number(handle, &number) == HOT_DONE)
+        return HOT_OPEN;
+    for (place = 0; place < index->count; place++)
+        if (take_place(index, place)) {
+            move_handle(handle, &index->passes[place]);
+            handle->index = index;
+            return HOT_DONE;
+        }
+    return HOT_NO_HANDLE;
+}
+
+hot_status hot_close(hot_handle *handle) {
+    hot_index *index = handle->index;
+    uint16_t place;
+    hot_status status = hot_number(handle, &place);
+    if (status != HOT_DONE)
+        return status;
+    if (index == NULL)
+        return proved_destroy(handle);
+    move_handle(&index->passes[place], handle);
+    give_place(index, place);
+    return HOT_DONE;
+}
+
+hot_status hot_close_index(hot_index *index) {
+    size_t place;
+    for (place = 0; place < index->count; place++)
+        if (!take_place(index, place)) {
+            while (place > 0)
+                give_place(index, --place);
+            return HOT_OPEN;
+        }
+    for (place = 0; place < index->count; place++)
+        proved_destroy(&index->passes[place]);
+    free_index(index);
+    return HOT_DONE;
+}
+
+hot_status hot_destroy(hot_handle *handle) {
+    return hot_close(handle);
 }

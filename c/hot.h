@@ -1,15 +1,15 @@
 /* An ordered in-memory index from byte keys to 64-bit values, which threads use at the same time.
  *
- * hot_create makes an index and opens 1 to 64 handles on it. A handle is the right to use the index. Calls with different handles may
+ * hot_open_index makes an index, and hot_open opens a handle on it. A handle is the right to use the index. Calls with different handles may
  * run at the same time; calls with the same handle may not. So give each thread its own handle, or hand a handle over by a lock, by a
  * thread's start or join, or by a sequentially consistent atomic. A call takes effect for all others at once, or not at all.
  *
  * A key is 0 to HOT_MAX_KEY bytes of any value. Keys are ordered as by memcmp, and a key comes after its own prefixes. The index
  * copies keys: the memory of a key is yours again when the call returns.
  *
- * Any thread may close a handle once the handle's last call has returned, while calls with other handles go on. All handles of an
- * index are opened when it is made, and closing the last one frees it. So let each thread close its own when it is done, or join all
- * threads and then close all handles. A thread that ends leaves its handle open; another thread may go on using it, or close it.
+ * Any thread may close a handle once the handle's last call has returned, while calls with other handles go on. A thread that ends
+ * leaves its handle open; another thread may go on using it, or close it. hot_close_index frees an index whose handles are closed.
+ * hot_create makes an index and opens all its handles at once, and closing the last one frees it.
  *
  * When the index is full. A change writes new records before it retires those that it replaces. Retired records can be used again once
  * the calls that ran at that time, or began soon after, have returned: the next collection gives them back, and a change that finds no
@@ -20,10 +20,13 @@
  * retired meanwhile. The count loads one record after another: with a handful of records to spare, changes that are under way may
  * have a few of them in use for a moment.
  *
- * What the library relies on, and doesn't check. No pointer is NULL, not even a key's if its length is 0; each points to what its type
- * says, and what a call writes overlaps no other argument. A handle is zeroed before hot_create, and the program never copies, moves
- * or writes its bytes. malloc, realloc and free belong to one allocator. No call is made from a signal handler, or after a fork in the
- * child of a process with threads.
+ * Keys in calls. A key, a prefix or an end of a range that has more than HOT_MAX_KEY bytes is refused as HOT_KEY_TOO_LONG by each call.
+ * The value that a key had is written to `had` if the call says so, and else `had` stays as it is; it may be NULL, if it is not wanted.
+ *
+ * What the library relies on, and doesn't check. No pointer is NULL but `had`, not even a key's if its length is 0; each points to what
+ * its type says, and what a call writes overlaps no other argument. A handle is zeroed before it is opened, and the program never copies,
+ * moves or writes its bytes. malloc, realloc and free belong to one allocator. No call is made from a signal handler, or after a fork in
+ * the child of a process with threads. A call has 32 KiB of stack.
  *
  * A call fails only by its status. None waits for another, except hot_insert, hot_upsert, hot_exchange, hot_remove and hot_remove_if.
  * Each other call ends after a bounded number of steps, whatever other threads do: a step is one atomic access to a word of the
@@ -50,8 +53,16 @@ extern "C" {
 #define HOT_VERSION_MINOR 0
 #define HOT_VERSION_PATCH 0
 
+/* The version of the library that is linked: 65536 times the major number, 256 times the minor one, and the patch. */
+uint32_t hot_version(void);
+
 /* The greatest length of a key, in bytes. */
 #define HOT_MAX_KEY 240
+
+/* The greatest key, HOT_MAX_KEY bytes of 255; and both arguments of an upper bound that lets a range go on to the end, as in
+ * hot_scan(handle, key, length, HOT_TO_END, ..). A lower bound of no bytes lets it begin with the first key. */
+extern const uint8_t hot_last_key[HOT_MAX_KEY];
+#define HOT_TO_END hot_last_key, HOT_MAX_KEY
 
 /* How a call came out. Each call says which of these it returns. From HOT_BUSY to HOT_NO_MEMORY, and from HOT_HELD_BACK on, the call
  * was refused and changed nothing; with any other status it was made. */
@@ -75,11 +86,15 @@ enum {
     HOT_NO_MEMORY = 15,
     HOT_EXCHANGED = 16,    /* the key had the expected value, and has the new one */
     HOT_DIFFERS = 17,      /* the key has this value, which is not the expected one, and keeps it */
-    HOT_HELD_BACK = 18     /* too few records were free, but other calls hold some back: try again */
+    HOT_HELD_BACK = 18,    /* too few records were free, but other calls hold some back: try again */
+    HOT_NO_HANDLE = 19     /* all handles of the index are open */
 };
 
 /* A few words of English for a status. The text is static; a number that is no status has a text too. */
 const char *hot_status_text(hot_status status);
+
+/* An index whose handles are opened one by one. */
+typedef struct hot_index hot_index;
 
 /* A handle. Its fields are the library's. */
 typedef struct hot_handle {
@@ -87,10 +102,11 @@ typedef struct hot_handle {
     struct {
         void *at;
     } slot;
+    hot_index *index;
 } hot_handle;
 
-/* A handle before hot_create: hot_handle handles[2] = { HOT_HANDLE, HOT_HANDLE }; */
-#define HOT_HANDLE { 0, { NULL } }
+/* A closed handle: hot_handle handles[2] = { HOT_HANDLE, HOT_HANDLE }; */
+#define HOT_HANDLE { 0, { NULL }, NULL }
 
 /* A key with its value. The first `length` bytes of `key` are the key. */
 typedef struct hot_pair {
@@ -132,7 +148,24 @@ void hot_stock_for_keys(uint32_t keys, size_t longest, hot_stock *stock);
  * HOT_DONE; or HOT_OUT_OF_RANGE, where hot_create_with would answer that. */
 hot_status hot_stock_bytes(const hot_stock *stock, size_t handles, size_t *bytes);
 
-/* Writes a handle's number: its place in the array that was opened.
+/* Makes an empty index with this stock and room for so many handles, 1 to 1024, and writes it to `index`.
+ * HOT_DONE; or HOT_OUT_OF_RANGE or HOT_NO_MEMORY, and then nothing is written. */
+hot_status hot_open_index(const hot_stock *stock, size_t handles, hot_index **index);
+
+/* Opens a handle of the index, at any time and from any thread. It looks at no more than one word for each handle of the index.
+ * HOT_DONE; or HOT_OPEN if the handle is open already, or HOT_NO_HANDLE if it found none that was free. */
+hot_status hot_open(hot_index *index, hot_handle *handle);
+
+/* Gives a handle of hot_open back to its index, from any thread: hot_open may then give it out again, with what it keeps for its scans.
+ * It closes a handle of hot_create as hot_destroy does.
+ * HOT_DONE; or HOT_CLOSED if it is closed already. */
+hot_status hot_close(hot_handle *handle);
+
+/* Frees an index of hot_open_index. No other call with it may be under way, or follow.
+ * HOT_DONE; or HOT_OPEN if a handle is open, and then it stays as it is. */
+hot_status hot_close_index(hot_index *index);
+
+/* Writes a handle's number: its place in the array that was opened, or among the handles of its index.
  * HOT_DONE; or HOT_CLOSED. */
 hot_status hot_number(hot_handle *handle, uint16_t *number);
 
@@ -192,39 +225,39 @@ hot_status hot_remove_if(hot_handle *handle, const uint8_t *key, size_t length, 
 /* Lists the pairs whose keys are from `from` to `upto`, both included, in key order: the first `limit` of them, for which the
  * array `pairs` has room. Writes their number to `count`, and 1 to `more` if the range has more, else 0. Other calls may change
  * the index meanwhile: each pair was there at some moment of the call, and no key is missing that was there all along (if there
- * are more, no key up to the last one listed). To go on, begin at the key that hot_after gives for the last pair. It makes at
- * most 168607 steps, and 60 for each pair of the limit.
+ * are more, no key up to the last one listed). A range whose `from` is above its `upto` has no pairs. To go on, begin at the key
+ * that hot_after gives for the last pair's. It makes at most 168607 steps, and 60 for each pair of the limit.
  * HOT_DONE; or HOT_KEY_TOO_LONG, HOT_CLOSED, HOT_NO_MEMORY (only if it had a pair to list), and then nothing was written. */
 hot_status hot_scan(hot_handle *handle, const uint8_t *from, size_t from_length, const uint8_t *upto, size_t upto_length,
                     hot_pair *pairs, size_t limit, size_t *count, uint32_t *more);
 
-/* Writes the least possible key above the pair's, at which a scan can go on, to `key`, which has room for HOT_MAX_KEY bytes, and its
- * length. The key need not be in the index.
- * HOT_DONE; or HOT_ABSENT if no key comes after the pair's, and then nothing was written. */
-hot_status hot_after(const hot_pair *pair, uint8_t *key, size_t *length);
+/* Writes the least possible key above this one, at which a scan can go on, to `next`, which has room for HOT_MAX_KEY bytes, and its
+ * length. The keys need not be in the index.
+ * HOT_DONE; or HOT_ABSENT if no key comes after this one, or HOT_KEY_TOO_LONG, and then nothing was written. */
+hot_status hot_after(const uint8_t *key, size_t length, uint8_t *next, size_t *next_length);
 
 /* hot_scan from the end downwards: lists the pairs whose keys are from `from` to `upto`, both included, in falling key order:
  * the last `limit` of them. Writes 1 to `more` if the range has more below, else 0. No key is missing that was there all along
- * (if there are more, no key down to the last one listed). To go on, end at the key that hot_before gives for the last pair. It
+ * (if there are more, no key down to the last one listed). To go on, end at the key that hot_before gives for the last pair's. It
  * answers what hot_scan does, and makes no more steps than hot_scan may. */
 hot_status hot_scan_reverse(hot_handle *handle, const uint8_t *from, size_t from_length, const uint8_t *upto, size_t upto_length,
                             hot_pair *pairs, size_t limit, size_t *count, uint32_t *more);
 
 /* hot_scan_reverse with its pairs in rising key order: lists the last `limit` pairs whose keys are from `from` to `upto`, both
  * included. Writes 1 to `more` if the range has more below, else 0. To go on, end at the key that hot_before gives for the first
- * pair. It answers what hot_scan does, and makes no more steps than hot_scan may. */
+ * pair's. It answers what hot_scan does, and makes no more steps than hot_scan may. */
 hot_status hot_scan_last(hot_handle *handle, const uint8_t *from, size_t from_length, const uint8_t *upto, size_t upto_length,
                          hot_pair *pairs, size_t limit, size_t *count, uint32_t *more);
 
-/* Writes the greatest possible key below the pair's, at which a scan downwards can go on, to `key`, which has room for HOT_MAX_KEY
- * bytes, and its length. The key need not be in the index.
- * HOT_DONE; or HOT_ABSENT if the pair's key is the empty one, which has no key below it, and then nothing was written. */
-hot_status hot_before(const hot_pair *pair, uint8_t *key, size_t *length);
+/* Writes the greatest possible key below this one, at which a scan downwards can go on, to `previous`, which has room for HOT_MAX_KEY
+ * bytes, and its length. The keys need not be in the index.
+ * HOT_DONE; or HOT_ABSENT if this key is the empty one, which has no key below it, or HOT_KEY_TOO_LONG, and then nothing was written. */
+hot_status hot_before(const uint8_t *key, size_t length, uint8_t *previous, size_t *previous_length);
 
-/* hot_scan of the keys that begin with the prefix, or of all keys if it is empty: from the first one if `after` is NULL, else
- * from the one after that pair's, such as the last pair of an earlier call. It writes and answers what hot_scan does, by as many
- * steps at most. */
-hot_status hot_scan_prefix(hot_handle *handle, const uint8_t *prefix, size_t length, const hot_pair *after,
+/* hot_scan of the keys that begin with the prefix, or of all keys if it is empty: from the first one if `after` is NULL, else from
+ * the one after that key, such as the last one of an earlier call. It writes and answers what hot_scan does, by as many steps at
+ * most. */
+hot_status hot_scan_prefix(hot_handle *handle, const uint8_t *prefix, size_t length, const uint8_t *after, size_t after_length,
                            hot_pair *pairs, size_t limit, size_t *count, uint32_t *more);
 
 /* The head of a packed pair: how many bytes its key has, and its value. */
@@ -238,7 +271,7 @@ typedef struct hot_head {
  * these only the first whose keys have `room` bytes together at most: a room of HOT_MAX_KEY bytes for each pair is always enough, and
  * with one for a single key a call gets on. Writes 1 to `more` if the range has more than it wrote, else 0. What it wrote is a scan
  * for as many pairs: no key is missing, up to the last one written, that was there all along. To go on, begin at the key that
- * hot_after gives for a pair with the last key. It answers what hot_scan does, and makes no more steps than hot_scan may. */
+ * hot_after gives for the last one. It answers what hot_scan does, and makes no more steps than hot_scan may. */
 hot_status hot_scan_packed(hot_handle *handle, const uint8_t *from, size_t from_length, const uint8_t *upto, size_t upto_length,
                            uint8_t *bytes, size_t room, hot_head *heads, size_t limit, size_t *count, uint32_t *more);
 
@@ -259,8 +292,7 @@ hot_status hot_each(hot_handle *handle, const uint8_t *from, size_t from_length,
  * HOT_FOUND, HOT_ABSENT; or HOT_KEY_TOO_LONG, HOT_CLOSED, HOT_NO_MEMORY (only if there was a pair). */
 hot_status hot_first(hot_handle *handle, const uint8_t *from, size_t length, hot_pair *pair);
 
-/* Writes the last pair whose key is `upto` or below, by a scan downwards for one pair; up to a key of HOT_MAX_KEY bytes of 255,
- * that is the last pair of all. Nothing is written unless it is found. It makes at most 168667 steps.
+/* Writes the last pair whose key is `upto` or below, by a scan downwards for one pair; up to HOT_TO_END that is the last pair of all. Nothing is written unless it is found. It makes at most 168667 steps.
  * HOT_FOUND, HOT_ABSENT; or HOT_KEY_TOO_LONG, HOT_CLOSED, HOT_NO_MEMORY (only if there was a pair). */
 hot_status hot_last(hot_handle *handle, const uint8_t *upto, size_t length, hot_pair *pair);
 
@@ -296,8 +328,8 @@ typedef struct hot_counts {
  * HOT_DONE; or HOT_CLOSED. */
 hot_status hot_census(hot_handle *handle, hot_counts *counts);
 
-/* Closes a handle, from any thread and in any order. Closing the last one frees the index. A closed handle may be given to hot_create
- * again.
+/* Closes a handle of hot_create or hot_create_with, from any thread and in any order. Closing the last one frees the index. A closed
+ * handle may be given to hot_create again. It gives a handle of hot_open back, as hot_close does.
  * HOT_DONE; or HOT_CLOSED if it is closed already. */
 hot_status hot_destroy(hot_handle *handle);
 

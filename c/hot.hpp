@@ -129,7 +129,7 @@ class range {
             return false;
         std::uint8_t next[HOT_MAX_KEY];
         std::size_t length = 0;
-        if ((goes_ == order::rising ? hot_after : hot_before)(&page_[count_ - 1], next, &length) != HOT_DONE)
+        if ((goes_ == order::rising ? hot_after : hot_before)(page_[count_ - 1].key, page_[count_ - 1].length, next, &length) != HOT_DONE)
             return false;
         load({reinterpret_cast<const char *>(next), length});
         return count_ > 0;

@@ -138,24 +138,24 @@ static void test_prefix(void) {
     CHECK(hot_try_insert(&handle, bytes("ab"), 2, 2, &had) == HOT_INSERTED);
     CHECK(hot_try_insert(&handle, bytes("a\377\377"), 3, 3, &had) == HOT_INSERTED);
     CHECK(hot_try_insert(&handle, bytes("b"), 1, 4, &had) == HOT_INSERTED);
-    CHECK(hot_scan_prefix(&handle, bytes("a"), 1, NULL, pairs, 2, &count, &more) == HOT_DONE);
+    CHECK(hot_scan_prefix(&handle, bytes("a"), 1, NULL, 0, pairs, 2, &count, &more) == HOT_DONE);
     CHECK(count == 2 && more == 1 && pairs[0].value == 1 && pairs[1].value == 2);
-    CHECK(hot_scan_prefix(&handle, bytes("a"), 1, &pairs[1], pairs, 2, &count, &more) == HOT_DONE);
+    CHECK(hot_scan_prefix(&handle, bytes("a"), 1, pairs[1].key, pairs[1].length, pairs, 2, &count, &more) == HOT_DONE);
     CHECK(count == 1 && more == 0 && pairs[0].value == 3);
-    CHECK(hot_scan_prefix(&handle, bytes("a"), 1, &pairs[0], pairs, 2, &count, &more) == HOT_DONE && count == 0 && more == 0);
-    CHECK(hot_scan_prefix(&handle, bytes(""), 0, &pairs[0], pairs, 2, &count, &more) == HOT_DONE && count == 1 && pairs[0].value == 4);
+    CHECK(hot_scan_prefix(&handle, bytes("a"), 1, pairs[0].key, pairs[0].length, pairs, 2, &count, &more) == HOT_DONE && count == 0 && more == 0);
+    CHECK(hot_scan_prefix(&handle, bytes(""), 0, pairs[0].key, pairs[0].length, pairs, 2, &count, &more) == HOT_DONE && count == 1 && pairs[0].value == 4);
     CHECK(hot_first(&handle, bytes(""), 0, &pair) == HOT_FOUND && pair.value == 1);
-    CHECK(hot_scan_prefix(&handle, bytes("b"), 1, &pair, pairs, 2, &count, &more) == HOT_DONE && count == 1 && pairs[0].value == 4);
+    CHECK(hot_scan_prefix(&handle, bytes("b"), 1, pair.key, pair.length, pairs, 2, &count, &more) == HOT_DONE && count == 1 && pairs[0].value == 4);
     CHECK(hot_first(&handle, bytes("ac"), 2, &pair) == HOT_FOUND && pair.length == 3 && pair.value == 3);
     CHECK(hot_first(&handle, bytes("c"), 1, &pair) == HOT_ABSENT && pair.value == 3);
     CHECK(hot_try_insert(&handle, key, HOT_MAX_KEY, 5, &had) == HOT_INSERTED);
     CHECK(hot_first(&handle, key, HOT_MAX_KEY, &pair) == HOT_FOUND && pair.value == 5);
-    CHECK(hot_scan_prefix(&handle, bytes(""), 0, &pair, pairs, 2, &count, &more) == HOT_DONE && count == 0 && more == 0);
+    CHECK(hot_scan_prefix(&handle, bytes(""), 0, pair.key, pair.length, pairs, 2, &count, &more) == HOT_DONE && count == 0 && more == 0);
     count = 9;
-    CHECK(hot_scan_prefix(&handle, key, sizeof key, NULL, pairs, 2, &count, &more) == HOT_KEY_TOO_LONG && count == 9);
+    CHECK(hot_scan_prefix(&handle, key, sizeof key, NULL, 0, pairs, 2, &count, &more) == HOT_KEY_TOO_LONG && count == 9);
     CHECK(hot_first(&handle, key, sizeof key, &pair) == HOT_KEY_TOO_LONG);
     CHECK(hot_destroy(&handle) == HOT_DONE);
-    CHECK(hot_scan_prefix(&handle, bytes("a"), 1, NULL, pairs, 2, &count, &more) == HOT_CLOSED && count == 9);
+    CHECK(hot_scan_prefix(&handle, bytes("a"), 1, NULL, 0, pairs, 2, &count, &more) == HOT_CLOSED && count == 9);
     CHECK(hot_first(&handle, bytes("a"), 1, &pair) == HOT_CLOSED);
 }
 
@@ -212,7 +212,7 @@ static void test_packed(void) {
     CHECK(keys[3] == 0xee && heads[3].value == 0xeeeeeeeeeeeeeeee);
     memcpy(last.key, keys + 2, 1);
     last.length = heads[2].length;
-    CHECK(hot_after(&last, key, &length) == HOT_DONE && length == 2);
+    CHECK(hot_after(last.key, last.length, key, &length) == HOT_DONE && length == 2);
     memset(key + 2, 0xff, sizeof key - 2);
     memset(key, 'b', 2);
     CHECK(hot_scan_packed(&handle, key, 2, bytes("c"), 1, keys, 0, heads, 4, &count, &more) == HOT_DONE && count == 0 && more == 0);
@@ -318,7 +318,7 @@ static void test_scan_reverse(void) {
     CHECK(pairs[0].length == 1 && pairs[0].key[0] == 'c' && pairs[0].value == 3);
     CHECK(pairs[1].length == 1 && pairs[1].key[0] == 'b' && pairs[1].value == 2);
     CHECK(pairs[2].length == 0xeeeeeeee && pairs[2].value == 0xeeeeeeeeeeeeeeee);
-    CHECK(hot_before(&pairs[1], key, &length) == HOT_DONE);
+    CHECK(hot_before(pairs[1].key, pairs[1].length, key, &length) == HOT_DONE);
     CHECK(hot_scan_reverse(&handle, bytes("a"), 1, key, length, pairs, 2, &count, &more) == HOT_DONE);
     CHECK(count == 1 && more == 0 && pairs[0].value == 1 && pairs[1].value == 2);
     CHECK(hot_scan_reverse(&handle, bytes("b"), 1, bytes("c"), 1, pairs, 3, &count, &more) == HOT_DONE);
@@ -357,7 +357,7 @@ static void test_scan_last(void) {
     CHECK(pairs[0].length == 1 && pairs[0].key[0] == 'b' && pairs[0].value == 2);
     CHECK(pairs[1].length == 1 && pairs[1].key[0] == 'c' && pairs[1].value == 3);
     CHECK(pairs[2].length == 0xeeeeeeee && pairs[2].value == 0xeeeeeeeeeeeeeeee);
-    CHECK(hot_before(&pairs[0], key, &length) == HOT_DONE);
+    CHECK(hot_before(pairs[0].key, pairs[0].length, key, &length) == HOT_DONE);
     CHECK(hot_scan_last(&handle, bytes("a"), 1, key, length, pairs, 2, &count, &more) == HOT_DONE);
     CHECK(count == 1 && more == 0 && pairs[0].value == 1 && pairs[1].value == 3);
     CHECK(hot_scan_last(&handle, bytes("b"), 1, bytes("c"), 1, pairs, 3, &count, &more) == HOT_DONE);
@@ -376,15 +376,17 @@ static void test_after(void) {
     size_t length = 9;
     memset(&pair, 'a', sizeof pair);
     pair.length = 2;
-    CHECK(hot_after(&pair, key, &length) == HOT_DONE && length == 3 && !memcmp(key, "aa", 3));
+    CHECK(hot_after(pair.key, pair.length, key, &length) == HOT_DONE && length == 3 && !memcmp(key, "aa", 3));
     pair.length = HOT_MAX_KEY - 1;
-    CHECK(hot_after(&pair, key, &length) == HOT_DONE && length == HOT_MAX_KEY && key[HOT_MAX_KEY - 1] == 0);
+    CHECK(hot_after(pair.key, pair.length, key, &length) == HOT_DONE && length == HOT_MAX_KEY && key[HOT_MAX_KEY - 1] == 0);
     pair.length = HOT_MAX_KEY;
-    CHECK(hot_after(&pair, key, &length) == HOT_DONE && length == HOT_MAX_KEY && key[HOT_MAX_KEY - 1] == 'b');
+    CHECK(hot_after(pair.key, pair.length, key, &length) == HOT_DONE && length == HOT_MAX_KEY && key[HOT_MAX_KEY - 1] == 'b');
     memset(pair.key + 3, 0xff, HOT_MAX_KEY - 3);
-    CHECK(hot_after(&pair, key, &length) == HOT_DONE && length == 3 && !memcmp(key, "aab", 3));
+    CHECK(hot_after(pair.key, pair.length, key, &length) == HOT_DONE && length == 3 && !memcmp(key, "aab", 3));
     memset(pair.key, 0xff, 3);
-    CHECK(hot_after(&pair, key, &length) == HOT_ABSENT && length == 3);
+    CHECK(hot_after(pair.key, pair.length, key, &length) == HOT_ABSENT && length == 3);
+    CHECK(hot_after((const uint8_t *)&pair, HOT_MAX_KEY + 1, key, &length) == HOT_KEY_TOO_LONG && length == 3);
+    CHECK(hot_before((const uint8_t *)&pair, HOT_MAX_KEY + 1, key, &length) == HOT_KEY_TOO_LONG && length == 3);
 }
 
 /* Where a scan downwards goes on: before a key that ends with a byte of 0, before another, and before the empty one. */
@@ -394,24 +396,24 @@ static void test_before(void) {
     size_t length = 9, at;
     memset(&pair, 'b', sizeof pair);
     pair.length = 2;
-    CHECK(hot_before(&pair, key, &length) == HOT_DONE && length == HOT_MAX_KEY && key[0] == 'b' && key[1] == 'a');
+    CHECK(hot_before(pair.key, pair.length, key, &length) == HOT_DONE && length == HOT_MAX_KEY && key[0] == 'b' && key[1] == 'a');
     for (at = 2; at < HOT_MAX_KEY; at++)
         CHECK(key[at] == 0xff);
     pair.key[1] = 0;
-    CHECK(hot_before(&pair, key, &length) == HOT_DONE && length == 1 && key[0] == 'b');
+    CHECK(hot_before(pair.key, pair.length, key, &length) == HOT_DONE && length == 1 && key[0] == 'b');
     pair.key[HOT_MAX_KEY - 1] = 1;
     pair.length = HOT_MAX_KEY;
-    CHECK(hot_before(&pair, key, &length) == HOT_DONE && length == HOT_MAX_KEY && !memcmp(key, pair.key, HOT_MAX_KEY - 1) && key[HOT_MAX_KEY - 1] == 0);
+    CHECK(hot_before(pair.key, pair.length, key, &length) == HOT_DONE && length == HOT_MAX_KEY && !memcmp(key, pair.key, HOT_MAX_KEY - 1) && key[HOT_MAX_KEY - 1] == 0);
     pair.length = 0;
-    CHECK(hot_before(&pair, key, &length) == HOT_ABSENT && length == HOT_MAX_KEY);
+    CHECK(hot_before(pair.key, pair.length, key, &length) == HOT_ABSENT && length == HOT_MAX_KEY);
 }
 
 /* Each status has a text, and what is none has another. */
 static void test_texts(void) {
-    for (hot_status one = HOT_DONE; one <= HOT_HELD_BACK + 1; one++)
+    for (hot_status one = HOT_DONE; one <= HOT_NO_HANDLE + 1; one++)
         for (hot_status other = HOT_DONE; other < one; other++)
             CHECK(strcmp(hot_status_text(one), hot_status_text(other)));
-    CHECK(!strcmp(hot_status_text(UINT32_MAX), hot_status_text(HOT_HELD_BACK + 1)));
+    CHECK(!strcmp(hot_status_text(UINT32_MAX), hot_status_text(HOT_NO_HANDLE + 1)));
 }
 
 /* Keys of the greatest length and beyond. */
@@ -528,6 +530,7 @@ static void check_closed(hot_handle *handle) {
 
 /* Making and closing: numbers out of range, handles that are open, any order of closing, and opening again. */
 static void test_handles(void) {
+    static const hot_stock stock = {10, 10, 0, 0, 0, 0};
     hot_handle handles[65];
     uint16_t number = 7;
     uint64_t value;
@@ -535,6 +538,9 @@ static void test_handles(void) {
     check_closed(&handles[0]);
     CHECK(hot_create(10, 10, handles, 0) == HOT_OUT_OF_RANGE);
     CHECK(hot_create(10, 10, handles, 65) == HOT_OUT_OF_RANGE);
+    /* The number of handles is looked at before the handles are: there are but 65. */
+    CHECK(hot_create(10, 10, handles, (size_t)1 << 31) == HOT_OUT_OF_RANGE);
+    CHECK(hot_create_with(&stock, handles, (size_t)1 << 31) == HOT_OUT_OF_RANGE);
     CHECK(hot_create(0, 10, handles, 2) == HOT_OUT_OF_RANGE);
     CHECK(hot_create(10, 262144, handles, 2) == HOT_OUT_OF_RANGE);
     check_closed(&handles[0]);
@@ -554,15 +560,84 @@ static void test_handles(void) {
         CHECK(hot_destroy(&handles[i]) == HOT_DONE);
 }
 
+/* An index whose handles are opened one by one: each has a number of its own, a closed one is given out again, and the index goes only
+ * when none is open. */
+static void test_index(void) {
+    static const hot_stock stock = {10, 10, 0, 0, 0, 0}, none = {0, 10, 0, 0, 0, 0};
+    hot_index *index = NULL;
+    hot_handle handles[4] = {HOT_HANDLE, HOT_HANDLE, HOT_HANDLE, HOT_HANDLE}, alone = HOT_HANDLE;
+    uint16_t number, seen = 0;
+    uint64_t had = 7;
+    int place;
+    CHECK(hot_open_index(&none, 3, &index) == HOT_OUT_OF_RANGE && index == NULL);
+    CHECK(hot_open_index(&stock, 0, &index) == HOT_OUT_OF_RANGE && hot_open_index(&stock, 1025, &index) == HOT_OUT_OF_RANGE);
+    CHECK(hot_open_index(&stock, 3, &index) == HOT_DONE && index != NULL);
+    for (place = 0; place < 3; place++) {
+        CHECK(hot_open(index, &handles[place]) == HOT_DONE && hot_open(index, &handles[place]) == HOT_OPEN);
+        CHECK(hot_number(&handles[place], &number) == HOT_DONE);
+        seen |= (uint16_t)(1 << number);
+    }
+    CHECK(seen == 7);
+    CHECK(hot_open(index, &handles[3]) == HOT_NO_HANDLE);
+    check_closed(&handles[3]);
+    CHECK(hot_insert(&handles[0], bytes("a"), 1, 1, NULL) == HOT_INSERTED);
+    CHECK(hot_get(&handles[2], bytes("a"), 1, &had) == HOT_FOUND && had == 1);
+    CHECK(hot_close_index(index) == HOT_OPEN);
+    CHECK(hot_close(&handles[1]) == HOT_DONE && hot_close(&handles[1]) == HOT_CLOSED);
+    check_closed(&handles[1]);
+    CHECK(hot_close_index(index) == HOT_OPEN);
+    CHECK(hot_open(index, &handles[3]) == HOT_DONE && hot_number(&handles[3], &number) == HOT_DONE);
+    CHECK(hot_get(&handles[3], bytes("a"), 1, &had) == HOT_FOUND && hot_open(index, &handles[1]) == HOT_NO_HANDLE);
+    CHECK(hot_close(&handles[0]) == HOT_DONE && hot_destroy(&handles[2]) == HOT_DONE);
+    CHECK(hot_close_index(index) == HOT_OPEN);
+    CHECK(hot_close(&handles[3]) == HOT_DONE && hot_close_index(index) == HOT_DONE);
+    /* A handle that was opened with its index is closed for good. */
+    CHECK(hot_create_with(&stock, &alone, 1) == HOT_DONE && hot_close(&alone) == HOT_DONE && hot_close(&alone) == HOT_CLOSED);
+}
+
+/* No value is wanted. */
+static void test_unread(void) {
+    hot_handle handle = HOT_HANDLE;
+    const uint8_t *key = bytes("a");
+    uint64_t value = 7;
+    CHECK(hot_create(10, 10, &handle, 1) == HOT_DONE);
+    CHECK(hot_try_insert(&handle, key, 1, 1, NULL) == HOT_INSERTED && hot_try_insert(&handle, key, 1, 2, NULL) == HOT_EXISTS);
+    CHECK(hot_insert(&handle, key, 1, 2, NULL) == HOT_EXISTS && hot_upsert(&handle, key, 1, 3, NULL) == HOT_WAS);
+    CHECK(hot_try_upsert(&handle, key, 1, 4, NULL) == HOT_WAS && hot_try_exchange(&handle, key, 1, 3, 5, NULL) == HOT_DIFFERS);
+    CHECK(hot_exchange(&handle, key, 1, 4, 5, NULL) == HOT_EXCHANGED && hot_get(&handle, key, 1, &value) == HOT_FOUND && value == 5);
+    CHECK(hot_try_remove_if(&handle, key, 1, 4, NULL) == HOT_DIFFERS && hot_remove_if(&handle, key, 1, 5, NULL) == HOT_REMOVED);
+    CHECK(hot_try_remove(&handle, key, 1, NULL) == HOT_ABSENT && hot_remove(&handle, key, 1, NULL) == HOT_ABSENT);
+    CHECK(hot_destroy(&handle) == HOT_DONE);
+}
+
+/* The version, and the greatest key as the end of a range. */
+static void test_constants(void) {
+    hot_handle handle = HOT_HANDLE;
+    hot_pair pair;
+    size_t count, at;
+    uint32_t more;
+    CHECK(hot_version() == (HOT_VERSION_MAJOR << 16 | HOT_VERSION_MINOR << 8 | HOT_VERSION_PATCH));
+    for (at = 0; at < HOT_MAX_KEY; at++)
+        CHECK(hot_last_key[at] == 0xff);
+    CHECK(hot_create(10, 10, &handle, 1) == HOT_DONE);
+    CHECK(hot_insert(&handle, HOT_TO_END, 5, NULL) == HOT_INSERTED);
+    CHECK(hot_scan(&handle, bytes(""), 0, HOT_TO_END, &pair, 1, &count, &more) == HOT_DONE && count == 1 && pair.value == 5 && !more);
+    CHECK(hot_destroy(&handle) == HOT_DONE);
+}
+
 /* An index that memory does not hold: no handle is opened. */
 static void test_memory(void) {
     hot_handle handle = HOT_HANDLE;
+    hot_stock stock;
+    hot_index *index = NULL;
     struct rlimit all, little;
     CHECK(getrlimit(RLIMIT_AS, &all) == 0);
     little = all;
     little.rlim_cur = 64 << 20;
     CHECK(setrlimit(RLIMIT_AS, &little) == 0);
     CHECK(hot_create(65535, 262143, &handle, 1) == HOT_NO_MEMORY);
+    hot_stock_for_keys(1000000, 240, &stock);
+    CHECK(hot_open_index(&stock, 1, &index) == HOT_NO_MEMORY && index == NULL);
     CHECK(setrlimit(RLIMIT_AS, &all) == 0);
     check_closed(&handle);
 }
@@ -739,7 +814,7 @@ static void test_small_rounds(void) {
 }
 
 int main(void) {
-    CHECK(sizeof(hot_handle) == 16 && sizeof(hot_pair) == 256 && sizeof(hot_stock) == 24 && sizeof(hot_head) == 16);
+    CHECK(sizeof(hot_handle) == 24 && sizeof(hot_pair) == 256 && sizeof(hot_stock) == 24 && sizeof(hot_head) == 16);
     CHECK(sizeof(hot_lookup) == 32 && sizeof(hot_states) == 16 && sizeof(hot_counts) == 104);
     test_calls();
     test_many();
@@ -762,6 +837,9 @@ int main(void) {
     test_stock_sizes();
     test_sizes();
     test_handles();
+    test_index();
+    test_unread();
+    test_constants();
     test_memory();
     test_threads();
     puts(failures ? "the C test failed" : "the C test passed");

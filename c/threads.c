@@ -1,5 +1,5 @@
 /* Tests of the library by threads: two that change keys of all lengths beside two that look up, scan and list; four that make calls
- * by chance where few records are to spare, or none; and eight on one core, so that each is stopped in the middle of its calls. */
+ * by chance where few records are to spare, or none; eight on one core, so that each is stopped in the middle of its calls; and eight that share three handles. */
 #define _GNU_SOURCE
 #include "hot.h"
 #include <pthread.h>
@@ -149,10 +149,10 @@ static void read_prefix(hot_handle *handle, uint64_t *state) {
     key prefix = key_of(low);
     size_t count = 0;
     uint32_t more = 0;
-    CHECK(hot_scan_prefix(handle, prefix.bytes, DIGITS - 1, NULL, pairs, 4, &count, &more) == HOT_DONE && count == 4 && more);
+    CHECK(hot_scan_prefix(handle, prefix.bytes, DIGITS - 1, NULL, 0, pairs, 4, &count, &more) == HOT_DONE && count == 4 && more);
     check_pairs(pairs, count, (int)low, 1, (int)low + 9, more);
     low = number_of(&pairs[3]);
-    CHECK(hot_scan_prefix(handle, prefix.bytes, DIGITS - 1, &pairs[3], pairs, LIMIT, &count, &more) == HOT_DONE && !more);
+    CHECK(hot_scan_prefix(handle, prefix.bytes, DIGITS - 1, pairs[3].key, pairs[3].length, pairs, LIMIT, &count, &more) == HOT_DONE && !more);
     check_pairs(pairs, count, (int)low + 1, 1, (int)(low / 10 * 10 + 9), more);
 }
 
@@ -389,7 +389,7 @@ static void test_filling(void) {
     }
     for (i = 0; i < 4; i++)
         CHECK(pthread_join(threads[i], NULL) == 0);
-    CHECK(hot_scan_prefix(&handles[0], NULL, 0, NULL, pairs, ALL, &count, &more) == HOT_DONE && count == ALL && !more);
+    CHECK(hot_scan_prefix(&handles[0], NULL, 0, NULL, 0, pairs, ALL, &count, &more) == HOT_DONE && count == ALL && !more);
     for (i = 0; i < ALL; i++)
         CHECK(number_of(&pairs[i]) == i);
     for (i = 0; i < 4; i++)
@@ -461,6 +461,46 @@ static int test_stopped(unsigned calls) {
     return waits > 0;
 }
 
+/* Fifth test: eight threads share an index with three handles. Each opens one for a few calls, and closes it. */
+#define SHARED 3
+#define VISITS 20000
+
+static void *visit(void *given) {
+    static const uint8_t name[1] = {'n'};
+    hot_index *index = given;
+    int turn;
+    for (turn = 0; turn < VISITS; turn++) {
+        hot_handle handle = HOT_HANDLE;
+        hot_status status;
+        uint64_t seen = 0;
+        while ((status = hot_open(index, &handle)) == HOT_NO_HANDLE)
+            sched_yield();
+        CHECK(status == HOT_DONE);
+        while (hot_exchange(&handle, name, 1, seen, seen + 1, &seen) == HOT_DIFFERS)
+            ;
+        CHECK(hot_close(&handle) == HOT_DONE);
+    }
+    return NULL;
+}
+
+static void test_opening(void) {
+    static const hot_stock stock = {100, 100, 0, 0, 0, 0};
+    hot_index *index;
+    hot_handle handle = HOT_HANDLE;
+    pthread_t threads[CROWDED];
+    uint64_t value = 0;
+    int i;
+    CHECK(hot_open_index(&stock, SHARED, &index) == HOT_DONE);
+    CHECK(hot_open(index, &handle) == HOT_DONE && hot_insert(&handle, (const uint8_t *)"n", 1, 0, NULL) == HOT_INSERTED);
+    CHECK(hot_close(&handle) == HOT_DONE);
+    for (i = 0; i < CROWDED; i++)
+        CHECK(pthread_create(&threads[i], NULL, visit, index) == 0);
+    for (i = 0; i < CROWDED; i++)
+        CHECK(pthread_join(threads[i], NULL) == 0);
+    CHECK(hot_open(index, &handle) == HOT_DONE && hot_get(&handle, (const uint8_t *)"n", 1, &value) == HOT_FOUND);
+    CHECK(value == CROWDED * VISITS && hot_close(&handle) == HOT_DONE && hot_close_index(index) == HOT_DONE);
+}
+
 int main(void) {
     /* Keys, nodes and leaves: room for all; more keys than leaves; one node, which comes and goes. */
     static const unsigned crowds[5][3] = {{500, 60, 520}, {12, 16, 8}, {5, 1, 16}, {3, 1, 2}, {2, 1, 1}};
@@ -472,6 +512,7 @@ int main(void) {
     for (i = 0; i < 10 && !test_stopped(1000000); i++)
         ;
     CHECK(i < 10);
+    test_opening();
     if (!failures)
         puts("passed: threads that read while others change keys of all lengths, threads where few records are to spare, and threads that are stopped");
     return failures;

@@ -16,7 +16,7 @@ use Rattle.seat_calls.specs.Passes.{PassView}
 use Rattle.seat_calls.specs.Traces.{untold}
 use Rattle.seat_calls.specs.declared.census.RecordCounts.{RecordCounts}
 use Rattle.hot_index.specs.Handles.{HandleView, Stays}
-use Rattle.hot_c.specs.Calls.{Answers, HasOutcome, HasSeenRecords, FitsInKey, IsTold}
+use Rattle.hot_c.specs.Calls.{Answers, HasOutcome, HasSeenRecords, FitsInKey, TellsOutcome}
 use Rattle.hot_c.specs.Refusals.{AreInUse, TellsOfLeaves, TellsOfNodes}
 use Rattle.hot_c.specs.Statuses.{reply_status, value_after}
 use Rattle.hot_c.specs.declared.opened.Opened.{Opened}
@@ -26,7 +26,7 @@ some_is_none : (s : Opened) → Some s ≡ None → ⊥
 some_is_none s e = cc
 
 pub answered : (key : List ℕ) (call asked : Call) (old new : Option Opened) (before after status : ℕ) (s u : Opened) (outcome : Result Reply TryFault) → old ≡ Some s → new ≡ Some u →
-    Stays (IsTold (length key) call status outcome) s.handle u.handle → call ≡ asked → FitsInKey key → after ≡ value_after before outcome → Answers key asked old new before after status
+    Stays (TellsOutcome (length key) call status outcome) s.handle u.handle → call ≡ asked → FitsInKey key → after ≡ value_after before outcome → Answers key asked old new before after status
 answered key call asked old new before after status s u outcome was is stays same fits left = record {
   closed = λ none. absurd (some_is_none s (sym was ∙ none));
   long = λ some no. absurd (no fits);
@@ -37,7 +37,7 @@ answered key call asked old new before after status s u outcome was is stays sam
       after = u;
       was = was;
       is = is;
-      stays = subst (λ (x : Call). Stays (IsTold (length key) x status outcome) s.handle u.handle) same stays;
+      stays = subst (λ (x : Call). Stays (TellsOutcome (length key) x status outcome) s.handle u.handle) same stays;
     },
     left,
   );
@@ -45,18 +45,18 @@ answered key call asked old new before after status s u outcome was is stays sam
 
 -- a call that was answered
 pub replied : (size : ℕ) (call : Call) (reply : Reply) (status : ℕ) (old new : HandleView) → Stays (HasOutcome call (Ok reply)) old new → status ≡ reply_status reply →
-    Stays (IsTold size call status (Ok reply)) old new
+    Stays (TellsOutcome size call status (Ok reply)) old new
 replied size call reply status old new h told = record { index = h.index; pass = (h.pass, told) }
 
 -- what is told of a call for a key of this length
-pub for_size : (size other : ℕ) (call : Call) (status : ℕ) (outcome : Result Reply TryFault) (old new : HandleView) → other ≡ size → Stays (IsTold size call status outcome) old new →
-    Stays (IsTold other call status outcome) old new
-for_size size other call status outcome old new same h = subst (λ (n : ℕ). Stays (IsTold n call status outcome) old new) (sym same) h
+pub for_size : (size other : ℕ) (call : Call) (status : ℕ) (outcome : Result Reply TryFault) (old new : HandleView) → other ≡ size → Stays (TellsOutcome size call status outcome) old new →
+    Stays (TellsOutcome other call status outcome) old new
+for_size size other call status outcome old new same h = subst (λ (n : ℕ). Stays (TellsOutcome n call status outcome) old new) (sym same) h
 
 -- what is told of a call that was tried
 abbrev pub Told : ℕ → Call → ℕ → HandleView → HandleView → ℕ → ℕ → Type 0
 Told size call status old new before after =
-    (outcome : Result Reply TryFault) × Stays (IsTold size call status outcome) old new × (after ≡ value_after before outcome) × IfErr outcome (MayRefuse call)
+    (outcome : Result Reply TryFault) × Stays (TellsOutcome size call status outcome) old new × (after ≡ value_after before outcome) × IfErr outcome (MayRefuse call)
 
 module _ (size : ℕ) (call : Call) (outcome : Result Reply TryFault) (status before after : ℕ) (old : HandleView) where
   with_outcome : (mid : HandleView) (it : Result Reply TryFault) → outcome ≡ it → Stays (IsCallTried call outcome) old mid → Stays (IsCallTried call it) old mid
@@ -77,8 +77,7 @@ module _ (size : ℕ) (call : Call) (outcome : Result Reply TryFault) (status be
 
     pub told_nodes : outcome ≡ Err FullNodes → Stays (IsCallTried call outcome) old mid → TellsOfNodes counts status → after ≡ before → Told size call status old new before after
     told_nodes is h told left =
-        let it = with_outcome mid (Err FullNodes) is h in
-        (
+        let it = with_outcome mid (Err FullNodes) is h in (
           Err FullNodes,
           record {
             index = seen.index ∙ it.index;
@@ -90,8 +89,7 @@ module _ (size : ℕ) (call : Call) (outcome : Result Reply TryFault) (status be
 
     pub told_leaves : outcome ≡ Err FullLeaves → Stays (IsCallTried call outcome) old mid → TellsOfLeaves size counts status → after ≡ before → Told size call status old new before after
     told_leaves is h told left =
-        let it = with_outcome mid (Err FullLeaves) is h in
-        (
+        let it = with_outcome mid (Err FullLeaves) is h in (
           Err FullLeaves,
           record {
             index = seen.index ∙ it.index;
@@ -114,7 +112,7 @@ unfull Exchanged e = omega (arith, e)
 unfull (Differs v) e = omega (arith, e)
 
 -- a call that needs no leaf record doesn't tell that it found none
-pub unleafed : (size : ℕ) (call : Call) (status : ℕ) (outcome : Result Reply TryFault) (index : TableView) (k j : PassView) → IsTold size call status outcome index k j →
+pub unleafed : (size : ℕ) (call : Call) (status : ℕ) (outcome : Result Reply TryFault) (index : TableView) (k j : PassView) → TellsOutcome size call status outcome index k j →
     IfErr outcome (MayRefuse call) → ¬ MayRefuse call FullLeaves → status ≢ FULL_LEAVES
 unleafed size call status (Ok reply) index k j told may never e = unfull reply (sym told.1 ∙ e)
 unleafed size call status (Err Busy) index k j told may never e = omega (arith, e, told.1)

@@ -62,11 +62,11 @@ pub record IsCounted (call : Call) (fault : TryFault) (Tells : RecordCounts → 
   pub tells : Tells counts
 
 -- A call for a key of this length was made, and the status tells its outcome: after one that found no record free, by a count of them.
-abbrev pub IsTold : ℕ → Call → ℕ → Result Reply TryFault → TableView → PassView → PassView → Type 0
-IsTold size call status (Ok reply) index k j = HasOutcome call (Ok reply) index k j × (status ≡ reply_status reply)
-IsTold size call status (Err Busy) index k j = HasOutcome call (Err Busy) index k j × (status ≡ BUSY)
-IsTold size call status (Err FullNodes) index k j = IsCounted call FullNodes (λ counts. TellsOfNodes counts status) index k j
-IsTold size call status (Err FullLeaves) index k j = IsCounted call FullLeaves (λ counts. TellsOfLeaves size counts status) index k j
+abbrev pub TellsOutcome : ℕ → Call → ℕ → Result Reply TryFault → TableView → PassView → PassView → Type 0
+TellsOutcome size call status (Ok reply) index k j = HasOutcome call (Ok reply) index k j × (status ≡ reply_status reply)
+TellsOutcome size call status (Err Busy) index k j = HasOutcome call (Err Busy) index k j × (status ≡ BUSY)
+TellsOutcome size call status (Err FullNodes) index k j = IsCounted call FullNodes (λ counts. TellsOfNodes counts status) index k j
+TellsOutcome size call status (Err FullLeaves) index k j = IsCounted call FullLeaves (λ counts. TellsOfLeaves size counts status) index k j
 
 -- A call for a key through a handle, which finds `before` where C wants a value and leaves `after`. A closed handle and a key that
 -- is too long are told as such, and nothing has changed; else the call is made, and its outcome told.
@@ -74,7 +74,7 @@ pub record Answers (key : List ℕ) (call : Call) (old new : Option Opened) (bef
   pub closed : old ≡ None → (status ≡ CLOSED) × (new ≡ old) × (after ≡ before)
   pub long : IsSome old → ¬ FitsInKey key → (status ≡ KEY_TOO_LONG) × (new ≡ old) × (after ≡ before)
   pub made : IsSome old → FitsInKey key →
-      (outcome : Result Reply TryFault) × StaysOpen (IsTold (length key) call status outcome) old new × (after ≡ value_after before outcome)
+      (outcome : Result Reply TryFault) × StaysOpen (TellsOutcome (length key) call status outcome) old new × (after ≡ value_after before outcome)
 
 -- a round of collection, which gave back so many nodes and leaves
 abbrev pub HasGivenBack : ℕ → ℕ → TableView → PassView → PassView → Type 0

@@ -1,6 +1,6 @@
 //! The calls for programs in C. `c/hot.h` says how to use them.
 
-ghost use Rattle.std.specs.Prelude.{◌≡◌, ◌≢◌, ◌⊎◌, ◌↔◌, ℕ, List, Err, IsOk, IsSome, None, Some, length};
+ghost use Rattle.std.specs.Prelude.{◌≡◌, ◌≢◌, ◌⊎◌, ◌↔◌, ℕ, List, IsOk, IsSome, None, Some, length};
 ghost use Rattle.finite_map.specs.declared.Call.TheVariants.{Exchange, Get, Insert, Remove, RemoveIf, Upsert};
 ghost use Rattle.rowex_writing.specs.declared.attempts.TryFault.TheVariants.{FullLeaves};
 ghost use Rattle.seat_calls.specs.Answers.{MayRefuse};
@@ -12,10 +12,10 @@ ghost use Rattle.record_words.specs.Layout.{stock_for};
 
 use crate::handle::Handle;
 use crate::lookups::{Lookup, are_fit, keys_of, write_found};
-use crate::opening::{are_closed, make_passes, make_stocked, open_all};
+use crate::opening::{are_closed, is_size, is_stock_size, make_passes, make_stocked, open_all};
 use crate::status::{
-    BUSY, CLOSED, DONE, FULL_LEAVES, FULL_NODES, HELD_BACK, KEY_TOO_LONG, NO_MEMORY, OPEN, OUT_OF_RANGE,
-    tell_reply,
+    BUSY, CLOSED, DONE, FULL_LEAVES, FULL_NODES, HELD_BACK, KEY_TOO_LONG, NO_MEMORY, OPEN,
+    OUT_OF_RANGE, tell_reply,
 };
 use crate::stock::HotStock;
 use hot_index::{Call, IndexFault, RecordCounts};
@@ -27,18 +27,18 @@ use std::alloc::Global;
 /// must be closed before.
 #[unsafe(no_mangle)]
 pub extern "C" fn hot_create(alloc: Global, nodes: u32, leaves: u32, handles: &mut [Handle]) -> u32
-    ensures open { ¬ AreClosed handles.old → (result ≡ OPEN) × (handles.new ≡ handles.old) }
-    ensures range { AreClosed handles.old → ¬ IsSize (length handles.old) nodes leaves → (result ≡ OUT_OF_RANGE) × (handles.new ≡ handles.old) }
+    ensures range { ¬ IsSize (length handles.old) nodes leaves → (result ≡ OUT_OF_RANGE) × (handles.new ≡ handles.old) }
+    ensures open { IsSize (length handles.old) nodes leaves → ¬ AreClosed handles.old → (result ≡ OPEN) × (handles.new ≡ handles.old) }
     ensures made { AreClosed handles.old → IsSize (length handles.old) nodes leaves →
         ((result ≡ DONE) × HaveOpened nodes leaves handles.new) ⊎ ((result ≡ NO_MEMORY) × (handles.new ≡ handles.old)) }
 {
+    if !is_size(handles.len(), nodes, leaves) {
+        return OUT_OF_RANGE;
+    }
     if !are_closed(handles) {
         return OPEN;
     }
-    let Ok(passes) = u32::try_from(handles.len()) else {
-        return OUT_OF_RANGE;
-    };
-    match make_passes(alloc, passes, nodes, leaves) {
+    match make_passes(alloc, handles.len() as u32, nodes, leaves) {
         Ok(passes) => {
             open_all(handles, passes);
             DONE
@@ -52,18 +52,19 @@ pub extern "C" fn hot_create(alloc: Global, nodes: u32, leaves: u32, handles: &m
 /// before.
 #[unsafe(no_mangle)]
 pub extern "C" fn hot_create_with(alloc: Global, stock: &HotStock, handles: &mut [Handle]) -> u32
-    ensures open { ¬ AreClosed handles.old → (result ≡ OPEN) × (handles.new ≡ handles.old) }
-    ensures range { AreClosed handles.old → ¬ IsStockSize (length handles.old) (stock_in stock.now) → (result ≡ OUT_OF_RANGE) × (handles.new ≡ handles.old) }
+    ensures range { ¬ IsStockSize (length handles.old) (stock_in stock.now) → (result ≡ OUT_OF_RANGE) × (handles.new ≡ handles.old) }
+    ensures open { IsStockSize (length handles.old) (stock_in stock.now) → ¬ AreClosed handles.old → (result ≡ OPEN) × (handles.new ≡ handles.old) }
     ensures made { AreClosed handles.old → IsStockSize (length handles.old) (stock_in stock.now) →
         ((result ≡ DONE) × HaveOpenedStock (stock_in stock.now) handles.new) ⊎ ((result ≡ NO_MEMORY) × (handles.new ≡ handles.old)) }
 {
+    let records = stock.stock();
+    if !is_stock_size(handles.len(), &records) {
+        return OUT_OF_RANGE;
+    }
     if !are_closed(handles) {
         return OPEN;
     }
-    let Ok(passes) = u32::try_from(handles.len()) else {
-        return OUT_OF_RANGE;
-    };
-    match make_stocked(alloc, passes, stock.stock()) {
+    match make_stocked(alloc, handles.len() as u32, records) {
         Ok(stocked) => {
             open_all(handles, stocked);
             DONE

@@ -8,7 +8,7 @@ ghost use Rattle.seat_calls.specs.Answers.{IsNoted, MayRefuse};
 ghost use Rattle.seat_calls.specs.Calls.{IsRangeRead};
 ghost use Rattle.hot_index.specs.Handles.{Stays};
 ghost use Rattle.seat_calls.specs.Traces.{HasGot, untold};
-ghost use Rattle.hot_c.specs.Calls.{IsTold};
+ghost use Rattle.hot_c.specs.Calls.{TellsOutcome};
 ghost use Rattle.hot_c.specs.Orders.{IsFilledIn};
 ghost use Rattle.hot_c.specs.Statuses.{value_after};
 
@@ -45,7 +45,7 @@ impl Opened {
     /// Tries to make a call for a key of this length. Where it finds no record free, it counts all records, and so tells whether
     /// other calls hold some back.
     pub fn make(&mut self, call: &Call, size: usize, had: &mut u64) -> u32
-        ensures call { (outcome : Result ReplyView FaultView) × Stays (IsTold size call.now result outcome) self.old.handle self.new.handle
+        ensures call { (outcome : Result ReplyView FaultView) × Stays (TellsOutcome size call.now result outcome) self.old.handle self.new.handle
             × (had.new ≡ value_after had.old outcome) × IfErr outcome (MayRefuse call.now) }
     {
         match self.handle.try_call(call) {
