@@ -222,6 +222,15 @@ hot_status hot_copy(hot_handle *from, hot_handle *to) {
     return hot_number(to, &number) == HOT_DONE ? change_all(from, copy_pair, to) : HOT_CLOSED;
 }
 
+hot_status hot_len(hot_handle *handle, size_t *count) {
+    hot_counts counts;
+    hot_status status = hot_census(handle, &counts);
+    if (status == HOT_DONE)
+        *count = (size_t)counts.short_leaves.live + counts.medium_leaves.live + counts.large_leaves.live + counts.wide_leaves.live +
+                 counts.long_leaves.live;
+    return status;
+}
+
 void hot_stock_for_lengths(const uint32_t *keys, hot_stock *stock) {
     static const size_t longest[5] = {8, 24, 56, 88, HOT_MAX_KEY};
     hot_stock each[5], all;

@@ -354,6 +354,11 @@ typedef struct hot_counts {
  * HOT_DONE; or HOT_CLOSED. */
 hot_status hot_census(hot_handle *handle, hot_counts *counts);
 
+/* Counts the keys of the handle's index, each of which has one leaf record: all leaves that are in use, by hot_census. So it makes a step for
+ * each record. The number is exact where nobody changes the index meanwhile.
+ * HOT_DONE; or HOT_CLOSED. */
+hot_status hot_len(hot_handle *handle, size_t *count);
+
 /* Closes a handle of hot_create or hot_create_with, from any thread and in any order. Closing the last one frees the index. A closed
  * handle may be given to hot_create again. It gives a handle of hot_open back, as hot_close does.
  * HOT_DONE; or HOT_CLOSED if it is closed already. */

@@ -644,10 +644,11 @@ static void test_copy(void) {
     enum { MANY = 500 };
     hot_handle from = HOT_HANDLE, to = HOT_HANDLE, small = HOT_HANDLE;
     uint8_t key[2];
+    size_t count = 7;
     uint64_t value = 0;
     uint32_t number;
     hot_pair pair;
-    CHECK(hot_copy(&from, &to) == HOT_CLOSED && hot_clear(&from) == HOT_CLOSED);
+    CHECK(hot_copy(&from, &to) == HOT_CLOSED && hot_clear(&from) == HOT_CLOSED && hot_len(&from, &count) == HOT_CLOSED && count == 7);
     CHECK(hot_create(200, 600, &from, 1) == HOT_DONE && hot_create(200, 600, &to, 1) == HOT_DONE && hot_create(10, 5, &small, 1) == HOT_DONE);
     CHECK(hot_copy(&from, &to) == HOT_DONE);
     for (number = 0; number < MANY; number++) {
@@ -656,6 +657,7 @@ static void test_copy(void) {
     }
     CHECK(hot_insert(&to, key, 2, 7, NULL) == HOT_INSERTED && hot_insert(&to, bytes("own"), 3, 8, NULL) == HOT_INSERTED);
     CHECK(hot_copy(&from, &to) == HOT_DONE);
+    CHECK(hot_len(&from, &count) == HOT_DONE && count == MANY && hot_len(&to, &count) == HOT_DONE && count == MANY + 1);
     for (number = 0; number < MANY; number++) {
         key[0] = (uint8_t)(number >> 8), key[1] = (uint8_t)number;
         CHECK(hot_get(&to, key, 2, &value) == HOT_FOUND && value == number);
@@ -663,6 +665,7 @@ static void test_copy(void) {
     CHECK(hot_get(&to, bytes("own"), 3, &value) == HOT_FOUND && value == 8);
     CHECK(hot_copy(&from, &small) == HOT_FULL_LEAVES && hot_last(&small, HOT_TO_END, &pair) == HOT_FOUND && pair.value == 4);
     CHECK(hot_clear(&from) == HOT_DONE && hot_first(&from, key, 0, &pair) == HOT_ABSENT);
+    CHECK(hot_len(&from, &count) == HOT_DONE && count == 0);
     CHECK(hot_clear(&from) == HOT_DONE && hot_get(&to, key, 2, &value) == HOT_FOUND);
     CHECK(hot_copy(&small, &to) == HOT_DONE && hot_destroy(&to) == HOT_DONE && hot_copy(&small, &to) == HOT_CLOSED);
     CHECK(hot_destroy(&from) == HOT_DONE && hot_destroy(&small) == HOT_DONE);
