@@ -303,6 +303,12 @@ typedef struct hot_head {
 hot_status hot_scan_packed(hot_handle *handle, const uint8_t *from, size_t from_length, const uint8_t *upto, size_t upto_length,
                            uint8_t *bytes, size_t room, hot_head *heads, size_t limit, size_t *count, uint32_t *more);
 
+/* hot_scan_packed from the end downwards: lists the last pairs, in falling key order, packed in the same way. Writes 1 to `more` if the
+ * range has more below than it wrote, else 0. To go on, end at the key that hot_before gives for the last one. It answers what hot_scan
+ * does, and makes no more steps than hot_scan may. */
+hot_status hot_scan_packed_reverse(hot_handle *handle, const uint8_t *from, size_t from_length, const uint8_t *upto, size_t upto_length,
+                                   uint8_t *bytes, size_t room, hot_head *heads, size_t limit, size_t *count, uint32_t *more);
+
 /* What a call hands pairs to: `pair` is there until the function returns. It answers 0 to end the call. */
 typedef int hot_visitor(void *context, const hot_pair *pair);
 
