@@ -266,10 +266,11 @@ class handle {
         return scan(prefix, std::string(prefix).append(left, '\xff'));
     }
 
-    /// Fills a page with the first pairs from one key to another, both included: hot_scan_packed.
-    void scan_packed(std::string_view from, std::string_view upto, packed &into) {
-        check(hot_scan_packed(it(), bytes(from), from.size(), bytes(upto), upto.size(), into.keys_.data(), into.keys_.size() - 1,
-                              into.heads_.data(), into.heads_.size() - 1, &into.count_, &into.more_));
+    /// Fills a page with the first pairs from one key to another, both included, or with the last ones, the greatest key first:
+    /// hot_scan_packed, hot_scan_packed_reverse.
+    void scan_packed(std::string_view from, std::string_view upto, packed &into) { fill(hot_scan_packed, from, upto, into); }
+    void scan_packed_reverse(std::string_view from, std::string_view upto, packed &into) {
+        fill(hot_scan_packed_reverse, from, upto, into);
     }
 
     /// The pairs from one key to another, both included, the greatest key first; and all pairs in that order.
@@ -326,6 +327,10 @@ class handle {
         if (!it_)
             check(HOT_CLOSED);
         return it_.get();
+    }
+    template <class Scan> void fill(Scan scan, std::string_view from, std::string_view upto, packed &into) {
+        check(scan(it(), bytes(from), from.size(), bytes(upto), upto.size(), into.keys_.data(), into.keys_.size() - 1, into.heads_.data(),
+                   into.heads_.size() - 1, &into.count_, &into.more_));
     }
     template <class Call> change put(Call call, std::string_view key, std::uint64_t value) {
         std::uint64_t had = 0;
