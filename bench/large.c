@@ -77,7 +77,7 @@ static void scan_all(hot_handle *handle, uint64_t count, hot_pair *pairs)
             listed++;
             tell("listed", listed, count, begun);
         }
-        if (more && hot_after(&pairs[found - 1], from, &length) != HOT_DONE) {
+        if (more && hot_after(pairs[found - 1].key, pairs[found - 1].length, from, &length) != HOT_DONE) {
             fail("key after", listed, HOT_ABSENT);
         }
     }

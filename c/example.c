@@ -12,18 +12,17 @@ enum { PAGE = 64 };
 /* Lists all pairs, a page after the other. */
 static hot_status list(hot_handle *handle) {
     static hot_pair pairs[PAGE];
-    uint8_t from[HOT_MAX_KEY], upto[HOT_MAX_KEY];
+    uint8_t from[HOT_MAX_KEY];
     size_t from_length = 0, count, i;
     uint32_t more = 1;
-    memset(upto, 0xff, sizeof upto);
     while (more) {
-        hot_status status = hot_scan(handle, from, from_length, upto, sizeof upto, pairs, PAGE, &count, &more);
+        hot_status status = hot_scan(handle, from, from_length, HOT_TO_END, pairs, PAGE, &count, &more);
         if (status != HOT_DONE)
             return status;
         for (i = 0; i < count; i++)
             printf("%.*s %" PRIu64 "\n", (int)pairs[i].length, (const char *)pairs[i].key, pairs[i].value);
         if (more)
-            hot_after(&pairs[count - 1], from, &from_length);
+            hot_after(pairs[count - 1].key, pairs[count - 1].length, from, &from_length);
     }
     return HOT_DONE;
 }

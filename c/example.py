@@ -3,7 +3,7 @@
 
     put KEY NUMBER     get KEY     del KEY     list
 
-usage: example.py [LIBRARY]     where it lies, if it is not libhot.so.1 of the loader's folders
+usage: example.py [LIBRARY]     where it lies, if it is not libhot.so.2 of the loader's folders
 """
 import ctypes
 import sys
@@ -11,13 +11,13 @@ from ctypes import POINTER, byref, c_char_p, c_size_t, c_uint8, c_uint32, c_uint
 
 MAX_KEY, PAGE = 240, 64
 FOUND, WAS, REMOVED, EXCHANGED, DIFFERS = 1, 6, 7, 16, 17
-REFUSALS = range(8, 16)
+REFUSALS = (*range(8, 16), 18)
 
 
 class Handle(ctypes.Structure):
     """struct hot_handle. It must not be copied: an array of them stays where it is, and calls take byref of a place."""
 
-    _fields_ = [("tag", c_uint32), ("slot", c_void_p)]
+    _fields_ = [("tag", c_uint32), ("slot", c_void_p), ("index", c_void_p)]
 
 
 class Stock(ctypes.Structure):
@@ -72,10 +72,10 @@ def load(path: str) -> ctypes.CDLL:
         "remove_if": [handle, *key, c_uint64, number],
         "scan_packed": [handle, *key, *key, POINTER(c_uint8), c_size_t, POINTER(Head), c_size_t, POINTER(c_size_t), POINTER(c_uint32)],
         "census": [handle, POINTER(Counts)],
-        "after": [POINTER(Pair), POINTER(c_uint8), POINTER(c_size_t)],
+        "after": [*key, POINTER(c_uint8), POINTER(c_size_t)],
         "scan_reverse": [handle, *key, *key, POINTER(Pair), c_size_t, POINTER(c_size_t), POINTER(c_uint32)],
         "scan_last": [handle, *key, *key, POINTER(Pair), c_size_t, POINTER(c_size_t), POINTER(c_uint32)],
-        "before": [POINTER(Pair), POINTER(c_uint8), POINTER(c_size_t)],
+        "before": [*key, POINTER(c_uint8), POINTER(c_size_t)],
     }
     for name, words in types.items():
         call = getattr(hot, f"hot_{name}")
@@ -166,9 +166,7 @@ class Index:
                 yield text[at : at + head.length], head.value
                 at += head.length
             if more.value:
-                last = Pair(length=head.length)
-                last.key[: head.length] = text[at - head.length : at]
-                self.hot.hot_after(last, key, length)
+                self.hot.hot_after(text[at - head.length : at], head.length, key, length)
                 start = bytes(key[: length.value])
 
     def scan_reverse(self, start: bytes = b"", end: bytes = b"\xff" * MAX_KEY, thread: int = 0):
@@ -181,7 +179,7 @@ class Index:
             for pair in pairs[: count.value]:
                 yield bytes(pair.key[: pair.length]), pair.value
             if more.value:
-                self.hot.hot_before(pairs[count.value - 1], key, length)
+                self.hot.hot_before(bytes(pair.key), pair.length, key, length)
                 end = bytes(key[: length.value])
 
     def scan_last(self, count: int, start: bytes = b"", end: bytes = b"\xff" * MAX_KEY, thread: int = 0) -> list[tuple[bytes, int]]:
@@ -212,7 +210,7 @@ def answer(index: Index, line: str) -> list:
 
 
 def main() -> None:
-    hot = load(sys.argv[1] if len(sys.argv) > 1 else "libhot.so.1")
+    hot = load(sys.argv[1] if len(sys.argv) > 1 else "libhot.so.2")
     index = Index(hot, stock_for_keys(hot, 16384, MAX_KEY))
     for line in sys.stdin:
         try:

@@ -1,8 +1,26 @@
 /* What of the library for C is written in C, and tested: the texts of statuses, scans of a prefix, pairs that are handed over one by
- * one, and the calls that wait. */
+ * one, calls for many keys, an index that opens its handles one by one, and the calls that wait: the proved library may neither wait
+ * nor yield, so it says when to try again, and the wait is here. */
 #include "hot.h"
 #include <sched.h>
+#include <stdlib.h>
 #include <string.h>
+
+/* The proved calls of which c/run changes the names: there `had` is never NULL, and a handle is closed for good. */
+hot_status proved_try_insert(hot_handle *handle, const uint8_t *key, size_t length, uint64_t value, uint64_t *had);
+hot_status proved_try_upsert(hot_handle *handle, const uint8_t *key, size_t length, uint64_t value, uint64_t *had);
+hot_status proved_try_exchange(hot_handle *handle, const uint8_t *key, size_t length, uint64_t expected, uint64_t value, uint64_t *had);
+hot_status proved_try_remove(hot_handle *handle, const uint8_t *key, size_t length, uint64_t *had);
+hot_status proved_try_remove_if(hot_handle *handle, const uint8_t *key, size_t length, uint64_t expected, uint64_t *had);
+hot_status proved_destroy(hot_handle *handle);
+
+uint32_t hot_version(void) {
+    return HOT_VERSION_MAJOR << 16 | HOT_VERSION_MINOR << 8 | HOT_VERSION_PATCH;
+}
+
+#define TEN 255, 255, 255, 255, 255, 255, 255, 255, 255, 255
+#define EIGHTY TEN, TEN, TEN, TEN, TEN, TEN, TEN, TEN
+const uint8_t hot_last_key[HOT_MAX_KEY] = {EIGHTY, EIGHTY, EIGHTY};
 
 const char *hot_status_text(hot_status status) {
     switch (status) {
@@ -15,8 +33,8 @@ const char *hot_status_text(hot_status status) {
     case HOT_WAS: return "replaced";
     case HOT_REMOVED: return "removed";
     case HOT_BUSY: return "another call stood in the way";
-    case HOT_FULL_NODES: return "no node record is free";
-    case HOT_FULL_LEAVES: return "no leaf record is free";
+    case HOT_FULL_NODES: return "all node records are in use";
+    case HOT_FULL_LEAVES: return "all leaf records are in use";
     case HOT_KEY_TOO_LONG: return "a key is too long";
     case HOT_CLOSED: return "the handle is closed";
     case HOT_OPEN: return "a handle is open";
@@ -24,6 +42,8 @@ const char *hot_status_text(hot_status status) {
     case HOT_NO_MEMORY: return "out of memory";
     case HOT_EXCHANGED: return "exchanged";
     case HOT_DIFFERS: return "the key has another value";
+    case HOT_HELD_BACK: return "other calls hold records back";
+    case HOT_NO_HANDLE: return "no handle is free";
     default: return "not a status";
     }
 }
@@ -33,7 +53,7 @@ static int is_below(const uint8_t *one, size_t one_length, const uint8_t *other,
     return order < 0 || (order == 0 && one_length < other_length);
 }
 
-hot_status hot_scan_prefix(hot_handle *handle, const uint8_t *prefix, size_t length, const hot_pair *after,
+hot_status hot_scan_prefix(hot_handle *handle, const uint8_t *prefix, size_t length, const uint8_t *after, size_t after_length,
                            hot_pair *pairs, size_t limit, size_t *count, uint32_t *more) {
     uint8_t from[HOT_MAX_KEY], upto[HOT_MAX_KEY];
     size_t from_length = length;
@@ -42,9 +62,11 @@ hot_status hot_scan_prefix(hot_handle *handle, const uint8_t *prefix, size_t len
     memset(upto, 0xff, HOT_MAX_KEY);
     if (length > 0)
         memcpy(upto, prefix, length);
-    if (after != NULL && hot_after(after, from, &from_length) == HOT_ABSENT)
-        /* No key comes after it: the range is empty. */
+    switch (after == NULL ? HOT_DONE : hot_after(after, after_length, from, &from_length)) {
+    case HOT_ABSENT: /* No key comes after it: the range is empty. */
         return hot_scan(handle, upto, HOT_MAX_KEY, upto, 0, pairs, limit, count, more);
+    case HOT_KEY_TOO_LONG: return hot_scan(handle, after, after_length, upto, 0, pairs, limit, count, more);
+    }
     if (after == NULL || is_below(from, from_length, upto, length)) {
         memcpy(from, upto, length);
         from_length = length;
@@ -64,44 +86,290 @@ hot_status hot_each(hot_handle *handle, const uint8_t *from, size_t from_length,
         for (place = 0; place < count; place++)
             if (!visit(context, &pairs[place]))
                 return HOT_DONE;
-        if (!more || hot_after(&pairs[count - 1], next, &from_length) == HOT_ABSENT)
+        if (!more || hot_after(pairs[count - 1].key, pairs[count - 1].length, next, &from_length) == HOT_ABSENT)
             return HOT_DONE;
         from = next;
     }
     return status;
 }
 
+hot_status hot_try_insert(hot_handle *handle, const uint8_t *key, size_t length, uint64_t value, uint64_t *had) {
+    uint64_t unread;
+    return proved_try_insert(handle, key, length, value, had ? had : &unread);
+}
+
+hot_status hot_try_upsert(hot_handle *handle, const uint8_t *key, size_t length, uint64_t value, uint64_t *had) {
+    uint64_t unread;
+    return proved_try_upsert(handle, key, length, value, had ? had : &unread);
+}
+
+hot_status hot_try_remove(hot_handle *handle, const uint8_t *key, size_t length, uint64_t *had) {
+    uint64_t unread;
+    return proved_try_remove(handle, key, length, had ? had : &unread);
+}
+
+hot_status hot_try_exchange(hot_handle *handle, const uint8_t *key, size_t length, uint64_t expected, uint64_t value, uint64_t *had) {
+    uint64_t unread;
+    return proved_try_exchange(handle, key, length, expected, value, had ? had : &unread);
+}
+
+hot_status hot_try_remove_if(hot_handle *handle, const uint8_t *key, size_t length, uint64_t expected, uint64_t *had) {
+    uint64_t unread;
+    return proved_try_remove_if(handle, key, length, expected, had ? had : &unread);
+}
+
+/* Whether a change is to be tried again, once other threads have run: another call is in its way, or holds records back. */
+static int is_to_wait(hot_status status) {
+    int waits = status == HOT_BUSY || status == HOT_HELD_BACK;
+    if (waits)
+        sched_yield();
+    return waits;
+}
+
 hot_status hot_insert(hot_handle *handle, const uint8_t *key, size_t length, uint64_t value, uint64_t *had) {
     hot_status status;
-    while ((status = hot_try_insert(handle, key, length, value, had)) == HOT_BUSY)
-        sched_yield();
+    while (is_to_wait(status = hot_try_insert(handle, key, length, value, had)))
+        ;
     return status;
 }
 
 hot_status hot_upsert(hot_handle *handle, const uint8_t *key, size_t length, uint64_t value, uint64_t *had) {
     hot_status status;
-    while ((status = hot_try_upsert(handle, key, length, value, had)) == HOT_BUSY)
-        sched_yield();
+    while (is_to_wait(status = hot_try_upsert(handle, key, length, value, had)))
+        ;
     return status;
 }
 
 hot_status hot_remove(hot_handle *handle, const uint8_t *key, size_t length, uint64_t *had) {
     hot_status status;
-    while ((status = hot_try_remove(handle, key, length, had)) == HOT_BUSY)
-        sched_yield();
+    while (is_to_wait(status = hot_try_remove(handle, key, length, had)))
+        ;
     return status;
 }
 
 hot_status hot_exchange(hot_handle *handle, const uint8_t *key, size_t length, uint64_t expected, uint64_t value, uint64_t *had) {
     hot_status status;
-    while ((status = hot_try_exchange(handle, key, length, expected, value, had)) == HOT_BUSY)
-        sched_yield();
+    while (is_to_wait(status = hot_try_exchange(handle, key, length, expected, value, had)))
+        ;
     return status;
 }
 
 hot_status hot_remove_if(hot_handle *handle, const uint8_t *key, size_t length, uint64_t expected, uint64_t *had) {
     hot_status status;
-    while ((status = hot_try_remove_if(handle, key, length, expected, had)) == HOT_BUSY)
-        sched_yield();
+    while (is_to_wait(status = hot_try_remove_if(handle, key, length, expected, had)))
+        ;
     return status;
+}
+
+hot_status hot_try_add(hot_handle *handle, const uint8_t *key, size_t length, uint64_t delta, uint64_t *had) {
+    uint64_t seen;
+    hot_status status = hot_get(handle, key, length, &seen);
+    if (status != HOT_FOUND)
+        return status;
+    status = hot_try_exchange(handle, key, length, seen, seen + delta, NULL);
+    if (status == HOT_EXCHANGED && had)
+        *had = seen;
+    return status == HOT_EXCHANGED ? HOT_WAS : status == HOT_DIFFERS ? HOT_BUSY : status;
+}
+
+hot_status hot_add(hot_handle *handle, const uint8_t *key, size_t length, uint64_t delta, uint64_t *had) {
+    uint64_t seen;
+    hot_status status = hot_get(handle, key, length, &seen);
+    if (status != HOT_FOUND)
+        return status;
+    while ((status = hot_exchange(handle, key, length, seen, seen + delta, &seen)) == HOT_DIFFERS)
+        ;
+    if (status == HOT_EXCHANGED && had)
+        *had = seen;
+    return status == HOT_EXCHANGED ? HOT_WAS : status;
+}
+
+/* Hands each pair to `visit` with a handle in its context, and tells the first status that refused a change. */
+typedef struct change_each {
+    hot_handle *handle;
+    hot_status status;
+} change_each;
+
+static int go_on(change_each *each, hot_status status) {
+    each->status = status < HOT_BUSY ? HOT_DONE : status;
+    return each->status == HOT_DONE;
+}
+
+static int remove_pair(void *context, const hot_pair *pair) {
+    change_each *each = context;
+    return go_on(each, hot_remove(each->handle, pair->key, pair->length, NULL));
+}
+
+static int copy_pair(void *context, const hot_pair *pair) {
+    change_each *each = context;
+    return go_on(each, hot_upsert(each->handle, pair->key, pair->length, pair->value, NULL));
+}
+
+static hot_status change_all(hot_handle *from, hot_visitor *visit, hot_handle *handle) {
+    change_each each;
+    hot_status status;
+    each.handle = handle;
+    each.status = HOT_DONE;
+    status = hot_each(from, hot_last_key, 0, HOT_TO_END, visit, &each);
+    return status == HOT_DONE ? each.status : status;
+}
+
+hot_status hot_clear(hot_handle *handle) {
+    return change_all(handle, remove_pair, handle);
+}
+
+hot_status hot_copy(hot_handle *from, hot_handle *to) {
+    uint16_t number;
+    return hot_number(to, &number) == HOT_DONE ? change_all(from, copy_pair, to) : HOT_CLOSED;
+}
+
+hot_status hot_len(hot_handle *handle, size_t *count) {
+    hot_counts counts;
+    hot_status status = hot_census(handle, &counts);
+    if (status == HOT_DONE)
+        *count = (size_t)counts.short_leaves.live + counts.medium_leaves.live + counts.large_leaves.live + counts.wide_leaves.live +
+                 counts.long_leaves.live;
+    return status;
+}
+
+void hot_stock_for_lengths(const uint32_t *keys, hot_stock *stock) {
+    static const size_t longest[5] = {8, 24, 56, 88, HOT_MAX_KEY};
+    hot_stock each[5], all;
+    uint64_t total = 0;
+    int size;
+    for (size = 0; size < 5; size++) {
+        total += keys[size];
+        memset(&each[size], 0, sizeof each[size]);
+        if (keys[size] > 0)
+            hot_stock_for_keys(keys[size], longest[size], &each[size]);
+    }
+    hot_stock_for_keys(total < UINT32_MAX ? (uint32_t)total : UINT32_MAX, HOT_MAX_KEY, &all);
+    stock->nodes = all.nodes;
+    stock->short_leaves = each[0].short_leaves;
+    stock->medium_leaves = each[1].medium_leaves;
+    stock->large_leaves = each[2].large_leaves;
+    stock->wide_leaves = each[3].wide_leaves;
+    stock->long_leaves = each[4].long_leaves;
+}
+
+hot_status hot_get_packed(hot_handle *handle, const uint8_t *bytes, const size_t *lengths, size_t count, uint64_t *values,
+                          hot_status *statuses) {
+    enum { PART = 64 };
+    hot_lookup lookups[PART];
+    uint16_t number;
+    size_t first, place, size;
+    hot_status status = hot_number(handle, &number);
+    for (place = 0; status == HOT_DONE && place < count; place++)
+        if (lengths[place] > HOT_MAX_KEY)
+            status = HOT_KEY_TOO_LONG;
+    for (first = 0; status == HOT_DONE && first < count; first += size) {
+        size = count - first < PART ? count - first : PART;
+        for (place = 0; place < size; place++) {
+            lookups[place].key = bytes;
+            lookups[place].length = lengths[first + place];
+            bytes += lengths[first + place];
+        }
+        status = hot_get_many(handle, lookups, size);
+        for (place = 0; status == HOT_DONE && place < size; place++) {
+            statuses[first + place] = lookups[place].status;
+            if (lookups[place].status == HOT_FOUND)
+                values[first + place] = lookups[place].value;
+        }
+    }
+    return status;
+}
+
+/* An index whose handles are given out one by one. Those that are free wait in `passes`, each at the place of its number; a place that is
+ * taken has a closed handle. Whoever exchanges 1 for the 0 in `taken` has the place, until it stores 0 there. */
+struct hot_index {
+    size_t count;
+    hot_handle *passes;
+    uint32_t *taken;
+};
+
+static int take_place(hot_index *index, size_t place) {
+    return __atomic_exchange_n(&index->taken[place], 1, __ATOMIC_SEQ_CST) == 0;
+}
+
+static void give_place(hot_index *index, size_t place) {
+    __atomic_store_n(&index->taken[place], 0, __ATOMIC_SEQ_CST);
+}
+
+/* Moves a handle to a place that has a closed one. */
+static void move_handle(hot_handle *to, hot_handle *from) {
+    static const hot_handle closed = HOT_HANDLE;
+    *to = *from;
+    *from = closed;
+}
+
+static void free_index(hot_index *index) {
+    free(index->passes);
+    free(index->taken);
+    free(index);
+}
+
+hot_status hot_open_index(const hot_stock *stock, size_t handles, hot_index **index) {
+    size_t bytes;
+    hot_index *made;
+    hot_status status = hot_stock_bytes(stock, handles, &bytes);
+    if (status != HOT_DONE)
+        return status;
+    made = malloc(sizeof *made);
+    if (made == NULL)
+        return HOT_NO_MEMORY;
+    made->count = handles;
+    made->passes = calloc(handles, sizeof *made->passes);
+    made->taken = calloc(handles, sizeof *made->taken);
+    status = made->passes == NULL || made->taken == NULL ? HOT_NO_MEMORY : hot_create_with(stock, made->passes, handles);
+    if (status != HOT_DONE) {
+        free_index(made);
+        return status;
+    }
+    *index = made;
+    return HOT_DONE;
+}
+
+hot_status hot_open(hot_index *index, hot_handle *handle) {
+    size_t place;
+    uint16_t number;
+    if (hot_number(handle, &number) == HOT_DONE)
+        return HOT_OPEN;
+    for (place = 0; place < index->count; place++)
+        if (take_place(index, place)) {
+            move_handle(handle, &index->passes[place]);
+            handle->index = index;
+            return HOT_DONE;
+        }
+    return HOT_NO_HANDLE;
+}
+
+hot_status hot_close(hot_handle *handle) {
+    hot_index *index = handle->index;
+    uint16_t place;
+    hot_status status = hot_number(handle, &place);
+    if (status != HOT_DONE)
+        return status;
+    if (index == NULL)
+        return proved_destroy(handle);
+    move_handle(&index->passes[place], handle);
+    give_place(index, place);
+    return HOT_DONE;
+}
+
+hot_status hot_close_index(hot_index *index) {
+    size_t place;
+    for (place = 0; place < index->count; place++)
+        if (!take_place(index, place)) {
+            while (place > 0)
+                give_place(index, --place);
+            return HOT_OPEN;
+        }
+    for (place = 0; place < index->count; place++)
+        proved_destroy(&index->passes[place]);
+    free_index(index);
+    return HOT_DONE;
+}
+
+hot_status hot_destroy(hot_handle *handle) {
+    return hot_close(handle);
 }

@@ -1,31 +1,37 @@
 /* An ordered in-memory index from byte keys to 64-bit values, which threads use at the same time.
  *
- * hot_create makes an index and opens 1 to 64 handles on it. A handle is the right to use the index. Calls with different handles may
- * run at the same time; calls with the same handle may not. So give each thread its own handle, or hand a handle over by a lock, by a
- * thread's start or join, or by a sequentially consistent atomic. A call takes effect for all others at once, or not at all.
+ * hot_open_index makes an index, and hot_open opens a handle on it. A handle is the right to use the index. Calls with different
+ * handles may run at the same time; calls with the same handle may not. So give each thread its own handle, or hand a handle over by a
+ * lock, by a thread's start or join, or by a sequentially consistent atomic. A call takes effect for all others at once, or not at all.
  *
  * A key is 0 to HOT_MAX_KEY bytes of any value. Keys are ordered as by memcmp, and a key comes after its own prefixes. The index
  * copies keys: the memory of a key is yours again when the call returns.
  *
- * Any thread may close a handle once the handle's last call has returned, while calls with other handles go on. All handles of an
- * index are opened when it is made, and closing the last one frees it. So let each thread close its own when it is done, or join all
- * threads and then close all handles. A thread that ends leaves its handle open; another thread may go on using it, or close it.
+ * Any thread may close a handle once the handle's last call has returned, while calls with other handles go on. A thread that ends
+ * leaves its handle open; another thread may go on using it, or close it. hot_close_index frees an index whose handles are closed.
+ * hot_create makes an index and opens all its handles at once, and closing the last one frees it.
  *
  * When the index is full. A change writes new records before it retires those that it replaces. Retired records can be used again once
  * the calls that ran at that time, or began soon after, have returned: the next collection gives them back, and a change that finds no
- * record free makes a collection itself before it answers HOT_FULL_NODES or HOT_FULL_LEAVES. If no other call is running, the index
- * stays full until keys are removed. If others are running, records may come back when they return: keep some records to spare, and
- * try a refused change again after a while. A thread that is stopped in the middle of a call, even of a look-up or a scan, may hold
- * back everything that is retired meanwhile.
+ * record free makes a collection itself, tries again, and then counts all records. If it finds each record that it could use in use, it
+ * returns HOT_FULL_NODES or HOT_FULL_LEAVES: keys must be removed first. If it finds one free, claimed by a change that is under way,
+ * or retired, other calls hold records back, and it is to be tried again: hot_insert and the like do so, and hot_try_insert and the like
+ * return HOT_HELD_BACK. A thread that is stopped in the middle of a call, even of a look-up or a scan, may hold back everything that is
+ * retired meanwhile. The count loads one record after another: with a handful of records to spare, changes that are under way may
+ * have a few of them in use for a moment.
  *
- * What the library relies on, and doesn't check. No pointer is NULL, not even a key's if its length is 0; each points to what its type
- * says, and what a call writes overlaps no other argument. A handle is zeroed before hot_create, and the program never copies, moves
- * or writes its bytes. malloc, realloc and free belong to one allocator. No call is made from a signal handler, or after a fork in the
- * child of a process with threads.
+ * Keys in calls. A key, a prefix or an end of a range that has more than HOT_MAX_KEY bytes is refused as HOT_KEY_TOO_LONG by each call.
+ * The value that a key had is written to `had` if the call says so, and else `had` stays as it is; it may be NULL, if it is not wanted.
  *
- * A call fails only by its status. None waits for another, except hot_insert, hot_upsert, hot_exchange, hot_remove and hot_remove_if.
- * Each other call ends after a bounded number of steps, whatever other threads do: a step is one atomic access to a word of the
- * index. Each call below that makes steps gives its bound, for the worst tree that there can be.
+ * What the library relies on, and doesn't check. No pointer is NULL but `had`, not even a key's if its length is 0; each points to what
+ * its type says, and what a call writes overlaps no other argument. A handle is zeroed before it is opened, and the program never copies,
+ * moves or writes its bytes. malloc, realloc and free belong to one allocator. No call is made from a signal handler, or after a fork in
+ * the child of a process with threads. A call has 48 KiB of stack.
+ *
+ * A call fails only by its status. None waits for another, except hot_insert, hot_upsert, hot_exchange, hot_remove, hot_remove_if and
+ * hot_add, and hot_copy and hot_clear, which make such calls. Each other call ends after a bounded number of steps, whatever other
+ * threads do: a step is one atomic access to a word of the index. Each call below that makes steps gives its bound, for the worst
+ * tree that there can be.
  *
  * Each handle has memory for the pairs of its scans, which the next scan uses again. After a scan it goes if the keys have more than
  * 32 KiB of it, or the rest has. So a handle keeps 64 KiB at most between its calls.
@@ -44,15 +50,23 @@ extern "C" {
 #endif
 
 /* The version of this header. A program that is right with an earlier version of the same major number is right with this one. */
-#define HOT_VERSION_MAJOR 1
-#define HOT_VERSION_MINOR 6
+#define HOT_VERSION_MAJOR 2
+#define HOT_VERSION_MINOR 0
 #define HOT_VERSION_PATCH 0
+
+/* The version of the library that is linked: 65536 times the major number, 256 times the minor one, and the patch. */
+uint32_t hot_version(void);
 
 /* The greatest length of a key, in bytes. */
 #define HOT_MAX_KEY 240
 
-/* How a call came out. Each call says which of these it answers. From HOT_BUSY to HOT_NO_MEMORY the call was refused and changed
- * nothing; with any other status it was made. */
+/* The greatest key, HOT_MAX_KEY bytes of 255; and both arguments of an upper bound that lets a range go on to the end, as in
+ * hot_scan(handle, key, length, HOT_TO_END, ..). A lower bound of no bytes lets it begin with the first key. */
+extern const uint8_t hot_last_key[HOT_MAX_KEY];
+#define HOT_TO_END hot_last_key, HOT_MAX_KEY
+
+/* How a call came out. Each call says which of these it returns. From HOT_BUSY to HOT_NO_MEMORY, and from HOT_HELD_BACK on, the call
+ * was refused and changed nothing; with any other status it was made. */
 typedef uint32_t hot_status;
 enum {
     HOT_DONE = 0,          /* it was made; there is nothing else to tell */
@@ -64,19 +78,24 @@ enum {
     HOT_WAS = 6,           /* the key had this value, and has the new one */
     HOT_REMOVED = 7,       /* the key had this value, and is gone */
     HOT_BUSY = 8,          /* another call is in the way: try again */
-    HOT_FULL_NODES = 9,    /* too few node records were free, even after a collection; if other calls run, try later */
-    HOT_FULL_LEAVES = 10,  /* no leaf record was free, in the same way */
-    HOT_KEY_TOO_LONG = 11, /* a key has more than HOT_MAX_KEY bytes */
+    HOT_FULL_NODES = 9,    /* too few node records were free, and a count found all in use */
+    HOT_FULL_LEAVES = 10,  /* no leaf record was free, and a count found all in use that have room for the key */
+    HOT_KEY_TOO_LONG = 11, /* a key has more than HOT_MAX_KEY bytes, or is to be put in and no leaf record has room for it */
     HOT_CLOSED = 12,       /* the handle is closed */
     HOT_OPEN = 13,         /* a handle that was to be opened is open */
     HOT_OUT_OF_RANGE = 14, /* the number of handles, nodes or leaves is out of range */
     HOT_NO_MEMORY = 15,
     HOT_EXCHANGED = 16,    /* the key had the expected value, and has the new one */
-    HOT_DIFFERS = 17       /* the key has this value, which is not the expected one, and keeps it */
+    HOT_DIFFERS = 17,      /* the key has this value, which is not the expected one, and keeps it */
+    HOT_HELD_BACK = 18,    /* too few records were free, but other calls hold some back: try again */
+    HOT_NO_HANDLE = 19     /* all handles of the index are open */
 };
 
 /* A few words of English for a status. The text is static; a number that is no status has a text too. */
 const char *hot_status_text(hot_status status);
+
+/* An index whose handles are opened one by one. */
+typedef struct hot_index hot_index;
 
 /* A handle. Its fields are the library's. */
 typedef struct hot_handle {
@@ -84,10 +103,11 @@ typedef struct hot_handle {
     struct {
         void *at;
     } slot;
+    hot_index *index;
 } hot_handle;
 
-/* A handle before hot_create: hot_handle handles[2] = { HOT_HANDLE, HOT_HANDLE }; */
-#define HOT_HANDLE { 0, { NULL } }
+/* A closed handle: hot_handle handles[2] = { HOT_HANDLE, HOT_HANDLE }; */
+#define HOT_HANDLE { 0, { NULL }, NULL }
 
 /* A key with its value. The first `length` bytes of `key` are the key. */
 typedef struct hot_pair {
@@ -99,7 +119,8 @@ typedef struct hot_pair {
 /* Makes an empty index and opens `count` handles on it, 1 to 64; all must be closed before. The index has `nodes` node records, 1 to
  * 65535, and `leaves` leaf records, 1 to 262143. Each key takes one leaf record; a node record holds 2 to 32 keys or nodes. Have some
  * of both to spare, since a change builds the new before it gives the old back.
- * HOT_DONE; or HOT_OPEN, HOT_OUT_OF_RANGE or HOT_NO_MEMORY, and then no handle was opened. */
+ * HOT_DONE; or HOT_OUT_OF_RANGE, for which it looks before it looks at the handles, HOT_OPEN or HOT_NO_MEMORY, and then no handle was
+ * opened. */
 hot_status hot_create(uint32_t nodes, uint32_t leaves, hot_handle *handles, size_t count);
 
 /* How many records of each size an index has. A key takes a leaf record of the smallest size with room for it, or a larger one where
@@ -115,7 +136,7 @@ typedef struct hot_stock {
 
 /* Makes an empty index with this stock and opens `count` handles on it, 1 to 1024; all must be closed before. It has 1 to 4294967295
  * nodes, and 1 to 4294967295 leaves of all sizes together. (The leaves that hot_create makes are all long.)
- * HOT_DONE; or HOT_OPEN, HOT_OUT_OF_RANGE or HOT_NO_MEMORY, and then no handle was opened. */
+ * HOT_DONE; or HOT_OUT_OF_RANGE, HOT_OPEN or HOT_NO_MEMORY, as hot_create. */
 hot_status hot_create_with(const hot_stock *stock, hot_handle *handles, size_t count);
 
 /* Writes a stock for `keys` keys of at most `longest` bytes each: 9 leaves for 8 keys, of the smallest size with room for such a key,
@@ -124,12 +145,33 @@ hot_status hot_create_with(const hot_stock *stock, hot_handle *handles, size_t c
  * that are long chains of prefixes may take up to one node each. */
 void hot_stock_for_keys(uint32_t keys, size_t longest, hot_stock *stock);
 
+/* Writes a stock for keys of different lengths: `keys` has five numbers, of keys of up to 8, 24, 56, 88 and HOT_MAX_KEY bytes. For each
+ * that is not 0 it has as many leaves as hot_stock_for_keys would give, and nodes for all keys together. */
+void hot_stock_for_lengths(const uint32_t *keys, hot_stock *stock);
+
 /* Writes how many bytes the records and pins of an index with this stock and this number of handles take. While it is being made, an
  * index takes twice that.
  * HOT_DONE; or HOT_OUT_OF_RANGE, where hot_create_with would answer that. */
 hot_status hot_stock_bytes(const hot_stock *stock, size_t handles, size_t *bytes);
 
-/* Writes a handle's number: its place in the array that was opened.
+/* Makes an empty index with this stock and room for so many handles, 1 to 1024, and writes it to `index`.
+ * HOT_DONE; or HOT_OUT_OF_RANGE or HOT_NO_MEMORY, and then nothing is written. */
+hot_status hot_open_index(const hot_stock *stock, size_t handles, hot_index **index);
+
+/* Opens a handle of the index, at any time and from any thread. It looks at no more than one word for each handle of the index.
+ * HOT_DONE; or HOT_OPEN if the handle is open already, or HOT_NO_HANDLE if it found none that was free. */
+hot_status hot_open(hot_index *index, hot_handle *handle);
+
+/* Gives a handle of hot_open back to its index, from any thread: hot_open may then give it out again, with what it keeps for its scans.
+ * It closes a handle of hot_create as hot_destroy does.
+ * HOT_DONE; or HOT_CLOSED if it is closed already. */
+hot_status hot_close(hot_handle *handle);
+
+/* Frees an index of hot_open_index. No other call with it may be under way, or follow.
+ * HOT_DONE; or HOT_OPEN if a handle is open, and then it stays as it is. */
+hot_status hot_close_index(hot_index *index);
+
+/* Writes a handle's number: its place in the array that was opened, or among the handles of its index.
  * HOT_DONE; or HOT_CLOSED. */
 hot_status hot_number(hot_handle *handle, uint16_t *number);
 
@@ -153,31 +195,37 @@ typedef struct hot_lookup {
  * HOT_DONE; or HOT_KEY_TOO_LONG if any key is, HOT_CLOSED, HOT_NO_MEMORY, and then nothing was written. */
 hot_status hot_get_many(hot_handle *handle, hot_lookup *lookups, size_t count);
 
+/* hot_get_many of keys that lie one after another in `bytes`, each of so many bytes as `lengths` says: writes a value, if there is one,
+ * and a status for each. It makes a hot_get_many for each 64 keys.
+ * HOT_DONE; or HOT_KEY_TOO_LONG if any key is, and then nothing was written; or HOT_CLOSED, HOT_NO_MEMORY, and then the rest was not. */
+hot_status hot_get_packed(hot_handle *handle, const uint8_t *bytes, const size_t *lengths, size_t count, uint64_t *values,
+                          hot_status *statuses);
+
 /* Gives a key a value if it is absent. If it is there, it keeps its value, which is written to `had`. This and each other call
- * hot_try_.. makes at most 1396470 steps, 2 for each handle of the index, 6 for each node record and 10 for each leaf record.
- * HOT_INSERTED, HOT_EXISTS; or HOT_BUSY, HOT_FULL_NODES, HOT_FULL_LEAVES, HOT_KEY_TOO_LONG, HOT_CLOSED. */
+ * hot_try_.. makes at most 1396470 steps, 2 for each handle of the index, 7 for each node record and 11 for each leaf record.
+ * HOT_INSERTED, HOT_EXISTS; or HOT_BUSY, HOT_HELD_BACK, HOT_FULL_NODES, HOT_FULL_LEAVES, HOT_KEY_TOO_LONG, HOT_CLOSED. */
 hot_status hot_try_insert(hot_handle *handle, const uint8_t *key, size_t length, uint64_t value, uint64_t *had);
 
 /* Gives a key a value. If it had one before, that is written to `had`.
- * HOT_NEW, HOT_WAS; or HOT_BUSY, HOT_FULL_NODES, HOT_FULL_LEAVES, HOT_KEY_TOO_LONG, HOT_CLOSED. */
+ * HOT_NEW, HOT_WAS; or HOT_BUSY, HOT_HELD_BACK, HOT_FULL_NODES, HOT_FULL_LEAVES, HOT_KEY_TOO_LONG, HOT_CLOSED. */
 hot_status hot_try_upsert(hot_handle *handle, const uint8_t *key, size_t length, uint64_t value, uint64_t *had);
 
 /* Compare and exchange: gives a key a new value if it has the expected one. If it has another, it keeps that, which is written to
  * `had`.
- * HOT_EXCHANGED, HOT_DIFFERS, HOT_ABSENT; or HOT_BUSY, HOT_FULL_NODES, HOT_FULL_LEAVES, HOT_KEY_TOO_LONG, HOT_CLOSED. */
+ * HOT_EXCHANGED, HOT_DIFFERS, HOT_ABSENT; or HOT_BUSY, HOT_HELD_BACK, HOT_FULL_NODES, HOT_FULL_LEAVES, HOT_KEY_TOO_LONG, HOT_CLOSED. */
 hot_status hot_try_exchange(hot_handle *handle, const uint8_t *key, size_t length, uint64_t expected, uint64_t value, uint64_t *had);
 
 /* Removes a key. If it had a value, that is written to `had`.
- * HOT_REMOVED, HOT_ABSENT; or HOT_BUSY, HOT_FULL_NODES, HOT_KEY_TOO_LONG, HOT_CLOSED. */
+ * HOT_REMOVED, HOT_ABSENT; or HOT_BUSY, HOT_HELD_BACK, HOT_FULL_NODES, HOT_KEY_TOO_LONG, HOT_CLOSED. */
 hot_status hot_try_remove(hot_handle *handle, const uint8_t *key, size_t length, uint64_t *had);
 
 /* Removes a key if it has the expected value. The value that it had, or has and keeps, is written to `had`.
- * HOT_REMOVED, HOT_DIFFERS, HOT_ABSENT; or HOT_BUSY, HOT_FULL_NODES, HOT_KEY_TOO_LONG, HOT_CLOSED. */
+ * HOT_REMOVED, HOT_DIFFERS, HOT_ABSENT; or HOT_BUSY, HOT_HELD_BACK, HOT_FULL_NODES, HOT_KEY_TOO_LONG, HOT_CLOSED. */
 hot_status hot_try_remove_if(hot_handle *handle, const uint8_t *key, size_t length, uint64_t expected, uint64_t *had);
 
-/* hot_try_insert, hot_try_upsert and hot_try_remove, repeated as long as they are busy, with a sched_yield between two tries. If the
- * index is full, they say so at once. There is no bound on how long they wait: a thread that is stopped in the middle of a change
- * keeps others waiting that want to change the same nodes. They write and answer what those do, except HOT_BUSY. */
+/* hot_try_insert, hot_try_upsert and hot_try_remove, repeated as long as another call is in the way or holds records back, with a
+ * sched_yield between two tries. There is no bound on how long they wait: a thread that is stopped in the middle of a change keeps
+ * others waiting that want to change the same nodes. They write and return what those do, except HOT_BUSY and HOT_HELD_BACK. */
 hot_status hot_insert(hot_handle *handle, const uint8_t *key, size_t length, uint64_t value, uint64_t *had);
 hot_status hot_upsert(hot_handle *handle, const uint8_t *key, size_t length, uint64_t value, uint64_t *had);
 hot_status hot_remove(hot_handle *handle, const uint8_t *key, size_t length, uint64_t *had);
@@ -186,42 +234,58 @@ hot_status hot_remove(hot_handle *handle, const uint8_t *key, size_t length, uin
 hot_status hot_exchange(hot_handle *handle, const uint8_t *key, size_t length, uint64_t expected, uint64_t value, uint64_t *had);
 hot_status hot_remove_if(hot_handle *handle, const uint8_t *key, size_t length, uint64_t expected, uint64_t *had);
 
+/* Adds to the value of a key that is there, modulo 2 to the power of 64, and writes the value before to `had`. It looks the key up, and
+ * makes a compare and exchange from the value that it finds; where another call has changed that meanwhile, it is busy or begins again.
+ * So it makes at most 56196 steps more than hot_try_exchange may; and hot_add waits where hot_exchange does.
+ * HOT_WAS, HOT_ABSENT; or what hot_try_exchange or hot_exchange returns that is refused. */
+hot_status hot_try_add(hot_handle *handle, const uint8_t *key, size_t length, uint64_t delta, uint64_t *had);
+hot_status hot_add(hot_handle *handle, const uint8_t *key, size_t length, uint64_t delta, uint64_t *had);
+
+/* Removes all keys, page by page, as hot_remove does. A key that another call puts in meanwhile may stay.
+ * HOT_DONE; or HOT_CLOSED, HOT_NO_MEMORY or HOT_FULL_NODES, and then some keys are left. */
+hot_status hot_clear(hot_handle *handle);
+
+/* Gives each key of one index its value in another, in key order and page by page, as hot_scan and hot_upsert do. What other calls
+ * change in the first one meanwhile is copied or not.
+ * HOT_DONE; or HOT_CLOSED, HOT_NO_MEMORY, HOT_FULL_NODES, HOT_FULL_LEAVES or HOT_KEY_TOO_LONG, and then the rest was not copied. */
+hot_status hot_copy(hot_handle *from, hot_handle *to);
+
 /* Lists the pairs whose keys are from `from` to `upto`, both included, in key order: the first `limit` of them, for which the
  * array `pairs` has room. Writes their number to `count`, and 1 to `more` if the range has more, else 0. Other calls may change
  * the index meanwhile: each pair was there at some moment of the call, and no key is missing that was there all along (if there
- * are more, no key up to the last one listed). To go on, begin at the key that hot_after gives for the last pair. It makes at
- * most 168607 steps, and 60 for each pair of the limit.
+ * are more, no key up to the last one listed). A range whose `from` is above its `upto` has no pairs. To go on, begin at the key
+ * that hot_after gives for the last pair's. It makes at most 168607 steps, and 60 for each pair of the limit.
  * HOT_DONE; or HOT_KEY_TOO_LONG, HOT_CLOSED, HOT_NO_MEMORY (only if it had a pair to list), and then nothing was written. */
 hot_status hot_scan(hot_handle *handle, const uint8_t *from, size_t from_length, const uint8_t *upto, size_t upto_length,
                     hot_pair *pairs, size_t limit, size_t *count, uint32_t *more);
 
-/* Writes the least possible key above the pair's, at which a scan can go on, to `key`, which has room for HOT_MAX_KEY bytes, and its
- * length. The key need not be in the index.
- * HOT_DONE; or HOT_ABSENT if no key comes after the pair's, and then nothing was written. */
-hot_status hot_after(const hot_pair *pair, uint8_t *key, size_t *length);
+/* Writes the least possible key above this one, at which a scan can go on, to `next`, which has room for HOT_MAX_KEY bytes, and its
+ * length. The keys need not be in the index.
+ * HOT_DONE; or HOT_ABSENT if no key comes after this one, or HOT_KEY_TOO_LONG, and then nothing was written. */
+hot_status hot_after(const uint8_t *key, size_t length, uint8_t *next, size_t *next_length);
 
 /* hot_scan from the end downwards: lists the pairs whose keys are from `from` to `upto`, both included, in falling key order:
  * the last `limit` of them. Writes 1 to `more` if the range has more below, else 0. No key is missing that was there all along
- * (if there are more, no key down to the last one listed). To go on, end at the key that hot_before gives for the last pair. It
+ * (if there are more, no key down to the last one listed). To go on, end at the key that hot_before gives for the last pair's. It
  * answers what hot_scan does, and makes no more steps than hot_scan may. */
 hot_status hot_scan_reverse(hot_handle *handle, const uint8_t *from, size_t from_length, const uint8_t *upto, size_t upto_length,
                             hot_pair *pairs, size_t limit, size_t *count, uint32_t *more);
 
 /* hot_scan_reverse with its pairs in rising key order: lists the last `limit` pairs whose keys are from `from` to `upto`, both
  * included. Writes 1 to `more` if the range has more below, else 0. To go on, end at the key that hot_before gives for the first
- * pair. It answers what hot_scan does, and makes no more steps than hot_scan may. */
+ * pair's. It answers what hot_scan does, and makes no more steps than hot_scan may. */
 hot_status hot_scan_last(hot_handle *handle, const uint8_t *from, size_t from_length, const uint8_t *upto, size_t upto_length,
                          hot_pair *pairs, size_t limit, size_t *count, uint32_t *more);
 
-/* Writes the greatest possible key below the pair's, at which a scan downwards can go on, to `key`, which has room for HOT_MAX_KEY
- * bytes, and its length. The key need not be in the index.
- * HOT_DONE; or HOT_ABSENT if the pair's key is the empty one, which has no key below it, and then nothing was written. */
-hot_status hot_before(const hot_pair *pair, uint8_t *key, size_t *length);
+/* Writes the greatest possible key below this one, at which a scan downwards can go on, to `previous`, which has room for HOT_MAX_KEY
+ * bytes, and its length. The keys need not be in the index.
+ * HOT_DONE; or HOT_ABSENT if this key is the empty one, which has no key below it, or HOT_KEY_TOO_LONG, and then nothing was written. */
+hot_status hot_before(const uint8_t *key, size_t length, uint8_t *previous, size_t *previous_length);
 
-/* hot_scan of the keys that begin with the prefix, or of all keys if it is empty: from the first one if `after` is NULL, else
- * from the one after that pair's, such as the last pair of an earlier call. It writes and answers what hot_scan does, by as many
- * steps at most. */
-hot_status hot_scan_prefix(hot_handle *handle, const uint8_t *prefix, size_t length, const hot_pair *after,
+/* hot_scan of the keys that begin with the prefix, or of all keys if it is empty: from the first one if `after` is NULL, else from
+ * the one after that key, such as the last one of an earlier call. It writes and answers what hot_scan does, by as many steps at
+ * most. */
+hot_status hot_scan_prefix(hot_handle *handle, const uint8_t *prefix, size_t length, const uint8_t *after, size_t after_length,
                            hot_pair *pairs, size_t limit, size_t *count, uint32_t *more);
 
 /* The head of a packed pair: how many bytes its key has, and its value. */
@@ -235,9 +299,15 @@ typedef struct hot_head {
  * these only the first whose keys have `room` bytes together at most: a room of HOT_MAX_KEY bytes for each pair is always enough, and
  * with one for a single key a call gets on. Writes 1 to `more` if the range has more than it wrote, else 0. What it wrote is a scan
  * for as many pairs: no key is missing, up to the last one written, that was there all along. To go on, begin at the key that
- * hot_after gives for a pair with the last key. It answers what hot_scan does, and makes no more steps than hot_scan may. */
+ * hot_after gives for the last one. It answers what hot_scan does, and makes no more steps than hot_scan may. */
 hot_status hot_scan_packed(hot_handle *handle, const uint8_t *from, size_t from_length, const uint8_t *upto, size_t upto_length,
                            uint8_t *bytes, size_t room, hot_head *heads, size_t limit, size_t *count, uint32_t *more);
+
+/* hot_scan_packed from the end downwards: lists the last pairs, in falling key order, packed in the same way. Writes 1 to `more` if the
+ * range has more below than it wrote, else 0. To go on, end at the key that hot_before gives for the last one. It answers what hot_scan
+ * does, and makes no more steps than hot_scan may. */
+hot_status hot_scan_packed_reverse(hot_handle *handle, const uint8_t *from, size_t from_length, const uint8_t *upto, size_t upto_length,
+                                   uint8_t *bytes, size_t room, hot_head *heads, size_t limit, size_t *count, uint32_t *more);
 
 /* What a call hands pairs to: `pair` is there until the function returns. It answers 0 to end the call. */
 typedef int hot_visitor(void *context, const hot_pair *pair);
@@ -256,8 +326,8 @@ hot_status hot_each(hot_handle *handle, const uint8_t *from, size_t from_length,
  * HOT_FOUND, HOT_ABSENT; or HOT_KEY_TOO_LONG, HOT_CLOSED, HOT_NO_MEMORY (only if there was a pair). */
 hot_status hot_first(hot_handle *handle, const uint8_t *from, size_t length, hot_pair *pair);
 
-/* Writes the last pair whose key is `upto` or below, by a scan downwards for one pair; up to a key of HOT_MAX_KEY bytes of 255,
- * that is the last pair of all. Nothing is written unless it is found. It makes at most 168667 steps.
+/* Writes the last pair whose key is `upto` or below, by a scan downwards for one pair; up to HOT_TO_END that is the last pair of all.
+ * Nothing is written unless it is found. It makes at most 168667 steps.
  * HOT_FOUND, HOT_ABSENT; or HOT_KEY_TOO_LONG, HOT_CLOSED, HOT_NO_MEMORY (only if there was a pair). */
 hot_status hot_last(hot_handle *handle, const uint8_t *upto, size_t length, hot_pair *pair);
 
@@ -293,8 +363,13 @@ typedef struct hot_counts {
  * HOT_DONE; or HOT_CLOSED. */
 hot_status hot_census(hot_handle *handle, hot_counts *counts);
 
-/* Closes a handle, from any thread and in any order. Closing the last one frees the index. A closed handle may be given to hot_create
- * again.
+/* Counts the keys of the handle's index, each of which has one leaf record: all leaves that are in use, by hot_census. So it makes a
+ * step for each record. The number is exact where nobody changes the index meanwhile.
+ * HOT_DONE; or HOT_CLOSED. */
+hot_status hot_len(hot_handle *handle, size_t *count);
+
+/* Closes a handle of hot_create or hot_create_with, from any thread and in any order. Closing the last one frees the index. A closed
+ * handle may be given to hot_create again. It gives a handle of hot_open back, as hot_close does.
  * HOT_DONE; or HOT_CLOSED if it is closed already. */
 hot_status hot_destroy(hot_handle *handle);
 

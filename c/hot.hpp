@@ -12,11 +12,12 @@
 #include <stdexcept>
 #include <string>
 #include <string_view>
+#include <utility>
 #include <vector>
 
 namespace hot {
 
-/// How a change came out. If it is `busy` or full, it was refused and changed nothing.
+/// How a change came out. If it is `busy`, `held_back` or full, it was refused and changed nothing.
 enum class status : hot_status {
     inserted = HOT_INSERTED,
     exists = HOT_EXISTS,
@@ -28,16 +29,22 @@ enum class status : hot_status {
     differs = HOT_DIFFERS,
     busy = HOT_BUSY,
     full_nodes = HOT_FULL_NODES,
-    full_leaves = HOT_FULL_LEAVES
+    full_leaves = HOT_FULL_LEAVES,
+    held_back = HOT_HELD_BACK
 };
 
 /// A change's status, and the value that the key had, if it had one. For an exchange that was made this is the expected value.
 struct change {
     status what;
     std::optional<std::uint64_t> had;
-    bool is_refused() const { return what >= status::busy && what <= status::full_leaves; }
+    bool is_refused() const {
+        return what == status::busy || what == status::held_back || what == status::full_nodes || what == status::full_leaves;
+    }
     const char *text() const { return hot_status_text(static_cast<hot_status>(what)); }
 };
+
+/// A few words of English for a status.
+inline std::string to_string(status what) { return hot_status_text(static_cast<hot_status>(what)); }
 
 /// A key with its value.
 struct pair {
@@ -50,13 +57,16 @@ struct collected {
     std::uint32_t nodes, leaves;
 };
 
-/// Throws for each status that isn't an answer: std::length_error for a key of more than HOT_MAX_KEY bytes, std::bad_alloc,
-/// std::invalid_argument for numbers out of range, std::logic_error for handles that are closed or open.
+/// Throws for each status that isn't an answer: std::length_error for a key of more than HOT_MAX_KEY bytes, or one for which no leaf
+/// record has room; std::bad_alloc,
+/// std::invalid_argument for numbers out of range, std::logic_error for handles that are closed or open, std::runtime_error where no
+/// handle is free.
 inline void check(hot_status status) {
     switch (status) {
     case HOT_KEY_TOO_LONG: throw std::length_error(hot_status_text(status));
     case HOT_OUT_OF_RANGE: throw std::invalid_argument(hot_status_text(status));
     case HOT_NO_MEMORY: throw std::bad_alloc();
+    case HOT_NO_HANDLE: throw std::runtime_error(hot_status_text(status));
     case HOT_CLOSED:
     case HOT_OPEN: throw std::logic_error(hot_status_text(status));
     default: break;
@@ -125,7 +135,7 @@ class range {
             return false;
         std::uint8_t next[HOT_MAX_KEY];
         std::size_t length = 0;
-        if ((goes_ == order::rising ? hot_after : hot_before)(&page_[count_ - 1], next, &length) != HOT_DONE)
+        if ((goes_ == order::rising ? hot_after : hot_before)(page_[count_ - 1].key, page_[count_ - 1].length, next, &length) != HOT_DONE)
             return false;
         load({reinterpret_cast<const char *>(next), length});
         return count_ > 0;
@@ -195,6 +205,8 @@ class handle {
         return status == HOT_FOUND ? std::optional(value) : std::nullopt;
     }
 
+    bool contains(std::string_view key) { return get(key).has_value(); }
+
     /// Looks up many keys, in turn: hot_get_many.
     std::vector<std::optional<std::uint64_t>> get_many(const std::vector<std::string_view> &keys) {
         std::vector<hot_lookup> lookups;
@@ -208,7 +220,8 @@ class handle {
         return found;
     }
 
-    /// Give a key a value if it is absent; give a key a value; remove a key. Each waits while other calls are in its way.
+    /// Give a key a value if it is absent; give a key a value; remove a key. Each waits while other calls are in its way or hold
+    /// records back.
     change insert(std::string_view key, std::uint64_t value) { return put(hot_insert, key, value); }
     change upsert(std::string_view key, std::uint64_t value) { return put(hot_upsert, key, value); }
     change remove(std::string_view key) { return take(hot_remove, key); }
@@ -220,7 +233,10 @@ class handle {
     }
     change remove_if(std::string_view key, std::uint64_t expected) { return put(hot_remove_if, key, expected); }
 
-    /// The same calls, tried once: they may answer `busy`.
+    /// Adds to the value of a key that is there, modulo 2 to the power of 64: hot_add.
+    change add(std::string_view key, std::uint64_t delta) { return put(hot_add, key, delta); }
+
+    /// The same calls, tried once: they may answer `busy` or `held_back`.
     change try_insert(std::string_view key, std::uint64_t value) { return put(hot_try_insert, key, value); }
     change try_upsert(std::string_view key, std::uint64_t value) { return put(hot_try_upsert, key, value); }
     change try_remove(std::string_view key) { return take(hot_try_remove, key); }
@@ -228,6 +244,19 @@ class handle {
         return put_if(hot_try_exchange, key, expected, value);
     }
     change try_remove_if(std::string_view key, std::uint64_t expected) { return put(hot_try_remove_if, key, expected); }
+    change try_add(std::string_view key, std::uint64_t delta) { return put(hot_try_add, key, delta); }
+
+    /// The first pair from a key on, and the last one up to a key: hot_first, hot_last.
+    std::optional<std::pair<std::string, std::uint64_t>> first(std::string_view from = {}) { return end_of(hot_first, from); }
+    std::optional<std::pair<std::string, std::uint64_t>> last(std::string_view upto) { return end_of(hot_last, upto); }
+    std::optional<std::pair<std::string, std::uint64_t>> last() { return last(std::string(HOT_MAX_KEY, '\xff')); }
+
+    /// How many keys there are: hot_len.
+    std::size_t size() {
+        std::size_t count = 0;
+        check(hot_len(it(), &count));
+        return count;
+    }
 
     /// The pairs from one key to another, both included; those from a key on; those whose keys begin with a prefix.
     range scan(std::string_view from, std::string_view upto, std::size_t pairs = page) { return range(it(), from, upto, pairs); }
@@ -237,10 +266,11 @@ class handle {
         return scan(prefix, std::string(prefix).append(left, '\xff'));
     }
 
-    /// Fills a page with the first pairs from one key to another, both included: hot_scan_packed.
-    void scan_packed(std::string_view from, std::string_view upto, packed &into) {
-        check(hot_scan_packed(it(), bytes(from), from.size(), bytes(upto), upto.size(), into.keys_.data(), into.keys_.size() - 1,
-                              into.heads_.data(), into.heads_.size() - 1, &into.count_, &into.more_));
+    /// Fills a page with the first pairs from one key to another, both included, or with the last ones, the greatest key first:
+    /// hot_scan_packed, hot_scan_packed_reverse.
+    void scan_packed(std::string_view from, std::string_view upto, packed &into) { fill(hot_scan_packed, from, upto, into); }
+    void scan_packed_reverse(std::string_view from, std::string_view upto, packed &into) {
+        fill(hot_scan_packed_reverse, from, upto, into);
     }
 
     /// The pairs from one key to another, both included, the greatest key first; and all pairs in that order.
@@ -268,15 +298,19 @@ class handle {
     }
 
   private:
+    friend class index;
     friend std::vector<handle> create(std::uint32_t nodes, std::uint32_t leaves, std::size_t count);
     friend std::vector<handle> create(const hot_stock &stock, std::size_t count);
 
-    // The handles of an index are in one array, which each of them keeps alive, since a hot_handle must not move.
+    // A handle lies in an array, of its own or of those that were opened with it, which it keeps alive, since a hot_handle must not move;
+    // and so it does with the index that it was opened on.
     struct closer {
         std::shared_ptr<hot_handle[]> all;
-        void operator()(hot_handle *it) const { hot_destroy(it); }
+        std::shared_ptr<hot_index> of;
+        void operator()(hot_handle *it) const { hot_close(it); }
     };
-    handle(hot_handle *it, std::shared_ptr<hot_handle[]> all) : it_(it, closer{std::move(all)}) {}
+    handle(hot_handle *it, std::shared_ptr<hot_handle[]> all, std::shared_ptr<hot_index> of = nullptr)
+        : it_(it, closer{std::move(all), std::move(of)}) {}
 
     // The handles that `open` opens in a new array.
     template <class Open> static std::vector<handle> opened(std::size_t count, Open open) {
@@ -294,6 +328,10 @@ class handle {
             check(HOT_CLOSED);
         return it_.get();
     }
+    template <class Scan> void fill(Scan scan, std::string_view from, std::string_view upto, packed &into) {
+        check(scan(it(), bytes(from), from.size(), bytes(upto), upto.size(), into.keys_.data(), into.keys_.size() - 1, into.heads_.data(),
+                   into.heads_.size() - 1, &into.count_, &into.more_));
+    }
     template <class Call> change put(Call call, std::string_view key, std::uint64_t value) {
         std::uint64_t had = 0;
         const hot_status status = call(it(), bytes(key), key.size(), value, &had);
@@ -308,6 +346,14 @@ class handle {
         std::uint64_t had = 0;
         const hot_status status = call(it(), bytes(key), key.size(), &had);
         return told(status, had);
+    }
+    template <class Find> std::optional<std::pair<std::string, std::uint64_t>> end_of(Find find, std::string_view key) {
+        hot_pair found;
+        const hot_status status = find(it(), bytes(key), key.size(), &found);
+        check(status);
+        if (status != HOT_FOUND)
+            return std::nullopt;
+        return std::pair(std::string(reinterpret_cast<const char *>(found.key), found.length), found.value);
     }
     static change told(hot_status status, std::uint64_t had) {
         check(status);
@@ -325,6 +371,31 @@ class handle {
     }
 
     std::unique_ptr<hot_handle, closer> it_;
+};
+
+/// An index that opens handles at any time, from any thread. It can be moved. It is freed when it and all its handles are gone.
+class index {
+  public:
+    /// Makes an empty index with this stock and room for so many handles, 1 to 1024. Throws std::invalid_argument, std::bad_alloc.
+    explicit index(const hot_stock &stock, std::size_t handles = 64) {
+        hot_index *made = nullptr;
+        check(hot_open_index(&stock, handles, &made));
+        it_.reset(made, hot_close_index);
+    }
+    index(index &&) = default;
+    index &operator=(index &&) = default;
+
+    /// Opens a handle. Throws std::runtime_error if all are open, std::logic_error if the index was moved from.
+    handle open() {
+        if (!it_)
+            check(HOT_CLOSED);
+        std::shared_ptr<hot_handle[]> own(new hot_handle[1]());
+        check(hot_open(it_.get(), own.get()));
+        return handle(own.get(), own, it_);
+    }
+
+  private:
+    std::shared_ptr<hot_index> it_;
 };
 
 /// Makes an empty index with this number of node and leaf records, and `count` handles on it, 1 to 64. Destroying the last one

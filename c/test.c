@@ -138,24 +138,24 @@ static void test_prefix(void) {
     CHECK(hot_try_insert(&handle, bytes("ab"), 2, 2, &had) == HOT_INSERTED);
     CHECK(hot_try_insert(&handle, bytes("a\377\377"), 3, 3, &had) == HOT_INSERTED);
     CHECK(hot_try_insert(&handle, bytes("b"), 1, 4, &had) == HOT_INSERTED);
-    CHECK(hot_scan_prefix(&handle, bytes("a"), 1, NULL, pairs, 2, &count, &more) == HOT_DONE);
+    CHECK(hot_scan_prefix(&handle, bytes("a"), 1, NULL, 0, pairs, 2, &count, &more) == HOT_DONE);
     CHECK(count == 2 && more == 1 && pairs[0].value == 1 && pairs[1].value == 2);
-    CHECK(hot_scan_prefix(&handle, bytes("a"), 1, &pairs[1], pairs, 2, &count, &more) == HOT_DONE);
+    CHECK(hot_scan_prefix(&handle, bytes("a"), 1, pairs[1].key, pairs[1].length, pairs, 2, &count, &more) == HOT_DONE);
     CHECK(count == 1 && more == 0 && pairs[0].value == 3);
-    CHECK(hot_scan_prefix(&handle, bytes("a"), 1, &pairs[0], pairs, 2, &count, &more) == HOT_DONE && count == 0 && more == 0);
-    CHECK(hot_scan_prefix(&handle, bytes(""), 0, &pairs[0], pairs, 2, &count, &more) == HOT_DONE && count == 1 && pairs[0].value == 4);
+    CHECK(hot_scan_prefix(&handle, bytes("a"), 1, pairs[0].key, pairs[0].length, pairs, 2, &count, &more) == HOT_DONE && count == 0 && more == 0);
+    CHECK(hot_scan_prefix(&handle, bytes(""), 0, pairs[0].key, pairs[0].length, pairs, 2, &count, &more) == HOT_DONE && count == 1 && pairs[0].value == 4);
     CHECK(hot_first(&handle, bytes(""), 0, &pair) == HOT_FOUND && pair.value == 1);
-    CHECK(hot_scan_prefix(&handle, bytes("b"), 1, &pair, pairs, 2, &count, &more) == HOT_DONE && count == 1 && pairs[0].value == 4);
+    CHECK(hot_scan_prefix(&handle, bytes("b"), 1, pair.key, pair.length, pairs, 2, &count, &more) == HOT_DONE && count == 1 && pairs[0].value == 4);
     CHECK(hot_first(&handle, bytes("ac"), 2, &pair) == HOT_FOUND && pair.length == 3 && pair.value == 3);
     CHECK(hot_first(&handle, bytes("c"), 1, &pair) == HOT_ABSENT && pair.value == 3);
     CHECK(hot_try_insert(&handle, key, HOT_MAX_KEY, 5, &had) == HOT_INSERTED);
     CHECK(hot_first(&handle, key, HOT_MAX_KEY, &pair) == HOT_FOUND && pair.value == 5);
-    CHECK(hot_scan_prefix(&handle, bytes(""), 0, &pair, pairs, 2, &count, &more) == HOT_DONE && count == 0 && more == 0);
+    CHECK(hot_scan_prefix(&handle, bytes(""), 0, pair.key, pair.length, pairs, 2, &count, &more) == HOT_DONE && count == 0 && more == 0);
     count = 9;
-    CHECK(hot_scan_prefix(&handle, key, sizeof key, NULL, pairs, 2, &count, &more) == HOT_KEY_TOO_LONG && count == 9);
+    CHECK(hot_scan_prefix(&handle, key, sizeof key, NULL, 0, pairs, 2, &count, &more) == HOT_KEY_TOO_LONG && count == 9);
     CHECK(hot_first(&handle, key, sizeof key, &pair) == HOT_KEY_TOO_LONG);
     CHECK(hot_destroy(&handle) == HOT_DONE);
-    CHECK(hot_scan_prefix(&handle, bytes("a"), 1, NULL, pairs, 2, &count, &more) == HOT_CLOSED && count == 9);
+    CHECK(hot_scan_prefix(&handle, bytes("a"), 1, NULL, 0, pairs, 2, &count, &more) == HOT_CLOSED && count == 9);
     CHECK(hot_first(&handle, bytes("a"), 1, &pair) == HOT_CLOSED);
 }
 
@@ -212,7 +212,7 @@ static void test_packed(void) {
     CHECK(keys[3] == 0xee && heads[3].value == 0xeeeeeeeeeeeeeeee);
     memcpy(last.key, keys + 2, 1);
     last.length = heads[2].length;
-    CHECK(hot_after(&last, key, &length) == HOT_DONE && length == 2);
+    CHECK(hot_after(last.key, last.length, key, &length) == HOT_DONE && length == 2);
     memset(key + 2, 0xff, sizeof key - 2);
     memset(key, 'b', 2);
     CHECK(hot_scan_packed(&handle, key, 2, bytes("c"), 1, keys, 0, heads, 4, &count, &more) == HOT_DONE && count == 0 && more == 0);
@@ -220,6 +220,17 @@ static void test_packed(void) {
     CHECK(hot_scan_packed(&handle, bytes("b\0"), 2, key, HOT_MAX_KEY, keys, HOT_MAX_KEY, heads, 4, &count, &more) == HOT_DONE);
     CHECK(count == 1 && more == 0 && heads[0].length == HOT_MAX_KEY && heads[0].value == 4 && !memcmp(keys, key, HOT_MAX_KEY));
     CHECK(keys[HOT_MAX_KEY] == 0xee);
+    /* Downwards: as many as there are heads for, and on from there as many as there are bytes for. */
+    memset(keys, 0xee, sizeof keys);
+    CHECK(hot_scan_packed_reverse(&handle, bytes(""), 0, bytes("b"), 1, keys, sizeof keys, heads, 1, &count, &more) == HOT_DONE);
+    CHECK(count == 1 && more == 1 && heads[0].length == 1 && heads[0].value == 3 && keys[0] == 'b' && keys[1] == 0xee);
+    CHECK(hot_scan_packed_reverse(&handle, bytes(""), 0, HOT_TO_END, keys, HOT_MAX_KEY + 1, heads, 4, &count, &more) == HOT_DONE);
+    CHECK(count == 2 && more == 1 && heads[0].length == HOT_MAX_KEY && heads[0].value == 4 && heads[1].value == 3 && keys[HOT_MAX_KEY] == 'b');
+    CHECK(hot_before(bytes("b"), 1, key, &length) == HOT_DONE && length == HOT_MAX_KEY);
+    CHECK(hot_scan_packed_reverse(&handle, bytes(""), 0, key, length, keys, 2, heads, 4, &count, &more) == HOT_DONE && count == 2 && more == 0);
+    CHECK(heads[0].length == 2 && heads[0].value == 2 && heads[1].length == 0 && heads[1].value == 1 && !memcmp(keys, "aa", 2));
+    CHECK(hot_scan_packed_reverse(&handle, key, HOT_MAX_KEY + 1, HOT_TO_END, keys, 2, heads, 4, &count, &more) == HOT_KEY_TOO_LONG && count == 2);
+    memset(key, 0xff, sizeof key);
     /* A key of no bytes has room where none is, and no heads are room for none. */
     CHECK(hot_scan_packed(&handle, bytes(""), 0, bytes("b"), 1, keys, 0, heads, 4, &count, &more) == HOT_DONE && count == 1 && more == 1);
     CHECK(hot_scan_packed(&handle, bytes("a"), 1, bytes("b"), 1, keys, 1, heads, 4, &count, &more) == HOT_DONE && count == 0 && more == 1);
@@ -318,7 +329,7 @@ static void test_scan_reverse(void) {
     CHECK(pairs[0].length == 1 && pairs[0].key[0] == 'c' && pairs[0].value == 3);
     CHECK(pairs[1].length == 1 && pairs[1].key[0] == 'b' && pairs[1].value == 2);
     CHECK(pairs[2].length == 0xeeeeeeee && pairs[2].value == 0xeeeeeeeeeeeeeeee);
-    CHECK(hot_before(&pairs[1], key, &length) == HOT_DONE);
+    CHECK(hot_before(pairs[1].key, pairs[1].length, key, &length) == HOT_DONE);
     CHECK(hot_scan_reverse(&handle, bytes("a"), 1, key, length, pairs, 2, &count, &more) == HOT_DONE);
     CHECK(count == 1 && more == 0 && pairs[0].value == 1 && pairs[1].value == 2);
     CHECK(hot_scan_reverse(&handle, bytes("b"), 1, bytes("c"), 1, pairs, 3, &count, &more) == HOT_DONE);
@@ -357,7 +368,7 @@ static void test_scan_last(void) {
     CHECK(pairs[0].length == 1 && pairs[0].key[0] == 'b' && pairs[0].value == 2);
     CHECK(pairs[1].length == 1 && pairs[1].key[0] == 'c' && pairs[1].value == 3);
     CHECK(pairs[2].length == 0xeeeeeeee && pairs[2].value == 0xeeeeeeeeeeeeeeee);
-    CHECK(hot_before(&pairs[0], key, &length) == HOT_DONE);
+    CHECK(hot_before(pairs[0].key, pairs[0].length, key, &length) == HOT_DONE);
     CHECK(hot_scan_last(&handle, bytes("a"), 1, key, length, pairs, 2, &count, &more) == HOT_DONE);
     CHECK(count == 1 && more == 0 && pairs[0].value == 1 && pairs[1].value == 3);
     CHECK(hot_scan_last(&handle, bytes("b"), 1, bytes("c"), 1, pairs, 3, &count, &more) == HOT_DONE);
@@ -376,15 +387,17 @@ static void test_after(void) {
     size_t length = 9;
     memset(&pair, 'a', sizeof pair);
     pair.length = 2;
-    CHECK(hot_after(&pair, key, &length) == HOT_DONE && length == 3 && !memcmp(key, "aa", 3));
+    CHECK(hot_after(pair.key, pair.length, key, &length) == HOT_DONE && length == 3 && !memcmp(key, "aa", 3));
     pair.length = HOT_MAX_KEY - 1;
-    CHECK(hot_after(&pair, key, &length) == HOT_DONE && length == HOT_MAX_KEY && key[HOT_MAX_KEY - 1] == 0);
+    CHECK(hot_after(pair.key, pair.length, key, &length) == HOT_DONE && length == HOT_MAX_KEY && key[HOT_MAX_KEY - 1] == 0);
     pair.length = HOT_MAX_KEY;
-    CHECK(hot_after(&pair, key, &length) == HOT_DONE && length == HOT_MAX_KEY && key[HOT_MAX_KEY - 1] == 'b');
+    CHECK(hot_after(pair.key, pair.length, key, &length) == HOT_DONE && length == HOT_MAX_KEY && key[HOT_MAX_KEY - 1] == 'b');
     memset(pair.key + 3, 0xff, HOT_MAX_KEY - 3);
-    CHECK(hot_after(&pair, key, &length) == HOT_DONE && length == 3 && !memcmp(key, "aab", 3));
+    CHECK(hot_after(pair.key, pair.length, key, &length) == HOT_DONE && length == 3 && !memcmp(key, "aab", 3));
     memset(pair.key, 0xff, 3);
-    CHECK(hot_after(&pair, key, &length) == HOT_ABSENT && length == 3);
+    CHECK(hot_after(pair.key, pair.length, key, &length) == HOT_ABSENT && length == 3);
+    CHECK(hot_after((const uint8_t *)&pair, HOT_MAX_KEY + 1, key, &length) == HOT_KEY_TOO_LONG && length == 3);
+    CHECK(hot_before((const uint8_t *)&pair, HOT_MAX_KEY + 1, key, &length) == HOT_KEY_TOO_LONG && length == 3);
 }
 
 /* Where a scan downwards goes on: before a key that ends with a byte of 0, before another, and before the empty one. */
@@ -394,24 +407,24 @@ static void test_before(void) {
     size_t length = 9, at;
     memset(&pair, 'b', sizeof pair);
     pair.length = 2;
-    CHECK(hot_before(&pair, key, &length) == HOT_DONE && length == HOT_MAX_KEY && key[0] == 'b' && key[1] == 'a');
+    CHECK(hot_before(pair.key, pair.length, key, &length) == HOT_DONE && length == HOT_MAX_KEY && key[0] == 'b' && key[1] == 'a');
     for (at = 2; at < HOT_MAX_KEY; at++)
         CHECK(key[at] == 0xff);
     pair.key[1] = 0;
-    CHECK(hot_before(&pair, key, &length) == HOT_DONE && length == 1 && key[0] == 'b');
+    CHECK(hot_before(pair.key, pair.length, key, &length) == HOT_DONE && length == 1 && key[0] == 'b');
     pair.key[HOT_MAX_KEY - 1] = 1;
     pair.length = HOT_MAX_KEY;
-    CHECK(hot_before(&pair, key, &length) == HOT_DONE && length == HOT_MAX_KEY && !memcmp(key, pair.key, HOT_MAX_KEY - 1) && key[HOT_MAX_KEY - 1] == 0);
+    CHECK(hot_before(pair.key, pair.length, key, &length) == HOT_DONE && length == HOT_MAX_KEY && !memcmp(key, pair.key, HOT_MAX_KEY - 1) && key[HOT_MAX_KEY - 1] == 0);
     pair.length = 0;
-    CHECK(hot_before(&pair, key, &length) == HOT_ABSENT && length == HOT_MAX_KEY);
+    CHECK(hot_before(pair.key, pair.length, key, &length) == HOT_ABSENT && length == HOT_MAX_KEY);
 }
 
 /* Each status has a text, and what is none has another. */
 static void test_texts(void) {
-    for (hot_status one = HOT_DONE; one <= HOT_DIFFERS + 1; one++)
+    for (hot_status one = HOT_DONE; one <= HOT_NO_HANDLE + 1; one++)
         for (hot_status other = HOT_DONE; other < one; other++)
             CHECK(strcmp(hot_status_text(one), hot_status_text(other)));
-    CHECK(!strcmp(hot_status_text(UINT32_MAX), hot_status_text(HOT_DIFFERS + 1)));
+    CHECK(!strcmp(hot_status_text(UINT32_MAX), hot_status_text(HOT_NO_HANDLE + 1)));
 }
 
 /* Keys of the greatest length and beyond. */
@@ -473,7 +486,8 @@ static void test_stock(void) {
     CHECK(hot_create_with(&stock, &handle, 1) == HOT_DONE);
     CHECK(hot_create_with(&stock, &handle, 1) == HOT_OPEN);
     CHECK(hot_try_insert(&handle, key, 8, 1, &had) == HOT_INSERTED);
-    CHECK(hot_try_insert(&handle, key, 25, 2, &had) == HOT_FULL_LEAVES);
+    CHECK(hot_try_insert(&handle, key, 25, 2, &had) == HOT_KEY_TOO_LONG && hot_upsert(&handle, key, 25, 2, &had) == HOT_KEY_TOO_LONG);
+    CHECK(hot_try_remove(&handle, key, 25, &had) == HOT_ABSENT && hot_get(&handle, key, 25, &had) == HOT_ABSENT && had == 7);
     CHECK(hot_try_insert(&handle, key, 24, 2, &had) == HOT_INSERTED);
     CHECK(hot_try_insert(&handle, key, 7, 3, &had) == HOT_FULL_LEAVES);
     CHECK(hot_try_remove(&handle, key, 8, &had) == HOT_REMOVED && had == 1);
@@ -499,6 +513,15 @@ static void test_stock_sizes(void) {
         CHECK(hot_destroy(&handles[i]) == HOT_DONE);
     hot_stock_for_keys(8, 89, &stock);
     CHECK(stock.nodes == 513 && stock.long_leaves == 521 && !stock.short_leaves && !stock.wide_leaves);
+    {
+        static const uint32_t keys[5] = {8, 0, 80, 0, 1}, most[5] = {4294967295u, 4294967295u, 0, 0, 0};
+        hot_stock_for_lengths(keys, &stock);
+        CHECK(stock.nodes == 523 && stock.short_leaves == 521 && !stock.medium_leaves && stock.large_leaves == 602);
+        CHECK(!stock.wide_leaves && stock.long_leaves == 513);
+        hot_stock_for_lengths(most, &stock);
+        CHECK(hot_create_with(&stock, handles, 1) == HOT_OUT_OF_RANGE);
+        hot_stock_for_keys(8, 89, &stock);
+    }
     stock.medium_leaves = 4294967295u;
     CHECK(hot_create_with(&stock, handles, 1) == HOT_OUT_OF_RANGE);
     stock.medium_leaves = stock.nodes = 0;
@@ -527,6 +550,7 @@ static void check_closed(hot_handle *handle) {
 
 /* Making and closing: numbers out of range, handles that are open, any order of closing, and opening again. */
 static void test_handles(void) {
+    static const hot_stock stock = {10, 10, 0, 0, 0, 0};
     hot_handle handles[65];
     uint16_t number = 7;
     uint64_t value;
@@ -534,6 +558,9 @@ static void test_handles(void) {
     check_closed(&handles[0]);
     CHECK(hot_create(10, 10, handles, 0) == HOT_OUT_OF_RANGE);
     CHECK(hot_create(10, 10, handles, 65) == HOT_OUT_OF_RANGE);
+    /* The number of handles is looked at before the handles are: there are but 65. */
+    CHECK(hot_create(10, 10, handles, (size_t)1 << 31) == HOT_OUT_OF_RANGE);
+    CHECK(hot_create_with(&stock, handles, (size_t)1 << 31) == HOT_OUT_OF_RANGE);
     CHECK(hot_create(0, 10, handles, 2) == HOT_OUT_OF_RANGE);
     CHECK(hot_create(10, 262144, handles, 2) == HOT_OUT_OF_RANGE);
     check_closed(&handles[0]);
@@ -553,15 +580,196 @@ static void test_handles(void) {
         CHECK(hot_destroy(&handles[i]) == HOT_DONE);
 }
 
+/* An index whose handles are opened one by one: each has a number of its own, a closed one is given out again, and the index goes only
+ * when none is open. */
+static void test_index(void) {
+    static const hot_stock stock = {10, 10, 0, 0, 0, 0}, none = {0, 10, 0, 0, 0, 0};
+    hot_index *index = NULL;
+    hot_handle handles[4] = {HOT_HANDLE, HOT_HANDLE, HOT_HANDLE, HOT_HANDLE}, alone = HOT_HANDLE;
+    uint16_t number, seen = 0;
+    uint64_t had = 7;
+    int place;
+    CHECK(hot_open_index(&none, 3, &index) == HOT_OUT_OF_RANGE && index == NULL);
+    CHECK(hot_open_index(&stock, 0, &index) == HOT_OUT_OF_RANGE && hot_open_index(&stock, 1025, &index) == HOT_OUT_OF_RANGE);
+    CHECK(hot_open_index(&stock, 3, &index) == HOT_DONE && index != NULL);
+    for (place = 0; place < 3; place++) {
+        CHECK(hot_open(index, &handles[place]) == HOT_DONE && hot_open(index, &handles[place]) == HOT_OPEN);
+        CHECK(hot_number(&handles[place], &number) == HOT_DONE);
+        seen |= (uint16_t)(1 << number);
+    }
+    CHECK(seen == 7);
+    CHECK(hot_open(index, &handles[3]) == HOT_NO_HANDLE);
+    check_closed(&handles[3]);
+    CHECK(hot_insert(&handles[0], bytes("a"), 1, 1, NULL) == HOT_INSERTED);
+    CHECK(hot_get(&handles[2], bytes("a"), 1, &had) == HOT_FOUND && had == 1);
+    CHECK(hot_close_index(index) == HOT_OPEN);
+    CHECK(hot_close(&handles[1]) == HOT_DONE && hot_close(&handles[1]) == HOT_CLOSED);
+    check_closed(&handles[1]);
+    CHECK(hot_close_index(index) == HOT_OPEN);
+    CHECK(hot_open(index, &handles[3]) == HOT_DONE && hot_number(&handles[3], &number) == HOT_DONE);
+    CHECK(hot_get(&handles[3], bytes("a"), 1, &had) == HOT_FOUND && hot_open(index, &handles[1]) == HOT_NO_HANDLE);
+    CHECK(hot_close(&handles[0]) == HOT_DONE && hot_destroy(&handles[2]) == HOT_DONE);
+    CHECK(hot_close_index(index) == HOT_OPEN);
+    CHECK(hot_close(&handles[3]) == HOT_DONE && hot_close_index(index) == HOT_DONE);
+    /* A handle that was opened with its index is closed for good. */
+    CHECK(hot_create_with(&stock, &alone, 1) == HOT_DONE && hot_close(&alone) == HOT_DONE && hot_close(&alone) == HOT_CLOSED);
+}
+
+/* No value is wanted. */
+static void test_unread(void) {
+    hot_handle handle = HOT_HANDLE;
+    const uint8_t *key = bytes("a");
+    uint64_t value = 7;
+    CHECK(hot_create(10, 10, &handle, 1) == HOT_DONE);
+    CHECK(hot_try_insert(&handle, key, 1, 1, NULL) == HOT_INSERTED && hot_try_insert(&handle, key, 1, 2, NULL) == HOT_EXISTS);
+    CHECK(hot_insert(&handle, key, 1, 2, NULL) == HOT_EXISTS && hot_upsert(&handle, key, 1, 3, NULL) == HOT_WAS);
+    CHECK(hot_try_upsert(&handle, key, 1, 4, NULL) == HOT_WAS && hot_try_exchange(&handle, key, 1, 3, 5, NULL) == HOT_DIFFERS);
+    CHECK(hot_exchange(&handle, key, 1, 4, 5, NULL) == HOT_EXCHANGED && hot_get(&handle, key, 1, &value) == HOT_FOUND && value == 5);
+    CHECK(hot_try_remove_if(&handle, key, 1, 4, NULL) == HOT_DIFFERS && hot_remove_if(&handle, key, 1, 5, NULL) == HOT_REMOVED);
+    CHECK(hot_try_remove(&handle, key, 1, NULL) == HOT_ABSENT && hot_remove(&handle, key, 1, NULL) == HOT_ABSENT);
+    CHECK(hot_destroy(&handle) == HOT_DONE);
+}
+
+/* Adding to values: what each had, past the greatest number, and where the key is absent. */
+static void test_add(void) {
+    hot_handle handle = HOT_HANDLE;
+    const uint8_t *key = bytes("a");
+    static const uint8_t long_key[HOT_MAX_KEY + 1] = {0};
+    uint64_t had = 7;
+    CHECK(hot_add(&handle, key, 1, 1, &had) == HOT_CLOSED && hot_try_add(&handle, key, 1, 1, &had) == HOT_CLOSED && had == 7);
+    CHECK(hot_create(10, 2, &handle, 1) == HOT_DONE);
+    CHECK(hot_add(&handle, key, 1, 1, &had) == HOT_ABSENT && hot_try_add(&handle, key, 1, 1, NULL) == HOT_ABSENT && had == 7);
+    CHECK(hot_insert(&handle, key, 1, 5, NULL) == HOT_INSERTED);
+    CHECK(hot_add(&handle, key, 1, 3, &had) == HOT_WAS && had == 5);
+    CHECK(hot_try_add(&handle, key, 1, UINT64_MAX, &had) == HOT_WAS && had == 8);
+    CHECK(hot_add(&handle, key, 1, 0 - (uint64_t)8, NULL) == HOT_WAS && hot_get(&handle, key, 1, &had) == HOT_FOUND && had == UINT64_MAX);
+    CHECK(hot_try_add(&handle, key, 1, 1, NULL) == HOT_WAS && hot_get(&handle, key, 1, &had) == HOT_FOUND && had == 0);
+    CHECK(hot_add(&handle, long_key, sizeof long_key, 1, &had) == HOT_KEY_TOO_LONG);
+    CHECK(hot_insert(&handle, bytes("b"), 1, 5, NULL) == HOT_INSERTED);
+    CHECK(hot_add(&handle, key, 1, 1, &had) == HOT_FULL_LEAVES && hot_try_add(&handle, key, 1, 1, &had) == HOT_FULL_LEAVES && had == 0);
+    CHECK(hot_destroy(&handle) == HOT_DONE);
+}
+
+/* A copy into another index, and an index that is cleared; more keys than are listed at a time. */
+static void test_copy(void) {
+    enum { MANY = 500 };
+    hot_handle from = HOT_HANDLE, to = HOT_HANDLE, small = HOT_HANDLE;
+    uint8_t key[2];
+    size_t count = 7;
+    uint64_t value = 0;
+    uint32_t number;
+    hot_pair pair;
+    CHECK(hot_copy(&from, &to) == HOT_CLOSED && hot_clear(&from) == HOT_CLOSED && hot_len(&from, &count) == HOT_CLOSED && count == 7);
+    CHECK(hot_create(200, 600, &from, 1) == HOT_DONE && hot_create(200, 600, &to, 1) == HOT_DONE && hot_create(10, 5, &small, 1) == HOT_DONE);
+    CHECK(hot_copy(&from, &to) == HOT_DONE);
+    for (number = 0; number < MANY; number++) {
+        key[0] = (uint8_t)(number >> 8), key[1] = (uint8_t)number;
+        CHECK(hot_insert(&from, key, 2, number, NULL) == HOT_INSERTED);
+    }
+    CHECK(hot_insert(&to, key, 2, 7, NULL) == HOT_INSERTED && hot_insert(&to, bytes("own"), 3, 8, NULL) == HOT_INSERTED);
+    CHECK(hot_copy(&from, &to) == HOT_DONE);
+    CHECK(hot_len(&from, &count) == HOT_DONE && count == MANY && hot_len(&to, &count) == HOT_DONE && count == MANY + 1);
+    for (number = 0; number < MANY; number++) {
+        key[0] = (uint8_t)(number >> 8), key[1] = (uint8_t)number;
+        CHECK(hot_get(&to, key, 2, &value) == HOT_FOUND && value == number);
+    }
+    CHECK(hot_get(&to, bytes("own"), 3, &value) == HOT_FOUND && value == 8);
+    CHECK(hot_copy(&from, &small) == HOT_FULL_LEAVES && hot_last(&small, HOT_TO_END, &pair) == HOT_FOUND && pair.value == 4);
+    CHECK(hot_clear(&from) == HOT_DONE && hot_first(&from, key, 0, &pair) == HOT_ABSENT);
+    CHECK(hot_len(&from, &count) == HOT_DONE && count == 0);
+    CHECK(hot_clear(&from) == HOT_DONE && hot_get(&to, key, 2, &value) == HOT_FOUND);
+    CHECK(hot_copy(&small, &to) == HOT_DONE && hot_destroy(&to) == HOT_DONE && hot_copy(&small, &to) == HOT_CLOSED);
+    CHECK(hot_destroy(&from) == HOT_DONE && hot_destroy(&small) == HOT_DONE);
+}
+
+/* Calls on a small stack, among them those that hand pairs to others. */
+static void *call_all(void *given) {
+    hot_handle *handles = given;
+    static hot_pair pairs[64];
+    uint8_t key[HOT_MAX_KEY];
+    hot_counts counts;
+    size_t count;
+    uint32_t more, number;
+    for (number = 0; number < 3000; number++) {
+        memset(key, (int)(number * 7), sizeof key);
+        memcpy(key + number % 200, &number, sizeof number);
+        CHECK(hot_upsert(&handles[0], key, sizeof key, number, NULL) == HOT_NEW);
+        CHECK(hot_add(&handles[0], key, sizeof key, 1, NULL) == HOT_WAS);
+        if (number % 3 == 0)
+            CHECK(hot_remove(&handles[0], key, sizeof key, NULL) == HOT_REMOVED);
+    }
+    CHECK(hot_scan(&handles[0], key, 0, HOT_TO_END, pairs, 64, &count, &more) == HOT_DONE && count == 64);
+    CHECK(hot_scan_reverse(&handles[0], key, 0, HOT_TO_END, pairs, 64, &count, &more) == HOT_DONE && count == 64);
+    CHECK(hot_scan_prefix(&handles[0], key, 0, NULL, 0, pairs, 64, &count, &more) == HOT_DONE && count == 64);
+    CHECK(hot_copy(&handles[0], &handles[1]) == HOT_DONE && hot_clear(&handles[1]) == HOT_DONE);
+    CHECK(hot_census(&handles[1], &counts) == HOT_DONE && counts.long_leaves.live == 0);
+    return NULL;
+}
+
+static void test_stack(void) {
+    hot_handle handles[2] = {HOT_HANDLE, HOT_HANDLE};
+    pthread_attr_t small;
+    pthread_t thread;
+    CHECK(hot_create(3000, 3000, &handles[0], 1) == HOT_DONE && hot_create(3000, 3000, &handles[1], 1) == HOT_DONE);
+    CHECK(pthread_attr_init(&small) == 0 && pthread_attr_setstacksize(&small, 48 << 10) == 0);
+    CHECK(pthread_create(&thread, &small, call_all, handles) == 0 && pthread_join(thread, NULL) == 0);
+    CHECK(pthread_attr_destroy(&small) == 0);
+    CHECK(hot_destroy(&handles[0]) == HOT_DONE && hot_destroy(&handles[1]) == HOT_DONE);
+}
+
+/* Look-ups of keys that lie one after another, more of them than are looked up at a time. */
+static void test_get_packed(void) {
+    enum { MANY = 150 };
+    hot_handle handle = HOT_HANDLE;
+    uint8_t keys[2 * MANY];
+    size_t lengths[MANY];
+    uint64_t values[MANY];
+    hot_status statuses[MANY];
+    size_t place;
+    for (place = 0; place < MANY; place++)
+        keys[2 * place] = 'k', keys[2 * place + 1] = (uint8_t)place, lengths[place] = 2, values[place] = 7, statuses[place] = HOT_BUSY;
+    CHECK(hot_get_packed(&handle, keys, lengths, MANY, values, statuses) == HOT_CLOSED && statuses[0] == HOT_BUSY);
+    CHECK(hot_create(100, 100, &handle, 1) == HOT_DONE);
+    for (place = 0; place < MANY; place += 2)
+        CHECK(hot_insert(&handle, keys + 2 * place, 2, 1000 + place, NULL) == HOT_INSERTED);
+    lengths[MANY - 1] = HOT_MAX_KEY + 1;
+    CHECK(hot_get_packed(&handle, keys, lengths, MANY, values, statuses) == HOT_KEY_TOO_LONG && statuses[0] == HOT_BUSY);
+    lengths[MANY - 1] = 2;
+    CHECK(hot_get_packed(&handle, keys, lengths, 0, values, statuses) == HOT_DONE && statuses[0] == HOT_BUSY);
+    CHECK(hot_get_packed(&handle, keys, lengths, MANY, values, statuses) == HOT_DONE);
+    for (place = 0; place < MANY; place++)
+        CHECK(statuses[place] == (place % 2 ? HOT_ABSENT : HOT_FOUND) && values[place] == (place % 2 ? 7 : 1000 + place));
+    CHECK(hot_destroy(&handle) == HOT_DONE);
+}
+
+/* The version, and the greatest key as the end of a range. */
+static void test_constants(void) {
+    hot_handle handle = HOT_HANDLE;
+    hot_pair pair;
+    size_t count, at;
+    uint32_t more;
+    CHECK(hot_version() == (HOT_VERSION_MAJOR << 16 | HOT_VERSION_MINOR << 8 | HOT_VERSION_PATCH));
+    for (at = 0; at < HOT_MAX_KEY; at++)
+        CHECK(hot_last_key[at] == 0xff);
+    CHECK(hot_create(10, 10, &handle, 1) == HOT_DONE);
+    CHECK(hot_insert(&handle, HOT_TO_END, 5, NULL) == HOT_INSERTED);
+    CHECK(hot_scan(&handle, bytes(""), 0, HOT_TO_END, &pair, 1, &count, &more) == HOT_DONE && count == 1 && pair.value == 5 && !more);
+    CHECK(hot_destroy(&handle) == HOT_DONE);
+}
+
 /* An index that memory does not hold: no handle is opened. */
 static void test_memory(void) {
     hot_handle handle = HOT_HANDLE;
+    hot_stock stock;
+    hot_index *index = NULL;
     struct rlimit all, little;
     CHECK(getrlimit(RLIMIT_AS, &all) == 0);
     little = all;
     little.rlim_cur = 64 << 20;
     CHECK(setrlimit(RLIMIT_AS, &little) == 0);
     CHECK(hot_create(65535, 262143, &handle, 1) == HOT_NO_MEMORY);
+    hot_stock_for_keys(1000000, 240, &stock);
+    CHECK(hot_open_index(&stock, 1, &index) == HOT_NO_MEMORY && index == NULL);
     CHECK(setrlimit(RLIMIT_AS, &all) == 0);
     check_closed(&handle);
 }
@@ -586,10 +794,10 @@ typedef struct worker {
     long busy;
 } worker;
 
-/* Whether a call is to be made again: another stood in its way, or holds what a collection would have given back. */
+/* Whether a call is to be made again: another stood in its way, or holds records back. */
 static int again(worker *me, hot_status status) {
-    me->busy += status == HOT_BUSY;
-    return status == HOT_BUSY || status == HOT_FULL_NODES || status == HOT_FULL_LEAVES;
+    me->busy += status == HOT_BUSY || status == HOT_HELD_BACK;
+    return status == HOT_BUSY || status == HOT_HELD_BACK;
 }
 
 /* Puts keys of its own and one that all threads put, looks them up, and removes them. */
@@ -738,7 +946,7 @@ static void test_small_rounds(void) {
 }
 
 int main(void) {
-    CHECK(sizeof(hot_handle) == 16 && sizeof(hot_pair) == 256 && sizeof(hot_stock) == 24 && sizeof(hot_head) == 16);
+    CHECK(sizeof(hot_handle) == 24 && sizeof(hot_pair) == 256 && sizeof(hot_stock) == 24 && sizeof(hot_head) == 16);
     CHECK(sizeof(hot_lookup) == 32 && sizeof(hot_states) == 16 && sizeof(hot_counts) == 104);
     test_calls();
     test_many();
@@ -761,6 +969,13 @@ int main(void) {
     test_stock_sizes();
     test_sizes();
     test_handles();
+    test_index();
+    test_unread();
+    test_add();
+    test_copy();
+    test_get_packed();
+    test_stack();
+    test_constants();
     test_memory();
     test_threads();
     puts(failures ? "the C test failed" : "the C test passed");

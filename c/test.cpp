@@ -52,6 +52,29 @@ static void test_calls() {
     CHECK(first.get({}) == 10);
 }
 
+// An index that opens handles one by one: a moved one goes on, a handle outlives its index, and there are no more than it has room for.
+static_assert(!std::is_copy_constructible_v<hot::index> && std::is_nothrow_move_constructible_v<hot::index>);
+
+static void test_index() {
+    hot::index moved(hot::stock_for_keys(100, 8), 2);
+    hot::index index = std::move(moved);
+    hot::handle first = index.open();
+    {
+        hot::handle second = index.open();
+        CHECK(throws<std::runtime_error>([&] { (void)index.open(); }));
+        CHECK(first.insert("a", 5).what == hot::status::inserted && second.contains("a") && !second.contains("b"));
+    }
+    hot::handle third = index.open();
+    CHECK(third.add("a", 3).had == 5 && third.try_add("a", 1).what == hot::status::replaced && third.get("a") == 9);
+    CHECK(third.add("b", 1).what == hot::status::absent && third.insert("b", 1).what == hot::status::inserted && third.size() == 2);
+    CHECK(third.first()->first == "a" && third.last()->second == 1 && third.last("a")->second == 9 && !third.first("c"));
+    CHECK(to_string(hot::status::held_back) == hot_status_text(HOT_HELD_BACK));
+    CHECK(throws<std::logic_error>([&] { (void)moved.open(); }));
+    CHECK(throws<std::invalid_argument>([] { hot::index none(hot::stock_for_keys(1, 8), 0); }));
+    { const hot::index gone = std::move(index); }
+    CHECK(third.get("b") == 1);
+}
+
 // Calls that expect a value: made, declined with the value that the key has, or absent.
 static void test_expected() {
     auto handles = hot::create(100, 100);
@@ -133,6 +156,11 @@ static void test_scans() {
         for (const auto [key, value] : page)
             CHECK(value == ++last && key == std::string(value, 'a'));
         CHECK(last == page.size() && last == (is_all ? HOT_MAX_KEY : 7) && page.has_more() == !is_all);
+        handle.scan_packed_reverse("a", std::string(8, 'a'), page);
+        last = 9;
+        for (const auto [key, value] : page)
+            CHECK(value == --last && key == std::string(value, 'a'));
+        CHECK(page.size() == (is_all ? 8 : 5) && page.has_more() == !is_all);
     }
     std::uint64_t sum = 0;
     for (const auto it : handle.scan_prefix(std::string(238, 'a')))
@@ -185,6 +213,7 @@ static void test_counting() {
 
 int main() {
     test_calls();
+    test_index();
     test_expected();
     test_full();
     test_stock();

@@ -1,5 +1,6 @@
-/* Tests of the library by threads: two that change keys of all lengths beside two that look up, scan and list; and four that make calls
- * by chance where few records are to spare, or none. */
+/* Tests of the library by threads: two that change keys of all lengths beside two that look up, scan and list; four that make calls
+ * by chance where few records are to spare, or none; eight on one core, so that each is stopped in the middle of its calls; and eight that share three handles. */
+#define _GNU_SOURCE
 #include "hot.h"
 #include <pthread.h>
 #include <sched.h>
@@ -148,10 +149,10 @@ static void read_prefix(hot_handle *handle, uint64_t *state) {
     key prefix = key_of(low);
     size_t count = 0;
     uint32_t more = 0;
-    CHECK(hot_scan_prefix(handle, prefix.bytes, DIGITS - 1, NULL, pairs, 4, &count, &more) == HOT_DONE && count == 4 && more);
+    CHECK(hot_scan_prefix(handle, prefix.bytes, DIGITS - 1, NULL, 0, pairs, 4, &count, &more) == HOT_DONE && count == 4 && more);
     check_pairs(pairs, count, (int)low, 1, (int)low + 9, more);
     low = number_of(&pairs[3]);
-    CHECK(hot_scan_prefix(handle, prefix.bytes, DIGITS - 1, &pairs[3], pairs, LIMIT, &count, &more) == HOT_DONE && !more);
+    CHECK(hot_scan_prefix(handle, prefix.bytes, DIGITS - 1, pairs[3].key, pairs[3].length, pairs, LIMIT, &count, &more) == HOT_DONE && !more);
     check_pairs(pairs, count, (int)low + 1, 1, (int)(low / 10 * 10 + 9), more);
 }
 
@@ -199,21 +200,13 @@ static void *read_all(void *given) {
     return NULL;
 }
 
-/* Whether a change is to be made again: no record was free, but the other threads' calls hold some. */
-static int is_full(hot_status status) {
-    int full = status == HOT_FULL_NODES || status == HOT_FULL_LEAVES;
-    if (full)
-        sched_yield();
-    return full;
-}
-
 /* Adds one to a value that both writers count with, whatever it was. */
 static void add_one(hot_handle *handle) {
     uint64_t seen = 0;
     hot_status status;
     do
         status = hot_exchange(handle, (const uint8_t *)"~", 1, seen, seen + 1, &seen);
-    while (status == HOT_DIFFERS || is_full(status));
+    while (status == HOT_DIFFERS);
     CHECK(status == HOT_EXCHANGED);
 }
 
@@ -221,33 +214,21 @@ static void add_one(hot_handle *handle) {
 static void put_in(hot_handle *handle, unsigned number) {
     key at = key_of(number);
     uint64_t had;
-    hot_status status;
-    do
-        status = hot_insert(handle, at.bytes, at.length, number, &had);
-    while (is_full(status));
-    CHECK(status == HOT_INSERTED);
+    CHECK(hot_insert(handle, at.bytes, at.length, number, &had) == HOT_INSERTED);
 }
 
 /* Takes a key out. */
 static void take_out(hot_handle *handle, unsigned number) {
     key at = key_of(number);
     uint64_t had = 0;
-    hot_status status;
-    do
-        status = hot_remove_if(handle, at.bytes, at.length, number, &had);
-    while (is_full(status));
-    CHECK(status == HOT_REMOVED && had == number);
+    CHECK(hot_remove_if(handle, at.bytes, at.length, number, &had) == HOT_REMOVED && had == number);
 }
 
 /* Gives a key that stays another value with the same low part. */
 static void overwrite(hot_handle *handle, unsigned number, uint64_t round) {
     key at = key_of(number);
     uint64_t had = 0;
-    hot_status status;
-    do
-        status = hot_upsert(handle, at.bytes, at.length, round << 16 | number, &had);
-    while (is_full(status));
-    CHECK(status == HOT_WAS && (had & LOW) == number);
+    CHECK(hot_upsert(handle, at.bytes, at.length, round << 16 | number, &had) == HOT_WAS && (had & LOW) == number);
 }
 
 /* Puts keys of odd numbers of its own in and takes them out again: whether each is there is what it did last. */
@@ -408,11 +389,114 @@ static void test_filling(void) {
     }
     for (i = 0; i < 4; i++)
         CHECK(pthread_join(threads[i], NULL) == 0);
-    CHECK(hot_scan_prefix(&handles[0], NULL, 0, NULL, pairs, ALL, &count, &more) == HOT_DONE && count == ALL && !more);
+    CHECK(hot_scan_prefix(&handles[0], NULL, 0, NULL, 0, pairs, ALL, &count, &more) == HOT_DONE && count == ALL && !more);
     for (i = 0; i < ALL; i++)
         CHECK(number_of(&pairs[i]) == i);
     for (i = 0; i < 4; i++)
         CHECK(hot_destroy(&handles[i]) == HOT_DONE);
+}
+
+/* Fourth test: eight threads on one core set keys again and again. While one is stopped in the middle of a call, it holds back what the
+ * others retire, so that they find no record free; they wait, and none is refused. */
+#define CROWDED 8
+#define FEW_KEYS 800
+#define FEW_LEAVES 3887
+
+typedef struct setter {
+    hot_handle *handle;
+    unsigned calls, waits, refused;
+    uint64_t state;
+} setter;
+
+static void *set_keys(void *given) {
+    setter *me = given;
+    unsigned turn;
+    for (turn = 0; turn < me->calls; turn++) {
+        key at = key_of(next(&me->state) % FEW_KEYS);
+        uint64_t had;
+        hot_status status = hot_try_upsert(me->handle, at.bytes, DIGITS, turn, &had);
+        me->waits += status == HOT_HELD_BACK;
+        if (status == HOT_BUSY || status == HOT_HELD_BACK)
+            status = hot_upsert(me->handle, at.bytes, DIGITS, turn, &had);
+        me->refused += status != HOT_NEW && status != HOT_WAS;
+    }
+    return NULL;
+}
+
+/* One core for all threads that this one makes from now on, or those that it had. */
+static int keep_to(const cpu_set_t *cores) {
+    return sched_setaffinity(0, sizeof *cores, cores) == 0;
+}
+
+/* So many upserts; answers whether any found that other calls held records back. */
+static int test_stopped(unsigned calls) {
+    static const hot_stock stock = {FEW_LEAVES, FEW_LEAVES, 0, 0, 0, 0};
+    hot_handle handles[CROWDED];
+    setter setters[CROWDED];
+    pthread_t threads[CROWDED];
+    cpu_set_t all, one;
+    unsigned i, waits = 0;
+    memset(handles, 0, sizeof handles);
+    CPU_ZERO(&one);
+    CHECK(sched_getaffinity(0, sizeof all, &all) == 0);
+    for (i = 0; i < CPU_SETSIZE && !CPU_ISSET(i, &all); i++)
+        ;
+    CPU_SET(i, &one);
+    CHECK(keep_to(&one));
+    CHECK(hot_create_with(&stock, handles, CROWDED) == HOT_DONE);
+    for (i = 0; i < CROWDED; i++) {
+        memset(&setters[i], 0, sizeof setters[i]);
+        setters[i].handle = &handles[i];
+        setters[i].calls = calls / CROWDED;
+        setters[i].state = 1442695040888963407u + i;
+        CHECK(pthread_create(&threads[i], NULL, set_keys, &setters[i]) == 0);
+    }
+    for (i = 0; i < CROWDED; i++) {
+        CHECK(pthread_join(threads[i], NULL) == 0);
+        CHECK(setters[i].refused == 0);
+        waits += setters[i].waits;
+        CHECK(hot_destroy(&handles[i]) == HOT_DONE);
+    }
+    CHECK(keep_to(&all));
+    return waits > 0;
+}
+
+/* Fifth test: eight threads share an index with three handles. Each opens one for a few calls, and closes it. */
+#define SHARED 3
+#define VISITS 20000
+
+static void *visit(void *given) {
+    static const uint8_t name[1] = {'n'};
+    hot_index *index = given;
+    int turn;
+    for (turn = 0; turn < VISITS; turn++) {
+        hot_handle handle = HOT_HANDLE;
+        hot_status status;
+        while ((status = hot_open(index, &handle)) == HOT_NO_HANDLE)
+            sched_yield();
+        CHECK(status == HOT_DONE);
+        CHECK(hot_add(&handle, name, 1, 1, NULL) == HOT_WAS);
+        CHECK(hot_close(&handle) == HOT_DONE);
+    }
+    return NULL;
+}
+
+static void test_opening(void) {
+    static const hot_stock stock = {100, 100, 0, 0, 0, 0};
+    hot_index *index;
+    hot_handle handle = HOT_HANDLE;
+    pthread_t threads[CROWDED];
+    uint64_t value = 0;
+    int i;
+    CHECK(hot_open_index(&stock, SHARED, &index) == HOT_DONE);
+    CHECK(hot_open(index, &handle) == HOT_DONE && hot_insert(&handle, (const uint8_t *)"n", 1, 0, NULL) == HOT_INSERTED);
+    CHECK(hot_close(&handle) == HOT_DONE);
+    for (i = 0; i < CROWDED; i++)
+        CHECK(pthread_create(&threads[i], NULL, visit, index) == 0);
+    for (i = 0; i < CROWDED; i++)
+        CHECK(pthread_join(threads[i], NULL) == 0);
+    CHECK(hot_open(index, &handle) == HOT_DONE && hot_get(&handle, (const uint8_t *)"n", 1, &value) == HOT_FOUND);
+    CHECK(value == CROWDED * VISITS && hot_close(&handle) == HOT_DONE && hot_close_index(index) == HOT_DONE);
 }
 
 int main(void) {
@@ -423,7 +507,11 @@ int main(void) {
     for (i = 0; i < 5; i++)
         test_crowd(crowds[i][0], crowds[i][1], crowds[i][2]);
     test_filling();
+    for (i = 0; i < 10 && !test_stopped(1000000); i++)
+        ;
+    CHECK(i < 10);
+    test_opening();
     if (!failures)
-        puts("passed: threads that read while others change keys of all lengths, and threads where few records are to spare");
+        puts("passed: threads that read while others change keys of all lengths, threads where few records are to spare, and threads that are stopped");
     return failures;
 }

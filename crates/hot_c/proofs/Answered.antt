@@ -6,22 +6,28 @@ use Rattle.key_bits.specs.declared.TheConstants.{MAX_BYTES}
 use Rattle.finite_map.specs.declared.Call.{Call}
 use Rattle.finite_map.specs.declared.Reply.{Reply}
 use Rattle.finite_map.specs.declared.Reply.TheVariants.{Inserted, Exists, New, Was, Exchanged, Differs, Value, Absent, Removed}
+use Rattle.rowex_table.specs.Seats.{TableView}
 use Rattle.rowex_writing.specs.declared.attempts.TryFault.{TryFault}
 use Rattle.rowex_writing.specs.declared.attempts.TryFault.TheVariants.{Busy, FullNodes, FullLeaves}
-use Rattle.seat_calls.specs.Answers.{MayRefuse}
-use Rattle.seat_calls.specs.Calls.{IsCallTried, MakesSteps}
+use Rattle.seat_calls.specs.Answers.{IsUnnoted, MayRefuse}
+use Rattle.seat_calls.specs.Calls.{IsCallTried}
+use Rattle.seat_calls.specs.Census.{HasCounted}
+use Rattle.seat_calls.specs.Passes.{PassView}
+use Rattle.seat_calls.specs.Traces.{untold}
+use Rattle.seat_calls.specs.declared.census.RecordCounts.{RecordCounts}
 use Rattle.hot_index.specs.Handles.{HandleView, Stays}
-use Rattle.hot_c.specs.Calls.{Answers, HasOutcome, FitsInKey}
+use Rattle.hot_c.specs.Calls.{Answers, HasOutcome, HasSeenRecords, FitsInKey, TellsOutcome}
+use Rattle.hot_c.specs.Refusals.{AreInUse, TellsOfLeaves, TellsOfNodes}
 use Rattle.hot_c.specs.Statuses.{reply_status, value_after}
 use Rattle.hot_c.specs.declared.opened.Opened.{Opened}
+use Rattle.hot_c.specs.declared.status.TheConstants.{BUSY, FULL_LEAVES}
 
 some_is_none : (s : Opened) → Some s ≡ None → ⊥
 some_is_none s e = cc
 
 pub answered : (key : List ℕ) (call asked : Call) (old new : Option Opened) (before after status : ℕ) (s u : Opened) (outcome : Result Reply TryFault) → old ≡ Some s → new ≡ Some u →
-    Stays (λ index a b. HasOutcome call outcome index a b × MakesSteps call outcome index a b) s.handle u.handle → call ≡ asked → FitsInKey key → status ≡ reply_status outcome → after ≡ value_after before outcome →
-    Answers key asked old new before after status
-answered key call asked old new before after status s u outcome was is stays same fits told left = record {
+    Stays (TellsOutcome (length key) call status outcome) s.handle u.handle → call ≡ asked → FitsInKey key → after ≡ value_after before outcome → Answers key asked old new before after status
+answered key call asked old new before after status s u outcome was is stays same fits left = record {
   closed = λ none. absurd (some_is_none s (sym was ∙ none));
   long = λ some no. absurd (no fits);
   made = λ some short. (
@@ -31,47 +37,88 @@ answered key call asked old new before after status s u outcome was is stays sam
       after = u;
       was = was;
       is = is;
-      stays = subst (λ (x : Call). Stays (λ index a b. HasOutcome x outcome index a b × MakesSteps x outcome index a b) s.handle u.handle) same stays;
+      stays = subst (λ (x : Call). Stays (TellsOutcome (length key) x status outcome) s.handle u.handle) same stays;
     },
-    told,
     left,
   );
 }
 
-pub tried : (call : Call) (outcome : Result Reply TryFault) (old new : HandleView) → Stays (IsCallTried call outcome) old new →
-    Stays (λ index a b. HasOutcome call outcome index a b × MakesSteps call outcome index a b) old new
-tried call outcome old new h = record { index = h.index; pass = (h.pass.call, h.pass.made) }
+-- a call that was answered
+pub replied : (size : ℕ) (call : Call) (reply : Reply) (status : ℕ) (old new : HandleView) → Stays (HasOutcome call (Ok reply)) old new → status ≡ reply_status reply →
+    Stays (TellsOutcome size call status (Ok reply)) old new
+replied size call reply status old new h told = record { index = h.index; pass = (h.pass, told) }
 
--- the status of a fault is no reply's, and one fault's alone
-of_fault : (n : ℕ) (fault : TryFault) → n ≡ reply_status (Err fault) → (8 ≤ n) × (n ≤ 10)
-of_fault n Busy e = (omega (arith, e), omega (arith, e))
-of_fault n FullNodes e = (omega (arith, e), omega (arith, e))
-of_fault n FullLeaves e = (omega (arith, e), omega (arith, e))
+-- what is told of a call for a key of this length
+pub for_size : (size other : ℕ) (call : Call) (status : ℕ) (outcome : Result Reply TryFault) (old new : HandleView) → other ≡ size → Stays (TellsOutcome size call status outcome) old new →
+    Stays (TellsOutcome other call status outcome) old new
+for_size size other call status outcome old new same h = subst (λ (n : ℕ). Stays (TellsOutcome n call status outcome) old new) (sym same) h
 
-same_fault : (outcome : Result Reply TryFault) (fault : TryFault) → reply_status outcome ≡ reply_status (Err fault) → outcome ≡ Err fault
-same_fault (Ok (Value v)) fault e = absurd (let z = of_fault 1 fault e in omega (arith, z.0))
-same_fault (Ok Absent) fault e = absurd (let z = of_fault 2 fault e in omega (arith, z.0))
-same_fault (Ok Inserted) fault e = absurd (let z = of_fault 3 fault e in omega (arith, z.0))
-same_fault (Ok (Exists v)) fault e = absurd (let z = of_fault 4 fault e in omega (arith, z.0))
-same_fault (Ok New) fault e = absurd (let z = of_fault 5 fault e in omega (arith, z.0))
-same_fault (Ok (Was v)) fault e = absurd (let z = of_fault 6 fault e in omega (arith, z.0))
-same_fault (Ok (Removed v)) fault e = absurd (let z = of_fault 7 fault e in omega (arith, z.0))
-same_fault (Ok Exchanged) fault e = absurd (let z = of_fault 16 fault e in omega (arith, z.1))
-same_fault (Ok (Differs v)) fault e = absurd (let z = of_fault 17 fault e in omega (arith, z.1))
-same_fault (Err Busy) Busy e = refl
-same_fault (Err Busy) FullNodes e = absurd (omega (arith, e))
-same_fault (Err Busy) FullLeaves e = absurd (omega (arith, e))
-same_fault (Err FullNodes) Busy e = absurd (omega (arith, e))
-same_fault (Err FullNodes) FullNodes e = refl
-same_fault (Err FullNodes) FullLeaves e = absurd (omega (arith, e))
-same_fault (Err FullLeaves) Busy e = absurd (omega (arith, e))
-same_fault (Err FullLeaves) FullNodes e = absurd (omega (arith, e))
-same_fault (Err FullLeaves) FullLeaves e = refl
+-- what is told of a call that was tried
+abbrev pub Told : ℕ → Call → ℕ → HandleView → HandleView → ℕ → ℕ → Type 0
+Told size call status old new before after =
+    (outcome : Result Reply TryFault) × Stays (TellsOutcome size call status outcome) old new × (after ≡ value_after before outcome) × IfErr outcome (MayRefuse call)
 
--- so a call that may not be refused so doesn't tell it
-pub unrefused : (call : Call) (outcome : Result Reply TryFault) (status : ℕ) (fault : TryFault) → IfErr outcome (MayRefuse call) → ¬ MayRefuse call fault → status ≡ reply_status outcome →
-    status ≢ reply_status (Err fault)
-unrefused call outcome status fault may never told e = never (subst (λ o. IfErr o (MayRefuse call)) (same_fault outcome fault (sym told ∙ e)) may)
+module _ (size : ℕ) (call : Call) (outcome : Result Reply TryFault) (status before after : ℕ) (old : HandleView) where
+  with_outcome : (mid : HandleView) (it : Result Reply TryFault) → outcome ≡ it → Stays (IsCallTried call outcome) old mid → Stays (IsCallTried call it) old mid
+  with_outcome mid it is h = subst (λ (o : Result Reply TryFault). Stays (IsCallTried call o) old mid) is h
+
+  pub told_reply : (new : HandleView) (reply : Reply) → outcome ≡ Ok reply → Stays (IsCallTried call outcome) old new → status ≡ reply_status reply → after ≡ value_after before (Ok reply) →
+      Told size call status old new before after
+  told_reply new reply is h told left =
+      let it = with_outcome new (Ok reply) is h in (Ok reply, record { index = it.index; pass = ((it.pass.call, it.pass.made), told) }, left, tt)
+
+  pub told_busy : (new : HandleView) → outcome ≡ Err Busy → Stays (IsCallTried call outcome) old new → status ≡ BUSY → after ≡ before → Told size call status old new before after
+  told_busy new is h told left =
+      let it = with_outcome new (Err Busy) is h in (Err Busy, record { index = it.index; pass = ((it.pass.call, it.pass.made), told) }, left, it.pass.may)
+
+  module _ (mid new : HandleView) (counts : RecordCounts) (seen : Stays (λ index k j. IsUnnoted index.layout k j × HasCounted index untold (k, tt) (j, tt) counts) mid new) where
+    seen_there : mid.index ≡ old.index → HasSeenRecords counts old.index mid.pass new.pass
+    seen_there same = subst (λ (x : TableView). HasSeenRecords counts x mid.pass new.pass) same seen.pass
+
+    pub told_nodes : outcome ≡ Err FullNodes → Stays (IsCallTried call outcome) old mid → TellsOfNodes counts status → after ≡ before → Told size call status old new before after
+    told_nodes is h told left =
+        let it = with_outcome mid (Err FullNodes) is h in (
+          Err FullNodes,
+          record {
+            index = seen.index ∙ it.index;
+            pass = record { between = mid.pass; refused = (it.pass.call, it.pass.made); counts = counts; seen = seen_there it.index; tells = told };
+          },
+          left,
+          it.pass.may,
+        )
+
+    pub told_leaves : outcome ≡ Err FullLeaves → Stays (IsCallTried call outcome) old mid → TellsOfLeaves size counts status → after ≡ before → Told size call status old new before after
+    told_leaves is h told left =
+        let it = with_outcome mid (Err FullLeaves) is h in (
+          Err FullLeaves,
+          record {
+            index = seen.index ∙ it.index;
+            pass = record { between = mid.pass; refused = (it.pass.call, it.pass.made); counts = counts; seen = seen_there it.index; tells = told };
+          },
+          left,
+          it.pass.may,
+        )
+
+-- no reply is told as full
+unfull : (reply : Reply) → reply_status reply ≡ FULL_LEAVES → ⊥
+unfull (Value v) e = omega (arith, e)
+unfull Absent e = omega (arith, e)
+unfull Inserted e = omega (arith, e)
+unfull (Exists v) e = omega (arith, e)
+unfull New e = omega (arith, e)
+unfull (Was v) e = omega (arith, e)
+unfull (Removed v) e = omega (arith, e)
+unfull Exchanged e = omega (arith, e)
+unfull (Differs v) e = omega (arith, e)
+
+-- a call that needs no leaf record doesn't tell that it found none
+pub unleafed : (size : ℕ) (call : Call) (status : ℕ) (outcome : Result Reply TryFault) (index : TableView) (k j : PassView) → TellsOutcome size call status outcome index k j →
+    IfErr outcome (MayRefuse call) → ¬ MayRefuse call FullLeaves → status ≢ FULL_LEAVES
+unleafed size call status (Ok reply) index k j told may never e = unfull reply (sym told.1 ∙ e)
+unleafed size call status (Err Busy) index k j told may never e = omega (arith, e, told.1)
+unleafed size call status (Err FullNodes) index k j told may never e =
+    let out : ¬ AreInUse told.counts.nodes = λ all. (let is = told.tells.taken all in omega (arith, e, is)) in let is = told.tells.held_back out in omega (arith, e, is)
+unleafed size call status (Err FullLeaves) index k j told may never e = never may
 
 -- the bytes that a key took are fit for one
 pub of_key : (bytes key : List ℕ) (r : Result (Unit {0}) KeyFault) → r ≡ Ok tt → (IsOk r ↔ (length bytes ≤ MAX_BYTES)) → (IsOk r → (key ≡ bytes) × IsKey key) → (key ≡ bytes) × FitsInKey bytes

@@ -1,5 +1,5 @@
 -- What the calls of a program in C say.
-use Rattle.std.specs.Prelude.{◌≡◌, ℕ, ◌≤◌, List, length, map, All, slice_get, Option, Some, None, IsSome, Result, MatchResult}
+use Rattle.std.specs.Prelude.{◌≡◌, ℕ, ◌≤◌, List, length, map, All, slice_get, Option, Some, None, IsSome, Result, Ok, Err, MatchResult}
 use Rattle.key_bits.specs.declared.TheConstants.{MAX_BYTES}
 use Rattle.finite_map.specs.declared.Call.{Call}
 use Rattle.finite_map.specs.declared.Call.TheVariants.{Exchange, Get, Insert, Remove, RemoveIf, Upsert}
@@ -10,6 +10,7 @@ use Rattle.record_words.specs.declared.layout.Layout.{Layout}
 use Rattle.record_words.specs.declared.layout.Stock.{Stock}
 use Rattle.rowex_table.specs.Seats.{TableView}
 use Rattle.rowex_writing.specs.declared.attempts.TryFault.{TryFault}
+use Rattle.rowex_writing.specs.declared.attempts.TryFault.TheVariants.{Busy, FullNodes, FullLeaves}
 use Rattle.seat_calls.specs.Answers.{IsNoted, IsRefused, IsUnnoted}
 use Rattle.seat_calls.specs.Calls.{MakesSteps}
 use Rattle.seat_calls.specs.Census.{HasCounted}
@@ -17,10 +18,11 @@ use Rattle.hot_index.specs.Handles.{Stays}
 use Rattle.seat_calls.specs.Passes.{PassView, IsNewPass}
 use Rattle.seat_calls.specs.Traces.{HasCollected, untold}
 use Rattle.seat_calls.specs.declared.census.RecordCounts.{RecordCounts}
+use Rattle.hot_c.specs.Refusals.{TellsOfLeaves, TellsOfNodes}
 use Rattle.hot_c.specs.Statuses.{reply_status, value_after}
 use Rattle.hot_c.specs.declared.handle.Handle.{Handle}
 use Rattle.hot_c.specs.declared.opened.Opened.{Opened}
-use Rattle.hot_c.specs.declared.status.TheConstants.{KEY_TOO_LONG, CLOSED}
+use Rattle.hot_c.specs.declared.status.TheConstants.{BUSY, KEY_TOO_LONG, CLOSED}
 
 -- the key is short enough
 abbrev pub FitsInKey : List ℕ → Type 0
@@ -34,9 +36,9 @@ pub record StaysOpen (Became : TableView → PassView → PassView → Type 0) (
   pub is : new ≡ Some after
   pub stays : Stays Became before.handle after.handle
 
--- A call for a key had this outcome: it was noted with the reply, or refused for the cause.
+-- A call had this outcome, by its steps: it was noted with the reply, or refused for the cause.
 abbrev pub HasOutcome : Call → Result Reply TryFault → TableView → PassView → PassView → Type 0
-HasOutcome call outcome index k j = MatchResult outcome (IsNoted index.layout k j call) (IsRefused index.layout call k j)
+HasOutcome call outcome index k j = MatchResult outcome (IsNoted index.layout k j call) (IsRefused index.layout call k j) × MakesSteps call outcome index k j
 
 -- the call with this key in place of its own
 abbrev pub for_key : List ℕ → Call → Call
@@ -47,23 +49,36 @@ for_key key (Get own) = Get key
 for_key key (Remove own) = Remove key
 for_key key (RemoveIf own expected) = RemoveIf key expected
 
+-- a count of the records, by their states
+abbrev pub HasSeenRecords : RecordCounts → TableView → PassView → PassView → Type 0
+HasSeenRecords counts index k j = IsUnnoted index.layout k j × HasCounted index untold (k, tt) (j, tt) counts
+
+-- A call was refused, and after it all records were counted, of which this is told.
+pub record IsCounted (call : Call) (fault : TryFault) (Tells : RecordCounts → Type 0) (index : TableView) (k j : PassView) : Type 0 where
+  pub between : PassView
+  pub refused : HasOutcome call (Err fault) index k between
+  pub counts : RecordCounts
+  pub seen : HasSeenRecords counts index between j
+  pub tells : Tells counts
+
+-- A call for a key of this length was made, and the status tells its outcome: after one that found no record free, by a count of them.
+abbrev pub TellsOutcome : ℕ → Call → ℕ → Result Reply TryFault → TableView → PassView → PassView → Type 0
+TellsOutcome size call status (Ok reply) index k j = HasOutcome call (Ok reply) index k j × (status ≡ reply_status reply)
+TellsOutcome size call status (Err Busy) index k j = HasOutcome call (Err Busy) index k j × (status ≡ BUSY)
+TellsOutcome size call status (Err FullNodes) index k j = IsCounted call FullNodes (λ counts. TellsOfNodes counts status) index k j
+TellsOutcome size call status (Err FullLeaves) index k j = IsCounted call FullLeaves (λ counts. TellsOfLeaves size counts status) index k j
+
 -- A call for a key through a handle, which finds `before` where C wants a value and leaves `after`. A closed handle and a key that
--- is too long are told as such, and nothing has changed; else the call is made, by its steps, and its outcome told.
+-- is too long are told as such, and nothing has changed; else the call is made, and its outcome told.
 pub record Answers (key : List ℕ) (call : Call) (old new : Option Opened) (before after status : ℕ) : Type 0 where
   pub closed : old ≡ None → (status ≡ CLOSED) × (new ≡ old) × (after ≡ before)
   pub long : IsSome old → ¬ FitsInKey key → (status ≡ KEY_TOO_LONG) × (new ≡ old) × (after ≡ before)
   pub made : IsSome old → FitsInKey key →
-      (outcome : Result Reply TryFault) ×
-      StaysOpen (λ index k j. HasOutcome call outcome index k j × MakesSteps call outcome index k j) old new
-      × (status ≡ reply_status outcome) × (after ≡ value_after before outcome)
+      (outcome : Result Reply TryFault) × StaysOpen (TellsOutcome (length key) call status outcome) old new × (after ≡ value_after before outcome)
 
 -- a round of collection, which gave back so many nodes and leaves
 abbrev pub HasGivenBack : ℕ → ℕ → TableView → PassView → PassView → Type 0
 HasGivenBack nodes leaves index k j = IsUnnoted index.layout k j × HasCollected index untold (k, tt) (j, tt) nodes leaves
-
--- a count of the records, by their states
-abbrev pub HasSeenRecords : RecordCounts → TableView → PassView → PassView → Type 0
-HasSeenRecords counts index k j = IsUnnoted index.layout k j × HasCounted index untold (k, tt) (j, tt) counts
 
 abbrev pub AreClosed : List Handle → Type 0
 AreClosed handles = All (λ h. h.slot.opened ≡ None) handles

@@ -1,12 +1,10 @@
-//! The keys around a pair's, for programs in C: where a scan goes on after it, or before it.
+//! The keys around a key, for programs in C: where a scan goes on after it, or before it.
 
-ghost use Rattle.std.specs.Prelude.{◌≡◌};
-ghost use Rattle.hot_c.specs.Around.{IsKeyTold, TellsAfter, TellsBefore, key_in_pair};
+ghost use Rattle.hot_c.specs.Around.{IsKeyTold, TellsAfter, TellsBefore};
 
-use crate::pairs::Pair;
-use crate::status::{ABSENT, DONE};
+use crate::status::{ABSENT, DONE, KEY_TOO_LONG};
 use hot_index::{next_key, previous_key};
-use key_bits::{Key, MAX_BYTES};
+use key_bits::Key;
 
 /// Room for a key of C's.
 #[repr(C)]
@@ -14,30 +12,25 @@ pub struct KeyRoom {
     pub bytes: [u8; 240],
 }
 
-/// Writes the least key above a pair's, and its length; or `ABSENT`, if there is none.
+/// Writes the least key above a key, and its length; or `ABSENT`, if there is none.
 #[unsafe(no_mangle)]
-pub extern "C" fn hot_after(pair: &Pair, key: &mut KeyRoom, length: &mut usize) -> u32
-    ensures { TellsAfter pair.now key.old length.old key.new length.new result }
+pub extern "C" fn hot_after(key: &[u8], next: &mut KeyRoom, length: &mut usize) -> u32
+    ensures { TellsAfter key.now next.old length.old next.new length.new result }
 {
-    tell_key(next_key(&key_of(pair)), key, length)
+    match Key::from_bytes(key) {
+        Ok(key) => tell_key(next_key(&key), next, length),
+        Err(_) => KEY_TOO_LONG,
+    }
 }
 
-/// Writes the greatest key below a pair's, and its length; or `ABSENT`, if there is none.
+/// Writes the greatest key below a key, and its length; or `ABSENT`, if there is none.
 #[unsafe(no_mangle)]
-pub extern "C" fn hot_before(pair: &Pair, key: &mut KeyRoom, length: &mut usize) -> u32
-    ensures { TellsBefore pair.now key.old length.old key.new length.new result }
+pub extern "C" fn hot_before(key: &[u8], previous: &mut KeyRoom, length: &mut usize) -> u32
+    ensures { TellsBefore key.now previous.old length.old previous.new length.new result }
 {
-    tell_key(previous_key(&key_of(pair)), key, length)
-}
-
-/// The key of a pair. A length of more than 240 bytes is taken as 240.
-fn key_of(pair: &Pair) -> Key
-    ensures { result ≡ key_in_pair pair.now }
-{
-    let count = (pair.length as usize).min(MAX_BYTES);
-    match Key::from_bytes(&pair.key[..count]) {
-        Ok(key) => key,
-        Err(_) => unreachable!(),
+    match Key::from_bytes(key) {
+        Ok(key) => tell_key(previous_key(&key), previous, length),
+        Err(_) => KEY_TOO_LONG,
     }
 }
 

@@ -1,21 +1,21 @@
 //! The calls for programs in C. `c/hot.h` says how to use them.
 
-ghost use Rattle.std.specs.Prelude.{◌≡◌, ◌≢◌, ◌⊎◌, ◌↔◌, ℕ, List, Err, IsOk, IsSome, None, Some, length};
+ghost use Rattle.std.specs.Prelude.{◌≡◌, ◌≢◌, ◌⊎◌, ◌↔◌, ℕ, List, IsOk, IsSome, None, Some, length};
 ghost use Rattle.finite_map.specs.declared.Call.TheVariants.{Exchange, Get, Insert, Remove, RemoveIf, Upsert};
-ghost use Rattle.rowex_writing.specs.declared.attempts.TryFault.{TryFault};
+ghost use Rattle.rowex_writing.specs.declared.attempts.TryFault.TheVariants.{FullLeaves};
 ghost use Rattle.seat_calls.specs.Answers.{MayRefuse};
 ghost use Rattle.hot_c.specs.declared.opened.Opened.{Opened};
 ghost use Rattle.hot_c.specs.Calls.{Answers, AreClosed, FitsInKey, HasGivenBack, HasSeenRecords, HaveOpened, HaveOpenedStock, IsSize, IsStockSize, StaysOpen, for_key};
 ghost use Rattle.hot_c.specs.Lookups.{LooksUpAll};
-ghost use Rattle.hot_c.specs.Statuses.{reply_status};
 ghost use Rattle.hot_c.specs.Stocks.{TakesBytes, stock_in};
 ghost use Rattle.record_words.specs.Layout.{stock_for};
 
 use crate::handle::Handle;
 use crate::lookups::{Lookup, are_fit, keys_of, write_found};
-use crate::opening::{are_closed, make_passes, make_stocked, open_all};
+use crate::opening::{are_closed, is_size, is_stock_size, make_passes, make_stocked, open_all};
 use crate::status::{
-    BUSY, CLOSED, DONE, FULL_LEAVES, FULL_NODES, KEY_TOO_LONG, NO_MEMORY, OPEN, OUT_OF_RANGE, tell,
+    BUSY, CLOSED, DONE, FULL_LEAVES, FULL_NODES, HELD_BACK, KEY_TOO_LONG, NO_MEMORY, OPEN,
+    OUT_OF_RANGE, tell_reply,
 };
 use crate::stock::HotStock;
 use hot_index::{Call, IndexFault, RecordCounts};
@@ -27,18 +27,18 @@ use std::alloc::Global;
 /// must be closed before.
 #[unsafe(no_mangle)]
 pub extern "C" fn hot_create(alloc: Global, nodes: u32, leaves: u32, handles: &mut [Handle]) -> u32
-    ensures open { ¬ AreClosed handles.old → (result ≡ OPEN) × (handles.new ≡ handles.old) }
-    ensures range { AreClosed handles.old → ¬ IsSize (length handles.old) nodes leaves → (result ≡ OUT_OF_RANGE) × (handles.new ≡ handles.old) }
+    ensures range { ¬ IsSize (length handles.old) nodes leaves → (result ≡ OUT_OF_RANGE) × (handles.new ≡ handles.old) }
+    ensures open { IsSize (length handles.old) nodes leaves → ¬ AreClosed handles.old → (result ≡ OPEN) × (handles.new ≡ handles.old) }
     ensures made { AreClosed handles.old → IsSize (length handles.old) nodes leaves →
         ((result ≡ DONE) × HaveOpened nodes leaves handles.new) ⊎ ((result ≡ NO_MEMORY) × (handles.new ≡ handles.old)) }
 {
+    if !is_size(handles.len(), nodes, leaves) {
+        return OUT_OF_RANGE;
+    }
     if !are_closed(handles) {
         return OPEN;
     }
-    let Ok(passes) = u32::try_from(handles.len()) else {
-        return OUT_OF_RANGE;
-    };
-    match make_passes(alloc, passes, nodes, leaves) {
+    match make_passes(alloc, handles.len() as u32, nodes, leaves) {
         Ok(passes) => {
             open_all(handles, passes);
             DONE
@@ -52,18 +52,19 @@ pub extern "C" fn hot_create(alloc: Global, nodes: u32, leaves: u32, handles: &m
 /// before.
 #[unsafe(no_mangle)]
 pub extern "C" fn hot_create_with(alloc: Global, stock: &HotStock, handles: &mut [Handle]) -> u32
-    ensures open { ¬ AreClosed handles.old → (result ≡ OPEN) × (handles.new ≡ handles.old) }
-    ensures range { AreClosed handles.old → ¬ IsStockSize (length handles.old) (stock_in stock.now) → (result ≡ OUT_OF_RANGE) × (handles.new ≡ handles.old) }
+    ensures range { ¬ IsStockSize (length handles.old) (stock_in stock.now) → (result ≡ OUT_OF_RANGE) × (handles.new ≡ handles.old) }
+    ensures open { IsStockSize (length handles.old) (stock_in stock.now) → ¬ AreClosed handles.old → (result ≡ OPEN) × (handles.new ≡ handles.old) }
     ensures made { AreClosed handles.old → IsStockSize (length handles.old) (stock_in stock.now) →
         ((result ≡ DONE) × HaveOpenedStock (stock_in stock.now) handles.new) ⊎ ((result ≡ NO_MEMORY) × (handles.new ≡ handles.old)) }
 {
+    let records = stock.stock();
+    if !is_stock_size(handles.len(), &records) {
+        return OUT_OF_RANGE;
+    }
     if !are_closed(handles) {
         return OPEN;
     }
-    let Ok(passes) = u32::try_from(handles.len()) else {
-        return OUT_OF_RANGE;
-    };
-    match make_stocked(alloc, passes, stock.stock()) {
+    match make_stocked(alloc, handles.len() as u32, records) {
         Ok(stocked) => {
             open_all(handles, stocked);
             DONE
@@ -117,14 +118,14 @@ pub extern "C" fn hot_number(handle: &mut Handle, number: &mut u16) -> u32
 #[unsafe(no_mangle)]
 pub extern "C" fn hot_get(handle: &mut Handle, key: &[u8], value: &mut u64) -> u32
     ensures call { Answers key.now (Get key.now) handle.old.slot.opened handle.new.slot.opened value.old value.new result }
-    ensures unrefused { (result ≢ BUSY) × (result ≢ FULL_NODES) × (result ≢ FULL_LEAVES) }
+    ensures unrefused { (result ≢ BUSY) × (result ≢ HELD_BACK) × (result ≢ FULL_NODES) × (result ≢ FULL_LEAVES) }
 {
     if !handle.is_open() {
         return CLOSED;
     }
     let mut asked = Key::empty();
     match asked.set_bytes(key) {
-        Ok(()) => tell(Ok(handle.slot.lend().get(&asked)), value),
+        Ok(()) => tell_reply(handle.slot.lend().get(&asked), value),
         Err(_) => KEY_TOO_LONG,
     }
 }
@@ -220,13 +221,13 @@ pub extern "C" fn hot_try_remove_if(
 #[inline(always)]
 fn make_call(handle: &mut Handle, call: &mut Call, key: &[u8], had: &mut u64) -> u32
     ensures call { Answers key.now (for_key key.now call.old) handle.old.slot.opened handle.new.slot.opened had.old had.new result }
-    ensures may { (fault : TryFault) → ¬ MayRefuse (for_key key.now call.old) fault → result ≢ reply_status (Err fault) }
+    ensures leafless { ¬ MayRefuse (for_key key.now call.old) FullLeaves → result ≢ FULL_LEAVES }
 {
     if !handle.is_open() {
         return CLOSED;
     }
     match set_key(call, key) {
-        Ok(()) => make_open(handle, call, had),
+        Ok(()) => make_open(handle, call, key.len(), had),
         Err(_) => KEY_TOO_LONG,
     }
 }
@@ -247,14 +248,14 @@ fn set_key(call: &mut Call, key: &[u8]) -> Result<(), KeyFault>
     }
 }
 
-/// Makes a call through an open handle.
+/// Makes a call for a key of this length through an open handle.
 #[inline(never)]
-fn make_open(handle: &mut Handle, call: &Call, had: &mut u64) -> u32
+fn make_open(handle: &mut Handle, call: &Call, size: usize, had: &mut u64) -> u32
     requires { IsSome handle.old.slot.opened }
-    ensures call { (key : List ℕ) → FitsInKey key → Answers key call.now handle.old.slot.opened handle.new.slot.opened had.old had.new result }
-    ensures may { (fault : TryFault) → ¬ MayRefuse call.now fault → result ≢ reply_status (Err fault) }
+    ensures call { (key : List ℕ) → FitsInKey key → length key ≡ size → Answers key call.now handle.old.slot.opened handle.new.slot.opened had.old had.new result }
+    ensures leafless { ¬ MayRefuse call.now FullLeaves → result ≢ FULL_LEAVES }
 {
-    tell(handle.slot.lend().handle.try_call(call), had)
+    handle.slot.lend().make(call, size, had)
 }
 
 /// Makes one round of collection, and writes how many node and leaf records it gave back.

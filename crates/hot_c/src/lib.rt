@@ -11,6 +11,7 @@ mod opened;
 mod opening;
 mod packs;
 mod pairs;
+mod refusals;
 mod scans;
 mod slot;
 mod status;

@@ -1,15 +1,21 @@
 //! What an open handle holds.
 
-ghost use Rattle.std.specs.Prelude.{◌≡◌};
+ghost use Rattle.std.specs.Prelude.{◌≡◌, IfErr, Result};
 ghost use Rattle.finite_map.specs.declared.Call.TheVariants.{Get};
-ghost use Rattle.seat_calls.specs.Answers.{IsNoted};
+ghost use Rattle.finite_map.specs.declared.Reply.{Reply as ReplyView};
+ghost use Rattle.rowex_writing.specs.declared.attempts.TryFault.{TryFault as FaultView};
+ghost use Rattle.seat_calls.specs.Answers.{IsNoted, MayRefuse};
 ghost use Rattle.seat_calls.specs.Calls.{IsRangeRead};
 ghost use Rattle.hot_index.specs.Handles.{Stays};
 ghost use Rattle.seat_calls.specs.Traces.{HasGot, untold};
+ghost use Rattle.hot_c.specs.Calls.{TellsOutcome};
 ghost use Rattle.hot_c.specs.Orders.{IsFilledIn};
+ghost use Rattle.hot_c.specs.Statuses.{value_after};
 
 use crate::pairs::Order;
-use hot_index::{Handle, Index, Reply};
+use crate::refusals::{tell_leaves, tell_nodes};
+use crate::status::{BUSY, tell_reply};
+use hot_index::{Call, Handle, Index, Reply, TryFault};
 use key_bits::Key;
 use packed_pairs::Pairs;
 use std::alloc::{AllocError, Global};
@@ -33,6 +39,20 @@ impl Opened {
         match self.handle.get(key) {
             Some(value) => Reply::Value(value),
             None => Reply::Absent,
+        }
+    }
+
+    /// Tries to make a call for a key of this length. Where it finds no record free, it counts all records, and so tells whether
+    /// other calls hold some back.
+    pub fn make(&mut self, call: &Call, size: usize, had: &mut u64) -> u32
+        ensures call { (outcome : Result ReplyView FaultView) × Stays (TellsOutcome size call.now result outcome) self.old.handle self.new.handle
+            × (had.new ≡ value_after had.old outcome) × IfErr outcome (MayRefuse call.now) }
+    {
+        match self.handle.try_call(call) {
+            Ok(reply) => tell_reply(reply, had),
+            Err(TryFault::Busy) => BUSY,
+            Err(TryFault::FullNodes) => tell_nodes(&self.handle.census()),
+            Err(TryFault::FullLeaves) => tell_leaves(size, &self.handle.census()),
         }
     }
 

@@ -9,7 +9,7 @@ use crate::handle::Handle;
 use crate::opened::Opened;
 use hot_index::{Index, IndexFault, Pass, create, create_with};
 use packed_pairs::Pairs;
-use record_words::Stock;
+use record_words::{MAX_LEAVES, MAX_NODES, MAX_PASSES, MAX_STOCK_PASSES, Stock};
 use std::alloc::{AllocError, Global};
 use std::sync::Arc;
 
@@ -18,6 +18,31 @@ pub fn are_closed(handles: &[Handle]) -> bool
     ensures { IsTrue result ↔ AreClosed handles.now }
 {
     handles.iter().all(|handle| !handle.is_open())
+}
+
+/// Whether an index can have so many passes, nodes and leaves.
+pub fn is_size(passes: usize, nodes: u32, leaves: u32) -> bool
+    ensures { IsTrue result ↔ IsSize passes nodes leaves }
+{
+    1 <= passes
+        && passes <= MAX_PASSES as usize
+        && 1 <= nodes
+        && nodes <= MAX_NODES
+        && 1 <= leaves
+        && leaves <= MAX_LEAVES
+}
+
+/// Whether an index can have so many passes and this stock.
+pub fn is_stock_size(passes: usize, stock: &Stock) -> bool
+    ensures { IsTrue result ↔ IsStockSize passes stock.now }
+{
+    let short = stock.short as u64 + stock.medium as u64;
+    let leaves = short + stock.large as u64 + stock.wide as u64 + stock.long as u64;
+    1 <= passes
+        && passes <= MAX_STOCK_PASSES as usize
+        && 1 <= stock.nodes
+        && 1 <= leaves
+        && leaves <= u32::MAX as u64
 }
 
 /// Opens closed handles, each with the pass of its place.

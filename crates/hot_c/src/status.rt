@@ -1,9 +1,10 @@
 //! The statuses that tell a program in C how a call came out.
 
 ghost use Rattle.std.specs.Prelude.{◌≡◌};
+ghost use Rattle.std.specs.Prelude.{Ok};
 ghost use Rattle.hot_c.specs.Statuses.{reply_status, value_after};
 
-use hot_index::{Reply, TryFault};
+use hot_index::Reply;
 
 /// The call was made. There is nothing else to tell.
 pub const DONE: u32 = 0;
@@ -23,11 +24,11 @@ pub const WAS: u32 = 6;
 pub const REMOVED: u32 = 7;
 /// Another call was in the way; nothing was changed.
 pub const BUSY: u32 = 8;
-/// No node record was free; nothing was changed.
+/// All node records are in use; nothing was changed.
 pub const FULL_NODES: u32 = 9;
-/// No leaf record was free; nothing was changed.
+/// All leaf records with room for the key are in use; nothing was changed.
 pub const FULL_LEAVES: u32 = 10;
-/// A key has more than 240 bytes.
+/// A key has more than 240 bytes, or more than any leaf record of the index has room for.
 pub const KEY_TOO_LONG: u32 = 11;
 /// The handle is closed.
 pub const CLOSED: u32 = 12;
@@ -41,23 +42,12 @@ pub const NO_MEMORY: u32 = 15;
 pub const EXCHANGED: u32 = 16;
 /// The key has the value that was written, which is not the expected one, and keeps it.
 pub const DIFFERS: u32 = 17;
-
-/// The status of an outcome. Where the outcome has a value, it is written.
-pub fn tell(outcome: Result<Reply, TryFault>, value: &mut u64) -> u32
-    ensures status { result ≡ reply_status outcome }
-    ensures value { value.new ≡ value_after value.old outcome }
-{
-    match outcome {
-        Ok(reply) => tell_reply(reply, value),
-        Err(TryFault::Busy) => BUSY,
-        Err(TryFault::FullNodes) => FULL_NODES,
-        Err(TryFault::FullLeaves) => FULL_LEAVES,
-    }
-}
+/// No record was free, but other calls hold some back; nothing was changed.
+pub const HELD_BACK: u32 = 18;
 
 /// The status of a reply. Where the reply has a value, it is written.
-fn tell_reply(reply: Reply, value: &mut u64) -> u32
-    ensures status { result ≡ reply_status (Ok reply) }
+pub fn tell_reply(reply: Reply, value: &mut u64) -> u32
+    ensures status { result ≡ reply_status reply }
     ensures value { value.new ≡ value_after value.old (Ok reply) }
 {
     let (status, held) = match reply {

@@ -1,12 +1,17 @@
--- The key before the pair's is told.
-use Rattle.std.proofs.Common.{ℕ, List, sym, ◌∙◌, subst, IfSome}
+-- The key before this one is told, if this one fits.
+use Rattle.std.proofs.Common.{ℕ, List, IfSome, IfOk, IsOk, refl, subst, sym, ◌∙◌}
 use Rattle.key_ranges.specs.Ranges.{IsPreviousKey}
 use Rattle.hot_c.proofs.around.hot_before.Goals as goal
 
-pub returns : goal.returns
-returns c = record {
-  found = c.previous_key.result;
-  told = c.tell_key.ensures;
-  some = subst (λ (k : List ℕ). IfSome c.previous_key.result (IsPreviousKey k)) c.key_of.ensures c.previous_key.ensures.some;
-  none = λ none. sym c.key_of.ensures ∙ c.previous_key.ensures.none none;
-}
+pub returns-in-Ok : goal.returns-in-Ok
+returns-in-Ok c =
+    let fits = c.from_bytes.ensures.fits.0 (subst IsOk (sym c.in-Ok.is) refl) in
+    record {
+      long = λ no. absurd (no fits);
+      told = λ fit. (
+        c.previous_key.result,
+        c.tell_key.ensures,
+        subst (λ (k : List ℕ). IfSome c.previous_key.result (IsPreviousKey k)) c.in-Ok.ensures.ok c.previous_key.ensures.some,
+        λ none. sym c.in-Ok.ensures.ok ∙ c.previous_key.ensures.none none,
+      );
+    }

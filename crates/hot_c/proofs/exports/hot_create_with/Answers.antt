@@ -5,5 +5,5 @@ use Rattle.hot_c.specs.Stocks.{stock_in}
 use Rattle.hot_c.proofs.Shares.{have_opened}
 use Rattle.hot_c.proofs.exports.hot_create_with.Goals as goal
 
-pub returns-in-Ok-make_stocked-clause-made : goal.returns-in-Ok-make_stocked-clause-made
-returns-in-Ok-make_stocked-clause-made c = λ closed size. inl (refl, have_opened _ (λ layout. HasStock layout (stock_in c.args.stock.now)) c.open_all.new.handles c.in-Ok-make_stocked.stocked.items c.open_all.ensures (rw c.stock.ensures at c.in-Ok-make_stocked.ensures.made))
+pub returns-in-Ok-clause-made : goal.returns-in-Ok-clause-made
+returns-in-Ok-clause-made c = λ closed size. inl (refl, have_opened _ (λ layout. HasStock layout (stock_in c.args.stock.now)) c.open_all.new.handles c.in-Ok.stocked.items c.open_all.ensures (rw c.stock-records.ensures at c.in-Ok.ensures.made))

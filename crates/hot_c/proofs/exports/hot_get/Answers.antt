@@ -1,10 +1,11 @@
 -- The look-up is made on the handle's pass.
-use Rattle.std.proofs.Common.{Ok, ap, refl}
+use Rattle.std.proofs.Common.{Ok, ap, length, refl}
 use Rattle.finite_map.specs.declared.Call.TheVariants.{Get}
-use Rattle.hot_c.proofs.Answered.{answered, of_key}
+use Rattle.hot_c.proofs.Answered.{answered, of_key, replied}
 use Rattle.hot_c.proofs.exports.hot_get.Goals as goal
 
 pub returns-in-Ok-clause-call : goal.returns-in-Ok-clause-call
 returns-in-Ok-clause-call c =
     let fit = of_key c.args.key.now _ _ c.in-Ok.is c.set_bytes.ensures.fits c.set_bytes.ensures.ok in
-    answered c.args.key.now (Get _) (Get c.args.key.now) _ _ _ _ _ _ _ (Ok c.get.result) c.lend.ensures.value refl c.get.ensures (ap Get fit.0) fit.1 c.tell.ensures.status c.tell.ensures.value
+    answered c.args.key.now (Get _) (Get c.args.key.now) _ _ _ _ _ _ _ (Ok c.get.result) c.lend.ensures.value refl
+    (replied (length c.args.key.now) (Get _) c.get.result c.tell_reply.result _ _ c.get.ensures c.tell_reply.ensures.status) (ap Get fit.0) fit.1 c.tell_reply.ensures.value

@@ -1,6 +1,5 @@
 -- A removal of the value needs no leaf record.
-use Rattle.rowex_writing.specs.declared.attempts.TryFault.TheVariants.{FullLeaves}
 use Rattle.hot_c.proofs.exports.hot_try_remove_if.Goals as goal
 
 pub returns-clause-leafless : goal.returns-clause-leafless
-returns-clause-leafless c = c.make_call.ensures.may FullLeaves (λ may. may)
+returns-clause-leafless c = c.make_call.ensures.leafless (λ may. may)

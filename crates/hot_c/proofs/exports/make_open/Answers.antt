@@ -1,11 +1,12 @@
 -- The call is made on the handle's pass.
-use Rattle.std.proofs.Common.{refl}
-use Rattle.hot_c.proofs.Answered.{answered, tried, unrefused}
+use Rattle.std.proofs.Common.{length, refl}
+use Rattle.hot_c.proofs.Answered.{answered, for_size, unleafed}
 use Rattle.hot_c.proofs.exports.make_open.Goals as goal
 
 pub returns-clause-call : goal.returns-clause-call
-returns-clause-call c = λ key fits.
-    answered key c.args.call.now c.args.call.now _ _ _ _ _ _ _ c.try_call.result c.lend.ensures.value refl (tried _ _ _ _ c.try_call.ensures) refl fits c.tell.ensures.status c.tell.ensures.value
+returns-clause-call c = λ key fits same.
+    let told = c.make.ensures.call in
+    answered key c.args.call.now c.args.call.now _ _ _ _ _ _ _ told.0 c.lend.ensures.value refl (for_size c.args.size (length key) c.args.call.now c.make.result told.0 _ _ same told.1) refl fits told.2
 
-pub returns-clause-may : goal.returns-clause-may
-returns-clause-may c = λ fault never. unrefused c.args.call.now c.try_call.result c.tell.result fault c.try_call.ensures.pass.may never c.tell.ensures.status
+pub returns-clause-leafless : goal.returns-clause-leafless
+returns-clause-leafless c = λ never. let told = c.make.ensures.call in unleafed c.args.size c.args.call.now c.make.result told.0 _ _ _ told.1.pass told.3 never

@@ -1,0 +1,67 @@
+//! What a call says that found no record free, by a count of all records.
+
+ghost use Rattle.std.specs.Prelude.{◌≤◌, ◌↔◌, IsTrue};
+ghost use Rattle.hot_c.specs.Refusals.{AreInUse, AreNone, OfLeaves, TellsOfLeaves, TellsOfNodes};
+
+use crate::status::{FULL_LEAVES, FULL_NODES, HELD_BACK, KEY_TOO_LONG};
+use hot_index::{RecordCounts, StateCounts};
+
+/// What a call says that found no node record free.
+pub fn tell_nodes(counts: &RecordCounts) -> u32
+    ensures { TellsOfNodes counts.now result }
+{
+    if are_in_use(&counts.nodes) {
+        FULL_NODES
+    } else {
+        HELD_BACK
+    }
+}
+
+/// What a call says that found no leaf record free for a key of this length.
+pub fn tell_leaves(size: usize, counts: &RecordCounts) -> u32
+    ensures { TellsOfLeaves size counts.now result }
+{
+    if !are_leaves_in_use(size, counts) {
+        HELD_BACK
+    } else if are_no_leaves(size, counts) {
+        KEY_TOO_LONG
+    } else {
+        FULL_LEAVES
+    }
+}
+
+/// Whether the records of one kind and class are all in use.
+fn are_in_use(counts: &StateCounts) -> bool
+    ensures { IsTrue result ↔ AreInUse counts.now }
+{
+    counts.free == 0 && counts.held == 0 && counts.obsolete == 0
+}
+
+/// Whether there is no record of one kind and class.
+fn are_none(counts: &StateCounts) -> bool
+    ensures { IsTrue result ↔ AreNone counts.now }
+{
+    are_in_use(counts) && counts.live == 0
+}
+
+/// Whether all leaf records with room for a key of this length are in use.
+fn are_leaves_in_use(size: usize, counts: &RecordCounts) -> bool
+    ensures { IsTrue result ↔ OfLeaves AreInUse size counts.now }
+{
+    (size > 8 || are_in_use(&counts.short))
+        && (size > 24 || are_in_use(&counts.medium))
+        && (size > 56 || are_in_use(&counts.large))
+        && (size > 88 || are_in_use(&counts.wide))
+        && are_in_use(&counts.long)
+}
+
+/// Whether there is no leaf record with room for a key of this length.
+fn are_no_leaves(size: usize, counts: &RecordCounts) -> bool
+    ensures { IsTrue result ↔ OfLeaves AreNone size counts.now }
+{
+    (size > 8 || are_none(&counts.short))
+        && (size > 24 || are_none(&counts.medium))
+        && (size > 56 || are_none(&counts.large))
+        && (size > 88 || are_none(&counts.wide))
+        && are_none(&counts.long)
+}
