@@ -1,0 +1,76 @@
+/* Readings of sensors by time. A key is a sensor's name and a number of 8 bytes, the greatest byte first, so that keys are in the order
+ * of time. */
+#include <hot.h>
+#include <inttypes.h>
+#include <stdio.h>
+#include <stdlib.h>
+#include <string.h>
+
+enum { PAGE = 64, KEY = 9 };
+
+static void check(hot_status status) {
+    if (status == HOT_DONE || status == HOT_INSERTED)
+        return;
+    fprintf(stderr, "ranges: %s\n", hot_status_text(status));
+    exit(1);
+}
+
+static void write_key(char sensor, uint64_t time, uint8_t *key) {
+    int i;
+    key[0] = (uint8_t)sensor;
+    for (i = 8; i > 0; i--, time >>= 8)
+        key[i] = (uint8_t)time;
+}
+
+static uint64_t time_of(const hot_pair *pair) {
+    uint64_t time = 0;
+    int i;
+    for (i = 1; i < KEY; i++)
+        time = time << 8 | pair->key[i];
+    return time;
+}
+
+static void print(const hot_pair *pairs, size_t count) {
+    size_t i;
+    for (i = 0; i < count; i++)
+        printf("%c %" PRIu64 ": %" PRIu64 "\n", pairs[i].key[0], time_of(&pairs[i]), pairs[i].value);
+}
+
+int main(void) {
+    hot_handle handle = HOT_HANDLE;
+    hot_stock stock;
+    hot_pair page[PAGE], last;
+    uint8_t from[KEY], upto[KEY];
+    const hot_pair *after = NULL;
+    size_t count, total = 0;
+    uint64_t time, sum = 0, had;
+    uint32_t more;
+    const char *sensor;
+    hot_stock_for_keys(3000, KEY, &stock);
+    check(hot_create_with(&stock, &handle, 1));
+    for (sensor = "abc"; *sensor; sensor++)
+        for (time = 0; time < 1000; time++) {
+            write_key(*sensor, time, from);
+            check(hot_insert(&handle, from, KEY, time * 7 % 100, &had));
+        }
+    /* From a time on and before another. A scan's bounds are both included. */
+    write_key('b', 254, from), write_key('b', 258 - 1, upto);
+    check(hot_scan(&handle, from, KEY, upto, KEY, page, PAGE, &count, &more));
+    print(page, count);
+    /* The last three of a sensor, the latest first. */
+    write_key('a', 0, from), write_key('a', UINT64_MAX, upto);
+    check(hot_scan_reverse(&handle, from, KEY, upto, KEY, page, 3, &count, &more));
+    print(page, count);
+    /* All of a sensor, page by page. */
+    do {
+        check(hot_scan_prefix(&handle, (const uint8_t *)"c", 1, after, page, PAGE, &count, &more));
+        for (size_t i = 0; i < count; i++)
+            sum += page[i].value;
+        total += count;
+        if (count > 0)
+            last = page[count - 1], after = &last;
+    } while (more);
+    printf("c: %zu readings, %" PRIu64 " in all\n", total, sum);
+    hot_destroy(&handle);
+    return 0;
+}
