@@ -36,7 +36,7 @@ fn find() -> Result<PathBuf, String> {
     if let Some(folder) = env::var_os("HOT_DIR") {
         return Ok(Path::new(&folder).join("lib"));
     }
-    let package = env::var_os("CARGO_MANIFEST_DIR").map(|it| Path::new(&it).join("../../../lib"));
+    let package = env::var_os("CARGO_MANIFEST_DIR").map(|it| Path::new(&it).join("../../../../lib"));
     match package {
         Some(folder) if folder.join("libhot.a").is_file() => Ok(folder),
         _ => ask_pkg_config(),
