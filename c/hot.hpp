@@ -101,6 +101,19 @@ inline const std::uint8_t *bytes(std::string_view key) {
 /// The key that no other comes after.
 inline std::string greatest() { return std::string(HOT_MAX_KEY, '\xff'); }
 
+/// The least possible key above this one, or none for the greatest key, which has none above. Nothing needs to have the key.
+inline std::optional<std::string> after(key_view key) {
+    std::string found(key.substr(0, HOT_MAX_KEY));
+    if (key.size() < HOT_MAX_KEY)
+        return found.append(1, '\0');
+    while (!found.empty() && found.back() == '\xff')
+        found.pop_back();
+    if (found.empty())
+        return std::nullopt;
+    found.back() = static_cast<char>(static_cast<unsigned char>(found.back()) + 1);
+    return found;
+}
+
 /// The greatest possible key below this one, or none for the empty key, which has none below. Nothing needs to have the key.
 inline std::optional<std::string> before(key_view key) {
     std::string found(key.substr(0, HOT_MAX_KEY));
@@ -150,10 +163,7 @@ class range {
 
         iterator() = default;
         explicit iterator(range *of) : of_(of) {}
-        item operator*() const {
-            const hot_pair &it = of_->page_[of_->at_];
-            return {{reinterpret_cast<const char *>(it.key), it.length}, it.value};
-        }
+        item operator*() const { return of_->at_place(of_->at_); }
         arrow operator->() const { return {**this}; }
         iterator &operator++() {
             if (!of_->go_on())
@@ -190,16 +200,20 @@ class range {
         check(scan(handle_, bytes(from), from.size(), bytes(upto), upto.size(), page_.data(), page_.size(), &count_, &more_));
         at_ = 0;
     }
+    item at_place(std::size_t place) const {
+        const hot_pair &it = page_[place];
+        return {{reinterpret_cast<const char *>(it.key), it.length}, it.value};
+    }
     bool go_on() {
         if (++at_ < count_)
             return true;
         if (!more_ || goes_ == order::last)
             return false;
-        std::uint8_t next[HOT_MAX_KEY];
-        std::size_t length = 0;
-        if ((goes_ == order::rising ? hot_after : hot_before)(page_[count_ - 1].key, page_[count_ - 1].length, next, &length) != HOT_DONE)
+        const std::string_view last = at_place(count_ - 1).key;
+        const std::optional<std::string> next = goes_ == order::rising ? after(last) : before(last);
+        if (!next)
             return false;
-        load({reinterpret_cast<const char *>(next), length});
+        load(*next);
         return count_ > 0;
     }
 

@@ -177,6 +177,8 @@ static void test_ends() {
     CHECK(keys("", "").empty() && keys("b", "b").empty() && keys("c", "b").empty() && keys("c", long_key) == "c ");
     CHECK(keys("c", too_long) == "c " + long_key + ' ' && hot::before(too_long) == long_key && !hot::before({}));
     CHECK(hot::before("b") == "a" + std::string(HOT_MAX_KEY - 1, '\xff') && hot::before(std::string("b\0", 2)) == "b");
+    CHECK(hot::after("b") == std::string("b\0", 2) && hot::after("b" + std::string(HOT_MAX_KEY - 1, '\xff')) == "c");
+    CHECK(!hot::after(long_key) && !hot::after(too_long) && hot::after({}) == std::string(1, '\0'));
     CHECK(hot::to_string(hot::status::full_leaves) == hot_status_text(HOT_FULL_LEAVES));
 }
 

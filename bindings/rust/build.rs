@@ -1,21 +1,22 @@
 //! Finds libhot: below the folder `HOT_DIR`, else in the package that this crate lies in, else by pkg-config. The archive is linked
 //! where there is one, and with `HOT_SHARED=1` the shared library.
 use std::path::{Path, PathBuf};
-use std::{env, process};
+use std::{env, fs, process};
 
 fn main() {
     for name in ["HOT_DIR", "HOT_SHARED", "PKG_CONFIG", "PKG_CONFIG_PATH"] {
         println!("cargo:rerun-if-env-changed={name}");
     }
-    let folder = match find() {
-        Ok(folder) => folder,
-        Err(why) => {
-            eprintln!(
-                "libhot was not found: {why}\nset HOT_DIR to the folder that has lib/libhot.a, or PKG_CONFIG_PATH"
-            );
-            process::exit(1);
-        }
-    };
+    let found = find().and_then(|(folder, header)| Ok((folder, read(&header)?)));
+    let (folder, header) = found.unwrap_or_else(|why| {
+        eprintln!("libhot was not found: {why}\nset HOT_DIR to the folder that has lib/libhot.a, or PKG_CONFIG_PATH");
+        process::exit(1);
+    });
+    // A handle has a word more where the library has calls for an index of its own.
+    println!("cargo:rustc-check-cfg=cfg(hot_index)");
+    if header.contains("hot_open_index") {
+        println!("cargo:rustc-cfg=hot_index");
+    }
     let archive = folder.join("libhot.a");
     let is_shared = env::var_os("HOT_SHARED").is_some() || !archive.is_file();
     let folder = folder.display();
@@ -31,28 +32,36 @@ fn main() {
     println!("cargo:libdir={folder}");
 }
 
-/// The folder that the library is in.
-fn find() -> Result<PathBuf, String> {
+fn read(header: &Path) -> Result<String, String> {
+    println!("cargo:rerun-if-changed={}", header.display());
+    fs::read_to_string(header).map_err(|why| format!("{}: {why}", header.display()))
+}
+
+/// The folder that the library is in, and its header.
+fn find() -> Result<(PathBuf, PathBuf), String> {
+    let below = |folder: &Path| (folder.join("lib"), folder.join("include/hot.h"));
     if let Some(folder) = env::var_os("HOT_DIR") {
-        return Ok(Path::new(&folder).join("lib"));
+        return Ok(below(Path::new(&folder)));
     }
-    let package = env::var_os("CARGO_MANIFEST_DIR").map(|it| Path::new(&it).join("../../../../lib"));
+    let package = env::var_os("CARGO_MANIFEST_DIR").map(|it| Path::new(&it).join("../../../.."));
     match package {
-        Some(folder) if folder.join("libhot.a").is_file() => Ok(folder),
-        _ => ask_pkg_config(),
+        Some(folder) if folder.join("lib/libhot.a").is_file() => Ok(below(&folder)),
+        _ => {
+            ask_pkg_config("--atleast-version=1.6")?;
+            let header = Path::new(&ask_pkg_config("--variable=includedir")?).join("hot.h");
+            Ok((ask_pkg_config("--variable=libdir")?.into(), header))
+        }
     }
 }
 
-fn ask_pkg_config() -> Result<PathBuf, String> {
+fn ask_pkg_config(what: &str) -> Result<String, String> {
     let tool = env::var("PKG_CONFIG").unwrap_or_else(|_| "pkg-config".into());
-    let words = ["--print-errors", "--atleast-version=1.6", "--variable=libdir", "hot"];
-    let said = process::Command::new(&tool)
-        .args(words)
-        .output()
-        .map_err(|why| format!("{tool}: {why}"))?;
-    let folder = String::from_utf8_lossy(&said.stdout).trim().to_owned();
-    if said.status.success() && !folder.is_empty() {
-        Ok(folder.into())
+    let asked = process::Command::new(&tool)
+        .args(["--print-errors", what, "hot"])
+        .output();
+    let said = asked.map_err(|why| format!("{tool}: {why}"))?;
+    if said.status.success() {
+        Ok(String::from_utf8_lossy(&said.stdout).trim().to_owned())
     } else {
         Err(String::from_utf8_lossy(&said.stderr).into_owned())
     }

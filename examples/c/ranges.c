@@ -6,7 +6,7 @@
 #include <stdlib.h>
 #include <string.h>
 
-enum { PAGE = 64, KEY = 9 };
+enum { PAGE = 16, KEY = 9 };
 
 static void check(hot_status status) {
     if (status == HOT_DONE || status == HOT_INSERTED)
@@ -36,14 +36,26 @@ static void print(const hot_pair *pairs, size_t count) {
         printf("%c %" PRIu64 ": %" PRIu64 "\n", pairs[i].key[0], time_of(&pairs[i]), pairs[i].value);
 }
 
+struct total {
+    size_t count;
+    uint64_t sum;
+};
+
+static int add(void *context, const hot_pair *pair) {
+    struct total *total = context;
+    total->count++;
+    total->sum += pair->value;
+    return 1;
+}
+
 int main(void) {
     hot_handle handle = HOT_HANDLE;
     hot_stock stock;
-    hot_pair page[PAGE], last;
+    hot_pair page[PAGE];
     uint8_t from[KEY], upto[KEY];
-    const hot_pair *after = NULL;
-    size_t count, total = 0;
-    uint64_t time, sum = 0, had;
+    struct total total = { 0, 0 };
+    size_t count;
+    uint64_t time, had;
     uint32_t more;
     const char *sensor;
     hot_stock_for_keys(3000, KEY, &stock);
@@ -61,16 +73,10 @@ int main(void) {
     write_key('a', 0, from), write_key('a', UINT64_MAX, upto);
     check(hot_scan_reverse(&handle, from, KEY, upto, KEY, page, 3, &count, &more));
     print(page, count);
-    /* All of a sensor, page by page. */
-    do {
-        check(hot_scan_prefix(&handle, (const uint8_t *)"c", 1, after, page, PAGE, &count, &more));
-        for (size_t i = 0; i < count; i++)
-            sum += page[i].value;
-        total += count;
-        if (count > 0)
-            last = page[count - 1], after = &last;
-    } while (more);
-    printf("c: %zu readings, %" PRIu64 " in all\n", total, sum);
+    /* All of a sensor, one by one. */
+    write_key('c', 0, from), write_key('c', UINT64_MAX, upto);
+    check(hot_each(&handle, from, KEY, upto, KEY, add, &total));
+    printf("c: %zu readings, %" PRIu64 " in all\n", total.count, total.sum);
     hot_destroy(&handle);
     return 0;
 }

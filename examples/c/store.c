@@ -17,7 +17,7 @@
 #include <unistd.h>
 
 /* No record goes from one block of the log into the next, so that threads can read the blocks of a log side by side. */
-enum { BLOCK = 1 << 16, MOST_THREADS = 64, PAGE = 64 };
+enum { BLOCK = 1 << 16, MOST_THREADS = 64 };
 
 struct head {
     uint32_t sum, key, value, is_deletion;
@@ -107,20 +107,23 @@ static void get(hot_handle *handle, const char *key) {
     free(it);
 }
 
+static int print(void *context, const hot_pair *pair) {
+    (void)context;
+    if (pair->value % 2 == 0)
+        printf("%.*s\n", (int)pair->length, (const char *)pair->key);
+    return 1;
+}
+
+/* Lists the keys with a prefix, in order. */
 static void list(hot_handle *handle, const char *prefix) {
-    hot_pair page[PAGE], last;
-    const hot_pair *after = NULL;
-    size_t count, i;
-    uint32_t more;
-    do {
-        if (hot_scan_prefix(handle, (const uint8_t *)prefix, strlen(prefix), after, page, PAGE, &count, &more) != HOT_DONE)
-            die("a scan was refused");
-        for (i = 0; i < count; i++)
-            if (page[i].value % 2 == 0)
-                printf("%.*s\n", (int)page[i].length, (const char *)page[i].key);
-        if (count > 0)
-            last = page[count - 1], after = &last;
-    } while (more);
+    uint8_t last[HOT_MAX_KEY];
+    size_t length = strlen(prefix);
+    if (length > HOT_MAX_KEY)
+        return;
+    memset(last, 255, sizeof last);
+    memcpy(last, prefix, length);
+    if (hot_each(handle, (const uint8_t *)prefix, length, last, sizeof last, print, NULL) != HOT_DONE)
+        die("a scan was refused");
 }
 
 /* Takes block after block that no other thread has taken, and brings its records into the directory: up to one that was torn. */

@@ -32,6 +32,17 @@ const MOST_HANDLES: usize = 1024;
 struct RawHandle {
     tag: u32,
     slot: *mut c_void,
+    #[cfg(hot_index)]
+    index: *mut c_void,
+}
+
+impl RawHandle {
+    const CLOSED: RawHandle = RawHandle {
+        tag: 0,
+        slot: ptr::null_mut(),
+        #[cfg(hot_index)]
+        index: ptr::null_mut(),
+    };
 }
 
 #[repr(C)]
@@ -153,12 +164,7 @@ impl Pool {
         let (mut handles, mut free) = (Vec::new(), Vec::new());
         handles.try_reserve_exact(count).map_err(|_| Error::NoMemory)?;
         free.try_reserve_exact(count).map_err(|_| Error::NoMemory)?;
-        handles.extend((0..count).map(|_| {
-            UnsafeCell::new(RawHandle {
-                tag: 0,
-                slot: ptr::null_mut(),
-            })
-        }));
+        handles.extend((0..count).map(|_| UnsafeCell::new(RawHandle::CLOSED)));
         free.extend((0..count).rev());
         let mut handles = handles.into_boxed_slice();
         // SAFETY: the handles are zeroed, nobody else has them, and the pool neither moves nor copies them.
