@@ -5,7 +5,7 @@ use std::thread;
 
 #[test]
 fn counters_lose_nothing() -> Result<(), Error> {
-    let hot = Hot::with_capacity(100_000, 8, 4)?;
+    let hot = Hot::with_capacity(100, 8, 4)?;
     thread::scope(|scope| {
         for of in 0..4u64 {
             let handle = hot.handle().unwrap();
@@ -24,7 +24,7 @@ fn counters_lose_nothing() -> Result<(), Error> {
 
 #[test]
 fn readers_see_all_that_stays() -> Result<(), Error> {
-    let hot = Hot::with_capacity(400_000, 8, 4)?;
+    let hot = Hot::with_capacity(2000, 8, 4)?;
     let writer = hot.handle()?;
     writer.extend((0..1000u64).map(|n| ((2 * n).to_be_bytes(), n)))?;
     let ends = AtomicBool::new(false);
