@@ -8,7 +8,6 @@
 #include <initializer_list>
 #include <iterator>
 #include <memory>
-#include <mutex>
 #include <new>
 #include <optional>
 #include <stdexcept>
@@ -81,8 +80,7 @@ struct collected {
 };
 
 /// Throws for each status that isn't an answer: std::length_error for a key of more than HOT_MAX_KEY bytes, or one for which no leaf
-/// record has room; std::bad_alloc,
-/// std::invalid_argument for numbers out of range, std::logic_error for handles that are closed or open.
+/// record has room; std::bad_alloc; std::invalid_argument for numbers out of range; std::logic_error for handles that are closed or open.
 inline void check(hot_status status) {
     switch (status) {
     case HOT_KEY_TOO_LONG: throw std::length_error(hot_status_text(status));
@@ -99,7 +97,7 @@ inline const std::uint8_t *bytes(std::string_view key) {
 }
 
 /// The key that no other comes after.
-inline std::string greatest() { return std::string(HOT_MAX_KEY, '\xff'); }
+inline std::string_view greatest() { return {reinterpret_cast<const char *>(hot_last_key), HOT_MAX_KEY}; }
 
 /// The least possible key above this one, or none for the greatest key, which has none above. Nothing needs to have the key.
 inline std::optional<std::string> after(key_view key) {
@@ -285,43 +283,6 @@ class packed {
     std::uint32_t more_ = 0;
 };
 
-/// What the handles of an index share, which none of them is without. A hot_handle must not move, so all are in one array.
-class pool {
-  public:
-    template <class Open> pool(std::size_t count, Open open) : all_(new hot_handle[count]()) {
-        free_.reserve(count);
-        check(open(all_.get()));
-        for (count_ = count; count > 0; count--)
-            free_.push_back(&all_[count - 1]);
-    }
-    pool(const pool &) = delete;
-    pool &operator=(const pool &) = delete;
-    ~pool() {
-        for (std::size_t i = 0; i < count_; i++)
-            hot_destroy(&all_[i]);
-    }
-    /// A handle that nobody has, or a null pointer.
-    hot_handle *take() {
-        const std::lock_guard<std::mutex> lock(mutex_);
-        if (free_.empty())
-            return nullptr;
-        hot_handle *last = free_.back();
-        free_.pop_back();
-        return last;
-    }
-    void give_back(hot_handle *it) {
-        const std::lock_guard<std::mutex> lock(mutex_);
-        free_.push_back(it);
-    }
-    std::size_t count() const { return count_; }
-
-  private:
-    std::unique_ptr<hot_handle[]> all_;
-    std::size_t count_ = 0;
-    std::vector<hot_handle *> free_;
-    std::mutex mutex_;
-};
-
 /// The right to use an index, for one thread at a time. It can be moved, and closes itself; a call on one that is closed or was moved
 /// from throws std::logic_error. Otherwise calls throw only as `check` does.
 class handle {
@@ -445,11 +406,15 @@ class handle {
   private:
     friend class index;
 
+    // A hot_handle must not move. The index is there as long as each of its handles.
     struct closer {
-        std::shared_ptr<pool> of;
-        void operator()(hot_handle *it) const { of->give_back(it); }
+        std::shared_ptr<hot_index> of;
+        void operator()(hot_handle *it) const {
+            hot_close(it);
+            delete it;
+        }
     };
-    handle(hot_handle *it, std::shared_ptr<pool> of) : it_(it, closer{std::move(of)}) {}
+    handle(hot_handle *it, std::shared_ptr<hot_index> of) : it_(it, closer{std::move(of)}) {}
 
     hot_handle *it() const {
         if (!it_)
@@ -509,9 +474,9 @@ class index {
   public:
     /// Makes an empty index with this stock of records, and 1 to 1024 handles. Throws std::invalid_argument, std::bad_alloc.
     explicit index(const hot_stock &stock, std::size_t handles = 1) {
-        if (handles > 1024)
-            check(HOT_OUT_OF_RANGE);
-        pool_ = std::make_shared<pool>(handles, [&](hot_handle *all) { return hot_create_with(&stock, all, handles); });
+        hot_index *made = nullptr;
+        check(hot_open_index(&stock, handles, &made));
+        at_ = std::shared_ptr<hot_index>(made, hot_close_index);
     }
     /// Makes an empty index with room for `keys` keys of at most `longest` bytes each.
     index(std::uint32_t keys, std::size_t longest, std::size_t handles) : index(stock_for_keys(keys, longest), handles) {}
@@ -522,42 +487,31 @@ class index {
     [[nodiscard]] handle open() {
         if (std::optional<handle> one = try_open())
             return *std::move(one);
-        throw std::runtime_error("all handles are in use");
+        throw std::runtime_error(hot_status_text(HOT_NO_HANDLE));
     }
     [[nodiscard]] std::optional<handle> try_open() {
-        if (hot_handle *it = pool_ ? pool_->take() : nullptr)
-            return handle(it, pool_);
-        return std::nullopt;
+        handle one(new hot_handle HOT_HANDLE, at_);
+        return at_ && hot_open(at_.get(), one.it()) == HOT_DONE ? std::optional<handle>(std::move(one)) : std::nullopt;
     }
-    /// How many handles there are.
-    [[nodiscard]] std::size_t handles() const { return pool_ ? pool_->count() : 0; }
 
   private:
-    friend std::vector<handle> create(std::uint32_t nodes, std::uint32_t leaves, std::size_t count);
-    friend std::vector<handle> create(const hot_stock &stock, std::size_t count);
-
-    explicit index(std::shared_ptr<pool> all) : pool_(std::move(all)) {}
-    std::vector<handle> all() {
-        std::vector<handle> handles;
-        handles.reserve(pool_->count());
-        while (handles.size() < pool_->count())
-            handles.push_back(open());
-        return handles;
-    }
-
-    std::shared_ptr<pool> pool_;
+    std::shared_ptr<hot_index> at_;
 };
 
-/// Makes an empty index with this number of node and leaf records, and `count` handles on it, 1 to 64. The last one that is closed
-/// frees it. Throws std::invalid_argument, std::bad_alloc.
-[[nodiscard]] inline std::vector<handle> create(std::uint32_t nodes, std::uint32_t leaves, std::size_t count = 1) {
-    if (count > 64)
-        check(HOT_OUT_OF_RANGE);
-    return index(std::make_shared<pool>(count, [=](hot_handle *all) { return hot_create(nodes, leaves, all, count); })).all();
+/// Makes an empty index with a stock of records, and opens `count` handles on it, 1 to 1024. The last one that is closed frees it.
+/// Throws std::invalid_argument, std::bad_alloc.
+[[nodiscard]] inline std::vector<handle> create(const hot_stock &stock, std::size_t count = 1) {
+    index made(stock, count);
+    std::vector<handle> handles;
+    while (handles.size() < count)
+        handles.push_back(made.open());
+    return handles;
 }
 
-/// The same with a stock of records, and 1 to 1024 handles.
-[[nodiscard]] inline std::vector<handle> create(const hot_stock &stock, std::size_t count = 1) { return index(stock, count).all(); }
+/// The same with this number of node records, and of leaf records for keys of any length.
+[[nodiscard]] inline std::vector<handle> create(std::uint32_t nodes, std::uint32_t leaves, std::size_t count = 1) {
+    return create(hot_stock{nodes, 0, 0, 0, 0, leaves}, count);
+}
 
 /// How many bytes an index with this stock and this number of handles takes: hot_stock_bytes. Throws std::invalid_argument.
 [[nodiscard]] inline std::size_t stock_bytes(const hot_stock &stock, std::size_t count = 1) {

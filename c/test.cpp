@@ -59,7 +59,7 @@ static void test_calls() {
     CHECK(throws<std::logic_error>([&] { return handles[0].get("b"); }));
     CHECK(throws<std::length_error>([&] { return first.get(std::string(HOT_MAX_KEY + 1, 'a')); }));
     CHECK(throws<std::invalid_argument>([] { return hot::create(0, 10); }));
-    CHECK(throws<std::invalid_argument>([] { return hot::create(10, 10, 65); }));
+    CHECK(throws<std::invalid_argument>([] { return hot::create(10, 10, 1025); }));
     handles.clear();
     CHECK(first.get({}) == 10);
 }
@@ -222,7 +222,7 @@ static void test_containers() {
 static void test_index() {
     hot::index index(hot::stock_for_keys(100, 8), 2);
     hot::handle one = index.open(), two = index.open(), none;
-    CHECK(index.handles() == 2 && !index.try_open() && throws<std::runtime_error>([&] { return index.open(); }));
+    CHECK(!index.try_open() && throws<std::runtime_error>([&] { return index.open(); }));
     CHECK(one && two && !none && throws<std::logic_error>([&] { return none.get("a"); }));
     CHECK(!two.insert("a", 1).is_refused());
     two.close();
