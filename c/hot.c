@@ -1,5 +1,5 @@
 /* What of the library for C is written in C, and tested: the texts of statuses, scans of a prefix, pairs that are handed over one by
- * one, an index that opens its handles one by one, and the calls that wait: the proved library may neither wait nor yield, so it says when to try again, and the wait is here. */
+ * one, calls for many keys, an index that opens its handles one by one, and the calls that wait: the proved library may neither wait nor yield, so it says when to try again, and the wait is here. */
 #include "hot.h"
 #include <sched.h>
 #include <stdlib.h>
@@ -157,6 +157,124 @@ hot_status hot_remove_if(hot_handle *handle, const uint8_t *key, size_t length, 
     hot_status status;
     while (is_to_wait(status = hot_try_remove_if(handle, key, length, expected, had)))
         ;
+    return status;
+}
+
+hot_status hot_try_add(hot_handle *handle, const uint8_t *key, size_t length, uint64_t delta, uint64_t *had) {
+    uint64_t seen;
+    hot_status status = hot_get(handle, key, length, &seen);
+    if (status != HOT_FOUND)
+        return status;
+    status = hot_try_exchange(handle, key, length, seen, seen + delta, NULL);
+    if (status == HOT_EXCHANGED && had)
+        *had = seen;
+    return status == HOT_EXCHANGED ? HOT_WAS : status == HOT_DIFFERS ? HOT_BUSY : status;
+}
+
+hot_status hot_add(hot_handle *handle, const uint8_t *key, size_t length, uint64_t delta, uint64_t *had) {
+    uint64_t seen;
+    hot_status status = hot_get(handle, key, length, &seen);
+    if (status != HOT_FOUND)
+        return status;
+    while ((status = hot_exchange(handle, key, length, seen, seen + delta, &seen)) == HOT_DIFFERS)
+        ;
+    if (status == HOT_EXCHANGED && had)
+        *had = seen;
+    return status == HOT_EXCHANGED ? HOT_WAS : status;
+}
+
+/* Hands each pair to `visit` with a handle in its context, and tells the first status that refused a change. */
+typedef struct change_each {
+    hot_handle *handle;
+    hot_status status;
+} change_each;
+
+static int go_on(change_each *each, hot_status status) {
+    each->status = status < HOT_BUSY ? HOT_DONE : status;
+    return each->status == HOT_DONE;
+}
+
+static int remove_pair(void *context, const hot_pair *pair) {
+    change_each *each = context;
+    return go_on(each, hot_remove(each->handle, pair->key, pair->length, NULL));
+}
+
+static int copy_pair(void *context, const hot_pair *pair) {
+    change_each *each = context;
+    return go_on(each, hot_upsert(each->handle, pair->key, pair->length, pair->value, NULL));
+}
+
+static hot_status change_all(hot_handle *from, hot_visitor *visit, hot_handle *handle) {
+    change_each each;
+    hot_status status;
+    each.handle = handle;
+    each.status = HOT_DONE;
+    status = hot_each(from, hot_last_key, 0, HOT_TO_END, visit, &each);
+    return status == HOT_DONE ? each.status : status;
+}
+
+hot_status hot_clear(hot_handle *handle) {
+    return change_all(handle, remove_pair, handle);
+}
+
+hot_status hot_copy(hot_handle *from, hot_handle *to) {
+    uint16_t number;
+    return hot_number(to, &number) == HOT_DONE ? change_all(from, copy_pair, to) : HOT_CLOSED;
+}
+
+hot_status hot_len(hot_handle *handle, size_t *count) {
+    hot_counts counts;
+    hot_status status = hot_census(handle, &counts);
+    if (status == HOT_DONE)
+        *count = (size_t)counts.short_leaves.live + counts.medium_leaves.live + counts.large_leaves.live + counts.wide_leaves.live +
+                 counts.long_leaves.live;
+    return status;
+}
+
+void hot_stock_for_lengths(const uint32_t *keys, hot_stock *stock) {
+    static const size_t longest[5] = {8, 24, 56, 88, HOT_MAX_KEY};
+    hot_stock each[5], all;
+    uint64_t total = 0;
+    int size;
+    for (size = 0; size < 5; size++) {
+        total += keys[size];
+        memset(&each[size], 0, sizeof each[size]);
+        if (keys[size] > 0)
+            hot_stock_for_keys(keys[size], longest[size], &each[size]);
+    }
+    hot_stock_for_keys(total < UINT32_MAX ? (uint32_t)total : UINT32_MAX, HOT_MAX_KEY, &all);
+    stock->nodes = all.nodes;
+    stock->short_leaves = each[0].short_leaves;
+    stock->medium_leaves = each[1].medium_leaves;
+    stock->large_leaves = each[2].large_leaves;
+    stock->wide_leaves = each[3].wide_leaves;
+    stock->long_leaves = each[4].long_leaves;
+}
+
+hot_status hot_get_packed(hot_handle *handle, const uint8_t *bytes, const size_t *lengths, size_t count, uint64_t *values,
+                          hot_status *statuses) {
+    enum { PART = 64 };
+    hot_lookup lookups[PART];
+    uint16_t number;
+    size_t first, place, size;
+    hot_status status = hot_number(handle, &number);
+    for (place = 0; status == HOT_DONE && place < count; place++)
+        if (lengths[place] > HOT_MAX_KEY)
+            status = HOT_KEY_TOO_LONG;
+    for (first = 0; status == HOT_DONE && first < count; first += size) {
+        size = count - first < PART ? count - first : PART;
+        for (place = 0; place < size; place++) {
+            lookups[place].key = bytes;
+            lookups[place].length = lengths[first + place];
+            bytes += lengths[first + place];
+        }
+        status = hot_get_many(handle, lookups, size);
+        for (place = 0; status == HOT_DONE && place < size; place++) {
+            statuses[first + place] = lookups[place].status;
+            if (lookups[place].status == HOT_FOUND)
+                values[first + place] = lookups[place].value;
+        }
+    }
     return status;
 }
 

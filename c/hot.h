@@ -26,7 +26,7 @@
  * What the library relies on, and doesn't check. No pointer is NULL but `had`, not even a key's if its length is 0; each points to what
  * its type says, and what a call writes overlaps no other argument. A handle is zeroed before it is opened, and the program never copies,
  * moves or writes its bytes. malloc, realloc and free belong to one allocator. No call is made from a signal handler, or after a fork in
- * the child of a process with threads. A call has 32 KiB of stack.
+ * the child of a process with threads. A call has 48 KiB of stack.
  *
  * A call fails only by its status. None waits for another, except hot_insert, hot_upsert, hot_exchange, hot_remove and hot_remove_if.
  * Each other call ends after a bounded number of steps, whatever other threads do: a step is one atomic access to a word of the
@@ -143,6 +143,10 @@ hot_status hot_create_with(const hot_stock *stock, hot_handle *handles, size_t c
  * that are long chains of prefixes may take up to one node each. */
 void hot_stock_for_keys(uint32_t keys, size_t longest, hot_stock *stock);
 
+/* Writes a stock for keys of different lengths: `keys` has five numbers, of keys of up to 8, 24, 56, 88 and HOT_MAX_KEY bytes. For each
+ * that is not 0 it has as many leaves as hot_stock_for_keys would give, and nodes for all keys together. */
+void hot_stock_for_lengths(const uint32_t *keys, hot_stock *stock);
+
 /* Writes how many bytes the records and pins of an index with this stock and this number of handles take. While it is being made, an
  * index takes twice that.
  * HOT_DONE; or HOT_OUT_OF_RANGE, where hot_create_with would answer that. */
@@ -189,6 +193,12 @@ typedef struct hot_lookup {
  * HOT_DONE; or HOT_KEY_TOO_LONG if any key is, HOT_CLOSED, HOT_NO_MEMORY, and then nothing was written. */
 hot_status hot_get_many(hot_handle *handle, hot_lookup *lookups, size_t count);
 
+/* hot_get_many of keys that lie one after another in `bytes`, each of so many bytes as `lengths` says: writes a value, if there is one,
+ * and a status for each. It makes a hot_get_many for each 64 keys.
+ * HOT_DONE; or HOT_KEY_TOO_LONG if any key is, and then nothing was written; or HOT_CLOSED, HOT_NO_MEMORY, and then the rest was not. */
+hot_status hot_get_packed(hot_handle *handle, const uint8_t *bytes, const size_t *lengths, size_t count, uint64_t *values,
+                          hot_status *statuses);
+
 /* Gives a key a value if it is absent. If it is there, it keeps its value, which is written to `had`. This and each other call
  * hot_try_.. makes at most 1396470 steps, 2 for each handle of the index, 7 for each node record and 11 for each leaf record.
  * HOT_INSERTED, HOT_EXISTS; or HOT_BUSY, HOT_HELD_BACK, HOT_FULL_NODES, HOT_FULL_LEAVES, HOT_KEY_TOO_LONG, HOT_CLOSED. */
@@ -221,6 +231,22 @@ hot_status hot_remove(hot_handle *handle, const uint8_t *key, size_t length, uin
 /* The same for hot_try_exchange and hot_try_remove_if. */
 hot_status hot_exchange(hot_handle *handle, const uint8_t *key, size_t length, uint64_t expected, uint64_t value, uint64_t *had);
 hot_status hot_remove_if(hot_handle *handle, const uint8_t *key, size_t length, uint64_t expected, uint64_t *had);
+
+/* Adds to the value of a key that is there, modulo 2 to the power of 64, and writes the value before to `had`. It looks the key up, and
+ * makes a compare and exchange from the value that it finds; where another call has changed that meanwhile, it is busy or begins again.
+ * So it makes at most 56196 steps more than hot_try_exchange may; and hot_add waits where hot_exchange does.
+ * HOT_WAS, HOT_ABSENT; or what hot_try_exchange or hot_exchange returns that is refused. */
+hot_status hot_try_add(hot_handle *handle, const uint8_t *key, size_t length, uint64_t delta, uint64_t *had);
+hot_status hot_add(hot_handle *handle, const uint8_t *key, size_t length, uint64_t delta, uint64_t *had);
+
+/* Removes all keys, page by page, as hot_remove does. A key that another call puts in meanwhile may stay.
+ * HOT_DONE; or HOT_CLOSED, HOT_NO_MEMORY or HOT_FULL_NODES, and then some keys are left. */
+hot_status hot_clear(hot_handle *handle);
+
+/* Gives each key of one index its value in another, in key order and page by page, as hot_scan and hot_upsert do: with keys in order the
+ * new nodes are the fullest. What other calls change in the first one meanwhile is copied or not.
+ * HOT_DONE; or HOT_CLOSED, HOT_NO_MEMORY, HOT_FULL_NODES, HOT_FULL_LEAVES or HOT_KEY_TOO_LONG, and then the rest was not copied. */
+hot_status hot_copy(hot_handle *from, hot_handle *to);
 
 /* Lists the pairs whose keys are from `from` to `upto`, both included, in key order: the first `limit` of them, for which the
  * array `pairs` has room. Writes their number to `count`, and 1 to `more` if the range has more, else 0. Other calls may change
@@ -327,6 +353,11 @@ typedef struct hot_counts {
  * it was when its turn came.
  * HOT_DONE; or HOT_CLOSED. */
 hot_status hot_census(hot_handle *handle, hot_counts *counts);
+
+/* Counts the keys of the handle's index, each of which has one leaf record: all leaves that are in use, by hot_census. So it makes a step for
+ * each record. The number is exact where nobody changes the index meanwhile.
+ * HOT_DONE; or HOT_CLOSED. */
+hot_status hot_len(hot_handle *handle, size_t *count);
 
 /* Closes a handle of hot_create or hot_create_with, from any thread and in any order. Closing the last one frees the index. A closed
  * handle may be given to hot_create again. It gives a handle of hot_open back, as hot_close does.

@@ -80,12 +80,14 @@ struct collected {
 };
 
 /// Throws for each status that isn't an answer: std::length_error for a key of more than HOT_MAX_KEY bytes, or one for which no leaf
-/// record has room; std::bad_alloc; std::invalid_argument for numbers out of range; std::logic_error for handles that are closed or open.
+/// record has room; std::bad_alloc; std::invalid_argument for numbers out of range; std::logic_error for handles that are closed or open;
+/// std::runtime_error where no handle is free.
 inline void check(hot_status status) {
     switch (status) {
     case HOT_KEY_TOO_LONG: throw std::length_error(hot_status_text(status));
     case HOT_OUT_OF_RANGE: throw std::invalid_argument(hot_status_text(status));
     case HOT_NO_MEMORY: throw std::bad_alloc();
+    case HOT_NO_HANDLE: throw std::runtime_error(hot_status_text(status));
     case HOT_CLOSED:
     case HOT_OPEN: throw std::logic_error(hot_status_text(status));
     default: break;
@@ -335,6 +337,23 @@ class handle {
     }
     change remove_if(key_view key, std::uint64_t expected) { return put(hot_remove_if, key, expected); }
 
+    /// Adds to the value of a key that is there, modulo 2 to the power of 64: hot_add.
+    change add(key_view key, std::uint64_t delta) { return put(hot_add, key, delta); }
+
+    /// Adds to a key's value, and returns the one before; a key that is absent gets the value, as if it had had 0. It waits, too, and
+    /// throws std::length_error, or std::runtime_error where the index is full.
+    std::uint64_t fetch_add(key_view key, std::uint64_t delta) {
+        for (;;) {
+            change made = add(key, delta);
+            if (made.what == status::absent)
+                made = insert(key, delta);
+            if (made.is_refused())
+                throw std::runtime_error(made.text());
+            if (made.what != status::exists) // else another call has put it in meanwhile
+                return made.had.value_or(0);
+        }
+    }
+
     /// The same calls, tried once: they may return `busy` or `held_back`.
     change try_insert(key_view key, std::uint64_t value) { return put(hot_try_insert, key, value); }
     change try_upsert(key_view key, std::uint64_t value) { return put(hot_try_upsert, key, value); }
@@ -343,6 +362,7 @@ class handle {
         return put_if(hot_try_exchange, key, expected, value);
     }
     change try_remove_if(key_view key, std::uint64_t expected) { return put(hot_try_remove_if, key, expected); }
+    change try_add(key_view key, std::uint64_t delta) { return put(hot_try_add, key, delta); }
 
     /// The pairs from one key to another, both included; those from a key on; those whose keys begin with a prefix.
     [[nodiscard]] range scan(key_view from, key_view upto, std::size_t pairs = page) { return range(it(), from, upto, pairs); }
@@ -384,10 +404,11 @@ class handle {
     [[nodiscard]] std::optional<entry> last() { return last(greatest()); }
     [[nodiscard]] bool empty() { return !first(); }
 
-    /// How many keys there are: exact while nobody changes the index. It visits each record.
+    /// How many keys there are: hot_len.
     [[nodiscard]] std::size_t size() {
-        const hot_counts it = census();
-        return std::size_t{it.short_leaves.live} + it.medium_leaves.live + it.large_leaves.live + it.wide_leaves.live + it.long_leaves.live;
+        std::size_t count = 0;
+        check(hot_len(it(), &count));
+        return count;
     }
 
     collected collect() {
@@ -472,26 +493,36 @@ class handle {
 /// An index, which gives handles to threads. It may be moved, and gone before its handles: the last one frees what there is.
 class index {
   public:
-    /// Makes an empty index with this stock of records, and 1 to 1024 handles. Throws std::invalid_argument, std::bad_alloc.
-    explicit index(const hot_stock &stock, std::size_t handles = 1) {
+    /// Makes an empty index with this stock of records, and room for so many handles, 1 to 1024. Throws std::invalid_argument,
+    /// std::bad_alloc.
+    explicit index(const hot_stock &stock, std::size_t handles = 64) {
         hot_index *made = nullptr;
         check(hot_open_index(&stock, handles, &made));
         at_ = std::shared_ptr<hot_index>(made, hot_close_index);
     }
     /// Makes an empty index with room for `keys` keys of at most `longest` bytes each.
-    index(std::uint32_t keys, std::size_t longest, std::size_t handles) : index(stock_for_keys(keys, longest), handles) {}
+    index(std::uint32_t keys, std::size_t longest, std::size_t handles = 64) : index(stock_for_keys(keys, longest), handles) {}
     index(index &&) = default;
     index &operator=(index &&) = default;
 
-    /// A handle that nobody has. Any thread may ask. Throws std::runtime_error if all are in use.
+    /// Opens a handle, at any time and from any thread. Throws std::runtime_error if all are open, std::logic_error if the index was
+    /// moved from.
     [[nodiscard]] handle open() {
-        if (std::optional<handle> one = try_open())
-            return *std::move(one);
-        throw std::runtime_error(hot_status_text(HOT_NO_HANDLE));
+        std::optional<handle> one = try_open();
+        if (!one)
+            check(HOT_NO_HANDLE);
+        return *std::move(one);
     }
+    /// The same, or none if all are open.
     [[nodiscard]] std::optional<handle> try_open() {
+        if (!at_)
+            check(HOT_CLOSED);
         handle one(new hot_handle HOT_HANDLE, at_);
-        return at_ && hot_open(at_.get(), one.it()) == HOT_DONE ? std::optional<handle>(std::move(one)) : std::nullopt;
+        const hot_status status = hot_open(at_.get(), one.it());
+        if (status == HOT_NO_HANDLE)
+            return std::nullopt;
+        check(status);
+        return one;
     }
 
   private:

@@ -502,6 +502,15 @@ static void test_stock_sizes(void) {
         CHECK(hot_destroy(&handles[i]) == HOT_DONE);
     hot_stock_for_keys(8, 89, &stock);
     CHECK(stock.nodes == 513 && stock.long_leaves == 521 && !stock.short_leaves && !stock.wide_leaves);
+    {
+        static const uint32_t keys[5] = {8, 0, 80, 0, 1}, most[5] = {4294967295u, 4294967295u, 0, 0, 0};
+        hot_stock_for_lengths(keys, &stock);
+        CHECK(stock.nodes == 523 && stock.short_leaves == 521 && !stock.medium_leaves && stock.large_leaves == 602);
+        CHECK(!stock.wide_leaves && stock.long_leaves == 513);
+        hot_stock_for_lengths(most, &stock);
+        CHECK(hot_create_with(&stock, handles, 1) == HOT_OUT_OF_RANGE);
+        hot_stock_for_keys(8, 89, &stock);
+    }
     stock.medium_leaves = 4294967295u;
     CHECK(hot_create_with(&stock, handles, 1) == HOT_OUT_OF_RANGE);
     stock.medium_leaves = stock.nodes = 0;
@@ -607,6 +616,118 @@ static void test_unread(void) {
     CHECK(hot_exchange(&handle, key, 1, 4, 5, NULL) == HOT_EXCHANGED && hot_get(&handle, key, 1, &value) == HOT_FOUND && value == 5);
     CHECK(hot_try_remove_if(&handle, key, 1, 4, NULL) == HOT_DIFFERS && hot_remove_if(&handle, key, 1, 5, NULL) == HOT_REMOVED);
     CHECK(hot_try_remove(&handle, key, 1, NULL) == HOT_ABSENT && hot_remove(&handle, key, 1, NULL) == HOT_ABSENT);
+    CHECK(hot_destroy(&handle) == HOT_DONE);
+}
+
+/* Adding to values: what each had, past the greatest number, and where the key is absent. */
+static void test_add(void) {
+    hot_handle handle = HOT_HANDLE;
+    const uint8_t *key = bytes("a");
+    static const uint8_t long_key[HOT_MAX_KEY + 1] = {0};
+    uint64_t had = 7;
+    CHECK(hot_add(&handle, key, 1, 1, &had) == HOT_CLOSED && hot_try_add(&handle, key, 1, 1, &had) == HOT_CLOSED && had == 7);
+    CHECK(hot_create(10, 2, &handle, 1) == HOT_DONE);
+    CHECK(hot_add(&handle, key, 1, 1, &had) == HOT_ABSENT && hot_try_add(&handle, key, 1, 1, NULL) == HOT_ABSENT && had == 7);
+    CHECK(hot_insert(&handle, key, 1, 5, NULL) == HOT_INSERTED);
+    CHECK(hot_add(&handle, key, 1, 3, &had) == HOT_WAS && had == 5);
+    CHECK(hot_try_add(&handle, key, 1, UINT64_MAX, &had) == HOT_WAS && had == 8);
+    CHECK(hot_add(&handle, key, 1, 0 - (uint64_t)8, NULL) == HOT_WAS && hot_get(&handle, key, 1, &had) == HOT_FOUND && had == UINT64_MAX);
+    CHECK(hot_try_add(&handle, key, 1, 1, NULL) == HOT_WAS && hot_get(&handle, key, 1, &had) == HOT_FOUND && had == 0);
+    CHECK(hot_add(&handle, long_key, sizeof long_key, 1, &had) == HOT_KEY_TOO_LONG);
+    CHECK(hot_insert(&handle, bytes("b"), 1, 5, NULL) == HOT_INSERTED);
+    CHECK(hot_add(&handle, key, 1, 1, &had) == HOT_FULL_LEAVES && hot_try_add(&handle, key, 1, 1, &had) == HOT_FULL_LEAVES && had == 0);
+    CHECK(hot_destroy(&handle) == HOT_DONE);
+}
+
+/* A copy into another index, and an index that is cleared; more keys than are listed at a time. */
+static void test_copy(void) {
+    enum { MANY = 500 };
+    hot_handle from = HOT_HANDLE, to = HOT_HANDLE, small = HOT_HANDLE;
+    uint8_t key[2];
+    size_t count = 7;
+    uint64_t value = 0;
+    uint32_t number;
+    hot_pair pair;
+    CHECK(hot_copy(&from, &to) == HOT_CLOSED && hot_clear(&from) == HOT_CLOSED && hot_len(&from, &count) == HOT_CLOSED && count == 7);
+    CHECK(hot_create(200, 600, &from, 1) == HOT_DONE && hot_create(200, 600, &to, 1) == HOT_DONE && hot_create(10, 5, &small, 1) == HOT_DONE);
+    CHECK(hot_copy(&from, &to) == HOT_DONE);
+    for (number = 0; number < MANY; number++) {
+        key[0] = (uint8_t)(number >> 8), key[1] = (uint8_t)number;
+        CHECK(hot_insert(&from, key, 2, number, NULL) == HOT_INSERTED);
+    }
+    CHECK(hot_insert(&to, key, 2, 7, NULL) == HOT_INSERTED && hot_insert(&to, bytes("own"), 3, 8, NULL) == HOT_INSERTED);
+    CHECK(hot_copy(&from, &to) == HOT_DONE);
+    CHECK(hot_len(&from, &count) == HOT_DONE && count == MANY && hot_len(&to, &count) == HOT_DONE && count == MANY + 1);
+    for (number = 0; number < MANY; number++) {
+        key[0] = (uint8_t)(number >> 8), key[1] = (uint8_t)number;
+        CHECK(hot_get(&to, key, 2, &value) == HOT_FOUND && value == number);
+    }
+    CHECK(hot_get(&to, bytes("own"), 3, &value) == HOT_FOUND && value == 8);
+    CHECK(hot_copy(&from, &small) == HOT_FULL_LEAVES && hot_last(&small, HOT_TO_END, &pair) == HOT_FOUND && pair.value == 4);
+    CHECK(hot_clear(&from) == HOT_DONE && hot_first(&from, key, 0, &pair) == HOT_ABSENT);
+    CHECK(hot_len(&from, &count) == HOT_DONE && count == 0);
+    CHECK(hot_clear(&from) == HOT_DONE && hot_get(&to, key, 2, &value) == HOT_FOUND);
+    CHECK(hot_copy(&small, &to) == HOT_DONE && hot_destroy(&to) == HOT_DONE && hot_copy(&small, &to) == HOT_CLOSED);
+    CHECK(hot_destroy(&from) == HOT_DONE && hot_destroy(&small) == HOT_DONE);
+}
+
+/* Calls on a small stack, among them those that hand pairs to others. */
+static void *call_all(void *given) {
+    hot_handle *handles = given;
+    static hot_pair pairs[64];
+    uint8_t key[HOT_MAX_KEY];
+    hot_counts counts;
+    size_t count;
+    uint32_t more, number;
+    for (number = 0; number < 3000; number++) {
+        memset(key, (int)(number * 7), sizeof key);
+        memcpy(key + number % 200, &number, sizeof number);
+        CHECK(hot_upsert(&handles[0], key, sizeof key, number, NULL) == HOT_NEW);
+        CHECK(hot_add(&handles[0], key, sizeof key, 1, NULL) == HOT_WAS);
+        if (number % 3 == 0)
+            CHECK(hot_remove(&handles[0], key, sizeof key, NULL) == HOT_REMOVED);
+    }
+    CHECK(hot_scan(&handles[0], key, 0, HOT_TO_END, pairs, 64, &count, &more) == HOT_DONE && count == 64);
+    CHECK(hot_scan_reverse(&handles[0], key, 0, HOT_TO_END, pairs, 64, &count, &more) == HOT_DONE && count == 64);
+    CHECK(hot_scan_prefix(&handles[0], key, 0, NULL, 0, pairs, 64, &count, &more) == HOT_DONE && count == 64);
+    CHECK(hot_copy(&handles[0], &handles[1]) == HOT_DONE && hot_clear(&handles[1]) == HOT_DONE);
+    CHECK(hot_census(&handles[1], &counts) == HOT_DONE && counts.long_leaves.live == 0);
+    return NULL;
+}
+
+static void test_stack(void) {
+    hot_handle handles[2] = {HOT_HANDLE, HOT_HANDLE};
+    pthread_attr_t small;
+    pthread_t thread;
+    CHECK(hot_create(3000, 3000, &handles[0], 1) == HOT_DONE && hot_create(3000, 3000, &handles[1], 1) == HOT_DONE);
+    CHECK(pthread_attr_init(&small) == 0 && pthread_attr_setstacksize(&small, 48 << 10) == 0);
+    CHECK(pthread_create(&thread, &small, call_all, handles) == 0 && pthread_join(thread, NULL) == 0);
+    CHECK(pthread_attr_destroy(&small) == 0);
+    CHECK(hot_destroy(&handles[0]) == HOT_DONE && hot_destroy(&handles[1]) == HOT_DONE);
+}
+
+/* Look-ups of keys that lie one after another, more of them than are looked up at a time. */
+static void test_get_packed(void) {
+    enum { MANY = 150 };
+    hot_handle handle = HOT_HANDLE;
+    uint8_t keys[2 * MANY];
+    size_t lengths[MANY];
+    uint64_t values[MANY];
+    hot_status statuses[MANY];
+    size_t place;
+    for (place = 0; place < MANY; place++)
+        keys[2 * place] = 'k', keys[2 * place + 1] = (uint8_t)place, lengths[place] = 2, values[place] = 7, statuses[place] = HOT_BUSY;
+    CHECK(hot_get_packed(&handle, keys, lengths, MANY, values, statuses) == HOT_CLOSED && statuses[0] == HOT_BUSY);
+    CHECK(hot_create(100, 100, &handle, 1) == HOT_DONE);
+    for (place = 0; place < MANY; place += 2)
+        CHECK(hot_insert(&handle, keys + 2 * place, 2, 1000 + place, NULL) == HOT_INSERTED);
+    lengths[MANY - 1] = HOT_MAX_KEY + 1;
+    CHECK(hot_get_packed(&handle, keys, lengths, MANY, values, statuses) == HOT_KEY_TOO_LONG && statuses[0] == HOT_BUSY);
+    lengths[MANY - 1] = 2;
+    CHECK(hot_get_packed(&handle, keys, lengths, 0, values, statuses) == HOT_DONE && statuses[0] == HOT_BUSY);
+    CHECK(hot_get_packed(&handle, keys, lengths, MANY, values, statuses) == HOT_DONE);
+    for (place = 0; place < MANY; place++)
+        CHECK(statuses[place] == (place % 2 ? HOT_ABSENT : HOT_FOUND) && values[place] == (place % 2 ? 7 : 1000 + place));
     CHECK(hot_destroy(&handle) == HOT_DONE);
 }
 
@@ -839,6 +960,10 @@ int main(void) {
     test_handles();
     test_index();
     test_unread();
+    test_add();
+    test_copy();
+    test_get_packed();
+    test_stack();
     test_constants();
     test_memory();
     test_threads();

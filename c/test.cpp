@@ -38,7 +38,6 @@ template <class Error, class Call> static bool throws(Call call) {
 }
 
 static_assert(!std::is_copy_constructible_v<hot::handle> && std::is_nothrow_move_constructible_v<hot::handle>);
-static_assert(!std::is_copy_constructible_v<hot::index> && std::is_nothrow_move_constructible_v<hot::index>);
 // A pair would keep the key of a page that is gone.
 static_assert(!std::is_constructible_v<hot::pair, hot::range::item> && std::is_convertible_v<hot::range::item, hot::entry>);
 
@@ -62,6 +61,29 @@ static void test_calls() {
     CHECK(throws<std::invalid_argument>([] { return hot::create(10, 10, 1025); }));
     handles.clear();
     CHECK(first.get({}) == 10);
+}
+
+// An index that opens handles one by one: a moved one goes on, a handle outlives its index, and there are no more than it has room for.
+static_assert(!std::is_copy_constructible_v<hot::index> && std::is_nothrow_move_constructible_v<hot::index>);
+
+static void test_index() {
+    hot::index moved(hot::stock_for_keys(100, 8), 2);
+    hot::index index = std::move(moved);
+    hot::handle first = index.open();
+    {
+        hot::handle second = index.open();
+        CHECK(throws<std::runtime_error>([&] { (void)index.open(); }));
+        CHECK(first.insert("a", 5).what == hot::status::inserted && second.contains("a") && !second.contains("b"));
+    }
+    hot::handle third = index.open();
+    CHECK(third.add("a", 3).had == 5 && third.try_add("a", 1).what == hot::status::replaced && third.get("a") == 9);
+    CHECK(third.add("b", 1).what == hot::status::absent && third.insert("b", 1).what == hot::status::inserted && third.size() == 2);
+    CHECK(third.first()->key == "a" && third.last()->value == 1 && third.last("a")->value == 9 && !third.first("c"));
+    CHECK(to_string(hot::status::held_back) == hot_status_text(HOT_HELD_BACK));
+    CHECK(throws<std::logic_error>([&] { (void)moved.open(); }));
+    CHECK(throws<std::invalid_argument>([] { hot::index none(hot::stock_for_keys(1, 8), 0); }));
+    { const hot::index gone = std::move(index); }
+    CHECK(third.get("b") == 1);
 }
 
 // Calls that expect a value: made, declined with the value that the key has, or absent.
@@ -218,8 +240,8 @@ static void test_containers() {
 #endif
 }
 
-// An index gives its handles, takes them back, and is there as long as one of them.
-static void test_index() {
+// Handles that are closed, moved and empty, and an index that takes the place of another.
+static void test_handles() {
     hot::index index(hot::stock_for_keys(100, 8), 2);
     hot::handle one = index.open(), two = index.open(), none;
     CHECK(!index.try_open() && throws<std::runtime_error>([&] { return index.open(); }));
@@ -255,35 +277,38 @@ static void test_threads() {
     CHECK(busy == 0 && count == 100);
 }
 
-// Four threads that add one to one value by exchanges, each made again with the value that it was told: none is lost.
+// Four threads that add one to values by exchanges, each made again with the value that it was told, and by additions: none is lost.
 static void test_counting() {
     auto handles = hot::create(10, 400, 4);
     CHECK(!handles[0].insert("sum", 0).is_refused());
     std::vector<std::thread> threads;
     for (hot::handle &handle : handles)
         threads.emplace_back([&handle] {
-            for (int i = 0; i < 2000; i++)
+            for (int i = 0; i < 2000; i++) {
+                (void)handle.fetch_add("added", 1);
                 for (std::uint64_t seen = *handle.get("sum");;) {
                     const auto change = handle.exchange("sum", seen, seen + 1);
                     if (change.what == hot::status::exchanged)
                         break;
                     seen = change.had.value_or(seen);
                 }
+            }
         });
     for (std::thread &thread : threads)
         thread.join();
-    CHECK(handles[0].get("sum") == 8000);
+    CHECK(handles[0].get("sum") == 8000 && handles[0].get("added") == 8000 && handles[1].fetch_add("added", UINT64_MAX) == 8000);
 }
 
 int main() {
     test_calls();
+    test_index();
     test_expected();
     test_full();
     test_stock();
     test_scans();
     test_ends();
     test_containers();
-    test_index();
+    test_handles();
     test_threads();
     test_counting();
     std::puts(failures ? "the C++ test failed" : "the C++ test passed");

@@ -472,12 +472,10 @@ static void *visit(void *given) {
     for (turn = 0; turn < VISITS; turn++) {
         hot_handle handle = HOT_HANDLE;
         hot_status status;
-        uint64_t seen = 0;
         while ((status = hot_open(index, &handle)) == HOT_NO_HANDLE)
             sched_yield();
         CHECK(status == HOT_DONE);
-        while (hot_exchange(&handle, name, 1, seen, seen + 1, &seen) == HOT_DIFFERS)
-            ;
+        CHECK(hot_add(&handle, name, 1, 1, NULL) == HOT_WAS);
         CHECK(hot_close(&handle) == HOT_DONE);
     }
     return NULL;

@@ -7,16 +7,14 @@ fn main() {
     for name in ["HOT_DIR", "HOT_SHARED", "PKG_CONFIG", "PKG_CONFIG_PATH"] {
         println!("cargo:rerun-if-env-changed={name}");
     }
-    let found = find().and_then(|(folder, header)| Ok((folder, read(&header)?)));
-    let (folder, header) = found.unwrap_or_else(|why| {
-        eprintln!("libhot was not found: {why}\nset HOT_DIR to the folder that has lib/libhot.a, or PKG_CONFIG_PATH");
-        process::exit(1);
-    });
-    // A handle has a word more where the library has calls for an index of its own.
-    println!("cargo:rustc-check-cfg=cfg(hot_index)");
-    if header.contains("hot_open_index") {
-        println!("cargo:rustc-cfg=hot_index");
-    }
+    let folder = find()
+        .and_then(|(folder, header)| check(&header).map(|_| folder))
+        .unwrap_or_else(|why| {
+            eprintln!(
+                "libhot 2 was not found: {why}\nset HOT_DIR to the folder that has lib/libhot.a, or PKG_CONFIG_PATH"
+            );
+            process::exit(1);
+        });
     let archive = folder.join("libhot.a");
     let is_shared = env::var_os("HOT_SHARED").is_some() || !archive.is_file();
     let folder = folder.display();
@@ -32,9 +30,15 @@ fn main() {
     println!("cargo:libdir={folder}");
 }
 
-fn read(header: &Path) -> Result<String, String> {
+/// What the crate knows of the library is true of this version.
+fn check(header: &Path) -> Result<(), String> {
     println!("cargo:rerun-if-changed={}", header.display());
-    fs::read_to_string(header).map_err(|why| format!("{}: {why}", header.display()))
+    let text = fs::read_to_string(header).map_err(|why| format!("{}: {why}", header.display()))?;
+    if text.contains("#define HOT_VERSION_MAJOR 2\n") {
+        Ok(())
+    } else {
+        Err(format!("{} is of another version", header.display()))
+    }
 }
 
 /// The folder that the library is in, and its header.
@@ -47,7 +51,7 @@ fn find() -> Result<(PathBuf, PathBuf), String> {
     match package {
         Some(folder) if folder.join("lib/libhot.a").is_file() => Ok(below(&folder)),
         _ => {
-            ask_pkg_config("--atleast-version=1.6")?;
+            ask_pkg_config("--atleast-version=2")?;
             let header = Path::new(&ask_pkg_config("--variable=includedir")?).join("hot.h");
             Ok((ask_pkg_config("--variable=libdir")?.into(), header))
         }

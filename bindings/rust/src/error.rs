@@ -6,13 +6,13 @@ use std::{error, fmt};
 #[derive(Clone, Copy, Debug, PartialEq, Eq, Hash)]
 #[non_exhaustive]
 pub enum Error {
-    /// Too few node records were free.
+    /// Too few node records were free, and the others were all in use: keys must be removed first.
     FullNodes,
-    /// No leaf record was free that the key fits in.
+    /// All leaf records that the key fits in were in use: keys must be removed first.
     FullLeaves,
-    /// The key has more than [`MAX_KEY`](crate::MAX_KEY) bytes.
+    /// The key has more than [`MAX_KEY`](crate::MAX_KEY) bytes, or more than any leaf record of the index has room for.
     KeyTooLong,
-    /// All handles of the index are in use.
+    /// All handles of the index are open.
     NoHandle,
     /// The number of keys, records or handles is out of range.
     OutOfRange,
@@ -31,6 +31,7 @@ impl Error {
             ffi::KEY_TOO_LONG => Error::KeyTooLong,
             ffi::OUT_OF_RANGE => Error::OutOfRange,
             ffi::NO_MEMORY => Error::NoMemory,
+            ffi::NO_HANDLE => Error::NoHandle,
             0..=7 | ffi::EXCHANGED | ffi::DIFFERS => return Ok(status),
             _ => Error::Unexpected(status),
         })
@@ -48,7 +49,7 @@ impl fmt::Display for Error {
             Error::FullNodes => ffi::text(ffi::FULL_NODES),
             Error::FullLeaves => ffi::text(ffi::FULL_LEAVES),
             Error::KeyTooLong => ffi::text(ffi::KEY_TOO_LONG),
-            Error::NoHandle => "all handles are in use",
+            Error::NoHandle => ffi::text(ffi::NO_HANDLE),
             Error::OutOfRange => ffi::text(ffi::OUT_OF_RANGE),
             Error::NoMemory => ffi::text(ffi::NO_MEMORY),
             Error::Unexpected(status) => ffi::text(status),

@@ -1,14 +1,12 @@
-//! `hot.h`, and over it calls that are safe: no other module has unsafe code. An open handle is used by the one [`Lease`] that has
-//! its number, which one thread has at a time.
+//! `hot.h`, and over it calls that are safe: no other module has unsafe code.
 #![allow(unsafe_code)]
 use crate::{Census, Error, Stock, MAX_KEY};
-use std::cell::{Cell, UnsafeCell};
+use std::cell::UnsafeCell;
 use std::collections::VecDeque;
 use std::ffi::CStr;
-use std::marker::PhantomData;
 use std::os::raw::{c_char, c_void};
 use std::ptr;
-use std::sync::{Arc, Mutex, PoisonError};
+use std::sync::Arc;
 
 /// How a call came out.
 pub(crate) type Status = u32;
@@ -24,23 +22,25 @@ pub(crate) const OUT_OF_RANGE: Status = 14;
 pub(crate) const NO_MEMORY: Status = 15;
 pub(crate) const EXCHANGED: Status = 16;
 pub(crate) const DIFFERS: Status = 17;
+pub(crate) const NO_HANDLE: Status = 19;
 
-/// The most handles that an index can have.
-const MOST_HANDLES: usize = 1024;
+/// What only the library sees.
+#[repr(C)]
+struct RawIndex {
+    fields: [u8; 0],
+}
 
 #[repr(C)]
 struct RawHandle {
     tag: u32,
     slot: *mut c_void,
-    #[cfg(hot_index)]
-    index: *mut c_void,
+    index: *mut RawIndex,
 }
 
 impl RawHandle {
     const CLOSED: RawHandle = RawHandle {
         tag: 0,
         slot: ptr::null_mut(),
-        #[cfg(hot_index)]
         index: ptr::null_mut(),
     };
 }
@@ -76,7 +76,10 @@ struct RawLookup {
 
 extern "C" {
     fn hot_status_text(status: Status) -> *const c_char;
-    fn hot_create_with(stock: *const Stock, handles: *mut RawHandle, count: usize) -> Status;
+    fn hot_open_index(stock: *const Stock, handles: usize, index: *mut *mut RawIndex) -> Status;
+    fn hot_close_index(index: *mut RawIndex) -> Status;
+    fn hot_open(index: *mut RawIndex, handle: *mut RawHandle) -> Status;
+    fn hot_close(handle: *mut RawHandle) -> Status;
     fn hot_stock_for_keys(keys: u32, longest: usize, stock: *mut Stock);
     fn hot_stock_bytes(stock: *const Stock, handles: usize, bytes: *mut usize) -> Status;
     fn hot_get(handle: *mut RawHandle, key: *const u8, length: usize, value: *mut u64) -> Status;
@@ -93,6 +96,7 @@ extern "C" {
         had: *mut u64,
     ) -> Status;
     fn hot_remove_if(handle: *mut RawHandle, key: *const u8, length: usize, expected: u64, had: *mut u64) -> Status;
+    fn hot_add(handle: *mut RawHandle, key: *const u8, length: usize, delta: u64, had: *mut u64) -> Status;
     fn hot_scan_reverse(
         handle: *mut RawHandle,
         from: *const u8,
@@ -120,7 +124,7 @@ extern "C" {
     fn hot_first(handle: *mut RawHandle, from: *const u8, length: usize, pair: *mut RawPair) -> Status;
     fn hot_last(handle: *mut RawHandle, upto: *const u8, length: usize, pair: *mut RawPair) -> Status;
     fn hot_census(handle: *mut RawHandle, counts: *mut Census) -> Status;
-    fn hot_destroy(handle: *mut RawHandle) -> Status;
+    fn hot_len(handle: *mut RawHandle, count: *mut usize) -> Status;
 }
 
 /// A status in words.
@@ -145,95 +149,82 @@ pub(crate) fn stock_bytes(stock: &Stock, handles: usize) -> (Status, usize) {
     (status, bytes)
 }
 
-/// An index: its open handles, which stay where they are, and the numbers of those that are not leased.
-pub(crate) struct Pool {
-    handles: Box<[UnsafeCell<RawHandle>]>,
-    free: Mutex<Vec<usize>>,
+/// An index, which is there as long as each of its handles.
+pub(crate) struct Index {
+    at: *mut RawIndex,
+    handles: usize,
 }
 
-// SAFETY: a handle is used by the one lease that has its number, and the lock hands it from one thread to the next.
-unsafe impl Send for Pool {}
-unsafe impl Sync for Pool {}
+// SAFETY: any thread may open a handle, at any time, and the last one that has the index frees it.
+unsafe impl Send for Index {}
+unsafe impl Sync for Index {}
 
-impl Pool {
-    /// Makes an index and opens so many handles on it.
-    pub(crate) fn open(stock: &Stock, count: usize) -> Result<Pool, Error> {
-        if count > MOST_HANDLES {
-            return Err(Error::OutOfRange);
-        }
-        let (mut handles, mut free) = (Vec::new(), Vec::new());
-        handles.try_reserve_exact(count).map_err(|_| Error::NoMemory)?;
-        free.try_reserve_exact(count).map_err(|_| Error::NoMemory)?;
-        handles.extend((0..count).map(|_| UnsafeCell::new(RawHandle::CLOSED)));
-        free.extend((0..count).rev());
-        let mut handles = handles.into_boxed_slice();
-        // SAFETY: the handles are zeroed, nobody else has them, and the pool neither moves nor copies them.
-        Error::check(unsafe { hot_create_with(stock, handles.as_mut_ptr().cast(), count) })?;
-        Ok(Pool {
-            handles,
-            free: Mutex::new(free),
-        })
+impl Index {
+    /// Makes an index with room for so many handles.
+    pub(crate) fn open(stock: &Stock, handles: usize) -> Result<Index, Error> {
+        let mut at = ptr::null_mut();
+        // SAFETY: it reads a stock, and writes a pointer.
+        Error::check(unsafe { hot_open_index(stock, handles, &mut at) })?;
+        Ok(Index { at, handles })
     }
 
-    /// How many handles there are.
+    /// How many handles may be open at a time.
     pub(crate) fn handles(&self) -> usize {
-        self.handles.len()
+        self.handles
     }
 
-    /// Leases a handle, if one is left.
-    pub(crate) fn lease(self: &Arc<Pool>) -> Option<Lease> {
-        let at = self.free.lock().unwrap_or_else(PoisonError::into_inner).pop()?;
-        let handle = self.handles.get(at)?.get();
-        Some(Lease {
-            pool: Arc::clone(self),
-            at,
+    /// Opens a handle.
+    pub(crate) fn lease(self: &Arc<Index>) -> Result<Lease, Error> {
+        let mut one = Vec::new();
+        one.try_reserve_exact(1).map_err(|_| Error::NoMemory)?;
+        one.push(UnsafeCell::new(RawHandle::CLOSED));
+        let handle = one.into_boxed_slice();
+        // SAFETY: the handle is zeroed, and stays where it is until it is closed.
+        Error::check(unsafe { hot_open(self.at, UnsafeCell::raw_get(handle.as_ptr())) })?;
+        Ok(Lease {
+            index: Arc::clone(self),
             handle,
-            alone: PhantomData,
         })
     }
 }
 
-impl Drop for Pool {
+impl Drop for Index {
     fn drop(&mut self) {
-        for handle in self.handles.iter_mut() {
-            // SAFETY: the handle is open and not leased, since a lease keeps the pool. The last one frees the index.
-            unsafe { hot_destroy(handle.get_mut()) };
-        }
+        // SAFETY: all handles are closed, since an open one keeps the index.
+        unsafe { hot_close_index(self.at) };
     }
 }
 
-/// The use of a handle, until it is dropped.
+/// An open handle, of one thread at a time: it is not `Sync`, since it has cells.
 pub(crate) struct Lease {
-    pool: Arc<Pool>,
-    at: usize,
-    handle: *mut RawHandle,
-    alone: PhantomData<Cell<()>>,
+    index: Arc<Index>,
+    handle: Box<[UnsafeCell<RawHandle>]>,
 }
 
-// SAFETY: the handle stays where it is while the lease keeps the pool, and nobody else has it. It isn't `Sync`.
+// SAFETY: any thread may use or close a handle once the last call with it has returned.
 unsafe impl Send for Lease {}
 
 impl Drop for Lease {
     fn drop(&mut self) {
-        // There was room for all numbers when the index was made.
-        self.pool
-            .free
-            .lock()
-            .unwrap_or_else(PoisonError::into_inner)
-            .push(self.at);
+        // SAFETY: the handle is open, and no call with it is under way.
+        unsafe { hot_close(self.raw()) };
     }
 }
 
 // SAFETY of each call: the handle is open, and this thread's for the time of the call, since a lease isn't `Sync`. A key is there as
 // long as the call, and its pointer is not null, since it is a slice's. What the call writes is borrowed for it, and as large as said.
 impl Lease {
-    pub(crate) fn pool(&self) -> &Arc<Pool> {
-        &self.pool
+    fn raw(&self) -> *mut RawHandle {
+        UnsafeCell::raw_get(self.handle.as_ptr())
+    }
+
+    pub(crate) fn index(&self) -> &Arc<Index> {
+        &self.index
     }
 
     pub(crate) fn get(&self, key: &[u8]) -> (Status, u64) {
         let mut value = 0;
-        let status = unsafe { hot_get(self.handle, key.as_ptr(), key.len(), &mut value) };
+        let status = unsafe { hot_get(self.raw(), key.as_ptr(), key.len(), &mut value) };
         (status, value)
     }
 
@@ -248,7 +239,7 @@ impl Lease {
             value: 0,
             status: ABSENT,
         }));
-        Error::check(unsafe { hot_get_many(self.handle, lookups.as_mut_ptr(), lookups.len()) })?;
+        Error::check(unsafe { hot_get_many(self.raw(), lookups.as_mut_ptr(), lookups.len()) })?;
         found.extend(
             lookups
                 .iter()
@@ -259,31 +250,31 @@ impl Lease {
 
     pub(crate) fn insert(&self, key: &[u8], value: u64) -> (Status, u64) {
         let mut had = 0;
-        let status = unsafe { hot_insert(self.handle, key.as_ptr(), key.len(), value, &mut had) };
+        let status = unsafe { hot_insert(self.raw(), key.as_ptr(), key.len(), value, &mut had) };
         (status, had)
     }
 
     pub(crate) fn upsert(&self, key: &[u8], value: u64) -> (Status, u64) {
         let mut had = 0;
-        let status = unsafe { hot_upsert(self.handle, key.as_ptr(), key.len(), value, &mut had) };
+        let status = unsafe { hot_upsert(self.raw(), key.as_ptr(), key.len(), value, &mut had) };
         (status, had)
     }
 
     pub(crate) fn remove(&self, key: &[u8]) -> (Status, u64) {
         let mut had = 0;
-        let status = unsafe { hot_remove(self.handle, key.as_ptr(), key.len(), &mut had) };
+        let status = unsafe { hot_remove(self.raw(), key.as_ptr(), key.len(), &mut had) };
         (status, had)
     }
 
     pub(crate) fn exchange(&self, key: &[u8], expected: u64, value: u64) -> (Status, u64) {
         let mut had = 0;
-        let status = unsafe { hot_exchange(self.handle, key.as_ptr(), key.len(), expected, value, &mut had) };
+        let status = unsafe { hot_exchange(self.raw(), key.as_ptr(), key.len(), expected, value, &mut had) };
         (status, had)
     }
 
     pub(crate) fn remove_if(&self, key: &[u8], expected: u64) -> (Status, u64) {
         let mut had = 0;
-        let status = unsafe { hot_remove_if(self.handle, key.as_ptr(), key.len(), expected, &mut had) };
+        let status = unsafe { hot_remove_if(self.raw(), key.as_ptr(), key.len(), expected, &mut had) };
         (status, had)
     }
 
@@ -297,7 +288,7 @@ impl Lease {
         let (mut count, mut more) = (0, 0);
         Error::check(unsafe {
             hot_scan_packed(
-                self.handle,
+                self.raw(),
                 from.as_ptr(),
                 from.len(),
                 upto.as_ptr(),
@@ -326,7 +317,7 @@ impl Lease {
         let (mut count, mut more) = (0, 0);
         Error::check(unsafe {
             hot_scan_reverse(
-                self.handle,
+                self.raw(),
                 from.as_ptr(),
                 from.len(),
                 upto.as_ptr(),
@@ -347,7 +338,7 @@ impl Lease {
     /// The first pair from a key on.
     pub(crate) fn first(&self, from: &[u8]) -> Result<Option<(Vec<u8>, u64)>, Error> {
         let mut pair = NO_PAIR;
-        let status = Error::check(unsafe { hot_first(self.handle, from.as_ptr(), from.len(), &mut pair) })?;
+        let status = Error::check(unsafe { hot_first(self.raw(), from.as_ptr(), from.len(), &mut pair) })?;
         if status == FOUND {
             pair.copy().map(Some)
         } else {
@@ -358,7 +349,7 @@ impl Lease {
     /// The last pair up to a key.
     pub(crate) fn last(&self, upto: &[u8]) -> Result<Option<(Vec<u8>, u64)>, Error> {
         let mut pair = NO_PAIR;
-        let status = Error::check(unsafe { hot_last(self.handle, upto.as_ptr(), upto.len(), &mut pair) })?;
+        let status = Error::check(unsafe { hot_last(self.raw(), upto.as_ptr(), upto.len(), &mut pair) })?;
         if status == FOUND {
             pair.copy().map(Some)
         } else {
@@ -366,9 +357,21 @@ impl Lease {
         }
     }
 
+    pub(crate) fn add(&self, key: &[u8], delta: u64) -> (Status, u64) {
+        let mut had = 0;
+        let status = unsafe { hot_add(self.raw(), key.as_ptr(), key.len(), delta, &mut had) };
+        (status, had)
+    }
+
+    pub(crate) fn len(&self) -> usize {
+        let mut count = 0;
+        unsafe { hot_len(self.raw(), &mut count) };
+        count
+    }
+
     pub(crate) fn census(&self) -> Census {
         let mut counts = Census::default();
-        unsafe { hot_census(self.handle, &mut counts) };
+        unsafe { hot_census(self.raw(), &mut counts) };
         counts
     }
 }

@@ -27,7 +27,7 @@ mod range;
 pub use error::{CompareExchangeError, Error, TryInsertError};
 pub use range::{KeyRange, Range};
 
-use ffi::{Lease, Pool};
+use ffi::{Index, Lease};
 use std::fmt;
 use std::sync::Arc;
 
@@ -107,30 +107,30 @@ pub struct Census {
 /// An index. Clones are the same index.
 #[derive(Clone)]
 pub struct Hot {
-    pool: Arc<Pool>,
+    index: Arc<Index>,
 }
 
 impl Hot {
-    /// Makes an empty index with room for so many keys of at most `longest` bytes, and 1 to 1,024 handles.
+    /// Makes an empty index with room for so many keys of at most `longest` bytes, and for 1 to 1,024 handles at a time.
     pub fn with_capacity(keys: usize, longest: usize, handles: usize) -> Result<Hot, Error> {
         Hot::with_stock(&Stock::for_keys(keys, longest)?, handles)
     }
 
-    /// Makes an empty index with these records, and 1 to 1,024 handles.
+    /// Makes an empty index with these records, and room for 1 to 1,024 handles at a time.
     pub fn with_stock(stock: &Stock, handles: usize) -> Result<Hot, Error> {
-        let pool = Arc::new(Pool::open(stock, handles)?);
-        Ok(Hot { pool })
+        let index = Arc::new(Index::open(stock, handles)?);
+        Ok(Hot { index })
     }
 
-    /// A handle that nobody uses, or [`Error::NoHandle`]. It is given back when it is dropped.
+    /// Opens a handle, at any time and from any thread. It is closed when it is dropped. [`Error::NoHandle`] if all are open.
     pub fn handle(&self) -> Result<Handle, Error> {
-        let lease = self.pool.lease().ok_or(Error::NoHandle)?;
+        let lease = self.index.lease()?;
         Ok(Handle { lease })
     }
 
-    /// How many handles the index has.
+    /// How many handles the index has room for.
     pub fn handles(&self) -> usize {
-        self.pool.handles()
+        self.index.handles()
     }
 }
 
@@ -163,7 +163,7 @@ impl Handle {
     /// The index.
     pub fn index(&self) -> Hot {
         Hot {
-            pool: Arc::clone(self.lease.pool()),
+            index: Arc::clone(self.lease.index()),
         }
     }
 
@@ -315,6 +315,24 @@ impl Handle {
         }
     }
 
+    /// Adds to the value of a key that is there, wrapping around, and returns the one before; `None` if the key is absent.
+    ///
+    /// ```
+    /// let handle = hot::Hot::with_capacity(10, 8, 1)?.handle()?;
+    /// assert_eq!(handle.fetch_add("oak", 2), Ok(None));
+    /// handle.insert("oak", 1)?;
+    /// assert_eq!(handle.fetch_add("oak", 2), Ok(Some(1)));
+    /// assert_eq!(handle.get("oak"), Some(3));
+    /// # Ok::<(), hot::Error>(())
+    /// ```
+    pub fn fetch_add(&self, key: impl AsRef<[u8]>, delta: u64) -> Result<Option<u64>, Error> {
+        match self.lease.add(key.as_ref(), delta) {
+            (ffi::WAS, had) => Ok(Some(had)),
+            (ffi::KEY_TOO_LONG, _) => Ok(None),
+            (status, _) => Error::check(status).map(|_| None),
+        }
+    }
+
     /// The pairs whose keys are in a range, in order from either end, fetched page by page. The handle may be used meanwhile. Each pair
     /// was there at some moment, and no key is missing that was there all along. A range whose start is above its end is empty.
     ///
@@ -388,15 +406,7 @@ impl Handle {
 
     /// How many keys there are: exact while nobody changes the index. It visits each record.
     pub fn len(&self) -> usize {
-        let it = self.census();
-        let leaves = [
-            it.short_leaves,
-            it.medium_leaves,
-            it.large_leaves,
-            it.wide_leaves,
-            it.long_leaves,
-        ];
-        leaves.iter().map(|it| it.live as usize).sum()
+        self.lease.len()
     }
 
     /// Whether there is no key.

@@ -68,7 +68,7 @@ fn change(handle: &Handle, model: &mut Model, random: &mut Random) {
         Some(had) if had == value => Ok(had),
         Some(had) => Err(CompareExchangeError::Differs(had)),
     };
-    match random.below(7) {
+    match random.below(8) {
         0 | 1 => {
             model.entry(key.clone()).or_insert(value);
             assert_eq!(
@@ -89,6 +89,10 @@ fn change(handle: &Handle, model: &mut Model, random: &mut Random) {
             if wanted.is_ok() {
                 model.remove(&key);
             }
+        }
+        6 => {
+            assert_eq!(handle.fetch_add(&key, new), Ok(had));
+            model.entry(key).and_modify(|value| *value += new);
         }
         _ => {
             let turn = |had: Option<u64>| {
@@ -171,6 +175,7 @@ fn keys_that_are_too_long() {
     assert_eq!(handle.get(&long), None);
     assert_eq!(handle.remove(&long), Ok(None));
     assert_eq!(handle.remove_if(&long, 1), Err(CompareExchangeError::Absent));
+    assert_eq!(handle.fetch_add(&long, 1), Ok(None));
     assert_eq!(handle.insert(&long, 1), Err(Error::KeyTooLong));
     assert_eq!(
         handle.try_insert(&long, 1),
@@ -205,6 +210,7 @@ fn a_full_index_says_so_and_goes_on_when_a_key_is_gone() {
         .take_while(|n: &u64| handle.insert(n.to_be_bytes(), *n) == Ok(None))
         .count();
     assert_eq!((held, handle.insert("another", 0)), (10, Err(Error::FullLeaves)));
+    assert_eq!(handle.insert("longer than any of them", 0), Err(Error::KeyTooLong));
     assert_eq!(handle.remove(3u64.to_be_bytes()), Ok(Some(3)));
     assert_eq!(handle.insert("another", 99), Ok(None));
     assert_eq!((handle.len(), handle.census().short_leaves.live), (10, 10));

@@ -13,12 +13,13 @@ fn counters_lose_nothing() -> Result<(), Error> {
                 for n in 0..5000 {
                     let key = ((n * 7 + of) % 10).to_be_bytes();
                     handle.fetch_update(key, |had| Some(had.unwrap_or(0) + 1)).unwrap();
+                    handle.fetch_add(key, 2).unwrap();
                 }
             });
         }
     });
     let handle = hot.handle()?;
-    assert_eq!((handle.values().sum::<u64>(), handle.len()), (20_000, 10));
+    assert_eq!((handle.values().sum::<u64>(), handle.len()), (60_000, 10));
     Ok(())
 }
 
