@@ -55,7 +55,7 @@ int main(void) {
     uint8_t from[KEY], upto[KEY];
     struct total total = { 0, 0 };
     size_t count;
-    uint64_t time, had;
+    uint64_t time;
     uint32_t more;
     const char *sensor;
     hot_stock_for_keys(3000, KEY, &stock);
@@ -63,7 +63,7 @@ int main(void) {
     for (sensor = "abc"; *sensor; sensor++)
         for (time = 0; time < 1000; time++) {
             write_key(*sensor, time, from);
-            check(hot_insert(&handle, from, KEY, time * 7 % 100, &had));
+            check(hot_insert(&handle, from, KEY, time * 7 % 100, NULL));
         }
     /* From a time on and before another. A scan's bounds are both included. */
     write_key('b', 254, from), write_key('b', 258 - 1, upto);

@@ -31,9 +31,16 @@ struct record {
 static int file;
 static uint64_t end;
 static pthread_mutex_t appends = PTHREAD_MUTEX_INITIALIZER;
-static hot_handle handles[MOST_THREADS];
+static hot_index *directory;
 static unsigned threads, fill;
 static atomic_ulong next_block;
+
+/* What a thread does with its handle; its number tells its part. */
+struct worker {
+    pthread_t thread;
+    unsigned number;
+    void (*work)(hot_handle *handle, unsigned number);
+};
 
 static void die(const char *why) {
     fprintf(stderr, "store: %s\n", why);
@@ -127,11 +134,12 @@ static void list(hot_handle *handle, const char *prefix) {
 }
 
 /* Takes block after block that no other thread has taken, and brings its records into the directory: up to one that was torn. */
-static void *recover(void *handle) {
+static void recover(hot_handle *handle, unsigned number) {
     uint8_t *block = malloc(BLOCK);
     struct record *it = malloc(sizeof *it);
     uint64_t at, start;
     ssize_t length;
+    (void)number;
     if (!block || !it)
         die("out of memory");
     for (;;) {
@@ -150,60 +158,75 @@ static void *recover(void *handle) {
         pthread_mutex_unlock(&appends);
     }
     free(it), free(block);
-    return NULL;
 }
 
-static void *put_many(void *handle) {
-    unsigned of = (unsigned)((hot_handle *)handle - handles), i;
+static void put_many(hot_handle *handle, unsigned number) {
+    unsigned i;
     char key[32], value[32];
-    for (i = of; i < fill; i += threads) {
+    for (i = number; i < fill; i += threads) {
         snprintf(key, sizeof key, "fill/%06u", i), snprintf(value, sizeof value, "value %u", i);
         change(handle, key, value, 0);
     }
+}
+
+static void open_handle(hot_handle *handle) {
+    hot_status status = hot_open(directory, handle);
+    if (status != HOT_DONE)
+        die(hot_status_text(status));
+}
+
+static void *run(void *argument) {
+    const struct worker *worker = argument;
+    hot_handle handle = HOT_HANDLE;
+    open_handle(&handle);
+    worker->work(&handle, worker->number);
+    hot_close(&handle);
     return NULL;
 }
 
-static void side_by_side(void *(*work)(void *)) {
-    pthread_t started[MOST_THREADS];
+static void side_by_side(void (*work)(hot_handle *handle, unsigned number)) {
+    struct worker workers[MOST_THREADS];
     unsigned i;
-    for (i = 0; i < threads; i++)
-        if (pthread_create(&started[i], NULL, work, &handles[i]))
+    for (i = 0; i < threads; i++) {
+        workers[i].number = i, workers[i].work = work;
+        if (pthread_create(&workers[i].thread, NULL, run, &workers[i]))
             die("no thread");
+    }
     for (i = 0; i < threads; i++)
-        pthread_join(started[i], NULL);
+        pthread_join(workers[i].thread, NULL);
 }
 
 int main(int argc, char **argv) {
     hot_stock stock;
     hot_status status;
     char line[1024], verb[8], key[256], value[512];
-    unsigned i;
+    hot_handle handle = HOT_HANDLE;
     if (argc != 3 || (threads = (unsigned)atoi(argv[2])) == 0 || threads > MOST_THREADS)
         die("usage: store LOG THREADS");
     if ((file = open(argv[1], O_RDWR | O_CREAT, 0666)) < 0)
         die(strerror(errno));
     hot_stock_for_keys(100000, 24, &stock);
-    if ((status = hot_create_with(&stock, handles, threads)) != HOT_DONE)
+    if ((status = hot_open_index(&stock, threads + 1, &directory)) != HOT_DONE)
         die(hot_status_text(status));
     side_by_side(recover);
+    open_handle(&handle);
     while (fgets(line, sizeof line, stdin)) {
         key[0] = value[0] = '\0';
         if (sscanf(line, "%7s %255s %511[^\n]", verb, key, value) < 1)
             continue;
         if (strcmp(verb, "put") == 0)
-            change(&handles[0], key, value, 0);
+            change(&handle, key, value, 0);
         else if (strcmp(verb, "get") == 0)
-            get(&handles[0], key);
+            get(&handle, key);
         else if (strcmp(verb, "del") == 0)
-            change(&handles[0], key, "", 1);
+            change(&handle, key, "", 1);
         else if (strcmp(verb, "list") == 0)
-            list(&handles[0], key);
+            list(&handle, key);
         else if (strcmp(verb, "fill") == 0)
             fill = (unsigned)atoi(key), side_by_side(put_many);
         else
             puts("unknown command");
     }
-    for (i = 0; i < threads; i++)
-        hot_destroy(&handles[i]);
+    hot_close(&handle), hot_close_index(directory);
     return close(file);
 }

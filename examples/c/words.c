@@ -10,7 +10,7 @@
 
 struct part {
     pthread_t thread;
-    hot_handle *handle;
+    hot_index *index;
     const unsigned char *from, *end;
 };
 
@@ -19,27 +19,34 @@ static void die(const char *why) {
     exit(1);
 }
 
-/* Adds one to a word's number. Where another thread was faster, `had` is what it has left. */
+/* Adds one to a word's number. A word that another thread puts in meanwhile is there, and can be added to. */
 static void add(hot_handle *handle, const unsigned char *word, size_t length) {
-    uint64_t had;
-    hot_status status = hot_insert(handle, word, length, 1, &had);
-    while (status == HOT_EXISTS || status == HOT_DIFFERS)
-        status = hot_exchange(handle, word, length, had, had + 1, &had);
-    if (status != HOT_INSERTED && status != HOT_EXCHANGED)
+    hot_status status;
+    do {
+        status = hot_add(handle, word, length, 1, NULL);
+        if (status == HOT_ABSENT)
+            status = hot_insert(handle, word, length, 1, NULL);
+    } while (status == HOT_EXISTS);
+    if (status != HOT_WAS && status != HOT_INSERTED)
         die(hot_status_text(status));
 }
 
 static void *count(void *argument) {
     const struct part *part = argument;
     const unsigned char *at = part->from, *word;
+    hot_handle handle = HOT_HANDLE;
+    hot_status status = hot_open(part->index, &handle);
+    if (status != HOT_DONE)
+        die(hot_status_text(status));
     while (at < part->end) {
         for (word = at; at < part->end && isalpha(*at); at++)
             ;
         if (at > word)
-            add(part->handle, word, (size_t)(at - word) < HOT_MAX_KEY ? (size_t)(at - word) : HOT_MAX_KEY);
+            add(&handle, word, (size_t)(at - word) < HOT_MAX_KEY ? (size_t)(at - word) : HOT_MAX_KEY);
         else
             at++;
     }
+    hot_close(&handle);
     return NULL;
 }
 
@@ -60,22 +67,23 @@ static int print(void *context, const hot_pair *pair) {
 
 int main(int argc, char **argv) {
     size_t threads = argc > 1 ? strtoul(argv[1], NULL, 10) : 4, length, i;
-    unsigned char *text = read_all(&length), last[HOT_MAX_KEY];
+    unsigned char *text = read_all(&length);
     struct part *parts = calloc(threads, sizeof *parts);
-    hot_handle *handles = calloc(threads, sizeof *handles);
+    hot_handle handle = HOT_HANDLE;
+    hot_index *index;
     hot_stock stock;
     hot_status status;
-    if (!text || !parts || !handles)
+    if (!text || !parts)
         die("out of memory");
     hot_stock_for_keys(100000, 24, &stock);
-    if ((status = hot_create_with(&stock, handles, threads)) != HOT_DONE)
+    if ((status = hot_open_index(&stock, threads + 1, &index)) != HOT_DONE || (status = hot_open(index, &handle)) != HOT_DONE)
         die(hot_status_text(status));
     /* A part ends where no word goes on. */
     for (i = 0; i < threads; i++) {
         size_t end = length * (i + 1) / threads;
         while (end < length && isalpha(text[end]))
             end++;
-        parts[i].handle = &handles[i];
+        parts[i].index = index;
         parts[i].from = i > 0 ? parts[i - 1].end : text;
         parts[i].end = text + end;
         if (pthread_create(&parts[i].thread, NULL, count, &parts[i]))
@@ -83,11 +91,8 @@ int main(int argc, char **argv) {
     }
     for (i = 0; i < threads; i++)
         pthread_join(parts[i].thread, NULL);
-    for (i = 0; i < HOT_MAX_KEY; i++)
-        last[i] = 255;
-    hot_each(&handles[0], last, 0, last, HOT_MAX_KEY, print, NULL);
-    for (i = 0; i < threads; i++)
-        hot_destroy(&handles[i]);
-    free(handles), free(parts), free(text);
+    hot_each(&handle, text, 0, HOT_TO_END, print, NULL);
+    hot_close(&handle), hot_close_index(index);
+    free(parts), free(text);
     return 0;
 }

@@ -9,22 +9,13 @@
 
 static bool is_letter(char it) { return std::isalpha(static_cast<unsigned char>(it)) != 0; }
 
-// Adds one to a word's number. Where another thread was faster, `had` is what it has left.
-static void add(hot::handle &handle, std::string_view word) {
-    hot::change made = handle.insert(word, 1);
-    while (made.what == hot::status::exists || made.what == hot::status::differs)
-        made = handle.exchange(word, *made.had, *made.had + 1);
-    if (made.is_refused())
-        throw std::runtime_error(made.text());
-}
-
 static void count(hot::handle handle, std::string_view text) {
     while (!text.empty()) {
         std::size_t length = 0;
         while (length < text.size() && is_letter(text[length]))
             length++;
         if (length > 0)
-            add(handle, text.substr(0, length < HOT_MAX_KEY ? length : HOT_MAX_KEY));
+            handle.fetch_add(text.substr(0, length < HOT_MAX_KEY ? length : HOT_MAX_KEY), 1);
         text.remove_prefix(length > 0 ? length : 1);
     }
 }
