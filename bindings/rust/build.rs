@@ -15,11 +15,11 @@ fn main() {
             );
             process::exit(1);
         });
-    let archive = folder.join("libhot.a");
-    let is_shared = env::var_os("HOT_SHARED").is_some() || !archive.is_file();
+    let is_shared = env::var_os("HOT_SHARED").is_some() || !folder.join("libhot.a").is_file();
+    let folder = if is_shared { folder } else { best(folder) };
+    println!("cargo:rerun-if-changed={}", folder.join("libhot.a").display());
     let folder = folder.display();
     println!("cargo:rustc-link-search=native={folder}");
-    println!("cargo:rerun-if-changed={}", archive.display());
     if is_shared {
         println!("cargo:rustc-link-lib=dylib=hot");
         // This crate's own tests find it so. A crate that depends on this one sets its own, by DEP_HOT_LIBDIR.
@@ -28,6 +28,21 @@ fn main() {
         println!("cargo:rustc-link-lib=static=hot");
     }
     println!("cargo:libdir={folder}");
+}
+
+/// The folder of the archive for AVX2, where there is one and all that is compiled is for processors that have it.
+fn best(folder: PathBuf) -> PathBuf {
+    let features = env::var("CARGO_CFG_TARGET_FEATURE").unwrap_or_default();
+    let has = |name: &&str| features.split(',').any(|it| it == *name);
+    let third = folder.join("glibc-hwcaps/x86-64-v3");
+    let is_third = ["avx2", "bmi1", "bmi2", "f16c", "fma", "lzcnt", "movbe"]
+        .iter()
+        .all(has);
+    if is_third && third.join("libhot.a").is_file() {
+        third
+    } else {
+        folder
+    }
 }
 
 /// What the crate knows of the library is true of this version.
