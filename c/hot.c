@@ -1,5 +1,6 @@
 /* What of the library for C is written in C, and tested: the texts of statuses, scans of a prefix, pairs that are handed over one by
- * one, calls for many keys, an index that opens its handles one by one, and the calls that wait: the proved library may neither wait nor yield, so it says when to try again, and the wait is here. */
+ * one, calls for many keys, an index that opens its handles one by one, and the calls that wait: the proved library may neither wait
+ * nor yield, so it says when to try again, and the wait is here. */
 #include "hot.h"
 #include <sched.h>
 #include <stdlib.h>

@@ -1,8 +1,8 @@
 /* An ordered in-memory index from byte keys to 64-bit values, which threads use at the same time.
  *
- * hot_open_index makes an index, and hot_open opens a handle on it. A handle is the right to use the index. Calls with different handles may
- * run at the same time; calls with the same handle may not. So give each thread its own handle, or hand a handle over by a lock, by a
- * thread's start or join, or by a sequentially consistent atomic. A call takes effect for all others at once, or not at all.
+ * hot_open_index makes an index, and hot_open opens a handle on it. A handle is the right to use the index. Calls with different
+ * handles may run at the same time; calls with the same handle may not. So give each thread its own handle, or hand a handle over by a
+ * lock, by a thread's start or join, or by a sequentially consistent atomic. A call takes effect for all others at once, or not at all.
  *
  * A key is 0 to HOT_MAX_KEY bytes of any value. Keys are ordered as by memcmp, and a key comes after its own prefixes. The index
  * copies keys: the memory of a key is yours again when the call returns.
@@ -28,9 +28,10 @@
  * moves or writes its bytes. malloc, realloc and free belong to one allocator. No call is made from a signal handler, or after a fork in
  * the child of a process with threads. A call has 48 KiB of stack.
  *
- * A call fails only by its status. None waits for another, except hot_insert, hot_upsert, hot_exchange, hot_remove and hot_remove_if.
- * Each other call ends after a bounded number of steps, whatever other threads do: a step is one atomic access to a word of the
- * index. Each call below that makes steps gives its bound, for the worst tree that there can be.
+ * A call fails only by its status. None waits for another, except hot_insert, hot_upsert, hot_exchange, hot_remove, hot_remove_if and
+ * hot_add, and hot_copy and hot_clear, which make such calls. Each other call ends after a bounded number of steps, whatever other
+ * threads do: a step is one atomic access to a word of the index. Each call below that makes steps gives its bound, for the worst
+ * tree that there can be.
  *
  * Each handle has memory for the pairs of its scans, which the next scan uses again. After a scan it goes if the keys have more than
  * 32 KiB of it, or the rest has. So a handle keeps 64 KiB at most between its calls.
@@ -118,7 +119,8 @@ typedef struct hot_pair {
 /* Makes an empty index and opens `count` handles on it, 1 to 64; all must be closed before. The index has `nodes` node records, 1 to
  * 65535, and `leaves` leaf records, 1 to 262143. Each key takes one leaf record; a node record holds 2 to 32 keys or nodes. Have some
  * of both to spare, since a change builds the new before it gives the old back.
- * HOT_DONE; or HOT_OPEN, HOT_OUT_OF_RANGE or HOT_NO_MEMORY, and then no handle was opened. */
+ * HOT_DONE; or HOT_OUT_OF_RANGE, for which it looks before it looks at the handles, HOT_OPEN or HOT_NO_MEMORY, and then no handle was
+ * opened. */
 hot_status hot_create(uint32_t nodes, uint32_t leaves, hot_handle *handles, size_t count);
 
 /* How many records of each size an index has. A key takes a leaf record of the smallest size with room for it, or a larger one where
@@ -134,7 +136,7 @@ typedef struct hot_stock {
 
 /* Makes an empty index with this stock and opens `count` handles on it, 1 to 1024; all must be closed before. It has 1 to 4294967295
  * nodes, and 1 to 4294967295 leaves of all sizes together. (The leaves that hot_create makes are all long.)
- * HOT_DONE; or HOT_OPEN, HOT_OUT_OF_RANGE or HOT_NO_MEMORY, and then no handle was opened. */
+ * HOT_DONE; or HOT_OUT_OF_RANGE, HOT_OPEN or HOT_NO_MEMORY, as hot_create. */
 hot_status hot_create_with(const hot_stock *stock, hot_handle *handles, size_t count);
 
 /* Writes a stock for `keys` keys of at most `longest` bytes each: 9 leaves for 8 keys, of the smallest size with room for such a key,
@@ -243,8 +245,8 @@ hot_status hot_add(hot_handle *handle, const uint8_t *key, size_t length, uint64
  * HOT_DONE; or HOT_CLOSED, HOT_NO_MEMORY or HOT_FULL_NODES, and then some keys are left. */
 hot_status hot_clear(hot_handle *handle);
 
-/* Gives each key of one index its value in another, in key order and page by page, as hot_scan and hot_upsert do: with keys in order the
- * new nodes are the fullest. What other calls change in the first one meanwhile is copied or not.
+/* Gives each key of one index its value in another, in key order and page by page, as hot_scan and hot_upsert do. What other calls
+ * change in the first one meanwhile is copied or not.
  * HOT_DONE; or HOT_CLOSED, HOT_NO_MEMORY, HOT_FULL_NODES, HOT_FULL_LEAVES or HOT_KEY_TOO_LONG, and then the rest was not copied. */
 hot_status hot_copy(hot_handle *from, hot_handle *to);
 
@@ -301,6 +303,12 @@ typedef struct hot_head {
 hot_status hot_scan_packed(hot_handle *handle, const uint8_t *from, size_t from_length, const uint8_t *upto, size_t upto_length,
                            uint8_t *bytes, size_t room, hot_head *heads, size_t limit, size_t *count, uint32_t *more);
 
+/* hot_scan_packed from the end downwards: lists the last pairs, in falling key order, packed in the same way. Writes 1 to `more` if the
+ * range has more below than it wrote, else 0. To go on, end at the key that hot_before gives for the last one. It answers what hot_scan
+ * does, and makes no more steps than hot_scan may. */
+hot_status hot_scan_packed_reverse(hot_handle *handle, const uint8_t *from, size_t from_length, const uint8_t *upto, size_t upto_length,
+                                   uint8_t *bytes, size_t room, hot_head *heads, size_t limit, size_t *count, uint32_t *more);
+
 /* What a call hands pairs to: `pair` is there until the function returns. It answers 0 to end the call. */
 typedef int hot_visitor(void *context, const hot_pair *pair);
 
@@ -318,7 +326,8 @@ hot_status hot_each(hot_handle *handle, const uint8_t *from, size_t from_length,
  * HOT_FOUND, HOT_ABSENT; or HOT_KEY_TOO_LONG, HOT_CLOSED, HOT_NO_MEMORY (only if there was a pair). */
 hot_status hot_first(hot_handle *handle, const uint8_t *from, size_t length, hot_pair *pair);
 
-/* Writes the last pair whose key is `upto` or below, by a scan downwards for one pair; up to HOT_TO_END that is the last pair of all. Nothing is written unless it is found. It makes at most 168667 steps.
+/* Writes the last pair whose key is `upto` or below, by a scan downwards for one pair; up to HOT_TO_END that is the last pair of all.
+ * Nothing is written unless it is found. It makes at most 168667 steps.
  * HOT_FOUND, HOT_ABSENT; or HOT_KEY_TOO_LONG, HOT_CLOSED, HOT_NO_MEMORY (only if there was a pair). */
 hot_status hot_last(hot_handle *handle, const uint8_t *upto, size_t length, hot_pair *pair);
 
@@ -354,8 +363,8 @@ typedef struct hot_counts {
  * HOT_DONE; or HOT_CLOSED. */
 hot_status hot_census(hot_handle *handle, hot_counts *counts);
 
-/* Counts the keys of the handle's index, each of which has one leaf record: all leaves that are in use, by hot_census. So it makes a step for
- * each record. The number is exact where nobody changes the index meanwhile.
+/* Counts the keys of the handle's index, each of which has one leaf record: all leaves that are in use, by hot_census. So it makes a
+ * step for each record. The number is exact where nobody changes the index meanwhile.
  * HOT_DONE; or HOT_CLOSED. */
 hot_status hot_len(hot_handle *handle, size_t *count);
 

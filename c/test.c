@@ -220,6 +220,17 @@ static void test_packed(void) {
     CHECK(hot_scan_packed(&handle, bytes("b\0"), 2, key, HOT_MAX_KEY, keys, HOT_MAX_KEY, heads, 4, &count, &more) == HOT_DONE);
     CHECK(count == 1 && more == 0 && heads[0].length == HOT_MAX_KEY && heads[0].value == 4 && !memcmp(keys, key, HOT_MAX_KEY));
     CHECK(keys[HOT_MAX_KEY] == 0xee);
+    /* Downwards: as many as there are heads for, and on from there as many as there are bytes for. */
+    memset(keys, 0xee, sizeof keys);
+    CHECK(hot_scan_packed_reverse(&handle, bytes(""), 0, bytes("b"), 1, keys, sizeof keys, heads, 1, &count, &more) == HOT_DONE);
+    CHECK(count == 1 && more == 1 && heads[0].length == 1 && heads[0].value == 3 && keys[0] == 'b' && keys[1] == 0xee);
+    CHECK(hot_scan_packed_reverse(&handle, bytes(""), 0, HOT_TO_END, keys, HOT_MAX_KEY + 1, heads, 4, &count, &more) == HOT_DONE);
+    CHECK(count == 2 && more == 1 && heads[0].length == HOT_MAX_KEY && heads[0].value == 4 && heads[1].value == 3 && keys[HOT_MAX_KEY] == 'b');
+    CHECK(hot_before(bytes("b"), 1, key, &length) == HOT_DONE && length == HOT_MAX_KEY);
+    CHECK(hot_scan_packed_reverse(&handle, bytes(""), 0, key, length, keys, 2, heads, 4, &count, &more) == HOT_DONE && count == 2 && more == 0);
+    CHECK(heads[0].length == 2 && heads[0].value == 2 && heads[1].length == 0 && heads[1].value == 1 && !memcmp(keys, "aa", 2));
+    CHECK(hot_scan_packed_reverse(&handle, key, HOT_MAX_KEY + 1, HOT_TO_END, keys, 2, heads, 4, &count, &more) == HOT_KEY_TOO_LONG && count == 2);
+    memset(key, 0xff, sizeof key);
     /* A key of no bytes has room where none is, and no heads are room for none. */
     CHECK(hot_scan_packed(&handle, bytes(""), 0, bytes("b"), 1, keys, 0, heads, 4, &count, &more) == HOT_DONE && count == 1 && more == 1);
     CHECK(hot_scan_packed(&handle, bytes("a"), 1, bytes("b"), 1, keys, 1, heads, 4, &count, &more) == HOT_DONE && count == 0 && more == 1);

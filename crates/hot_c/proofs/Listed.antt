@@ -21,7 +21,7 @@ use Rattle.hot_c.specs.declared.opened.Opened.{Opened}
 use Rattle.hot_c.specs.declared.pairs.Order.{Order}
 use Rattle.hot_c.specs.declared.pairs.Order.TheVariants.{Rising, Falling, LastRising}
 use Rattle.hot_c.specs.declared.status.TheConstants.{DONE, NO_MEMORY}
-use Rattle.hot_c.proofs.Parted.{cut}
+use Rattle.hot_c.proofs.Parted.{cut_falling, cut_rising}
 
 -- what a scan answers, and what it found
 abbrev pub Answer : Type 1
@@ -159,14 +159,32 @@ module _ {Room : Type 0} {limit : Room → ℕ} {IsWritten : List (List ℕ × �
   }
 
 -- the first pairs of a list are those of a scan that was cut after them
-pub by_parts : (layout : Layout) (k j : PassView) (from upto : List ℕ) (limit : ℕ) (pairs : List (List ℕ × ℕ)) (is_more : Bool) → length pairs < 2 ^ 63 → IsListed layout k j from upto limit pairs is_more
-    → IsListedByParts layout k j from upto limit pairs is_more
-by_parts layout k j from upto limit pairs is_more small h = record {
+rising_by_parts : (layout : Layout) (k j : PassView) (from upto : List ℕ) (limit : ℕ) (pairs : List (List ℕ × ℕ)) (is_more : Bool) → length pairs < 2 ^ 63 → IsListed layout k j from upto limit pairs is_more
+    → IsListedByParts IsListed layout k j from upto limit pairs is_more
+rising_by_parts layout k j from upto limit pairs is_more small h = record {
   whole = h;
   parts = λ n few. record {
     on = h.on;
     notes = h.notes;
-    lawful = λ scan is more. cut (scan_of pairs is_more small) (h.lawful (scan_of pairs is_more small) refl refl) pairs refl n few scan is more;
+    lawful = λ scan is more. cut_rising (scan_of pairs is_more small) (h.lawful (scan_of pairs is_more small) refl refl) pairs refl n few scan is more;
     legal = h.legal;
   };
 }
+
+falling_by_parts : (layout : Layout) (k j : PassView) (from upto : List ℕ) (limit : ℕ) (pairs : List (List ℕ × ℕ)) (is_more : Bool) → length pairs < 2 ^ 63 → IsReverseListed layout k j from upto limit pairs is_more
+    → IsListedByParts IsReverseListed layout k j from upto limit pairs is_more
+falling_by_parts layout k j from upto limit pairs is_more small h = record {
+  whole = h;
+  parts = λ n few. record {
+    on = h.on;
+    notes = h.notes;
+    lawful = λ scan is more. cut_falling (scan_of pairs is_more small) (h.lawful (scan_of pairs is_more small) refl refl) pairs refl n few scan is more;
+    legal = h.legal;
+  };
+}
+
+pub by_parts : (order : Order) (layout : Layout) (k j : PassView) (from upto : List ℕ) (limit : ℕ) (pairs : List (List ℕ × ℕ)) (is_more : Bool) → length pairs < 2 ^ 63 → IsFilledIn order layout k j from upto limit pairs is_more
+    → IsListedByParts (IsFilledIn order) layout k j from upto limit pairs is_more
+by_parts Rising layout k j from upto limit pairs is_more small h = rising_by_parts layout k j from upto limit pairs is_more small h
+by_parts Falling layout k j from upto limit pairs is_more small h = falling_by_parts layout k j from upto limit pairs is_more small h
+by_parts LastRising layout k j from upto limit pairs is_more small h = falling_by_parts layout k j from upto limit pairs is_more small h

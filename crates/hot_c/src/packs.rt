@@ -1,7 +1,8 @@
-//! The scan of a range whose pairs are packed, for programs in C.
+//! The scans of a range whose pairs are packed, for programs in C.
 
 ghost use Rattle.std.specs.Prelude.{◌≡◌, ◌≤◌, ◌++◌, drop, length, map};
-ghost use Rattle.hot_c.specs.Packs.{ListsPacked, packing};
+ghost use Rattle.hot_c.specs.Orders.{IsFilledIn};
+ghost use Rattle.hot_c.specs.Packs.{ListsPacked, ListsPackedBy, ListsPackedReverse, packing};
 ghost use Rattle.packed_pairs.specs.Parts.{packed_head, keys_in};
 
 use crate::handle::Handle;
@@ -27,7 +28,44 @@ pub extern "C" fn hot_scan_packed(
 ) -> u32
     ensures call { ListsPacked from.now upto.now handle.old.slot.opened handle.new.slot.opened (packing bytes.old heads.old count.old more.old) (packing bytes.new heads.new count.new more.new) result }
 {
-    match fill(alloc, handle, Order::Rising, from, upto, heads.len()) {
+    let order = Order::Rising;
+    list_packed(alloc, handle, order, from, upto, bytes, heads, count, more)
+}
+
+/// Lists the last pairs whose keys are from `from` to `upto`, both included, in falling key order, packed in the same way. `more`
+/// becomes 1 if the range has more below, else 0.
+#[unsafe(no_mangle)]
+pub extern "C" fn hot_scan_packed_reverse(
+    alloc: Global,
+    handle: &mut Handle,
+    from: &[u8],
+    upto: &[u8],
+    bytes: &mut [u8],
+    heads: &mut [Head],
+    count: &mut usize,
+    more: &mut u32,
+) -> u32
+    ensures call { ListsPackedReverse from.now upto.now handle.old.slot.opened handle.new.slot.opened (packing bytes.old heads.old count.old more.old) (packing bytes.new heads.new count.new more.new) result }
+{
+    let order = Order::Falling;
+    list_packed(alloc, handle, order, from, upto, bytes, heads, count, more)
+}
+
+/// Lists pairs in the order in which a scan finds them, packed.
+fn list_packed(
+    alloc: Global,
+    handle: &mut Handle,
+    order: Order,
+    from: &[u8],
+    upto: &[u8],
+    bytes: &mut [u8],
+    heads: &mut [Head],
+    count: &mut usize,
+    more: &mut u32,
+) -> u32
+    ensures { ListsPackedBy (IsFilledIn order) from.now upto.now handle.old.slot.opened handle.new.slot.opened (packing bytes.old heads.old count.old more.old) (packing bytes.new heads.new count.new more.new) result }
+{
+    match fill(alloc, handle, order, from, upto, heads.len()) {
         Ok((found, is_more)) => {
             let opened = handle.slot.lend();
             opened.list.fit(bytes.len());

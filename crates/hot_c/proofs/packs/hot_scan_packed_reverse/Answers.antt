@@ -1,0 +1,5 @@
+-- The pairs are listed in falling order.
+use Rattle.hot_c.proofs.packs.hot_scan_packed_reverse.Goals as goal
+
+pub returns : goal.returns
+returns c = record { call = c.list_packed.ensures }
