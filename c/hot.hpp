@@ -225,8 +225,8 @@ class range {
     std::uint32_t more_ = 0;
 };
 
-/// A page with room for so many pairs, and for so many bytes of their keys, which lie one after another: hot_scan_packed. It may be
-/// filled again and again, and the keys of its pairs are valid until then.
+/// A page with room for so many pairs, and for so many bytes of their keys, which lie one after another. It may be filled again and
+/// again, and the keys of its pairs are valid until then.
 class packed {
   public:
     class iterator {
@@ -378,14 +378,10 @@ class handle {
         return upto ? scan(from, *upto, pairs) : scan(std::string_view("\0", 1), {}, pairs);
     }
 
-    /// Fills a page with the first pairs from one key to another, both included: hot_scan_packed.
-    void scan_packed(key_view from, key_view upto, packed &into) {
-        check(hot_scan_packed(it(), bytes(from), from.size(), bytes(upto), upto.size(), into.keys_.data(), into.keys_.size() - 1,
-                              into.heads_.data(), into.heads_.size() - 1, &into.count_, &into.more_));
-        into.used_ = 0;
-        for (std::size_t i = 0; i < into.count_; i++)
-            into.used_ += into.heads_[i].length;
-    }
+    /// Fill a page with the first pairs from one key to another, both included, or with the last ones, the greatest key first:
+    /// hot_scan_packed, hot_scan_packed_reverse.
+    void scan_packed(key_view from, key_view upto, packed &into) { fill(hot_scan_packed, from, upto, into); }
+    void scan_packed_reverse(key_view from, key_view upto, packed &into) { fill(hot_scan_packed_reverse, from, upto, into); }
 
     /// The pairs from one key to another, both included, the greatest key first; and all pairs in that order.
     [[nodiscard]] range scan_reverse(key_view from, key_view upto, std::size_t pairs = page) {
@@ -441,6 +437,13 @@ class handle {
         if (!it_)
             check(HOT_CLOSED);
         return it_.get();
+    }
+    template <class Call> void fill(Call call, key_view from, key_view upto, packed &into) {
+        check(call(it(), bytes(from), from.size(), bytes(upto), upto.size(), into.keys_.data(), into.keys_.size() - 1, into.heads_.data(),
+                   into.heads_.size() - 1, &into.count_, &into.more_));
+        into.used_ = 0;
+        for (std::size_t i = 0; i < into.count_; i++)
+            into.used_ += into.heads_[i].length;
     }
     template <class Call> std::optional<entry> end(Call call, key_view key) {
         hot_pair found;

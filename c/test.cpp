@@ -227,6 +227,9 @@ static void test_containers() {
     handle.scan_packed({}, hot::greatest(), page);
     const std::vector<hot::pair> pairs(page.begin(), page.end());
     CHECK(pairs.size() == 2 && pairs[1].key == "ac" && !page.empty() && (*--page.end()).key == "ac");
+    hot::packed last(1, 2);
+    handle.scan_packed_reverse({}, hot::greatest(), last);
+    CHECK(last.size() == 1 && last.has_more() && (*last.begin()).key == "ac" && ++last.begin() == last.end());
     // Clang has views of other libraries from its version 16 on.
 #if __cplusplus >= 202002L && (!defined __clang__ || __clang_major__ >= 16)
     CHECK(handle.get_many(std::span(keys)).at(0) == 2 && handle.get(std::span(bytes)) == 1);

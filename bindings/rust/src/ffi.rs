@@ -46,7 +46,6 @@ impl RawHandle {
 }
 
 #[repr(C)]
-#[derive(Clone, Copy)]
 struct RawPair {
     key: [u8; MAX_KEY],
     length: u32,
@@ -74,6 +73,20 @@ struct RawLookup {
     status: Status,
 }
 
+type PackedScan = unsafe extern "C" fn(
+    *mut RawHandle,
+    *const u8,
+    usize,
+    *const u8,
+    usize,
+    *mut u8,
+    usize,
+    *mut RawHead,
+    usize,
+    *mut usize,
+    *mut u32,
+) -> Status;
+
 extern "C" {
     fn hot_status_text(status: Status) -> *const c_char;
     fn hot_open_index(stock: *const Stock, handles: usize, index: *mut *mut RawIndex) -> Status;
@@ -97,18 +110,20 @@ extern "C" {
     ) -> Status;
     fn hot_remove_if(handle: *mut RawHandle, key: *const u8, length: usize, expected: u64, had: *mut u64) -> Status;
     fn hot_add(handle: *mut RawHandle, key: *const u8, length: usize, delta: u64, had: *mut u64) -> Status;
-    fn hot_scan_reverse(
+    fn hot_scan_packed(
         handle: *mut RawHandle,
         from: *const u8,
         from_length: usize,
         upto: *const u8,
         upto_length: usize,
-        pairs: *mut RawPair,
+        bytes: *mut u8,
+        room: usize,
+        heads: *mut RawHead,
         limit: usize,
         count: *mut usize,
         more: *mut u32,
     ) -> Status;
-    fn hot_scan_packed(
+    fn hot_scan_packed_reverse(
         handle: *mut RawHandle,
         from: *const u8,
         from_length: usize,
@@ -280,14 +295,28 @@ impl Lease {
 
     /// The first pairs from one key to another, at most `limit`, and whether there are more.
     pub(crate) fn scan(&self, from: &[u8], upto: &[u8], limit: usize) -> Result<(Pairs, bool), Error> {
+        self.list(hot_scan_packed, from, upto, limit, Pairs::push_back)
+    }
+
+    /// The last pairs from one key to another, at most `limit`, in rising order, and whether there are more.
+    pub(crate) fn scan_last(&self, from: &[u8], upto: &[u8], limit: usize) -> Result<(Pairs, bool), Error> {
+        self.list(hot_scan_packed_reverse, from, upto, limit, Pairs::push_front)
+    }
+
+    fn list(
+        &self,
+        call: PackedScan,
+        from: &[u8],
+        upto: &[u8],
+        limit: usize,
+        push: fn(&mut Pairs, (Vec<u8>, u64)),
+    ) -> Result<(Pairs, bool), Error> {
         // Room for pairs of middling keys, and for one of any length: with less than that a call would not get on.
-        let (mut bytes, mut heads) = (
-            room(limit * 32 + MAX_KEY, 0)?,
-            room(limit, RawHead { length: 0, value: 0 })?,
-        );
+        let mut bytes = room(limit * 32 + MAX_KEY, 0)?;
+        let mut heads = room(limit, RawHead { length: 0, value: 0 })?;
         let (mut count, mut more) = (0, 0);
         Error::check(unsafe {
-            hot_scan_packed(
+            call(
                 self.raw(),
                 from.as_ptr(),
                 from.len(),
@@ -301,36 +330,13 @@ impl Lease {
                 &mut more,
             )
         })?;
-        let mut pairs = pairs_for(count)?;
+        let mut pairs = Pairs::new();
+        pairs.try_reserve_exact(count).map_err(|_| Error::NoMemory)?;
         let mut at = 0;
         for head in heads.iter().take(count) {
             let end = at + usize::from(head.length);
-            pairs.push_back((copy(bytes.get(at..end).unwrap_or_default())?, head.value));
+            push(&mut pairs, (copy(bytes.get(at..end).unwrap_or_default())?, head.value));
             at = end;
-        }
-        Ok((pairs, more != 0))
-    }
-
-    /// The last pairs from one key to another, at most `limit`, in rising order, and whether there are more.
-    pub(crate) fn scan_last(&self, from: &[u8], upto: &[u8], limit: usize) -> Result<(Pairs, bool), Error> {
-        let mut page = room(limit, NO_PAIR)?;
-        let (mut count, mut more) = (0, 0);
-        Error::check(unsafe {
-            hot_scan_reverse(
-                self.raw(),
-                from.as_ptr(),
-                from.len(),
-                upto.as_ptr(),
-                upto.len(),
-                page.as_mut_ptr(),
-                page.len(),
-                &mut count,
-                &mut more,
-            )
-        })?;
-        let mut pairs = pairs_for(count)?;
-        for pair in page.iter().take(count) {
-            pairs.push_front(pair.copy()?);
         }
         Ok((pairs, more != 0))
     }
@@ -378,13 +384,6 @@ impl Lease {
 
 /// Pairs that were listed.
 pub(crate) type Pairs = VecDeque<(Vec<u8>, u64)>;
-
-/// A list with room for so many pairs.
-fn pairs_for(count: usize) -> Result<Pairs, Error> {
-    let mut pairs = Pairs::new();
-    pairs.try_reserve_exact(count).map_err(|_| Error::NoMemory)?;
-    Ok(pairs)
-}
 
 impl RawPair {
     fn copy(&self) -> Result<(Vec<u8>, u64), Error> {
