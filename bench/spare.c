@@ -21,13 +21,13 @@ static const struct way {
 /* How many leaf records are to spare, of a hundred keys. */
 static const uint32_t spares[SPARES] = { 1, 5, 10, 25, 100 };
 
-/* One of the threads: how often it was refused as full and as busy, and how long a processor was at it. */
+/* One of the threads: how often it was refused as full, as held back and as busy, and how long a processor was at it. */
 typedef struct worker {
     hot_handle *handle;
     change *call;
     uint32_t keys, start;
     pthread_barrier_t *gate;
-    uint32_t full, busy;
+    uint32_t full, held, busy;
     double used;
 } worker;
 
@@ -42,6 +42,7 @@ static void *upsert_all(void *given)
         uint64_t had;
         hot_status status = me->call(me->handle, key, key_of(RANDOM, (me->start + turn) % me->keys, key), turn, &had);
         me->full += status == HOT_FULL_NODES || status == HOT_FULL_LEAVES;
+        me->held += status == HOT_HELD_BACK;
         me->busy += status == HOT_BUSY;
     }
     me->used = seconds(CLOCK_THREAD_CPUTIME_ID) - me->used;
@@ -77,7 +78,7 @@ static void measure(uint32_t keys, const struct way *way, uint32_t spare)
     hot_handle handles[THREADS] = { HOT_HANDLE, HOT_HANDLE, HOT_HANDLE, HOT_HANDLE };
     hot_stock stock = { keys / 4 + 64, keys + keys / 100 * spare, 0, 0, 0, 0 };
     worker workers[THREADS];
-    uint32_t number, full = 0, busy = 0;
+    uint32_t number, full = 0, held = 0, busy = 0;
     double took, used = 0;
     int place, calls = CALLS * way->threads;
     must(hot_create_with(&stock, handles, (size_t)way->threads), HOT_DONE);
@@ -87,17 +88,18 @@ static void measure(uint32_t keys, const struct way *way, uint32_t spare)
         must(hot_insert(&handles[0], key, key_of(RANDOM, number, key), number, &had), HOT_INSERTED);
     }
     for (place = 0; place < way->threads; place++) {
-        worker it = { &handles[place], way->call, keys, keys / THREADS * (uint32_t)place, NULL, 0, 0, 0 };
+        worker it = { &handles[place], way->call, keys, keys / THREADS * (uint32_t)place, NULL, 0, 0, 0, 0 };
         workers[place] = it;
     }
     took = run_all(workers, way->threads);
     for (place = 0; place < way->threads; place++) {
         full += workers[place].full;
+        held += workers[place].held;
         busy += workers[place].busy;
         used += workers[place].used;
         must(hot_destroy(&handles[place]), HOT_DONE);
     }
-    printf("%-26s%9u %%%14.0f%14.0f%11d%11u%11u\n", way->name, spare, 1e9 * used / calls, 1e9 * took / calls, calls, full, busy);
+    printf("%-26s%9u %%%14.0f%14.0f%11d%11u%11u%11u\n", way->name, spare, 1e9 * used / calls, 1e9 * took / calls, calls, full, held, busy);
 }
 
 int main(int words, char **word)
@@ -108,7 +110,7 @@ int main(int words, char **word)
         fprintf(stderr, "usage: spare [KEYS]    100 to 10,000,000\n");
         return 2;
     }
-    printf("%-26s%11s%14s%14s%11s%11s%11s\n", "ns a call", "to spare", "of processors", "by the clock", "calls", "full", "busy");
+    printf("%-26s%11s%14s%14s%11s%11s%11s%11s\n", "ns a call", "to spare", "of processors", "by the clock", "calls", "full", "held back", "busy");
     for (way = 0; way < WAYS; way++) {
         for (place = 0; place < SPARES; place++) {
             measure((uint32_t)keys, &ways[way], spares[place]);

@@ -167,6 +167,11 @@ static void test_scans() {
         for (const auto [key, value] : page)
             CHECK(value == ++last && key == std::string(value, 'a'));
         CHECK(last == page.size() && last == (is_all ? HOT_MAX_KEY : 7) && page.has_more() == !is_all);
+        handle.scan_packed_reverse("a", std::string(8, 'a'), page);
+        last = 9;
+        for (const auto [key, value] : page)
+            CHECK(value == --last && key == std::string(value, 'a'));
+        CHECK(page.size() == (is_all ? 8 : 5) && page.has_more() == !is_all);
     }
     std::uint64_t sum = 0;
     for (const auto it : handle.scan_prefix(std::string(238, 'a')))
