@@ -5,6 +5,7 @@
 #include "hot.h"
 #include <cstddef>
 #include <cstdint>
+#include <initializer_list>
 #include <iterator>
 #include <memory>
 #include <new>
@@ -12,6 +13,7 @@
 #include <stdexcept>
 #include <string>
 #include <string_view>
+#include <type_traits>
 #include <utility>
 #include <vector>
 
@@ -33,8 +35,11 @@ enum class status : hot_status {
     held_back = HOT_HELD_BACK
 };
 
+/// A status in a few words of English.
+inline std::string_view to_string(status what) { return hot_status_text(static_cast<hot_status>(what)); }
+
 /// A change's status, and the value that the key had, if it had one. For an exchange that was made this is the expected value.
-struct change {
+struct [[nodiscard]] change {
     status what;
     std::optional<std::uint64_t> had;
     bool is_refused() const {
@@ -43,13 +48,30 @@ struct change {
     const char *text() const { return hot_status_text(static_cast<hot_status>(what)); }
 };
 
-/// A few words of English for a status.
-inline std::string to_string(status what) { return hot_status_text(static_cast<hot_status>(what)); }
+/// A key: text, or bytes that lie in one piece, such as a std::array<std::byte, 8> or a std::span of std::uint8_t.
+class key_view : public std::string_view {
+  public:
+    using std::string_view::string_view;
+    constexpr key_view() = default;
+    constexpr key_view(std::string_view text) : std::string_view(text) {}
+    key_view(const std::string &text) : std::string_view(text) {}
+    template <class Bytes, class Byte = std::remove_cv_t<std::remove_pointer_t<decltype(std::data(std::declval<const Bytes &>()))>>,
+              std::enable_if_t<std::is_same_v<Byte, std::byte> || std::is_same_v<Byte, unsigned char>, int> = 0>
+    key_view(const Bytes &bytes) : std::string_view(reinterpret_cast<const char *>(std::data(bytes)), std::size(bytes)) {}
+};
 
-/// A key with its value.
+/// A key with its value. The key lies in the page that the pair is of.
 struct pair {
     std::string_view key;
     std::uint64_t value;
+};
+
+/// A key with its value, and no part of anything else.
+struct entry {
+    std::string key;
+    std::uint64_t value;
+    friend bool operator==(const entry &one, const entry &other) { return one.key == other.key && one.value == other.value; }
+    friend bool operator!=(const entry &one, const entry &other) { return !(one == other); }
 };
 
 /// How many records a collection gave back.
@@ -58,9 +80,8 @@ struct collected {
 };
 
 /// Throws for each status that isn't an answer: std::length_error for a key of more than HOT_MAX_KEY bytes, or one for which no leaf
-/// record has room; std::bad_alloc,
-/// std::invalid_argument for numbers out of range, std::logic_error for handles that are closed or open, std::runtime_error where no
-/// handle is free.
+/// record has room; std::bad_alloc; std::invalid_argument for numbers out of range; std::logic_error for handles that are closed or open;
+/// std::runtime_error where no handle is free.
 inline void check(hot_status status) {
     switch (status) {
     case HOT_KEY_TOO_LONG: throw std::length_error(hot_status_text(status));
@@ -77,34 +98,83 @@ inline const std::uint8_t *bytes(std::string_view key) {
     return reinterpret_cast<const std::uint8_t *>(key.data() ? key.data() : "");
 }
 
+/// The key that no other comes after.
+inline std::string_view greatest() { return {reinterpret_cast<const char *>(hot_last_key), HOT_MAX_KEY}; }
+
+/// The least possible key above this one, or none for the greatest key, which has none above. Nothing needs to have the key.
+inline std::optional<std::string> after(key_view key) {
+    std::string found(key.substr(0, HOT_MAX_KEY));
+    if (key.size() < HOT_MAX_KEY)
+        return found.append(1, '\0');
+    while (!found.empty() && found.back() == '\xff')
+        found.pop_back();
+    if (found.empty())
+        return std::nullopt;
+    found.back() = static_cast<char>(static_cast<unsigned char>(found.back()) + 1);
+    return found;
+}
+
+/// The greatest possible key below this one, or none for the empty key, which has none below. Nothing needs to have the key.
+inline std::optional<std::string> before(key_view key) {
+    std::string found(key.substr(0, HOT_MAX_KEY));
+    if (key.size() > HOT_MAX_KEY)
+        return found;
+    if (found.empty())
+        return std::nullopt;
+    if (found.back() == '\0') {
+        found.pop_back();
+        return found;
+    }
+    found.back() = static_cast<char>(static_cast<unsigned char>(found.back()) - 1);
+    found.resize(HOT_MAX_KEY, '\xff');
+    return found;
+}
+
 /// The order in which a scan gives its pairs: rising, falling from the last one on, or the last page alone, rising.
 enum class order { rising, falling, last };
 
 /// The pairs of a scan in this order of their keys, fetched page by page. The handle may be used or moved meanwhile, but not
-/// closed. Use one iterator at a time; a pair's key is valid until the iterator goes on. Making an iterator and moving it on throw
-/// as `check` does.
+/// closed. Use one iterator at a time. Making an iterator and moving it on throw as `check` does.
 class range {
   public:
+    /// What an iterator stands at: the key is valid until the iterator goes on. As an `entry` it may be kept.
+    struct item {
+        std::string_view key;
+        std::uint64_t value;
+        operator entry() const { return {std::string(key), value}; }
+    };
+
     class iterator {
+        struct arrow {
+            item at;
+            const item *operator->() const { return &at; }
+        };
+        struct kept {
+            entry at;
+            const entry &operator*() const { return at; }
+        };
+
       public:
         using iterator_category = std::input_iterator_tag;
-        using value_type = pair;
+        using value_type = entry;
         using difference_type = std::ptrdiff_t;
-        using pointer = const pair *;
-        using reference = pair;
+        using pointer = arrow;
+        using reference = item;
 
         iterator() = default;
         explicit iterator(range *of) : of_(of) {}
-        pair operator*() const {
-            const hot_pair &it = of_->page_[of_->at_];
-            return {{reinterpret_cast<const char *>(it.key), it.length}, it.value};
-        }
+        item operator*() const { return of_->at_place(of_->at_); }
+        arrow operator->() const { return {**this}; }
         iterator &operator++() {
             if (!of_->go_on())
                 of_ = nullptr;
             return *this;
         }
-        void operator++(int) { ++*this; }
+        kept operator++(int) {
+            kept old{**this};
+            ++*this;
+            return old;
+        }
         friend bool operator==(const iterator &one, const iterator &other) { return one.of_ == other.of_; }
         friend bool operator!=(const iterator &one, const iterator &other) { return one.of_ != other.of_; }
 
@@ -119,6 +189,8 @@ class range {
         return count_ ? iterator(this) : iterator();
     }
     iterator end() { return iterator(); }
+    /// All of them, copied.
+    std::vector<entry> entries() { return std::vector<entry>(begin(), end()); }
 
   private:
     void load(std::string_view at) {
@@ -128,16 +200,20 @@ class range {
         check(scan(handle_, bytes(from), from.size(), bytes(upto), upto.size(), page_.data(), page_.size(), &count_, &more_));
         at_ = 0;
     }
+    item at_place(std::size_t place) const {
+        const hot_pair &it = page_[place];
+        return {{reinterpret_cast<const char *>(it.key), it.length}, it.value};
+    }
     bool go_on() {
         if (++at_ < count_)
             return true;
         if (!more_ || goes_ == order::last)
             return false;
-        std::uint8_t next[HOT_MAX_KEY];
-        std::size_t length = 0;
-        if ((goes_ == order::rising ? hot_after : hot_before)(page_[count_ - 1].key, page_[count_ - 1].length, next, &length) != HOT_DONE)
+        const std::string_view last = at_place(count_ - 1).key;
+        const std::optional<std::string> next = goes_ == order::rising ? after(last) : before(last);
+        if (!next)
             return false;
-        load({reinterpret_cast<const char *>(next), length});
+        load(*next);
         return count_ > 0;
     }
 
@@ -149,38 +225,55 @@ class range {
     std::uint32_t more_ = 0;
 };
 
-/// A page with room for so many pairs, and for so many bytes of their keys, which lie one after another: hot_scan_packed. It may be
-/// filled again and again, and the keys of its pairs are valid until then.
+/// A page with room for so many pairs, and for so many bytes of their keys, which lie one after another. It may be filled again and
+/// again, and the keys of its pairs are valid until then.
 class packed {
   public:
     class iterator {
       public:
+        // What it stands at is a pair and no reference to one, as C++17 wants of more than input.
         using iterator_category = std::input_iterator_tag;
+        using iterator_concept = std::bidirectional_iterator_tag;
         using value_type = pair;
         using difference_type = std::ptrdiff_t;
         using pointer = const pair *;
         using reference = pair;
 
+        iterator() = default;
         iterator(const std::uint8_t *key, const hot_head *head) : key_(key), head_(head) {}
         pair operator*() const { return {{reinterpret_cast<const char *>(key_), head_->length}, head_->value}; }
         iterator &operator++() {
             key_ += head_++->length;
             return *this;
         }
-        void operator++(int) { ++*this; }
+        iterator operator++(int) {
+            iterator old = *this;
+            ++*this;
+            return old;
+        }
+        iterator &operator--() {
+            key_ -= (--head_)->length;
+            return *this;
+        }
+        iterator operator--(int) {
+            iterator old = *this;
+            --*this;
+            return old;
+        }
         friend bool operator==(const iterator &one, const iterator &other) { return one.head_ == other.head_; }
         friend bool operator!=(const iterator &one, const iterator &other) { return one.head_ != other.head_; }
 
       private:
-        const std::uint8_t *key_;
-        const hot_head *head_;
+        const std::uint8_t *key_ = nullptr;
+        const hot_head *head_ = nullptr;
     };
 
     // One more of both, so that they point somewhere with no room too.
     packed(std::size_t pairs, std::size_t bytes) : keys_(bytes + 1), heads_(pairs + 1) {}
     iterator begin() const { return {keys_.data(), heads_.data()}; }
-    iterator end() const { return {keys_.data(), heads_.data() + count_}; }
+    iterator end() const { return {keys_.data() + used_, heads_.data() + count_}; }
     std::size_t size() const { return count_; }
+    bool empty() const { return count_ == 0; }
     /// Whether the range has more pairs than these.
     bool has_more() const { return more_ != 0; }
 
@@ -188,100 +281,130 @@ class packed {
     friend class handle;
     std::vector<std::uint8_t> keys_;
     std::vector<hot_head> heads_;
-    std::size_t count_ = 0;
+    std::size_t count_ = 0, used_ = 0;
     std::uint32_t more_ = 0;
 };
 
-/// The right to use an index, for one thread at a time. It can be moved, and closes itself; a call on one that was moved from
-/// throws std::logic_error. Otherwise calls throw only as `check` does.
+/// The right to use an index, for one thread at a time. It can be moved, and closes itself; a call on one that is closed or was moved
+/// from throws std::logic_error. Otherwise calls throw only as `check` does.
 class handle {
   public:
     static constexpr std::size_t page = 64;
 
-    std::optional<std::uint64_t> get(std::string_view key) {
+    /// A handle that is closed.
+    handle() = default;
+    /// Whether it is open.
+    explicit operator bool() const { return it_ != nullptr; }
+    void close() { it_.reset(); }
+
+    [[nodiscard]] std::optional<std::uint64_t> get(key_view key) {
         std::uint64_t value = 0;
         const hot_status status = hot_get(it(), bytes(key), key.size(), &value);
         check(status);
         return status == HOT_FOUND ? std::optional(value) : std::nullopt;
     }
+    [[nodiscard]] bool contains(key_view key) { return get(key).has_value(); }
 
-    bool contains(std::string_view key) { return get(key).has_value(); }
-
-    /// Looks up many keys, in turn: hot_get_many.
-    std::vector<std::optional<std::uint64_t>> get_many(const std::vector<std::string_view> &keys) {
+    /// Looks up many keys, in turn: hot_get_many. They lie in anything that can be iterated over, such as a span of strings.
+    template <class Keys> [[nodiscard]] std::vector<std::optional<std::uint64_t>> get_many(const Keys &keys) {
+        using key = decltype(*std::begin(keys));
+        static_assert(std::is_lvalue_reference_v<key> || std::is_base_of_v<std::string_view, key>, "the keys would be gone");
         std::vector<hot_lookup> lookups;
-        lookups.reserve(keys.size() + 1); // so that it points somewhere with no key too
-        for (const std::string_view key : keys)
-            lookups.push_back({bytes(key), key.size(), 0, HOT_ABSENT});
+        lookups.reserve(1); // so that it points somewhere with no key too
+        for (const key_view one : keys)
+            lookups.push_back({bytes(one), one.size(), 0, HOT_ABSENT});
         check(hot_get_many(it(), lookups.data(), lookups.size()));
         std::vector<std::optional<std::uint64_t>> found;
+        found.reserve(lookups.size());
         for (const hot_lookup &one : lookups)
             found.push_back(one.status == HOT_FOUND ? std::optional(one.value) : std::nullopt);
         return found;
     }
+    [[nodiscard]] std::vector<std::optional<std::uint64_t>> get_many(std::initializer_list<key_view> keys) {
+        return get_many<std::initializer_list<key_view>>(keys);
+    }
 
     /// Give a key a value if it is absent; give a key a value; remove a key. Each waits while other calls are in its way or hold
     /// records back.
-    change insert(std::string_view key, std::uint64_t value) { return put(hot_insert, key, value); }
-    change upsert(std::string_view key, std::uint64_t value) { return put(hot_upsert, key, value); }
-    change remove(std::string_view key) { return take(hot_remove, key); }
+    change insert(key_view key, std::uint64_t value) { return put(hot_insert, key, value); }
+    change upsert(key_view key, std::uint64_t value) { return put(hot_upsert, key, value); }
+    change remove(key_view key) { return take(hot_remove, key); }
 
     /// Give a key a new value, or remove it, if it has the expected value; else nothing is changed, and it `differs` or is
     /// `absent`. They wait too.
-    change exchange(std::string_view key, std::uint64_t expected, std::uint64_t value) {
+    change exchange(key_view key, std::uint64_t expected, std::uint64_t value) {
         return put_if(hot_exchange, key, expected, value);
     }
-    change remove_if(std::string_view key, std::uint64_t expected) { return put(hot_remove_if, key, expected); }
+    change remove_if(key_view key, std::uint64_t expected) { return put(hot_remove_if, key, expected); }
 
     /// Adds to the value of a key that is there, modulo 2 to the power of 64: hot_add.
-    change add(std::string_view key, std::uint64_t delta) { return put(hot_add, key, delta); }
+    change add(key_view key, std::uint64_t delta) { return put(hot_add, key, delta); }
 
-    /// The same calls, tried once: they may answer `busy` or `held_back`.
-    change try_insert(std::string_view key, std::uint64_t value) { return put(hot_try_insert, key, value); }
-    change try_upsert(std::string_view key, std::uint64_t value) { return put(hot_try_upsert, key, value); }
-    change try_remove(std::string_view key) { return take(hot_try_remove, key); }
-    change try_exchange(std::string_view key, std::uint64_t expected, std::uint64_t value) {
+    /// Adds to a key's value, and returns the one before; a key that is absent gets the value, as if it had had 0. It waits, too, and
+    /// throws std::length_error, or std::runtime_error where the index is full.
+    std::uint64_t fetch_add(key_view key, std::uint64_t delta) {
+        for (;;) {
+            change made = add(key, delta);
+            if (made.what == status::absent)
+                made = insert(key, delta);
+            if (made.is_refused())
+                throw std::runtime_error(made.text());
+            if (made.what != status::exists) // else another call has put it in meanwhile
+                return made.had.value_or(0);
+        }
+    }
+
+    /// The same calls, tried once: they may return `busy` or `held_back`.
+    change try_insert(key_view key, std::uint64_t value) { return put(hot_try_insert, key, value); }
+    change try_upsert(key_view key, std::uint64_t value) { return put(hot_try_upsert, key, value); }
+    change try_remove(key_view key) { return take(hot_try_remove, key); }
+    change try_exchange(key_view key, std::uint64_t expected, std::uint64_t value) {
         return put_if(hot_try_exchange, key, expected, value);
     }
-    change try_remove_if(std::string_view key, std::uint64_t expected) { return put(hot_try_remove_if, key, expected); }
-    change try_add(std::string_view key, std::uint64_t delta) { return put(hot_try_add, key, delta); }
-
-    /// The first pair from a key on, and the last one up to a key: hot_first, hot_last.
-    std::optional<std::pair<std::string, std::uint64_t>> first(std::string_view from = {}) { return end_of(hot_first, from); }
-    std::optional<std::pair<std::string, std::uint64_t>> last(std::string_view upto) { return end_of(hot_last, upto); }
-    std::optional<std::pair<std::string, std::uint64_t>> last() { return last(std::string(HOT_MAX_KEY, '\xff')); }
-
-    /// How many keys there are: hot_len.
-    std::size_t size() {
-        std::size_t count = 0;
-        check(hot_len(it(), &count));
-        return count;
-    }
+    change try_remove_if(key_view key, std::uint64_t expected) { return put(hot_try_remove_if, key, expected); }
+    change try_add(key_view key, std::uint64_t delta) { return put(hot_try_add, key, delta); }
 
     /// The pairs from one key to another, both included; those from a key on; those whose keys begin with a prefix.
-    range scan(std::string_view from, std::string_view upto, std::size_t pairs = page) { return range(it(), from, upto, pairs); }
-    range scan(std::string_view from = {}) { return scan(from, std::string(HOT_MAX_KEY, '\xff')); }
-    range scan_prefix(std::string_view prefix) {
+    [[nodiscard]] range scan(key_view from, key_view upto, std::size_t pairs = page) { return range(it(), from, upto, pairs); }
+    [[nodiscard]] range scan(key_view from = {}) { return scan(from, greatest()); }
+    [[nodiscard]] range scan_prefix(key_view prefix) {
         const std::size_t left = HOT_MAX_KEY - (prefix.size() < HOT_MAX_KEY ? prefix.size() : HOT_MAX_KEY);
         return scan(prefix, std::string(prefix).append(left, '\xff'));
     }
 
-    /// Fills a page with the first pairs from one key to another, both included, or with the last ones, the greatest key first:
-    /// hot_scan_packed, hot_scan_packed_reverse.
-    void scan_packed(std::string_view from, std::string_view upto, packed &into) { fill(hot_scan_packed, from, upto, into); }
-    void scan_packed_reverse(std::string_view from, std::string_view upto, packed &into) {
-        fill(hot_scan_packed_reverse, from, upto, into);
+    /// The pairs from one key on and below another, which is not included.
+    [[nodiscard]] range scan_half_open(key_view from, key_view below, std::size_t pairs = page) {
+        const std::optional<std::string> upto = before(below);
+        return upto ? scan(from, *upto, pairs) : scan(std::string_view("\0", 1), {}, pairs);
     }
+
+    /// Fill a page with the first pairs from one key to another, both included, or with the last ones, the greatest key first:
+    /// hot_scan_packed, hot_scan_packed_reverse.
+    void scan_packed(key_view from, key_view upto, packed &into) { fill(hot_scan_packed, from, upto, into); }
+    void scan_packed_reverse(key_view from, key_view upto, packed &into) { fill(hot_scan_packed_reverse, from, upto, into); }
 
     /// The pairs from one key to another, both included, the greatest key first; and all pairs in that order.
-    range scan_reverse(std::string_view from, std::string_view upto, std::size_t pairs = page) {
+    [[nodiscard]] range scan_reverse(key_view from, key_view upto, std::size_t pairs = page) {
         return range(it(), from, upto, pairs, order::falling);
     }
-    range scan_reverse() { return scan_reverse({}, std::string(HOT_MAX_KEY, '\xff')); }
+    [[nodiscard]] range scan_reverse() { return scan_reverse({}, greatest()); }
 
     /// The last `count` pairs from one key to another, both included, in rising order: hot_scan_last. `count` is at least 1.
-    range scan_last(std::string_view from, std::string_view upto, std::size_t count) {
+    [[nodiscard]] range scan_last(key_view from, key_view upto, std::size_t count) {
         return range(it(), from, upto, count, order::last);
+    }
+
+    /// The first pair whose key is `from` or above, and the last one whose key is `upto` or below: those of all keys, if none is given.
+    [[nodiscard]] std::optional<entry> first(key_view from = {}) { return end(hot_first, from); }
+    [[nodiscard]] std::optional<entry> last(key_view upto) { return end(hot_last, upto); }
+    [[nodiscard]] std::optional<entry> last() { return last(greatest()); }
+    [[nodiscard]] bool empty() { return !first(); }
+
+    /// How many keys there are: hot_len.
+    [[nodiscard]] std::size_t size() {
+        std::size_t count = 0;
+        check(hot_len(it(), &count));
+        return count;
     }
 
     collected collect() {
@@ -291,7 +414,7 @@ class handle {
     }
 
     /// How many records of each size are in each state: hot_census.
-    hot_counts census() {
+    [[nodiscard]] hot_counts census() {
         hot_counts counts{};
         check(hot_census(it(), &counts));
         return counts;
@@ -299,61 +422,51 @@ class handle {
 
   private:
     friend class index;
-    friend std::vector<handle> create(std::uint32_t nodes, std::uint32_t leaves, std::size_t count);
-    friend std::vector<handle> create(const hot_stock &stock, std::size_t count);
 
-    // A handle lies in an array, of its own or of those that were opened with it, which it keeps alive, since a hot_handle must not move;
-    // and so it does with the index that it was opened on.
+    // A hot_handle must not move. The index is there as long as each of its handles.
     struct closer {
-        std::shared_ptr<hot_handle[]> all;
         std::shared_ptr<hot_index> of;
-        void operator()(hot_handle *it) const { hot_close(it); }
+        void operator()(hot_handle *it) const {
+            hot_close(it);
+            delete it;
+        }
     };
-    handle(hot_handle *it, std::shared_ptr<hot_handle[]> all, std::shared_ptr<hot_index> of = nullptr)
-        : it_(it, closer{std::move(all), std::move(of)}) {}
-
-    // The handles that `open` opens in a new array.
-    template <class Open> static std::vector<handle> opened(std::size_t count, Open open) {
-        std::shared_ptr<hot_handle[]> all(new hot_handle[count]());
-        std::vector<handle> handles;
-        handles.reserve(count);
-        check(open(all.get()));
-        for (std::size_t i = 0; i < count; i++)
-            handles.push_back(handle(&all[static_cast<std::ptrdiff_t>(i)], all));
-        return handles;
-    }
+    handle(hot_handle *it, std::shared_ptr<hot_index> of) : it_(it, closer{std::move(of)}) {}
 
     hot_handle *it() const {
         if (!it_)
             check(HOT_CLOSED);
         return it_.get();
     }
-    template <class Scan> void fill(Scan scan, std::string_view from, std::string_view upto, packed &into) {
-        check(scan(it(), bytes(from), from.size(), bytes(upto), upto.size(), into.keys_.data(), into.keys_.size() - 1, into.heads_.data(),
+    template <class Call> void fill(Call call, key_view from, key_view upto, packed &into) {
+        check(call(it(), bytes(from), from.size(), bytes(upto), upto.size(), into.keys_.data(), into.keys_.size() - 1, into.heads_.data(),
                    into.heads_.size() - 1, &into.count_, &into.more_));
+        into.used_ = 0;
+        for (std::size_t i = 0; i < into.count_; i++)
+            into.used_ += into.heads_[i].length;
     }
-    template <class Call> change put(Call call, std::string_view key, std::uint64_t value) {
+    template <class Call> std::optional<entry> end(Call call, key_view key) {
+        hot_pair found;
+        const hot_status status = call(it(), bytes(key), key.size(), &found);
+        check(status);
+        if (status != HOT_FOUND)
+            return std::nullopt;
+        return entry{std::string(reinterpret_cast<const char *>(found.key), found.length), found.value};
+    }
+    template <class Call> change put(Call call, key_view key, std::uint64_t value) {
         std::uint64_t had = 0;
         const hot_status status = call(it(), bytes(key), key.size(), value, &had);
         return told(status, had);
     }
-    template <class Call> change put_if(Call call, std::string_view key, std::uint64_t expected, std::uint64_t value) {
+    template <class Call> change put_if(Call call, key_view key, std::uint64_t expected, std::uint64_t value) {
         std::uint64_t had = expected;
         const hot_status status = call(it(), bytes(key), key.size(), expected, value, &had);
         return told(status, had);
     }
-    template <class Call> change take(Call call, std::string_view key) {
+    template <class Call> change take(Call call, key_view key) {
         std::uint64_t had = 0;
         const hot_status status = call(it(), bytes(key), key.size(), &had);
         return told(status, had);
-    }
-    template <class Find> std::optional<std::pair<std::string, std::uint64_t>> end_of(Find find, std::string_view key) {
-        hot_pair found;
-        const hot_status status = find(it(), bytes(key), key.size(), &found);
-        check(status);
-        if (status != HOT_FOUND)
-            return std::nullopt;
-        return std::pair(std::string(reinterpret_cast<const char *>(found.key), found.length), found.value);
     }
     static change told(hot_status status, std::uint64_t had) {
         check(status);
@@ -373,51 +486,69 @@ class handle {
     std::unique_ptr<hot_handle, closer> it_;
 };
 
-/// An index that opens handles at any time, from any thread. It can be moved. It is freed when it and all its handles are gone.
-class index {
-  public:
-    /// Makes an empty index with this stock and room for so many handles, 1 to 1024. Throws std::invalid_argument, std::bad_alloc.
-    explicit index(const hot_stock &stock, std::size_t handles = 64) {
-        hot_index *made = nullptr;
-        check(hot_open_index(&stock, handles, &made));
-        it_.reset(made, hot_close_index);
-    }
-    index(index &&) = default;
-    index &operator=(index &&) = default;
-
-    /// Opens a handle. Throws std::runtime_error if all are open, std::logic_error if the index was moved from.
-    handle open() {
-        if (!it_)
-            check(HOT_CLOSED);
-        std::shared_ptr<hot_handle[]> own(new hot_handle[1]());
-        check(hot_open(it_.get(), own.get()));
-        return handle(own.get(), own, it_);
-    }
-
-  private:
-    std::shared_ptr<hot_index> it_;
-};
-
-/// Makes an empty index with this number of node and leaf records, and `count` handles on it, 1 to 64. Destroying the last one
-/// frees it. Throws std::invalid_argument, std::bad_alloc.
-inline std::vector<handle> create(std::uint32_t nodes, std::uint32_t leaves, std::size_t count = 1) {
-    return handle::opened(count, [=](hot_handle *all) { return hot_create(nodes, leaves, all, count); });
-}
-
-/// The same with a stock of records, and 1 to 1024 handles.
-inline std::vector<handle> create(const hot_stock &stock, std::size_t count = 1) {
-    return handle::opened(count, [&](hot_handle *all) { return hot_create_with(&stock, all, count); });
-}
-
 /// A stock for `keys` keys of at most `longest` bytes each; hot.h says what it has to spare.
-inline hot_stock stock_for_keys(std::uint32_t keys, std::size_t longest) {
+[[nodiscard]] inline hot_stock stock_for_keys(std::uint32_t keys, std::size_t longest) {
     hot_stock stock{};
     hot_stock_for_keys(keys, longest, &stock);
     return stock;
 }
 
+/// An index, which gives handles to threads. It may be moved, and gone before its handles: the last one frees what there is.
+class index {
+  public:
+    /// Makes an empty index with this stock of records, and room for so many handles, 1 to 1024. Throws std::invalid_argument,
+    /// std::bad_alloc.
+    explicit index(const hot_stock &stock, std::size_t handles = 64) {
+        hot_index *made = nullptr;
+        check(hot_open_index(&stock, handles, &made));
+        at_ = std::shared_ptr<hot_index>(made, hot_close_index);
+    }
+    /// Makes an empty index with room for `keys` keys of at most `longest` bytes each.
+    index(std::uint32_t keys, std::size_t longest, std::size_t handles = 64) : index(stock_for_keys(keys, longest), handles) {}
+    index(index &&) = default;
+    index &operator=(index &&) = default;
+
+    /// Opens a handle, at any time and from any thread. Throws std::runtime_error if all are open, std::logic_error if the index was
+    /// moved from.
+    [[nodiscard]] handle open() {
+        std::optional<handle> one = try_open();
+        if (!one)
+            check(HOT_NO_HANDLE);
+        return *std::move(one);
+    }
+    /// The same, or none if all are open.
+    [[nodiscard]] std::optional<handle> try_open() {
+        if (!at_)
+            check(HOT_CLOSED);
+        handle one(new hot_handle HOT_HANDLE, at_);
+        const hot_status status = hot_open(at_.get(), one.it());
+        if (status == HOT_NO_HANDLE)
+            return std::nullopt;
+        check(status);
+        return one;
+    }
+
+  private:
+    std::shared_ptr<hot_index> at_;
+};
+
+/// Makes an empty index with a stock of records, and opens `count` handles on it, 1 to 1024. The last one that is closed frees it.
+/// Throws std::invalid_argument, std::bad_alloc.
+[[nodiscard]] inline std::vector<handle> create(const hot_stock &stock, std::size_t count = 1) {
+    index made(stock, count);
+    std::vector<handle> handles;
+    while (handles.size() < count)
+        handles.push_back(made.open());
+    return handles;
+}
+
+/// The same with this number of node records, and of leaf records for keys of any length.
+[[nodiscard]] inline std::vector<handle> create(std::uint32_t nodes, std::uint32_t leaves, std::size_t count = 1) {
+    return create(hot_stock{nodes, 0, 0, 0, 0, leaves}, count);
+}
+
 /// How many bytes an index with this stock and this number of handles takes: hot_stock_bytes. Throws std::invalid_argument.
-inline std::size_t stock_bytes(const hot_stock &stock, std::size_t count = 1) {
+[[nodiscard]] inline std::size_t stock_bytes(const hot_stock &stock, std::size_t count = 1) {
     std::size_t bytes = 0;
     check(hot_stock_bytes(&stock, count, &bytes));
     return bytes;

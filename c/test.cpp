@@ -1,27 +1,36 @@
 // Tests of the library from C++: what each call gives or throws, scans over several pages, moved handles, and threads that wait.
 #include "hot.hpp"
+#include <algorithm>
+#include <array>
 #include <atomic>
 #include <cstdio>
+#include <map>
 #include <thread>
 #include <type_traits>
 #if __cplusplus >= 202002L
 #include <ranges>
-static_assert(std::ranges::input_range<hot::range>);
+#include <span>
+static_assert(std::input_iterator<hot::range::iterator> && std::ranges::input_range<hot::range> && std::ranges::viewable_range<hot::range>);
+static_assert(std::is_same_v<std::ranges::range_value_t<hot::range>, hot::entry>);
+static_assert(std::bidirectional_iterator<hot::packed::iterator> && std::ranges::bidirectional_range<const hot::packed>);
+static_assert(std::ranges::sized_range<hot::packed> && std::ranges::common_range<hot::packed>);
+static_assert(std::movable<hot::handle> && std::movable<hot::index> && std::default_initializable<hot::handle>);
+static_assert(std::convertible_to<std::span<const std::byte>, hot::key_view> && !std::convertible_to<int, hot::key_view>);
 #endif
 
 static int failures;
 
-#define CHECK(that)                                                          \
-    do {                                                                     \
-        if (!(that)) {                                                       \
-            std::fprintf(stderr, "test.cpp:%d: not so: %s\n", __LINE__, #that); \
-            failures = 1;                                                    \
-        }                                                                    \
+#define CHECK(...)                                                                  \
+    do {                                                                            \
+        if (!(__VA_ARGS__)) {                                                       \
+            std::fprintf(stderr, "test.cpp:%d: not so: %s\n", __LINE__, #__VA_ARGS__); \
+            failures = 1;                                                           \
+        }                                                                           \
     } while (0)
 
 template <class Error, class Call> static bool throws(Call call) {
     try {
-        call();
+        (void)call();
     } catch (const Error &) {
         return true;
     }
@@ -29,6 +38,8 @@ template <class Error, class Call> static bool throws(Call call) {
 }
 
 static_assert(!std::is_copy_constructible_v<hot::handle> && std::is_nothrow_move_constructible_v<hot::handle>);
+// A pair would keep the key of a page that is gone.
+static_assert(!std::is_constructible_v<hot::pair, hot::range::item> && std::is_convertible_v<hot::range::item, hot::entry>);
 
 static void test_calls() {
     auto handles = hot::create(100, 100, 2);
@@ -44,10 +55,10 @@ static void test_calls() {
     CHECK(found.size() == 2 && !found[0] && found[1] == 10 && first.get_many({}).empty());
     CHECK(first.census().long_leaves.obsolete == 3);
     CHECK(first.collect().leaves == 3 && first.census().long_leaves.free == 99);
-    CHECK(throws<std::logic_error>([&] { handles[0].get("b"); }));
-    CHECK(throws<std::length_error>([&] { first.get(std::string(HOT_MAX_KEY + 1, 'a')); }));
-    CHECK(throws<std::invalid_argument>([] { hot::create(0, 10); }));
-    CHECK(throws<std::invalid_argument>([] { hot::create(10, 10, 65); }));
+    CHECK(throws<std::logic_error>([&] { return handles[0].get("b"); }));
+    CHECK(throws<std::length_error>([&] { return first.get(std::string(HOT_MAX_KEY + 1, 'a')); }));
+    CHECK(throws<std::invalid_argument>([] { return hot::create(0, 10); }));
+    CHECK(throws<std::invalid_argument>([] { return hot::create(10, 10, 1025); }));
     handles.clear();
     CHECK(first.get({}) == 10);
 }
@@ -67,7 +78,7 @@ static void test_index() {
     hot::handle third = index.open();
     CHECK(third.add("a", 3).had == 5 && third.try_add("a", 1).what == hot::status::replaced && third.get("a") == 9);
     CHECK(third.add("b", 1).what == hot::status::absent && third.insert("b", 1).what == hot::status::inserted && third.size() == 2);
-    CHECK(third.first()->first == "a" && third.last()->second == 1 && third.last("a")->second == 9 && !third.first("c"));
+    CHECK(third.first()->key == "a" && third.last()->value == 1 && third.last("a")->value == 9 && !third.first("c"));
     CHECK(to_string(hot::status::held_back) == hot_status_text(HOT_HELD_BACK));
     CHECK(throws<std::logic_error>([&] { (void)moved.open(); }));
     CHECK(throws<std::invalid_argument>([] { hot::index none(hot::stock_for_keys(1, 8), 0); }));
@@ -80,7 +91,7 @@ static void test_expected() {
     auto handles = hot::create(100, 100);
     hot::handle &handle = handles[0];
     CHECK(handle.exchange("a", 1, 2).what == hot::status::absent && !handle.try_exchange("a", 1, 2).had);
-    handle.insert("a", 1);
+    CHECK(!handle.insert("a", 1).is_refused());
     const auto other = handle.exchange("a", 2, 3);
     CHECK(other.what == hot::status::differs && other.had == 1 && !other.is_refused());
     const auto change = handle.exchange("a", 1, 2);
@@ -103,15 +114,15 @@ static void test_stock() {
     hot_stock stock = hot::stock_for_keys(7, 8);
     CHECK(stock.nodes == 512 && stock.short_leaves == 519 && !stock.medium_leaves && hot::stock_bytes(stock) == 254688);
     CHECK(hot::create(stock, 1024).size() == 1024);
-    CHECK(throws<std::invalid_argument>([&] { hot::stock_bytes(stock, 1025); }));
-    CHECK(throws<std::invalid_argument>([&] { hot::create(stock, 1025); }));
+    CHECK(throws<std::invalid_argument>([&] { return hot::stock_bytes(stock, 1025); }));
+    CHECK(throws<std::invalid_argument>([&] { return hot::create(stock, 1025); }));
     stock.short_leaves = stock.medium_leaves = 1;
     auto handles = hot::create(stock);
     CHECK(handles.size() == 1 && !handles[0].insert(std::string(24, 'a'), 1).is_refused());
     CHECK(handles[0].insert(std::string(9, 'a'), 2).what == hot::status::full_leaves);
     CHECK(!handles[0].insert(std::string(8, 'a'), 3).is_refused() && handles[0].get(std::string(24, 'a')) == 1);
     stock.short_leaves = stock.medium_leaves = 0;
-    CHECK(throws<std::invalid_argument>([&] { hot::create(stock); }));
+    CHECK(throws<std::invalid_argument>([&] { return hot::create(stock); }));
 }
 
 // Keys of a, aa, .. to the greatest length, and one of the greatest length with other bytes: on each page, one goes on after its last;
@@ -121,12 +132,12 @@ static void test_scans() {
     hot::handle &handle = handles[0];
     for (std::size_t length = 1; length <= HOT_MAX_KEY; length++)
         CHECK(handle.insert(std::string(length, 'a'), length).what == hot::status::inserted);
-    handle.insert(std::string(HOT_MAX_KEY, '\xff'), HOT_MAX_KEY + 1);
+    CHECK(!handle.insert(std::string(HOT_MAX_KEY, '\xff'), HOT_MAX_KEY + 1).is_refused());
     for (const std::size_t page : {1, 2, 60, 241, 500}) {
         std::uint64_t count = 0;
         for (const auto [key, value] : handle.scan("a", std::string(HOT_MAX_KEY, '\xff'), page)) {
             CHECK(value == ++count && key.size() == (value <= HOT_MAX_KEY ? value : HOT_MAX_KEY));
-            handle.upsert(key, value);
+            CHECK(handle.upsert(key, value).had == value);
         }
         CHECK(count == HOT_MAX_KEY + 1);
     }
@@ -134,7 +145,7 @@ static void test_scans() {
         std::uint64_t count = HOT_MAX_KEY + 1;
         for (const auto [key, value] : handle.scan_reverse("a", std::string(HOT_MAX_KEY, '\xff'), page)) {
             CHECK(value == count-- && key.size() == (value <= HOT_MAX_KEY ? value : HOT_MAX_KEY));
-            handle.upsert(key, value);
+            CHECK(handle.upsert(key, value).had == value);
         }
         CHECK(count == 0);
     }
@@ -173,6 +184,89 @@ static void test_scans() {
     CHECK(throws<std::length_error>([&] { handle.scan(std::string(HOT_MAX_KEY + 1, 'a')).begin(); }));
 }
 
+// What stands at the ends, half-open ranges, and what is counted.
+static void test_ends() {
+    hot::handle handle = hot::index(100, HOT_MAX_KEY, 1).open();
+    CHECK(!handle.first() && !handle.last() && handle.empty() && handle.size() == 0);
+    const std::string long_key(HOT_MAX_KEY, '\xff'), too_long(HOT_MAX_KEY + 1, '\xff');
+    for (const std::string &key : {std::string("a"), std::string("b"), std::string("b\0", 2), std::string("c"), long_key})
+        CHECK(!handle.insert(key, key.size()).is_refused());
+    CHECK(handle.first() == hot::entry{"a", 1} && handle.first("aa") == hot::entry{"b", 1} && !handle.empty());
+    CHECK(handle.last()->key == long_key && handle.last("c") == hot::entry{"c", 1} && !handle.last({}) && handle.size() == 5);
+    CHECK(handle.contains("b") && !handle.contains("ba"));
+    const auto keys = [&](std::string_view from, std::string_view below) {
+        std::string all;
+        for (const auto &it : handle.scan_half_open(from, below).entries())
+            all += it.key + ' ';
+        return all;
+    };
+    CHECK(keys("a", "c") == std::string("a b b\0 ", 7) && keys("a", "b") == "a " && keys("a", std::string("b\0", 2)) == "a b ");
+    CHECK(keys("", "").empty() && keys("b", "b").empty() && keys("c", "b").empty() && keys("c", long_key) == "c ");
+    CHECK(keys("c", too_long) == "c " + long_key + ' ' && hot::before(too_long) == long_key && !hot::before({}));
+    CHECK(hot::before("b") == "a" + std::string(HOT_MAX_KEY - 1, '\xff') && hot::before(std::string("b\0", 2)) == "b");
+    CHECK(hot::after("b") == std::string("b\0", 2) && hot::after("b" + std::string(HOT_MAX_KEY - 1, '\xff')) == "c");
+    CHECK(!hot::after(long_key) && !hot::after(too_long) && hot::after({}) == std::string(1, '\0'));
+    CHECK(hot::to_string(hot::status::full_leaves) == hot_status_text(HOT_FULL_LEAVES));
+}
+
+// What is listed goes into containers and through algorithms, and keys come as strings and as bytes.
+static void test_containers() {
+    hot::handle handle = hot::index(100, 8, 1).open();
+    const std::array<std::byte, 2> bytes{std::byte{'a'}, std::byte{'b'}};
+    const std::vector<std::uint8_t> more{'a', 'c'};
+    CHECK(handle.insert(bytes, 1).what == hot::status::inserted && handle.insert(more, 2).what == hot::status::inserted);
+    CHECK(handle.get("ab") == 1 && handle.get(std::string("ac")) == 2);
+    const std::array<std::string, 2> keys{"ac", "ad"};
+    const std::vector<std::string_view> views{"ab"};
+    CHECK(handle.get_many(keys) == (std::vector<std::optional<std::uint64_t>>{2, std::nullopt}) && handle.get_many(views).at(0) == 1);
+    auto scan = handle.scan({}, hot::greatest(), 1);
+    const std::vector copied(scan.begin(), scan.end());
+    CHECK((copied == std::vector<hot::entry>{{"ab", 1}, {"ac", 2}}) && copied == handle.scan().entries());
+    CHECK(scan.begin()->key == "ab" && (*scan.begin()++).value == 1);
+    const auto found = std::find_if(scan.begin(), scan.end(), [](const auto &it) { return it.value == 2; });
+    CHECK(found != scan.end() && found->key == "ac");
+    std::map<std::string, std::uint64_t> map;
+    std::for_each(scan.begin(), scan.end(), [&](const auto &it) { map.emplace(it.key, it.value); });
+    CHECK(map.size() == 2 && map["ac"] == 2);
+    hot::packed page(10, 100);
+    handle.scan_packed({}, hot::greatest(), page);
+    const std::vector<hot::pair> pairs(page.begin(), page.end());
+    CHECK(pairs.size() == 2 && pairs[1].key == "ac" && !page.empty() && (*--page.end()).key == "ac");
+    hot::packed last(1, 2);
+    handle.scan_packed_reverse({}, hot::greatest(), last);
+    CHECK(last.size() == 1 && last.has_more() && (*last.begin()).key == "ac" && ++last.begin() == last.end());
+    // Clang has views of other libraries from its version 16 on.
+#if __cplusplus >= 202002L && (!defined __clang__ || __clang_major__ >= 16)
+    CHECK(handle.get_many(std::span(keys)).at(0) == 2 && handle.get(std::span(bytes)) == 1);
+    std::string all;
+    for (const auto [key, value] : handle.scan() | std::views::filter([](const auto &it) { return it.value > 1; }))
+        all.append(key);
+    for (const auto [key, value] : page | std::views::reverse | std::views::take(1))
+        all.append(key);
+    std::ranges::for_each(scan, [&](const auto &it) { all.append(it.key); });
+    CHECK(all == "acacabac");
+#endif
+}
+
+// Handles that are closed, moved and empty, and an index that takes the place of another.
+static void test_handles() {
+    hot::index index(hot::stock_for_keys(100, 8), 2);
+    hot::handle one = index.open(), two = index.open(), none;
+    CHECK(!index.try_open() && throws<std::runtime_error>([&] { return index.open(); }));
+    CHECK(one && two && !none && throws<std::logic_error>([&] { return none.get("a"); }));
+    CHECK(!two.insert("a", 1).is_refused());
+    two.close();
+    CHECK(!two && throws<std::logic_error>([&] { return two.get("a"); }));
+    none = index.open();
+    CHECK(none.get("a") == 1);
+    hot::index moved = std::move(index);
+    one = hot::handle();
+    std::thread([&] { CHECK(moved.open().get("a") == 1); }).join();
+    moved = hot::index(10, 8, 1);
+    CHECK(none.get("a") == 1 && !moved.open().get("a"));
+    CHECK(throws<std::invalid_argument>([] { return hot::index(10, 8, 0); }) && throws<std::invalid_argument>([] { return hot::index(10, 8, 1025); }));
+}
+
 // Four threads that change the same keys by handles of their own: none is told that it was busy, and each key ends with a value.
 static void test_threads() {
     auto handles = hot::create(2000, 4000, 4);
@@ -191,24 +285,26 @@ static void test_threads() {
     CHECK(busy == 0 && count == 100);
 }
 
-// Four threads that add one to one value by exchanges, each made again with the value that it was told: none is lost.
+// Four threads that add one to values by exchanges, each made again with the value that it was told, and by additions: none is lost.
 static void test_counting() {
     auto handles = hot::create(10, 400, 4);
-    handles[0].insert("sum", 0);
+    CHECK(!handles[0].insert("sum", 0).is_refused());
     std::vector<std::thread> threads;
     for (hot::handle &handle : handles)
         threads.emplace_back([&handle] {
-            for (int i = 0; i < 2000; i++)
+            for (int i = 0; i < 2000; i++) {
+                (void)handle.fetch_add("added", 1);
                 for (std::uint64_t seen = *handle.get("sum");;) {
                     const auto change = handle.exchange("sum", seen, seen + 1);
                     if (change.what == hot::status::exchanged)
                         break;
                     seen = change.had.value_or(seen);
                 }
+            }
         });
     for (std::thread &thread : threads)
         thread.join();
-    CHECK(handles[0].get("sum") == 8000);
+    CHECK(handles[0].get("sum") == 8000 && handles[0].get("added") == 8000 && handles[1].fetch_add("added", UINT64_MAX) == 8000);
 }
 
 int main() {
@@ -218,6 +314,9 @@ int main() {
     test_full();
     test_stock();
     test_scans();
+    test_ends();
+    test_containers();
+    test_handles();
     test_threads();
     test_counting();
     std::puts(failures ? "the C++ test failed" : "the C++ test passed");

@@ -1,0 +1,115 @@
+//! Why a call was refused, or not made.
+use crate::ffi::{self, Status};
+use std::{error, fmt};
+
+/// Why a call was refused. It changed nothing.
+#[derive(Clone, Copy, Debug, PartialEq, Eq, Hash)]
+#[non_exhaustive]
+pub enum Error {
+    /// Too few node records were free, and the others were all in use: keys must be removed first.
+    FullNodes,
+    /// All leaf records that the key fits in were in use: keys must be removed first.
+    FullLeaves,
+    /// The key has more than [`MAX_KEY`](crate::MAX_KEY) bytes, or more than any leaf record of the index has room for.
+    KeyTooLong,
+    /// All handles of the index are open.
+    NoHandle,
+    /// The number of keys, records or handles is out of range.
+    OutOfRange,
+    /// There is no memory.
+    NoMemory,
+    /// The library returned a status that it does not return to this call.
+    Unexpected(u32),
+}
+
+impl Error {
+    /// Tells refusals from other statuses.
+    pub(crate) fn check(status: Status) -> Result<Status, Error> {
+        Err(match status {
+            ffi::FULL_NODES => Error::FullNodes,
+            ffi::FULL_LEAVES => Error::FullLeaves,
+            ffi::KEY_TOO_LONG => Error::KeyTooLong,
+            ffi::OUT_OF_RANGE => Error::OutOfRange,
+            ffi::NO_MEMORY => Error::NoMemory,
+            ffi::NO_HANDLE => Error::NoHandle,
+            0..=7 | ffi::EXCHANGED | ffi::DIFFERS => return Ok(status),
+            _ => Error::Unexpected(status),
+        })
+    }
+
+    /// Whether the index has no record free for the change.
+    pub fn is_full(self) -> bool {
+        matches!(self, Error::FullNodes | Error::FullLeaves)
+    }
+}
+
+impl fmt::Display for Error {
+    fn fmt(&self, to: &mut fmt::Formatter<'_>) -> fmt::Result {
+        to.write_str(match *self {
+            Error::FullNodes => ffi::text(ffi::FULL_NODES),
+            Error::FullLeaves => ffi::text(ffi::FULL_LEAVES),
+            Error::KeyTooLong => ffi::text(ffi::KEY_TOO_LONG),
+            Error::NoHandle => ffi::text(ffi::NO_HANDLE),
+            Error::OutOfRange => ffi::text(ffi::OUT_OF_RANGE),
+            Error::NoMemory => ffi::text(ffi::NO_MEMORY),
+            Error::Unexpected(status) => ffi::text(status),
+        })
+    }
+}
+
+impl error::Error for Error {}
+
+/// Why a value was not exchanged, or a key not removed.
+#[derive(Clone, Copy, Debug, PartialEq, Eq, Hash)]
+pub enum CompareExchangeError {
+    /// The key has this other value, and keeps it.
+    Differs(u64),
+    /// The key is absent.
+    Absent,
+    /// The call was refused.
+    Refused(Error),
+}
+
+impl From<Error> for CompareExchangeError {
+    fn from(why: Error) -> Self {
+        CompareExchangeError::Refused(why)
+    }
+}
+
+impl fmt::Display for CompareExchangeError {
+    fn fmt(&self, to: &mut fmt::Formatter<'_>) -> fmt::Result {
+        match self {
+            CompareExchangeError::Differs(value) => write!(to, "the key has the value {value}"),
+            CompareExchangeError::Absent => to.write_str("the key is absent"),
+            CompareExchangeError::Refused(why) => why.fmt(to),
+        }
+    }
+}
+
+impl error::Error for CompareExchangeError {}
+
+/// Why a key was not inserted.
+#[derive(Clone, Copy, Debug, PartialEq, Eq, Hash)]
+pub enum TryInsertError {
+    /// The key has this value, and keeps it.
+    Occupied(u64),
+    /// The call was refused.
+    Refused(Error),
+}
+
+impl From<Error> for TryInsertError {
+    fn from(why: Error) -> Self {
+        TryInsertError::Refused(why)
+    }
+}
+
+impl fmt::Display for TryInsertError {
+    fn fmt(&self, to: &mut fmt::Formatter<'_>) -> fmt::Result {
+        match self {
+            TryInsertError::Occupied(value) => write!(to, "the key has the value {value}"),
+            TryInsertError::Refused(why) => why.fmt(to),
+        }
+    }
+}
+
+impl error::Error for TryInsertError {}

@@ -1,0 +1,408 @@
+//! `hot.h`, and over it calls that are safe: no other module has unsafe code.
+#![allow(unsafe_code)]
+use crate::{Census, Error, Stock, MAX_KEY};
+use std::cell::UnsafeCell;
+use std::collections::VecDeque;
+use std::ffi::CStr;
+use std::os::raw::{c_char, c_void};
+use std::ptr;
+use std::sync::Arc;
+
+/// How a call came out.
+pub(crate) type Status = u32;
+pub(crate) const FOUND: Status = 1;
+pub(crate) const ABSENT: Status = 2;
+pub(crate) const INSERTED: Status = 3;
+pub(crate) const WAS: Status = 6;
+pub(crate) const REMOVED: Status = 7;
+pub(crate) const FULL_NODES: Status = 9;
+pub(crate) const FULL_LEAVES: Status = 10;
+pub(crate) const KEY_TOO_LONG: Status = 11;
+pub(crate) const OUT_OF_RANGE: Status = 14;
+pub(crate) const NO_MEMORY: Status = 15;
+pub(crate) const EXCHANGED: Status = 16;
+pub(crate) const DIFFERS: Status = 17;
+pub(crate) const NO_HANDLE: Status = 19;
+
+/// What only the library sees.
+#[repr(C)]
+struct RawIndex {
+    fields: [u8; 0],
+}
+
+#[repr(C)]
+struct RawHandle {
+    tag: u32,
+    slot: *mut c_void,
+    index: *mut RawIndex,
+}
+
+impl RawHandle {
+    const CLOSED: RawHandle = RawHandle {
+        tag: 0,
+        slot: ptr::null_mut(),
+        index: ptr::null_mut(),
+    };
+}
+
+#[repr(C)]
+struct RawPair {
+    key: [u8; MAX_KEY],
+    length: u32,
+    value: u64,
+}
+
+const NO_PAIR: RawPair = RawPair {
+    key: [0; MAX_KEY],
+    length: 0,
+    value: 0,
+};
+
+#[repr(C)]
+#[derive(Clone, Copy)]
+struct RawHead {
+    length: u8,
+    value: u64,
+}
+
+#[repr(C)]
+struct RawLookup {
+    key: *const u8,
+    length: usize,
+    value: u64,
+    status: Status,
+}
+
+type PackedScan = unsafe extern "C" fn(
+    *mut RawHandle,
+    *const u8,
+    usize,
+    *const u8,
+    usize,
+    *mut u8,
+    usize,
+    *mut RawHead,
+    usize,
+    *mut usize,
+    *mut u32,
+) -> Status;
+
+extern "C" {
+    fn hot_status_text(status: Status) -> *const c_char;
+    fn hot_open_index(stock: *const Stock, handles: usize, index: *mut *mut RawIndex) -> Status;
+    fn hot_close_index(index: *mut RawIndex) -> Status;
+    fn hot_open(index: *mut RawIndex, handle: *mut RawHandle) -> Status;
+    fn hot_close(handle: *mut RawHandle) -> Status;
+    fn hot_stock_for_keys(keys: u32, longest: usize, stock: *mut Stock);
+    fn hot_stock_bytes(stock: *const Stock, handles: usize, bytes: *mut usize) -> Status;
+    fn hot_get(handle: *mut RawHandle, key: *const u8, length: usize, value: *mut u64) -> Status;
+    fn hot_get_many(handle: *mut RawHandle, lookups: *mut RawLookup, count: usize) -> Status;
+    fn hot_insert(handle: *mut RawHandle, key: *const u8, length: usize, value: u64, had: *mut u64) -> Status;
+    fn hot_upsert(handle: *mut RawHandle, key: *const u8, length: usize, value: u64, had: *mut u64) -> Status;
+    fn hot_remove(handle: *mut RawHandle, key: *const u8, length: usize, had: *mut u64) -> Status;
+    fn hot_exchange(
+        handle: *mut RawHandle,
+        key: *const u8,
+        length: usize,
+        expected: u64,
+        value: u64,
+        had: *mut u64,
+    ) -> Status;
+    fn hot_remove_if(handle: *mut RawHandle, key: *const u8, length: usize, expected: u64, had: *mut u64) -> Status;
+    fn hot_add(handle: *mut RawHandle, key: *const u8, length: usize, delta: u64, had: *mut u64) -> Status;
+    fn hot_scan_packed(
+        handle: *mut RawHandle,
+        from: *const u8,
+        from_length: usize,
+        upto: *const u8,
+        upto_length: usize,
+        bytes: *mut u8,
+        room: usize,
+        heads: *mut RawHead,
+        limit: usize,
+        count: *mut usize,
+        more: *mut u32,
+    ) -> Status;
+    fn hot_scan_packed_reverse(
+        handle: *mut RawHandle,
+        from: *const u8,
+        from_length: usize,
+        upto: *const u8,
+        upto_length: usize,
+        bytes: *mut u8,
+        room: usize,
+        heads: *mut RawHead,
+        limit: usize,
+        count: *mut usize,
+        more: *mut u32,
+    ) -> Status;
+    fn hot_first(handle: *mut RawHandle, from: *const u8, length: usize, pair: *mut RawPair) -> Status;
+    fn hot_last(handle: *mut RawHandle, upto: *const u8, length: usize, pair: *mut RawPair) -> Status;
+    fn hot_census(handle: *mut RawHandle, counts: *mut Census) -> Status;
+    fn hot_len(handle: *mut RawHandle, count: *mut usize) -> Status;
+}
+
+/// A status in words.
+pub(crate) fn text(status: Status) -> &'static str {
+    // SAFETY: the text is static, and ends with a zero byte.
+    unsafe { CStr::from_ptr(hot_status_text(status)) }
+        .to_str()
+        .unwrap_or("not a status")
+}
+
+pub(crate) fn stock_for_keys(keys: u32, longest: usize) -> Stock {
+    let mut stock = Stock::default();
+    // SAFETY: it writes a stock.
+    unsafe { hot_stock_for_keys(keys, longest, &mut stock) };
+    stock
+}
+
+pub(crate) fn stock_bytes(stock: &Stock, handles: usize) -> (Status, usize) {
+    let mut bytes = 0;
+    // SAFETY: it reads a stock and writes a number.
+    let status = unsafe { hot_stock_bytes(stock, handles, &mut bytes) };
+    (status, bytes)
+}
+
+/// An index, which is there as long as each of its handles.
+pub(crate) struct Index {
+    at: *mut RawIndex,
+    handles: usize,
+}
+
+// SAFETY: any thread may open a handle, at any time, and the last one that has the index frees it.
+unsafe impl Send for Index {}
+unsafe impl Sync for Index {}
+
+impl Index {
+    /// Makes an index with room for so many handles.
+    pub(crate) fn open(stock: &Stock, handles: usize) -> Result<Index, Error> {
+        let mut at = ptr::null_mut();
+        // SAFETY: it reads a stock, and writes a pointer.
+        Error::check(unsafe { hot_open_index(stock, handles, &mut at) })?;
+        Ok(Index { at, handles })
+    }
+
+    /// How many handles may be open at a time.
+    pub(crate) fn handles(&self) -> usize {
+        self.handles
+    }
+
+    /// Opens a handle.
+    pub(crate) fn lease(self: &Arc<Index>) -> Result<Lease, Error> {
+        let mut one = Vec::new();
+        one.try_reserve_exact(1).map_err(|_| Error::NoMemory)?;
+        one.push(UnsafeCell::new(RawHandle::CLOSED));
+        let handle = one.into_boxed_slice();
+        // SAFETY: the handle is zeroed, and stays where it is until it is closed.
+        Error::check(unsafe { hot_open(self.at, UnsafeCell::raw_get(handle.as_ptr())) })?;
+        Ok(Lease {
+            index: Arc::clone(self),
+            handle,
+        })
+    }
+}
+
+impl Drop for Index {
+    fn drop(&mut self) {
+        // SAFETY: all handles are closed, since an open one keeps the index.
+        unsafe { hot_close_index(self.at) };
+    }
+}
+
+/// An open handle, of one thread at a time: it is not `Sync`, since it has cells.
+pub(crate) struct Lease {
+    index: Arc<Index>,
+    handle: Box<[UnsafeCell<RawHandle>]>,
+}
+
+// SAFETY: any thread may use or close a handle once the last call with it has returned.
+unsafe impl Send for Lease {}
+
+impl Drop for Lease {
+    fn drop(&mut self) {
+        // SAFETY: the handle is open, and no call with it is under way.
+        unsafe { hot_close(self.raw()) };
+    }
+}
+
+// SAFETY of each call: the handle is open, and this thread's for the time of the call, since a lease isn't `Sync`. A key is there as
+// long as the call, and its pointer is not null, since it is a slice's. What the call writes is borrowed for it, and as large as said.
+impl Lease {
+    fn raw(&self) -> *mut RawHandle {
+        UnsafeCell::raw_get(self.handle.as_ptr())
+    }
+
+    pub(crate) fn index(&self) -> &Arc<Index> {
+        &self.index
+    }
+
+    pub(crate) fn get(&self, key: &[u8]) -> (Status, u64) {
+        let mut value = 0;
+        let status = unsafe { hot_get(self.raw(), key.as_ptr(), key.len(), &mut value) };
+        (status, value)
+    }
+
+    /// Looks up keys that are all short enough, and adds their values to what was found. Nothing is added if it is refused.
+    pub(crate) fn get_many(&self, keys: &[&[u8]], found: &mut Vec<Option<u64>>) -> Result<(), Error> {
+        let mut lookups = Vec::new();
+        lookups.try_reserve_exact(keys.len()).map_err(|_| Error::NoMemory)?;
+        found.try_reserve(keys.len()).map_err(|_| Error::NoMemory)?;
+        lookups.extend(keys.iter().map(|key| RawLookup {
+            key: key.as_ptr(),
+            length: key.len(),
+            value: 0,
+            status: ABSENT,
+        }));
+        Error::check(unsafe { hot_get_many(self.raw(), lookups.as_mut_ptr(), lookups.len()) })?;
+        found.extend(
+            lookups
+                .iter()
+                .map(|it| if it.status == FOUND { Some(it.value) } else { None }),
+        );
+        Ok(())
+    }
+
+    pub(crate) fn insert(&self, key: &[u8], value: u64) -> (Status, u64) {
+        let mut had = 0;
+        let status = unsafe { hot_insert(self.raw(), key.as_ptr(), key.len(), value, &mut had) };
+        (status, had)
+    }
+
+    pub(crate) fn upsert(&self, key: &[u8], value: u64) -> (Status, u64) {
+        let mut had = 0;
+        let status = unsafe { hot_upsert(self.raw(), key.as_ptr(), key.len(), value, &mut had) };
+        (status, had)
+    }
+
+    pub(crate) fn remove(&self, key: &[u8]) -> (Status, u64) {
+        let mut had = 0;
+        let status = unsafe { hot_remove(self.raw(), key.as_ptr(), key.len(), &mut had) };
+        (status, had)
+    }
+
+    pub(crate) fn exchange(&self, key: &[u8], expected: u64, value: u64) -> (Status, u64) {
+        let mut had = 0;
+        let status = unsafe { hot_exchange(self.raw(), key.as_ptr(), key.len(), expected, value, &mut had) };
+        (status, had)
+    }
+
+    pub(crate) fn remove_if(&self, key: &[u8], expected: u64) -> (Status, u64) {
+        let mut had = 0;
+        let status = unsafe { hot_remove_if(self.raw(), key.as_ptr(), key.len(), expected, &mut had) };
+        (status, had)
+    }
+
+    /// The first pairs from one key to another, at most `limit`, and whether there are more.
+    pub(crate) fn scan(&self, from: &[u8], upto: &[u8], limit: usize) -> Result<(Pairs, bool), Error> {
+        self.list(hot_scan_packed, from, upto, limit, Pairs::push_back)
+    }
+
+    /// The last pairs from one key to another, at most `limit`, in rising order, and whether there are more.
+    pub(crate) fn scan_last(&self, from: &[u8], upto: &[u8], limit: usize) -> Result<(Pairs, bool), Error> {
+        self.list(hot_scan_packed_reverse, from, upto, limit, Pairs::push_front)
+    }
+
+    fn list(
+        &self,
+        call: PackedScan,
+        from: &[u8],
+        upto: &[u8],
+        limit: usize,
+        push: fn(&mut Pairs, (Vec<u8>, u64)),
+    ) -> Result<(Pairs, bool), Error> {
+        // Room for pairs of middling keys, and for one of any length: with less than that a call would not get on.
+        let mut bytes = room(limit * 32 + MAX_KEY, 0)?;
+        let mut heads = room(limit, RawHead { length: 0, value: 0 })?;
+        let (mut count, mut more) = (0, 0);
+        Error::check(unsafe {
+            call(
+                self.raw(),
+                from.as_ptr(),
+                from.len(),
+                upto.as_ptr(),
+                upto.len(),
+                bytes.as_mut_ptr(),
+                bytes.len(),
+                heads.as_mut_ptr(),
+                heads.len(),
+                &mut count,
+                &mut more,
+            )
+        })?;
+        let mut pairs = Pairs::new();
+        pairs.try_reserve_exact(count).map_err(|_| Error::NoMemory)?;
+        let mut at = 0;
+        for head in heads.iter().take(count) {
+            let end = at + usize::from(head.length);
+            push(&mut pairs, (copy(bytes.get(at..end).unwrap_or_default())?, head.value));
+            at = end;
+        }
+        Ok((pairs, more != 0))
+    }
+
+    /// The first pair from a key on.
+    pub(crate) fn first(&self, from: &[u8]) -> Result<Option<(Vec<u8>, u64)>, Error> {
+        let mut pair = NO_PAIR;
+        let status = Error::check(unsafe { hot_first(self.raw(), from.as_ptr(), from.len(), &mut pair) })?;
+        if status == FOUND {
+            pair.copy().map(Some)
+        } else {
+            Ok(None)
+        }
+    }
+
+    /// The last pair up to a key.
+    pub(crate) fn last(&self, upto: &[u8]) -> Result<Option<(Vec<u8>, u64)>, Error> {
+        let mut pair = NO_PAIR;
+        let status = Error::check(unsafe { hot_last(self.raw(), upto.as_ptr(), upto.len(), &mut pair) })?;
+        if status == FOUND {
+            pair.copy().map(Some)
+        } else {
+            Ok(None)
+        }
+    }
+
+    pub(crate) fn add(&self, key: &[u8], delta: u64) -> (Status, u64) {
+        let mut had = 0;
+        let status = unsafe { hot_add(self.raw(), key.as_ptr(), key.len(), delta, &mut had) };
+        (status, had)
+    }
+
+    pub(crate) fn len(&self) -> usize {
+        let mut count = 0;
+        unsafe { hot_len(self.raw(), &mut count) };
+        count
+    }
+
+    pub(crate) fn census(&self) -> Census {
+        let mut counts = Census::default();
+        unsafe { hot_census(self.raw(), &mut counts) };
+        counts
+    }
+}
+
+/// Pairs that were listed.
+pub(crate) type Pairs = VecDeque<(Vec<u8>, u64)>;
+
+impl RawPair {
+    fn copy(&self) -> Result<(Vec<u8>, u64), Error> {
+        let key = self.key.get(..self.length as usize).unwrap_or_default();
+        Ok((copy(key)?, self.value))
+    }
+}
+
+/// A list of so many items that are to be written.
+fn room<T: Clone>(count: usize, item: T) -> Result<Vec<T>, Error> {
+    let mut list = Vec::new();
+    list.try_reserve_exact(count).map_err(|_| Error::NoMemory)?;
+    list.resize(count, item);
+    Ok(list)
+}
+
+fn copy(key: &[u8]) -> Result<Vec<u8>, Error> {
+    let mut copied = Vec::new();
+    copied.try_reserve_exact(key.len()).map_err(|_| Error::NoMemory)?;
+    copied.extend_from_slice(key);
+    Ok(copied)
+}

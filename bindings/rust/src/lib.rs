@@ -1,0 +1,448 @@
+//! An ordered map from keys of up to 240 bytes to `u64`, in memory, which many threads read and change at once with no lock around it.
+//!
+//! [`Hot`] is the index, which all threads share. Calls are made by a [`Handle`], of which each thread has its own. The room for keys
+//! and the number of handles are fixed when the index is made. The names are those of `BTreeMap`, where the meaning is the same.
+//!
+//! ```
+//! use hot::Hot;
+//!
+//! let index = Hot::with_capacity(1000, 16, 2)?;
+//! std::thread::scope(|scope| {
+//!     for (key, value) in [("ash", 1), ("oak", 2)] {
+//!         let index = &index;
+//!         scope.spawn(move || index.handle()?.insert(key, value));
+//!     }
+//! });
+//! let handle = index.handle()?;
+//! assert_eq!(handle.get("oak"), Some(2));
+//! assert_eq!(handle.range("a".."b").next(), Some((b"ash".to_vec(), 1)));
+//! # Ok::<(), hot::Error>(())
+//! ```
+#![deny(missing_docs, unsafe_code)]
+#![deny(clippy::unwrap_used, clippy::expect_used, clippy::panic, clippy::indexing_slicing)]
+mod error;
+mod ffi;
+mod range;
+
+pub use error::{CompareExchangeError, Error, TryInsertError};
+pub use range::{KeyRange, Range};
+
+use ffi::{Index, Lease};
+use std::fmt;
+use std::sync::Arc;
+
+/// The greatest length of a key, in bytes. A longer key is never there: a look-up doesn't find it, and a bound of a range is what it
+/// is for any other map. No call inserts it.
+pub const MAX_KEY: usize = 240;
+
+/// How many keys are looked up by one call of the library, as `hot.h` advises.
+const MANY: usize = 256;
+
+/// How many records of each size an index has: `hot_stock`.
+#[repr(C)]
+#[derive(Clone, Copy, Debug, Default, PartialEq, Eq, Hash)]
+pub struct Stock {
+    /// Node records.
+    pub nodes: u32,
+    /// Leaf records for keys of up to 8 bytes.
+    pub short_leaves: u32,
+    /// Leaf records for keys of up to 24 bytes.
+    pub medium_leaves: u32,
+    /// Leaf records for keys of up to 56 bytes.
+    pub large_leaves: u32,
+    /// Leaf records for keys of up to 88 bytes.
+    pub wide_leaves: u32,
+    /// Leaf records for keys of any length.
+    pub long_leaves: u32,
+}
+
+impl Stock {
+    /// A stock for so many keys of at most `longest` bytes: `hot_stock_for_keys`.
+    pub fn for_keys(keys: usize, longest: usize) -> Result<Stock, Error> {
+        let keys = u32::try_from(keys).map_err(|_| Error::OutOfRange)?;
+        Ok(ffi::stock_for_keys(keys, longest))
+    }
+
+    /// How many bytes an index with this stock and so many handles takes. It takes twice that while it is made.
+    pub fn bytes(&self, handles: usize) -> Result<usize, Error> {
+        let (status, bytes) = ffi::stock_bytes(self, handles);
+        Error::check(status).map(|_| bytes)
+    }
+}
+
+/// How many records of one size are in each state: `hot_states`.
+#[repr(C)]
+#[derive(Clone, Copy, Debug, Default, PartialEq, Eq, Hash)]
+pub struct States {
+    /// Ready for use.
+    pub free: u32,
+    /// Claimed by a change, and not ready yet.
+    pub held: u32,
+    /// In use.
+    pub live: u32,
+    /// Retired, and not given back yet.
+    pub obsolete: u32,
+}
+
+/// How many records of each size are in each state: `hot_counts`.
+#[repr(C)]
+#[derive(Clone, Copy, Debug, Default, PartialEq, Eq, Hash)]
+pub struct Census {
+    /// Node records.
+    pub nodes: States,
+    /// Leaf records for keys of up to 8 bytes.
+    pub short_leaves: States,
+    /// Leaf records for keys of up to 24 bytes.
+    pub medium_leaves: States,
+    /// Leaf records for keys of up to 56 bytes.
+    pub large_leaves: States,
+    /// Leaf records for keys of up to 88 bytes.
+    pub wide_leaves: States,
+    /// Leaf records for keys of any length.
+    pub long_leaves: States,
+    /// How many bytes records and pins take.
+    pub bytes: usize,
+}
+
+/// An index. Clones are the same index.
+#[derive(Clone)]
+pub struct Hot {
+    index: Arc<Index>,
+}
+
+impl Hot {
+    /// Makes an empty index with room for so many keys of at most `longest` bytes, and for 1 to 1,024 handles at a time.
+    pub fn with_capacity(keys: usize, longest: usize, handles: usize) -> Result<Hot, Error> {
+        Hot::with_stock(&Stock::for_keys(keys, longest)?, handles)
+    }
+
+    /// Makes an empty index with these records, and room for 1 to 1,024 handles at a time.
+    pub fn with_stock(stock: &Stock, handles: usize) -> Result<Hot, Error> {
+        let index = Arc::new(Index::open(stock, handles)?);
+        Ok(Hot { index })
+    }
+
+    /// Opens a handle, at any time and from any thread. It is closed when it is dropped. [`Error::NoHandle`] if all are open.
+    pub fn handle(&self) -> Result<Handle, Error> {
+        let lease = self.index.lease()?;
+        Ok(Handle { lease })
+    }
+
+    /// How many handles the index has room for.
+    pub fn handles(&self) -> usize {
+        self.index.handles()
+    }
+}
+
+impl fmt::Debug for Hot {
+    fn fmt(&self, to: &mut fmt::Formatter<'_>) -> fmt::Result {
+        to.debug_struct("Hot")
+            .field("handles", &self.handles())
+            .finish_non_exhaustive()
+    }
+}
+
+/// The right to use an index, for one thread at a time: it is `Send`, and not `Sync`.
+///
+/// ```compile_fail
+/// fn is_shared<T: Sync>() {}
+/// is_shared::<hot::Handle>();
+/// ```
+///
+/// A change waits while changes of other threads are in its way. A call that needs memory and finds none ends the program, as Rust's
+/// collections do, where it does not return an [`Error`].
+pub struct Handle {
+    lease: Lease,
+}
+
+impl Handle {
+    pub(crate) fn lease(&self) -> &Lease {
+        &self.lease
+    }
+
+    /// The index.
+    pub fn index(&self) -> Hot {
+        Hot {
+            index: Arc::clone(self.lease.index()),
+        }
+    }
+
+    /// The key's value.
+    pub fn get(&self, key: impl AsRef<[u8]>) -> Option<u64> {
+        match self.lease.get(key.as_ref()) {
+            (ffi::FOUND, value) => Some(value),
+            _ => None,
+        }
+    }
+
+    /// Whether the key is there.
+    pub fn contains_key(&self, key: impl AsRef<[u8]>) -> bool {
+        self.get(key).is_some()
+    }
+
+    /// The keys' values, in turn.
+    pub fn get_many<K: AsRef<[u8]>>(&self, keys: &[K]) -> Result<Vec<Option<u64>>, Error> {
+        let (mut found, mut short) = (Vec::new(), Vec::new());
+        short
+            .try_reserve_exact(MANY.min(keys.len()))
+            .map_err(|_| Error::NoMemory)?;
+        for key in keys.iter().map(AsRef::as_ref) {
+            // A key that is too long ends the keys that are looked up together, and isn't found.
+            let is_short = key.len() <= MAX_KEY;
+            if short.len() == MANY || !is_short {
+                self.lease.get_many(&short, &mut found)?;
+                short.clear();
+            }
+            if is_short {
+                short.push(key);
+            } else {
+                found.try_reserve(1).map_err(|_| Error::NoMemory)?;
+                found.push(None);
+            }
+        }
+        self.lease.get_many(&short, &mut found)?;
+        Ok(found)
+    }
+
+    /// Gives the key the value, and returns the one that it had.
+    ///
+    /// ```
+    /// let handle = hot::Hot::with_capacity(10, 8, 1)?.handle()?;
+    /// assert_eq!(handle.insert("oak", 1), Ok(None));
+    /// assert_eq!(handle.insert("oak", 2), Ok(Some(1)));
+    /// # Ok::<(), hot::Error>(())
+    /// ```
+    pub fn insert(&self, key: impl AsRef<[u8]>, value: u64) -> Result<Option<u64>, Error> {
+        let (status, had) = self.lease.upsert(key.as_ref(), value);
+        Ok(if Error::check(status)? == ffi::WAS {
+            Some(had)
+        } else {
+            None
+        })
+    }
+
+    /// Gives the key the value if it is absent.
+    ///
+    /// ```
+    /// use hot::TryInsertError::Occupied;
+    ///
+    /// let handle = hot::Hot::with_capacity(10, 8, 1)?.handle()?;
+    /// assert_eq!(handle.try_insert("oak", 1), Ok(()));
+    /// assert_eq!(handle.try_insert("oak", 2), Err(Occupied(1)));
+    /// # Ok::<(), hot::Error>(())
+    /// ```
+    pub fn try_insert(&self, key: impl AsRef<[u8]>, value: u64) -> Result<(), TryInsertError> {
+        let (status, had) = self.lease.insert(key.as_ref(), value);
+        match Error::check(status)? {
+            ffi::INSERTED => Ok(()),
+            _ => Err(TryInsertError::Occupied(had)),
+        }
+    }
+
+    /// Gives each key its value, in turn. The first that is refused ends it; those before it are there.
+    pub fn extend<K: AsRef<[u8]>>(&self, pairs: impl IntoIterator<Item = (K, u64)>) -> Result<(), Error> {
+        pairs
+            .into_iter()
+            .try_for_each(|(key, value)| self.insert(key, value).map(|_| ()))
+    }
+
+    /// Removes the key, and returns its value. An index with no node record to spare may refuse it.
+    pub fn remove(&self, key: impl AsRef<[u8]>) -> Result<Option<u64>, Error> {
+        match self.lease.remove(key.as_ref()) {
+            (ffi::REMOVED, had) => Ok(Some(had)),
+            (ffi::KEY_TOO_LONG, _) => Ok(None),
+            (status, _) => Error::check(status).map(|_| None),
+        }
+    }
+
+    /// Gives the key the value `new` if it has the value `current`, which is returned.
+    ///
+    /// ```
+    /// use hot::CompareExchangeError::{Absent, Differs};
+    ///
+    /// let handle = hot::Hot::with_capacity(10, 8, 1)?.handle()?;
+    /// assert_eq!(handle.compare_exchange("oak", 1, 2), Err(Absent));
+    /// handle.insert("oak", 1)?;
+    /// assert_eq!(handle.compare_exchange("oak", 1, 2), Ok(1));
+    /// assert_eq!(handle.compare_exchange("oak", 1, 3), Err(Differs(2)));
+    /// # Ok::<(), hot::Error>(())
+    /// ```
+    pub fn compare_exchange(&self, key: impl AsRef<[u8]>, current: u64, new: u64) -> Result<u64, CompareExchangeError> {
+        expected(self.lease.exchange(key.as_ref(), current, new), current)
+    }
+
+    /// Removes the key if it has the value `current`, which is returned.
+    pub fn remove_if(&self, key: impl AsRef<[u8]>, current: u64) -> Result<u64, CompareExchangeError> {
+        expected(self.lease.remove_if(key.as_ref(), current), current)
+    }
+
+    /// Gives the key the value that `change` makes of the one that it has, or removes it where that is `None`, and returns the one that
+    /// it had. `change` is called again as long as other threads change the key meanwhile.
+    ///
+    /// ```
+    /// let handle = hot::Hot::with_capacity(10, 8, 1)?.handle()?;
+    /// for _ in 0..3 {
+    ///     handle.fetch_update("oak", |had| Some(had.unwrap_or(0) + 1))?;
+    /// }
+    /// assert_eq!(handle.get("oak"), Some(3));
+    /// # Ok::<(), hot::Error>(())
+    /// ```
+    pub fn fetch_update(
+        &self,
+        key: impl AsRef<[u8]>,
+        mut change: impl FnMut(Option<u64>) -> Option<u64>,
+    ) -> Result<Option<u64>, Error> {
+        let key = key.as_ref();
+        let mut had = self.get(key);
+        loop {
+            let new = change(had);
+            let made = match (had, new) {
+                _ if had == new => return Ok(had),
+                (Some(old), Some(new)) => self.compare_exchange(key, old, new),
+                (Some(old), None) => self.remove_if(key, old),
+                (None, _) => match self.try_insert(key, new.unwrap_or_default()) {
+                    Ok(()) => return Ok(None),
+                    Err(TryInsertError::Occupied(now)) => Err(CompareExchangeError::Differs(now)),
+                    Err(TryInsertError::Refused(why)) => return Err(why),
+                },
+            };
+            had = match made {
+                Ok(_) => return Ok(had),
+                Err(CompareExchangeError::Differs(now)) => Some(now),
+                Err(CompareExchangeError::Absent) => None,
+                Err(CompareExchangeError::Refused(why)) => return Err(why),
+            };
+        }
+    }
+
+    /// Adds to the value of a key that is there, wrapping around, and returns the one before; `None` if the key is absent.
+    ///
+    /// ```
+    /// let handle = hot::Hot::with_capacity(10, 8, 1)?.handle()?;
+    /// assert_eq!(handle.fetch_add("oak", 2), Ok(None));
+    /// handle.insert("oak", 1)?;
+    /// assert_eq!(handle.fetch_add("oak", 2), Ok(Some(1)));
+    /// assert_eq!(handle.get("oak"), Some(3));
+    /// # Ok::<(), hot::Error>(())
+    /// ```
+    pub fn fetch_add(&self, key: impl AsRef<[u8]>, delta: u64) -> Result<Option<u64>, Error> {
+        match self.lease.add(key.as_ref(), delta) {
+            (ffi::WAS, had) => Ok(Some(had)),
+            (ffi::KEY_TOO_LONG, _) => Ok(None),
+            (status, _) => Error::check(status).map(|_| None),
+        }
+    }
+
+    /// The pairs whose keys are in a range, in order from either end, fetched page by page. The handle may be used meanwhile. Each pair
+    /// was there at some moment, and no key is missing that was there all along. A range whose start is above its end is empty.
+    ///
+    /// ```
+    /// let handle = hot::Hot::with_capacity(10, 8, 1)?.handle()?;
+    /// handle.extend([("a", 1), ("b", 2), ("c", 3)])?;
+    /// let values = |pairs: hot::Range| pairs.map(|(_, value)| value).collect::<Vec<_>>();
+    /// assert_eq!(values(handle.range("a"..="b")), [1, 2]);
+    /// assert_eq!(values(handle.range("b"..)), [2, 3]);
+    /// assert_eq!(handle.range(.."c").next_back(), Some((b"b".to_vec(), 2)));
+    /// # Ok::<(), hot::Error>(())
+    /// ```
+    pub fn range(&self, keys: impl KeyRange) -> Range<'_> {
+        Range::new(self, &keys)
+    }
+
+    /// The pairs whose keys begin with these bytes, in the same way.
+    pub fn prefix(&self, prefix: impl AsRef<[u8]>) -> Range<'_> {
+        Range::prefix(self, prefix.as_ref())
+    }
+
+    /// All pairs, in the same way.
+    pub fn iter(&self) -> Range<'_> {
+        self.range(..)
+    }
+
+    /// All keys, in the same way.
+    pub fn keys(&self) -> impl DoubleEndedIterator<Item = Vec<u8>> + '_ {
+        self.iter().map(|(key, _)| key)
+    }
+
+    /// The values of all keys, in the order of the keys.
+    pub fn values(&self) -> impl DoubleEndedIterator<Item = u64> + '_ {
+        self.iter().map(|(_, value)| value)
+    }
+
+    /// The pair with the least key.
+    pub fn first_key_value(&self) -> Option<(Vec<u8>, u64)> {
+        self.lease
+            .first(range::Key::LEAST.bytes())
+            .unwrap_or_else(|why| range::out_of_memory(why))
+    }
+
+    /// The pair with the greatest key.
+    pub fn last_key_value(&self) -> Option<(Vec<u8>, u64)> {
+        self.lease
+            .last(range::Key::GREATEST.bytes())
+            .unwrap_or_else(|why| range::out_of_memory(why))
+    }
+
+    /// Removes the pair with the least key, and returns it.
+    pub fn pop_first(&self) -> Result<Option<(Vec<u8>, u64)>, Error> {
+        self.pop(Handle::first_key_value)
+    }
+
+    /// Removes the pair with the greatest key, and returns it.
+    pub fn pop_last(&self) -> Result<Option<(Vec<u8>, u64)>, Error> {
+        self.pop(Handle::last_key_value)
+    }
+
+    fn pop(&self, end: impl Fn(&Handle) -> Option<(Vec<u8>, u64)>) -> Result<Option<(Vec<u8>, u64)>, Error> {
+        while let Some((key, value)) = end(self) {
+            match self.remove_if(&key, value) {
+                Ok(_) => return Ok(Some((key, value))),
+                Err(CompareExchangeError::Refused(why)) => return Err(why),
+                Err(_) => {}
+            }
+        }
+        Ok(None)
+    }
+
+    /// How many keys there are: exact while nobody changes the index. It visits each record.
+    pub fn len(&self) -> usize {
+        self.lease.len()
+    }
+
+    /// Whether there is no key.
+    pub fn is_empty(&self) -> bool {
+        self.first_key_value().is_none()
+    }
+
+    /// How many records of each size are in each state. Each is counted as it was when its turn came.
+    pub fn census(&self) -> Census {
+        self.lease.census()
+    }
+}
+
+/// What came of a call that expects a value.
+fn expected((status, had): (ffi::Status, u64), current: u64) -> Result<u64, CompareExchangeError> {
+    match status {
+        ffi::EXCHANGED | ffi::REMOVED => Ok(current),
+        ffi::DIFFERS => Err(CompareExchangeError::Differs(had)),
+        ffi::ABSENT | ffi::KEY_TOO_LONG => Err(CompareExchangeError::Absent),
+        _ => Err(Error::check(status).err().unwrap_or(Error::Unexpected(status)).into()),
+    }
+}
+
+impl<'a> IntoIterator for &'a Handle {
+    type Item = (Vec<u8>, u64);
+    type IntoIter = Range<'a>;
+    fn into_iter(self) -> Range<'a> {
+        self.iter()
+    }
+}
+
+impl fmt::Debug for Handle {
+    fn fmt(&self, to: &mut fmt::Formatter<'_>) -> fmt::Result {
+        let text = |key: Vec<u8>| key.escape_ascii().to_string();
+        to.debug_map()
+            .entries(self.iter().map(|(key, value)| (text(key), value)))
+            .finish()
+    }
+}

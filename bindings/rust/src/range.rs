@@ -1,0 +1,236 @@
+//! Ranges of keys, and the pairs in them.
+use crate::ffi::Pairs;
+use crate::{Error, Handle, MAX_KEY};
+use std::alloc::{handle_alloc_error, Layout};
+use std::fmt;
+use std::iter::FusedIterator;
+use std::ops::{self, Bound, RangeBounds};
+
+/// A key of at most 240 bytes, in its place.
+#[derive(Clone, Copy)]
+pub(crate) struct Key {
+    bytes: [u8; MAX_KEY],
+    length: usize,
+}
+
+impl Key {
+    /// The key that comes after no other.
+    pub(crate) const LEAST: Key = Key {
+        bytes: [0; MAX_KEY],
+        length: 0,
+    };
+    /// The key that no other comes after.
+    pub(crate) const GREATEST: Key = Key {
+        bytes: [0xff; MAX_KEY],
+        length: MAX_KEY,
+    };
+
+    /// These bytes, or the first 240.
+    fn new(bytes: &[u8]) -> Key {
+        let mut key = Key::LEAST;
+        for (to, from) in key.bytes.iter_mut().zip(bytes) {
+            *to = *from;
+            key.length += 1;
+        }
+        key
+    }
+
+    pub(crate) fn bytes(&self) -> &[u8] {
+        self.bytes.get(..self.length).unwrap_or_default()
+    }
+
+    /// The greatest key that begins with this one.
+    fn filled(mut self) -> Key {
+        self.bytes.iter_mut().skip(self.length).for_each(|byte| *byte = 0xff);
+        self.length = MAX_KEY;
+        self
+    }
+
+    /// The least key above this one.
+    fn after(mut self) -> Option<Key> {
+        if let Some(byte) = self.bytes.get_mut(self.length) {
+            *byte = 0;
+            self.length += 1;
+            return Some(self);
+        }
+        let last = self.bytes.iter().rposition(|byte| *byte != 0xff)?;
+        *self.bytes.get_mut(last)? += 1;
+        self.length = last + 1;
+        Some(self)
+    }
+
+    /// The greatest key below this one.
+    fn before(mut self) -> Option<Key> {
+        let last = self.length.checked_sub(1)?;
+        match self.bytes.get_mut(last)? {
+            0 => {
+                self.length = last;
+                Some(self)
+            }
+            byte => {
+                *byte -= 1;
+                Some(self.filled())
+            }
+        }
+    }
+}
+
+/// A range of keys, as `..`, `"a".."b"`, `&from..=&upto`, or a pair of bounds: what `RangeBounds` is for other maps.
+pub trait KeyRange {
+    /// Its bounds, as bytes.
+    fn key_bounds(&self) -> (Bound<&[u8]>, Bound<&[u8]>);
+}
+
+impl KeyRange for ops::RangeFull {
+    fn key_bounds(&self) -> (Bound<&[u8]>, Bound<&[u8]>) {
+        (Bound::Unbounded, Bound::Unbounded)
+    }
+}
+
+fn as_bytes<K: AsRef<[u8]>>(bound: Bound<&K>) -> Bound<&[u8]> {
+    match bound {
+        Bound::Included(key) => Bound::Included(key.as_ref()),
+        Bound::Excluded(key) => Bound::Excluded(key.as_ref()),
+        Bound::Unbounded => Bound::Unbounded,
+    }
+}
+
+macro_rules! key_ranges {
+    ($($of:ty),*) => { $(
+        impl<K: AsRef<[u8]>> KeyRange for $of {
+            fn key_bounds(&self) -> (Bound<&[u8]>, Bound<&[u8]>) {
+                (as_bytes(self.start_bound()), as_bytes(self.end_bound()))
+            }
+        }
+    )* };
+}
+
+key_ranges!(
+    ops::Range<K>,
+    ops::RangeInclusive<K>,
+    ops::RangeFrom<K>,
+    ops::RangeTo<K>,
+    ops::RangeToInclusive<K>,
+    (Bound<K>, Bound<K>)
+);
+
+/// The least and the greatest key that a range may have, or `None` if it has none.
+fn ends(range: &impl KeyRange) -> Option<(Key, Key)> {
+    let (from, upto) = range.key_bounds();
+    let from = match from {
+        Bound::Unbounded => Key::LEAST,
+        Bound::Included(key) if key.len() <= MAX_KEY => Key::new(key),
+        // Above a key that is too long are those above its first 240 bytes.
+        Bound::Included(key) | Bound::Excluded(key) => Key::new(key).after()?,
+    };
+    let upto = match upto {
+        Bound::Unbounded => Key::GREATEST,
+        Bound::Excluded(key) if key.len() <= MAX_KEY => Key::new(key).before()?,
+        Bound::Included(key) | Bound::Excluded(key) => Key::new(key),
+    };
+    if from.bytes() <= upto.bytes() {
+        Some((from, upto))
+    } else {
+        None
+    }
+}
+
+/// The pairs of a range of keys, in order from either end: see [`Handle::range`].
+pub struct Range<'a> {
+    handle: &'a Handle,
+    /// The keys that are still to be asked for.
+    left: Option<(Key, Key)>,
+    front: Pairs,
+    back: Pairs,
+    page: usize,
+}
+
+/// How many pairs are asked for at first, for who takes one or two, and at most.
+const SMALLEST_PAGE: usize = 8;
+const LARGEST_PAGE: usize = 128;
+
+impl<'a> Range<'a> {
+    pub(crate) fn new(handle: &'a Handle, keys: &impl KeyRange) -> Self {
+        Range::between(handle, ends(keys))
+    }
+
+    pub(crate) fn prefix(handle: &'a Handle, prefix: &[u8]) -> Self {
+        let least = Key::new(prefix);
+        Range::between(
+            handle,
+            if prefix.len() <= MAX_KEY {
+                Some((least, least.filled()))
+            } else {
+                None
+            },
+        )
+    }
+
+    fn between(handle: &'a Handle, left: Option<(Key, Key)>) -> Self {
+        Range {
+            handle,
+            left,
+            front: Pairs::new(),
+            back: Pairs::new(),
+            page: SMALLEST_PAGE,
+        }
+    }
+
+    /// [`next`](Iterator::next), which returns [`Error::NoMemory`] where that would end the program. The pair comes with a later call.
+    pub fn try_next(&mut self) -> Result<Option<(Vec<u8>, u64)>, Error> {
+        if self.front.is_empty() {
+            if let Some((from, upto)) = self.left {
+                let (pairs, more) = self.handle.lease().scan(from.bytes(), upto.bytes(), self.page)?;
+                let next = pairs.back().and_then(|(last, _)| Key::new(last).after());
+                self.left = next
+                    .filter(|next| more && next.bytes() <= upto.bytes())
+                    .map(|next| (next, upto));
+                self.front = pairs;
+                self.page = LARGEST_PAGE.min(self.page * 2);
+            }
+        }
+        Ok(self.front.pop_front().or_else(|| self.back.pop_front()))
+    }
+
+    /// [`next_back`](DoubleEndedIterator::next_back) in the same way.
+    pub fn try_next_back(&mut self) -> Result<Option<(Vec<u8>, u64)>, Error> {
+        if self.back.is_empty() {
+            if let Some((from, upto)) = self.left {
+                let (pairs, more) = self.handle.lease().scan_last(from.bytes(), upto.bytes(), self.page)?;
+                let next = pairs.front().and_then(|(first, _)| Key::new(first).before());
+                self.left = next
+                    .filter(|next| more && from.bytes() <= next.bytes())
+                    .map(|next| (from, next));
+                self.back = pairs;
+                self.page = LARGEST_PAGE.min(self.page * 2);
+            }
+        }
+        Ok(self.back.pop_back().or_else(|| self.front.pop_back()))
+    }
+}
+
+impl Iterator for Range<'_> {
+    type Item = (Vec<u8>, u64);
+    fn next(&mut self) -> Option<Self::Item> {
+        self.try_next().unwrap_or_else(|why| out_of_memory(why))
+    }
+}
+
+impl DoubleEndedIterator for Range<'_> {
+    fn next_back(&mut self) -> Option<Self::Item> {
+        self.try_next_back().unwrap_or_else(|why| out_of_memory(why))
+    }
+}
+
+impl FusedIterator for Range<'_> {}
+
+impl fmt::Debug for Range<'_> {
+    fn fmt(&self, to: &mut fmt::Formatter<'_>) -> fmt::Result {
+        to.debug_struct("Range").finish_non_exhaustive()
+    }
+}
+
+/// Ends the program as Rust's collections do: a look-up or a scan is refused only where there is no memory.
+pub(crate) fn out_of_memory(_why: Error) -> ! {
+    handle_alloc_error(Layout::new::<(Key, u64)>())
+}

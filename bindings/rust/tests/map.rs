@@ -1,0 +1,254 @@
+//! The index beside a `BTreeMap`: random calls, random ranges from both ends, and the edges of keys.
+use hot::{CompareExchangeError, Error, Handle, Hot, KeyRange, Stock, TryInsertError, MAX_KEY};
+use std::collections::BTreeMap;
+use std::ops::Bound;
+
+type Model = BTreeMap<Vec<u8>, u64>;
+
+struct Random(u64);
+
+impl Random {
+    fn below(&mut self, limit: u64) -> u64 {
+        self.0 ^= self.0 << 13;
+        self.0 ^= self.0 >> 7;
+        self.0 ^= self.0 << 17;
+        self.0 % limit
+    }
+
+    /// Few letters and all lengths, so that there are prefixes, equal keys and long ones.
+    fn key(&mut self) -> Vec<u8> {
+        let length = match self.below(20) {
+            0 => MAX_KEY as u64,
+            1 => MAX_KEY as u64 - 1,
+            2 => self.below(60),
+            _ => self.below(5),
+        };
+        (0..length)
+            .map(|_| [0, 1, b'a', 0xfe, 0xff][self.below(5) as usize])
+            .collect()
+    }
+
+    fn bound(&mut self) -> Bound<Vec<u8>> {
+        match self.below(5) {
+            0 => Bound::Unbounded,
+            1 | 2 => Bound::Included(self.key()),
+            _ => Bound::Excluded(self.key()),
+        }
+    }
+}
+
+fn within(key: &[u8], keys: &impl KeyRange) -> bool {
+    let (from, upto) = keys.key_bounds();
+    let is_above = match from {
+        Bound::Unbounded => true,
+        Bound::Included(from) => key >= from,
+        Bound::Excluded(from) => key > from,
+    };
+    is_above
+        && match upto {
+            Bound::Unbounded => true,
+            Bound::Included(upto) => key <= upto,
+            Bound::Excluded(upto) => key < upto,
+        }
+}
+
+fn listed(model: &Model, holds: impl Fn(&[u8]) -> bool) -> Vec<(Vec<u8>, u64)> {
+    model
+        .iter()
+        .filter(|(key, _)| holds(key))
+        .map(|(key, value)| (key.clone(), *value))
+        .collect()
+}
+
+fn change(handle: &Handle, model: &mut Model, random: &mut Random) {
+    let (key, value, new) = (random.key(), random.below(3), random.below(3));
+    let had = model.get(&key).copied();
+    let wanted = match had {
+        None => Err(CompareExchangeError::Absent),
+        Some(had) if had == value => Ok(had),
+        Some(had) => Err(CompareExchangeError::Differs(had)),
+    };
+    match random.below(8) {
+        0 | 1 => {
+            model.entry(key.clone()).or_insert(value);
+            assert_eq!(
+                handle.try_insert(&key, value),
+                had.map_or(Ok(()), |had| Err(TryInsertError::Occupied(had)))
+            );
+        }
+        2 => assert_eq!(handle.insert(&key, value), Ok(model.insert(key, value))),
+        3 => assert_eq!(handle.remove(&key), Ok(model.remove(&key))),
+        4 => {
+            assert_eq!(handle.compare_exchange(&key, value, new), wanted);
+            if wanted.is_ok() {
+                model.insert(key, new);
+            }
+        }
+        5 => {
+            assert_eq!(handle.remove_if(&key, value), wanted);
+            if wanted.is_ok() {
+                model.remove(&key);
+            }
+        }
+        6 => {
+            assert_eq!(handle.fetch_add(&key, new), Ok(had));
+            model.entry(key).and_modify(|value| *value += new);
+        }
+        _ => {
+            let turn = |had: Option<u64>| {
+                if had == Some(2) {
+                    None
+                } else {
+                    Some(had.unwrap_or(value) + 1)
+                }
+            };
+            assert_eq!(handle.fetch_update(&key, turn), Ok(had));
+            match turn(had) {
+                Some(new) => model.insert(key, new),
+                None => model.remove(&key),
+            };
+        }
+    }
+}
+
+/// Takes a range from both ends, in a random order, up to where they meet.
+fn check_range(handle: &Handle, model: &Model, random: &mut Random) {
+    let keys = (random.bound(), random.bound());
+    let wanted = listed(model, |key| within(key, &keys));
+    let (mut range, mut front, mut back) = (handle.range(keys), Vec::new(), Vec::new());
+    loop {
+        let is_forward = random.below(3) > 0;
+        match if is_forward { range.next() } else { range.next_back() } {
+            Some(pair) if is_forward => front.push(pair),
+            Some(pair) => back.push(pair),
+            None => break,
+        }
+    }
+    front.extend(back.into_iter().rev());
+    assert_eq!(front, wanted);
+}
+
+fn check_look_ups(handle: &Handle, model: &Model, random: &mut Random) {
+    let keys: Vec<_> = (0..random.below(600)).map(|_| random.key()).collect();
+    let wanted: Vec<_> = keys.iter().map(|key| model.get(key).copied()).collect();
+    assert_eq!(handle.get_many(&keys), Ok(wanted.clone()));
+    assert!(keys.iter().zip(wanted).all(|(key, value)| handle.get(key) == value));
+    let prefix = random.key();
+    let wanted = listed(model, |key| key.starts_with(&prefix));
+    assert!(handle.prefix(&prefix).eq(wanted.clone()));
+    assert!(handle.prefix(&prefix).rev().eq(wanted.into_iter().rev()));
+    let copy = |(key, value): (&Vec<u8>, &u64)| (key.clone(), *value);
+    assert_eq!(handle.first_key_value(), model.iter().next().map(copy));
+    assert_eq!(handle.last_key_value(), model.iter().next_back().map(copy));
+}
+
+#[test]
+fn random_calls_return_what_a_btree_map_does() {
+    for seed in 1..=10 {
+        let mut random = Random(0x9e37_79b9_7f4a_7c15_u64.wrapping_mul(seed));
+        let handle = Hot::with_capacity(2000, MAX_KEY, 1).unwrap().handle().unwrap();
+        let mut model = Model::new();
+        for round in 0..2000 {
+            change(&handle, &mut model, &mut random);
+            if round % 8 == 0 {
+                check_range(&handle, &model, &mut random);
+                check_look_ups(&handle, &model, &mut random);
+            }
+        }
+        assert_eq!(handle.len(), model.len());
+        assert!(handle.keys().eq(model.keys().cloned()) && handle.values().eq(model.values().copied()));
+        let (least, greatest) = (handle.pop_first().unwrap(), handle.pop_last().unwrap());
+        assert_eq!(least.map(|(key, value)| model.remove(&key) == Some(value)), Some(true));
+        assert_eq!(
+            greatest.map(|(key, value)| model.remove(&key) == Some(value)),
+            Some(true)
+        );
+        assert!(handle.into_iter().eq(model));
+    }
+}
+
+#[test]
+fn keys_that_are_too_long() {
+    let handle = Hot::with_capacity(10, MAX_KEY, 1).unwrap().handle().unwrap();
+    handle.extend([(vec![7; MAX_KEY], 1), (vec![8], 2)]).unwrap();
+    let long = vec![7; MAX_KEY + 1];
+    assert_eq!(handle.get(&long), None);
+    assert_eq!(handle.remove(&long), Ok(None));
+    assert_eq!(handle.remove_if(&long, 1), Err(CompareExchangeError::Absent));
+    assert_eq!(handle.fetch_add(&long, 1), Ok(None));
+    assert_eq!(handle.insert(&long, 1), Err(Error::KeyTooLong));
+    assert_eq!(
+        handle.try_insert(&long, 1),
+        Err(TryInsertError::Refused(Error::KeyTooLong))
+    );
+    assert_eq!(handle.extend([(&[1][..], 3), (&long, 4)]), Err(Error::KeyTooLong));
+    assert_eq!(Error::KeyTooLong.to_string(), "a key is too long");
+    assert_eq!(
+        handle.get_many(&[&long[..], &[8], &long, &[1]]),
+        Ok(vec![None, Some(2), None, Some(3)])
+    );
+    assert_eq!(
+        (
+            handle.range(&long..).count(),
+            handle.range(..&long).count(),
+            handle.range(..=&long).count()
+        ),
+        (1, 2, 2)
+    );
+    assert_eq!(handle.prefix(&long).count(), 0);
+}
+
+#[test]
+fn a_full_index_says_so_and_goes_on_when_a_key_is_gone() {
+    let stock = Stock {
+        nodes: 100,
+        short_leaves: 10,
+        ..Stock::default()
+    };
+    let handle = Hot::with_stock(&stock, 1).unwrap().handle().unwrap();
+    let held = (0..20)
+        .take_while(|n: &u64| handle.insert(n.to_be_bytes(), *n) == Ok(None))
+        .count();
+    assert_eq!((held, handle.insert("another", 0)), (10, Err(Error::FullLeaves)));
+    assert_eq!(handle.insert("longer than any of them", 0), Err(Error::KeyTooLong));
+    assert_eq!(handle.remove(3u64.to_be_bytes()), Ok(Some(3)));
+    assert_eq!(handle.insert("another", 99), Ok(None));
+    assert_eq!((handle.len(), handle.census().short_leaves.live), (10, 10));
+}
+
+#[test]
+fn numbers_out_of_range() {
+    for handles in [0, 1025, usize::MAX] {
+        assert_eq!(Hot::with_capacity(10, 8, handles).err(), Some(Error::OutOfRange));
+    }
+    assert_eq!(Hot::with_capacity(usize::MAX, 8, 1).err(), Some(Error::OutOfRange));
+    assert_eq!(Hot::with_stock(&Stock::default(), 1).err(), Some(Error::OutOfRange));
+    assert_eq!(Stock::default().bytes(1), Err(Error::OutOfRange));
+    assert!(Stock::for_keys(1000, 8).unwrap().bytes(1).unwrap() > 1000 * 32);
+}
+
+#[test]
+fn handles_are_given_back() {
+    let hot = Hot::with_capacity(10, 8, 2).unwrap();
+    let (one, two) = (hot.handle().unwrap(), hot.handle().unwrap());
+    assert_eq!((hot.handles(), hot.handle().err()), (2, Some(Error::NoHandle)));
+    drop(two);
+    let two = one.index().handle().unwrap();
+    drop((hot, one));
+    // The index is there as long as a handle.
+    two.insert("a", 1).unwrap();
+    assert_eq!(
+        format!("{two:?} {:?}", two.index()),
+        r#"{"a": 1} Hot { handles: 2, .. }"#
+    );
+}
+
+#[test]
+fn a_range_goes_on_while_its_handle_changes_the_index() {
+    let handle = Hot::with_capacity(1000, 8, 1).unwrap().handle().unwrap();
+    handle.extend((0..1000u64).map(|n| (n.to_be_bytes(), n))).unwrap();
+    for (key, _) in &handle {
+        handle.remove(key).unwrap();
+    }
+    assert!(handle.is_empty());
+}

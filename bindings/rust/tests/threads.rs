@@ -1,0 +1,72 @@
+//! Threads of `std::thread::scope`, each with a handle of its own.
+use hot::{Error, Hot};
+use std::sync::atomic::{AtomicBool, Ordering};
+use std::thread;
+
+#[test]
+fn counters_lose_nothing() -> Result<(), Error> {
+    let hot = Hot::with_capacity(100, 8, 4)?;
+    thread::scope(|scope| {
+        for of in 0..4u64 {
+            let handle = hot.handle().unwrap();
+            scope.spawn(move || {
+                for n in 0..5000 {
+                    let key = ((n * 7 + of) % 10).to_be_bytes();
+                    handle.fetch_update(key, |had| Some(had.unwrap_or(0) + 1)).unwrap();
+                    handle.fetch_add(key, 2).unwrap();
+                }
+            });
+        }
+    });
+    let handle = hot.handle()?;
+    assert_eq!((handle.values().sum::<u64>(), handle.len()), (60_000, 10));
+    Ok(())
+}
+
+#[test]
+fn readers_see_all_that_stays() -> Result<(), Error> {
+    let hot = Hot::with_capacity(2000, 8, 4)?;
+    let writer = hot.handle()?;
+    writer.extend((0..1000u64).map(|n| ((2 * n).to_be_bytes(), n)))?;
+    let ends = AtomicBool::new(false);
+    thread::scope(|scope| {
+        for _ in 0..3 {
+            let (reader, ends) = (hot.handle().unwrap(), &ends);
+            scope.spawn(move || loop {
+                let is_last = ends.load(Ordering::Relaxed);
+                let is_even = |(key, _): &(Vec<u8>, u64)| key[7] % 2 == 0;
+                assert_eq!(reader.iter().filter(is_even).count(), 1000);
+                assert_eq!(reader.iter().rev().filter(is_even).count(), 1000);
+                let keys: Vec<_> = reader.keys().collect();
+                assert!(keys.windows(2).all(|pair| pair[0] < pair[1]));
+                if is_last {
+                    break;
+                }
+            });
+        }
+        for n in 0..20_000u64 {
+            let key = (2 * (n % 900) + 1).to_be_bytes();
+            if n / 900 % 2 == 0 {
+                writer.insert(key, n)
+            } else {
+                writer.remove(key)
+            }
+            .unwrap();
+        }
+        ends.store(true, Ordering::Relaxed);
+    });
+    Ok(())
+}
+
+#[test]
+fn a_handle_goes_from_thread_to_thread() -> Result<(), Error> {
+    let hot = Hot::with_capacity(100, 8, 1)?;
+    for n in 0..10u64 {
+        let handle = hot.handle()?;
+        thread::spawn(move || handle.insert(n.to_be_bytes(), n))
+            .join()
+            .unwrap()?;
+    }
+    assert_eq!(hot.handle()?.len(), 10);
+    Ok(())
+}
