@@ -20,7 +20,7 @@ use Rattle.seat_calls.specs.Answers.{IsNoted}
 use Rattle.seat_calls.specs.Passes.{pass_of}
 use Rattle.real_time.specs.Moments.{IsPlacedSince, Moment, Pending}
 use Rattle.real_time.proofs.Growing.{longer, runs_stay_sound}
-use Rattle.index_laws.specs.Statements.{IsReturning, ManyAreResponse, NotedIsResponse, OpeningIsNew, UnnotedIsResponse}
+use Rattle.index_laws.specs.Statements.{IsReturning, ManyAreResponse, NotedIsResponse, OpeningIsNew, QuietIsResponse, Responses}
 
 new_knows : (c : Core) (m : ℕ) → m < c.layout.passes → IsUntouched c m → Knows c (opening_of m)
 new_knows c m low h = record {
@@ -30,7 +30,7 @@ new_knows c m low h = record {
   own = h.own;
 }
 
-pub opening_is_new : OpeningIsNew
+opening_is_new : OpeningIsNew
 opening_is_new layout = record {
   sound = record {
     layout_is = refl;
@@ -60,7 +60,7 @@ noted_placed layout at q t call s e ends asked reply noted = record {
   low = subst (λ (z : Known). length z.fresh.front ≤ noted.place) ends.now noted.low;
 }
 
-pub noted_is_response : NotedIsResponse
+noted_is_response : NotedIsResponse
 noted_is_response layout at q t call s e ends asked reply calls noted =
     let n : Note = record { place = noted.place; call = asked; reply = reply } in
     let since : ℕ = call.since in
@@ -79,7 +79,7 @@ calls_same added asked e = firsts added ∙ ap (λ xs. map (λ (x : Call × Repl
     firsts [] = refl
     firsts (n ∷ ns) = ap (λ z. n.call ∷ z) (firsts ns)
 
-pub many_are_response : ManyAreResponse
+many_are_response : ManyAreResponse
 many_are_response layout last at happens run q t call s e low within ends m from upto f between sees asked calls noted places =
     let since : ℕ = call.since in
     let sound = runs_stay_sound layout last at happens run m (omega (arith, upto, within)) in
@@ -104,11 +104,14 @@ many_are_response layout last at happens run q t call s e low within ends m from
       legal = legal_now q ((at t).known q) e.known ends.now ends.pass noted.legal;
     }
 
-pub unnoted_is_response : UnnotedIsResponse
-unnoted_is_response layout at q t call s e ends unnoted = record {
+quiet_is_response : QuietIsResponse
+quiet_is_response layout at q t call s e ends same legal = record {
   called = ends.pending;
   calls = inl refl;
-  noted = noted_now ((at t).known q) ((at call.since).known q) e.known s.known [] ends.now ends.before (unnoted.notes ∙ sym (append-nil s.known.notes));
+  noted = noted_now ((at t).known q) ((at call.since).known q) e.known s.known [] ends.now ends.before (same ∙ sym (append-nil s.known.notes));
   placed = All-nil (IsPlacedSince at q call.since t);
-  legal = legal_now q ((at t).known q) e.known ends.now ends.pass unnoted.legal;
+  legal = legal_now q ((at t).known q) e.known ends.now ends.pass legal;
 }
+
+pub responses : Responses
+responses = record { opening = opening_is_new; noted = noted_is_response; many = many_are_response; quiet = quiet_is_response }

@@ -29,7 +29,7 @@ use Rattle.hot_index.specs.Statements.{ReturnedBeforeBegun}
 use Rattle.real_time.specs.Moments.{Happening, IsWholeRun, Moment, Pending}
 use Rattle.real_time.specs.Scanning.{IsScanInTime, map_at}
 use Rattle.real_time.specs.Statements.{Linearizable}
-use Rattle.index_laws.specs.Statements.{IsReturning}
+use Rattle.index_laws.specs.Statements.{IsReturning, Responses}
 
 -- The answered calls of a pass, with the changes of others that it has seen, are a legal history of a finite map, in which each stands once
 -- and in the order in which it was made: a call that is noted comes last.
@@ -77,8 +77,9 @@ pub record BoundedSteps : Type 0 where
 pub record Headline : Type 0 where
   pub history : History
   pub one_history : OneHistory
-  -- the calls of a run are linearizable
+  -- the calls of a run are linearizable; and what contracts say of a call that has returned makes it one of these
   pub linearizable : Linearizable
+  pub responses : Responses
   pub freshness : Freshness
   -- between passes that hear of each other by a stamp or a meeting, a call that had returned comes before one that then began
   pub order_in_time : ReturnedBeforeBegun

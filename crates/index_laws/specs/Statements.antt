@@ -2,12 +2,13 @@
 use Rattle.std.specs.Prelude.{◌≡◌, ℕ, ◌<◌, ◌≤◌, All, List, [], ◌∷◌, None, Some, length, map}
 use Rattle.finite_map.specs.declared.Call.{Call}
 use Rattle.finite_map.specs.declared.Reply.{Reply}
+use Rattle.finite_map.specs.Calls.{LegalCalls}
 use Rattle.record_words.specs.declared.layout.Layout.{Layout}
 use Rattle.rowex_core.specs.Knowing.{SeesAllAtRoot}
 use Rattle.rowex_core.specs.Opening.{opening}
 use Rattle.rowex_table.specs.Rule.{opening_of}
 use Rattle.rowex_table.specs.Seats.{SeatView}
-use Rattle.seat_calls.specs.Answers.{IsNoted, IsUnnoted}
+use Rattle.seat_calls.specs.Answers.{IsNoted}
 use Rattle.seat_calls.specs.Many.{AreNoted}
 use Rattle.seat_calls.specs.Passes.{pass_of}
 use Rattle.real_time.specs.Moments.{Happening, IsNewIndex, IsResponse, IsWholeRun, Moment, Pending}
@@ -38,7 +39,16 @@ ManyAreResponse =
     (asked : List (Call × Reply)) → map (λ x. x.0) asked ≡ call.calls → (noted : AreNoted layout (pass_of s) (pass_of e) asked) →
     All (λ n. length f.known.front ≤ n.place) noted.added → IsResponse at t q call noted.added
 
--- A call that was refused, or asked nothing of the map, responds with no note.
-abbrev pub UnnotedIsResponse : Type 0
-UnnotedIsResponse =
-    (layout : Layout) (at : ℕ → Moment) (q t : ℕ) (call : Pending) (s e : SeatView) → IsReturning layout at q t call s e → IsUnnoted layout (pass_of s) (pass_of e) → IsResponse at t q call []
+-- A call that added no note, as `IsUnnoted` says of one that was refused or collects, and `IsScannedBy` and `IsListedBy` of a scan, responds
+-- with none.
+abbrev pub QuietIsResponse : Type 0
+QuietIsResponse =
+    (layout : Layout) (at : ℕ → Moment) (q t : ℕ) (call : Pending) (s e : SeatView) → IsReturning layout at q t call s e → (pass_of e).notes ≡ (pass_of s).notes →
+    LegalCalls (pass_of e).front (pass_of e).number (pass_of e).notes → IsResponse at t q call []
+
+-- So what contracts say of calls that have returned makes them calls of a run.
+pub record Responses : Type 0 where
+  pub opening : OpeningIsNew
+  pub noted : NotedIsResponse
+  pub many : ManyAreResponse
+  pub quiet : QuietIsResponse
