@@ -21,6 +21,7 @@ use Rattle.real_time.proofs.Replies.{behind, effect}
 use Rattle.real_time.proofs.Scanning.{scans_in_time}
 use Rattle.real_time.proofs.Whole.{linearizable}
 use Rattle.index_laws.specs.Headline.{Freshness, Headline, History, OneHistory, Refusals, LawfulScans, BoundedSteps}
+use Rattle.index_laws.proofs.Living.{one_history_of_all}
 use Rattle.index_laws.proofs.Timed.{legal_now, noted_placed, responses}
 
 calls-append : (ns : List Note) (n : Note) → calls_of (ns ++ n ∷ []) ≡ calls_of ns ++ answered n.call n.reply ∷ []
@@ -85,6 +86,7 @@ pub headline : Headline
 headline = record {
   history = history;
   one_history = one_history;
+  one_history_of_all = one_history_of_all;
   linearizable = linearizable;
   responses = responses;
   freshness = freshness;

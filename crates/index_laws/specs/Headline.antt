@@ -29,6 +29,7 @@ use Rattle.hot_index.specs.Statements.{ReturnedBeforeBegun}
 use Rattle.real_time.specs.Moments.{Happening, IsWholeRun, Moment, Pending}
 use Rattle.real_time.specs.Scanning.{IsScanInTime, map_at}
 use Rattle.real_time.specs.Statements.{Linearizable}
+use Rattle.index_laws.specs.Lives.{OneHistoryOfAll}
 use Rattle.index_laws.specs.Statements.{IsReturning, Responses}
 
 -- The answered calls of a pass, with the changes of others that it has seen, are a legal history of a finite map, in which each stands once
@@ -77,6 +78,8 @@ pub record BoundedSteps : Type 0 where
 pub record Headline : Type 0 where
   pub history : History
   pub one_history : OneHistory
+  -- and so do any number of passes that have seen the same: each call that they have lived through stands in it once
+  pub one_history_of_all : OneHistoryOfAll
   -- the calls of a run are linearizable; and what contracts say of a call that has returned makes it one of these
   pub linearizable : Linearizable
   pub responses : Responses

@@ -1,4 +1,5 @@
 -- The lemmas of the crate.
+mod Examples
 pub mod Taught
 pub mod Growing
 pub mod Passes
