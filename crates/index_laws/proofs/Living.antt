@@ -14,7 +14,7 @@ use Rattle.plain_index.specs.Orders.{AreWoven, CallsAreWoven}
 use Rattle.plain_index.proofs.Together.{woven-in_order}
 use Rattle.record_words.specs.declared.layout.Layout.{Layout}
 use Rattle.seat_calls.specs.Passes.{PassView}
-use Rattle.index_laws.specs.Lives.{AreLives, HasLived, Life, LivesAreWoven, OneHistoryOfAll, called, looked_up, new, scanned, scanned_down, went_on}
+use Rattle.index_laws.specs.Lives.{AreLives, HasLived, PassLife, LivesAreWoven, OneHistoryOfAll, called, looked_up, new, scanned, went_on}
 
 -- the calls of notes, with their replies
 abbrev asked_in : List Note → List (Call × Reply)
@@ -55,13 +55,12 @@ lived (looked_up {calls = calls} {asked = asked} {k = k} {j = j} h noted) = reco
   legal = noted.legal;
 }
 lived (went_on {calls = calls} {k = k} {j = j} h unnoted) = stays calls k j (lived h) unnoted.notes unnoted.legal
-lived (scanned {calls = calls} {k = k} {j = j} h x) = stays calls k j (lived h) x.notes x.legal
-lived (scanned_down {calls = calls} {k = k} {j = j} h x) = stays calls k j (lived h) x.notes x.legal
+lived (scanned {calls = calls} {k = k} {j = j} h on same legal) = stays calls k j (lived h) same legal
 
-abbrev pass_in : Life → ℕ × List Note
+abbrev pass_in : PassLife → ℕ × List Note
 pass_in life = (life.1.number, life.1.notes)
 
-all_legal : (layout : Layout) (front : List Change) (lives : List Life) → AreLives layout front lives → AllLegal front (map pass_in lives)
+all_legal : (layout : Layout) (front : List Change) (lives : List PassLife) → AreLives layout front lives → AllLegal front (map pass_in lives)
 all_legal layout front [] h = tt
 all_legal layout front (life ∷ lives) h = (
   subst (λ f. LegalCalls f life.1.number life.1.notes) h.1 (lived h.0).legal,
@@ -69,7 +68,7 @@ all_legal layout front (life ∷ lives) h = (
   all_legal layout front lives h.3,
 )
 
-woven_lives : (layout : Layout) (front : List Change) (lives : List Life) → AreLives layout front lives → (es : List Event) → CallsAreWoven (map pass_in lives) es → LivesAreWoven lives es
+woven_lives : (layout : Layout) (front : List Change) (lives : List PassLife) → AreLives layout front lives → (es : List Event) → CallsAreWoven (map pass_in lives) es → LivesAreWoven lives es
 woven_lives layout front [] h es woven = woven
 woven_lives layout front (life ∷ lives) h es woven = (
   woven.0,
