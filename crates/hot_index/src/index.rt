@@ -4,10 +4,10 @@ ghost use Rattle.std.specs.Prelude.{◌≡◌, length};
 ghost use Rattle.finite_map.specs.declared.Call.TheVariants.{Get, Insert, Remove, Upsert};
 ghost use Rattle.seat_calls.specs.Passes.{Owns};
 ghost use Rattle.seat_calls.specs.Answers.{IsNoted, IsUnnoted, HaveMet, got};
-ghost use Rattle.seat_calls.specs.Calls.{IsAwaited, IsTried, IsTriedWith};
+ghost use Rattle.seat_calls.specs.Calls.{IsAwaited, IsAwaitedWith, IsTried, IsTriedWith};
 ghost use Rattle.seat_calls.specs.Census.{HasCounted};
 ghost use Rattle.seat_calls.specs.Many.{AreNoted, HasGotMany, gets};
-ghost use Rattle.seat_calls.specs.Traces.{HasCollected, HasGot, HasTold, untold};
+ghost use Rattle.seat_calls.specs.Traces.{HasCollected, HasGot, untold};
 
 use epochs::{Given, collect_round, pin, unpin};
 use finite_map::{Call, Reply};
@@ -229,8 +229,7 @@ impl Index {
         call: &Call,
     ) -> Result<Reply, Full>
         requires { Owns self.now pass.old }
-        ensures call { IsAwaited call.now result self.now pass.old pass.new }
-        ensures told { HasTold self.now G.becomes (pass.old, gate.old) (pass.new, gate.new) }
+        ensures { IsAwaitedWith call.now result self.now G.becomes (pass.old, gate.old) (pass.new, gate.new) }
     {
         change(rt, &self.table, &mut pass.seat, gate, &mut pass.room, call)
     }

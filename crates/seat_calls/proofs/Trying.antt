@@ -47,7 +47,7 @@ use Rattle.rowex_writing.specs.declared.attempts.TryFault.TheVariants.{Busy, Ful
 use Rattle.epochs.specs.Rounds.{IsRound}
 use Rattle.seat_calls.specs.Answers.{IsCause, IsNoted, IsRefused, IsUnnoted, MayLack, MayRefuse, fault_of}
 use Rattle.seat_calls.specs.Asked.{HasAsked, HasReplied, last_try}
-use Rattle.seat_calls.specs.Calls.{IsAwaited, IsTriedWith, MakesSteps, MakesStepsWith}
+use Rattle.seat_calls.specs.Calls.{IsAwaited, IsAwaitedWith, IsTriedWith, MakesSteps, MakesStepsWith}
 use Rattle.seat_calls.specs.Counts.{once_steps, try_steps, twice_steps}
 use Rattle.seat_calls.specs.Noting.{change_notes, place_by}
 use Rattle.seat_calls.specs.Passes.{IsSettled, Owns, PassView, pass_of}
@@ -56,7 +56,7 @@ use Rattle.seat_calls.proofs.Noting.{HasGoneOn, HasLooked, WasRight, event_maker
 use Rattle.seat_calls.proofs.Conflicts.{conflict_from_before, overtaken}
 use Rattle.seat_calls.proofs.Collected.{round_unnoted, small_few, small_later, small_unnoted}
 use Rattle.seat_calls.proofs.Scanned.{scan_refused, scan_settled}
-use Rattle.seat_calls.proofs.Tracing.{ended_once, ended_tidied, got_untold, has_made, has_told, made_untold}
+use Rattle.seat_calls.proofs.Tracing.{ended_once, ended_tidied, got_untold, has_made, has_told, made_untold, told_untold}
 
 -- Replies
 
@@ -506,11 +506,22 @@ module _ {table index : TableView} {k : PassView} {s t : SeatView} {call : Call}
     leafless = asked.replied.leafless;
   }
 
-  pub awaited_seen : {r : Result Reply Full} → HasReplied table call (last_try r) s t → IsAwaited call r index k (pass_of t)
-  awaited_seen {r = r} replied = record { own = replied_own replied; call = waited_call r replied; leafless = waited_leafless call r replied.leafless }
-
 -- and its steps, as the index and the pass see them
 pub stepped_told : {table index : TableView} {k : PassView} {s t : SeatView} {G : Type 0} {becomes : G → Event → G → Type 0} {g h : G} {said : Known → List Note} → table ≡ index → pass_of s ≡ k →
     HasStepped table becomes said (s, g) (t, h) → s.known.steps ≤ t.known.fresh.step → HasTold index becomes (k, g) (pass_of t, h)
 stepped_told {table = table} {s = s} {t = t} {becomes = becomes} {g = g} {h = h} index_is pass_is stepped loaded =
     subst (λ (x : TableView × PassView). HasTold x.0 becomes (x.1, g) (pass_of t, h)) (λ e. (index_is e, pass_is e)) (has_told table becomes (s, g) (t, h) stepped loaded)
+
+-- a change that waits, as the index and the pass see it
+pub awaited_seen : {table index : TableView} {k : PassView} {s t : SeatView} {call : Call} {G : Type 0} {becomes : G → Event → G → Type 0} {g h : G} {said : Known → List Note} {r : Result Reply Full} →
+    table ≡ index → pass_of s ≡ k → HasReplied table call (last_try r) s t → HasStepped table becomes said (s, g) (t, h) → IsAwaitedWith call r index becomes (k, g) (pass_of t, h)
+awaited_seen {call = call} {r = r} index_is pass_is replied stepped = record {
+  own = replied_own index_is pass_is replied;
+  call = waited_call index_is pass_is r replied;
+  leafless = waited_leafless call r replied.leafless;
+  told = stepped_told index_is pass_is stepped replied.loaded;
+}
+
+-- nobody need be told
+pub awaited_untold : {call : Call} {r : Result Reply Full} {index : TableView} {G : Type 0} {becomes : G → Event → G → Type 0} {a b : PassView × G} → IsAwaitedWith call r index becomes a b → IsAwaited call r index a.0 b.0
+awaited_untold {index = index} {becomes = becomes} {a = a} {b = b} x = record { own = x.own; call = x.call; leafless = x.leafless; told = told_untold index becomes a b x.told }

@@ -17,7 +17,7 @@ use Rattle.tries.specs.Keys.{Key}
 use Rattle.seat_calls.specs.Answers.{HasFoundPair, IsListedBy, IsListedInPartBy, IsNoted, IsRefused, IsScannedBy, IsUnnoted, MayRefuse, ScanLaw, fault_of}
 use Rattle.seat_calls.specs.Counts.{scan_steps}
 use Rattle.seat_calls.specs.Passes.{Owns, PassView}
-use Rattle.seat_calls.specs.Traces.{HasGot, HasGotRange, HasMade, untold}
+use Rattle.seat_calls.specs.Traces.{HasGot, HasGotRange, HasMade, HasTold, untold}
 
 -- A change that doesn't wait was answered or refused, by these steps, of which the gate was told.
 pub record IsTriedWith {G : Type 0} (asked : Call) (result : Result Reply TryFault) (index : TableView) (becomes : G → Event → G → Type 0)
@@ -45,11 +45,17 @@ pub record IsCallTried (asked : Call) (result : Result Reply TryFault) (index : 
   pub may : IfErr result (MayRefuse asked)
   pub made : MakesSteps asked result index k j
 
--- A change that waits was answered or refused.
-pub record IsAwaited (asked : Call) (result : Result Reply Full) (index : TableView) (k j : PassView) : Type 0 where
-  pub own : Owns index j
-  pub call : MatchResult result (IsNoted index.layout k j asked) (λ full. IsRefused index.layout asked k j (fault_of full))
+-- A change that waits was answered or refused, by its steps, of which the gate was told; and its last load of the root has shown the pass all
+-- that any pass had seen by then.
+pub record IsAwaitedWith {G : Type 0} (asked : Call) (result : Result Reply Full) (index : TableView) (becomes : G → Event → G → Type 0)
+    (a b : PassView × G) : Type 0 where
+  pub own : Owns index b.0
+  pub call : MatchResult result (IsNoted index.layout a.0 b.0 asked) (λ full. IsRefused index.layout asked a.0 b.0 (fault_of full))
   pub leafless : IsLeafless Leaves asked result
+  pub told : HasTold index becomes a b
+
+abbrev pub IsAwaited : Call → Result Reply Full → TableView → PassView → PassView → Type 0
+IsAwaited asked result index k j = IsAwaitedWith asked result index untold (k, tt) (j, tt)
 
 -- A range was read, with such an answer, or memory was refused for a pair that it had found, and such a part is left; by its steps, so
 -- many at most, of which the gate was told.

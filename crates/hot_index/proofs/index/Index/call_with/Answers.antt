@@ -7,4 +7,4 @@ pub returns-in-Get-clause-told : goal.returns-in-Get-clause-told
 returns-in-Get-clause-told g c = read_told _ _ _ _ c.get_with.ensures.made.read
 
 pub returns-in_default-clause-lacks : goal.returns-in_default-clause-lacks
-returns-in_default-clause-lacks g c = waited_lacks c.args.call.now c.change_with.result c.in_default.not-Get c.change_with.ensures.call.leafless
+returns-in_default-clause-lacks g c = waited_lacks c.args.call.now c.change_with.result c.in_default.not-Get c.change_with.ensures.leafless

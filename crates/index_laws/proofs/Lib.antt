@@ -1,0 +1,4 @@
+-- The lemmas of the crate.
+pub mod Timed
+pub mod Living
+pub mod Promised

@@ -1,0 +1,99 @@
+-- The promises of the headline, one by one.
+use Rattle.std.proofs.Common.{◌≡◌, ◌≢◌, ◌≤◌, List, [], ◌∷◌, ◌++◌, refl, sym, ap, subst, ◌∙◌, arith, append-nil}
+use Rattle.std.specs.Prelude.{All}
+use Rattle.std.proofs.lemmas.List.Elements.{All-head, All-nil}
+use Rattle.finite_map.specs.declared.Note.{Note}
+use Rattle.finite_map.specs.Calls.{LegalCalls, StandsIn, changes_of, own_changes}
+use Rattle.finite_map.specs.Maps.{key_of}
+use Rattle.finite_map.specs.Reverse.{IsDownToLast, IsLawfulReverseScan}
+use Rattle.finite_map.specs.Scans.{IsLawfulScan, IsUpToLast}
+use Rattle.finite_map.specs.Weaves.{Event, LegalHistory, answered, calls_of, weave}
+use Rattle.finite_map.proofs.Weaving.{weave-legal}
+use Rattle.plain_index.proofs.InOrder.{weave-in_order}
+use Rattle.plain_index.proofs.Together.{woven-in_order_two}
+use Rattle.rowex_core.specs.declared.known.Known.{Known}
+use Rattle.rowex_core.proofs.Promises.{entries_in_reach, in_reach}
+use Rattle.seat_calls.specs.Answers.{IsCause}
+use Rattle.hot_index.proofs.Alone.{one_pass_is_never_busy}
+use Rattle.hot_index.proofs.Stamped.{returned_before_begun}
+use Rattle.real_time.specs.Scanning.{IsScanInTime}
+use Rattle.real_time.proofs.Replies.{behind, effect}
+use Rattle.real_time.proofs.Scanning.{scans_in_time}
+use Rattle.real_time.proofs.Whole.{linearizable}
+use Rattle.index_laws.specs.Headline.{Freshness, Headline, History, OneHistory, Refusals, LawfulScans, BoundedSteps}
+use Rattle.index_laws.proofs.Living.{one_history_of_all}
+use Rattle.index_laws.proofs.Timed.{legal_now, noted_placed, responses}
+
+calls-append : (ns : List Note) (n : Note) → calls_of (ns ++ n ∷ []) ≡ calls_of ns ++ answered n.call n.reply ∷ []
+calls-append [] n = refl
+calls-append (m ∷ ns) n = ap (λ (es : List Event). answered m.call m.reply ∷ es) (calls-append ns n)
+
+history : History
+history layout k j call reply noted = (
+  subst (λ ns. LegalHistory (weave j.front ns)) (append-nil j.notes) (weave-legal j.front ((j.number, j.notes) ∷ []) (noted.legal, All-nil (λ other. other.0 ≢ j.number), tt)),
+  weave-in_order j.front j.number j.notes noted.legal,
+  ap calls_of noted.notes ∙ calls-append k.notes (record { place = noted.place; call = call; reply = reply }),
+)
+
+one_history : OneHistory
+one_history layout j k j' k' met = (
+  met.history,
+  woven-in_order_two j'.front j'.number k'.number j'.notes k'.notes met.first.legal (subst (λ f. LegalCalls f k'.number k'.notes) (sym met.fronts) met.second.legal),
+)
+
+freshness : Freshness
+freshness layout last at happens run q t below within call s e ends asked reply noted =
+    let n : Note = record { place = noted.place; call = asked; reply = reply } in
+    let legal = legal_now q ((at t).known q) e.known ends.now ends.pass noted.legal in
+    let listed : ((at t).known q).notes ≡ s.known.notes ++ n ∷ [] = ap (λ (z : Known). z.notes) (sym ends.now) ∙ noted.notes in
+    let stands : All (StandsIn ((at t).known q).front q) (n ∷ []) =
+    behind (StandsIn ((at t).known q).front q) s.known.notes (n ∷ []) (subst (All (StandsIn ((at t).known q).front q)) listed legal.each) in
+    effect layout last at happens run q t below within call.since n (noted_placed layout at q t call s e ends asked reply noted) (All-head (StandsIn ((at t).known q).front q) n [] stands)
+
+loaded_in : (k l : Known) (i j : Known) → i ≡ k → j ≡ l → i.steps ≤ j.fresh.step → k.steps ≤ l.fresh.step
+loaded_in k l i j before now h = subst (λ (z : Known). z.steps ≤ l.fresh.step) before (subst (λ (z : Known). i.steps ≤ z.fresh.step) now h)
+
+scans : LawfulScans
+scans layout last at happens run q t below within call s e ends from upto limit scan = (
+  λ scanned. (in_run scanned.on.now.0).0 (subst (λ (z : Known). IsLawfulScan z.fresh.front z.front from upto limit scan) ends.now scanned.lawful),
+  λ scanned. (in_run scanned.on.now.0).1 (subst (λ (z : Known). IsLawfulReverseScan z.fresh.front z.front from upto limit scan) ends.now scanned.lawful),
+)
+  where
+    in_run : s.known.steps ≤ e.known.fresh.step →
+        (IsLawfulScan ((at t).known q).fresh.front ((at t).known q).front from upto limit scan → IsScanInTime IsUpToLast at call.since t from upto scan) ×
+        (IsLawfulReverseScan ((at t).known q).fresh.front ((at t).known q).front from upto limit scan → IsScanInTime IsDownToLast at call.since t from upto scan)
+    in_run h = scans_in_time layout last at happens run q call.since t below ends.later within (loaded_in ((at call.since).known q) ((at t).known q) s.known e.known ends.before ends.now h) from upto limit scan
+
+refusals : Refusals
+refusals layout call k j fault refused legal =
+    let own : own_changes j.number j.front ≡ own_changes k.number k.front =
+    refused.unnoted.legal.own ∙ ap (changes_of j.number) refused.unnoted.notes ∙ ap (λ q. changes_of q k.notes) refused.unnoted.number ∙ sym legal.own in (
+      refused.unnoted.notes,
+      own,
+      refused.cause,
+      λ alone busy. one_pass_is_never_busy layout (key_of call) k j alone (subst (IsCause layout (key_of call) k j) busy refused.cause),
+    )
+
+steps : BoundedSteps
+steps = record {
+  get = λ index k j h. (let depth = h.depth in let few = h.few in omega (arith, depth, few));
+  change = λ index result k j h. h.few;
+  scan = λ index limit k j h. (let most = h.most in let few = h.few in omega (arith, most, few));
+  collect = λ index nodes leaves k j h. h.few;
+}
+
+pub headline : Headline
+headline = record {
+  history = history;
+  one_history = one_history;
+  one_history_of_all = one_history_of_all;
+  linearizable = linearizable;
+  responses = responses;
+  freshness = freshness;
+  order_in_time = returned_before_begun;
+  scans = scans;
+  refusals = refusals;
+  steps = steps;
+  out_of_reach = in_reach;
+  entries_in_reach = entries_in_reach;
+}

@@ -1,0 +1,117 @@
+-- The opening of a run, and calls whose contracts say how they ended as calls of a run.
+use Rattle.std.proofs.Common.{◌≡◌, inl, inr, ℕ, ◌<◌, ◌≤◌, List, [], ◌∷◌, ◌++◌, length, map, refl, sym, ap, subst, ◌∙◌, arith, le_refl, le_trans, append-nil}
+use Rattle.std.specs.Prelude.{get_or}
+use Rattle.std.proofs.lemmas.List.Elements.{All-cons, All-from_recursion, All-nil}
+use Rattle.finite_map.specs.declared.Call.{Call}
+use Rattle.finite_map.specs.declared.Note.{Note}
+use Rattle.finite_map.specs.declared.Reply.{Reply}
+use Rattle.finite_map.specs.Calls.{LegalCalls}
+use Rattle.finite_map.specs.Fronts.{BeginsWith}
+use Rattle.record_words.specs.declared.layout.Layout.{Layout}
+use Rattle.rowex_core.specs.declared.known.Fresh.{Fresh}
+use Rattle.rowex_core.specs.declared.known.Known.{Known}
+use Rattle.rowex_core.specs.Cores.{Core}
+use Rattle.rowex_core.specs.Knowing.{IsFact, IsUntouched, Knows}
+use Rattle.rowex_core.specs.Opening.{opening}
+use Rattle.rowex_core.proofs.Promises.{opening_is_lawful}
+use Rattle.rowex_table.specs.Rule.{opening_of}
+use Rattle.rowex_table.specs.Seats.{SeatView}
+use Rattle.seat_calls.specs.Answers.{IsNoted}
+use Rattle.seat_calls.specs.Passes.{pass_of}
+use Rattle.real_time.specs.Moments.{IsPlacedSince, Moment, Pending}
+use Rattle.real_time.proofs.Growing.{longer, runs_stay_sound}
+use Rattle.index_laws.specs.Statements.{IsReturning, ManyAreResponse, NotedIsResponse, OpeningIsNew, QuietIsResponse, Responses}
+
+new_knows : (c : Core) (m : ℕ) → m < c.layout.passes → IsUntouched c m → Knows c (opening_of m)
+new_knows c m low h = record {
+  pass = low;
+  counted = record { loaded = omega arith; failed = All-from_recursion (λ f. f.step < 1) [] tt };
+  seen = record { front = (c.changes, refl, h.changes); fresh = ([], refl); facts = All-from_recursion (IsFact c.past) [] tt };
+  own = h.own;
+}
+
+opening_is_new : OpeningIsNew
+opening_is_new layout = record {
+  sound = record {
+    layout_is = refl;
+    lawful = (opening_is_lawful layout).0;
+    named = λ q low. refl;
+    knows = λ q low. new_knows (opening layout) q low ((opening_is_lawful layout).2 q (omega arith));
+  };
+  changes = refl;
+  notes = λ q. refl;
+  pending = λ q. refl;
+}
+
+pub legal_now : (q : ℕ) (k j : Known) → j ≡ k → j.pass ≡ q → LegalCalls j.front j.pass j.notes → LegalCalls k.front q k.notes
+legal_now q k j is pass h = subst (λ (z : Known). LegalCalls z.front q z.notes) is (subst (λ p. LegalCalls j.front p j.notes) pass h)
+
+noted_now : (k l j i : Known) (notes : List Note) → j ≡ k → i ≡ l → j.notes ≡ i.notes ++ notes → k.notes ≡ l.notes ++ notes
+noted_now k l j i notes now before h = sym (ap (λ (z : Known). z.notes) now) ∙ h ∙ ap (λ (z : Known). z.notes ++ notes) before
+
+-- a noted call's place is no lower than what a load of the root showed in the call
+pub noted_placed : (layout : Layout) (at : ℕ → Moment) (q t : ℕ) (call : Pending) (s e : SeatView) → IsReturning layout at q t call s e → (asked : Call) (reply : Reply) →
+    (noted : IsNoted layout (pass_of s) (pass_of e) asked reply) → IsPlacedSince at q call.since t (record { place = noted.place; call = asked; reply = reply })
+noted_placed layout at q t call s e ends asked reply noted = record {
+  shown = t;
+  from = ends.later;
+  upto = le_refl t;
+  loaded = subst (λ (z : Known). z.steps ≤ ((at t).known q).fresh.step) ends.before (subst (λ (z : Known). s.known.steps ≤ z.fresh.step) ends.now noted.on.now.0);
+  low = subst (λ (z : Known). length z.fresh.front ≤ noted.place) ends.now noted.low;
+}
+
+noted_is_response : NotedIsResponse
+noted_is_response layout at q t call s e ends asked reply calls noted =
+    let n : Note = record { place = noted.place; call = asked; reply = reply } in
+    let since : ℕ = call.since in
+    record {
+      called = ends.pending;
+      calls = inr (sym calls);
+      noted = noted_now ((at t).known q) ((at since).known q) e.known s.known (n ∷ []) ends.now ends.before noted.notes;
+      placed = All-cons (IsPlacedSince at q since t) n [] (noted_placed layout at q t call s e ends asked reply noted) (All-nil (IsPlacedSince at q since t));
+      legal = legal_now q ((at t).known q) e.known ends.now ends.pass noted.legal;
+    }
+
+calls_same : (added : List Note) (asked : List (Call × Reply)) → map (λ n. (n.call, n.reply)) added ≡ asked → map (λ n. n.call) added ≡ map (λ x. x.0) asked
+calls_same added asked e = firsts added ∙ ap (λ xs. map (λ (x : Call × Reply). x.0) xs) e
+  where
+    firsts : (ns : List Note) → map (λ (n : Note). n.call) ns ≡ map (λ (x : Call × Reply). x.0) (map (λ (n : Note). (n.call, n.reply)) ns)
+    firsts [] = refl
+    firsts (n ∷ ns) = ap (λ z. n.call ∷ z) (firsts ns)
+
+many_are_response : ManyAreResponse
+many_are_response layout last at happens run q t call s e low within ends m from upto f between sees asked calls noted places =
+    let since : ℕ = call.since in
+    let sound = runs_stay_sound layout last at happens run m (omega (arith, upto, within)) in
+    let shown : BeginsWith ((at m).known q).front ((at m).known q).fresh.front = (sound.knows q low).seen.fresh in
+    let known : BeginsWith f.known.front f.known.fresh.front = subst (λ (z : Known). BeginsWith z.front z.fresh.front) (sym between) shown in
+    let least : length f.known.fresh.front ≤ length f.known.front = longer f.known.front f.known.fresh.front known in
+    let loaded : s.known.steps ≤ f.known.fresh.step = subst (λ (z : Fresh). s.known.steps ≤ z.step) (sym sees.fresh) sees.since in
+    record {
+      called = ends.pending;
+      calls = inr (calls_same noted.added asked noted.calls_are ∙ calls);
+      noted = noted_now ((at t).known q) ((at since).known q) e.known s.known noted.added ends.now ends.before noted.notes;
+      placed = λ k d inside.
+          (let place : length f.known.front ≤ (get_or noted.added k d).place = places k d inside in
+          let bound : length f.known.fresh.front ≤ (get_or noted.added k d).place = le_trans least place in
+          record {
+            shown = m;
+            from = from;
+            upto = upto;
+            loaded = subst (λ (z : Known). z.steps ≤ ((at m).known q).fresh.step) ends.before (subst (λ (z : Known). s.known.steps ≤ z.fresh.step) between loaded);
+            low = subst (λ (z : Known). length z.fresh.front ≤ (get_or noted.added k d).place) between bound;
+          });
+      legal = legal_now q ((at t).known q) e.known ends.now ends.pass noted.legal;
+    }
+
+quiet_is_response : QuietIsResponse
+quiet_is_response layout at q t call s e ends same legal = record {
+  called = ends.pending;
+  calls = inl refl;
+  noted = noted_now ((at t).known q) ((at call.since).known q) e.known s.known [] ends.now ends.before (same ∙ sym (append-nil s.known.notes));
+  placed = All-nil (IsPlacedSince at q call.since t);
+  legal = legal_now q ((at t).known q) e.known ends.now ends.pass legal;
+}
+
+pub responses : Responses
+responses = record { opening = opening_is_new; noted = noted_is_response; many = many_are_response; quiet = quiet_is_response }

@@ -1,0 +1,4 @@
+-- The definitions of the crate.
+pub mod Statements
+pub mod Lives
+pub mod Headline

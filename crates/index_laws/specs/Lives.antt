@@ -1,0 +1,50 @@
+-- What passes have lived through, as the contracts of their calls say one after the other, and the one history of it.
+use Rattle.std.specs.Prelude.{◌≡◌, ◌≢◌, ℕ, All, List, [], ◌∷◌, ◌++◌, map}
+use Rattle.finite_map.specs.declared.Call.{Call}
+use Rattle.finite_map.specs.declared.Change.{Change}
+use Rattle.finite_map.specs.declared.Note.{Note}
+use Rattle.finite_map.specs.declared.Reply.{Reply}
+use Rattle.finite_map.specs.Calls.{LegalCalls}
+use Rattle.finite_map.specs.Weaves.{Event, LegalHistory, answered, notes_of, weave}
+use Rattle.plain_index.specs.Orders.{AreWoven, calls_in}
+use Rattle.record_words.specs.declared.layout.Layout.{Layout}
+use Rattle.seat_calls.specs.Answers.{GoesOn, IsNoted, IsUnnoted}
+use Rattle.seat_calls.specs.Many.{AreNoted}
+use Rattle.seat_calls.specs.Passes.{IsNewPass, PassView}
+
+-- A new pass has lived through no calls; one whose call was answered, or whose many look-ups were, through these besides; and one that was
+-- refused, collected, met another or followed a stamp (`IsUnnoted`) or scanned (`IsScannedBy`, `IsListedBy`), through the same as before.
+pub data HasLived : Layout → List (Call × Reply) → PassView → Type 0 where
+  new : {layout : Layout} {q : ℕ} {j : PassView} → IsNewPass q j → HasLived layout [] j
+  called : {layout : Layout} {calls : List (Call × Reply)} {k j : PassView} {call : Call} {reply : Reply} → HasLived layout calls k → IsNoted layout k j call reply →
+      HasLived layout (calls ++ (call, reply) ∷ []) j
+  looked_up : {layout : Layout} {calls asked : List (Call × Reply)} {k j : PassView} → HasLived layout calls k → AreNoted layout k j asked → HasLived layout (calls ++ asked) j
+  went_on : {layout : Layout} {calls : List (Call × Reply)} {k j : PassView} → HasLived layout calls k → IsUnnoted layout k j → HasLived layout calls j
+  scanned : {layout : Layout} {calls : List (Call × Reply)} {k j : PassView} → HasLived layout calls k → GoesOn layout k j → j.notes ≡ k.notes →
+      LegalCalls j.front j.number j.notes → HasLived layout calls j
+
+-- a pass, and the calls that it has lived through, with their replies
+abbrev pub PassLife : Type 0
+PassLife = List (Call × Reply) × PassView
+
+-- the passes of these lives have different numbers, have lived through their calls, and have all seen this front
+abbrev pub AreLives : Layout → List Change → List PassLife → Type 0
+AreLives layout front [] = Unit {0}
+AreLives layout front (life ∷ lives) =
+    HasLived layout life.0 life.1 × (life.1.front ≡ front) × All (λ other. other.1.number ≢ life.1.number) lives × AreLives layout front lives
+
+-- a list that the calls of these lives make together: it has each of them once, those of each life in their order
+abbrev pub LivesAreWoven : List PassLife → List Event → Type 0
+LivesAreWoven [] es = es ≡ []
+LivesAreWoven (life ∷ lives) es = (others : List Event) × LivesAreWoven lives others × AreWoven (map (λ x. answered x.0 x.1) life.0) others es
+
+-- the notes of these lives, one life after the other
+abbrev pub notes_of_lives : List PassLife → List Note
+notes_of_lives lives = notes_of (map (λ life. (life.1.number, life.1.notes)) lives)
+
+-- Passes of different numbers that have seen the same have one legal history of a finite map, in which each call that they have lived
+-- through stands once, and those of each pass in their order.
+abbrev pub OneHistoryOfAll : Type 0
+OneHistoryOfAll =
+    (layout : Layout) (front : List Change) (lives : List PassLife) → AreLives layout front lives →
+    LegalHistory (weave front (notes_of_lives lives)) × LivesAreWoven lives (calls_in (weave front (notes_of_lives lives)))

@@ -1,0 +1,13 @@
+//! Laws of the index over whole runs. The functions do nothing: their contracts are the laws.
+ghost use Rattle.index_laws.specs.Headline.{Headline};
+ghost use Rattle.index_laws.specs.Statements.{Responses};
+
+/// A run may begin where an index has just been made, and a call that has returned responds in it as its contract says.
+pub fn responses()
+    ensures { Responses }
+{}
+
+/// All that is promised of the index, in one place.
+pub fn headline()
+    ensures { Headline }
+{}

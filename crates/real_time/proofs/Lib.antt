@@ -1,0 +1,11 @@
+-- The lemmas of the crate.
+mod Examples
+pub mod Taught
+pub mod Growing
+pub mod Passes
+pub mod Hits
+pub mod Makers
+pub mod Calling
+pub mod Whole
+pub mod Scanning
+pub mod Replies

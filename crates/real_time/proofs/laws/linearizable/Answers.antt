@@ -1,0 +1,6 @@
+-- The law linearizable.
+use Rattle.real_time.proofs.Whole.{linearizable}
+use Rattle.real_time.proofs.laws.linearizable.Goals as goal
+
+pub returns : goal.returns
+returns c = linearizable

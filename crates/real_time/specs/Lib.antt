@@ -1,0 +1,5 @@
+-- The definitions of the crate.
+pub mod Moments
+pub mod Histories
+pub mod Scanning
+pub mod Statements
