@@ -19,10 +19,9 @@ use Rattle.hot_index.proofs.Stamped.{returned_before_begun}
 use Rattle.real_time.specs.Scanning.{IsScanInTime}
 use Rattle.real_time.proofs.Replies.{behind, effect}
 use Rattle.real_time.proofs.Scanning.{scans_in_time}
-use Rattle.real_time.proofs.Whole.{linearizable}
 use Rattle.index_laws.specs.Headline.{Freshness, Headline, History, OneHistory, Refusals, LawfulScans, BoundedSteps}
 use Rattle.index_laws.proofs.Living.{one_history_of_all}
-use Rattle.index_laws.proofs.Timed.{legal_now, noted_placed, responses}
+use Rattle.index_laws.proofs.Timed.{executions_are_linearizable, legal_now, noted_placed, responses}
 
 calls-append : (ns : List Note) (n : Note) → calls_of (ns ++ n ∷ []) ≡ calls_of ns ++ answered n.call n.reply ∷ []
 calls-append [] n = refl
@@ -87,7 +86,7 @@ headline = record {
   history = history;
   one_history = one_history;
   one_history_of_all = one_history_of_all;
-  linearizable = linearizable;
+  linearizable = executions_are_linearizable;
   responses = responses;
   freshness = freshness;
   order_in_time = returned_before_begun;

@@ -28,9 +28,9 @@ use Rattle.seat_calls.specs.Traces.{HasCollected, HasGot, HasGotRange, HasMade, 
 use Rattle.hot_index.specs.Statements.{ReturnedBeforeBegun}
 use Rattle.real_time.specs.Moments.{Happening, IsWholeRun, Moment, Pending}
 use Rattle.real_time.specs.Scanning.{IsScanInTime, map_at}
-use Rattle.real_time.specs.Statements.{Linearizable}
 use Rattle.index_laws.specs.Lives.{OneHistoryOfAll}
-use Rattle.index_laws.specs.Statements.{IsReturning, Responses}
+use Rattle.index_laws.specs.Executions.{IsReturning}
+use Rattle.index_laws.specs.Statements.{ExecutionsAreLinearizable, Responses}
 
 -- The answered calls of a pass, with the changes of others that it has seen, are a legal history of a finite map, in which each stands once
 -- and in the order in which it was made: a call that is noted comes last.
@@ -81,7 +81,7 @@ pub record Headline : Type 0 where
   -- and so do any number of passes that have seen the same: each call that they have lived through stands in it once
   pub one_history_of_all : OneHistoryOfAll
   -- the calls of a run are linearizable; and what contracts say of a call that has returned makes it one of these
-  pub linearizable : Linearizable
+  pub linearizable : ExecutionsAreLinearizable
   pub responses : Responses
   pub freshness : Freshness
   -- between passes that hear of each other by a stamp or a meeting, a call that had returned comes before one that then began

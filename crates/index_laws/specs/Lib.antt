@@ -1,4 +1,5 @@
 -- The definitions of the crate.
+pub mod Executions
 pub mod Statements
 pub mod Lives
 pub mod Headline

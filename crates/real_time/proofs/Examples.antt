@@ -1,12 +1,12 @@
 -- Worked examples: which calls a history has, and how a pending call is completed.
-use Rattle.std.proofs.Common.{◌≡◌, ℕ, List, [], ◌∷◌, get_or, true, false, refl}
-use Rattle.finite_map.specs.declared.Call.{Call}
+use Rattle.std.proofs.Common.{◌≡◌, ℕ, [], ◌∷◌, get_or, refl}
 use Rattle.finite_map.specs.declared.Call.TheVariants.{Get, Insert, Upsert}
 use Rattle.finite_map.specs.declared.Change.{Change}
 use Rattle.finite_map.specs.declared.Kind.TheVariants.{Added}
 use Rattle.finite_map.specs.declared.Note.{Note}
 use Rattle.finite_map.specs.declared.Reply.TheVariants.{Inserted, New, Value}
-use Rattle.real_time.specs.Histories.{complete_calls, makers}
+use Rattle.real_time.specs.Effects.{makers}
+use Rattle.real_time.specs.Histories.{complete_calls}
 use Rattle.real_time.specs.Moments.{Happening, invokes, responds, shows}
 
 -- Pass 0 inserts a key, and is answered; then pass 1, which it never meets, gets it.

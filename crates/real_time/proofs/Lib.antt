@@ -7,5 +7,6 @@ pub mod Hits
 pub mod Makers
 pub mod Calling
 pub mod Whole
+pub mod Completing
 pub mod Scanning
 pub mod Replies
