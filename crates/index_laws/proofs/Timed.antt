@@ -129,7 +129,7 @@ quiet_is_response layout at q t call s e ends notes x = record {
   legal = legal_now q ((at t).known q) e.known ends.now ends.pass x.legal;
 }
 
-returned_responds : ReturnedResponds
+pub returned_responds : ReturnedResponds
 returned_responds layout last at happens run q t below within call notes (s, e, ends, inl x) =
     subst (IsResponse at t q call) (sym x.notes_are) (noted_is_response layout at q t call s e ends x.asked x.reply x.calls x.noted)
 returned_responds layout last at happens run q t below within call notes (s, e, ends, inr (inl x)) =

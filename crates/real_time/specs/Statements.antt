@@ -48,14 +48,16 @@ Linearizable =
 -- And whatever they do, the answered calls have one order, with one call in it for each change that a pending one has made.
 abbrev pub OrderedByEffect : Type 0
 OrderedByEffect =
-    (layout : Layout) (last : ℕ) (at : ℕ → Moment) (happens : ℕ → Happening) → IsWholeRun layout last at happens → HaveOneOrder layout last at happens (completions last at)
+    (layout : Layout) (last : ℕ) (at : ℕ → Moment) (happens : ℕ → Happening) → IsWholeRun layout last at happens →
+    HaveOneOrder layout last at happens (completions last at)
 
 -- A scan that is lawful from what its pass saw at its last load of the root, a step of the scan, to what it has seen by its end shows maps
--- of the moments in between, upwards as downwards.
+-- of moments from its invocation to its response, upwards as downwards.
 abbrev pub ScansInTime : Type 0
 ScansInTime =
-    (layout : Layout) (last : ℕ) (at : ℕ → Moment) (happens : ℕ → Happening) → IsWholeRun layout last at happens → (q since until : ℕ) → q < layout.passes → since ≤ until →
-    until ≤ last → ((at since).known q).steps ≤ ((at until).known q).fresh.step → (from upto : List ℕ) (limit : ℕ) (scan : Scan) →
+    (layout : Layout) (last : ℕ) (at : ℕ → Moment) (happens : ℕ → Happening) → IsWholeRun layout last at happens →
+    (q since until : ℕ) → q < layout.passes → since ≤ until → until ≤ last → ((at since).known q).steps ≤ ((at until).known q).fresh.step →
+    (from upto : List ℕ) (limit : ℕ) (scan : Scan) →
     (IsLawfulScan ((at until).known q).fresh.front ((at until).known q).front from upto limit scan → IsScanInTime IsUpToLast at since until from upto scan) ×
     (IsLawfulReverseScan ((at until).known q).fresh.front ((at until).known q).front from upto limit scan → IsScanInTime IsDownToLast at since until from upto scan)
 
