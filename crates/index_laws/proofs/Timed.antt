@@ -35,7 +35,7 @@ new_knows c m low h = record {
   own = h.own;
 }
 
-opening_is_new : OpeningIsNew
+pub opening_is_new : OpeningIsNew
 opening_is_new layout = record {
   sound = record {
     layout_is = refl;

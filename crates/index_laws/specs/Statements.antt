@@ -1,13 +1,16 @@
 -- What the contracts of the index say of a run, as the functions of the module `laws` promise it.
-use Rattle.std.specs.Prelude.{ℕ, ◌<◌, ◌≤◌, List, None}
+use Rattle.std.specs.Prelude.{◌≡◌, ℕ, ◌<◌, ◌≤◌, List, [], ◌∷◌, None}
+use Rattle.atomic_table.specs.Seated.{TableId}
 use Rattle.finite_map.specs.declared.Call.{Call}
+use Rattle.finite_map.specs.declared.Call.TheVariants.{Get}
 use Rattle.finite_map.specs.declared.Note.{Note}
+use Rattle.finite_map.specs.declared.Reply.TheVariants.{Absent}
 use Rattle.record_words.specs.declared.layout.Layout.{Layout}
 use Rattle.rowex_core.specs.Opening.{opening}
 use Rattle.rowex_table.specs.Rule.{opening_of}
 use Rattle.rowex_writing.specs.declared.plan.Full.{Full}
 use Rattle.seat_calls.specs.Answers.{MayLack, MayRefuse, fault_of}
-use Rattle.real_time.specs.Histories.{PendingChangeAsAsked}
+use Rattle.real_time.specs.Histories.{PendingChangeAsAsked, complete_calls}
 use Rattle.real_time.specs.Moments.{Happening, IsNewIndex, IsRefusal, IsResponse, IsWholeRun, Moment, Pending}
 use Rattle.real_time.specs.Statements.{IsLinearizable}
 use Rattle.index_laws.specs.Executions.{HasBeenRefused, HasReturned, IsExecution}
@@ -48,3 +51,10 @@ pub record Responses : Type 0 where
   pub refused : RefusedIsRefused
   pub lacks : LackMayRefuse
   pub runs : ExecutionsAreRuns
+
+-- There are executions in which calls return: in an index that has a pass, pass 0 invokes a get, makes the four steps of one in an empty
+-- index, and the call responds that the key is absent.
+abbrev pub AGetReturns : Type 0
+AGetReturns =
+    (layout : Layout) → 0 < layout.passes → (table : TableId) (key : List ℕ) → (at : ℕ → Moment) × (happens : ℕ → Happening) ×
+    IsExecution layout 6 at happens × (complete_calls happens 6 ≡ (5, record { place = 0; call = Get key; reply = Absent }) ∷ [])

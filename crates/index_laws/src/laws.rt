@@ -1,8 +1,8 @@
 //! Laws of the index over whole runs. The functions do nothing: their contracts are the laws.
 ghost use Rattle.index_laws.specs.Headline.{Headline};
-ghost use Rattle.index_laws.specs.Statements.{Responses};
+ghost use Rattle.index_laws.specs.Statements.{AGetReturns, Responses};
 
-/// A run may begin where an index has just been made, and a call that has returned responds in it as its contract says.
+/// A run may begin where an index has just been made, and a call that has ended does so in it as its contract says.
 pub fn responses()
     ensures { Responses }
 {}
@@ -10,4 +10,9 @@ pub fn responses()
 /// All that is promised of the index, in one place.
 pub fn headline()
     ensures { Headline }
+{}
+
+/// There are executions in which calls return.
+pub fn a_get_returns()
+    ensures { AGetReturns }
 {}
