@@ -8,5 +8,6 @@ pub mod Makers
 pub mod Calling
 pub mod Whole
 pub mod Completing
+pub mod Asking
 pub mod Scanning
 pub mod Replies

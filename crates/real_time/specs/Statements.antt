@@ -1,7 +1,10 @@
 -- The laws of runs, as the functions of the module `laws` promise them.
-use Rattle.std.specs.Prelude.{◌≡◌, ℕ, ◌+◌, ◌<◌, ◌≤◌, All, List, IsPermutation}
+use Rattle.std.specs.Prelude.{◌≡◌, ◌⊎◌, ℕ, ◌+◌, ◌<◌, ◌≤◌, All, List, [], ◌∷◌, IsPermutation}
+use Rattle.finite_map.specs.declared.Call.{Call}
 use Rattle.finite_map.specs.declared.Note.{Note}
 use Rattle.finite_map.specs.declared.Scan.{Scan}
+use Rattle.finite_map.specs.Calls.{changes_of}
+use Rattle.finite_map.specs.Fronts.{OthersGoOn}
 use Rattle.finite_map.specs.Maps.{reply_of}
 use Rattle.finite_map.specs.Reverse.{IsDownToLast, IsLawfulReverseScan}
 use Rattle.finite_map.specs.Scans.{IsLawfulScan, IsUpToLast}
@@ -11,8 +14,8 @@ use Rattle.record_words.specs.declared.layout.Layout.{Layout}
 use Rattle.rowex_core.specs.declared.event.Event.{Event}
 use Rattle.rowex_core.specs.Runs.{EventsLead}
 use Rattle.real_time.specs.Effects.{completions}
-use Rattle.real_time.specs.Histories.{IsAppended, PendingChangeAsAsked, complete_calls, completed, had_responded, stays}
-use Rattle.real_time.specs.Moments.{Happening, IsResponse, IsSoundMoment, IsWholeRun, Moment, Pending}
+use Rattle.real_time.specs.Histories.{ChangesAsAsked, IsAppended, PendingChangeAsAsked, complete_calls, completed, had_responded, stays}
+use Rattle.real_time.specs.Moments.{Happening, IsRefusal, IsResponse, IsSoundMoment, IsWholeRun, Moment, Pending}
 use Rattle.real_time.specs.Scanning.{IsScanInTime, map_at}
 
 -- each moment of a run is sound
@@ -45,7 +48,23 @@ Linearizable =
     (layout : Layout) (last : ℕ) (at : ℕ → Moment) (happens : ℕ → Happening) → IsWholeRun layout last at happens → PendingChangeAsAsked layout last at →
     IsLinearizable layout last at happens
 
--- And whatever they do, the answered calls have one order, with one call in it for each change that a pending one has made.
+-- So does each call that responds, if it asks one call of the map or only looks up: at each moment from its invocation to its response it has
+-- changed nothing, or the map as it asks. Hence the premise says nothing new of a pending call that responds later.
+abbrev pub RespondersChangeAsAsked : Type 0
+RespondersChangeAsAsked =
+    (layout : Layout) (last : ℕ) (at : ℕ → Moment) (happens : ℕ → Happening) → IsWholeRun layout last at happens →
+    (q t : ℕ) (call : Pending) (notes : List Note) → q < layout.passes → t ≤ last → IsResponse at t q call notes →
+    ((asked : Call) × (call.calls ≡ asked ∷ [])) ⊎ (changes_of q notes ≡ []) →
+    (m : ℕ) → call.since ≤ m → m ≤ t → ChangesAsAsked q call.calls (at call.since).core.changes (at m).core.changes
+
+-- And a call that is refused has changed nothing at any moment.
+abbrev pub RefusedChangeNothing : Type 0
+RefusedChangeNothing =
+    (layout : Layout) (last : ℕ) (at : ℕ → Moment) (happens : ℕ → Happening) → IsWholeRun layout last at happens →
+    (q t : ℕ) (call : Pending) → q < layout.passes → t ≤ last → IsRefusal at t q call →
+    (m : ℕ) → call.since ≤ m → m ≤ t → OthersGoOn q (at call.since).core.changes (at m).core.changes
+
+-- Whatever pending calls do, the answered calls have one order, with one call in it for each change that a pending one has made.
 abbrev pub OrderedByEffect : Type 0
 OrderedByEffect =
     (layout : Layout) (last : ℕ) (at : ℕ → Moment) (happens : ℕ → Happening) → IsWholeRun layout last at happens →

@@ -1,5 +1,5 @@
 //! Laws of runs, over their definitions alone. The functions do nothing: their contracts are the laws.
-ghost use Rattle.real_time.specs.Statements.{Linearizable, OrderedByEffect, RepliesInTime, RunsAreEvents, RunsStaySound, ScansInTime};
+ghost use Rattle.real_time.specs.Statements.{Linearizable, OrderedByEffect, RefusedChangeNothing, RepliesInTime, RespondersChangeAsAsked, RunsAreEvents, RunsStaySound, ScansInTime};
 
 /// At each moment of a run the core is lawful, and what each pass knows is true of it.
 pub fn runs_stay_sound()
@@ -11,7 +11,17 @@ pub fn linearizable()
     ensures { Linearizable }
 {}
 
-/// They have one order whatever the calls that are pending do.
+/// A call that responds changes the map as it asks, if at all.
+pub fn responders_change_as_asked()
+    ensures { RespondersChangeAsAsked }
+{}
+
+/// A call that is refused changes nothing.
+pub fn refused_change_nothing()
+    ensures { RefusedChangeNothing }
+{}
+
+/// The look-ups and changes of a run have one order whatever the calls that are pending do.
 pub fn ordered_by_effect()
     ensures { OrderedByEffect }
 {}
