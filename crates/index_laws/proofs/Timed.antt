@@ -180,7 +180,7 @@ pub executions_are_runs : ExecutionsAreRuns
 executions_are_runs layout last at happens x = runs_until layout at happens last x last (le_refl last)
 
 pub executions_are_linearizable : ExecutionsAreLinearizable
-executions_are_linearizable layout last at happens x asked = linearizable layout last at happens (executions_are_runs layout last at happens x) asked
+executions_are_linearizable layout last later at happens low x ends = linearizable layout last later at happens low (executions_are_runs layout later at happens x) ends
 
 pub responses : Responses
 responses = record { opening = opening_is_new; returned = returned_responds; refused = refused_is_refused; lacks = lack_may_refuse; runs = executions_are_runs }

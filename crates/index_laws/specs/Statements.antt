@@ -10,7 +10,7 @@ use Rattle.rowex_core.specs.Opening.{opening}
 use Rattle.rowex_table.specs.Rule.{opening_of}
 use Rattle.rowex_writing.specs.declared.plan.Full.{Full}
 use Rattle.seat_calls.specs.Answers.{MayLack, MayRefuse, fault_of}
-use Rattle.real_time.specs.Histories.{PendingChangeAsAsked, complete_calls}
+use Rattle.real_time.specs.Histories.{PendingEndOrChangeAsAsked, complete_calls}
 use Rattle.real_time.specs.Moments.{Happening, IsNewIndex, IsRefusal, IsResponse, IsWholeRun, Moment, Pending}
 use Rattle.real_time.specs.Statements.{IsLinearizable}
 use Rattle.index_laws.specs.Executions.{HasBeenRefused, HasReturned, IsExecution}
@@ -39,11 +39,12 @@ abbrev pub ExecutionsAreRuns : Type 0
 ExecutionsAreRuns =
     (layout : Layout) (last : ℕ) (at : ℕ → Moment) (happens : ℕ → Happening) → IsExecution layout last at happens → IsWholeRun layout last at happens
 
--- And executions are linearizable (Herlihy and Wing, 1990), if the calls that are pending at the end change the map as they ask.
+-- And executions are linearizable (Herlihy and Wing, 1990) up to any moment, if the calls that are pending then end later, or change the map
+-- as they ask.
 abbrev pub ExecutionsAreLinearizable : Type 0
 ExecutionsAreLinearizable =
-    (layout : Layout) (last : ℕ) (at : ℕ → Moment) (happens : ℕ → Happening) → IsExecution layout last at happens → PendingChangeAsAsked layout last at →
-    IsLinearizable layout last at happens
+    (layout : Layout) (last later : ℕ) (at : ℕ → Moment) (happens : ℕ → Happening) → last ≤ later → IsExecution layout later at happens →
+    PendingEndOrChangeAsAsked layout last later at → IsLinearizable layout last at happens
 
 pub record Responses : Type 0 where
   pub opening : OpeningIsNew

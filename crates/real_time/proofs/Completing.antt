@@ -1,25 +1,36 @@
 -- Responses that complete the pending calls of a run.
-use Rattle.std.proofs.Common.{◌≡◌, inl, inr, ℕ, ◌<◌, ◌≤◌, List, [], ◌∷◌, ◌++◌, length, drop, map, Option, Some, None, refl, sym, ap, subst, ◌∙◌, arith, ⊎_elim, le_refl, append-nil}
-use Rattle.std.specs.Prelude.{All}
+use Rattle.std.proofs.Common.{◌≡◌, ◌⊎◌, inl, inr, ℕ, ◌<◌, ◌≤◌, List, [], ◌∷◌, ◌++◌, length, drop, map, Option, Some, None, refl, sym, ap, subst, ◌∙◌, arith, ⊎_elim, le_refl, append-nil}
+use Rattle.std.specs.List.{cons_option}
+use Rattle.std.specs.Prelude.{All, option_map}
 use Rattle.std.proofs.Math.Seq.{drop-append_seam}
 use Rattle.std.proofs.lemmas.Bool.{cases_lt}
 use Rattle.std.proofs.lemmas.List.Elements.{All-cons, All-nil}
 use Rattle.finite_map.specs.declared.Call.{Call}
 use Rattle.finite_map.specs.declared.Change.{Change}
 use Rattle.finite_map.specs.declared.Note.{Note}
-use Rattle.finite_map.specs.Calls.{LegalCalls}
+use Rattle.finite_map.specs.declared.Call.TheVariants.{Get}
+use Rattle.finite_map.specs.declared.Kind.{Kind}
+use Rattle.finite_map.specs.declared.Reply.{Reply}
+use Rattle.finite_map.specs.Calls.{LegalCalls, change_of, changes_of, effect_of}
+use Rattle.finite_map.specs.Maps.{key_of}
 use Rattle.finite_map.specs.Fronts.{BeginsWith, LegalFrom, OthersGoOn, map_of}
 use Rattle.finite_map.proofs.Growth.{legal_front_part}
 use Rattle.finite_map.proofs.Legal.{legal_change, legal_longer}
 use Rattle.record_words.specs.declared.layout.Layout.{Layout}
 use Rattle.real_time.specs.Effects.{completion_of, completions}
-use Rattle.real_time.specs.Histories.{ChangesAsAsked, HasChangedOnce, IsAppended, PendingChangeAsAsked, replied}
+use Rattle.real_time.specs.Histories.{ChangesAsAsked, HasChangedOnce, IsAppended, AsksOneOrLooksUp, EndsWithin, PendingEndOrChangeAsAsked, replied}
 use Rattle.real_time.specs.Moments.{Happening, IsSoundMoment, IsWholeRun, Moment, Pending}
-use Rattle.real_time.specs.Statements.{Linearizable, OrderedByEffect}
+use Rattle.real_time.specs.Statements.{IsLinearizable, Linearizable, OrderedByEffect}
+use Rattle.real_time.proofs.Asking.{refused_change_nothing, responders_change_as_asked}
 use Rattle.real_time.proofs.Calling.{LegalUpTo, calls_legal}
 use Rattle.real_time.proofs.Growing.{grown, longer, runs_stay_sound}
 use Rattle.real_time.proofs.Makers.{legal_on, makers_behind, makers_legal}
 use Rattle.real_time.proofs.Whole.{AllComplete, Completes, in_one_order}
+
+-- each call that is pending at the last moment has changed nothing, or the map as it asks
+abbrev ChangeAsAsked : Layout → ℕ → (ℕ → Moment) → Type 0
+ChangeAsAsked layout last at =
+    (q : ℕ) → q < layout.passes → (call : Pending) → (at last).pending q ≡ Some call → ChangesAsAsked q call.calls (at call.since).core.changes (at last).core.changes
 
 none_some : (call : Pending) (P : Type 0) → None ≡ Some call → P
 none_some call P e = cc
@@ -119,7 +130,7 @@ module _ (layout : Layout) (last : ℕ) (at : ℕ → Moment) (happens : ℕ →
   nothing q high None = ([], (λ low. absurd (omega arith)), refl)
   nothing q high (Some call) = ([], (λ low. absurd (omega arith)), inl refl)
 
-  module _ (asked : PendingChangeAsAsked layout last at) where
+  module _ (asked : ChangeAsAsked layout last at) where
     answered : (q : ℕ) → q < layout.passes → (call : Pending) → LegalUpTo at q last (Some call) → ChangesAsAsked q call.calls (at call.since).core.changes changes → Completion q (Some call)
     answered q below call h (inl others) = ([], (λ _. unchanged q below call h others), inl refl)
     answered q below call h (inr (one, is, once)) = let x = changed_once q below call h one once in (x.0, (λ _. x.1), inr (x.2 ∙ sym is))
@@ -137,11 +148,57 @@ module _ (layout : Layout) (last : ℕ) (at : ℕ → Moment) (happens : ℕ →
   effect q below None h = rests q below h
   effect q below (Some call) h = by_effect q below call h
 
-pub linearizable : Linearizable
-linearizable layout last at happens run asked =
+as_asked : (layout : Layout) (last : ℕ) (at : ℕ → Moment) (happens : ℕ → Happening) → IsWholeRun layout last at happens → ChangeAsAsked layout last at → IsLinearizable layout last at happens
+as_asked layout last at happens run asked =
     let added : ℕ → List Note = λ q. (completion_of_each layout last at happens run asked q).0 in
     let all : AllComplete layout last at added = λ q low. (completion_of_each layout last at happens run asked q).1 low in
     (added, (λ q. (completion_of_each layout last at happens run asked q).2), in_one_order layout last at happens run added all)
+
+-- Calls that end later
+
+no_effect : (key : List ℕ) (reply : Reply) → effect_of (Get key) reply ≡ None
+no_effect key reply = refl
+
+no_change : (q : ℕ) (n : Note) (key : List ℕ) → n.call ≡ Get key → change_of q n ≡ None
+no_change q n key e = ap (λ (o : Option (Kind × ℕ)). option_map (λ effect. record { pass = q; key = key_of n.call; value = effect.1; kind = effect.0 }) o)
+    (ap (λ (c : Call). effect_of c n.reply) e ∙ no_effect key n.reply)
+
+look_ups : (q : ℕ) (notes : List Note) (keys : List (List ℕ)) → map (λ n. n.call) notes ≡ map Get keys → changes_of q notes ≡ []
+look_ups q [] keys e = refl
+look_ups q (n ∷ notes) [] e = cc
+look_ups q (n ∷ notes) (key ∷ keys) e =
+    ap (λ o. cons_option o (changes_of q notes)) (no_change q n key (first n.call (Get key) (map (λ n. n.call) notes) (map Get keys) e))
+    ∙ look_ups q notes keys (rest n.call (Get key) (map (λ n. n.call) notes) (map Get keys) e)
+  where
+    first : (a b : Call) (xs ys : List Call) → a ∷ xs ≡ b ∷ ys → a ≡ b
+    first a b xs ys e = cc
+
+    rest : (a b : Call) (xs ys : List Call) → a ∷ xs ≡ b ∷ ys → xs ≡ ys
+    rest a b xs ys e = cc
+
+module _ (layout : Layout) (last later : ℕ) (at : ℕ → Moment) (happens : ℕ → Happening) (low : last ≤ later) (run : IsWholeRun layout later at happens) where
+  until : IsWholeRun layout last at happens
+  until = record { new = run.new; next = λ t lower. run.next t (omega (arith, low, lower)) }
+
+  one_or_quiet : (q : ℕ) (calls : List Call) (notes : List Note) → map (λ n. n.call) notes ≡ calls → AsksOneOrLooksUp calls → ((asked : Call) × (calls ≡ asked ∷ [])) ⊎ (changes_of q notes ≡ [])
+  one_or_quiet q calls notes e (inl one) = inl one
+  one_or_quiet q calls notes e (inr (keys, is)) = inr (look_ups q notes keys (e ∙ is))
+
+  module _ (q : ℕ) (below : q < layout.passes) (call : Pending) (is : (at last).pending q ≡ Some call) where
+    since : call.since ≤ last
+    since = let early = (subst (LegalUpTo at q last) is (calls_legal layout last at happens until last (le_refl last) q below)).0 in omega (arith, early)
+
+    ended : AsksOneOrLooksUp call.calls → EndsWithin at last later q call → ChangesAsAsked q call.calls (at call.since).core.changes (at last).core.changes
+    ended asks (t, from, upto, inl (notes, x)) =
+        responders_change_as_asked layout later at happens run q t call notes below upto x (one_or_quiet q call.calls notes x.calls asks) last since from
+    ended asks (t, from, upto, inr x) = inl (refused_change_nothing layout later at happens run q t call below upto x last since from)
+
+  all_as_asked : PendingEndOrChangeAsAsked layout last later at → ChangeAsAsked layout last at
+  all_as_asked h q below call is = ⊎_elim (λ x. ended q below call is x.0 x.1) (λ x. x) (h q below call is)
+
+pub linearizable : Linearizable
+linearizable layout last later at happens low run h =
+    as_asked layout last at happens (until layout last later at happens low run) (all_as_asked layout last later at happens low run h)
 
 pub ordered_by_effect : OrderedByEffect
 ordered_by_effect layout last at happens run = in_one_order layout last at happens run (completions last at)

@@ -7,7 +7,7 @@ pub mod Hits
 pub mod Makers
 pub mod Calling
 pub mod Whole
-pub mod Completing
 pub mod Asking
+pub mod Completing
 pub mod Scanning
 pub mod Replies

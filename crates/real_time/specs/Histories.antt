@@ -1,14 +1,15 @@
 -- The history of a run, after Herlihy and Wing (1990): which calls have responded, and which responses may be appended for those that are
 -- pending. Its calls are look-ups and changes: a scan asks none of these, and one that is refused is answered by none.
-use Rattle.std.specs.Prelude.{◌≡◌, ◌⊎◌, ℕ, zero, suc, ◌-◌, ◌<◌, List, [], ◌∷◌, ◌++◌, Bool, Option, None, Some, if◌then◌else◌, length, map, nat_le, nat_lt}
+use Rattle.std.specs.Prelude.{◌≡◌, ◌⊎◌, ℕ, zero, suc, ◌-◌, ◌<◌, ◌≤◌, List, [], ◌∷◌, ◌++◌, Bool, Option, None, Some, if◌then◌else◌, length, map, nat_le, nat_lt}
 use Rattle.finite_map.specs.declared.Call.{Call}
+use Rattle.finite_map.specs.declared.Call.TheVariants.{Get}
 use Rattle.finite_map.specs.declared.Change.{Change}
 use Rattle.finite_map.specs.declared.Note.{Note}
 use Rattle.finite_map.specs.Calls.{change_of}
 use Rattle.finite_map.specs.Fronts.{OthersGoOn, map_of}
 use Rattle.finite_map.specs.Maps.{reply_of}
 use Rattle.record_words.specs.declared.layout.Layout.{Layout}
-use Rattle.real_time.specs.Moments.{Happening, Moment, Pending, responds}
+use Rattle.real_time.specs.Moments.{Happening, IsRefusal, IsResponse, Moment, Pending, responds}
 
 -- Calls that have responded
 
@@ -59,11 +60,20 @@ pub record HasChangedOnce (q : ℕ) (asked : Call) (before after : List Change) 
 abbrev pub ChangesAsAsked : ℕ → List Call → List Change → List Change → Type 0
 ChangesAsAsked q calls before after = OthersGoOn q before after ⊎ ((asked : Call) × (calls ≡ asked ∷ []) × HasChangedOnce q asked before after)
 
--- Each call that is pending at the last moment has changed nothing since it was invoked, or has changed the map as it asks. No contract
--- tells of a call that never returns; of one that returns later its note shows this.
-abbrev pub PendingChangeAsAsked : Layout → ℕ → (ℕ → Moment) → Type 0
-PendingChangeAsAsked layout last at =
-    (q : ℕ) → q < layout.passes → (call : Pending) → (at last).pending q ≡ Some call → ChangesAsAsked q call.calls (at call.since).core.changes (at last).core.changes
+-- a call asks one call of the map, or looks up alone, or nothing
+abbrev pub AsksOneOrLooksUp : List Call → Type 0
+AsksOneOrLooksUp calls = ((asked : Call) × (calls ≡ asked ∷ [])) ⊎ ((keys : List (List ℕ)) × (calls ≡ map Get keys))
+
+-- pass q's call responds or is refused at a moment from the one to the other
+abbrev pub EndsWithin : (ℕ → Moment) → ℕ → ℕ → ℕ → Pending → Type 0
+EndsWithin at last later q call = (t : ℕ) × (last ≤ t) × (t ≤ later) × (((notes : List Note) × IsResponse at t q call notes) ⊎ IsRefusal at t q call)
+
+-- Each call that is pending at the last moment ends by a later one; or else it has changed nothing since it was invoked, or has changed the
+-- map as it asks. No contract tells of a call that never returns, so this is a premise of such calls alone.
+abbrev pub PendingEndOrChangeAsAsked : Layout → ℕ → ℕ → (ℕ → Moment) → Type 0
+PendingEndOrChangeAsAsked layout last later at =
+    (q : ℕ) → q < layout.passes → (call : Pending) → (at last).pending q ≡ Some call →
+    (AsksOneOrLooksUp call.calls × EndsWithin at last later q call) ⊎ ChangesAsAsked q call.calls (at call.since).core.changes (at last).core.changes
 
 -- Responses may be appended to a history: one at most to each pending call, with a note for each call of the map that it asks.
 abbrev pub IsAppended : Option Pending → List Note → Type 0

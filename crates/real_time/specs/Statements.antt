@@ -14,7 +14,7 @@ use Rattle.record_words.specs.declared.layout.Layout.{Layout}
 use Rattle.rowex_core.specs.declared.event.Event.{Event}
 use Rattle.rowex_core.specs.Runs.{EventsLead}
 use Rattle.real_time.specs.Effects.{completions}
-use Rattle.real_time.specs.Histories.{ChangesAsAsked, IsAppended, PendingChangeAsAsked, complete_calls, completed, had_responded, stays}
+use Rattle.real_time.specs.Histories.{ChangesAsAsked, IsAppended, PendingEndOrChangeAsAsked, complete_calls, completed, had_responded, stays}
 use Rattle.real_time.specs.Moments.{Happening, IsRefusal, IsResponse, IsSoundMoment, IsWholeRun, Moment, Pending}
 use Rattle.real_time.specs.Scanning.{IsScanInTime, map_at}
 
@@ -42,14 +42,14 @@ abbrev pub IsLinearizable : Layout → ℕ → (ℕ → Moment) → (ℕ → Hap
 IsLinearizable layout last at happens =
     (added : ℕ → List Note) × ((q : ℕ) → IsAppended ((at last).pending q) (added q)) × HaveOneOrder layout last at happens added
 
--- Each run is linearizable, if its pending calls change the map as they ask.
+-- Each run is linearizable up to any moment, if its calls that are pending then end later or change the map as they ask.
 abbrev pub Linearizable : Type 0
 Linearizable =
-    (layout : Layout) (last : ℕ) (at : ℕ → Moment) (happens : ℕ → Happening) → IsWholeRun layout last at happens → PendingChangeAsAsked layout last at →
-    IsLinearizable layout last at happens
+    (layout : Layout) (last later : ℕ) (at : ℕ → Moment) (happens : ℕ → Happening) → last ≤ later → IsWholeRun layout later at happens →
+    PendingEndOrChangeAsAsked layout last later at → IsLinearizable layout last at happens
 
--- So does each call that responds, if it asks one call of the map or only looks up: at each moment from its invocation to its response it has
--- changed nothing, or the map as it asks. Hence the premise says nothing new of a pending call that responds later.
+-- A call that responds, and asks one call of the map or changes nothing, has changed nothing, or the map as it asks, at each moment from its
+-- invocation to its response.
 abbrev pub RespondersChangeAsAsked : Type 0
 RespondersChangeAsAsked =
     (layout : Layout) (last : ℕ) (at : ℕ → Moment) (happens : ℕ → Happening) → IsWholeRun layout last at happens →
@@ -57,7 +57,7 @@ RespondersChangeAsAsked =
     ((asked : Call) × (call.calls ≡ asked ∷ [])) ⊎ (changes_of q notes ≡ []) →
     (m : ℕ) → call.since ≤ m → m ≤ t → ChangesAsAsked q call.calls (at call.since).core.changes (at m).core.changes
 
--- And a call that is refused has changed nothing at any moment.
+-- A call that is refused has changed nothing at any moment.
 abbrev pub RefusedChangeNothing : Type 0
 RefusedChangeNothing =
     (layout : Layout) (last : ℕ) (at : ℕ → Moment) (happens : ℕ → Happening) → IsWholeRun layout last at happens →
