@@ -25,14 +25,14 @@ use Rattle.index_laws.specs.Statements.{AGetReturns}
 use Rattle.index_laws.proofs.Timed.{opening_is_new}
 
 -- the moment after a step
-abbrev stepped : Moment → ℕ → Act → List Note → Moment
+abbrev pub stepped : Moment → ℕ → Act → List Note → Moment
 stepped a q act notes = record {
   core = after a.core q act;
   known = λ o. cond (nat_eq o q) (record (learned a.core act (a.known q)) { notes = (a.known q).notes ++ notes }) (a.known o);
   pending = a.pending;
 }
 
-is_step : (a : Moment) (q : ℕ) (act : Act) (notes : List Note) (call : Pending) → Legal a.core q act → a.pending q ≡ Some call → IsMomentStep a (stepped a q act notes) q act notes
+pub is_step : (a : Moment) (q : ℕ) (act : Act) (notes : List Note) (call : Pending) → Legal a.core q act → a.pending q ≡ Some call → IsMomentStep a (stepped a q act notes) q act notes
 is_step a q act notes call legal called = record {
   legal = legal;
   core = refl;

@@ -1,9 +1,11 @@
--- What is promised of an index, in one place: what it comes to that contracts of its calls name these definitions, alone and over whole
--- runs; and of each lawful core, what the words of records are that a pinned pass may reach.
+-- What is promised of an index, in one place. Most promises say what a definition comes to that contracts of its calls name, alone or over
+-- whole runs. The last two say of each lawful core what stands in records that a pinned pass may reach.
 --
--- What no contract can say, and so is no promise here: that the code runs, and that a call returns at all; that what passes do is an
--- execution, moment by moment, since the kit says of its table that each atomic step is one step of it, and that it has one state between
--- any two of them; and what a call does that never returns, but for its steps on the table.
+-- What no contract can say, and so is no promise here:
+-- - that the code runs, and that a call returns at all;
+-- - what a call does that never returns, but for its steps on the table;
+-- - that what passes do is an execution. The kit says of its table that each atomic step is one step of it, and that it has one state between
+--   any two of them. What one step then is in a run, `StepsAreMoments` says.
 use Rattle.std.specs.Prelude.{◌≡◌, ◌≢◌, ◌⊎◌, ℕ, ◌+◌, ◌*◌, ◌<◌, ◌≤◌, All, List, [], ◌∷◌, ◌++◌, Result}
 use Rattle.key_bits.specs.declared.TheConstants.{MAX_BYTES}
 use Rattle.finite_map.specs.declared.Call.{Call}

@@ -159,7 +159,8 @@ as_asked layout last at happens run asked =
 no_effect : (key : List ℕ) (reply : Reply) → effect_of (Get key) reply ≡ None
 no_effect key reply = refl
 
-no_change : (q : ℕ) (n : Note) (key : List ℕ) → n.call ≡ Get key → change_of q n ≡ None
+-- a get makes no change
+pub no_change : (q : ℕ) (n : Note) (key : List ℕ) → n.call ≡ Get key → change_of q n ≡ None
 no_change q n key e = ap (λ (o : Option (Kind × ℕ)). option_map (λ effect. record { pass = q; key = key_of n.call; value = effect.1; kind = effect.0 }) o)
     (ap (λ (c : Call). effect_of c n.reply) e ∙ no_effect key n.reply)
 
