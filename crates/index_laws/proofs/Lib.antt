@@ -1,4 +1,6 @@
 -- The lemmas of the crate.
 pub mod Timed
+pub mod Shown
+pub mod Stepping
 pub mod Living
 pub mod Promised

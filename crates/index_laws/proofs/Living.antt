@@ -1,13 +1,12 @@
 -- Lives have one history.
 use Rattle.std.proofs.Common.{◌≡◌, ◌≢◌, ℕ, List, [], ◌∷◌, ◌++◌, map, refl, sym, ap, ap₂, subst, ◌∙◌}
-use Rattle.std.specs.Prelude.{All}
 use Rattle.std.proofs.lemmas.List.Elements.{All-map}
 use Rattle.finite_map.specs.declared.Call.{Call}
 use Rattle.finite_map.specs.declared.Change.{Change}
 use Rattle.finite_map.specs.declared.Note.{Note}
 use Rattle.finite_map.specs.declared.Reply.{Reply}
 use Rattle.finite_map.specs.Calls.{LegalCalls}
-use Rattle.finite_map.specs.Weaves.{AllLegal, Event, LegalHistory, answered, calls_of}
+use Rattle.finite_map.specs.Weaves.{AllLegal, Event, answered, calls_of}
 use Rattle.finite_map.proofs.Legal.{legal_at_first}
 use Rattle.finite_map.proofs.Weaving.{weave-legal}
 use Rattle.plain_index.specs.Orders.{AreWoven, CallsAreWoven}

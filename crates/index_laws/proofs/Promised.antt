@@ -1,10 +1,12 @@
 -- The promises of the headline, one by one.
-use Rattle.std.proofs.Common.{◌≡◌, ◌≢◌, ◌≤◌, List, [], ◌∷◌, ◌++◌, refl, sym, ap, subst, ◌∙◌, arith, append-nil}
+use Rattle.std.proofs.Common.{◌≡◌, ◌≢◌, inl, inr, ⊎_elim, ℕ, ◌+◌, ◌*◌, ◌<◌, ◌≤◌, List, [], ◌∷◌, ◌++◌, refl, sym, ap, subst, ◌∙◌, arith, append-nil}
 use Rattle.std.specs.Prelude.{All}
 use Rattle.std.proofs.lemmas.List.Elements.{All-head, All-nil}
+use Rattle.finite_map.specs.declared.Call.TheVariants.{Remove, RemoveIf}
 use Rattle.finite_map.specs.declared.Note.{Note}
+use Rattle.finite_map.specs.declared.Scan.{Scan}
 use Rattle.finite_map.specs.Calls.{LegalCalls, StandsIn, changes_of, own_changes}
-use Rattle.finite_map.specs.Maps.{key_of}
+use Rattle.finite_map.specs.Maps.{Map, key_of}
 use Rattle.finite_map.specs.Reverse.{IsDownToLast, IsLawfulReverseScan}
 use Rattle.finite_map.specs.Scans.{IsLawfulScan, IsUpToLast}
 use Rattle.finite_map.specs.Weaves.{Event, LegalHistory, answered, calls_of, weave}
@@ -13,16 +15,18 @@ use Rattle.plain_index.proofs.InOrder.{weave-in_order}
 use Rattle.plain_index.proofs.Together.{woven-in_order_two}
 use Rattle.rowex_core.specs.declared.known.Known.{Known}
 use Rattle.rowex_core.proofs.Promises.{entries_in_reach, in_reach}
-use Rattle.seat_calls.specs.Answers.{IsCause}
+use Rattle.record_words.specs.declared.layout.Layout.{Layout}
+use Rattle.seat_calls.specs.Answers.{IsCause, MayRefuse, ScanLaw}
+use Rattle.seat_calls.specs.Many.{most_entries}
 use Rattle.hot_index.proofs.Alone.{one_pass_is_never_busy}
 use Rattle.hot_index.proofs.Stamped.{returned_before_begun}
+use Rattle.real_time.specs.Moments.{Happening, IsWholeRun, Moment}
 use Rattle.real_time.specs.Scanning.{IsScanInTime}
-use Rattle.real_time.proofs.Replies.{behind, effect}
+use Rattle.real_time.proofs.Replies.{behind, effect, replies_in_time}
 use Rattle.real_time.proofs.Scanning.{scans_in_time}
-use Rattle.real_time.proofs.Whole.{linearizable}
-use Rattle.index_laws.specs.Headline.{Freshness, Headline, History, OneHistory, Refusals, LawfulScans, BoundedSteps}
+use Rattle.index_laws.specs.Headline.{BoundedSteps, Freshness, FreshnessOfMany, Headline, History, NeverRefused, OneHistory, Refusals, ScansShow}
 use Rattle.index_laws.proofs.Living.{one_history_of_all}
-use Rattle.index_laws.proofs.Timed.{legal_now, noted_placed, responses}
+use Rattle.index_laws.proofs.Timed.{executions_are_linearizable, legal_now, noted_placed, responses, returned_responds}
 
 calls-append : (ns : List Note) (n : Note) → calls_of (ns ++ n ∷ []) ≡ calls_of ns ++ answered n.call n.reply ∷ []
 calls-append [] n = refl
@@ -53,16 +57,40 @@ freshness layout last at happens run q t below within call s e ends asked reply 
 loaded_in : (k l : Known) (i j : Known) → i ≡ k → j ≡ l → i.steps ≤ j.fresh.step → k.steps ≤ l.fresh.step
 loaded_in k l i j before now h = subst (λ (z : Known). z.steps ≤ l.fresh.step) before (subst (λ (z : Known). i.steps ≤ z.fresh.step) now h)
 
-scans : LawfulScans
-scans layout last at happens run q t below within call s e ends from upto limit scan = (
-  λ scanned. (in_run scanned.on.now.0).0 (subst (λ (z : Known). IsLawfulScan z.fresh.front z.front from upto limit scan) ends.now scanned.lawful),
-  λ scanned. (in_run scanned.on.now.0).1 (subst (λ (z : Known). IsLawfulReverseScan z.fresh.front z.front from upto limit scan) ends.now scanned.lawful),
+freshness_of_many : FreshnessOfMany
+freshness_of_many layout last at happens run q t below within call s e ends notes x =
+    replies_in_time layout last at happens run q t call notes below within (returned_responds layout last at happens run q t below within call notes (s, e, ends, inr (inl x)))
+
+-- what is lawful by one of the two laws shows the maps of the run
+module _ (IsLawful : ScanLaw) (IsReached : Map → List ℕ → Type 0)
+    (shows : (layout : Layout) (last : ℕ) (at : ℕ → Moment) (happens : ℕ → Happening) → IsWholeRun layout last at happens → (q since until : ℕ) → q < layout.passes → since ≤ until →
+    until ≤ last → ((at since).known q).steps ≤ ((at until).known q).fresh.step → (from upto : List ℕ) (limit : ℕ) (scan : Scan) →
+    IsLawful ((at until).known q).fresh.front ((at until).known q).front from upto limit scan → IsScanInTime IsReached at since until from upto scan) where
+  scans_show : ScansShow IsLawful IsReached
+  scans_show layout last at happens run q t below within call s e ends from upto limit scan x = ⊎_elim (λ y. shown y.on.now.0 y.lawful) (λ y. shown y.on.now.0 (y.lawful scan refl refl)) x
+    where
+      shown : s.known.steps ≤ e.known.fresh.step → IsLawful e.known.fresh.front e.known.front from upto limit scan →
+          IsLawful e.known.fresh.front e.known.front from upto limit scan × IsScanInTime IsReached at call.since t from upto scan
+      shown h lawful = (
+        lawful,
+        shows layout last at happens run q call.since t below ends.later within (loaded_in ((at call.since).known q) ((at t).known q) s.known e.known ends.before ends.now h) from upto limit scan
+            (subst (λ (z : Known). IsLawful z.fresh.front z.front from upto limit scan) ends.now lawful),
+      )
+
+scans : ScansShow IsLawfulScan IsUpToLast
+scans = scans_show IsLawfulScan IsUpToLast
+    (λ layout last at happens run q since until pass order within loaded from upto limit scan. (scans_in_time layout last at happens run q since until pass order within loaded from upto limit scan).0)
+
+reverse_scans : ScansShow IsLawfulReverseScan IsDownToLast
+reverse_scans = scans_show IsLawfulReverseScan IsDownToLast
+    (λ layout last at happens run q since until pass order within loaded from upto limit scan. (scans_in_time layout last at happens run q since until pass order within loaded from upto limit scan).1)
+
+never_refused : NeverRefused
+never_refused call fault may key = (
+  λ e. subst (λ c. MayRefuse c fault) e may,
+  λ full e. subst (MayRefuse (Remove key)) full (subst (λ c. MayRefuse c fault) e may),
+  λ full expected e. subst (MayRefuse (RemoveIf key expected)) full (subst (λ c. MayRefuse c fault) e may),
 )
-  where
-    in_run : s.known.steps ≤ e.known.fresh.step →
-        (IsLawfulScan ((at t).known q).fresh.front ((at t).known q).front from upto limit scan → IsScanInTime IsUpToLast at call.since t from upto scan) ×
-        (IsLawfulReverseScan ((at t).known q).fresh.front ((at t).known q).front from upto limit scan → IsScanInTime IsDownToLast at call.since t from upto scan)
-    in_run h = scans_in_time layout last at happens run q call.since t below ends.later within (loaded_in ((at call.since).known q) ((at t).known q) s.known e.known ends.before ends.now h) from upto limit scan
 
 refusals : Refusals
 refusals layout call k j fault refused legal =
@@ -74,12 +102,17 @@ refusals layout call k j fault refused legal =
       λ alone busy. one_pass_is_never_busy layout (key_of call) k j alone (subst (IsCause layout (key_of call) k j) busy refused.cause),
     )
 
+few_entries : (j k count entries most : ℕ) → j ≤ k + 4 + 34 * count + 29 * entries → entries ≤ most → j ≤ k + 4 + 34 * count + 29 * most
+few_entries j k count entries most few depth = omega (arith, few, depth)
+
 steps : BoundedSteps
 steps = record {
   get = λ index k j h. (let depth = h.depth in let few = h.few in omega (arith, depth, few));
+  get_many = λ index count k j h. few_entries j.steps k.steps count _ (count * most_entries) h.few h.depth;
   change = λ index result k j h. h.few;
   scan = λ index limit k j h. (let most = h.most in let few = h.few in omega (arith, most, few));
   collect = λ index nodes leaves k j h. h.few;
+  count = λ index counts k j h. (let many = h.many in omega (arith, many));
 }
 
 pub headline : Headline
@@ -87,12 +120,15 @@ headline = record {
   history = history;
   one_history = one_history;
   one_history_of_all = one_history_of_all;
-  linearizable = linearizable;
+  linearizable = executions_are_linearizable;
   responses = responses;
   freshness = freshness;
+  freshness_of_many = freshness_of_many;
   order_in_time = returned_before_begun;
   scans = scans;
+  reverse_scans = reverse_scans;
   refusals = refusals;
+  never_refused = never_refused;
   steps = steps;
   out_of_reach = in_reach;
   entries_in_reach = entries_in_reach;

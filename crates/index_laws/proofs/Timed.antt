@@ -1,8 +1,10 @@
 -- The opening of a run, and calls whose contracts say how they ended as calls of a run.
-use Rattle.std.proofs.Common.{◌≡◌, inl, inr, ℕ, ◌<◌, ◌≤◌, List, [], ◌∷◌, ◌++◌, length, map, refl, sym, ap, subst, ◌∙◌, arith, le_refl, le_trans, append-nil}
+use Rattle.std.proofs.Common.{◌≡◌, inl, inr, ℕ, zero, suc, ◌<◌, ◌≤◌, List, [], ◌∷◌, ◌++◌, length, map, refl, sym, ap, subst, ◌∙◌, arith, ⊎_elim, le_refl, le_trans, append-nil}
 use Rattle.std.specs.Prelude.{get_or}
+use Rattle.std.proofs.lemmas.Bool.{cases_eq}
 use Rattle.std.proofs.lemmas.List.Elements.{All-cons, All-from_recursion, All-nil}
 use Rattle.finite_map.specs.declared.Call.{Call}
+use Rattle.finite_map.specs.declared.Call.TheVariants.{Insert, Upsert, Exchange, Get, Remove, RemoveIf}
 use Rattle.finite_map.specs.declared.Note.{Note}
 use Rattle.finite_map.specs.declared.Reply.{Reply}
 use Rattle.finite_map.specs.Calls.{LegalCalls}
@@ -16,11 +18,14 @@ use Rattle.rowex_core.specs.Opening.{opening}
 use Rattle.rowex_core.proofs.Promises.{opening_is_lawful}
 use Rattle.rowex_table.specs.Rule.{opening_of}
 use Rattle.rowex_table.specs.Seats.{SeatView}
+use Rattle.rowex_writing.specs.declared.plan.Full.TheVariants.{Nodes, Leaves}
 use Rattle.seat_calls.specs.Answers.{IsNoted}
 use Rattle.seat_calls.specs.Passes.{pass_of}
-use Rattle.real_time.specs.Moments.{IsPlacedSince, Moment, Pending}
+use Rattle.real_time.specs.Moments.{Continues, Happening, IsPlacedSince, IsResponse, IsWholeRun, Moment, Pending, invokes, refuses, responds, shows, steps}
+use Rattle.real_time.proofs.Completing.{linearizable}
 use Rattle.real_time.proofs.Growing.{longer, runs_stay_sound}
-use Rattle.index_laws.specs.Statements.{IsReturning, ManyAreResponse, NotedIsResponse, OpeningIsNew, QuietIsResponse, Responses}
+use Rattle.index_laws.specs.Executions.{AreAnswered, Follows, IsExecution, IsQuiet, IsReturning}
+use Rattle.index_laws.specs.Statements.{ExecutionsAreLinearizable, ExecutionsAreRuns, LackMayRefuse, OpeningIsNew, RefusedIsRefused, Responses, ReturnedResponds}
 
 new_knows : (c : Core) (m : ℕ) → m < c.layout.passes → IsUntouched c m → Knows c (opening_of m)
 new_knows c m low h = record {
@@ -30,7 +35,7 @@ new_knows c m low h = record {
   own = h.own;
 }
 
-opening_is_new : OpeningIsNew
+pub opening_is_new : OpeningIsNew
 opening_is_new layout = record {
   sound = record {
     layout_is = refl;
@@ -60,13 +65,14 @@ noted_placed layout at q t call s e ends asked reply noted = record {
   low = subst (λ (z : Known). length z.fresh.front ≤ noted.place) ends.now noted.low;
 }
 
-noted_is_response : NotedIsResponse
+noted_is_response : (layout : Layout) (at : ℕ → Moment) (q t : ℕ) (call : Pending) (s e : SeatView) → IsReturning layout at q t call s e → (asked : Call) (reply : Reply) → call.calls ≡ asked ∷ [] →
+    (noted : IsNoted layout (pass_of s) (pass_of e) asked reply) → IsResponse at t q call (record { place = noted.place; call = asked; reply = reply } ∷ [])
 noted_is_response layout at q t call s e ends asked reply calls noted =
     let n : Note = record { place = noted.place; call = asked; reply = reply } in
     let since : ℕ = call.since in
     record {
       called = ends.pending;
-      calls = inr (sym calls);
+      calls = sym calls;
       noted = noted_now ((at t).known q) ((at since).known q) e.known s.known (n ∷ []) ends.now ends.before noted.notes;
       placed = All-cons (IsPlacedSince at q since t) n [] (noted_placed layout at q t call s e ends asked reply noted) (All-nil (IsPlacedSince at q since t));
       legal = legal_now q ((at t).known q) e.known ends.now ends.pass noted.legal;
@@ -79,8 +85,17 @@ calls_same added asked e = firsts added ∙ ap (λ xs. map (λ (x : Call × Repl
     firsts [] = refl
     firsts (n ∷ ns) = ap (λ z. n.call ∷ z) (firsts ns)
 
-many_are_response : ManyAreResponse
-many_are_response layout last at happens run q t call s e low within ends m from upto f between sees asked calls noted places =
+many_are_response : (layout : Layout) (last : ℕ) (at : ℕ → Moment) (happens : ℕ → Happening) → IsWholeRun layout last at happens → (q t : ℕ) (call : Pending) (s e : SeatView) → q < layout.passes →
+    t ≤ last → IsReturning layout at q t call s e → (notes : List Note) → (x : AreAnswered layout at q t call s e notes) → IsResponse at t q call x.noted.added
+many_are_response layout last at happens run q t call s e low within ends notes x =
+    let m : ℕ = x.m in
+    let f : SeatView = x.f in
+    let noted = x.noted in
+    let from = x.since in
+    let upto = x.until in
+    let between = x.first in
+    let sees = x.sees in
+    let places = x.fresh in
     let since : ℕ = call.since in
     let sound = runs_stay_sound layout last at happens run m (omega (arith, upto, within)) in
     let shown : BeginsWith ((at m).known q).front ((at m).known q).fresh.front = (sound.knows q low).seen.fresh in
@@ -89,7 +104,7 @@ many_are_response layout last at happens run q t call s e low within ends m from
     let loaded : s.known.steps ≤ f.known.fresh.step = subst (λ (z : Fresh). s.known.steps ≤ z.step) (sym sees.fresh) sees.since in
     record {
       called = ends.pending;
-      calls = inr (calls_same noted.added asked noted.calls_are ∙ calls);
+      calls = calls_same noted.added x.asked noted.calls_are ∙ x.calls;
       noted = noted_now ((at t).known q) ((at since).known q) e.known s.known noted.added ends.now ends.before noted.notes;
       placed = λ k d inside.
           (let place : length f.known.front ≤ (get_or noted.added k d).place = places k d inside in
@@ -104,14 +119,68 @@ many_are_response layout last at happens run q t call s e low within ends m from
       legal = legal_now q ((at t).known q) e.known ends.now ends.pass noted.legal;
     }
 
-quiet_is_response : QuietIsResponse
-quiet_is_response layout at q t call s e ends same legal = record {
+quiet_is_response : (layout : Layout) (at : ℕ → Moment) (q t : ℕ) (call : Pending) (s e : SeatView) → IsReturning layout at q t call s e → (notes : List Note) →
+    IsQuiet call (pass_of s) (pass_of e) notes → IsResponse at t q call []
+quiet_is_response layout at q t call s e ends notes x = record {
   called = ends.pending;
-  calls = inl refl;
-  noted = noted_now ((at t).known q) ((at call.since).known q) e.known s.known [] ends.now ends.before (same ∙ sym (append-nil s.known.notes));
+  calls = sym x.calls;
+  noted = noted_now ((at t).known q) ((at call.since).known q) e.known s.known [] ends.now ends.before (x.same ∙ sym (append-nil s.known.notes));
   placed = All-nil (IsPlacedSince at q call.since t);
-  legal = legal_now q ((at t).known q) e.known ends.now ends.pass legal;
+  legal = legal_now q ((at t).known q) e.known ends.now ends.pass x.legal;
 }
 
+pub returned_responds : ReturnedResponds
+returned_responds layout last at happens run q t below within call notes (s, e, ends, inl x) =
+    subst (IsResponse at t q call) (sym x.notes_are) (noted_is_response layout at q t call s e ends x.asked x.reply x.calls x.noted)
+returned_responds layout last at happens run q t below within call notes (s, e, ends, inr (inl x)) =
+    subst (IsResponse at t q call) (sym x.notes_are) (many_are_response layout last at happens run q t call s e below within ends notes x)
+returned_responds layout last at happens run q t below within call notes (s, e, ends, inr (inr x)) =
+    subst (IsResponse at t q call) (sym x.notes_are) (quiet_is_response layout at q t call s e ends notes x)
+
+refused_is_refused : RefusedIsRefused
+refused_is_refused layout at q t call (s, e, asked, fault, ends, calls, refused, may) = record {
+  called = ends.pending;
+  noted = sym (ap (λ (z : Known). z.notes) ends.now) ∙ refused.unnoted.notes ∙ ap (λ (z : Known). z.notes) ends.before;
+  legal = legal_now q ((at t).known q) e.known ends.now ends.pass refused.unnoted.legal;
+}
+
+lack_may_refuse : LackMayRefuse
+lack_may_refuse (Insert key value) Nodes lack = tt
+lack_may_refuse (Insert key value) Leaves lack = tt
+lack_may_refuse (Upsert key value) Nodes lack = tt
+lack_may_refuse (Upsert key value) Leaves lack = tt
+lack_may_refuse (Exchange key expected value) Nodes lack = tt
+lack_may_refuse (Exchange key expected value) Leaves lack = tt
+lack_may_refuse (Get key) Nodes lack = lack
+lack_may_refuse (Get key) Leaves lack = lack
+lack_may_refuse (Remove key) Nodes lack = tt
+lack_may_refuse (Remove key) Leaves lack = lack
+lack_may_refuse (RemoveIf key expected) Nodes lack = tt
+lack_may_refuse (RemoveIf key expected) Leaves lack = lack
+
+-- Executions
+
+module _ (layout : Layout) (at : ℕ → Moment) (happens : ℕ → Happening) where
+  continues : (t : ℕ) → IsWholeRun layout t at happens → (h : Happening) → Follows layout at t h → Continues layout at t h
+  continues t run (steps q act notes) x = x
+  continues t run (shows q front) x = x
+  continues t run (invokes q calls) x = x
+  continues t run (responds q notes) x = (x.0, returned_responds layout t at happens run q t x.2.pass (le_refl t) x.0 notes x.1, x.2)
+  continues t run (refuses q) x = (x.0, refused_is_refused layout at q t x.0 x.1, x.2)
+
+  runs_until : (last : ℕ) → IsExecution layout last at happens → (t : ℕ) → t ≤ last → IsWholeRun layout t at happens
+  runs_until last x zero low = record { new = x.new; next = λ k lower. absurd (omega arith) }
+  runs_until last x (suc t) low =
+      let run = runs_until last x t (omega arith) in record {
+        new = x.new;
+        next = λ k lower. ⊎_elim (λ e. subst (λ j. Continues layout at j (happens j)) (sym e) (continues t run (happens t) (x.next t low))) (λ ne. run.next k (omega arith)) (cases_eq k t);
+      }
+
+pub executions_are_runs : ExecutionsAreRuns
+executions_are_runs layout last at happens x = runs_until layout at happens last x last (le_refl last)
+
+pub executions_are_linearizable : ExecutionsAreLinearizable
+executions_are_linearizable layout last later at happens low x ends = linearizable layout last later at happens low (executions_are_runs layout later at happens x) ends
+
 pub responses : Responses
-responses = record { opening = opening_is_new; noted = noted_is_response; many = many_are_response; quiet = quiet_is_response }
+responses = record { opening = opening_is_new; returned = returned_responds; refused = refused_is_refused; lacks = lack_may_refuse; runs = executions_are_runs }

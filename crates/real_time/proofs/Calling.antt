@@ -15,7 +15,7 @@ use Rattle.plain_index.specs.Times.{noted}
 use Rattle.record_words.specs.declared.layout.Layout.{Layout}
 use Rattle.rowex_core.specs.declared.known.Known.{Known}
 use Rattle.real_time.specs.Histories.{answers, complete_calls}
-use Rattle.real_time.specs.Moments.{Continues, Happening, IsSoundMoment, IsWholeRun, Moment, Pending, invokes, responds, shows, steps}
+use Rattle.real_time.specs.Moments.{Continues, Happening, IsSoundMoment, IsWholeRun, Moment, Pending, invokes, refuses, responds, shows, steps}
 use Rattle.real_time.proofs.Growing.{cancelled, runs_stay_sound}
 use Rattle.real_time.proofs.Passes.{notes_more, notes_same, passes_below}
 
@@ -84,6 +84,11 @@ module _ (layout : Layout) (at : ℕ → Moment) (t : ℕ) (s : IsSoundMoment la
       (subst (λ (f : ℕ → Known). legal_in q (f q)) (sym x.2.known) (subst (λ k. legal_in k ((at t).known k)) (sym e) x.1.legal)))
       (λ ne. subst (LegalUpTo at q (suc t)) (sym (x.2.others q ne)) (goes_on at q t ((at t).pending q) h (λ none legal. subst (λ (f : ℕ → Known). legal_in q (f q)) (sym x.2.known) legal)))
       (cases_eq q p)
+  next_legal (refuses p) x h = ⊎_elim
+      (λ e. subst (LegalUpTo at q (suc t)) (sym (ap (λ k. (at (suc t)).pending k) e ∙ x.2.own))
+      (subst (λ (f : ℕ → Known). legal_in q (f q)) (sym x.2.known) (subst (λ k. legal_in k ((at t).known k)) (sym e) x.1.legal)))
+      (λ ne. subst (LegalUpTo at q (suc t)) (sym (x.2.others q ne)) (goes_on at q t ((at t).pending q) h (λ none legal. subst (λ (f : ℕ → Known). legal_in q (f q)) (sym x.2.known) legal)))
+      (cases_eq q p)
 
 -- which pass notes what between two moments, and that no other does
 module _ (layout : Layout) (at : ℕ → Moment) (t : ℕ) where
@@ -122,6 +127,13 @@ module _ (layout : Layout) (at : ℕ → Moment) (t : ℕ) where
       ap (notes_up_to at p (suc t)) x.2.own ∙ ap (λ (f : ℕ → Known). (f p).notes) x.2.known ∙ x.1.noted ∙ ap (λ ns. ns ++ notes) (sym (ap (notes_up_to at p t) x.1.called)),
       λ q ne. turns q x.2.known (x.2.others q ne),
     ),
+  )
+  next_notes (refuses p) x = inl (
+    λ q. ⊎_elim
+        (λ e. subst (λ k. notes_at (suc t) k ≡ notes_at t k) (sym e)
+        (ap (notes_up_to at p (suc t)) x.2.own ∙ ap (λ (f : ℕ → Known). (f p).notes) x.2.known ∙ x.1.noted ∙ sym (ap (notes_up_to at p t) x.1.called)))
+        (λ ne. turns q x.2.known (x.2.others q ne)) (cases_eq q p),
+    refl,
   )
 
 -- the notes of calls with one label

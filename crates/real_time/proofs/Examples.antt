@@ -1,13 +1,17 @@
 -- Worked examples: which calls a history has, and how a pending call is completed.
-use Rattle.std.proofs.Common.{◌≡◌, ℕ, List, [], ◌∷◌, get_or, true, false, refl}
+use Rattle.std.proofs.Common.{◌≡◌, ◌≢◌, inl, inr, ℕ, [], ◌∷◌, get_or, Some, None, refl, sym, subst, ◌∙◌}
+use Rattle.std.specs.Prelude.{All}
+use Rattle.std.proofs.lemmas.List.Elements.{All-head, All-nil}
 use Rattle.finite_map.specs.declared.Call.{Call}
 use Rattle.finite_map.specs.declared.Call.TheVariants.{Get, Insert, Upsert}
 use Rattle.finite_map.specs.declared.Change.{Change}
 use Rattle.finite_map.specs.declared.Kind.TheVariants.{Added}
 use Rattle.finite_map.specs.declared.Note.{Note}
 use Rattle.finite_map.specs.declared.Reply.TheVariants.{Inserted, New, Value}
-use Rattle.real_time.specs.Histories.{complete_calls, makers}
+use Rattle.real_time.specs.Effects.{makers}
+use Rattle.real_time.specs.Histories.{ChangesAsAsked, complete_calls, replied}
 use Rattle.real_time.specs.Moments.{Happening, invokes, responds, shows}
+use Rattle.real_time.proofs.Completing.{no_change}
 
 -- Pass 0 inserts a key, and is answered; then pass 1, which it never meets, gets it.
 
@@ -42,3 +46,27 @@ not_the_others = refl
 -- were the call that was invoked not the one that makes the change, an upsert with this effect would stand for it
 completed_by_effect : makers 0 (Get (1 ∷ []) ∷ []) [] (added ∷ []) ≡ record { place = 0; call = Upsert (1 ∷ []) 5; reply = New } ∷ []
 completed_by_effect = refl
+
+-- So that pending insert has changed the map as it asks; and a get that had made this change would not have.
+changed_as_asked : ChangesAsAsked 0 (Insert (1 ∷ []) 5 ∷ []) [] (added ∷ [])
+changed_as_asked = inr (
+  Insert (1 ∷ []) 5,
+  refl,
+  record {
+    meanwhile = [];
+    change = added;
+    until = ([], refl, All-nil (λ (c : Change). c.pass ≢ 0));
+    made = refl;
+    since = ([], refl, All-nil (λ (c : Change). c.pass ≢ 0));
+  },
+)
+
+no_get : ChangesAsAsked 0 (Get (1 ∷ []) ∷ []) [] (added ∷ []) → ⊥
+no_get (inl others) = All-head (λ (c : Change). c.pass ≢ 0) added [] (subst (All (λ c. c.pass ≢ 0)) (sym others.1) others.2) refl
+no_get (inr (asked, is, once)) = none_made once.change (sym (no_change 0 (replied once.meanwhile asked) (1 ∷ []) (asked_is asked is)) ∙ once.made)
+  where
+    asked_is : (asked : Call) → Get (1 ∷ []) ∷ [] ≡ asked ∷ [] → asked ≡ Get (1 ∷ [])
+    asked_is asked e = cc
+
+    none_made : (c : Change) → None ≡ Some c → ⊥
+    none_made c e = cc

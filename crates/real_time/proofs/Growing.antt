@@ -17,7 +17,7 @@ use Rattle.rowex_core.specs.Knowing.{Knows, learned}
 use Rattle.rowex_core.proofs.Keeping.{keeps}
 use Rattle.rowex_core.proofs.Learning.{learns}
 use Rattle.rowex_core.proofs.Staying.{stays_lawful}
-use Rattle.real_time.specs.Moments.{Continues, Happening, IsCallTurn, IsMomentStep, IsShowing, IsSoundMoment, IsWholeRun, Moment, Pending, invokes, responds, shows, steps}
+use Rattle.real_time.specs.Moments.{Continues, Happening, IsCallTurn, IsMomentStep, IsShowing, IsSoundMoment, IsWholeRun, Moment, Pending, invokes, refuses, responds, shows, steps}
 use Rattle.real_time.specs.Statements.{RunsAreEvents, RunsStaySound}
 use Rattle.rowex_core.specs.declared.event.Event.{Event}
 use Rattle.rowex_core.specs.Runs.{EventsLead}
@@ -126,12 +126,14 @@ module _ (layout : Layout) (at : ℕ → Moment) (t : ℕ) (s : IsSoundMoment la
   next_sound (shows q front) x = shown_sound layout (at t) (at (suc t)) s q front x
   next_sound (invokes q calls) x = turn_sound layout (at t) (at (suc t)) s q (Some (record { since = t; calls = calls })) x.1
   next_sound (responds q notes) x = turn_sound layout (at t) (at (suc t)) s q None x.2
+  next_sound (refuses q) x = turn_sound layout (at t) (at (suc t)) s q None x.2
 
   pub next_grows : (h : Happening) → Continues layout at t h → BeginsWith (at (suc t)).core.changes (at t).core.changes
   next_grows (steps q act notes) x = step_grows layout (at t) (at (suc t)) s q act notes x
   next_grows (shows q front) x = subst (λ (z : Core). BeginsWith z.changes (at t).core.changes) (sym x.core) (begins_itself (at t).core.changes)
   next_grows (invokes q calls) x = turn_grows layout (at t) (at (suc t)) s q (Some (record { since = t; calls = calls })) x.1
   next_grows (responds q notes) x = turn_grows layout (at t) (at (suc t)) s q None x.2
+  next_grows (refuses q) x = turn_grows layout (at t) (at (suc t)) s q None x.2
 
 -- what a moment teaches a pass of the root: nothing, or all changes
 pub next_teaches : (layout : Layout) (at : ℕ → Moment) (t : ℕ) (h : Happening) → Continues layout at t h → (o : ℕ) →
@@ -145,6 +147,7 @@ next_teaches layout at t (shows q front) x o = ⊎_elim
     (λ ne. inl (ap (λ (z : Known). z.fresh) (x.others o ne))) (cases_eq o q)
 next_teaches layout at t (invokes q calls) x o = inl (ap (λ (z : ℕ → Known). (z o).fresh) x.1.known)
 next_teaches layout at t (responds q notes) x o = inl (ap (λ (z : ℕ → Known). (z o).fresh) x.2.known)
+next_teaches layout at t (refuses q) x o = inl (ap (λ (z : ℕ → Known). (z o).fresh) x.2.known)
 
 -- Runs
 
@@ -192,6 +195,7 @@ events_next layout c at t (steps q act notes) x (events, h) = (events ++ record 
 events_next layout c at t (shows q front) x (events, h) = (events, subst (EventsLead c events) (sym x.core) h)
 events_next layout c at t (invokes q calls) x (events, h) = (events, subst (EventsLead c events) (sym x.1.core) h)
 events_next layout c at t (responds q notes) x (events, h) = (events, subst (EventsLead c events) (sym x.2.core) h)
+events_next layout c at t (refuses q) x (events, h) = (events, subst (EventsLead c events) (sym x.2.core) h)
 
 pub runs_are_events : RunsAreEvents
 runs_are_events layout last at happens run zero within = ([], refl)

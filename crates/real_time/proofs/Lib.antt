@@ -7,5 +7,7 @@ pub mod Hits
 pub mod Makers
 pub mod Calling
 pub mod Whole
+pub mod Asking
+pub mod Completing
 pub mod Scanning
 pub mod Replies

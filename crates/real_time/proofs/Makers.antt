@@ -17,7 +17,8 @@ use Rattle.finite_map.proofs.Growth.{legal_front_push, map_of-push}
 use Rattle.finite_map.proofs.Held.{same_from_at}
 use Rattle.finite_map.proofs.Legal.{legal_change, legal_longer, pass-change_of}
 use Rattle.rowex_core.specs.Statements.{call_of_kind}
-use Rattle.real_time.specs.Histories.{is_this, maker, makers, replied, same_kind}
+use Rattle.real_time.specs.Effects.{is_this, maker, makers, same_kind}
+use Rattle.real_time.specs.Histories.{replied}
 
 -- Which change
 

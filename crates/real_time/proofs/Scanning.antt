@@ -22,7 +22,7 @@ use Rattle.rowex_core.specs.Cores.{Core}
 use Rattle.rowex_core.specs.Statements.{Appends}
 use Rattle.rowex_core.proofs.Appending.{only_publish_appends}
 use Rattle.rowex_core.proofs.Keeping.{seen_by}
-use Rattle.real_time.specs.Moments.{Continues, Happening, IsWholeRun, Moment, invokes, responds, shows, steps}
+use Rattle.real_time.specs.Moments.{Continues, Happening, IsWholeRun, Moment, invokes, refuses, responds, shows, steps}
 use Rattle.real_time.specs.Scanning.{IsScanInTime, WasHeld}
 use Rattle.real_time.specs.Statements.{ScansInTime}
 use Rattle.real_time.proofs.Growing.{grown, loaded_since, longer, runs_stay_sound}
@@ -41,6 +41,7 @@ next_at_most layout at t (steps q act notes) x = subst (λ (z : Core). length z.
 next_at_most layout at t (shows q front) x = same_at_most (at t).core (at (suc t)).core x.core
 next_at_most layout at t (invokes q calls) x = same_at_most (at t).core (at (suc t)).core x.1.core
 next_at_most layout at t (responds q notes) x = same_at_most (at t).core (at (suc t)).core x.2.core
+next_at_most layout at t (refuses q) x = same_at_most (at t).core (at (suc t)).core x.2.core
 
 -- Kept keys
 

@@ -1,7 +1,6 @@
--- The calls of a run are linearizable.
-use Rattle.std.proofs.Common.{◌≡◌, ◌≢◌, ℕ, zero, suc, ◌+◌, ◌-◌, ◌<◌, ◌≤◌, List, [], ◌∷◌, ◌++◌, length, drop, get_or, map, Bool, cond, nat_lt, Option, Some, None, refl, sym, ap, ap₂, subst, ◌∙◌, arith, ⊎_elim, le_refl, append-nil, append_assoc}
+-- Where responses complete the pending calls of a run, its calls have one order.
+use Rattle.std.proofs.Common.{◌≡◌, ◌≢◌, ℕ, zero, suc, ◌+◌, ◌-◌, ◌<◌, ◌≤◌, List, [], ◌∷◌, ◌++◌, length, get_or, map, Bool, cond, nat_lt, Option, Some, None, refl, sym, ap, ap₂, subst, ◌∙◌, arith, ⊎_elim, le_refl, append-nil, append_assoc}
 use Rattle.std.specs.Prelude.{All, AllPairs, IsPermutation}
-use Rattle.std.proofs.Math.Seq.{drop-append_seam}
 use Rattle.std.proofs.lemmas.Bool.{cases_lt, leb-true, lt-leb, lt-ltb, le-ltb}
 use Rattle.std.proofs.lemmas.List.Elements.{All-append, All-contains, All-map, All-nil, All-push, All-tail, All-weaker}
 use Rattle.std.proofs.lemmas.List.Quantifiers.{all_pairs_push}
@@ -9,40 +8,48 @@ use Rattle.std.proofs.lemmas.List.Sorted.{IsPermutation-append_left, IsPermutati
 use Rattle.finite_map.specs.declared.Change.{Change}
 use Rattle.finite_map.specs.declared.Note.{Note}
 use Rattle.finite_map.specs.Calls.{LegalCalls, StandsIn, place_after}
-use Rattle.finite_map.specs.Fronts.{LegalFrom, OthersGoOn}
-use Rattle.finite_map.specs.Weaves.{LegalHistory, calls_of, notes_of}
-use Rattle.finite_map.proofs.Legal.{legal_longer, place_after-within}
+use Rattle.finite_map.specs.Weaves.{LegalHistory, notes_of}
+use Rattle.finite_map.proofs.Legal.{place_after-within}
 use Rattle.plain_index.specs.Times.{FitsPlaces, IsInTime, noted}
 use Rattle.plain_index.proofs.InTime.{woven-in_time}
 use Rattle.record_words.specs.declared.layout.Layout.{Layout}
 use Rattle.rowex_core.proofs.Keeping.{seen_by}
-use Rattle.real_time.specs.Histories.{answers, complete_calls, completed, completion_of, had_responded, invoked, responder, since_of, stays}
-use Rattle.real_time.specs.Moments.{Continues, Happening, IsPlacedSince, IsResponse, IsSoundMoment, IsWholeRun, Moment, Pending, invokes, responds, shows, steps}
-use Rattle.real_time.specs.Statements.{Linearizable}
+use Rattle.real_time.specs.Histories.{answers, complete_calls, completed, had_responded, invoked, responder, since_of, stays}
+use Rattle.real_time.specs.Moments.{Continues, Happening, IsPlacedSince, IsResponse, IsSoundMoment, IsWholeRun, Moment, Pending, invokes, refuses, responds, shows, steps}
+use Rattle.real_time.specs.Statements.{HaveOneOrder}
 use Rattle.real_time.proofs.Calling.{LegalUpTo, calls_legal, noted-append, noted_at, notes_by, notes_complete, notes_up_to}
 use Rattle.real_time.proofs.Growing.{grown, loaded_since, longer, runs_stay_sound}
 use Rattle.real_time.proofs.Hits.{all_calls}
-use Rattle.real_time.proofs.Makers.{legal_on, makers_behind, makers_legal}
 use Rattle.real_time.proofs.Passes.{all_legal, notes_more, notes_same, passes_below}
 
-module _ (layout : Layout) (last : ℕ) (at : ℕ → Moment) (happens : ℕ → Happening) (run : IsWholeRun layout last at happens) where
+-- The notes complete pass q's call, if one is pending at the run's last moment: they are legal behind those of its calls that have responded,
+-- and stand at no place of a change that had been made before the call was invoked.
+pub record Completes (last : ℕ) (at : ℕ → Moment) (q : ℕ) (o : Option Pending) (notes : List Note) : Type 0 where
+  pub none : o ≡ None → notes ≡ []
+  pub legal : LegalCalls (at last).core.changes q (notes_up_to at q last o ++ notes)
+  pub placed : (call : Pending) → o ≡ Some call → All (λ n. length (at call.since).core.changes ≤ n.place) notes
+
+abbrev pub AllComplete : Layout → ℕ → (ℕ → Moment) → (ℕ → List Note) → Type 0
+AllComplete layout last at added = (q : ℕ) → q < layout.passes → Completes last at q ((at last).pending q) (added q)
+
+module _ (layout : Layout) (last : ℕ) (at : ℕ → Moment) (happens : ℕ → Happening) (run : IsWholeRun layout last at happens) (added : ℕ → List Note) (all : AllComplete layout last at added) where
   abbrev changes : List Change
   changes = (at last).core.changes
 
   abbrev goes : ℕ → Happening
-  goes = completed last at happens
+  goes = completed last happens added
 
   sound_at : (t : ℕ) → t ≤ last → IsSoundMoment layout (at t)
   sound_at = runs_stay_sound layout last at happens run
 
   goes_before : (t : ℕ) → t < last → goes t ≡ happens t
-  goes_before t low = ap (λ b. cond b (happens t) (responds (t - last) (completion_of at changes (t - last) ((at last).pending (t - last))))) (lt-ltb t last low)
+  goes_before t low = ap (λ b. cond b (happens t) (responds (t - last) (added (t - last)))) (lt-ltb t last low)
 
-  goes_behind : (n : ℕ) → goes (last + n) ≡ responds n (completion_of at changes n ((at last).pending n))
+  goes_behind : (n : ℕ) → goes (last + n) ≡ responds n (added n)
   goes_behind n =
       let e : last + n - last ≡ n = omega arith in
-      ap (λ b. cond b (happens (last + n)) (responds (last + n - last) (completion_of at changes (last + n - last) ((at last).pending (last + n - last))))) (le-ltb (last + n) last (omega arith))
-      ∙ ap (λ k. responds k (completion_of at changes k ((at last).pending k))) e
+      ap (λ b. cond b (happens (last + n)) (responds (last + n - last) (added (last + n - last)))) (le-ltb (last + n) last (omega arith))
+      ∙ ap (λ k. responds k (added k)) e
 
   stays_before : (t : ℕ) → t < last → stays last at t ≡ at t
   stays_before t low = ap (λ b. cond b (at t) (at last)) (lt-ltb t last low)
@@ -52,74 +59,48 @@ module _ (layout : Layout) (last : ℕ) (at : ℕ → Moment) (happens : ℕ →
 
   -- All calls, those of passes below n completed
 
-  abbrev completions : ℕ → List Note
-  completions q = completion_of at changes q ((at last).pending q)
-
   abbrev all_notes : ℕ → ℕ → List Note
-  all_notes n q = notes_by layout last at happens run last q ++ cond (nat_lt q n) (completions q) []
+  all_notes n q = notes_by layout last at happens run last q ++ cond (nat_lt q n) (added q) []
 
   same_calls : (t : ℕ) → t ≤ last → complete_calls goes t ≡ complete_calls happens t
   same_calls zero low = refl
   same_calls (suc t) low = ap₂ (λ xs h. xs ++ map (λ n. (t, n)) (answers h)) (same_calls t (omega arith)) (goes_before t (omega arith))
 
-  calls_more : (n m : ℕ) → m ≡ last + n → noted (complete_calls goes (suc m)) ≡ noted (complete_calls goes m) ++ completions n
+  calls_more : (n m : ℕ) → m ≡ last + n → noted (complete_calls goes (suc m)) ≡ noted (complete_calls goes m) ++ added n
   calls_more n m e =
       noted-append (complete_calls goes m) (map (λ x. (m, x)) (answers (goes m)))
       ∙ ap (λ ns. noted (complete_calls goes m) ++ ns) (noted_at m (answers (goes m)) ∙ ap (λ k. answers (goes k)) e ∙ ap answers (goes_behind n))
 
   others_stay : (n o : ℕ) → o ≢ n → all_notes (suc n) o ≡ all_notes n o
-  others_stay n o ne = ap (λ b. notes_by layout last at happens run last o ++ cond b (completions o) []) (⊎_elim
+  others_stay n o ne = ap (λ b. notes_by layout last at happens run last o ++ cond b (added o) []) (⊎_elim
       (λ low. lt-ltb o (suc n) (omega arith) ∙ sym (lt-ltb o n low))
       (λ high. le-ltb o (suc n) (omega arith) ∙ sym (le-ltb o n high)) (cases_lt o n))
 
-  own_more : (n : ℕ) → all_notes (suc n) n ≡ all_notes n n ++ completions n
+  own_more : (n : ℕ) → all_notes (suc n) n ≡ all_notes n n ++ added n
   own_more n =
       let base = notes_by layout last at happens run last n in
-      ap (λ b. base ++ cond b (completions n) []) (lt-ltb n (suc n) (omega arith))
-      ∙ ap (λ xs. xs ++ completions n) (sym (ap (λ b. base ++ cond b (completions n) []) (le-ltb n n (le_refl n)) ∙ append-nil base))
+      ap (λ b. base ++ cond b (added n) []) (lt-ltb n (suc n) (omega arith))
+      ∙ ap (λ xs. xs ++ added n) (sym (ap (λ b. base ++ cond b (added n) []) (le-ltb n n (le_refl n)) ∙ append-nil base))
 
   completed_notes : (n m : ℕ) → n ≤ layout.passes → m ≡ last + n → IsPermutation (notes_of (passes_below (all_notes n) layout.passes)) (noted (complete_calls goes m))
   completed_notes zero m low e = subst (λ k. IsPermutation (notes_of (passes_below (all_notes 0) layout.passes)) (noted (complete_calls goes k))) (let f : last ≡ m = omega arith in f)
       (subst (λ l. IsPermutation (notes_of (passes_below (all_notes 0) layout.passes)) (noted l)) (sym (same_calls last (le_refl last)))
       (subst (λ l. IsPermutation l (noted (complete_calls happens last)))
-      (notes_same (notes_by layout last at happens run last) (all_notes 0) layout.passes (λ o _. ap (λ b. notes_by layout last at happens run last o ++ cond b (completions o) []) (le-ltb o 0 (omega arith)) ∙ append-nil (notes_by layout last at happens run last o)))
+      (notes_same (notes_by layout last at happens run last) (all_notes 0) layout.passes (λ o _. ap (λ b. notes_by layout last at happens run last o ++ cond b (added o) []) (le-ltb o 0 (omega arith)) ∙ append-nil (notes_by layout last at happens run last o)))
       (notes_complete layout last at happens run last (le_refl last))))
   completed_notes (suc n) zero low e = absurd (omega arith)
   completed_notes (suc n) (suc m) low e =
       let at_m : m ≡ last + n = omega arith in
       let before = completed_notes n m (omega arith) at_m in
       subst (IsPermutation (notes_of (passes_below (all_notes (suc n)) layout.passes))) (sym (calls_more n m at_m))
-      (IsPermutation-trans _ _ _ (IsPermutation-sym _ _ (notes_more (all_notes n) (all_notes (suc n)) n (completions n) (own_more n) (others_stay n) layout.passes (omega arith)))
-      (IsPermutation-append_left (completions n) _ _ before))
+      (IsPermutation-trans _ _ _ (IsPermutation-sym _ _ (notes_more (all_notes n) (all_notes (suc n)) n (added n) (own_more n) (others_stay n) layout.passes (omega arith)))
+      (IsPermutation-append_left (added n) _ _ before))
 
   -- They are legal
 
-  change_legal : LegalFrom [] changes
-  change_legal = (sound_at last (le_refl last)).lawful.core.told.legal
-
-  -- what has been made since a moment
-  since_then : (s : ℕ) → s ≤ last → changes ≡ (at s).core.changes ++ drop (length (at s).core.changes) changes
-  since_then s low =
-      let more = grown layout last at happens run s last low (le_refl last) in
-      more.1 ∙ ap (λ l. (at s).core.changes ++ l) (sym (ap (drop (length (at s).core.changes)) more.1 ∙ drop-append_seam (at s).core.changes more.0))
-
-  others_at : (t : ℕ) → t ≤ last → (q : ℕ) → q < layout.passes → OthersGoOn q ((at t).known q).front (at t).core.changes
-  others_at t low q below = let s = sound_at t low in subst (λ z. OthersGoOn z ((at t).known q).front (at t).core.changes) (s.named q below) (s.knows q below).seen.front
-
-  legal_with : (q : ℕ) → q < layout.passes → (o : Option Pending) → LegalUpTo at q last o → LegalCalls changes q (notes_up_to at q last o ++ completion_of at changes q o)
-  legal_with q below None h = subst (LegalCalls changes q) (sym (append-nil ((at last).known q).notes))
-      (legal_longer ((at last).known q).front changes q ((at last).known q).notes h (others_at last (le_refl last) q below) change_legal)
-  legal_with q below (Some call) h =
-      let s : ℕ = call.since in
-      let low : s ≤ last = (let l = h.0 in omega (arith, l)) in
-      let seen : List Change = (at s).core.changes in
-      let then = legal_longer ((at s).known q).front seen q ((at s).known q).notes h.1 (others_at s low q below) (sound_at s low).lawful.core.told.legal in
-      subst (λ l. LegalCalls l q (((at s).known q).notes ++ completion_of at changes q (Some call))) (sym (since_then s low))
-      (makers_legal q call.calls (drop (length seen) changes) seen ((at s).known q).notes then (legal_on [] seen (drop (length seen) changes) (subst (LegalFrom []) (since_then s low) change_legal)))
-
   all_notes_legal : (q : ℕ) → q < layout.passes → LegalCalls changes q (all_notes layout.passes q)
-  all_notes_legal q low = subst (LegalCalls changes q) (sym (ap (λ b. notes_by layout last at happens run last q ++ cond b (completions q) []) (lt-ltb q layout.passes low)))
-      (legal_with q low ((at last).pending q) (calls_legal layout last at happens run last (le_refl last) q low))
+  all_notes_legal q low = subst (LegalCalls changes q) (sym (ap (λ b. notes_by layout last at happens run last q ++ cond b (added q) []) (lt-ltb q layout.passes low)))
+      (all q low).legal
 
   -- In the order of time
 
@@ -180,22 +161,20 @@ module _ (layout : Layout) (last : ℕ) (at : ℕ → Moment) (happens : ℕ →
   timed_response t low (steps q act notes) is x = All-nil IsTimed
   timed_response t low (shows q front) is x = All-nil IsTimed
   timed_response t low (invokes q calls) is x = All-nil IsTimed
+  timed_response t low (refuses q) is x = All-nil IsTimed
   timed_response t low (responds q notes) is x = timed_notes t low q notes is x.0 x.1 x.2.pass
 
-  timed_completion : (n m : ℕ) → n < layout.passes → m ≡ last + n → (o : Option Pending) → (at last).pending n ≡ o → All IsTimed (map (λ x. (m, x)) (completion_of at changes n o))
-  timed_completion n m low e None is = All-nil IsTimed
+  timed_completion : (n m : ℕ) → n < layout.passes → m ≡ last + n → (o : Option Pending) → (at last).pending n ≡ o → All IsTimed (map (λ x. (m, x)) (added n))
+  timed_completion n m low e None is = subst (λ ns. All IsTimed (map (λ x. (m, x)) ns)) (sym ((all n low).none is)) (All-nil IsTimed)
   timed_completion n m low e (Some call) is =
       let s : ℕ = call.since in
       let early : s < last = (subst (LegalUpTo at n last) is (calls_legal layout last at happens run last (le_refl last) n low)).0 in
       let begun_at : begun m ≡ s = begun_behind n m e ∙ ap since_of is in
-      let within : s ≤ last = omega (arith, early) in
-      let rest = drop (length (at s).core.changes) changes in
-      let places = makers_behind n call.calls rest (at s).core.changes (length (at s).core.changes) (le_refl (length (at s).core.changes))
-      (legal_on [] (at s).core.changes rest (subst (LegalFrom []) (since_then s within) change_legal)) in
-      All-map IsTimed (λ x. (m, x)) (completion_of at changes n (Some call)) (λ k d inside. record {
+      let places : All (λ x. length (at s).core.changes ≤ x.place) (added n) = (all n low).placed call is in
+      All-map IsTimed (λ x. (m, x)) (added n) (λ k d inside. record {
         before = subst (λ k. k < m) (sym begun_at) (omega (arith, early, e));
         within = subst (λ k. k < last) (sym begun_at) early;
-        low = subst (λ j. length (at j).core.changes ≤ (get_or (completion_of at changes n (Some call)) k d).place) (sym begun_at) (places k d inside);
+        low = subst (λ j. length (at j).core.changes ≤ (get_or (added n) k d).place) (sym begun_at) (places k d inside);
         high = λ no. absurd (omega (arith, no, e));
       })
 
@@ -232,21 +211,21 @@ in_turn : (g : ℕ → Happening) (t : ℕ) → AllPairs Rises (complete_calls g
 in_turn g zero = λ i j d lt within. absurd (omega arith)
 in_turn g (suc t) = all_later t (answers (g t)) (complete_calls g t) (in_turn g t) (All-weaker (λ x. x.0 < t) (λ x. x.0 ≤ t) (λ x h. omega arith) (complete_calls g t) (all_below g t))
 
-module _ (layout : Layout) (last : ℕ) (at : ℕ → Moment) (happens : ℕ → Happening) (run : IsWholeRun layout last at happens) where
+module _ (layout : Layout) (last : ℕ) (at : ℕ → Moment) (happens : ℕ → Happening) (run : IsWholeRun layout last at happens) (added : ℕ → List Note) (all : AllComplete layout last at added) where
   abbrev calls : List (ℕ × Note)
-  calls = complete_calls (completed last at happens) (last + layout.passes)
+  calls = complete_calls (completed last happens added) (last + layout.passes)
 
   abbrev before : ℕ → ℕ → Bool
-  before = had_responded (stays last at) (completed last at happens)
+  before = had_responded (stays last at) (completed last happens added)
 
-  timed : All (IsTimed layout last at happens run) calls
-  timed = timed_all layout last at happens run layout.passes (last + layout.passes) (le_refl layout.passes) refl
+  timed : All (IsTimed layout last at happens run added all) calls
+  timed = timed_all layout last at happens run added all layout.passes (last + layout.passes) (le_refl layout.passes) refl
 
   fits : FitsPlaces before calls
   fits x y hx hy e =
-      let first = All-contains (IsTimed layout last at happens run) calls x timed hx in
-      let second = All-contains (IsTimed layout last at happens run) calls y timed hy in
-      let b : ℕ = begun layout last at happens run y.0 in
+      let first = All-contains (IsTimed layout last at happens run added all) calls x timed hx in
+      let second = All-contains (IsTimed layout last at happens run added all) calls y timed hy in
+      let b : ℕ = begun layout last at happens run added all y.0 in
       let early : x.0 ≤ b = leb-true x.0 b e in
       let within : b < last = second.within in
       let high = first.high (omega (arith, early, within)) in
@@ -258,21 +237,18 @@ module _ (layout : Layout) (last : ℕ) (at : ℕ → Moment) (happens : ℕ →
   in_time i j d lt within =
       let x : ℕ × Note = get_or calls i d in
       let y : ℕ × Note = get_or calls j d in
-      let rises : x.0 ≤ y.0 = in_turn (completed last at happens) (last + layout.passes) i j d lt within in
+      let rises : x.0 ≤ y.0 = in_turn (completed last happens added) (last + layout.passes) i j d lt within in
       let early = (timed i d (omega (arith, lt, within))).before in
-      lt-leb y.0 (begun layout last at happens run x.0) (omega (arith, rises, early))
+      lt-leb y.0 (begun layout last at happens run added all x.0) (omega (arith, rises, early))
 
   makers_below : All (λ (c : Change). c.pass < layout.passes) (at last).core.changes
   makers_below = let s = runs_stay_sound layout last at happens run last (le_refl last) in subst (λ (l : Layout). All (λ (c : Change). c.pass < l.passes) (at last).core.changes) s.layout_is s.lawful.makers
 
-  pub in_one_order : (order : List (ℕ × Note)) × IsPermutation calls order × LegalHistory (calls_of (noted order)) × IsInTime before order
+  pub in_one_order : HaveOneOrder layout last at happens added
   in_one_order =
-      let notes : ℕ → List Note = all_notes layout last at happens run layout.passes in
-      let legal = all_notes_legal layout last at happens run in
-      let same = completed_notes layout last at happens run layout.passes (last + layout.passes) (le_refl layout.passes) refl in
+      let notes : ℕ → List Note = all_notes layout last at happens run added all layout.passes in
+      let legal = all_notes_legal layout last at happens run added all in
+      let same = completed_notes layout last at happens run added all layout.passes (last + layout.passes) (le_refl layout.passes) refl in
       let woven = woven-in_time (at last).core.changes (passes_below notes layout.passes) before calls (all_legal (at last).core.changes notes layout.passes legal) same fits in_time in
       let alone = all_calls (at last).core.changes layout.passes notes (noted calls) makers_below legal same in
       (woven.1.0, woven.1.1, subst LegalHistory (sym alone ∙ woven.1.3) woven.0, woven.1.2)
-
-pub linearizable : Linearizable
-linearizable layout last at happens run = in_one_order layout last at happens run

@@ -1,16 +1,15 @@
--- The history of a run, after Herlihy and Wing (1990): which calls have responded, and how those that are pending are completed.
-use Rattle.std.specs.Prelude.{ℕ, zero, suc, ◌-◌, List, [], ◌∷◌, ◌++◌, Bool, true, false, ◌&&◌, Option, None, Some, drop, if◌then◌else◌, length, map, nat_eq, nat_le, nat_lt}
-use Rattle.std.specs.BTreeMap.{is_at}
+-- The history of a run, after Herlihy and Wing (1990): which calls have responded, and which responses may be appended for those that are
+-- pending. Its calls are look-ups and changes: a scan asks none of these, and one that is refused is answered by none.
+use Rattle.std.specs.Prelude.{◌≡◌, ◌⊎◌, ℕ, zero, suc, ◌-◌, ◌<◌, ◌≤◌, List, [], ◌∷◌, ◌++◌, Bool, Option, None, Some, if◌then◌else◌, length, map, nat_le, nat_lt}
 use Rattle.finite_map.specs.declared.Call.{Call}
+use Rattle.finite_map.specs.declared.Call.TheVariants.{Get}
 use Rattle.finite_map.specs.declared.Change.{Change}
-use Rattle.finite_map.specs.declared.Kind.{Kind}
-use Rattle.finite_map.specs.declared.Kind.TheVariants.{Added, Replaced, Removed}
 use Rattle.finite_map.specs.declared.Note.{Note}
 use Rattle.finite_map.specs.Calls.{change_of}
-use Rattle.finite_map.specs.Fronts.{map_of}
-use Rattle.finite_map.specs.Maps.{key_order, reply_of}
-use Rattle.rowex_core.specs.Statements.{call_of_change}
-use Rattle.real_time.specs.Moments.{Happening, Moment, Pending, responds}
+use Rattle.finite_map.specs.Fronts.{OthersGoOn, map_of}
+use Rattle.finite_map.specs.Maps.{reply_of}
+use Rattle.record_words.specs.declared.layout.Layout.{Layout}
+use Rattle.real_time.specs.Moments.{Happening, IsRefusal, IsResponse, Moment, Pending, responds}
 
 -- Calls that have responded
 
@@ -43,41 +42,47 @@ had_responded at happens x y = nat_le x (invoked at happens y)
 
 -- Calls that are pending
 
--- the call as the map of the front answers it
+-- the note of a call that is answered at the end of the front, as the map of the front answers it
 abbrev pub replied : List Change → Call → Note
 replied front call = record { place = length front; call = call; reply = reply_of (map_of front) call }
 
-abbrev pub same_kind : Kind → Kind → Bool
-same_kind Added Added = true
-same_kind Replaced Replaced = true
-same_kind Removed Removed = true
-same_kind _ _ = false
+-- The call of pass q has changed the map once, while the one list of changes grew to the other: before and after this change others alone
+-- made any, and it is the change that the call makes of the map there.
+pub record HasChangedOnce (q : ℕ) (asked : Call) (before after : List Change) : Type 0 where
+  pub meanwhile : List Change
+  pub change : Change
+  pub until : OthersGoOn q before meanwhile
+  pub made : change_of q (replied meanwhile asked) ≡ Some change
+  pub since : OthersGoOn q (meanwhile ++ change ∷ []) after
 
--- whether this is the change
-abbrev pub is_this : Change → Option Change → Bool
-is_this x None = false
-is_this x (Some c) = same_kind c.kind x.kind && (nat_eq c.value x.value && is_at (key_order c.key) x.key)
+-- A pending call of pass q, which asks these calls of the map, has changed nothing, or has changed the map as it asks: it asks one call,
+-- and has made its change once. A call that asks several looks up, and changes nothing.
+abbrev pub ChangesAsAsked : ℕ → List Call → List Change → List Change → Type 0
+ChangesAsAsked q calls before after = OthersGoOn q before after ⊎ ((asked : Call) × (calls ≡ asked ∷ []) × HasChangedOnce q asked before after)
 
--- The call of pass q that made the change behind the front, as the map answers it: the first of these calls that makes this change there;
--- or if none does, the upsert or removal that does.
-abbrev pub maker : ℕ → List Call → List Change → Change → Note
-maker q [] front x = replied front (call_of_change x)
-maker q (call ∷ calls) front x = if is_this x (change_of q (replied front call)) then replied front call else maker q calls front x
+-- a call asks one call of the map, or looks up alone, or nothing
+abbrev pub AsksOneOrLooksUp : List Call → Type 0
+AsksOneOrLooksUp calls = ((asked : Call) × (calls ≡ asked ∷ [])) ⊎ ((keys : List (List ℕ)) × (calls ≡ map Get keys))
 
--- the calls by which pass q made its changes among those behind the front
-abbrev pub makers : ℕ → List Call → List Change → List Change → List Note
-makers q calls front [] = []
-makers q calls front (x ∷ xs) = if nat_eq x.pass q then maker q calls front x ∷ makers q calls (front ++ x ∷ []) xs else makers q calls (front ++ x ∷ []) xs
+-- pass q's call responds or is refused at a moment from the one to the other
+abbrev pub EndsWithin : (ℕ → Moment) → ℕ → ℕ → ℕ → Pending → Type 0
+EndsWithin at last later q call = (t : ℕ) × (last ≤ t) × (t ≤ later) × (((notes : List Note) × IsResponse at t q call notes) ⊎ IsRefusal at t q call)
 
--- what completes a pending call of pass q, where these changes have been made: if it has changed the map, it responds as the map does
-abbrev pub completion_of : (ℕ → Moment) → List Change → ℕ → Option Pending → List Note
-completion_of at changes q None = []
-completion_of at changes q (Some call) = let seen = (at call.since).core.changes in makers q call.calls seen (drop (length seen) changes)
+-- Each call that is pending at the last moment ends by a later one; or else it has changed nothing since it was invoked, or has changed the
+-- map as it asks. No contract tells of a call that never returns, so this is a premise of such calls alone.
+abbrev pub PendingEndOrChangeAsAsked : Layout → ℕ → ℕ → (ℕ → Moment) → Type 0
+PendingEndOrChangeAsAsked layout last later at =
+    (q : ℕ) → q < layout.passes → (call : Pending) → (at last).pending q ≡ Some call →
+    (AsksOneOrLooksUp call.calls × EndsWithin at last later q call) ⊎ ChangesAsAsked q call.calls (at call.since).core.changes (at last).core.changes
 
--- The history goes on behind the run's last moment: in turn, each pending call that has changed the map responds.
-abbrev pub completed : ℕ → (ℕ → Moment) → (ℕ → Happening) → ℕ → Happening
-completed last at happens t =
-    if nat_lt t last then happens t else responds (t - last) (completion_of at (at last).core.changes (t - last) ((at last).pending (t - last)))
+-- Responses may be appended to a history: one at most to each pending call, with a note for each call of the map that it asks.
+abbrev pub IsAppended : Option Pending → List Note → Type 0
+IsAppended None notes = notes ≡ []
+IsAppended (Some call) notes = (notes ≡ []) ⊎ (map (λ n. n.call) notes ≡ call.calls)
+
+-- the history goes on behind the run's last moment: in turn, each pass responds with these notes
+abbrev pub completed : ℕ → (ℕ → Happening) → (ℕ → List Note) → ℕ → Happening
+completed last happens added t = if nat_lt t last then happens t else responds (t - last) (added (t - last))
 
 -- and the index stays as it was
 abbrev pub stays : ℕ → (ℕ → Moment) → ℕ → Moment

@@ -1,5 +1,6 @@
 -- The definitions of the crate.
 pub mod Moments
 pub mod Histories
+pub mod Effects
 pub mod Scanning
 pub mod Statements

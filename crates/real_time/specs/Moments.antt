@@ -1,5 +1,5 @@
 -- Runs of an index, moment by moment: the steps of passes, and the calls that they invoke and that respond.
-use Rattle.std.specs.Prelude.{◌≡◌, ◌≢◌, ◌⊎◌, ℕ, suc, ◌<◌, ◌≤◌, All, List, [], ◌++◌, Option, None, Some, length, map}
+use Rattle.std.specs.Prelude.{◌≡◌, ◌≢◌, ℕ, suc, ◌<◌, ◌≤◌, All, List, [], ◌++◌, Option, None, Some, length, map}
 use Rattle.finite_map.specs.declared.Call.{Call}
 use Rattle.finite_map.specs.declared.Change.{Change}
 use Rattle.finite_map.specs.declared.Note.{Note}
@@ -25,13 +25,14 @@ pub record Moment : Type 0 where
   pub pending : ℕ → Option Pending
 
 -- What happens between two moments: a pass makes an atomic step, with which such notes come; a pass is shown changes that have been made,
--- as where it meets another or follows a stamp; a pass invokes a call; or its call responds, with a note for each call of the map that was
--- answered.
+-- as where it meets another or follows a stamp; a pass invokes a call; its call responds, with a note for each call of the map that it
+-- asks; or its call is refused.
 pub data Happening : Type 0 where
   steps : ℕ → Act → List Note → Happening
   shows : ℕ → List Change → Happening
   invokes : ℕ → List Call → Happening
   responds : ℕ → List Note → Happening
+  refuses : ℕ → Happening
 
 -- Pass q, which has a call pending, makes the step and learns what it teaches. No other pass learns anything.
 pub record IsMomentStep (a b : Moment) (q : ℕ) (act : Act) (notes : List Note) : Type 0 where
@@ -69,12 +70,18 @@ pub record IsPlacedSince (at : ℕ → Moment) (q since until : ℕ) (n : Note) 
   pub loaded : ((at since).known q).steps ≤ ((at shown).known q).fresh.step
   pub low : length ((at shown).known q).fresh.front ≤ n.place
 
--- Pass q's call, pending since then, ends at moment t with these notes: one for each call of the map that it asks, or none if it is refused.
+-- Pass q's call, pending since then, responds at moment t with these notes: one for each call of the map that it asks, in their order.
 pub record IsResponse (at : ℕ → Moment) (t q : ℕ) (call : Pending) (notes : List Note) : Type 0 where
   pub called : (at t).pending q ≡ Some call
-  pub calls : (notes ≡ []) ⊎ (map (λ n. n.call) notes ≡ call.calls)
+  pub calls : map (λ n. n.call) notes ≡ call.calls
   pub noted : ((at t).known q).notes ≡ ((at call.since).known q).notes ++ notes
   pub placed : All (IsPlacedSince at q call.since t) notes
+  pub legal : LegalCalls ((at t).known q).front q ((at t).known q).notes
+
+-- Pass q's pending call is refused at moment t: it adds no note.
+pub record IsRefusal (at : ℕ → Moment) (t q : ℕ) (call : Pending) : Type 0 where
+  pub called : (at t).pending q ≡ Some call
+  pub noted : ((at t).known q).notes ≡ ((at call.since).known q).notes
   pub legal : LegalCalls ((at t).known q).front q ((at t).known q).notes
 
 -- what happens at moment t leads to the next one
@@ -83,6 +90,7 @@ Continues layout at t (steps q act notes) = IsMomentStep (at t) (at (suc t)) q a
 Continues layout at t (shows q front) = IsShowing (at t) (at (suc t)) q front
 Continues layout at t (invokes q calls) = ((at t).pending q ≡ None) × IsCallTurn layout (at t) (at (suc t)) q (Some (record { since = t; calls = calls }))
 Continues layout at t (responds q notes) = (call : Pending) × IsResponse at t q call notes × IsCallTurn layout (at t) (at (suc t)) q None
+Continues layout at t (refuses q) = (call : Pending) × IsRefusal at t q call × IsCallTurn layout (at t) (at (suc t)) q None
 
 -- The core is lawful, and what each pass knows is true of it.
 pub record IsSoundMoment (layout : Layout) (a : Moment) : Type 0 where

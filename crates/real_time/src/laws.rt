@@ -1,14 +1,29 @@
 //! Laws of runs, over their definitions alone. The functions do nothing: their contracts are the laws.
-ghost use Rattle.real_time.specs.Statements.{Linearizable, RepliesInTime, RunsAreEvents, RunsStaySound, ScansInTime};
+ghost use Rattle.real_time.specs.Statements.{Linearizable, OrderedByEffect, RefusedChangeNothing, RepliesInTime, RespondersChangeAsAsked, RunsAreEvents, RunsStaySound, ScansInTime};
 
 /// At each moment of a run the core is lawful, and what each pass knows is true of it.
 pub fn runs_stay_sound()
     ensures { RunsStaySound }
 {}
 
-/// The calls of a run are linearizable.
+/// The look-ups and changes of a run are linearizable.
 pub fn linearizable()
     ensures { Linearizable }
+{}
+
+/// A call that responds changes the map as it asks, if at all.
+pub fn responders_change_as_asked()
+    ensures { RespondersChangeAsAsked }
+{}
+
+/// A call that is refused changes nothing.
+pub fn refused_change_nothing()
+    ensures { RefusedChangeNothing }
+{}
+
+/// The look-ups and changes of a run have one order whatever the calls that are pending do.
+pub fn ordered_by_effect()
+    ensures { OrderedByEffect }
 {}
 
 /// The steps of a run are legal events, one after the other.
@@ -16,12 +31,12 @@ pub fn runs_are_events()
     ensures { RunsAreEvents }
 {}
 
-/// A scan shows the maps of moments between its first and its last step.
+/// A scan shows the maps of moments between its invocation and its response.
 pub fn scans_in_time()
     ensures { ScansInTime }
 {}
 
-/// Each answered call takes effect at a moment between its invocation and its response.
+/// Each answered call's reply is the map's at a moment between its invocation and its response.
 pub fn replies_in_time()
     ensures { RepliesInTime }
 {}

@@ -1,5 +1,5 @@
 -- The law linearizable.
-use Rattle.real_time.proofs.Whole.{linearizable}
+use Rattle.real_time.proofs.Completing.{linearizable}
 use Rattle.real_time.proofs.laws.linearizable.Goals as goal
 
 pub returns : goal.returns

@@ -1,0 +1,77 @@
+-- Executions of an index: runs in which calls end as their contracts say.
+use Rattle.std.specs.Prelude.{◌≡◌, ◌⊎◌, ℕ, suc, ◌<◌, ◌≤◌, All, List, [], ◌∷◌, None, Some, length, map}
+use Rattle.finite_map.specs.declared.Call.{Call}
+use Rattle.finite_map.specs.declared.Note.{Note}
+use Rattle.finite_map.specs.declared.Reply.{Reply}
+use Rattle.finite_map.specs.Calls.{LegalCalls}
+use Rattle.record_words.specs.declared.layout.Layout.{Layout}
+use Rattle.rowex_core.specs.Knowing.{SeesAllAtRoot}
+use Rattle.rowex_table.specs.Seats.{SeatView}
+use Rattle.rowex_writing.specs.declared.attempts.TryFault.{TryFault}
+use Rattle.seat_calls.specs.Answers.{IsNoted, IsRefused, MayRefuse}
+use Rattle.seat_calls.specs.Many.{AreNoted}
+use Rattle.seat_calls.specs.Passes.{PassView, pass_of}
+use Rattle.real_time.specs.Moments.{Continues, Happening, IsCallTurn, IsNewIndex, Moment, Pending, invokes, refuses, responds, shows, steps}
+
+-- Pass q's call is pending at moment t. The seat s knows what the pass knew when it invoked the call, and e what it knows now.
+pub record IsReturning (layout : Layout) (at : ℕ → Moment) (q t : ℕ) (call : Pending) (s e : SeatView) : Type 0 where
+  pub pending : (at t).pending q ≡ Some call
+  pub before : s.known ≡ (at call.since).known q
+  pub now : e.known ≡ (at t).known q
+  pub pass : e.known.pass ≡ q
+  pub later : call.since ≤ t
+
+-- It asked one call of the map, which was noted.
+pub record IsAnswered (layout : Layout) (call : Pending) (k j : PassView) (notes : List Note) : Type 0 where
+  pub asked : Call
+  pub reply : Reply
+  pub calls : call.calls ≡ asked ∷ []
+  pub noted : IsNoted layout k j asked reply
+  pub notes_are : notes ≡ record { place = noted.place; call = asked; reply = reply } ∷ []
+
+-- It asked look-ups, which were noted. As `HasGotMany` says, the pass saw all changes at the call's first load of the root, and none of the
+-- look-ups stands before these: f knows what the pass knew then, at moment m.
+pub record AreAnswered (layout : Layout) (at : ℕ → Moment) (q t : ℕ) (call : Pending) (s e : SeatView) (notes : List Note) : Type 0 where
+  pub asked : List (Call × Reply)
+  pub calls : map (λ x. x.0) asked ≡ call.calls
+  pub noted : AreNoted layout (pass_of s) (pass_of e) asked
+  pub notes_are : notes ≡ noted.added
+  pub m : ℕ
+  pub since : call.since ≤ m
+  pub until : m ≤ t
+  pub f : SeatView
+  pub first : f.known ≡ (at m).known q
+  pub sees : SeesAllAtRoot layout s.known f.known
+  pub fresh : All (λ n. length f.known.front ≤ n.place) noted.added
+
+-- It asked nothing of the map, and added no note: so `IsScannedBy` and `IsListedBy` say of scans, and `IsUnnoted` of collections and counts.
+pub record IsQuiet (call : Pending) (k j : PassView) (notes : List Note) : Type 0 where
+  pub calls : call.calls ≡ []
+  pub same : j.notes ≡ k.notes
+  pub legal : LegalCalls j.front j.number j.notes
+  pub notes_are : notes ≡ []
+
+-- The call returns at moment t with these notes.
+abbrev pub HasReturned : Layout → (ℕ → Moment) → ℕ → ℕ → Pending → List Note → Type 0
+HasReturned layout at q t call notes =
+    (s : SeatView) × (e : SeatView) × IsReturning layout at q t call s e ×
+    (IsAnswered layout call (pass_of s) (pass_of e) notes ⊎ (AreAnswered layout at q t call s e notes ⊎ IsQuiet call (pass_of s) (pass_of e) notes))
+
+-- The call asked one of the map, and is refused at moment t.
+abbrev pub HasBeenRefused : Layout → (ℕ → Moment) → ℕ → ℕ → Pending → Type 0
+HasBeenRefused layout at q t call =
+    (s : SeatView) × (e : SeatView) × (asked : Call) × (fault : TryFault) × IsReturning layout at q t call s e × (call.calls ≡ asked ∷ []) ×
+    IsRefused layout asked (pass_of s) (pass_of e) fault × MayRefuse asked fault
+
+-- what happens at moment t of an execution leads to the next one: as in a run, and each call that ends has ended as its contract says
+abbrev pub Follows : Layout → (ℕ → Moment) → ℕ → Happening → Type 0
+Follows layout at t (steps q act notes) = Continues layout at t (steps q act notes)
+Follows layout at t (shows q front) = Continues layout at t (shows q front)
+Follows layout at t (invokes q calls) = Continues layout at t (invokes q calls)
+Follows layout at t (responds q notes) = (call : Pending) × HasReturned layout at q t call notes × IsCallTurn layout (at t) (at (suc t)) q None
+Follows layout at t (refuses q) = (call : Pending) × HasBeenRefused layout at q t call × IsCallTurn layout (at t) (at (suc t)) q None
+
+-- An execution: the index is new at first, and what happens at each moment before the last leads to the next one.
+pub record IsExecution (layout : Layout) (last : ℕ) (at : ℕ → Moment) (happens : ℕ → Happening) : Type 0 where
+  pub new : IsNewIndex layout (at 0)
+  pub next : (t : ℕ) → t < last → Follows layout at t (happens t)
