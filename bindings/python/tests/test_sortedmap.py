@@ -1,0 +1,281 @@
+"""SortedMap beside dict by random calls, what it refuses, and growth."""
+
+import copy
+import pickle
+import random
+import subprocess
+import sys
+import unittest
+from pathlib import Path
+
+from hot import Codec, FullError, SortedMap
+
+LETTERS = {bytes: [0, 1, 97, 254, 255], str: ["a", "b", "é", "\U0001f600", "\0"]}
+
+
+def inside(key, minimum, maximum, inclusive):
+    """Whether a key is in a range, as sorted lists have it."""
+    if minimum is not None and (key < minimum or key == minimum and not inclusive[0]):
+        return False
+    return not (
+        maximum is not None and (key > maximum or key == maximum and not inclusive[1])
+    )
+
+
+class Model:
+    """A SortedMap and a dict that have the same calls made."""
+
+    def __init__(self, case, kind, seed):
+        self.case, self.kind, self.draw = case, kind, random.Random(seed)
+        self.mine, self.other = SortedMap(keys=kind, threads=1), {}
+
+    def key(self):
+        draw = self.draw
+        if self.kind is int:
+            small = draw.randrange(-40, 40)
+            return draw.choice([small, small, 2**63 - 1, -(2**63)])
+        length = draw.choice([0, 1, 2, 3, 4, 40, 240 if self.kind is bytes else 60])
+        parts = draw.choices(LETTERS[self.kind], k=length)
+        return bytes(parts) if self.kind is bytes else "".join(parts)
+
+    def change(self):
+        key, value, what = self.key(), self.draw.randrange(5), self.draw.randrange(5)
+        mine, other = self.mine, self.other
+        if what < 2:
+            mine[key] = other[key] = value
+        elif what == 2:
+            self.case.assertEqual(mine.pop(key, None), other.pop(key, None))
+        elif what == 3:
+            self.case.assertEqual(
+                mine.setdefault(key, value), other.setdefault(key, value)
+            )
+        else:
+            had = other.get(key)
+            self.case.assertEqual(mine.exchange(key, value, 7), had == value)
+            if had == value:
+                other[key] = 7
+            self.case.assertEqual(mine.remove_if(key, 3), other.get(key) == 3)
+            if other.get(key) == 3:
+                del other[key]
+        self.case.assertEqual(len(mine), len(other))
+
+    def look(self):
+        equal, mine, other = self.case.assertEqual, self.mine, self.other
+        keys, one, two = sorted(other), self.key(), self.key()
+        ends = self.draw.choice([(one, two), (None, two), (one, None), (None, None)])
+        both = (self.draw.random() < 0.5, self.draw.random() < 0.5)
+        wanted = [key for key in keys if inside(key, *ends, both)]
+        equal(list(mine.irange(*ends, both)), wanted)
+        equal(list(mine.irange(*ends, both, reverse=True)), wanted[::-1])
+        wanted = [(key, other[key]) for key in keys if key <= one]
+        equal(mine.floor_item(one), wanted[-1] if wanted else None)
+        wanted = [(key, other[key]) for key in keys if key > one]
+        equal(mine.ceiling_item(one, inclusive=False), wanted[0] if wanted else None)
+        equal(
+            mine.get_many([one, two, one]), [other.get(key) for key in (one, two, one)]
+        )
+        if self.kind is not int:
+            wanted = [(key, other[key]) for key in keys if key.startswith(one[:2])]
+            equal(list(mine.prefix_items(one[:2])), wanted)
+            equal(list(mine.prefix_items(one[:2], reverse=True)), wanted[::-1])
+
+    def end(self):
+        equal, mine, other = self.case.assertEqual, self.mine, self.other
+        keys = sorted(other)
+        equal(list(mine.keys()), keys)
+        equal(list(mine.items()), [(key, other[key]) for key in keys])
+        equal(list(mine.values()), [other[key] for key in keys])
+        equal(mine, other)
+        for start, stop in ((None, None), (2, -2), (-3, None), (5, 2)):
+            equal(list(mine.islice(start, stop)), keys[start:stop])
+            equal(list(mine.islice(start, stop, reverse=True)), keys[start:stop][::-1])
+        for at in range(-len(keys), len(keys)):
+            equal(mine.peekitem(at), (keys[at], other[keys[at]]))
+        while keys:
+            key = keys.pop(self.draw.choice([0, -1, len(keys) // 2]))
+            equal(mine.popitem(sorted(other).index(key)), (key, other.pop(key)))
+        self.case.assertFalse(mine)
+        self.case.assertRaises(KeyError, mine.popitem)
+
+
+class Random(unittest.TestCase):
+    def test_beside_dict(self):
+        for kind in (bytes, str, int):
+            with self.subTest(keys=kind):
+                model = Model(self, kind, 7)
+                for turn in range(1500):
+                    model.change()
+                    if turn % 4 == 0:
+                        model.look()
+                model.end()
+
+    def test_grows(self):
+        """Beyond what it began with, with keys of each size."""
+        draw = random.Random(3)
+        mine, other = SortedMap(keys=bytes), {}
+        for number in range(6000):
+            key = draw.randbytes(draw.choice([3, 8, 20, 50, 80, 200]))
+            mine[key] = other[key] = number
+        self.assertEqual(len(mine), len(other))
+        self.assertEqual(list(mine.items()), sorted(other.items()))
+        self.assertEqual(list(reversed(mine.items())), sorted(other.items())[::-1])
+        keys = draw.sample(sorted(other), 3000) + [b"absent", b"x" * 241]
+        self.assertEqual(mine.get_many(keys), [other.get(key) for key in keys])
+
+    def test_iterator_while_it_grows(self):
+        mine = SortedMap({"b": 1, "c": 2})
+        keys = iter(mine)
+        self.assertEqual(next(keys), "b")
+        mine.update((f"d{number:05}", number) for number in range(3000))
+        self.assertGreaterEqual({*keys}, {"c"})
+
+
+class Refusals(unittest.TestCase):
+    def test_values(self):
+        mine = SortedMap({"a": 1})
+        for value, why in (
+            (-1, OverflowError),
+            (2**64, OverflowError),
+            ("1", TypeError),
+            (None, TypeError),
+            (1.0, TypeError),
+        ):
+            with self.assertRaises(why):
+                mine["b"] = value
+            with self.assertRaises(why):
+                mine.setdefault("b", value)
+            with self.assertRaises(why):
+                mine.exchange("a", 1, value)
+            with self.assertRaises(why):
+                mine.exchange("a", value, 1)
+        with self.assertRaises(OverflowError):
+            mine.add("a", -2)
+        self.assertEqual(mine, {"a": 1})
+        mine["b"] = 2**64 - 1
+        self.assertEqual(mine["b"], 2**64 - 1)
+
+    def test_keys(self):
+        mine = SortedMap({"a": 1})
+        for key in (b"a", 1, None, ("a",)):
+            self.assertNotIn(key, mine)
+            self.assertIsNone(mine.get(key))
+            self.assertEqual(mine.get_many([key, "a"]), [None, 1])
+            self.assertRaises(KeyError, mine.__getitem__, key)
+            self.assertRaises(KeyError, mine.__delitem__, key)
+            self.assertRaises(TypeError, mine.__setitem__, key, 1)
+            self.assertRaises(TypeError, mine.exchange, key, 1, 2)
+        self.assertRaises(TypeError, mine.irange, 1)
+        self.assertRaises(TypeError, mine.prefix_items, b"a")
+        self.assertRaises(TypeError, mine.__getitem__, [])
+        self.assertRaises(TypeError, SortedMap, keys=float)
+        numbers = SortedMap(keys=int)
+        self.assertNotIn(2**63, numbers)
+        self.assertRaises(OverflowError, numbers.__setitem__, 2**63, 1)
+
+    def test_long_keys(self):
+        mine = SortedMap({"x" * 240: 1})
+        self.assertNotIn("x" * 241, mine)
+        self.assertEqual(mine.get_many(["x" * 241, "x" * 240]), [None, 1])
+        self.assertRaises(ValueError, mine.__setitem__, "x" * 241, 1)
+        self.assertRaises(KeyError, mine.pop, "x" * 241)
+        self.assertEqual(list(mine.irange("x" * 241)), [])
+        self.assertEqual(list(mine.irange(None, "x" * 241, (True, False))), ["x" * 240])
+        self.assertEqual(list(mine.prefix_items("x" * 241)), [])
+
+    def test_full(self):
+        mine = SortedMap(capacity=0, longest=8, grow=False)
+        with self.assertRaises(FullError):
+            mine.update((str(number), number) for number in range(10000))
+        self.assertEqual(list(mine), sorted(str(number) for number in range(len(mine))))
+        self.assertGreater(len(mine), 500)
+        mine.clear()
+        mine["a"] = 1
+        self.assertEqual(mine, {"a": 1})
+
+    def test_options(self):
+        for words in ({"threads": 0}, {"threads": 1025}, {"capacity": -1}):
+            self.assertRaises(ValueError, SortedMap, **words)
+        self.assertRaises(ValueError, SortedMap, capacity=1, longest=241)
+
+
+SCARCE = """
+import resource
+from hot import SortedMap
+
+mine, count = SortedMap(keys=int), 0
+most = resource.getrlimit(resource.RLIMIT_AS)[1]
+size = int(open("/proc/self/statm").read().split()[0]) * resource.getpagesize()
+resource.setrlimit(resource.RLIMIT_AS, (size + 2**24, most))
+try:
+    while True:
+        mine[count] = count
+        count += 1
+except MemoryError:
+    resource.setrlimit(resource.RLIMIT_AS, (most, most))
+assert count > 1000 and list(mine.items()) == [(at, at) for at in range(count)]
+mine.update((at, at) for at in range(count, 2 * count))
+assert len(mine) == 2 * count
+"""
+
+
+class Memory(unittest.TestCase):
+    @unittest.skipUnless(sys.platform == "linux", "it reads /proc")
+    def test_scarce(self):
+        """Where there is no memory to grow, nothing is lost."""
+        subprocess.run([sys.executable, "-c", SCARCE], check=True)
+
+
+class Whole(unittest.TestCase):
+    """Calls that make, copy and show whole maps."""
+
+    def test_copies(self):
+        mine = SortedMap({b"b": 2, b"a": 1}, keys=bytes)
+        for other in (mine.copy(), copy.copy(mine), pickle.loads(pickle.dumps(mine))):
+            self.assertEqual(list(other.items()), [(b"a", 1), (b"b", 2)])
+            other[b"c"] = 3
+            self.assertNotIn(b"c", mine)
+        self.assertEqual(mine | {b"c": 3}, {b"a": 1, b"b": 2, b"c": 3})
+        self.assertEqual({b"a": 5} | mine, {b"a": 1, b"b": 2})
+        mine |= {b"a": 7}
+        self.assertEqual(mine[b"a"], 7)
+
+    def test_repr(self):
+        self.assertEqual(
+            repr(SortedMap({"b": 2, "a": 1})), "SortedMap({'a': 1, 'b': 2})"
+        )
+        self.assertEqual(repr(SortedMap(keys=int)), "SortedMap({}, keys=int)")
+
+    def test_views(self):
+        mine = SortedMap({"b": 2, "a": 1, "c": 2})
+        keys, values, items = mine.keys(), mine.values(), mine.items()
+        self.assertEqual([*keys, *values], ["a", "b", "c", 1, 2, 2])
+        self.assertEqual([*reversed(keys), *reversed(values)], ["c", "b", "a", 2, 2, 1])
+        self.assertEqual((keys[0], values[-1], items[1]), ("a", 2, ("b", 2)))
+        self.assertEqual((keys[1:], items[::-2]), (["b", "c"], [("c", 2), ("a", 1)]))
+        self.assertEqual((keys.index("c"), values.count(2), len(values)), (2, 2, 3))
+        self.assertEqual((keys & {"a", "z"}, keys | {"z"}), ({"a"}, {*"abcz"}))
+        self.assertIn(("a", 1), items)
+        self.assertNotIn(("a", 2), items)
+        self.assertRaises(IndexError, keys.__getitem__, 3)
+        self.assertRaises(ValueError, values.index, 9)
+
+    def test_readme(self):
+        text = (Path(__file__).parent.parent / "README.md").read_text()
+        exec(text.partition("```python")[2].partition("```")[0], {})
+
+    def test_codec(self):
+        """Keys of two parts, in their order."""
+        codec = Codec(
+            lambda key: key[0].encode() + b"\0" + key[1].to_bytes(4, "big"),
+            lambda key: (key[:-5].decode(), int.from_bytes(key[-4:], "big")),
+        )
+        keys = [("a", 2), ("a", 256), ("aa", 1), ("b", 0)]
+        mine = SortedMap.fromkeys(keys[::-1], 1, keys=codec)
+        self.assertEqual(list(mine), keys)
+        self.assertEqual(
+            list(mine.irange(("a", 3), ("b", 0), (True, False))), keys[1:3]
+        )
+
+
+if __name__ == "__main__":
+    unittest.main()

@@ -1,0 +1,88 @@
+"""Threads that use a map at the same time, while it grows."""
+
+import threading
+import unittest
+
+from hot import SortedMap
+
+
+def together(count, work):
+    """Runs threads, and raises what one of them raises."""
+    failed = []
+
+    def run(number):
+        try:
+            work(number)
+        except BaseException as error:
+            failed.append(error)
+
+    threads = [threading.Thread(target=run, args=(number,)) for number in range(count)]
+    for thread in threads:
+        thread.start()
+    for thread in threads:
+        thread.join()
+    if failed:
+        raise failed[0]
+
+
+class Threads(unittest.TestCase):
+    def test_each_addition_counts(self):
+        """More threads than handles, and keys that make the map grow."""
+        mine = SortedMap(threads=3)
+
+        def work(first):
+            for number in range(2000):
+                mine.add(f"word {(number * 7 + first) % 50}")
+                mine[f"own {first} {number}"] = number
+
+        together(6, work)
+        self.assertEqual(sum(n for _, n in mine.prefix_items("word ")), 12000)
+        self.assertEqual(len(mine), 50 + 12000)
+        self.assertEqual(len(list(mine)), len(mine))
+
+    def test_scans_beside_changes(self):
+        """A scan lists each key that is there all along, in order."""
+        mine = SortedMap(((number * 2, number) for number in range(500)), keys=int)
+        done = threading.Event()
+
+        def work(number):
+            if number:
+                try:
+                    for turn in range(8):
+                        for key in range(1, 1000, 2):
+                            mine[key * number] = turn
+                        for key in range(1, 1000, 2):
+                            mine.pop(key * number, None)
+                finally:
+                    done.set()
+            while not number and not done.is_set():
+                for keys in (list(mine), list(reversed(mine))[::-1]):
+                    self.assertEqual(keys, sorted({*keys}))
+                    self.assertLessEqual({*range(0, 1000, 2)}, {*keys})
+                even = [*range(0, 1000, 2)]
+                self.assertEqual(mine.get_many(even), [key // 2 for key in even])
+
+        # The third thread's keys are odd multiples of 3, so that two meet at some.
+        together(2, work)
+        done.clear()
+        together(4, lambda number: work((0, 1, 3, 5)[number]))
+
+    def test_one_winner(self):
+        """Of threads that take the last pair at the same time one gets it."""
+        mine = SortedMap(((number, number) for number in range(2000)), keys=int)
+        taken = []
+
+        def work(number):
+            try:
+                while True:
+                    taken.append(mine.popitem())
+            except KeyError:
+                pass
+
+        together(4, work)
+        self.assertEqual(sorted(taken), [(number, number) for number in range(2000)])
+        self.assertEqual(len(mine), 0)
+
+
+if __name__ == "__main__":
+    unittest.main()
