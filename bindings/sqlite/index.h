@@ -1,0 +1,98 @@
+/* An index that tables share, and the log by which a connection takes its changes back. */
+#ifndef INDEX_H
+#define INDEX_H
+
+#include <hot.h>
+#include <sqlite3ext.h>
+
+/* What a key had before a change; or the mark of a savepoint. */
+typedef struct log_entry {
+    struct log_entry *before; /* the entry before it */
+    struct log_entry *lower;  /* below it in the tree of what could not be put back; of a mark: the mark before it */
+    struct log_entry *higher; /* in the same tree */
+    uint64_t value;
+    int is_there; /* whether the key had a value */
+    int is_mark, point;
+    uint32_t length;
+    uint8_t key[];
+} log_entry;
+
+/* What a connection has changed in an index since its transaction began, by all its tables over it. */
+typedef struct change_log {
+    int tables; /* how many of them take part in the transaction */
+    log_entry *last;
+    log_entry *mark; /* the last mark of a savepoint that is open */
+} change_log;
+
+typedef struct shared_index shared_index;
+
+/* What a new index is to be. */
+typedef struct wanted_index {
+    sqlite3_int64 keys, longest, handles;
+    int is_text;
+} wanted_index;
+
+/* A table's part of an index: a handle of its own, and the log of its connection. It stays where it is. */
+typedef struct index_part {
+    shared_index *of;
+    hot_handle handle;
+    change_log *log;
+    int takes_part; /* in a transaction */
+} index_part;
+
+/* The index of a name, made as is wanted if there is none. It stays until each use of it has ended. NULL, and `code` and `error`,
+ * if there is no memory or what is wanted is out of range. */
+shared_index *shared_use(const char *name, const wanted_index *wanted, int *code, char **error);
+void shared_end_use(shared_index *of);
+
+/* From now on the name is free for another index. */
+void shared_unname(shared_index *of);
+
+const wanted_index *shared_made_as(const shared_index *of);
+
+/* Opens a handle for a table: HOT_NO_HANDLE if all are taken. */
+hot_status part_take(shared_index *of, change_log *log, index_part *part);
+void part_leave(index_part *part);
+
+/* The key's value. It is absent if it is too long. */
+hot_status part_get(index_part *part, const uint8_t *key, size_t length, uint64_t *value);
+
+/* Lists pairs from `from` up to `upto`, or down from `upto`, as hot_scan and hot_scan_reverse do. */
+typedef struct key_bound {
+    size_t length;
+    uint8_t key[HOT_MAX_KEY];
+} key_bound;
+typedef struct key_page {
+    hot_pair *pairs;
+    size_t limit, count;
+    uint32_t more;
+} key_page;
+hot_status part_list(index_part *part, const key_bound *from, const key_bound *upto, int falls, key_page *page);
+
+/* Writes the least key above the pair's, or the greatest one below it: 0 if there is none. */
+int key_beyond(const hot_pair *pair, int falls, key_bound *to);
+
+/* Room for an entry of the log, which a change then fills; NULL if there is no memory. */
+log_entry *entry_new(const uint8_t *key, size_t length);
+
+/* These make a change, and add the entry to the log if it changed something; else they free it. They return what hot_upsert,
+ * hot_insert and hot_remove do; but a removal is never refused as full. */
+hot_status part_put(index_part *part, log_entry *entry, uint64_t value, int replaces);
+hot_status part_remove(index_part *part, log_entry *entry);
+
+/* A table takes part in a transaction of its connection from here to here. The log is forgotten with the last of them. */
+void part_begin(index_part *part);
+void part_end(index_part *part);
+
+/* A savepoint of this number begins, and has a mark from now on: 0 if there is no memory. Each table tells it. */
+int part_mark(index_part *part, int point);
+
+/* The savepoint ends, and those within it. */
+void part_release(index_part *part, int point);
+
+/* Takes back what was changed since the mark of the savepoint, or all if it has none, as none has that is older than the log. It is
+ * never refused: what the index has no room for stays in memory beside it, and comes first, until a later change finds room. */
+enum { NO_POINT = -1 };
+void part_roll_back(index_part *part, int point);
+
+#endif
