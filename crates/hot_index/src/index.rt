@@ -244,8 +244,8 @@ impl Index {
     /// Inserts a key with a value: `Inserted`; or `Exists` with the value that the key has already, and keeps.
     ///
     /// Where `try_insert` would return `Busy`, it lets other threads run and begins again, as often as need be. It also begins again
-    /// where no record is free, if records may come back: another pass's call keeps retired ones from reuse, or other passes may
-    /// have taken what a round of collection gave back.
+    /// where no record is free, if records may come back. Then another pass's call keeps retired ones from reuse, or other passes
+    /// may have taken what a round of collection gave back.
     ///
     /// It returns `Full` only if it found each node record, or each leaf record with room for the key, taken, as `try_insert` does.
     /// It has changed nothing then, and holds no lock and no record.
