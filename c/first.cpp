@@ -1,6 +1,5 @@
 #include "hot.hpp"
 #include <iostream>
-
 int main() {
     auto handles = hot::create(hot::stock_for_keys(100000, 24), 2); // keys of up to 24 bytes, two threads
     auto &h = handles[0];
