@@ -1,9 +1,17 @@
 #!/usr/bin/env python3
 """Makes tables of the lines that bench/index.c writes, as they come on standard input: for each kind of keys the nanoseconds of a call of
 the index and of the B-tree in the repetition that was disturbed least, how the first is to the second, and how their medians are, for
-each number of keys."""
+each number of keys.
+
+usage: table.py [FILE RECORDS]     FILE is to be a CSV of the medians, with RECORDS (fit or long) in each row: bench/pages reads such
+"""
+import csv
+import os
 import statistics
+import subprocess
 import sys
+from datetime import date
+from pathlib import Path
 
 # The works of one thread: of these counts the time that a processor was at them.
 ALONE = ["first", "inserts", "last", "hits", "misses", "upserts", "scans", "removals"]
@@ -23,6 +31,9 @@ LINES = [
     ("4 threads, 50 % upserts", ["50%"]),
     ("4 threads, inserts and removals", ["churn"]),
 ]
+
+# The columns of the CSV.
+FIELDS = ["date", "processor", "compiler", "commit", "records", "keys", "count", "call", "index_ns", "tree_ns", "ratio"]
 
 # What a stock has.
 STOCK = "{} nodes; leaves {} short, {} medium, {} large, {} wide, {} long"
@@ -67,6 +78,39 @@ class Column:
         return f"{index:>12.0f}{tree:>8.0f}{index / tree:>8.2f}{median:>8.2f}"
 
 
+    def row(self, works: list) -> list:
+        """What the CSV has of these works: the medians, and how the first is to the second."""
+        index, tree = [self.nanoseconds(name, works, statistics.median) for name in ("index", "tree")]
+        return [f"{index:.1f}", "" if tree is None else f"{tree:.1f}", "" if tree is None else f"{index / tree:.2f}"]
+
+
+def said(*command: str) -> str:
+    """The first line that a command writes, or nothing if it can't be run."""
+    try:
+        lines = subprocess.run(command, capture_output=True, text=True, cwd=Path(__file__).resolve().parent).stdout.splitlines()
+    except OSError:
+        return ""
+    return lines[0].strip() if lines else ""
+
+
+def origin() -> list:
+    """What each row begins with: when this is measured, by which processor, compiled by what, and of which commit."""
+    lines = Path("/proc/cpuinfo").read_text().split("\n")
+    model = next((line.partition(":")[2].strip() for line in lines if line.startswith("model name")), "")
+    compilers = [it for it in (said(os.environ.get("CC", "cc"), "--version"), said("rustc", "--version")) if it]
+    changed = "+" if said("git", "status", "--porcelain", "--untracked-files=no", "..") else ""
+    commit = said("git", "rev-parse", "--short=8", "HEAD") + changed
+    return [date.today().isoformat(), f"{model}, {os.cpu_count()} cores", "; ".join(compilers), commit]
+
+
+def keep(file, title: str, columns: list, begins: list) -> None:
+    """Adds the rows of a kind of keys to the CSV."""
+    rows = csv.writer(file, lineterminator="\n")
+    for column in columns:
+        rows.writerows([*begins, title, column.keys, label, *column.row(works)] for label, works in LINES)
+    file.flush()
+
+
 def show(title: str, columns: list) -> None:
     """Writes the table of a kind of keys, how look-ups grow from the first column to the last, and the stock of each."""
     print(f"{title:<36}" + "".join(f"{it.keys:>31} keys" for it in columns))
@@ -88,10 +132,16 @@ def show(title: str, columns: list) -> None:
 
 def main() -> None:
     title, columns = "", []
+    file, begins = None, []
+    if len(sys.argv) == 3:
+        file, begins = open(sys.argv[1], "w", newline=""), [*origin(), sys.argv[2]]
+        csv.writer(file, lineterminator="\n").writerow(FIELDS)
     for line in sys.stdin:
         word, *words = line.split()
         if word in ("kind", "the") and columns:
             show(title, columns)
+            if file:
+                keep(file, title, columns, begins)
             columns = []
         if word == "kind":
             title = line.rstrip("\n").partition(" ")[2]

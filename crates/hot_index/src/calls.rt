@@ -17,7 +17,7 @@ use std::sync::Wait;
 impl Index {
     /// Makes any of the calls, as `get`, `try_insert`, `try_upsert`, `try_exchange`, `try_remove` or `try_remove_if` does.
     ///
-    /// It makes no more steps than `try_insert` may. A get is never refused, and neither removal as full of leaves.
+    /// It makes no more steps than `try_insert` may. A get is never refused. A removal is never refused as full of leaves.
     pub fn try_call(&self, pass: &mut Pass, call: &Call) -> Result<Reply, TryFault>
         requires { Owns self.now pass.old }
         ensures { IsCallTried call.now result self.now pass.old pass.new }
@@ -25,7 +25,7 @@ impl Index {
         self.try_call_with(pass, call, &mut NoGate)
     }
 
-    /// `try_call`, with a gate that is told each of its steps.
+    /// `try_call`, which reports each of its steps to a gate.
     pub fn try_call_with<G: Gate>(
         &self,
         pass: &mut Pass,
@@ -47,10 +47,10 @@ impl Index {
         }
     }
 
-    /// Makes any of the calls, as `get`, `insert`, `upsert`, `exchange`, `remove` or `remove_if` does, with a gate that is told
-    /// each of its steps.
+    /// Makes any of the calls, as `get`, `insert`, `upsert`, `exchange`, `remove` or `remove_if` does. It reports each of its steps
+    /// to a gate.
     ///
-    /// A get is never refused, and a removal never answers `Full::Leaves`.
+    /// A get is never refused. A removal never returns `Full::Leaves`.
     pub fn call_with<R: Wait, G: Gate>(
         &self,
         rt: &R,

@@ -21,14 +21,15 @@ pub enum IndexFault {
     /// A number of passes, nodes or leaves is out of range.
     #[error("the numbers of passes, nodes and leaves are out of range")]
     Layout(LayoutFault),
-    /// There is no memory for the table.
+    /// Out of memory.
     #[error("out of memory")]
     Memory,
 }
 
-/// Makes an empty index with this number of passes (1 to 64), node records (1 to 65,535) and leaf records (1 to 262,143), and gives
-/// the passes in the order of their numbers. The three numbers are checked first, in this order. All leaf records are long, so a
-/// call that is refused for lack of one has found each of them taken (`laws::lacks_all_long`).
+/// Makes an empty index with this number of passes (1 to 64), node records (1 to 65,535) and leaf records (1 to 262,143). Returns
+/// it with its passes in the order of their numbers. It checks the three numbers first, in this order.
+///
+/// All leaf records are long. So a call that lacks one has found each of them taken (`laws::lacks_all_long`).
 pub fn create(
     alloc: Global,
     passes: u32,
@@ -47,9 +48,10 @@ pub fn create(
     made_of(alloc, Layout::of(passes, nodes, leaves))
 }
 
-/// Makes an empty index with this number of passes (1 to 1,024) and this stock of records: 1 to 4,294,967,295 node records, and 1
-/// to 4,294,967,295 leaf records of all classes together. The numbers are checked first, in this order. `Layout::bytes` tells how
-/// many bytes the table takes; twice as many are in use while it is made.
+/// Makes an empty index with this number of passes (1 to 1,024) and this stock of records. A stock has 1 to 4,294,967,295 node
+/// records, and 1 to 4,294,967,295 leaf records of all classes together. It checks the numbers first, in this order.
+///
+/// `Layout::bytes` returns the bytes of the table. Twice as many are in use while it is made.
 pub fn create_with(
     alloc: Global,
     passes: u32,

@@ -57,13 +57,14 @@ impl Cursor {
         Cursor::new(prefix, &last_with_prefix(prefix))
     }
 
-    /// Lists the next pairs of the range, at most `limit`, in a list whose earlier pairs are dropped. Returns whether there are
-    /// more; if not, the cursor is at its end, and each later call lists nothing.
+    /// Lists the next pairs of the range, at most `limit`, and drops earlier pairs of the list. Returns whether there are more. If
+    /// not, the cursor is at its end, and each later call lists nothing.
     ///
-    /// Before its end, each call is a scan of the keys that are left, with a scan's promise and bound on steps; the next call goes on
-    /// at the least key above the last one listed. So a key that is inserted between two calls is listed if it lies above that one, and not if
-    /// it lies below. If memory is refused, the cursor stays where it is, and the list holds the first pairs, as after a `scan_into`
-    /// that is refused.
+    /// Before its end, each call is a scan of the keys that are left, with a scan's promise and bound on steps. The next call goes on
+    /// at the least key above the last one listed. So it lists a key that was inserted between two calls if that lies above, and
+    /// not if it lies below.
+    ///
+    /// Out of memory, the cursor stays where it is, and the list holds the first pairs, as after a `scan_into`.
     pub fn next_into(
         &mut self,
         index: &Index,

@@ -53,8 +53,8 @@ impl ShowsIndex for Arc<Index, Global> {
     }
 }
 
-/// A pass at its index, of which it has a reference or a share. Its methods are calls of an index, without a gate; any other
-/// call can be made by its parts, as in `handle.index.get_with(&mut handle.pass, key, gate)`.
+/// A pass with its index, as a reference or a share. Its methods are the index's calls without a gate. Make any other call by its
+/// parts, as in `handle.index.get_with(&mut handle.pass, key, gate)`.
 #[derive(Drop)]
 pub struct Handle<I: ShowsIndex> {
     /// The index, or a share of it.

@@ -37,7 +37,7 @@ impl Model for Index {
 }
 
 /// The right of one thread to use an index. At run time it holds a number and some buffers that its calls reuse. Contracts see what
-/// the pass knows: its seat in the table, the changes that it has seen, and its answered calls.
+/// the pass knows: its seat in the table, the changes that it has seen, and its completed calls.
 #[derive(Drop)]
 pub struct Pass {
     pub(crate) seat: TableSeat,
@@ -66,8 +66,8 @@ impl Pass {
 impl Index {
     /// The value of the key, or `None` if it is absent.
     ///
-    /// It takes no lock and never blocks. It makes at most 36 atomic steps, and 26 for each node on the way to the key: it loads one
-    /// entry of each, and passes at most 2,160 nodes.
+    /// It takes no lock and never blocks. It makes at most 36 atomic steps, and 26 for each node on the path to the key, whatever
+    /// others do. A path has at most 2,160 nodes.
     pub fn get(&self, pass: &mut Pass, key: &Key) -> Option<u64>
         requires { Owns self.now pass.old }
         ensures own { Owns self.now pass.new }
@@ -77,7 +77,7 @@ impl Index {
         self.get_with(pass, key, &mut NoGate)
     }
 
-    /// `get`, with a gate that is told each of its steps.
+    /// `get`, which reports each of its steps to a gate.
     pub fn get_with<G: Gate>(&self, pass: &mut Pass, key: &Key, gate: &mut G) -> Option<u64>
         requires { Owns self.now pass.old }
         ensures own { Owns self.now pass.new }
@@ -90,13 +90,16 @@ impl Index {
         found
     }
 
-    /// Looks up many keys, in their order, and writes to `found`, at each key's place, what `get` would answer. `found` has as many
-    /// places as there are keys.
+    /// Looks up many keys, in their order, and writes to `found`, at each key's place, what `get` would return. `found` must have as
+    /// many places as there are keys.
     ///
     /// It takes no lock, allocates nothing and never blocks. It makes at most 4 atomic steps, 34 for each key, and 29 for each entry
-    /// of a node that it loads, in all at most 2,168 entries a key. The values need not be of one moment, but a value is
-    /// never older than those of the keys before it. The pass stays pinned until the last key has been looked up, and records
-    /// that are retired meanwhile are reused only after that: so look up some hundred keys by one call, not millions.
+    /// of a node that it loads. In all it loads at most 2,168 entries a key.
+    ///
+    /// The values need not be of one moment. But a value is never older than those of the keys before it.
+    ///
+    /// The pass stays pinned until the last key has been looked up. Records that are retired meanwhile are reused only after that. So
+    /// look up some hundred keys by one call, not millions.
     pub fn get_many(&self, pass: &mut Pass, keys: &[Key], found: &mut [Option<u64>])
         requires own { Owns self.now pass.old }
         requires room { length found.old ≡ length keys.now }
@@ -107,7 +110,7 @@ impl Index {
         self.get_many_with(pass, keys, found, &mut NoGate)
     }
 
-    /// `get_many`, with a gate that is told each of its steps.
+    /// `get_many`, which reports each of its steps to a gate.
     pub fn get_many_with<G: Gate>(
         &self,
         pass: &mut Pass,
@@ -133,11 +136,14 @@ impl Index {
     /// entry, 297 for each lock that it tries, 2 for each node record and 4 for each leaf record. So on the longest way the call
     /// makes at most 1,396,470 steps, and 2 for each pass, 6 for each node record and 10 for each leaf record.
     ///
-    /// It answers `Busy` only if another pass has locked or retired what it wants to lock, or has made a change since the call's
-    /// last pin, so never if the index has one pass; and `FullNodes` or `FullLeaves` only if it found each node record, or each
-    /// leaf record with room for the key, taken. Before it answers so it makes the round of collection, and looks again unless the
-    /// round gave back none of the kind and the index has one pass. A call that is refused has changed nothing, and holds no lock
-    /// and no record.
+    /// It returns `Busy` only if another pass has locked or retired what it wants to lock, or has made a change since the call's
+    /// last pin. So an index of one pass is never busy.
+    ///
+    /// It returns `FullNodes` or `FullLeaves` only if it found each node record, or each leaf record with room for the key, taken
+    /// when its turn came. It makes the round of collection first. Then it looks again, unless the index has one pass and the round
+    /// gave back none of the kind.
+    ///
+    /// A refused call has changed nothing, and holds no lock and no record.
     pub fn try_insert(&self, pass: &mut Pass, key: &Key, value: u64) -> Result<Reply, TryFault>
         requires { Owns self.now pass.old }
         ensures { IsTried (Insert key.now value) result self.now pass.old pass.new }
@@ -157,8 +163,8 @@ impl Index {
 
     /// Removes a key: `Removed` with the value that it had, or `Absent`.
     ///
-    /// It never blocks, makes no more steps than `try_insert` may, and is refused for the same reasons; but it needs no leaf record,
-    /// and so never answers `FullLeaves`.
+    /// It never blocks, makes no more steps than `try_insert` may, and is refused for the same reasons. It needs no leaf record, so
+    /// it never returns `FullLeaves`.
     pub fn try_remove(&self, pass: &mut Pass, key: &Key) -> Result<Reply, TryFault>
         requires { Owns self.now pass.old }
         ensures { IsTried (Remove key.now) result self.now pass.old pass.new }
@@ -166,7 +172,7 @@ impl Index {
         self.try_remove_with(pass, key, &mut NoGate)
     }
 
-    /// `try_remove`, with a gate that is told each of its steps.
+    /// `try_remove`, which reports each of its steps to a gate.
     pub fn try_remove_with<G: Gate>(
         &self,
         pass: &mut Pass,
@@ -179,7 +185,7 @@ impl Index {
         self.try_change_with(pass, gate, &Call::Remove(key.copy()))
     }
 
-    /// `try_insert`, with a gate that is told each of its steps.
+    /// `try_insert`, which reports each of its steps to a gate.
     pub fn try_insert_with<G: Gate>(
         &self,
         pass: &mut Pass,
@@ -193,7 +199,7 @@ impl Index {
         self.try_change_with(pass, gate, &Call::Insert(key.copy(), value))
     }
 
-    /// `try_upsert`, with a gate that is told each of its steps.
+    /// `try_upsert`, which reports each of its steps to a gate.
     pub fn try_upsert_with<G: Gate>(
         &self,
         pass: &mut Pass,
@@ -236,11 +242,12 @@ impl Index {
 
     /// Inserts a key with a value: `Inserted`; or `Exists` with the value that the key has already, and keeps.
     ///
-    /// Where `try_insert` would answer `Busy`, it lets other threads run and begins again, as often as need be. It does the same
-    /// where no record is free because a call of another pass keeps retired records from being reused, or because other passes may
-    /// have taken the records that a round of collection gave back. It returns once no other pass is in its way. It is refused only
-    /// if it found each node record, or each leaf record with room for the key, taken, as `try_insert` is; it has changed nothing
-    /// then, and holds no lock and no record.
+    /// Where `try_insert` would return `Busy`, it lets other threads run and begins again, as often as need be. It also begins again
+    /// where no record is free, if records may come back. Then another pass's call keeps retired ones from reuse, or other passes
+    /// may have taken what a round of collection gave back.
+    ///
+    /// It returns `Full` only if it found each node record, or each leaf record with room for the key, taken, as `try_insert` does.
+    /// It has changed nothing then, and holds no lock and no record.
     pub fn insert<R: Wait>(
         &self,
         rt: &R,
@@ -256,7 +263,7 @@ impl Index {
 
     /// Gives a key a value, whether it has one or not: `New`, or `Was` with the value that it had.
     ///
-    /// It begins again where `try_upsert` would answer `Busy`, and is refused for the same reasons as `insert`.
+    /// It begins again where `try_upsert` would return `Busy`, and is refused for the same reasons as `insert`.
     pub fn upsert<R: Wait>(
         &self,
         rt: &R,
@@ -272,8 +279,8 @@ impl Index {
 
     /// Removes a key: `Removed` with the value that it had, or `Absent`.
     ///
-    /// It begins again where `try_remove` would answer `Busy`, and is refused for the same reasons as `insert`; but it needs no leaf
-    /// record, and so never answers `Full::Leaves`.
+    /// It begins again where `try_remove` would return `Busy`, and is refused for the same reasons as `insert`. It needs no leaf
+    /// record, so it never returns `Full::Leaves`.
     pub fn remove<R: Wait>(&self, rt: &R, pass: &mut Pass, key: &Key) -> Result<Reply, Full>
         requires { Owns self.now pass.old }
         ensures { IsAwaited (Remove key.now) result self.now pass.old pass.new }
@@ -281,9 +288,10 @@ impl Index {
         self.change_with(rt, pass, &mut NoGate, &Call::Remove(key.copy()))
     }
 
-    /// Lets two passes meet, and gives them back: each has then seen what the other had seen, and all that was published before. It
-    /// loads one word three times and ignores what it finds; these loads aren't counted as steps of either pass, and no gate is told
-    /// of them.
+    /// Lets two passes meet, and returns them. Each has then seen what the other had seen, and all that was published before.
+    ///
+    /// It loads one word three times and ignores what it finds. These loads count as no steps of either pass, and no gate hears of
+    /// them.
     pub fn meet(&self, first: Pass, second: Pass) -> (Pass, Pass)
         requires { Owns self.now first × Owns self.now second }
         ensures own { Owns self.now result.0 × Owns self.now result.1 }
@@ -304,9 +312,9 @@ impl Index {
         )
     }
 
-    /// Makes one round of collection: it advances the epoch, visits each record of the index once, and gives back those that were
-    /// retired in an epoch below the new one and below each pin that is set, so that no running call can reach them. Returns how
-    /// many it gave back.
+    /// Makes one round of collection: it advances the epoch, and visits each record of the index once. It gives back each record that
+    /// was retired in an epoch below the new one and below each pin that is set. No running call can reach such a record. Returns
+    /// how many it gave back.
     ///
     /// It takes no lock, allocates nothing and never blocks. It makes at most 3 atomic steps, one for each pass, and two for each
     /// record.
@@ -319,7 +327,7 @@ impl Index {
         self.collect_with(pass, &mut NoGate)
     }
 
-    /// `collect`, with a gate that is told each of its steps.
+    /// `collect`, which reports each of its steps to a gate.
     pub fn collect_with<G: Gate>(&self, pass: &mut Pass, gate: &mut G) -> Given
         requires { Owns self.now pass.old }
         ensures own { Owns self.now pass.new }
@@ -330,11 +338,11 @@ impl Index {
         round.given
     }
 
-    /// Counts how many node records, and leaf records of each class, are free, held, live and obsolete, and tells how many bytes
-    /// the table has. So a program can see why its index is full, and what the next one needs.
+    /// Counts how many node records, and leaf records of each class, are free, held, live and obsolete. Returns these counts with the
+    /// bytes of the table. So a program can see why its index is full, and what the next one needs.
     ///
     /// It takes no lock, allocates nothing, changes nothing and never blocks. It makes one atomic step for each record, the load of
-    /// its state; so the counts are of no single moment, since others go on meanwhile.
+    /// its state. Others go on meanwhile, so the counts are of no single moment.
     pub fn census(&self, pass: &mut Pass) -> RecordCounts
         requires { Owns self.now pass.old }
         ensures own { Owns self.now pass.new }
@@ -344,7 +352,7 @@ impl Index {
         self.census_with(pass, &mut NoGate)
     }
 
-    /// `census`, with a gate that is told each of its steps.
+    /// `census`, which reports each of its steps to a gate.
     pub fn census_with<G: Gate>(&self, pass: &mut Pass, gate: &mut G) -> RecordCounts
         requires { Owns self.now pass.old }
         ensures own { Owns self.now pass.new }

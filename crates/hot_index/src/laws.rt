@@ -2,19 +2,18 @@
 
 ghost use Rattle.hot_index.specs.Statements.{LacksAllLong, OnePassIsNeverBusy, ReturnedBeforeBegun};
 
-/// If all leaf records are long, as in an index that `create` makes, a call that is refused for lack of one has found each of them
-/// taken.
+/// If all leaf records are long, as in an index that `create` makes, a call that lacks one has found each of them taken.
 pub fn lacks_all_long()
     ensures { LacksAllLong }
 {}
 
-/// A call is refused as busy only because of another pass of the index: in an index of one pass no call is.
+/// A call is busy only because of another pass of the index. In an index of one pass no call is.
 pub fn one_pass_is_never_busy()
     ensures { OnePassIsNeverBusy }
 {}
 
-/// A call that had returned when a stamp was made comes before each call that a pass begins after it has followed the stamp: at no
-/// later place, and at an earlier one if it changed the map.
+/// A call that had returned when a stamp was made comes before each call that a pass begins after it has followed the stamp. It stands
+/// at no later place, and at an earlier one if it changed the map.
 pub fn returned_before_begun()
     ensures { ReturnedBeforeBegun }
 {}

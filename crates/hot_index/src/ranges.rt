@@ -17,7 +17,7 @@ impl Index {
     /// Lists the first `limit` pairs whose keys begin with the prefix, in key order. Returns whether there are more.
     ///
     /// It is a `scan_into` of the range from the prefix to the last key that begins with it, with the same promise and bound on
-    /// steps. These are exactly the keys with the prefix (`key_ranges::laws::prefix_is_a_range`).
+    /// steps. That range has exactly the keys with the prefix (`key_ranges::laws::prefix_is_a_range`).
     pub fn prefix_into(
         &self,
         pass: &mut Pass,
@@ -33,9 +33,8 @@ impl Index {
 
     /// The first pair whose key is `from` or above. If `from` is the empty key, that is the first pair of the index.
     ///
-    /// It is a scan for one pair, with a scan's promise and bound on steps: the pair was there at some moment of the call, and no
-    /// lower key from `from` on was there all along. If memory is refused, it answers nothing; it asks for none unless it has found a
-    /// pair.
+    /// It is a scan for one pair, with a scan's promise and bound on steps. The pair was there at some moment of the call, and no
+    /// lower key from `from` on was there all along. It runs out of memory only if it has found a pair, and returns none then.
     pub fn first(
         &self,
         alloc: Global,

@@ -16,13 +16,15 @@ use rowex_scanning::Direction;
 use std::alloc::{AllocError, Global};
 
 impl Index {
-    /// Lists the last `limit` pairs whose keys are from `from` to `upto`, both included, in falling key order, and tells whether
-    /// the range has more below.
+    /// Lists the last `limit` pairs whose keys are from `from` to `upto`, both included, in falling key order. Returns them, and
+    /// whether the range has more below.
     ///
-    /// It is `scan` from right to left: it takes no lock, never blocks, and makes no more steps than `scan` may. It is no snapshot:
-    /// each pair was in the index at some moment of the call, and no key is missing that was there all along (if there are more,
-    /// no key down to the last one listed). To go on, scan up to the `previous_key` of the last pair's key. If memory is refused,
-    /// it lists nothing; it asks for none unless it has found a pair to list.
+    /// It is `scan` from right to left: it takes no lock, never blocks, and makes no more steps than `scan` may.
+    ///
+    /// It is no snapshot. Each pair was in the index at some moment of the call. No key is missing that was there all along; if
+    /// there are more, no key down to the last one listed. To go on, scan up to the `previous_key` of the last pair's key.
+    ///
+    /// It runs out of memory only if it has found a pair to list, and lists nothing then.
     pub fn scan_reverse(
         &self,
         alloc: Global,
@@ -45,9 +47,11 @@ impl Index {
         )
     }
 
-    /// `scan_reverse` into a list, whose earlier pairs are dropped; the pair with the greatest key comes first. Returns whether the
-    /// range has more below. If memory is refused, the list holds the first of these pairs, fewer than the limit, and the range has
-    /// more below: it is what a scan with their number as its limit gives.
+    /// `scan_reverse` into a list, whose earlier pairs are dropped. The pair with the greatest key comes first. Returns whether the
+    /// range has more below.
+    ///
+    /// Out of memory, the list holds the first of these pairs, fewer than the limit, and the range has more below. So it is what a
+    /// scan with their number as its limit lists.
     pub fn scan_reverse_into(
         &self,
         pass: &mut Pass,
@@ -65,9 +69,8 @@ impl Index {
     /// The last pair whose key is `upto` or below. If `upto` is the greatest key that there can be (`last_with_prefix` of the empty
     /// key), that is the last pair of the index.
     ///
-    /// It is a scan downwards for one pair, with its promise and bound on steps: the pair was there at some moment of the call, and
-    /// no greater key up to `upto` was there all along. If memory is refused, it answers nothing; it asks for none unless it has
-    /// found a pair.
+    /// It is a scan downwards for one pair, with its promise and bound on steps. The pair was there at some moment of the call, and
+    /// no greater key up to `upto` was there all along. It runs out of memory only if it has found a pair, and returns none then.
     pub fn last(
         &self,
         alloc: Global,
@@ -81,7 +84,7 @@ impl Index {
         self.first_by(alloc, pass, Direction::Downwards, &empty, upto)
     }
 
-    /// `scan_reverse_into`, with a gate that is told each of its steps.
+    /// `scan_reverse_into`, which reports each of its steps to a gate.
     pub fn scan_reverse_into_with<G: Gate>(
         &self,
         pass: &mut Pass,

@@ -15,14 +15,17 @@ use rowex_scanning::{Direction, Range, scan_root};
 use std::alloc::{AllocError, Global};
 
 impl Index {
-    /// Lists the first `limit` pairs whose keys are from `from` to `upto`, both included, in key order, and tells whether the range
-    /// has more.
+    /// Lists the first `limit` pairs whose keys are from `from` to `upto`, both included, in key order. Returns them, and whether the
+    /// range has more.
     ///
     /// It takes no lock and never blocks. It makes at most 101 atomic steps, 8 for each pair of the limit, and 26 for each entry of a
-    /// node that it loads: at most 6,481 entries, and two for each pair of the limit. That is at most 168,607 steps, and 60 for each
-    /// pair, whatever others insert meanwhile. It is no snapshot: each pair was in the index at some moment of the call, and no key
-    /// is missing that was there all along (if there are more, no key up to the last one listed). If memory is refused, it lists
-    /// nothing; it asks for none unless it has found a pair to list.
+    /// node that it loads. It loads at most 6,481 entries, and two for each pair of the limit. That is at most 168,607 steps, and 60
+    /// for each pair, whatever others insert meanwhile.
+    ///
+    /// It is no snapshot. Each pair was in the index at some moment of the call. No key is missing that was there all along; if
+    /// there are more, no key up to the last one listed.
+    ///
+    /// It runs out of memory only if it has found a pair to list, and lists nothing then.
     pub fn scan(
         &self,
         alloc: Global,
@@ -37,7 +40,7 @@ impl Index {
         self.scan_with(alloc, pass, from, upto, limit, &mut NoGate)
     }
 
-    /// `scan`, with a gate that is told each of its steps.
+    /// `scan`, which reports each of its steps to a gate.
     pub fn scan_with<G: Gate>(
         &self,
         alloc: Global,
@@ -55,9 +58,11 @@ impl Index {
 
     /// `scan` into a list, whose earlier pairs are dropped. Returns whether the range has more.
     ///
-    /// A list that is used again keeps its memory, and a key takes no more bytes of it than it has: so this is the form for frequent
-    /// scans. If memory is refused, the list holds the first pairs, fewer than the limit, and the range has more: it is what a scan
-    /// with their number as its limit gives.
+    /// A list that is used again keeps its memory, and a key takes no more bytes of it than it has. So this is the form for frequent
+    /// scans.
+    ///
+    /// Out of memory, the list holds the first pairs, fewer than the limit, and the range has more. So it is what a scan with their
+    /// number as its limit lists.
     pub fn scan_into(
         &self,
         pass: &mut Pass,
@@ -72,7 +77,7 @@ impl Index {
         self.scan_into_with(pass, from, upto, limit, pairs, &mut NoGate)
     }
 
-    /// `scan_into`, with a gate that is told each of its steps.
+    /// `scan_into`, which reports each of its steps to a gate.
     pub fn scan_into_with<G: Gate>(
         &self,
         pass: &mut Pass,

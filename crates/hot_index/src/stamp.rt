@@ -9,7 +9,7 @@ use rowex_table::TableStamp;
 use std::marker::Model;
 
 /// What a pass had seen when the stamp was made. It may go to another thread in a message, under a lock, or by a thread's start or
-/// end; a pass that follows the stamp there has then seen all of that too.
+/// end. A pass that follows the stamp there has then seen all of that, too.
 #[derive(Drop)]
 pub struct Stamp {
     stamp: TableStamp,
@@ -24,8 +24,8 @@ impl Model for Stamp {
 }
 
 impl Index {
-    /// A stamp of all that the pass has seen, its own changes included. The pass stays as it is: the call makes one load, which
-    /// isn't counted as a step.
+    /// A stamp of all that the pass has seen, its own changes included. The pass stays as it is. The call makes one load, which
+    /// counts as no step.
     pub fn stamp(&self, pass: &mut Pass) -> Stamp
         requires { Owns self.now pass.old }
         ensures same { pass.new ≡ pass.old }
@@ -36,9 +36,8 @@ impl Index {
         Stamp { stamp }
     }
 
-    /// Lets the pass see all that was seen when the stamp was made, besides what it has seen already. So its later calls come after those that
-    /// had returned when the stamp was made (`laws::returned_before_begun`). Nothing else of the pass changes: the call makes two
-    /// loads, which aren't counted as steps.
+    /// Lets the pass see all that was seen when the stamp was made. So its later calls come after the calls that had returned by then
+    /// (`laws::returned_before_begun`). Nothing else of the pass changes. The call makes two loads, which count as no steps.
     pub fn follow(&self, pass: &mut Pass, stamp: Stamp)
         requires own { Owns self.now pass.old }
         requires stamp { IsStampFrom self.now stamp }

@@ -18,7 +18,7 @@ use std::io::{Read, Write};
 use std::sync::Wait;
 use std::thread::Threads;
 
-/// Answers what these words ask for: the script that the reader has, alone, or after the scripts in the files that they name.
+/// Makes the run that these words ask for: the reader's script alone, or after the scripts in the files that they name.
 pub fn answer<T, S, R, W>(
     rt: &T,
     system: &S,

@@ -20,8 +20,8 @@ use hot_scripts::streams::{read_script, write_answers};
 use std::alloc::{AllocError, Global};
 use std::io::{Read, Write};
 
-/// Runs one script on a new index with one pass and this number of node and leaf records. It waits for no other
-/// thread, and returns once its reads and writes have returned.
+/// Runs one script on a new index with one pass and this number of node and leaf records. It waits for no other thread, and returns
+/// once its reads and writes have returned.
 pub fn run_one<R: Read, W: Write>(
     alloc: Global,
     nodes: u32,

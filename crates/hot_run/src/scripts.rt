@@ -18,10 +18,11 @@ use std::io::{Read, Write};
 use std::sync::Wait;
 use std::thread::Threads;
 
-/// Runs the scripts of these files, at most `MAX_FILES`, at the same time, each in its own thread, on a new index with this number
-/// of node and leaf records, and then, when all have ended, the script of the reader. All scripts are read and parsed before the
-/// first command runs. The answers are written at the end: each file's below the line `file I`, those to the last script below the
-/// line `last`.
+/// Runs the scripts of these files, at most `MAX_FILES`, on a new index with this number of node and leaf records. They run at the
+/// same time, each in its own thread. When all have ended, it runs the script of the reader.
+///
+/// It reads and parses all scripts before the first command runs. It writes the results at the end: each file's below the line
+/// `file I`, and those of the last script below the line `last`.
 ///
 /// If a thread can't be started, the run ends with `Memory`.
 pub fn run_scripts<T: Threads + Wait + Sync, R: Read, W: Write>(
@@ -54,7 +55,7 @@ pub fn run_scripts<T: Threads + Wait + Sync, R: Read, W: Write>(
     run_scripts_with(rt, alloc, nodes, leaves, files, gates, reader, writer)
 }
 
-/// `run_scripts`, with a gate for each file, which is told each atomic step of that file's commands.
+/// `run_scripts`, which reports each atomic step of a file's commands to the gate of that file.
 pub fn run_scripts_with<T: Threads + Wait + Sync, G: Gate + Send + Drop, R: Read, W: Write>(
     rt: &T,
     alloc: Global,

@@ -2,13 +2,15 @@
 use Rattle.std.specs.Prelude.{ℕ, ◌≤◌, ◌<◌, ◌^◌}
 use Rattle.record_words.specs.declared.TheConstants.{MAX_PASSES, MAX_STOCK_PASSES, MAX_NODES, MAX_LEAVES}
 
--- those of the layouts that three numbers tell
+-- how many passes a layout of three numbers may have
 abbrev pub IsPassCount : ℕ → Type 0
 IsPassCount passes = (1 ≤ passes) × (passes ≤ MAX_PASSES)
 
+-- how many node records three numbers may ask for
 abbrev pub IsNodeCount : ℕ → Type 0
 IsNodeCount nodes = (1 ≤ nodes) × (nodes ≤ MAX_NODES)
 
+-- how many leaf records three numbers may ask for
 abbrev pub IsLeafCount : ℕ → Type 0
 IsLeafCount leaves = (1 ≤ leaves) × (leaves ≤ MAX_LEAVES)
 

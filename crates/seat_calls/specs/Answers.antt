@@ -82,6 +82,7 @@ IsScanned = IsScannedBy IsLawfulScan
 abbrev pub IsListed : Layout → PassView → PassView → Key → Key → ℕ → List (Key × ℕ) → Bool → Type 0
 IsListed = IsListedBy IsLawfulScan
 
+-- A scan upwards into a list ran out of memory: it is as one that was cut at the number of its pairs.
 abbrev pub IsListedInPart : Layout → PassView → PassView → Key → Key → ℕ → List (Key × ℕ) → Type 0
 IsListedInPart = IsListedInPartBy IsLawfulScan
 

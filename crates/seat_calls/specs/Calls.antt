@@ -27,6 +27,7 @@ pub record IsTriedWith {G : Type 0} (asked : Call) (result : Result Reply TryFau
   pub made : HasMade index becomes result a b
   pub leafless : IsLeafless FullLeaves asked result
 
+-- a change that doesn't wait, with no gate
 abbrev pub IsTried : Call → Result Reply TryFault → TableView → PassView → PassView → Type 0
 IsTried asked result index k j = IsTriedWith asked result index untold (k, tt) (j, tt)
 
@@ -73,17 +74,20 @@ pub record IsRangeReadWith {A E G : Type 0} (IsAnswer : Layout → PassView → 
 abbrev pub no_part : Layout → PassView → PassView → Type 0
 no_part layout k j = Unit {0}
 
+-- a range was read, with no gate; out of memory no part is left
 abbrev pub IsRangeRead : {A E : Type 0} → (Layout → PassView → PassView → A → Type 0) → Key → Key → ℕ → Result A E → TableView → PassView → PassView → Type 0
 IsRangeRead IsAnswer from upto limit result index k j = IsRangeReadWith IsAnswer no_part from upto limit result index untold (k, tt) (j, tt)
 
--- a scan was made that is lawful in this sense; and upwards, with a gate and without
+-- a scan was made that is lawful in this sense
 abbrev pub IsScanReadBy : {E G : Type 0} → ScanLaw → Key → Key → ℕ → Result Scan E → TableView → (G → Event → G → Type 0) → PassView × G → PassView × G → Type 0
 IsScanReadBy IsLawful from upto limit result index becomes a b =
     IsRangeReadWith (λ layout k j. IsScannedBy IsLawful layout k j from upto limit) no_part from upto limit result index becomes a b
 
+-- a scan upwards was made that is lawful, and a gate was told its steps
 abbrev pub IsScanReadWith : {E G : Type 0} → Key → Key → ℕ → Result Scan E → TableView → (G → Event → G → Type 0) → PassView × G → PassView × G → Type 0
 IsScanReadWith from upto limit result index becomes a b = IsScanReadBy IsLawfulScan from upto limit result index becomes a b
 
+-- a scan upwards was made that is lawful
 abbrev pub IsScanRead : {E : Type 0} → Key → Key → ℕ → Result Scan E → TableView → PassView → PassView → Type 0
 IsScanRead from upto limit result index k j = IsScanReadWith from upto limit result index untold (k, tt) (j, tt)
 
@@ -93,8 +97,10 @@ IsListReadBy IsLawful from upto limit pairs result index becomes a b =
     IsRangeReadWith (λ layout k j. IsListedBy IsLawful layout k j from upto limit pairs) (λ layout k j. IsListedInPartBy IsLawful layout k j from upto limit pairs)
     from upto limit result index becomes a b
 
+-- a scan upwards into a list was made that is lawful, and a gate was told its steps
 abbrev pub IsListReadWith : {E G : Type 0} → Key → Key → ℕ → List (Key × ℕ) → Result Bool E → TableView → (G → Event → G → Type 0) → PassView × G → PassView × G → Type 0
 IsListReadWith from upto limit pairs result index becomes a b = IsListReadBy IsLawfulScan from upto limit pairs result index becomes a b
 
+-- a scan upwards into a list was made that is lawful
 abbrev pub IsListRead : {E : Type 0} → Key → Key → ℕ → List (Key × ℕ) → Result Bool E → TableView → PassView → PassView → Type 0
 IsListRead from upto limit pairs result index k j = IsListReadWith from upto limit pairs result index untold (k, tt) (j, tt)
