@@ -80,6 +80,7 @@ pub record Answers (key : List ℕ) (call : Call) (old new : Option Opened) (bef
 abbrev pub HasGivenBack : ℕ → ℕ → TableView → PassView → PassView → Type 0
 HasGivenBack nodes leaves index k j = IsUnnoted index.layout k j × HasCollected index untold (k, tt) (j, tt) nodes leaves
 
+-- all of these handles are closed
 abbrev pub AreClosed : List Handle → Type 0
 AreClosed handles = All (λ h. h.slot.opened ≡ None) handles
 
@@ -106,8 +107,10 @@ HaveOpenedOn HasRecords handles = (opened : List Opened) × (map (λ h. h.slot.o
 abbrev pub HasCounts : ℕ → ℕ → Layout → Type 0
 HasCounts nodes leaves layout = (layout.nodes ≡ nodes) × (layout.leaves ≡ leaves) × (layout.long_from ≡ 0)
 
+-- the handles are open on one new index with this number of nodes and of leaves, which are all long
 abbrev pub HaveOpened : ℕ → ℕ → List Handle → Type 0
 HaveOpened nodes leaves = HaveOpenedOn (HasCounts nodes leaves)
 
+-- the handles are open on one new index with this stock
 abbrev pub HaveOpenedStock : Stock → List Handle → Type 0
 HaveOpenedStock stock = HaveOpenedOn (λ layout. HasStock layout stock)

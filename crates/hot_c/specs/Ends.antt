@@ -28,9 +28,11 @@ pub record FindsBy (Fits : Type 0) (IsFound : Layout → PassView → PassView �
       ⊎ ((status ≡ NO_MEMORY) × StaysOpen (λ index k j. IsUnnoted index.layout k j × HasPair index.layout k j) old new × (after ≡ before))
   pub read : IsSome old → Fits → StaysOpen (λ index k j. HasGotRange index untold 1 (k, tt) (j, tt)) old new
 
+-- the call found the first pair from a key on, or that there is none
 abbrev pub FindsFirst : List ℕ → Option Opened → Option Opened → Pair → Pair → ℕ → Type 0
 FindsFirst from = FindsBy (FitsInKey from) (λ layout k j. IsFirstFound layout k j from) (λ layout k j. HasFoundPair layout k j from (last_with []) 1)
 
+-- the call found the last pair up to a key, or that there is none
 abbrev pub FindsLast : List ℕ → Option Opened → Option Opened → Pair → Pair → ℕ → Type 0
 FindsLast upto = FindsBy (FitsInKey upto) (λ layout k j. IsLastFound layout k j upto) (λ layout k j. HasFoundPair layout k j [] upto 1)
 

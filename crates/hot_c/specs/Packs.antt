@@ -17,6 +17,7 @@ pub record Packing : Type 0 where
   pub count : ℕ
   pub more : ℕ
 
+-- what C sees of a packed scan, with these values
 abbrev pub packing : List ℕ → List Head → ℕ → ℕ → Packing
 packing bytes heads count more = record { bytes = bytes; heads = heads; count = count; more = more }
 

@@ -57,6 +57,7 @@ pub record Listing : Type 0 where
   pub count : ℕ
   pub more : ℕ
 
+-- what C sees of a scan, with these values
 abbrev pub listing : List Pair → ℕ → ℕ → Listing
 listing room count more = record { room = room; count = count; more = more }
 
@@ -77,8 +78,10 @@ ListsBy = ListsInto (λ (it : Listing). length it.room) IsArrayListed
 abbrev pub Lists : List ℕ → List ℕ → Option Opened → Option Opened → Listing → Listing → ℕ → Type 0
 Lists = ListsBy IsListed
 
+-- a scan downwards: the last pairs of the range, in falling order
 abbrev pub ListsReverse : List ℕ → List ℕ → Option Opened → Option Opened → Listing → Listing → ℕ → Type 0
 ListsReverse = ListsBy IsReverseListed
 
+-- the last pairs of the range, in rising order
 abbrev pub ListsLast : List ℕ → List ℕ → Option Opened → Option Opened → Listing → Listing → ℕ → Type 0
 ListsLast = ListsBy IsLastListed
