@@ -43,9 +43,10 @@ abbrev pub ListsPackedBy : (Layout → PassView → PassView → List ℕ → Li
     List ℕ → List ℕ → Option Opened → Option Opened → Packing → Packing → ℕ → Type 0
 ListsPackedBy IsMade = ListsInto (λ (it : Packing). length it.heads) IsPackListed (IsListedByParts IsMade)
 
--- from the first key on, and from the last one downwards
+-- from the first key on
 abbrev pub ListsPacked : List ℕ → List ℕ → Option Opened → Option Opened → Packing → Packing → ℕ → Type 0
 ListsPacked = ListsPackedBy IsListed
 
+-- from the last key downwards
 abbrev pub ListsPackedReverse : List ℕ → List ℕ → Option Opened → Option Opened → Packing → Packing → ℕ → Type 0
 ListsPackedReverse = ListsPackedBy IsReverseListed

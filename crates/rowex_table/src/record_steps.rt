@@ -184,7 +184,13 @@ impl HotTable {
     }
 
     /// Makes a record free, if it finds it obsolete in this epoch; returns the state word that it found.
-    pub fn give_back<G: Gate>(&self, seat: &mut TableSeat, gate: &mut G, rec: Rec, epoch: u64) -> u64
+    pub fn give_back<G: Gate>(
+        &self,
+        seat: &mut TableSeat,
+        gate: &mut G,
+        rec: Rec,
+        epoch: u64,
+    ) -> u64
         requires own { IsSeatOf self.now seat.old }
         requires range { HasRecord self.now.layout rec × (epoch < EPOCHS) }
         requires may { MayStep self.now.layout (λ found. GiveBack rec epoch found) seat.old.known }

@@ -55,6 +55,7 @@ pub record IsAwaitedWith {G : Type 0} (asked : Call) (result : Result Reply Full
   pub leafless : IsLeafless Leaves asked result
   pub told : HasTold index becomes a b
 
+-- the same, where nobody is told of its steps
 abbrev pub IsAwaited : Call → Result Reply Full → TableView → PassView → PassView → Type 0
 IsAwaited asked result index k j = IsAwaitedWith asked result index untold (k, tt) (j, tt)
 
