@@ -20,7 +20,7 @@ use Rattle.rowex_table.specs.Seats.{SeatView}
 use Rattle.seat_calls.specs.Answers.{IsNoted}
 use Rattle.seat_calls.specs.Passes.{pass_of}
 use Rattle.real_time.specs.Moments.{Happening, IsCallTurn, IsMomentStep, Moment, Pending, invokes, responds, shows, steps}
-use Rattle.index_laws.specs.Executions.{Follows, IsExecution}
+use Rattle.index_laws.specs.Executions.{LeadsOn, IsExecution}
 use Rattle.index_laws.specs.Statements.{AGetReturns}
 use Rattle.index_laws.proofs.Timed.{opening_is_new}
 
@@ -121,7 +121,7 @@ module _ (layout : Layout) (below : 0 < layout.passes) (table : TableId) (key : 
     legal = record { legal = tt; each = All-cons (StandsIn [] 0) note [] stands (All-nil (StandsIn [] 0)); rising = (le_refl 0, tt); own = refl };
   }
 
-  follows : (t : ℕ) → t < 6 → Follows layout at t (happens t)
+  follows : (t : ℕ) → t < 6 → LeadsOn layout at t (happens t)
   follows zero low = (refl, is_turn layout new 0 (Some asked) below)
   follows (suc zero) low = is_step invoked 0 (LoadEpoch 1) [] asked (below, refl) refl
   follows (suc (suc zero)) low = is_step begun 0 (SetPin 1) [] asked (below, (refl, refl, le_refl 1)) refl

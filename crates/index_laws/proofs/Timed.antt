@@ -24,7 +24,7 @@ use Rattle.seat_calls.specs.Passes.{pass_of}
 use Rattle.real_time.specs.Moments.{Continues, Happening, IsPlacedSince, IsResponse, IsWholeRun, Moment, Pending, invokes, refuses, responds, shows, steps}
 use Rattle.real_time.proofs.Completing.{linearizable}
 use Rattle.real_time.proofs.Growing.{longer, runs_stay_sound}
-use Rattle.index_laws.specs.Executions.{AreAnswered, Follows, IsExecution, IsQuiet, IsReturning}
+use Rattle.index_laws.specs.Executions.{HasAnsweredMany, LeadsOn, IsExecution, IsQuiet, IsReturning}
 use Rattle.index_laws.specs.Statements.{ExecutionsAreLinearizable, ExecutionsAreRuns, LackMayRefuse, OpeningIsNew, RefusedIsRefused, Responses, ReturnedResponds}
 
 new_knows : (c : Core) (m : ℕ) → m < c.layout.passes → IsUntouched c m → Knows c (opening_of m)
@@ -86,7 +86,7 @@ calls_same added asked e = firsts added ∙ ap (λ xs. map (λ (x : Call × Repl
     firsts (n ∷ ns) = ap (λ z. n.call ∷ z) (firsts ns)
 
 many_are_response : (layout : Layout) (last : ℕ) (at : ℕ → Moment) (happens : ℕ → Happening) → IsWholeRun layout last at happens → (q t : ℕ) (call : Pending) (s e : SeatView) → q < layout.passes →
-    t ≤ last → IsReturning layout at q t call s e → (notes : List Note) → (x : AreAnswered layout at q t call s e notes) → IsResponse at t q call x.noted.added
+    t ≤ last → IsReturning layout at q t call s e → (notes : List Note) → (x : HasAnsweredMany layout at q t call s e notes) → IsResponse at t q call x.noted.added
 many_are_response layout last at happens run q t call s e low within ends notes x =
     let m : ℕ = x.m in
     let f : SeatView = x.f in
@@ -161,7 +161,7 @@ lack_may_refuse (RemoveIf key expected) Leaves lack = lack
 -- Executions
 
 module _ (layout : Layout) (at : ℕ → Moment) (happens : ℕ → Happening) where
-  continues : (t : ℕ) → IsWholeRun layout t at happens → (h : Happening) → Follows layout at t h → Continues layout at t h
+  continues : (t : ℕ) → IsWholeRun layout t at happens → (h : Happening) → LeadsOn layout at t h → Continues layout at t h
   continues t run (steps q act notes) x = x
   continues t run (shows q front) x = x
   continues t run (invokes q calls) x = x

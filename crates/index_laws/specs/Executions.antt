@@ -31,7 +31,7 @@ pub record IsAnswered (layout : Layout) (call : Pending) (k j : PassView) (notes
 
 -- It asked look-ups, which were noted. As `HasGotMany` says, the pass saw all changes at the call's first load of the root, and none of the
 -- look-ups stands before these: f knows what the pass knew then, at moment m.
-pub record AreAnswered (layout : Layout) (at : ℕ → Moment) (q t : ℕ) (call : Pending) (s e : SeatView) (notes : List Note) : Type 0 where
+pub record HasAnsweredMany (layout : Layout) (at : ℕ → Moment) (q t : ℕ) (call : Pending) (s e : SeatView) (notes : List Note) : Type 0 where
   pub asked : List (Call × Reply)
   pub calls : map (λ x. x.0) asked ≡ call.calls
   pub noted : AreNoted layout (pass_of s) (pass_of e) asked
@@ -55,7 +55,7 @@ pub record IsQuiet (call : Pending) (k j : PassView) (notes : List Note) : Type 
 abbrev pub HasReturned : Layout → (ℕ → Moment) → ℕ → ℕ → Pending → List Note → Type 0
 HasReturned layout at q t call notes =
     (s : SeatView) × (e : SeatView) × IsReturning layout at q t call s e ×
-    (IsAnswered layout call (pass_of s) (pass_of e) notes ⊎ (AreAnswered layout at q t call s e notes ⊎ IsQuiet call (pass_of s) (pass_of e) notes))
+    (IsAnswered layout call (pass_of s) (pass_of e) notes ⊎ (HasAnsweredMany layout at q t call s e notes ⊎ IsQuiet call (pass_of s) (pass_of e) notes))
 
 -- The call asked one of the map, and is refused at moment t.
 abbrev pub HasBeenRefused : Layout → (ℕ → Moment) → ℕ → ℕ → Pending → Type 0
@@ -64,14 +64,14 @@ HasBeenRefused layout at q t call =
     IsRefused layout asked (pass_of s) (pass_of e) fault × MayRefuse asked fault
 
 -- what happens at moment t of an execution leads to the next one: as in a run, and each call that ends has ended as its contract says
-abbrev pub Follows : Layout → (ℕ → Moment) → ℕ → Happening → Type 0
-Follows layout at t (steps q act notes) = Continues layout at t (steps q act notes)
-Follows layout at t (shows q front) = Continues layout at t (shows q front)
-Follows layout at t (invokes q calls) = Continues layout at t (invokes q calls)
-Follows layout at t (responds q notes) = (call : Pending) × HasReturned layout at q t call notes × IsCallTurn layout (at t) (at (suc t)) q None
-Follows layout at t (refuses q) = (call : Pending) × HasBeenRefused layout at q t call × IsCallTurn layout (at t) (at (suc t)) q None
+abbrev pub LeadsOn : Layout → (ℕ → Moment) → ℕ → Happening → Type 0
+LeadsOn layout at t (steps q act notes) = Continues layout at t (steps q act notes)
+LeadsOn layout at t (shows q front) = Continues layout at t (shows q front)
+LeadsOn layout at t (invokes q calls) = Continues layout at t (invokes q calls)
+LeadsOn layout at t (responds q notes) = (call : Pending) × HasReturned layout at q t call notes × IsCallTurn layout (at t) (at (suc t)) q None
+LeadsOn layout at t (refuses q) = (call : Pending) × HasBeenRefused layout at q t call × IsCallTurn layout (at t) (at (suc t)) q None
 
 -- An execution: the index is new at first, and what happens at each moment before the last leads to the next one.
 pub record IsExecution (layout : Layout) (last : ℕ) (at : ℕ → Moment) (happens : ℕ → Happening) : Type 0 where
   pub new : IsNewIndex layout (at 0)
-  pub next : (t : ℕ) → t < last → Follows layout at t (happens t)
+  pub next : (t : ℕ) → t < last → LeadsOn layout at t (happens t)

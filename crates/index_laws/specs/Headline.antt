@@ -36,7 +36,7 @@ use Rattle.hot_index.specs.Statements.{ReturnedBeforeBegun}
 use Rattle.real_time.specs.Moments.{Happening, IsWholeRun, Moment, Pending}
 use Rattle.real_time.specs.Scanning.{IsScanInTime, map_at}
 use Rattle.index_laws.specs.Lives.{OneHistoryOfAll}
-use Rattle.index_laws.specs.Executions.{AreAnswered, IsReturning}
+use Rattle.index_laws.specs.Executions.{HasAnsweredMany, IsReturning}
 use Rattle.index_laws.specs.Statements.{ExecutionsAreLinearizable, Responses}
 
 -- The answered calls of a pass, with the changes of others that it has seen, are a legal history of a finite map, in which each stands once
@@ -66,7 +66,7 @@ abbrev pub FreshnessOfMany : Type 0
 FreshnessOfMany =
     (layout : Layout) (last : ℕ) (at : ℕ → Moment) (happens : ℕ → Happening) → IsWholeRun layout last at happens →
     (q t : ℕ) → q < layout.passes → t ≤ last → (call : Pending) (s e : SeatView) → IsReturning layout at q t call s e →
-    (notes : List Note) → AreAnswered layout at q t call s e notes →
+    (notes : List Note) → HasAnsweredMany layout at q t call s e notes →
     All (λ n. (m : ℕ) × (call.since ≤ m) × (m ≤ t) × (n.reply ≡ reply_of (map_at at m) n.call)) notes
 
 -- A scan that a pass made from its invocation to moment t of a run is lawful from what the pass saw at its last load of the root to what it
