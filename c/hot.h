@@ -140,9 +140,9 @@ typedef struct hot_stock {
 hot_status hot_create_with(const hot_stock *stock, hot_handle *handles, size_t count);
 
 /* Writes a stock for `keys` keys of at most `longest` bytes each: 9 leaves for 8 keys, of the smallest size with room for such a key,
- * one node for 8 keys, and 512 more of both. That was enough for random keys, URLs and numbers of 8 bytes, even after many removals,
- * and is for eight threads that change the index. For text with a rising number, of which old ones go, take a node for 6 keys. Keys
- * that are long chains of prefixes may take up to one node each. */
+ * one node for 8 keys, and 512 more of both. That was enough for random keys, URLs, numbers and text with a rising number, also where
+ * keys came and went for long, and is for eight threads that change the index. Keys that are long chains of prefixes may take up to
+ * one node each. */
 void hot_stock_for_keys(uint32_t keys, size_t longest, hot_stock *stock);
 
 /* Writes a stock for keys of different lengths: `keys` has five numbers, of keys of up to 8, 24, 56, 88 and HOT_MAX_KEY bytes. For each
