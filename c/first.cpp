@@ -1,9 +1,9 @@
 #include "hot.hpp"
 #include <iostream>
 int main() {
-    auto handles = hot::create(hot::stock_for_keys(100000, 24), 2); // keys of up to 24 bytes, two threads
-    auto &h = handles[0];
-    h.upsert("pear", 3);
+    hot::index index(100000, 24); // so many keys of up to 24 bytes
+    hot::handle h = index.open(); // each thread has a handle of its own
+    if (h.upsert("pear", 3).is_refused()) return 1;
     if (const auto value = h.get("pear")) std::cout << *value << '\n';
     for (const auto [key, value] : h.scan_prefix("p")) std::cout << key << ' ' << value << '\n';
 }
