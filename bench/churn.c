@@ -1,6 +1,6 @@
 /* Keys come and go while their number stays: how many keys there are for each node then, how many calls were refused as full, and how
  * long look-ups take beside those of a fresh index with the same keys. The index has the records that hot_stock_for_keys gives. Then an
- * index that shrinks, and one that grows and shrinks in turn. bench/churn builds and runs it. */
+ * index that shrinks, and one that grows and shrinks in turn. `bench/run churn` builds and runs it. */
 #include "keys.h"
 #include <pthread.h>
 

@@ -1,4 +1,4 @@
-/* Makes so many calls of one kind on an index that has so many random keys of 8 bytes, or URLs. bench/count runs it with two numbers of
+/* Makes so many calls of one kind on an index that has so many random keys of 8 bytes, or URLs. `bench/run count` runs it with two numbers of
  * calls, under valgrind, and subtracts. The keys of the calls are made before the first, as many in each run, so they don't count. */
 #include "keys.h"
 

@@ -1,7 +1,7 @@
 /* Times the memory alone that a call takes: in a table that is laid out as hot_create's, with nodes of 22 entries whose records and leaves
  * lie in no order, a loop in C makes the loads and the sequentially consistent stores of each call, in turn as the call needs them, and
  * nothing else. It compares no keys and gathers no bits, and of a scan's pairs it writes the bytes once. The second time is with plain
- * stores. The third, where the processor has AVX2, is with the search of each node by hand. bench/floor builds and runs it. */
+ * stores. The third, where the processor has AVX2, is with the search of each node by hand. `bench/run floor` builds and runs it. */
 #include "keys.h"
 #include <pthread.h>
 #include <stdint.h>

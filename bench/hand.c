@@ -1,6 +1,6 @@
 /* Times look-ups by hot_get, and by a function in C over the same index's table that reads what a look-up has to read, checks each answer
  * and does nothing else: how much of a look-up's time is the table's form, and how much the proved code. It finds the table in the program's
- * memory by its first words, as docs/FORMATS.md has them. bench/hand builds and runs it, on a processor with AVX2. */
+ * memory by its first words, as docs/FORMATS.md has them. `bench/run hand` builds and runs it, on a processor with AVX2. */
 #include "keys.h"
 #include "search.h"
 #include <pthread.h>

@@ -1,5 +1,5 @@
 /* Fills an index with many random keys of 8 bytes, looks each up, and goes through all by scans; says on standard error how far it is,
- * and at the end how long each part took. bench/large builds and runs it. */
+ * and at the end how long each part took. `bench/run large` builds and runs it. */
 #include "keys.h"
 
 enum { PAGE = 1000, TOLD = 20 };

@@ -1,4 +1,4 @@
-/* Measures look-ups of one key a call beside those of many keys a call, on an index of random keys of 8 bytes. bench/many builds and
+/* Measures look-ups of one key a call beside those of many keys a call, on an index of random keys of 8 bytes. `bench/run many` builds and
  * runs it. */
 #include "keys.h"
 

@@ -1,5 +1,5 @@
 /* Tells how many keys there are for each node of an index: once keys of a kind have been inserted, in the order of their numbers,
- * and once a share of them, drawn by chance, has been replaced by keys of the next numbers, some times over. bench/nodes builds
+ * and once a share of them, drawn by chance, has been replaced by keys of the next numbers, some times over. `bench/run nodes` builds
  * and runs it. */
 #include "keys.h"
 

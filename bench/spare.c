@@ -1,5 +1,5 @@
 /* Measures upserts where few leaf records are to spare, on an index of random keys of 8 bytes: the time of a call, and how many calls are
- * refused. bench/spare builds and runs it. */
+ * refused. `bench/run spare` builds and runs it. */
 #include "keys.h"
 #include <pthread.h>
 

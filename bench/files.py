@@ -1,7 +1,7 @@
 #!/usr/bin/env python3
 """Counts the answers `full nodes` and `full leaves` of runs of hot-run with several FILEs, by the program's defaults.
 
-usage: bench/files [--program PROGRAM] [--load THREADS] [RUNS]     30 runs of each case where RUNS is not given
+usage: bench/run files [--program PROGRAM] [--load THREADS] [RUNS]     30 runs of each case where RUNS is not given
 
 Each case is run on one core and on all, beside so many other threads that never rest, else beside none. PROGRAM is the proved
 hot_run of this checkout where none is named, which is built first where its sources changed.
