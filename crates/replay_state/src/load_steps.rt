@@ -10,8 +10,8 @@ use crate::record_steps::is_fixed_offset;
 use crate::state::State;
 use compound_node::Entry;
 use record_words::{HEAD_WORDS, MAX_ENTRIES};
+use replay_trees::unpack_entry;
 use rowex_core::{Rec, Spot};
-use unpacking::unpack_entry;
 
 impl State {
     /// Loads the root or an entry word.

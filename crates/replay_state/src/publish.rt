@@ -12,10 +12,9 @@ use crate::records::{filled, is_node};
 use crate::state::State;
 use compound_node::Entry;
 use record_words::{HEAD_WORDS, MAX_ENTRIES};
-use replay_trees::{Linked, change_between, read_tree};
+use replay_trees::{Linked, change_between, read_tree, unpack_entry};
 use rowex_core::Spot;
 use std::alloc::AllocError;
-use unpacking::unpack_entry;
 
 impl State {
     /// Stores the root or an entry word under its lock.

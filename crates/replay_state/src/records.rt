@@ -9,10 +9,10 @@ ghost use Rattle.versions.specs.declared.Rec.TheVariants.{Node as a_node, Leaf a
 use crate::fate::Fate;
 use crate::links::{all_may_come, all_may_go, link_all};
 use record_words::{LEAF_FIELDS, Layout, NODE_FIELDS, Tag, unpack_state};
+use replay_trees::{unpack_leaf, unpack_node};
 use rowex_core::Rec;
 use std::alloc::{AllocError, Global};
 use std::marker::Model;
-use unpacking::{unpack_leaf, unpack_node};
 
 /// The records of a table: of each its words but the state, and its fate; of each node who has locked it.
 #[derive(Drop)]

@@ -1,4 +1,10 @@
 -- The lemmas of the crate.
+mod Readings
+mod Entries
+mod Numbers
+mod Heads
+mod Nodes
+mod LeafBytes
 mod Lists
 mod Steps
 mod Keys

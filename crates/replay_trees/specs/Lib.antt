@@ -1,4 +1,5 @@
 -- The definitions of the crate.
+pub mod Fixed
 pub mod Versions
 pub mod Parts
 pub mod Changed

@@ -4,12 +4,13 @@ ghost use Rattle.std.specs.Prelude.{IfOk, IsTrue, length, ◌≡◌, ◌↔◌};
 ghost use Rattle.tries.specs.Keys.{IsParted};
 ghost use Rattle.replay_trees.specs.Parts.{HasGrown, HasMarks, IsCutRead, IsEntryRead, IsHalfRead, AddsLeaf, IsNodeAt};
 
+use crate::leaf::unpack_leaf;
+use crate::node::unpack_node;
 use crate::trees::{Item, Linked};
 use compound_node::{Cut, Entry, Half, Node};
 use key_bits::{Key, MAX_BYTES, mismatch};
 use record_words::{LEAF_FIELDS, NODE_FIELDS};
 use std::alloc::AllocError;
-use unpacking::{unpack_leaf, unpack_node};
 
 /// The words of a table's records, each from offset 1 on.
 #[derive(Clone, Copy)]

@@ -13,8 +13,8 @@ use record_words::{
     HEAD_WORDS, LEAF_FIELDS, Layout, LayoutFault, LeafClass, Location, NODE_FIELDS, Stock, Tag,
     pack_entry, pack_leaf, pack_node, pack_state, unpack_state,
 };
+use replay_trees::{unpack_entry, unpack_head, unpack_leaf, unpack_node};
 use std::process::Abort;
-use unpacking::{unpack_entry, unpack_head, unpack_leaf, unpack_node};
 
 /// The key of these bytes, which are few enough.
 pub fn key(rt: &impl Abort, bytes: &[u8]) -> Key {

@@ -1,0 +1,88 @@
+//! The numbers of a node's fixed words: of all but its state and its entries.
+
+ghost use Rattle.std.specs.Prelude.{◌≡◌, ◌≤◌, ◌↔◌, IsTrue, EachIndex, length, slice_index};
+ghost use Rattle.record_words.specs.Packed.{ArePositionsOf, AreRowsOf};
+
+use arrayvec::ArrayVec;
+use record_words::{HEAD_WORDS, WordFault};
+
+/// What a node's fixed words say, each number by itself.
+#[derive(Drop)]
+pub(crate) struct Fixed {
+    pub(crate) count: u8,
+    pub(crate) height: u16,
+    pub(crate) columns: ArrayVec<u16, 31>,
+    pub(crate) sparse: [u32; 32],
+}
+
+impl Fixed {
+    ghost use Rattle.std.specs.Prelude.{◌≡◌, length};
+    ghost use Rattle.record_words.specs.declared.TheConstants.{HEAD_WORDS};
+    ghost use Rattle.record_words.specs.Reading.{IsReading};
+    ghost use Rattle.replay_trees.specs.Fixed.{HasFixedWords, packed_words};
+
+    /// The numbers that have these words.
+    pub(crate) fn unpack(words: &[u64]) -> Result<Fixed, WordFault>
+        requires { length words.now ≡ HEAD_WORDS }
+        ensures { IsReading HasFixedWords packed_words words.now result }
+    {
+        let meta = words[0];
+        let column_count = meta / 256 % 256;
+        if meta >= 1 << 32 || column_count > 31 {
+            return Err(WordFault::Bad);
+        }
+        let positions = positions_of_words(&words[1..9]);
+        let (used, unused) = positions.split_at(column_count as usize);
+        if !is_unused(unused) {
+            return Err(WordFault::Bad);
+        }
+        Ok(Fixed {
+            count: (meta % 256) as u8,
+            height: (meta / 65_536) as u16,
+            columns: copied(used),
+            sparse: rows_of_words(&words[9..HEAD_WORDS]),
+        })
+    }
+}
+
+/// The positions that have these words.
+fn positions_of_words(words: &[u64]) -> [u16; 32]
+    requires { length words.now ≡ 8 }
+    ensures { ArePositionsOf result words.now }
+{
+    let mut positions = [0; 32];
+    for i in 0..32 {
+        positions[i] = (words[i / 4] >> (16 * (i % 4)) & 0xffff) as u16;
+    }
+    positions
+}
+
+/// The sparse partial keys that have these words.
+fn rows_of_words(words: &[u64]) -> [u32; 32]
+    requires { length words.now ≡ 16 }
+    ensures { AreRowsOf result words.now }
+{
+    let mut rows = [0; 32];
+    for i in 0..32 {
+        rows[i] = (words[i / 2] >> (32 * (i % 2)) & 0xffff_ffff) as u32;
+    }
+    rows
+}
+
+/// Whether no column has one of these positions.
+fn is_unused(positions: &[u16]) -> bool
+    ensures { IsTrue result ↔ EachIndex positions.now (λ i. slice_index positions.now i ≡ 65535) }
+{
+    positions.iter().all(|position| *position == u16::MAX)
+}
+
+fn copied(columns: &[u16]) -> ArrayVec<u16, 31>
+    requires { length columns.now ≤ 31 }
+    ensures { result.items ≡ columns.now }
+{
+    let mut copy = ArrayVec::new();
+    for column in columns {
+        copy.push(*column);
+    }
+    copy
+}
