@@ -5,9 +5,9 @@ use Rattle.std.specs.Option.{option_to_list}
 use Rattle.finite_map.specs.declared.Scan.{Scan}
 use Rattle.record_words.specs.declared.layout.Layout.{Layout}
 use Rattle.tries.specs.Keys.{Key}
-use Rattle.rowex_scanning.specs.Directions.{IsLawfulBy}
-use Rattle.rowex_scanning.specs.declared.direction.Direction.{Direction}
-use Rattle.rowex_scanning.specs.declared.direction.Direction.TheVariants.{Upwards, Downwards}
+use Rattle.rowex_walks.specs.Directions.{IsLawfulBy}
+use Rattle.rowex_walks.specs.declared.direction.Direction.{Direction}
+use Rattle.rowex_walks.specs.declared.direction.Direction.TheVariants.{Upwards, Downwards}
 use Rattle.seat_calls.specs.Answers.{IsListedBy}
 use Rattle.seat_calls.specs.Passes.{PassView}
 

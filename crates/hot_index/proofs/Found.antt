@@ -14,10 +14,10 @@ use Rattle.rowex_core.specs.Knowing.{IsEvent}
 use Rattle.rowex_reading.proofs.Loading.{pinned_by}
 use Rattle.rowex_reading.specs.Seen.{Sure, seen, since}
 use Rattle.rowex_scanning.proofs.Scanned.{lawful_scan}
-use Rattle.rowex_scanning.specs.Directions.{IsAnswer, IsLawfulBy}
+use Rattle.rowex_walks.specs.Directions.{IsAnswer, IsLawfulBy}
 use Rattle.rowex_scanning.specs.Scanning.{HasScanned, HasScannedPart, limited}
-use Rattle.rowex_scanning.specs.declared.direction.Direction.{Direction}
-use Rattle.rowex_scanning.specs.declared.direction.Direction.TheVariants.{Upwards, Downwards}
+use Rattle.rowex_walks.specs.declared.direction.Direction.{Direction}
+use Rattle.rowex_walks.specs.declared.direction.Direction.TheVariants.{Upwards, Downwards}
 use Rattle.rowex_table.specs.Runs.{silent}
 use Rattle.rowex_table.specs.Seats.{SeatView}
 use Rattle.rowex_walks.specs.Scan.{IsInRange, Pair, Range}

@@ -11,9 +11,9 @@ use Rattle.rowex_core.specs.declared.event.Act.TheVariants.{ClearPin}
 use Rattle.rowex_core.specs.declared.event.Event.{Event}
 use Rattle.rowex_reading.proofs.Led.{looked_at, looks_same}
 use Rattle.rowex_scanning.specs.Counts.{Scans, scan_loads}
-use Rattle.rowex_scanning.specs.Directions.{IsLawfulBy}
+use Rattle.rowex_walks.specs.Directions.{IsLawfulBy}
 use Rattle.rowex_scanning.specs.Scanning.{HasScanned, HasScannedPart, limited}
-use Rattle.rowex_scanning.specs.declared.direction.Direction.{Direction}
+use Rattle.rowex_walks.specs.declared.direction.Direction.{Direction}
 use Rattle.rowex_table.specs.Runs.{StepsWith, silent}
 use Rattle.rowex_table.specs.Seats.{IsSeatOf, SeatView, TableView}
 use Rattle.rowex_walks.specs.Scan.{Range}

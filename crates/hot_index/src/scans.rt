@@ -1,6 +1,6 @@
 //! Scans, of a range of keys in either direction.
 
-ghost use Rattle.rowex_scanning.specs.Directions.{IsLawfulBy};
+ghost use Rattle.rowex_walks.specs.Directions.{IsLawfulBy};
 ghost use Rattle.seat_calls.specs.Answers.{IsFoundBy};
 ghost use Rattle.seat_calls.specs.Calls.{IsListRead, IsListReadBy, IsListReadWith, IsRangeRead, IsScanRead, IsScanReadBy, IsScanReadWith};
 ghost use Rattle.seat_calls.specs.Passes.{Owns};

@@ -1,5 +1,5 @@
 -- What a scan gives is lawful.
-use Rattle.std.proofs.Common.{◌≡◌, List, ◌++◌, Bool, true, false, Some, refl, sym, subst, le_refl}
+use Rattle.std.proofs.Common.{◌≡◌, List, ◌++◌, Some, refl, sym, subst, le_refl}
 use Rattle.finite_map.specs.declared.Change.{Change}
 use Rattle.finite_map.specs.declared.Note.{Note}
 use Rattle.finite_map.specs.declared.Scan.{Scan}
@@ -11,13 +11,12 @@ use Rattle.versions.specs.Told.{TellChanges}
 use Rattle.rowex_core.specs.declared.event.Act.TheVariants.{ClearPin}
 use Rattle.rowex_core.specs.declared.known.Known.{Known}
 use Rattle.rowex_core.specs.Knowing.{IsEvent}
-use Rattle.rowex_walks.specs.Scan.{Range, in_order_taken}
-use Rattle.rowex_walks.proofs.Fronts.{complete_lawful, complete_lawful_down, cut_lawful, cut_lawful_down}
-use Rattle.rowex_reading.specs.Seen.{seen, since}
-use Rattle.rowex_scanning.specs.Directions.{IsAnswer, IsLawfulBy}
+use Rattle.rowex_walks.specs.Scan.{Range}
+use Rattle.rowex_walks.proofs.Fronts.{scan_is_lawful}
+use Rattle.rowex_reading.specs.Seen.{seen}
+use Rattle.rowex_walks.specs.Directions.{IsLawfulBy}
 use Rattle.rowex_scanning.specs.Scanning.{HasScanned}
-use Rattle.rowex_scanning.specs.declared.direction.Direction.{Direction}
-use Rattle.rowex_scanning.specs.declared.direction.Direction.TheVariants.{Upwards, Downwards}
+use Rattle.rowex_walks.specs.declared.direction.Direction.{Direction}
 use Rattle.rowex_reading.proofs.Seeing.{seen_told, seen_steady}
 use Rattle.rowex_reading.proofs.Later.{event_recalls}
 
@@ -26,17 +25,11 @@ pub lawful_scan : (d : Direction) (k : Known) (g : Range) (scan : Scan) (layout 
     IsLawfulBy d k.fresh.front k.front g.from g.upto g.limit scan
 lawful_scan d k g scan layout said j kf ku p pin h event =
     subst (λ (z : List Change). IsLawfulBy d k.fresh.front z g.from g.upto g.limit scan) (sym event.knows.seen.fresh.1)
-    (go d scan.more refl h.pairs_are (h.answer event.core event.lawful (event_recalls event)))
+    (scan_is_lawful (seen event.core k) k.fresh.front event.knows.seen.fresh.0 p.version steady told g kf ku h.taken scan h.pairs_are d scan.more refl
+    (h.answer event.core event.lawful (event_recalls event)))
   where
     told : TellChanges (seen event.core k) (k.fresh.front ++ event.knows.seen.fresh.0)
     told = subst (λ (z : List Change). TellChanges (seen event.core k) z) event.knows.seen.fresh.1 (seen_told event.lawful (event_recalls event))
 
     steady : IsSteady (seen event.core k) p.version
     steady = seen_steady event.lawful (event_recalls event) (p, pin, le_refl p.version)
-
-    go : (d : Direction) (more : Bool) → scan.more ≡ more → scan.pairs.items ≡ in_order_taken h.taken → IsAnswer d (seen event.core k) (since k) g h.taken more →
-        IsLawfulBy d k.fresh.front (k.fresh.front ++ event.knows.seen.fresh.0) g.from g.upto g.limit scan
-    go Upwards false e pairs answer = complete_lawful (seen event.core k) k.fresh.front event.knows.seen.fresh.0 p.version steady told g kf ku h.taken scan pairs e answer
-    go Upwards true e pairs answer = cut_lawful (seen event.core k) k.fresh.front event.knows.seen.fresh.0 p.version steady told g kf ku h.taken scan pairs e answer
-    go Downwards false e pairs answer = complete_lawful_down (seen event.core k) k.fresh.front event.knows.seen.fresh.0 p.version steady told g kf ku h.taken scan pairs e answer
-    go Downwards true e pairs answer = cut_lawful_down (seen event.core k) k.fresh.front event.knows.seen.fresh.0 p.version steady told g kf ku h.taken scan pairs e answer

@@ -27,12 +27,10 @@ use Rattle.rowex_core.specs.Cores.{Core, IsLawful}
 use Rattle.rowex_core.specs.Knowing.{IsPinnedSince, Recalls}
 use Rattle.rowex_core.specs.declared.known.Known.{Known}
 use Rattle.rowex_core.proofs.Owning.{recalls}
-use Rattle.rowex_walks.specs.Scan.{Range, IsBlank, IsRooted, IsPlaced, IsShaped, IsRead, IsStack, IsScan, KeysFromAreAbove, MayStandAt, Frame as Stage}
+use Rattle.rowex_walks.specs.Scan.{Range, IsBlank, IsRooted, IsPlaced, IsShaped, IsRead, IsStack, MayStandAt, Frame as Stage}
 use Rattle.rowex_walks.proofs.Scans.{may_stand_at_child_place, leaf_may_stand, near_may_stand, may_stand_in_order, shaped_several}
-use Rattle.rowex_walks.specs.Reverse.{KeysLeftAreBelow}
-use Rattle.rowex_walks.proofs.Downs.{left_of_own_place, sides_left_are_below}
-use Rattle.rowex_walks.proofs.Starts.{fit_sole, scan_start, sides, sides_over, stack_at, start_fits, AreAt, affected_from, start_place}
-use Rattle.rowex_walks.proofs.Walk.{scan_skip, stack_place}
+use Rattle.rowex_walks.proofs.Starts.{at_beyond, at_on_way, fit_sole, scan_started, sides, sides_beyond, stack_at, start_fits, AreAt, affected_from, start_place}
+use Rattle.rowex_walks.proofs.Walk.{scan_skipped, stack_place}
 use Rattle.rowex_reading.specs.Possible.{IsPossible}
 use Rattle.rowex_table.specs.Made.{IsLater}
 use Rattle.versions.specs.declared.Rec.TheVariants.{Leaf as a_leaf}
@@ -43,13 +41,12 @@ use Rattle.rowex_reading.proofs.Ways.{named_at, named_end, way_later}
 use Rattle.rowex_reading.specs.Ways.{IsMismatch, IsWayOf, IsWayNode, RootWas, named}
 use Rattle.rowex_reading.specs.declared.descent.Found.{Found}
 use Rattle.rowex_reading.specs.declared.descent.Found.TheVariants.{Leaf, Nothing}
-use Rattle.rowex_scanning.specs.Directions.{IsNoLater, first_key, gap_before, gap_behind}
+use Rattle.rowex_walks.specs.Directions.{IsNoLater, IsPastKey, IsScanBy, first_key, gap_before, gap_behind}
 use Rattle.rowex_scanning.specs.Scanning.{ArePastKey, AreInside, IsBound, IsReached, IsWalk, frame, frames_of}
 use Rattle.rowex_scanning.specs.Starts.{IsBegun, IsFirst, IsParting, IsStart}
-use Rattle.rowex_scanning.specs.declared.direction.Direction.{Direction}
-use Rattle.rowex_scanning.specs.declared.direction.Direction.TheVariants.{Upwards, Downwards}
+use Rattle.rowex_walks.specs.declared.direction.Direction.{Direction}
+use Rattle.rowex_walks.specs.declared.direction.Direction.TheVariants.{Upwards, Downwards}
 use Rattle.rowex_scanning.specs.declared.start.Start.{Start}
-use Rattle.rowex_scanning.proofs.Directed.{at_beyond}
 use Rattle.rowex_scanning.proofs.Walking.{beyond_append, walk_before, IsAtEntry}
 
 -- ---- the affected places, by the key
@@ -198,7 +195,7 @@ module _ (layout : Layout) (k : Known) (m : ℕ) (key : Key) (way : List Step) (
   at_above i h at c lawful known = stack_at (seen c k) m (steady c lawful known) (stage i h) (stages i (down h)) (stack c lawful known (suc i) h) key (at c lawful known)
 
   -- ---- the walk from a node on
-  begins : (i : ℕ) (h : i < length way) (g : Range) → g.from ≡ key → (place : ℕ) → place ≤ size (stage i h).shape → Sure k (λ s. IsScan s m g (record (stage i h) { place = place } ∷ stages i (down h)) []) →
+  begins : (i : ℕ) (h : i < length way) (g : Range) → g.from ≡ key → (place : ℕ) → place ≤ size (stage i h).shape → Sure k (λ s. IsScanBy Upwards s m g (record (stage i h) { place = place } ∷ stages i (down h)) []) →
       (top : Step) → top ≡ record (step i h).0 { at = place } → IsWalk Upwards k m g top (take i way) []
   begins i h g from place fits scan top is = record {
     lowest = record (stage i h) { place = place };
@@ -219,20 +216,20 @@ module _ (layout : Layout) (k : Known) (m : ℕ) (key : Key) (way : List Step) (
     above : Sure k (λ s. AreAt s m key (stages i (down h)))
     above c lawful known = (at_above i h stands c lawful known).1
 
-    scan_at : (g : Range) → g.from ≡ key → Sure k (λ s. IsScan s m g (stage i h ∷ stages i (down h)) [])
+    scan_at : (g : Range) → g.from ≡ key → Sure k (λ s. IsScanBy Upwards s m g (stage i h ∷ stages i (down h)) [])
     scan_at g from c lawful known =
-        scan_start (seen c k) m (steady c lawful known) g (stage i h) (stages i (down h)) (stack c lawful known (suc i) h)
-        (subst (λ z. AreAt (seen c k) m z (stages i (down h))) (sym from) (above c lawful known))
+        scan_started Upwards (seen c k) m (steady c lawful known) g (stage i h) (stages i (down h)) (stack c lawful known (suc i) h)
+        (at_on_way Upwards (seen c k) m (steady c lawful known) g.from (stages i (down h)) (subst (λ z. AreAt (seen c k) m z (stages i (down h))) (sym from) (above c lawful known)))
         (λ j z lt at. subst (IsBefore z) (sym from) (may_stand_in_order (seen c k) m (steady c lawful known) (stage i h).number j (stage i h).place lt z key at (stands c lawful known)))
 
     bound_behind : (top : Step) → top ≡ record (step i h).0 { at = suc (step i h).0.at } → IsBound Upwards k m key top (take i way)
     bound_behind top is = record {
-      there = λ c lawful known. subst (λ (z : Step). KeysFromAreAbove (seen c k) m key z.number z.at) (sym is) (at_beyond Upwards (seen c k) m (stage i h).number (stage i h).place key (stands c lawful known));
+      there = λ c lawful known. subst (λ (z : Step). IsPastKey Upwards (seen c k) m key z.number z.at) (sym is) (at_beyond Upwards (seen c k) m (stage i h).number (stage i h).place key (stands c lawful known));
       above = are_beyond Upwards i (down h) above;
     }
 
-    beneath : Sure k (λ s. KeysLeftAreBelow s m key (step i h).0.number (step i h).0.at)
-    beneath c lawful known = left_of_own_place (seen c k) m (stage i h).number (stage i h).place key (stands c lawful known)
+    beneath : Sure k (λ s. IsPastKey Downwards s m key (step i h).0.number (step i h).0.at)
+    beneath c lawful known = at_beyond Downwards (seen c k) m (stage i h).number (stage i h).place key (stands c lawful known)
 
     -- the leaf comes first
     pub starts_at_leaf : IsAtMost key leaf_key → (top : Step) → top ≡ (step i h).0 → IsParting k m key way number (record { level = i; top = top; leaf = true })
@@ -254,7 +251,7 @@ module _ (layout : Layout) (k : Known) (m : ℕ) (key : Key) (way : List Step) (
       };
       of_way = of_step i h (step i h).0.at top is;
       left = are_beyond Downwards i (down h) above;
-      side = inl (subst (λ (z : Step). Sure k (λ s. KeysLeftAreBelow s m key z.number z.at)) (sym is) beneath);
+      side = inl (subst (λ (z : Step). Sure k (λ s. IsPastKey Downwards s m key z.number z.at)) (sym is) beneath);
     }
 
     -- or it is below the key, and the scan starts behind it
@@ -265,8 +262,8 @@ module _ (layout : Layout) (k : Known) (m : ℕ) (key : Key) (way : List Step) (
         begun = (
           bound_behind top is,
           λ g from. begins i h g from (suc (step i h).0.at) (place_below i h) (λ c lawful known.
-              scan_skip (seen c k) m (steady c lawful known) g (stage i h) (stages i (down h)) [] (scan_at g from c lawful known) number leaf_key value
-              (placed_end i h last c lawful known) (w.found_at.1 c lawful known) (subst (IsBefore leaf_key) (sym from) low)) top is,
+              scan_skipped (seen c k) m g (steady c lawful known) (stage i h) (stages i (down h)) [] number leaf_key value (placed_end i h last c lawful known) (w.found_at.1 c lawful known)
+              Upwards (scan_at g from c lawful known) (subst (IsBefore leaf_key) (sym from) low)) top is,
         );
       };
       of_way = of_step i h (suc (step i h).0.at) top is;
@@ -309,21 +306,21 @@ module _ (layout : Layout) (k : Known) (m : ℕ) (key : Key) (way : List Step) (
         within = h;
         begun = (
           record {
-            there = λ c lawful known. subst (λ (z : Step). KeysFromAreAbove (seen c k) m key z.number z.at) (sym is)
-                (sides_over (seen c k) m (stage i h).number (stage i h).shape ((node i h).2.shaped c lawful known) key leaf_key d agree (fits_at i h c lawful known) ne two);
+            there = λ c lawful known. subst (λ (z : Step). IsPastKey Upwards (seen c k) m key z.number z.at) (sym is)
+                (sides_beyond Upwards (seen c k) m (stage i h).number (stage i h).shape ((node i h).2.shaped c lawful known) key leaf_key d agree (fits_at i h c lawful known) ne two);
             above = are_beyond Upwards i (down h) at;
           },
           λ g from. begins i h g from (start_place d key (stage i h).shape) (start_fits d key (stage i h).shape) (λ c lawful known.
-              scan_start (seen c k) m (steady c lawful known) g (record (stage i h) { place = start_place d key (stage i h).shape }) (stages i (down h)) (stack_with c lawful known)
-              (subst (λ z. AreAt (seen c k) m z (stages i (down h))) (sym from) (at c lawful known))
+              scan_started Upwards (seen c k) m (steady c lawful known) g (record (stage i h) { place = start_place d key (stage i h).shape }) (stages i (down h)) (stack_with c lawful known)
+              (at_on_way Upwards (seen c k) m (steady c lawful known) g.from (stages i (down h)) (subst (λ z. AreAt (seen c k) m z (stages i (down h))) (sym from) (at c lawful known)))
               (λ j z lt fit. subst (IsBefore z) (sym from) ((sides (seen c k) m (steady c lawful known) (stage i h).number (stage i h).shape ((node i h).2.shaped c lawful known) key leaf_key d agree
               (fits_at i h c lawful known) ne two j z fit).0 lt))) top is,
         );
       };
       of_way = of_step i h (start_place d key (stage i h).shape) top is;
       left = are_beyond Downwards i (down h) at;
-      side = inl (λ c lawful known. subst (λ (z : Step). KeysLeftAreBelow (seen c k) m key z.number z.at) (sym is)
-          (sides_left_are_below (seen c k) m (stage i h).number (stage i h).shape ((node i h).2.shaped c lawful known) key leaf_key d agree (fits_at i h c lawful known) ne two));
+      side = inl (λ c lawful known. subst (λ (z : Step). IsPastKey Downwards (seen c k) m key z.number z.at) (sym is)
+          (sides_beyond Downwards (seen c k) m (stage i h).number (stage i h).shape ((node i h).2.shaped c lawful known) key leaf_key d agree (fits_at i h c lawful known) ne two));
     }
       where
         stack_with : (c : Core) (lawful : IsLawful c) (known : Recalls c k) → IsStack (seen c k) m (record (stage i h) { place = start_place d key (stage i h).shape } ∷ stages i (down h))

@@ -22,20 +22,22 @@ use Rattle.rowex_scanning.proofs.Starting.{read_same}
 use Rattle.rowex_scanning.proofs.Walking.{beyond_parts, walk_before, walk_fits, IsBeforeEntry}
 use Rattle.rowex_scanning.specs.Scanning.{ArePastKey, IsBound, IsWalk, frame, frames_of}
 use Rattle.rowex_scanning.specs.Starts.{IsBegun, IsFirst, IsParting, IsStart, IsWalkFrom}
-use Rattle.rowex_scanning.specs.declared.direction.Direction.TheVariants.{Upwards, Downwards}
+use Rattle.rowex_walks.specs.declared.direction.Direction.TheVariants.{Upwards, Downwards}
 use Rattle.rowex_scanning.specs.declared.start.Start.{Start}
 use Rattle.rowex_table.specs.Made.{IsLater}
-use Rattle.rowex_walks.proofs.Downs.{AreRightOver, keys_further_left, down_skip, down_start, same_past}
+use Rattle.rowex_walks.proofs.Starts.{beyond_further, same_past, scan_started, IsWayEarlier}
 use Rattle.rowex_walks.proofs.Scans.{leaf_may_stand}
-use Rattle.rowex_walks.proofs.Walk.{stack_place}
-use Rattle.rowex_walks.specs.Reverse.{KeysLeftAreBelow}
-use Rattle.rowex_walks.specs.Scan.{Range, KeysFromAreAbove, IsPlaced, IsRead, Frame as Stage}
+use Rattle.rowex_walks.proofs.Walk.{scan_skipped, stack_place}
+use Rattle.rowex_walks.specs.Directions.{IsPastKey}
+use Rattle.rowex_walks.specs.Scan.{Range, IsPlaced, IsRead, Frame as Stage}
 use Rattle.tries.specs.Keys.{Key, bit, AgreeBelow, IsBefore}
 
--- the places of these frames are over the key
-right_over : {k : Known} (m : ℕ) (key : Key) (fs : List Stage) → ArePastKey Upwards k m key (frames_of fs) → Sure k (λ s. AreRightOver s m key fs)
-right_over m key [] over c lawful known = tt
-right_over m key (f ∷ fs) over c lawful known = let o = beyond_parts Upwards m key (frames_of fs) (frame f) over in (o.1 c lawful known, right_over m key fs o.0 c lawful known)
+-- what is past the key upwards, a scan downwards has passed on its way
+above_earlier : {k : Known} (m : ℕ) (key : Key) (fs : List Stage) → IsPinnedSince k m → ArePastKey Upwards k m key (frames_of fs) → Sure k (λ s. IsWayEarlier Downwards s m key fs)
+above_earlier m key [] pinned over c lawful known = tt
+above_earlier {k} m key (f ∷ fs) pinned over c lawful known =
+    let o = beyond_parts Upwards m key (frames_of fs) (frame f) over in
+    (o.1 c lawful known (seen c k) (same_past (seen c k)) (seen_steady lawful known pinned), above_earlier m key fs pinned o.0 c lawful known)
 
 -- the walk downwards at a place from which on all is above the key
 walk_at : {k : Known} {m : ℕ} {key : Key} {top : Step} {frames : List Step} → IsWalkFrom Upwards k m key top frames → (place : ℕ) → place ≤ top.count → IsBound Upwards k m key (record top { at = place }) frames →
@@ -53,9 +55,10 @@ walk_at {k} {m} {key} {top} {frames} walks place fits bound g is = record {
   pinned = w.pinned;
   scan = λ c lawful known.
       let stack = stack_place (seen c k) m w.lowest place w.others (w.scan c lawful known).stack in
-      down_start (seen c k) m (seen_steady lawful known w.pinned) g (record w.lowest { place = place }) w.others stack
-      (subst (λ z. AreRightOver (seen c k) m z w.others) (sym is) (right_over m key w.others (subst (ArePastKey Upwards k m key) w.frames_are bound.above) c lawful known))
-      (subst (λ z. KeysFromAreAbove (seen c k) m z w.lowest.number place) (sym is) (subst (λ (z : Step). KeysFromAreAbove (seen c k) m key z.number place) w.top_is (bound.there c lawful known)));
+      scan_started Downwards (seen c k) m (seen_steady lawful known w.pinned) g (record w.lowest { place = place }) w.others stack
+      (subst (λ z. IsWayEarlier Downwards (seen c k) m z w.others) (sym is) (above_earlier m key w.others w.pinned (subst (ArePastKey Upwards k m key) w.frames_are bound.above) c lawful known))
+      (subst (λ z. IsPastKey Upwards (seen c k) m z w.lowest.number place) (sym is) (subst (λ (z : Step). IsPastKey Upwards (seen c k) m key z.number place) w.top_is (bound.there c lawful known))
+      (seen c k) (same_past (seen c k)) (seen_steady lawful known w.pinned));
 }
   where
     w : IsWalk Upwards k m (record { from = key; upto = key; limit = 0 }) top frames []
@@ -74,11 +77,11 @@ module _ (layout : Layout) (k j : Known) (m : ℕ) (key : Key) (way : List Step)
   at_level : start.level + 1 ≡ length way → slice_get way start.level ≡ Some lowest
   at_level e = subst (λ i. slice_get way i ≡ Some lowest) (let n : length way - 1 ≡ start.level = omega (arith, e) in n) there
 
-  beneath_there : start.leaf ≡ false → (start.level + 1 ≡ length way → lowest.at + 1 ≡ start.top.at → ⊥) → Sure j (λ p. KeysLeftAreBelow p m key start.top.number start.top.at)
+  beneath_there : start.leaf ≡ false → (start.level + 1 ≡ length way → lowest.at + 1 ≡ start.top.at → ⊥) → Sure j (λ p. IsPastKey Downwards p m key start.top.number start.top.at)
   beneath_there apart not_behind = ⊎_elim (λ low. low)
       (λ b. absurd (not_behind b.last (let e = b.behind ∙ ap (λ (z : Step). suc z.at) (some_injective (sym b.there ∙ at_level b.last)) in omega (arith, e)))) s.side
 
-  beneath_first : start.leaf ≡ true → Sure j (λ p. KeysLeftAreBelow p m key start.top.number start.top.at)
+  beneath_first : start.leaf ≡ true → Sure j (λ p. IsPastKey Downwards p m key start.top.number start.top.at)
   beneath_first is = ⊎_elim (λ low. low) (λ b. absurd (false≢true (sym b.apart ∙ is))) s.side
 
   first : start.leaf ≡ true → IsBegun true Upwards j m key number start.top (take start.level way)
@@ -140,8 +143,8 @@ module _ (layout : Layout) (k j : Known) (m : ℕ) (key : Key) (way : List Step)
         inside = n.inside;
         pinned = n.pinned;
         scan = λ c lawful known.
-            down_skip (seen c j) m (seen_steady lawful known pinned) g n.stage n.others n.taken (n.scan c lawful known) number f.found f.value
-            (subst (λ (z : Step). IsPlaced (seen c j) m z.number z.at (Leaf number)) n.at_is (f.placed c lawful known)) (f.read c lawful known)
+            scan_skipped (seen c j) m g (seen_steady lawful known pinned) n.stage n.others n.taken number f.found f.value
+            (subst (λ (z : Step). IsPlaced (seen c j) m z.number z.at (Leaf number)) n.at_is (f.placed c lawful known)) (f.read c lawful known) Downwards (n.scan c lawful known)
             (subst (λ z. IsBefore z f.found) (sym upto) (high c lawful known));
       }
 
@@ -174,7 +177,7 @@ module _ (layout : Layout) (k j : Known) (m : ℕ) (key : Key) (way : List Step)
       fits = let low = walk_fits ((gap is).1 (record { from = key; upto = key; limit = 0 }) refl) in omega (arith, low, next_to)
 
       bound_next_to : IsBound Upwards j m key (record start.top { at = suc lowest.at }) (take start.level way)
-      bound_next_to = record { there = subst (λ n. Sure j (λ p. KeysFromAreAbove p m key start.top.number n)) place_is (gap is).0.there; above = (gap is).0.above }
+      bound_next_to = record { there = subst (λ n. Sure j (λ p. IsPastKey Upwards p m key start.top.number n)) place_is (gap is).0.there; above = (gap is).0.above }
 
       node : (e : Entry) × (named way (FoundLeaf number value differ) (start.level + 1) ≡ Some e) × IsWayNode layout k m key lowest e
       node = w.nodes start.level lowest (at_level last)
@@ -189,10 +192,10 @@ module _ (layout : Layout) (k j : Known) (m : ℕ) (key : Key) (way : List Step)
       placed : Sure j (λ p. IsPlaced p m start.top.number lowest.at (Leaf number))
       placed = subst (λ n. Sure j (λ p. IsPlaced p m n lowest.at (Leaf number))) (sym number_is) placed_low
 
-      below_place : Sure j (λ p. KeysLeftAreBelow p m key start.top.number lowest.at)
+      below_place : Sure j (λ p. IsPastKey Downwards p m key start.top.number lowest.at)
       below_place = ⊎_elim
-          (λ low c lawful known. keys_further_left (seen c j) m start.top.number start.top.at lowest.at key (omega (arith, next_to)) (low c lawful known))
-          (λ b. subst (λ n. Sure j (λ p. KeysLeftAreBelow p m key n lowest.at)) (sym number_is) (subst (λ (z : Step). Sure j (λ p. KeysLeftAreBelow p m key z.number z.at)) (some_injective (sym b.there ∙ at_level last)) b.beneath))
+          (λ low c lawful known. beyond_further Downwards (seen c j) m start.top.number start.top.at lowest.at key (λ i lt. omega (arith, next_to, lt)) (low c lawful known))
+          (λ b. subst (λ n. Sure j (λ p. IsPastKey Downwards p m key n lowest.at)) (sym number_is) (subst (λ (z : Step). Sure j (λ p. IsPastKey Downwards p m key z.number z.at)) (some_injective (sym b.there ∙ at_level last)) b.beneath))
           s.side
 
       now : Recalls possible.core j

@@ -29,11 +29,12 @@ use Rattle.rowex_core.proofs.Owning.{recalls}
 use Rattle.record_words.specs.declared.TheConstants.{HEAD_WORDS, LEAF_FIELDS}
 use Rattle.record_words.specs.declared.layout.Layout.{Layout}
 use Rattle.insert_cases.specs.declared.choice.Step.{Step}
+use Rattle.rowex_walks.proofs.Starts.{beyond_at_place, beyond_behind, beyond_in_child, beyond_grown}
 use Rattle.rowex_walks.specs.Scan.{Pair, Range, IsRooted, IsPlaced, IsRead, IsBlank, IsShaped, IsStack, in_order_taken, Frame as Stage}
 use Rattle.rowex_walks.proofs.Scans.{leaf_may_stand, shaped_several}
-use Rattle.rowex_walks.proofs.Walk.{stack_shape}
-use Rattle.rowex_walks.proofs.Ends.{stack_depth, stack_high, stack_seen, stack_low}
-use Rattle.rowex_walks.proofs.Persist.{rooted_grown}
+use Rattle.rowex_walks.proofs.Walk.{before, behind, scan_ended, scan_filled, scan_passed, scan_popped, scan_pushed, scan_taken, stack_shape}
+use Rattle.rowex_walks.proofs.Ends.{answer_blank, answer_nought, answer_one, answer_outside, none_between, stack_depth, stack_high, stack_low, stack_seen}
+use Rattle.rowex_walks.proofs.Persist.{rooted_grown, scan_grown}
 use Rattle.rowex_table.specs.Made.{IsLater}
 use Rattle.rowex_table.specs.Seats.{SeatView, TableView}
 use Rattle.rowex_reading.specs.Lookups.{HasSearched}
@@ -47,13 +48,13 @@ use Rattle.rowex_reading.proofs.Seeing.{placed_stable, recalls_before, seen_grow
 use Rattle.rowex_scanning.specs.Counts.{AreWalkLoads, Scans, Walks, scan_loads}
 use Rattle.rowex_scanning.specs.Ahead.{HasPlaces, entries_ahead}
 use Rattle.rowex_scanning.specs.declared.ahead.Ahead.{Ahead}
-use Rattle.rowex_scanning.specs.Directions.{IsAnswer, IsPastKey, IsEarlier, IsNoLater, IsScanBy, first_gap, first_key, gap_after, gap_before, gap_behind, place_ahead, to_come}
+use Rattle.rowex_walks.specs.Directions.{IsAnswer, IsPastKey, IsEarlier, IsNoLater, IsScanBy, first_gap, first_key, gap_after, gap_before, gap_behind, place_ahead, to_come}
 use Rattle.rowex_scanning.specs.Scanning.{ArePastKey, AreInside, HasScanned, IsBound, IsEntered, IsLeafTaken, IsPairTaken, IsReached, IsWalk, frame, frames_of}
-use Rattle.rowex_scanning.specs.declared.direction.Direction.{Direction}
-use Rattle.rowex_scanning.specs.declared.direction.Direction.TheVariants.{Upwards, Downwards}
+use Rattle.rowex_walks.specs.declared.direction.Direction.{Direction}
+use Rattle.rowex_walks.specs.declared.direction.Direction.TheVariants.{Upwards, Downwards}
 use Rattle.rowex_scanning.specs.declared.scanning.Verdict.{Verdict}
 use Rattle.rowex_scanning.specs.declared.scanning.Verdict.TheVariants.{Further, Past as IsPast, Full}
-use Rattle.rowex_scanning.proofs.Directed.{answer_blank, answer_nought, answer_one, answer_outside, before, before_fits, behind, behind_fits, beyond_at_place, beyond_behind, beyond_in_child, beyond_grown, come_after, come_behind, come_first, come_most, first_fits, gap_before_place, none_between, place_inside, out_first, out_last, scan_ended, scan_filled, scan_grown, scan_passed, scan_popped, scan_pushed, scan_short, scan_stack, scan_taken}
+use Rattle.rowex_scanning.proofs.Directed.{before_fits, behind_fits, come_after, come_behind, come_first, come_most, first_fits, gap_before_place, place_inside, out_first, out_last}
 
 -- What a walk has still to do, at most: its measure.
 abbrev pub rest_of_frames : Direction → List Step → ℕ
@@ -200,7 +201,7 @@ pop_less d top frames lower rest e = let after = ap (rest_of_frames d) e ∙ res
 -- what the pass knows of its topmost node
 module _ {d : Direction} {k : Known} {m : ℕ} {g : Range} {top : Step} {frames : List Step} {pairs : List (Key × ℕ)} (w : IsWalk d k m g top frames pairs) where
   walk_stack : Sure k (λ s. IsStack s m (w.lowest ∷ w.others))
-  walk_stack c lawful recalls = scan_stack (seen c k) m g d (w.lowest ∷ w.others) w.taken (w.scan c lawful recalls)
+  walk_stack c lawful recalls = (w.scan c lawful recalls).stack
 
   walk_shape : HasShape k m top.number top.height w.lowest.shape
   walk_shape = subst (λ (z : Step). HasShape k m z.number z.height w.lowest.shape) (sym w.top_is) (
@@ -373,7 +374,7 @@ module _ {d : Direction} {k j : Known} {m : ℕ} {g : Range} {at : Step} {frames
     pinned = since_later l a.walk.pinned;
     scan = λ c lawful recalls.
         let s = entry_scan a.walk l c lawful recalls in
-        let short = scan_short (seen c j) m g d (before d a.walk.stage ∷ a.walk.others) a.walk.taken s in
+        let short = s.short in
         scan_taken (seen c j) m g (steady a l c lawful recalls) a.walk.stage a.walk.others a.walk.taken number t.key t.value (there a l c lawful recalls) (read c lawful recalls) d s within
         (let n = taken_length in omega (arith, short, n, room));
   }
@@ -490,7 +491,7 @@ module _ {layout : Layout} {d : Direction} {k : Known} {m : ℕ} {g : Range} {to
   -- it has no more pairs than the limit
   pub walk_short : length pairs ≤ g.limit
   walk_short =
-      let short = scan_short (seen possible.core k) m g d (w.lowest ∷ w.others) w.taken (w.scan possible.core possible.lawful known) in
+      let short = (w.scan possible.core possible.lawful known).short in
       let n = ap length w.pairs_are ∙ length_in_order_taken w.taken in omega (arith, short, n)
 
 -- The loads of a walk

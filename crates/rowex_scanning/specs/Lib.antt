@@ -1,5 +1,4 @@
 -- The definitions of the crate.
-pub mod Directions
 pub mod Scanning
 pub mod Ahead
 pub mod Starts

@@ -12,8 +12,8 @@ use Rattle.rowex_walks.specs.Scan.{Pair, Range, IsInRange, IsRead, IsShaped, in_
 use Rattle.rowex_table.specs.Made.{IsLater}
 use Rattle.rowex_reading.specs.Possible.{IsPossible}
 use Rattle.rowex_reading.specs.Seen.{IsLedTo, Sure, since}
-use Rattle.rowex_scanning.specs.Directions.{IsAnswer, IsPastKey, IsEarlier, IsNoLater, IsScanBy, first_gap, gap_behind, last_key}
-use Rattle.rowex_scanning.specs.declared.direction.Direction.{Direction}
+use Rattle.rowex_walks.specs.Directions.{IsAnswer, IsPastKey, IsEarlier, IsNoLater, IsScanBy, first_gap, gap_behind, last_key}
+use Rattle.rowex_walks.specs.declared.direction.Direction.{Direction}
 use Rattle.rowex_scanning.specs.declared.scanning.Range.{Range as Asked}
 use Rattle.rowex_scanning.specs.declared.scanning.Verdict.{Verdict}
 use Rattle.rowex_scanning.specs.declared.scanning.Verdict.TheVariants.{Further, Past as IsPast, Full}

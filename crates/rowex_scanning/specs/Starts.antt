@@ -4,13 +4,12 @@ use Rattle.compound_node.specs.declared.entries.Entry.TheVariants.{Leaf}
 use Rattle.insert_cases.specs.declared.choice.Step.{Step}
 use Rattle.tries.specs.Keys.{Key, IsBefore}
 use Rattle.rowex_core.specs.declared.known.Known.{Known}
-use Rattle.rowex_walks.specs.Reverse.{KeysLeftAreBelow}
 use Rattle.rowex_walks.specs.Scan.{Range, IsPlaced, IsRead}
 use Rattle.rowex_reading.specs.Seen.{Sure}
-use Rattle.rowex_scanning.specs.Directions.{IsNoLater, first_key, gap_before, gap_behind}
+use Rattle.rowex_walks.specs.Directions.{IsNoLater, IsPastKey, first_key, gap_before, gap_behind}
 use Rattle.rowex_scanning.specs.Scanning.{ArePastKey, IsBound, IsWalk}
-use Rattle.rowex_scanning.specs.declared.direction.Direction.{Direction}
-use Rattle.rowex_scanning.specs.declared.direction.Direction.TheVariants.{Upwards, Downwards}
+use Rattle.rowex_walks.specs.declared.direction.Direction.{Direction}
+use Rattle.rowex_walks.specs.declared.direction.Direction.TheVariants.{Upwards, Downwards}
 use Rattle.rowex_scanning.specs.declared.start.Start.{Start}
 
 -- The leaf at which the search has ended stands at the place, with a key that does not come before this one; all that is behind it comes
@@ -49,11 +48,11 @@ pub record IsBehindLeaf (k : Known) (m : ℕ) (key : Key) (way : List Step) (num
   pub value : ℕ
   pub read : Sure k (λ s. IsRead s m number found value)
   pub low : IsBefore found key
-  pub beneath : Sure k (λ s. KeysLeftAreBelow s m key step.number step.at)
+  pub beneath : Sure k (λ s. IsPastKey Downwards s m key step.number step.at)
 
 -- Where a scan upwards starts, and what stands left of there: all of it is below the key, or the leaf is between.
 pub record IsParting (k : Known) (m : ℕ) (key : Key) (way : List Step) (number : ℕ) (start : Start) : Type 0 where
   pub upwards : IsStart Upwards k m key way number start
   pub of_way : (s : Step) → slice_get way start.level ≡ Some s → start.top ≡ record s { at = start.top.at }
   pub left : ArePastKey Downwards k m key (take start.level way)
-  pub side : Sure k (λ s. KeysLeftAreBelow s m key start.top.number start.top.at) ⊎ IsBehindLeaf k m key way number start
+  pub side : Sure k (λ s. IsPastKey Downwards s m key start.top.number start.top.at) ⊎ IsBehindLeaf k m key way number start

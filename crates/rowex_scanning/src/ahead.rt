@@ -6,9 +6,9 @@ ghost use Rattle.compound_node.specs.declared.entries.Entry.TheVariants.{Leaf as
 ghost use Rattle.rowex_reading.specs.Reads.{IsReader, Reads};
 ghost use Rattle.rowex_reading.specs.Seen.{IsLedTo};
 ghost use Rattle.rowex_scanning.specs.Ahead.{HasPlaces, HasSeenAhead, entries_ahead};
-ghost use Rattle.rowex_scanning.specs.Directions.{to_come};
+ghost use Rattle.rowex_walks.specs.Directions.{to_come};
 
-use crate::direction::{Direction, place_ahead};
+use crate::direction::place_ahead;
 use compound_node::Entry;
 use insert_cases::Step;
 use packed_pairs::Pairs;
@@ -16,6 +16,7 @@ use record_words::Origins;
 use rowex_core::{Gate, Rec};
 use rowex_reading::load_entry_from;
 use rowex_table::{HotTable, TableSeat};
+use rowex_walks::Direction;
 
 /// How many places of a node a walk looks at together, at most.
 pub(crate) const MOST_AHEAD: u8 = 16;

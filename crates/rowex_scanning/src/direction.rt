@@ -1,21 +1,13 @@
-//! The two directions of a scan: in which order places and keys are passed.
+//! In which order a scan passes places and keys, by its direction.
 
 ghost use Rattle.std.specs.Prelude.{◌≡◌, ◌<◌, ◌≤◌, IsTrue, false};
 ghost use Rattle.key_bits.specs.Key.{IsKey};
 ghost use Rattle.tries.specs.Keys.{IsAtMost, IsBefore};
-ghost use Rattle.rowex_scanning.specs.Directions.{IsEarlier, IsNoLater, gap_behind};
-ghost use Rattle.rowex_scanning.specs.Directions.{first_gap as first_gap_of, gap_after as gap_after_of, place_ahead as place_ahead_of, to_come as to_come_of};
+ghost use Rattle.rowex_walks.specs.Directions.{IsEarlier, IsNoLater, gap_behind};
+ghost use Rattle.rowex_walks.specs.Directions.{first_gap as first_gap_of, gap_after as gap_after_of, place_ahead as place_ahead_of, to_come as to_come_of};
 
 use insert_cases::Step;
-
-/// In which order a scan lists the keys of its range.
-#[derive(Clone, Copy)]
-pub enum Direction {
-    /// From the first key on, in rising order.
-    Upwards,
-    /// From the last key on, in falling order.
-    Downwards,
-}
+use rowex_walks::Direction;
 
 /// How many entries are to come at the gap where a walk stands in this node.
 #[inline(always)]

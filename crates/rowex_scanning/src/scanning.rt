@@ -13,14 +13,12 @@ ghost use Rattle.rowex_reading.specs.Ways.{IsWayOf};
 ghost use Rattle.rowex_reading.specs.declared.descent.Found.TheVariants.{Leaf as FoundLeaf};
 ghost use Rattle.rowex_scanning.specs.Ahead.{AreAhead, AreTaken};
 ghost use Rattle.rowex_scanning.specs.Counts.{Scans, Walks, scan_loads};
-ghost use Rattle.rowex_scanning.specs.Directions.{IsEarlier, IsNoLater, last_key};
-ghost use Rattle.rowex_scanning.specs.Directions.{first_key as first_key_of, to_come as to_come_of};
+ghost use Rattle.rowex_walks.specs.Directions.{IsEarlier, IsNoLater, last_key};
+ghost use Rattle.rowex_walks.specs.Directions.{first_key as first_key_of, to_come as to_come_of};
 ghost use Rattle.rowex_scanning.specs.Scanning.{HasScanned, HasScannedPart, IsBound, IsEntered, IsLeafRefused, IsLeafTaken, IsPairRefused, IsPairTaken, IsReached, IsWalk, asked_range};
 
 use crate::ahead::{MOST_AHEAD, look_ahead, most_together};
-use crate::direction::{
-    Direction, behind, first_gap, gap_after, is_before, is_earlier, place_ahead, to_come,
-};
+use crate::direction::{behind, first_gap, gap_after, is_before, is_earlier, place_ahead, to_come};
 use crate::start::start_from;
 use arrayvec::ArrayVec;
 use insert_cases::Step;
@@ -32,6 +30,7 @@ use rowex_reading::{
     Found, MOST_NODES, enter_node, load_places, load_places_from, load_root, search_way,
 };
 use rowex_table::{HotTable, TableSeat};
+use rowex_walks::Direction;
 use std::alloc::AllocError;
 
 /// What a scan asks for.

@@ -7,12 +7,12 @@ ghost use Rattle.rowex_reading.specs.Ways.{IsWayOf};
 ghost use Rattle.rowex_reading.specs.declared.descent.Found.TheVariants.{Leaf as FoundLeaf};
 ghost use Rattle.rowex_scanning.specs.Starts.{IsParting, IsStart};
 
-use crate::direction::Direction;
 use insert_cases::{Step, choose, level_below};
 use key_bits::Key;
 use rowex_core::Gate;
 use rowex_reading::find_affected;
 use rowex_table::{HotTable, TableSeat};
+use rowex_walks::Direction;
 
 /// Where a scan starts on the way of the search for its first key.
 #[derive(Clone, Copy)]

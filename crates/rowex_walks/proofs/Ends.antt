@@ -6,13 +6,15 @@ use Rattle.tries.specs.Tree.{Tree, leaf, node, fork, subtrie, IsBuilt, IsLower}
 use Rattle.compound_node.specs.declared.entries.Entry.{Entry}
 use Rattle.compound_node.specs.declared.entries.Entry.TheVariants.{Leaf, Node}
 use Rattle.pieces.specs.Piece.{Place}
-use Rattle.versions.specs.State.{Past, IsSameRecord, IsSteady}
+use Rattle.versions.specs.State.{Past, IsKeptSince, IsSameRecord, IsSteady}
 use Rattle.versions.specs.declared.Rec.TheVariants.{Node as a_node}
 use Rattle.compound_node.specs.Nodes.{height_of}
 use Rattle.tries.specs.Place.{entry_at}
-use Rattle.rowex_walks.specs.Scan.{IsRooted, IsPlaced, IsRead, EntryStoodSince, IsBlank, Frame, IsStack, Range, IsInRange, IsComplete, IsCut}
+use Rattle.rowex_walks.specs.Scan.{IsRooted, IsPlaced, IsRead, EntryStoodSince, IsBlank, Frame, IsStack, Range, IsInRange}
+use Rattle.rowex_walks.specs.Directions.{IsComplete, IsCut}
+use Rattle.rowex_walks.specs.declared.direction.Direction.{Direction}
 use Rattle.tries.proofs.Tries.{built_within}
-use Rattle.rowex_walks.proofs.Scans.{node_of, root_had_key, leaf_had_key, read_held, never_before}
+use Rattle.rowex_walks.proofs.Scans.{node_of, root_had_key, leaf_had_key, read_held, before_most, never_before}
 use Rattle.rowex_walks.proofs.Loads.{lower_at, subtrie_at, rooted_seen, placed_seen, fixed_height}
 
 -- The height of the lowest frame: that of the root's node.
@@ -20,55 +22,52 @@ abbrev pub top_height : ℕ → List Frame → ℕ
 top_height h [] = h
 top_height h (f ∷ fs) = top_height f.height fs
 
-pub scan_blank : (s : Past) (m : ℕ) (g : Range) → IsBlank s m → IsComplete s m g []
-scan_blank s m g (n, lo, hi, e) = record {
-  ordered = tt;
-  within = tt;
-  held = tt;
-  short = omega arith;
-  covered = λ k kept r. let o = kept n lo hi in absurd (none_some (sym e ∙ o.1));
-}
-  where
-    none_some : {t : Tree} → None ≡ Some t → ⊥
-    none_some e = cc
+-- A scan that takes nothing because no key of the range was there all the time.
+nothing : (d : Direction) (s : Past) (m : ℕ) (g : Range) → ((k : Key) → IsKeptSince s m k → IsInRange g k → ⊥) → IsComplete d s m g []
+nothing d s m g none = record { ordered = tt; within = tt; held = tt; short = omega arith; covered = λ k kept r. absurd (none k kept r) }
 
--- The root is a leaf in the range.
-pub scan_one : (s : Past) (m : ℕ) → IsSteady s m → (g : Range) (n : ℕ) (l : Key) (v : ℕ) → IsRooted s m (Leaf n) → IsRead s m n l v → IsInRange g l →
-    0 < g.limit → IsComplete s m g (record { key = l; value = v } ∷ [])
-scan_one s m law g n l v root is r room = record {
-  ordered = (tt, tt);
-  within = (r, tt);
-  held = (read_held s m n l v is, tt);
-  short = omega arith;
-  covered = λ k kept q. inl (leaf_had_key s m law n k l v (root_had_key s m k kept (Leaf n) root) is);
-}
+module _ (s : Past) (m : ℕ) (g : Range) where
+  -- Nothing is between the keys.
+  pub none_between : (d : Direction) → IsBefore g.upto g.from → IsComplete d s m g []
+  none_between d low = nothing d s m g (λ k kept r. never_before g.upto k (before_most g.upto g.from k low r.0) r.1)
 
--- The limit is 0.
-pub scan_nought : (s : Past) (m : ℕ) → (g : Range) (n : ℕ) (l : Key) (v : ℕ) → IsRead s m n l v → IsInRange g l →
-    g.limit ≡ 0 → IsCut s m g []
-scan_nought s m g n l v is r full = record {
-  ordered = tt;
-  within = tt;
-  held = tt;
-  full = sym full;
-  further = (l, v, r, read_held s m n l v is, tt);
-  covered = λ k kept q u. absurd u;
-}
+  -- The root is None.
+  pub answer_blank : (d : Direction) → IsBlank s m → IsComplete d s m g []
+  answer_blank d (n, lo, hi, e) = nothing d s m g (λ k kept r. let o = kept n lo hi in none_some (sym e ∙ o.1))
+    where
+      none_some : {t : Tree} → None ≡ Some t → ⊥
+      none_some e = cc
 
--- It is out of the range.
-pub scan_outside : (s : Past) (m : ℕ) → IsSteady s m → (g : Range) (n : ℕ) (l : Key) (v : ℕ) → IsRooted s m (Leaf n) → IsRead s m n l v →
-    IsBefore l g.from ⊎ IsBefore g.upto l → IsComplete s m g []
-scan_outside s m law g n l v root is out = record {
-  ordered = tt;
-  within = tt;
-  held = tt;
-  short = omega arith;
-  covered = λ k kept q. go k q (leaf_had_key s m law n k l v (root_had_key s m k kept (Leaf n) root) is) out;
-}
-  where
-    go : (k : Key) → IsInRange g k → k ≡ l → IsBefore l g.from ⊎ IsBefore g.upto l → ⊥
-    go k q e (inl y) = never_before l g.from y (subst (λ z. IsAtMost g.from z) e q.0)
-    go k q e (inr y) = never_before g.upto l y (subst (λ z. IsAtMost z g.upto) e q.1)
+  -- The limit is 0.
+  pub answer_nought : (d : Direction) (n : ℕ) (l : Key) (v : ℕ) → IsRead s m n l v → IsInRange g l → g.limit ≡ 0 → IsCut d s m g []
+  answer_nought d n l v is r full = record {
+    ordered = tt;
+    within = tt;
+    held = tt;
+    full = sym full;
+    further = (l, v, r, read_held s m n l v is, tt);
+    covered = λ k kept q u. absurd u;
+  }
+
+  module _ (law : IsSteady s m) where
+    -- The root is a leaf in the range.
+    pub answer_one : (d : Direction) (n : ℕ) (l : Key) (v : ℕ) → IsRooted s m (Leaf n) → IsRead s m n l v → IsInRange g l → 0 < g.limit →
+        IsComplete d s m g (record { key = l; value = v } ∷ [])
+    answer_one d n l v root is r room = record {
+      ordered = (tt, tt);
+      within = (r, tt);
+      held = (read_held s m n l v is, tt);
+      short = omega (arith, room);
+      covered = λ k kept q. inl (leaf_had_key s m law n k l v (root_had_key s m k kept (Leaf n) root) is);
+    }
+
+    -- It is out of the range.
+    pub answer_outside : (d : Direction) (n : ℕ) (l : Key) (v : ℕ) → IsRooted s m (Leaf n) → IsRead s m n l v → IsBefore l g.from ⊎ IsBefore g.upto l → IsComplete d s m g []
+    answer_outside d n l v root is out = nothing d s m g (λ k kept r. go k r (leaf_had_key s m law n k l v (root_had_key s m k kept (Leaf n) root) is) out)
+      where
+        go : (k : Key) → IsInRange g k → k ≡ l → IsBefore l g.from ⊎ IsBefore g.upto l → ⊥
+        go k q e (inl y) = never_before l g.from y (subst (λ z. IsAtMost g.from z) e q.0)
+        go k q e (inr y) = never_before g.upto l y (subst (λ z. IsAtMost z g.upto) e q.1)
 
 -- The heights fall along the way.
 pub placed_falls : (s : Past) (m : ℕ) → IsSteady s m → (r h j : ℕ) (e : Entry) → EntryStoodSince s m (Node r h) → IsPlaced s m r j e → height_of e < h

@@ -1,5 +1,5 @@
 -- From versions to fronts: what a scan took is a lawful scan.
-use Rattle.std.proofs.Common.{◌≡◌, ◌≢◌, inl, inr, ℕ, suc, zero, ◌+◌, ◌-◌, ◌≤◌, List, [], ◌∷◌, ◌++◌, length, take, drop, fold, refl, ap, sym, ◌∙◌, subst, arith, Some, None, Option, true, false, not, le_refl}
+use Rattle.std.proofs.Common.{◌≡◌, ◌≢◌, inl, inr, ℕ, suc, zero, ◌+◌, ◌-◌, ◌≤◌, List, [], ◌∷◌, ◌++◌, length, take, drop, fold, refl, ap, sym, ◌∙◌, subst, arith, Some, None, Option, Bool, true, false, not, le_refl}
 use Rattle.std.specs.Prelude.{All, Contains, IsTrue, is_some}
 use Rattle.std.proofs.lemmas.Bool.{false≢true, and_parts, not-true}
 use Rattle.std.proofs.lemmas.List.{length-append}
@@ -18,8 +18,8 @@ use Rattle.finite_map.specs.declared.Kind.TheVariants.{Added, Replaced, Removed}
 use Rattle.finite_map.specs.declared.Scan.{Scan}
 use Rattle.finite_map.specs.Maps.{Map, key_order, value_at}
 use Rattle.finite_map.specs.Fronts.{map_of, changed, changed_by}
-use Rattle.finite_map.specs.Scans.{is_within, IsHeldBetween, IsNeverRemoved as IsKeptBetween, IsUpToLast, IsPastLast, IsLawfulScan}
-use Rattle.finite_map.specs.Reverse.{falling_order, IsBelowLast, IsDownToLast, IsLawfulReverseScan}
+use Rattle.finite_map.specs.Scans.{is_within, IsHeldBetween, IsNeverRemoved as IsKeptBetween, IsUpToLast, IsLawfulScanWith}
+use Rattle.finite_map.specs.Reverse.{falling_order, IsDownToLast}
 use Rattle.tries.specs.Keys.{Key, IsBefore, IsAtMost}
 use Rattle.tries.specs.Tree.{Tree, Has}
 use Rattle.tries.proofs.Contents.{holds_has}
@@ -28,8 +28,10 @@ use Rattle.tries.proofs.Ranges.{has_key, at_most_le, at_most_not_lt, le_at_most,
 use Rattle.rowex_walks.proofs.Scans.{before_trans}
 use Rattle.versions.specs.State.{Past, IsHeldSince, IsKeptSince, IsSteady}
 use Rattle.versions.specs.Told.{content, TellChanges}
-use Rattle.rowex_walks.specs.Scan.{Pair, Every, IsKeyListed, IsFalling, IsUpTo, Range, IsInRange, IsComplete, IsCut, in_order_taken}
-use Rattle.rowex_walks.specs.Reverse.{IsClimbing, IsDownComplete, IsDownCut, IsDownTo}
+use Rattle.rowex_walks.specs.Scan.{Pair, Every, IsKeyListed, Range, IsInRange, in_order_taken}
+use Rattle.rowex_walks.specs.Directions.{IsAnswer, IsEarlier, IsNoLater, IsLawfulBy, AreOrdered, IsComplete, IsReachedBy, IsCut}
+use Rattle.rowex_walks.specs.declared.direction.Direction.{Direction}
+use Rattle.rowex_walks.specs.declared.direction.Direction.TheVariants.{Upwards, Downwards}
 use Rattle.rowex_walks.proofs.Walk.{every_map}
 
 -- The range by bits is the range by bytes.
@@ -134,31 +136,32 @@ all_push : (P : Key → Type 0) (ks : List Key) (k : Key) → AllByRecursion P k
 all_push P [] k a h = (h, tt)
 all_push P (l ∷ ks) k a h = (a.0, all_push P ks k a.1 h)
 
-below_turned : (k : Key) (xs : List Pair) → IsKey k → Every (λ x. IsKey x.key) xs → Every (λ x. IsBefore x.key k) xs → AllByRecursion (λ l. key_order l k ≡ Less) (keys_of (in_order_taken xs))
-below_turned k [] i a b = tt
-below_turned k (x ∷ xs) i a b =
-    subst (AllByRecursion (λ l. key_order l k ≡ Less)) (sym (keys_push (in_order_taken xs) x.key x.value))
-    (all_push (λ l. key_order l k ≡ Less) (keys_of (in_order_taken xs)) x.key (below_turned k xs i a.1 b.1) (before_less x.key k a.0 i b.0))
+-- The order of keys in a direction.
+abbrev order_by : Direction → Key → Key → Ordering
+order_by Upwards = key_order
+order_by Downwards = falling_order
 
-turned_rises : (xs : List Pair) → Every (λ x. IsKey x.key) xs → IsFalling xs → IsStrictlySortedBy key_order (keys_of (in_order_taken xs))
-unfolding IsStrictlySortedBy
-turned_rises [] a f = tt
-turned_rises (x ∷ xs) a f =
-    subst (IsStrictlySortedBy key_order) (sym (keys_push (in_order_taken xs) x.key x.value))
-    (sorted_push key_order (keys_of (in_order_taken xs)) x.key (turned_rises xs a.1 f.1) (below_turned x.key xs a.0 a.1 f.0))
+earlier_less : (d : Direction) (a b : Key) → IsKey a → IsKey b → IsEarlier d a b → order_by d a b ≡ Less
+earlier_less Upwards a b ka kb h = before_less a b ka kb h
+earlier_less Downwards a b ka kb h = before_less b a kb ka h
 
-above_turned : (k : Key) (xs : List Pair) → IsKey k → Every (λ x. IsKey x.key) xs → Every (λ x. IsBefore k x.key) xs → AllByRecursion (λ l. falling_order l k ≡ Less) (keys_of (in_order_taken xs))
-above_turned k [] i a b = tt
-above_turned k (x ∷ xs) i a b =
-    subst (AllByRecursion (λ l. falling_order l k ≡ Less)) (sym (keys_push (in_order_taken xs) x.key x.value))
-    (all_push (λ l. falling_order l k ≡ Less) (keys_of (in_order_taken xs)) x.key (above_turned k xs i a.1 b.1) (before_less k x.key i a.0 b.0))
+module _ (d : Direction) where
+  all_earlier : (k : Key) (xs : List Pair) → IsKey k → Every (λ x. IsKey x.key) xs → Every (λ x. IsEarlier d x.key k) xs → Every (λ x. order_by d x.key k ≡ Less) xs
+  all_earlier k [] i a b = tt
+  all_earlier k (x ∷ xs) i a b = (earlier_less d x.key k a.0 i b.0, all_earlier k xs i a.1 b.1)
 
-turned_falls : (xs : List Pair) → Every (λ x. IsKey x.key) xs → IsClimbing xs → IsStrictlySortedBy falling_order (keys_of (in_order_taken xs))
-unfolding IsStrictlySortedBy
-turned_falls [] a f = tt
-turned_falls (x ∷ xs) a f =
-    subst (IsStrictlySortedBy falling_order) (sym (keys_push (in_order_taken xs) x.key x.value))
-    (sorted_push falling_order (keys_of (in_order_taken xs)) x.key (turned_falls xs a.1 f.1) (above_turned x.key xs a.0 a.1 f.0))
+  earlier_turned : (k : Key) (xs : List Pair) → Every (λ x. order_by d x.key k ≡ Less) xs → AllByRecursion (λ l. order_by d l k ≡ Less) (keys_of (in_order_taken xs))
+  earlier_turned k [] b = tt
+  earlier_turned k (x ∷ xs) b =
+      subst (AllByRecursion (λ l. order_by d l k ≡ Less)) (sym (keys_push (in_order_taken xs) x.key x.value))
+      (all_push (λ l. order_by d l k ≡ Less) (keys_of (in_order_taken xs)) x.key (earlier_turned k xs b.1) b.0)
+
+  turned_sorted : (xs : List Pair) → Every (λ x. IsKey x.key) xs → AreOrdered d xs → IsStrictlySortedBy (order_by d) (keys_of (in_order_taken xs))
+  unfolding IsStrictlySortedBy
+  turned_sorted [] a f = tt
+  turned_sorted (x ∷ xs) a f =
+      subst (IsStrictlySortedBy (order_by d)) (sym (keys_push (in_order_taken xs) x.key x.value))
+      (sorted_push (order_by d) (keys_of (in_order_taken xs)) x.key (turned_sorted xs a.1 f.1) (earlier_turned x.key xs (all_earlier x.key xs a.0 a.1 f.0)))
 
 listed_turned : (k : Key) (xs : List Pair) → IsKeyListed k xs → Contains (keys_of (in_order_taken xs)) k
 listed_turned k [] a = absurd a
@@ -175,34 +178,44 @@ at_most_trans a b c (inl e) h = subst (λ z. IsAtMost z c) (sym e) h
 at_most_trans a b c (inr h) (inl e) = inr (subst (IsBefore a) e h)
 at_most_trans a b c (inr h) (inr g) = inr (before_trans a b c h g)
 
--- A key up to that of the last pair is up to that of the newest.
-up_to_newest : (k : Key) (xs : List Pair) → IsKey k → Every (λ x. IsKey x.key) xs → IsFalling xs → IsUpToLast (in_order_taken xs) k → IsUpTo k xs
-up_to_newest k [] i a f (n, e, lt, at, h) = absurd (omega arith)
-up_to_newest k (x ∷ xs) i a f (n, e, lt, at, h) =
-    let y = All-contains (λ z. IsKey z.0 × IsAtMost z.0 x.key) (in_order_taken (x ∷ xs)) e
-    (all_turned (λ z. IsKey z.0 × IsAtMost z.0 x.key) (x ∷ xs) ((a.0, inl refl), every_both xs a.1 f.0)) (n, lt, at) in
-    at_most_trans k e.0 x.key (le_at_most k e.0 i y.0 (not_greater (key_order k e.0) h)) y.1
-  where
-    every_both : (ys : List Pair) → Every (λ y. IsKey y.key) ys → Every (λ y. IsBefore y.key x.key) ys → Every (λ y. IsKey y.key × IsAtMost y.key x.key) ys
-    every_both [] b c = tt
-    every_both (y ∷ ys) b c = ((b.0, inr c.0), every_both ys b.1 c.1)
-
 not_less : (o : Ordering) → o ≢ Less → is_lt o ≡ false
 not_less Less n = absurd (n refl)
 not_less Equal n = refl
 not_less Greater n = refl
 
--- A key down to that of the last pair is down to that of the newest.
-down_to_newest : (k : Key) (xs : List Pair) → IsKey k → Every (λ x. IsKey x.key) xs → IsClimbing xs → IsDownToLast (in_order_taken xs) k → IsDownTo k xs
-down_to_newest k [] i a f (n, e, lt, at, h) = absurd (omega arith)
-down_to_newest k (x ∷ xs) i a f (n, e, lt, at, h) =
-    let y = All-contains (λ z. IsKey z.0 × IsAtMost x.key z.0) (in_order_taken (x ∷ xs)) e
-    (all_turned (λ z. IsKey z.0 × IsAtMost x.key z.0) (x ∷ xs) ((a.0, inl refl), every_both xs a.1 f.0)) (n, lt, at) in
-    at_most_trans x.key e.0 k y.1 (not_lt_at_most e.0 k y.0 i (not_less (key_order k e.0) h))
+-- Whether a key is no later than that of the last pair.
+abbrev IsReachedByLast : Direction → Map → List ℕ → Type 0
+IsReachedByLast Upwards pairs k = IsUpToLast pairs k
+IsReachedByLast Downwards pairs k = IsDownToLast pairs k
+
+no_later_than : (d : Direction) (x : Pair) (ys : List Pair) → Every (λ y. IsKey y.key) ys → Every (λ y. IsEarlier d y.key x.key) ys → Every (λ y. IsKey y.key × IsNoLater d y.key x.key) ys
+no_later_than d x [] b c = tt
+no_later_than d x (y ∷ ys) b c = ((b.0, go d c.0), no_later_than d x ys b.1 c.1)
   where
-    every_both : (ys : List Pair) → Every (λ y. IsKey y.key) ys → Every (λ y. IsBefore x.key y.key) ys → Every (λ y. IsKey y.key × IsAtMost x.key y.key) ys
-    every_both [] b c = tt
-    every_both (y ∷ ys) b c = ((b.0, inr c.0), every_both ys b.1 c.1)
+    go : (d : Direction) → IsEarlier d y.key x.key → IsNoLater d y.key x.key
+    go Upwards h = inr h
+    go Downwards h = inr h
+
+-- A key that is no later than that of the last pair is no later than that of the newest.
+last_is_newest : (d : Direction) (k : Key) (xs : List Pair) → IsKey k → Every (λ x. IsKey x.key) xs → AreOrdered d xs → IsReachedByLast d (in_order_taken xs) k → IsReachedBy d k xs
+last_is_newest Upwards k [] i a f (n, e, lt, at, h) = absurd (omega arith)
+last_is_newest Downwards k [] i a f (n, e, lt, at, h) = absurd (omega arith)
+last_is_newest Upwards k (x ∷ xs) i a f (n, e, lt, at, h) =
+    let y = All-contains (λ z. IsKey z.0 × IsAtMost z.0 x.key) (in_order_taken (x ∷ xs)) e
+    (all_turned (λ z. IsKey z.0 × IsAtMost z.0 x.key) (x ∷ xs) ((a.0, inl refl), no_later_than Upwards x xs a.1 f.0)) (n, lt, at) in
+    at_most_trans k e.0 x.key (le_at_most k e.0 i y.0 (not_greater (key_order k e.0) h)) y.1
+last_is_newest Downwards k (x ∷ xs) i a f (n, e, lt, at, h) =
+    let y = All-contains (λ z. IsKey z.0 × IsAtMost x.key z.0) (in_order_taken (x ∷ xs)) e
+    (all_turned (λ z. IsKey z.0 × IsAtMost x.key z.0) (x ∷ xs) ((a.0, inl refl), no_later_than Downwards x xs a.1 f.0)) (n, lt, at) in
+    at_most_trans x.key e.0 k y.1 (not_lt_at_most e.0 k y.0 i (not_less (key_order k e.0) h))
+
+-- What is said of lawful scans of a direction.
+abbrev IsLawfulIn : Direction → List Change → List Change → List ℕ → List ℕ → ℕ → Scan → Type 0
+IsLawfulIn d = IsLawfulScanWith (λ z. IsStrictlySortedBy (order_by d) (keys_of z)) (IsReachedByLast d) (λ z k. All (λ e. order_by d e.0 k ≡ Less) z)
+
+lawful_by : (d : Direction) (before after : List Change) (from upto : Key) (limit : ℕ) (scan : Scan) → IsLawfulIn d before after from upto limit scan → IsLawfulBy d before after from upto limit scan
+lawful_by Upwards before after from upto limit scan w = w
+lawful_by Downwards before after from upto limit scan w = w
 
 module _ (s : Past) (before rest : List Change) (m : ℕ) (steady : IsSteady s m) (told : TellChanges s (before ++ rest)) (g : Range) (kf : IsKey g.from) (ku : IsKey g.upto)
     (xs : List Pair) (scan : Scan) (items : scan.pairs.items ≡ in_order_taken xs) where
@@ -231,10 +244,10 @@ module _ (s : Past) (before rest : List Change) (m : ℕ) (steady : IsSteady s m
       has_key z.0 (steady.trees s.now z.0 (le_refl s.now) z.1).0 k z.2
 
   -- A scan that came to its end is lawful.
-  pub complete_lawful : scan.more ≡ false → IsComplete s (length before) g xs → IsLawfulScan before (before ++ rest) g.from g.upto g.limit scan
-  complete_lawful ends w = record {
+  complete_lawful : (d : Direction) → scan.more ≡ false → IsComplete d s (length before) g xs → IsLawfulBy d before (before ++ rest) g.from g.upto g.limit scan
+  complete_lawful d ends w = lawful_by d before (before ++ rest) g.from g.upto g.limit scan (record {
     begins = (rest, refl);
-    ordered = subst (λ (z : Map). IsStrictlySortedBy key_order (keys_of z)) (sym items) (turned_rises xs (are_keys w.held) w.ordered);
+    ordered = subst (λ (z : Map). IsStrictlySortedBy (order_by d) (keys_of z)) (sym items) (turned_sorted d xs (are_keys w.held) w.ordered);
     within = subst (All (λ e. IsTrue (is_within g.from g.upto e.0))) (sym items) (all_within (are_keys w.held) w.within);
     short = subst (λ (z : Map). length z ≤ g.limit) (sym items) (let e = length_in_order_taken xs in let l = w.short in omega arith);
     held = subst (All (λ e. IsHeldBetween before (before ++ rest) e.0 e.1)) (sym items) (all_held w.held);
@@ -243,13 +256,13 @@ module _ (s : Past) (before rest : List Change) (m : ℕ) (steady : IsSteady s m
     part = λ e. absurd (false≢true (sym ends ∙ e));
     full = λ e. absurd (false≢true (sym ends ∙ e));
     further = λ e. absurd (false≢true (sym ends ∙ e));
-  }
+  })
 
   -- And one that was cut at the limit.
-  pub cut_lawful : scan.more ≡ true → IsCut s (length before) g xs → IsLawfulScan before (before ++ rest) g.from g.upto g.limit scan
-  cut_lawful goes_on w = record {
+  cut_lawful : (d : Direction) → scan.more ≡ true → IsCut d s (length before) g xs → IsLawfulBy d before (before ++ rest) g.from g.upto g.limit scan
+  cut_lawful d goes_on w = lawful_by d before (before ++ rest) g.from g.upto g.limit scan (record {
     begins = (rest, refl);
-    ordered = subst (λ (z : Map). IsStrictlySortedBy key_order (keys_of z)) (sym items) (turned_rises xs (are_keys w.held) w.ordered);
+    ordered = subst (λ (z : Map). IsStrictlySortedBy (order_by d) (keys_of z)) (sym items) (turned_sorted d xs (are_keys w.held) w.ordered);
     within = subst (All (λ e. IsTrue (is_within g.from g.upto e.0))) (sym items) (all_within (are_keys w.held) w.within);
     short = subst (λ (z : Map). length z ≤ g.limit) (sym items) (let e = length_in_order_taken xs in let l = w.full in omega arith);
     held = subst (All (λ e. IsHeldBetween before (before ++ rest) e.0 e.1)) (sym items) (all_held w.held);
@@ -257,12 +270,12 @@ module _ (s : Past) (before rest : List Change) (m : ℕ) (steady : IsSteady s m
     part = λ e k h o u. subst (λ (z : Map). Contains (keys_of z) k) (sym items)
         (listed_turned k xs
         (w.covered k (front_kept s before rest m steady told k o) (in_range g kf ku k (kept_key k o) h)
-        (up_to_newest k xs (kept_key k o) (are_keys w.held) w.ordered (subst (λ (z : Map). IsUpToLast z k) items u))));
+        (last_is_newest d k xs (kept_key k o) (are_keys w.held) w.ordered (subst (λ (z : Map). IsReachedByLast d z k) items u))));
     full = λ e. subst (λ (z : Map). length z ≡ g.limit) (sym items) (length_in_order_taken xs ∙ w.full);
     further = λ e. more;
-  }
+  })
     where
-      more : (k : Key) × (v : ℕ) × IsTrue (is_within g.from g.upto k) × IsHeldBetween before (before ++ rest) k v × IsPastLast scan.pairs.items k
+      more : (k : Key) × (v : ℕ) × IsTrue (is_within g.from g.upto k) × IsHeldBetween before (before ++ rest) k v × All (λ e. order_by d e.0 k ≡ Less) scan.pairs.items
       more =
           let (k, v, r, h, b) = w.further in
           let i = held_key s before rest m steady told (length before) k v h in (
@@ -270,56 +283,10 @@ module _ (s : Past) (before rest : List Change) (m : ℕ) (steady : IsSteady s m
             v,
             within g kf ku k i r,
             held_between s before rest m steady told k v h,
-            subst (λ (z : Map). IsPastLast z k) (sym items) (all_turned (λ e. key_order e.0 k ≡ Less) xs (before_all k i xs (are_keys w.held) b)),
+            subst (All (λ e. order_by d e.0 k ≡ Less)) (sym items) (all_turned (λ e. order_by d e.0 k ≡ Less) xs (all_earlier d k xs i (are_keys w.held) b)),
           )
-        where
-          before_all : (k : Key) → IsKey k → (ys : List Pair) → Every (λ y. IsKey y.key) ys → Every (λ y. IsBefore y.key k) ys → Every (λ y. key_order y.key k ≡ Less) ys
-          before_all k i [] a b = tt
-          before_all k i (y ∷ ys) a b = (before_less y.key k a.0 i b.0, before_all k i ys a.1 b.1)
 
-  -- A scan downwards that came to its end is lawful.
-  pub complete_lawful_down : scan.more ≡ false → IsDownComplete s (length before) g xs → IsLawfulReverseScan before (before ++ rest) g.from g.upto g.limit scan
-  complete_lawful_down ends w = record {
-    begins = (rest, refl);
-    ordered = subst (λ (z : Map). IsStrictlySortedBy falling_order (keys_of z)) (sym items) (turned_falls xs (are_keys w.held) w.ordered);
-    within = subst (All (λ e. IsTrue (is_within g.from g.upto e.0))) (sym items) (all_within (are_keys w.held) w.within);
-    short = subst (λ (z : Map). length z ≤ g.limit) (sym items) (let e = length_in_order_taken xs in let l = w.short in omega arith);
-    held = subst (All (λ e. IsHeldBetween before (before ++ rest) e.0 e.1)) (sym items) (all_held w.held);
-    whole = λ e k h o. subst (λ (z : Map). Contains (keys_of z) k) (sym items)
-        (listed_turned k xs (w.covered k (front_kept s before rest m steady told k o) (in_range g kf ku k (kept_key k o) h)));
-    part = λ e. absurd (false≢true (sym ends ∙ e));
-    full = λ e. absurd (false≢true (sym ends ∙ e));
-    further = λ e. absurd (false≢true (sym ends ∙ e));
-  }
-
-  -- And one that was cut at the limit.
-  pub cut_lawful_down : scan.more ≡ true → IsDownCut s (length before) g xs → IsLawfulReverseScan before (before ++ rest) g.from g.upto g.limit scan
-  cut_lawful_down goes_on w = record {
-    begins = (rest, refl);
-    ordered = subst (λ (z : Map). IsStrictlySortedBy falling_order (keys_of z)) (sym items) (turned_falls xs (are_keys w.held) w.ordered);
-    within = subst (All (λ e. IsTrue (is_within g.from g.upto e.0))) (sym items) (all_within (are_keys w.held) w.within);
-    short = subst (λ (z : Map). length z ≤ g.limit) (sym items) (let e = length_in_order_taken xs in let l = w.full in omega arith);
-    held = subst (All (λ e. IsHeldBetween before (before ++ rest) e.0 e.1)) (sym items) (all_held w.held);
-    whole = λ e. absurd (false≢true (sym e ∙ goes_on));
-    part = λ e k h o u. subst (λ (z : Map). Contains (keys_of z) k) (sym items)
-        (listed_turned k xs
-        (w.covered k (front_kept s before rest m steady told k o) (in_range g kf ku k (kept_key k o) h)
-        (down_to_newest k xs (kept_key k o) (are_keys w.held) w.ordered (subst (λ (z : Map). IsDownToLast z k) items u))));
-    full = λ e. subst (λ (z : Map). length z ≡ g.limit) (sym items) (length_in_order_taken xs ∙ w.full);
-    further = λ e. more;
-  }
-    where
-      more : (k : Key) × (v : ℕ) × IsTrue (is_within g.from g.upto k) × IsHeldBetween before (before ++ rest) k v × IsBelowLast scan.pairs.items k
-      more =
-          let (k, v, r, h, b) = w.further in
-          let i = held_key s before rest m steady told (length before) k v h in (
-            k,
-            v,
-            within g kf ku k i r,
-            held_between s before rest m steady told k v h,
-            subst (λ (z : Map). IsBelowLast z k) (sym items) (all_turned (λ e. key_order k e.0 ≡ Less) xs (after_all k i xs (are_keys w.held) b)),
-          )
-        where
-          after_all : (k : Key) → IsKey k → (ys : List Pair) → Every (λ y. IsKey y.key) ys → Every (λ y. IsBefore k y.key) ys → Every (λ y. key_order k y.key ≡ Less) ys
-          after_all k i [] a b = tt
-          after_all k i (y ∷ ys) a b = (before_less k y.key i a.0 b.0, after_all k i ys a.1 b.1)
+  -- So is each answer.
+  pub scan_is_lawful : (d : Direction) (more : Bool) → scan.more ≡ more → IsAnswer d s (length before) g xs more → IsLawfulBy d before (before ++ rest) g.from g.upto g.limit scan
+  scan_is_lawful d false e w = complete_lawful d e w
+  scan_is_lawful d true e w = cut_lawful d e w

@@ -22,7 +22,6 @@ pub mod Beside
 pub mod Merging
 pub mod Scans
 pub mod Walk
-pub mod Downs
 pub mod Starts
 pub mod Loads
 pub mod Persist

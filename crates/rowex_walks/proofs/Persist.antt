@@ -1,5 +1,5 @@
 -- What a scan knows stays true while the past grows.
-use Rattle.std.proofs.Common.{◌⊎◌, inl, inr, ℕ, List, [], ◌∷◌, sym, ◌∙◌, le_trans}
+use Rattle.std.proofs.Common.{◌⊎◌, inl, inr, ℕ, List, [], ◌∷◌, sym, ◌∙◌, le_trans, ⊎_elim}
 use Rattle.tries.specs.Keys.{Key}
 use Rattle.compound_node.specs.declared.entries.Entry.{Entry}
 use Rattle.compound_node.specs.declared.entries.Entry.TheVariants.{Node}
@@ -8,7 +8,9 @@ use Rattle.versions.specs.State.{Past, IsHeldSince, IsKeptSince}
 use Rattle.versions.specs.declared.Rec.{Rec}
 use Rattle.versions.specs.declared.Rec.TheVariants.{Node as a_node, Leaf as a_leaf}
 use Rattle.versions.specs.Frames.{IsGrown}
-use Rattle.rowex_walks.specs.Scan.{Stood, IsRooted, IsPlaced, IsShaped, IsRead, MayStandAt, HadKeyBelow, Frame, IsStack, MayStandLeftOfOne, WasRightOfOne, IsAhead, Pair, IsKeyListed, Range, IsScan}
+use Rattle.rowex_walks.specs.Scan.{Stood, IsRooted, IsPlaced, IsShaped, IsRead, MayStandAt, HadKeyBelow, Frame, IsStack, Pair, IsKeyListed, Range}
+use Rattle.rowex_walks.specs.Directions.{WasPassedOnWay, HasPassed, ComesOnWay, Comes, IsScanBy}
+use Rattle.rowex_walks.specs.declared.direction.Direction.{Direction}
 use Rattle.rowex_walks.proofs.Walk.{every_map}
 use Rattle.versions.proofs.Growth.{stands_grown}
 
@@ -48,20 +50,25 @@ stack_grown a b g m (f ∷ e ∷ fs) h = (
   stack_grown a b g m (e ∷ fs) h.2,
 )
 
-passed_on : (a b : Past) → IsGrown a b → (m : ℕ) (k : Key) (fs : List Frame) → MayStandLeftOfOne a m k fs → MayStandLeftOfOne b m k fs
-passed_on a b g m k [] h = h
-passed_on a b g m k (f ∷ fs) (inl (j, lt, x)) = inl (j, lt, may_stand_grown a b g m f.number j k x)
-passed_on a b g m k (f ∷ fs) (inr x) = inr (passed_on a b g m k fs x)
+way_passed_on : (d : Direction) (a b : Past) → IsGrown a b → (m : ℕ) (k : Key) (fs : List Frame) → WasPassedOnWay d a m k fs → WasPassedOnWay d b m k fs
+way_passed_on d a b g m k [] h = h
+way_passed_on d a b g m k (f ∷ fs) (inl (j, passed, x)) = inl (j, passed, may_stand_grown a b g m f.number j k x)
+way_passed_on d a b g m k (f ∷ fs) (inr x) = inr (way_passed_on d a b g m k fs x)
 
-right_on : (a b : Past) → IsGrown a b → (m : ℕ) (k : Key) (fs : List Frame) → WasRightOfOne a m k fs → WasRightOfOne b m k fs
-right_on a b g m k [] h = h
-right_on a b g m k (f ∷ fs) (inl (x, lt)) = inl (had_key_grown a b g m k (a_node f.number) x, lt)
-right_on a b g m k (f ∷ fs) (inr x) = inr (right_on a b g m k fs x)
+passed_on : (d : Direction) (a b : Past) → IsGrown a b → (m : ℕ) (k : Key) (fs : List Frame) → HasPassed d a m k fs → HasPassed d b m k fs
+passed_on d a b g m k [] h = h
+passed_on d a b g m k (f ∷ fs) (inl (j, passed, x)) = inl (j, passed, may_stand_grown a b g m f.number j k x)
+passed_on d a b g m k (f ∷ fs) (inr x) = inr (way_passed_on d a b g m k fs x)
 
-ahead_on : (a b : Past) → IsGrown a b → (m : ℕ) (k : Key) (fs : List Frame) → IsAhead a m k fs → IsAhead b m k fs
-ahead_on a b g m k [] h = h
-ahead_on a b g m k (f ∷ fs) (inl (x, lt)) = inl (had_key_grown a b g m k (a_node f.number) x, lt)
-ahead_on a b g m k (f ∷ fs) (inr x) = inr (right_on a b g m k fs x)
+way_comes_on : (d : Direction) (a b : Past) → IsGrown a b → (m : ℕ) (k : Key) (fs : List Frame) → ComesOnWay d a m k fs → ComesOnWay d b m k fs
+way_comes_on d a b g m k [] h = h
+way_comes_on d a b g m k (f ∷ fs) (inl (x, come)) = inl (had_key_grown a b g m k (a_node f.number) x, come)
+way_comes_on d a b g m k (f ∷ fs) (inr x) = inr (way_comes_on d a b g m k fs x)
+
+comes_on : (d : Direction) (a b : Past) → IsGrown a b → (m : ℕ) (k : Key) (fs : List Frame) → Comes d a m k fs → Comes d b m k fs
+comes_on d a b g m k [] h = h
+comes_on d a b g m k (f ∷ fs) (inl (x, come)) = inl (had_key_grown a b g m k (a_node f.number) x, come)
+comes_on d a b g m k (f ∷ fs) (inr x) = inr (way_comes_on d a b g m k fs x)
 
 pub kept_before_growth : (a b : Past) → IsGrown a b → (m : ℕ) (k : Key) → IsKeptSince b m k → IsKeptSince a m k
 kept_before_growth a b g m k h n lo hi = let o = h n lo (le_trans hi g.longer) in (o.0, sym (g.kept n hi) ∙ o.1, o.2)
@@ -70,17 +77,13 @@ pub held_grown : (a b : Past) → IsGrown a b → (m : ℕ) (k : Key) (v : ℕ) 
 held_grown a b g m k v (n, t, lo, hi, e, h) = (n, t, lo, le_trans hi g.longer, g.kept n hi ∙ e, h)
 
 -- The scan's invariant is stable.
-pub up_scan_grown : (a b : Past) → IsGrown a b → (m : ℕ) (x : Range) (fs : List Frame) (xs : List Pair) → IsScan a m x fs xs → IsScan b m x fs xs
-up_scan_grown a b g m x fs xs w = record {
+pub scan_grown : (a : Past) (m : ℕ) (x : Range) (d : Direction) (b : Past) (fs : List Frame) (xs : List Pair) → IsGrown a b → IsScanBy d a m x fs xs → IsScanBy d b m x fs xs
+scan_grown a m x d b fs xs g w = record {
   stack = stack_grown a b g m fs w.stack;
   ordered = w.ordered;
   within = w.within;
   held = every_map (λ y. IsHeldSince a m y.key y.value) (λ y. IsHeldSince b m y.key y.value) xs (λ y h. held_grown a b g m y.key y.value h) w.held;
-  passed = every_map (λ y. MayStandLeftOfOne a m y.key fs) (λ y. MayStandLeftOfOne b m y.key fs) xs (λ y h. passed_on a b g m y.key fs h) w.passed;
+  passed = every_map (λ y. HasPassed d a m y.key fs) (λ y. HasPassed d b m y.key fs) xs (λ y h. passed_on d a b g m y.key fs h) w.passed;
   short = w.short;
-  covered = λ k kept r. go k (w.covered k (kept_before_growth a b g m k kept) r);
+  covered = λ k kept r. ⊎_elim (λ y. inl y) (λ y. inr (comes_on d a b g m k fs y)) (w.covered k (kept_before_growth a b g m k kept) r);
 }
-  where
-    go : (k : Key) → IsKeyListed k xs ⊎ IsAhead a m k fs → IsKeyListed k xs ⊎ IsAhead b m k fs
-    go k (inl y) = inl y
-    go k (inr y) = inr (ahead_on a b g m k fs y)

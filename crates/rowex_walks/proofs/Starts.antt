@@ -5,7 +5,7 @@ use Rattle.pieces.proofs.Paths.{size_pos}
 use Rattle.pieces.specs.Piece.{Place, Fork, size}
 use Rattle.compound_node.specs.declared.entries.Entry.TheVariants.{Node}
 use Rattle.tries.specs.Affected.{subtrie_affected}
-use Rattle.tries.specs.Keys.{Key, bit, AgreeBelow, IsParted, IsBefore, IsAtMost}
+use Rattle.tries.specs.Keys.{Key, bit, AgreeBelow, IsParted, IsBefore}
 use Rattle.tries.specs.Place.{spot, shape}
 use Rattle.tries.specs.Search.{Kin, tips, forks, IsUnder}
 use Rattle.tries.specs.Tree.{Subtrie, Tree, leaf, node, fork, subtrie, IsTrie, IsTip}
@@ -14,10 +14,13 @@ use Rattle.tries.proofs.Tries.{has_under, under_below, kin_tips}
 use Rattle.versions.specs.Frames.{IsGrown}
 use Rattle.versions.specs.State.{Past, IsKeptSince, IsSteady}
 use Rattle.versions.specs.declared.Rec.TheVariants.{Node as a_node}
-use Rattle.rowex_walks.specs.Scan.{AgreeUpToPlace, IsPlaced, IsShaped, MayStandAt, HadKeyBelow, KeysFromAreAbove, Frame, IsStack, WasRightOfOne, Range, IsInRange, IsScan}
+use Rattle.rowex_walks.specs.Scan.{AgreeUpToPlace, IsPlaced, IsShaped, MayStandAt, HadKeyBelow, Frame, IsStack, Range, IsInRange}
+use Rattle.rowex_walks.specs.Directions.{gap_before, gap_behind, first_gap, first_key, IsEarlier, IsNoLater, IsToCome, WasPassed, ComesOnWay, IsScanBy, IsPastKey}
+use Rattle.rowex_walks.specs.declared.direction.Direction.{Direction}
+use Rattle.rowex_walks.specs.declared.direction.Direction.TheVariants.{Upwards, Downwards}
 use Rattle.rowex_walks.proofs.Persist.{may_stand_grown, placed_grown, shaped_grown}
-use Rattle.rowex_walks.proofs.Scans.{may_stand_in_order, may_stand_at_child_place, had_key_may_stand, child_had_key, root_had_key, never_before, shaped, stood_kin, stood_trie}
-use Rattle.rowex_walks.proofs.Walk.{stack_shape}
+use Rattle.rowex_walks.proofs.Scans.{may_stand_at_child_place, had_key_may_stand, child_had_key, root_had_key, shaped, stood_kin, stood_trie}
+use Rattle.rowex_walks.proofs.Walk.{come_before, come_earlier, come_further, from_first, may_stand_earlier, never_earlier, passed_behind, passed_or_comes, stack_shape}
 
 -- The key may stand at the place of each frame.
 abbrev pub AreAt : Past → ℕ → Key → List Frame → Type 0
@@ -279,24 +282,47 @@ module _ (s : Past) (m : ℕ) (law : IsSteady s m) (r : ℕ) (p : Subtrie) (sh :
         go true e (inr (inr (le, lt, f))) = (λ h. among_below z e (several f), λ h. absurd (omega (arith, h, lt)))
         go false e (inr (inr (le, lt, f))) = (λ h. absurd (omega (arith, h, le)), λ h. among_above z e (several f))
 
--- So it is, and stays.
-pub sides_over : (s : Past) (m r : ℕ) (p : Subtrie) → IsShaped s m r p → (v y : Key) (d : ℕ) → AgreeBelow d v y → MayStandAt s m r (spot v p) y → (bit v d ≡ bit y d → ⊥) →
-    2 ≤ size (subtrie_affected d v p) → KeysFromAreAbove s m v r (start_place d v p)
-sides_over s m r p sh v y d agree fit ne two t g law j z le at = (sides t m law r p (shaped_grown s t g m r p sh) v y d agree (may_stand_grown s t g m r (spot v p) y fit) ne two j z at).1 le
+-- So it is, and stays: all that is to come at the start place is later than v.
+pub sides_beyond : (way : Direction) (s : Past) (m r : ℕ) (p : Subtrie) → IsShaped s m r p → (v y : Key) (d : ℕ) → AgreeBelow d v y → MayStandAt s m r (spot v p) y →
+    (bit v d ≡ bit y d → ⊥) → 2 ≤ size (subtrie_affected d v p) → IsPastKey way s m v r (start_place d v p)
+sides_beyond way s m r p sh v y d agree fit ne two t g law j z come at =
+    go way come (sides t m law r p (shaped_grown s t g m r p sh) v y d agree (may_stand_grown s t g m r (spot v p) y fit) ne two j z at)
+  where
+    go : (way : Direction) → IsToCome way (start_place d v p) j → (j < start_place d v p → IsBefore z v) × (start_place d v p ≤ j → IsBefore v z) → IsEarlier way v z
+    go Upwards come h = h.1 come
+    go Downwards come h = h.0 come
 
--- Where the key itself may stand, those right of it are above.
-pub at_over : (s : Past) (m r i : ℕ) (v : Key) → MayStandAt s m r i v → KeysFromAreAbove s m v r (suc i)
-at_over s m r i v fit t g law j z le at = may_stand_in_order t m law r i j (omega (arith, le)) v z (may_stand_grown s t g m r i v fit) at
+-- ---- keys that come later
+-- Where the key itself may stand, those behind are later.
+pub at_beyond : (d : Direction) (s : Past) (m r place : ℕ) (key : Key) → MayStandAt s m r place key → IsPastKey d s m key r (gap_behind d place)
+at_beyond d s m r place key fit t g law j z come at =
+    may_stand_earlier d t m law r (gap_behind d place) place j key z (passed_behind d place) come (may_stand_grown s t g m r place key fit) at
 
-pub keys_from_grown : (a b : Past) → IsGrown a b → (m r i : ℕ) (v : Key) → KeysFromAreAbove a m v r i → KeysFromAreAbove b m v r i
-keys_from_grown a b g m r i v over t h law j z le at = over t (record { longer = omega (arith, g.longer, h.longer); kept = λ n lo. h.kept n (omega (arith, lo, g.longer)) ∙ g.kept n lo }) law j z le at
+pub beyond_grown : (d : Direction) (a b : Past) → IsGrown a b → (m r gap : ℕ) (key : Key) → IsPastKey d a m key r gap → IsPastKey d b m key r gap
+beyond_grown d a b g m r gap key over t h law j z come at =
+    over t (record { longer = omega (arith, g.longer, h.longer); kept = λ n lo. h.kept n (omega (arith, lo, g.longer)) ∙ g.kept n lo }) law j z come at
 
-pub over_later : (s : Past) (m r i j : ℕ) (v : Key) → i ≤ j → KeysFromAreAbove s m v r i → KeysFromAreAbove s m v r j
-over_later s m r i j v le over t g law o z lt at = over t g law o z (omega (arith, le, lt)) at
+-- where less is to come,
+pub beyond_further : (d : Direction) (s : Past) (m r i gap : ℕ) (key : Key) → ((j : ℕ) → IsToCome d gap j → IsToCome d i j) → IsPastKey d s m key r i → IsPastKey d s m key r gap
+beyond_further d s m r i gap key less over t g law j z come at = over t g law j z (less j come) at
 
--- A node at the place is over it too.
-pub keys_from_in_child : (s : Past) (m r i c h : ℕ) (v : Key) → IsPlaced s m r i (Node c h) → KeysFromAreAbove s m v r i → KeysFromAreAbove s m v c 0
-keys_from_in_child s m r i c h v placed over t g law j z le at = over t g law i z (le_refl i) (may_stand_at_child_place t m law r i c h j z (placed_grown s t g m r i (Node c h) placed) at)
+-- as behind an entry,
+pub beyond_behind : (d : Direction) (s : Past) (m r place : ℕ) (key : Key) → IsPastKey d s m key r (gap_before d place) → IsPastKey d s m key r (gap_behind d place)
+beyond_behind d s m r place key = beyond_further d s m r (gap_before d place) (gap_behind d place) key (come_earlier d place)
+
+-- in a node that stands at it,
+pub beyond_in_child : (d : Direction) (s : Past) (m r place c h count : ℕ) (key : Key) → IsPlaced s m r place (Node c h) → IsPastKey d s m key r (gap_before d place) →
+    IsPastKey d s m key c (first_gap d count)
+beyond_in_child d s m r place c h count key placed over t g law j z come at =
+    over t g law place z (come_before d place) (may_stand_at_child_place t m law r place c h j z (placed_grown s t g m r place (Node c h) placed) at)
+
+-- and at its own place
+pub beyond_at_place : (d : Direction) (s : Past) (m r place : ℕ) (key z : Key) → IsPastKey d s m key r (gap_before d place) → (t : Past) → IsGrown s t → IsSteady t m →
+    MayStandAt t m r place z → IsEarlier d key z
+beyond_at_place d s m r place key z over t g law at = over t g law place z (come_before d place) at
+
+pub same_past : (s : Past) → IsGrown s s
+same_past s = record { longer = le_refl s.now; kept = λ n lo. refl }
 
 -- ---- the way
 -- If the key may stand at the place of the lowest frame, it may so at each.
@@ -304,35 +330,48 @@ pub stack_at : (s : Past) (m : ℕ) → IsSteady s m → (f : Frame) (fs : List 
 stack_at s m law f [] h v at = (at, tt)
 stack_at s m law f (g ∷ gs) h v at = (at, stack_at s m law g gs h.2 v (may_stand_at_child_place s m law g.number g.place f.number f.height f.place v h.0 at))
 
--- A key that was there all the time, not before v, is in the lowest node, or right of a place.
-stack_reaches : (s : Past) (m : ℕ) → IsSteady s m → (f : Frame) (fs : List Frame) → IsStack s m (f ∷ fs) → (v k : Key) → AreAt s m v fs → IsKeptSince s m k → IsAtMost v k →
-    HadKeyBelow s m k (a_node f.number) ⊎ WasRightOfOne s m k fs
-stack_reaches s m law f [] h v k at kept le = inl (root_had_key s m k kept (Node f.number f.height) h.0)
-stack_reaches s m law f (g ∷ gs) h v k (at, rest) kept le = ⊎_elim here (λ x. inr (inr x)) (stack_reaches s m law g gs h.2 v k rest kept le)
+-- All that may stand before the place of one of the frames is earlier than the key.
+abbrev pub IsWayEarlier : Direction → Past → ℕ → Key → List Frame → Type 0
+IsWayEarlier d s m v [] = Unit {0}
+IsWayEarlier d s m v (f ∷ fs) =
+    ((j : ℕ) (z : Key) → WasPassed d (gap_before d f.place) j → MayStandAt s m f.number j z → IsEarlier d z v) × IsWayEarlier d s m v fs
+
+-- as where the key itself may stand at each of these places
+pub at_on_way : (d : Direction) (s : Past) (m : ℕ) → IsSteady s m → (v : Key) (fs : List Frame) → AreAt s m v fs → IsWayEarlier d s m v fs
+at_on_way d s m law v [] at = tt
+at_on_way d s m law v (f ∷ fs) at =
+    ((λ j z passed fit. may_stand_earlier d s m law f.number (gap_before d f.place) j f.place z v passed (come_before d f.place) fit at.0), at_on_way d s m law v fs at.1)
+
+-- A key that was there all the time, not earlier than v, is in the lowest node, or comes on the way.
+way_reaches : (d : Direction) (s : Past) (m : ℕ) → IsSteady s m → (f : Frame) (fs : List Frame) → IsStack s m (f ∷ fs) → (v k : Key) → IsWayEarlier d s m v fs → IsKeptSince s m k →
+    IsNoLater d v k → HadKeyBelow s m k (a_node f.number) ⊎ ComesOnWay d s m k fs
+way_reaches d s m law f [] h v k at kept le = inl (root_had_key s m k kept (Node f.number f.height) h.0)
+way_reaches d s m law f (g ∷ gs) h v k (at, rest) kept le = ⊎_elim here (λ x. inr (inr x)) (way_reaches d s m law g gs h.2 v k rest kept le)
   where
     sh : IsShaped s m g.number g.shape
     sh = stack_shape s m g gs h.2
 
-    here : HadKeyBelow s m k (a_node g.number) → HadKeyBelow s m k (a_node f.number) ⊎ WasRightOfOne s m k (g ∷ gs)
-    here on = ⊎_elim (λ lt. inr (inl (on, lt))) (λ ge. ⊎_elim
-        (λ lt. absurd (never_before k v (may_stand_in_order s m law g.number (spot k g.shape) g.place lt k v (had_key_may_stand s m law g.number g.shape k sh on) at) le))
-        (λ ge2. inl (child_had_key s m law k kept g.number g.place g.shape (Node f.number f.height) sh on (omega (arith, ge, ge2)) h.0)) (cases_lt (spot k g.shape) g.place))
-        (cases_lt g.place (spot k g.shape))
+    here : HadKeyBelow s m k (a_node g.number) → HadKeyBelow s m k (a_node f.number) ⊎ ComesOnWay d s m k (g ∷ gs)
+    here on = ⊎_elim
+        (λ passed. absurd (never_earlier d k v (at (spot k g.shape) k passed (had_key_may_stand s m law g.number g.shape k sh on)) le))
+        (λ come. ⊎_elim (λ e. inl (child_had_key s m law k kept g.number g.place g.shape (Node f.number f.height) sh on e h.0)) (λ x. inr (inl (on, x)))
+        (come_further d g.place (spot k g.shape) come))
+        (passed_or_comes d (gap_before d g.place) (spot k g.shape))
 
--- A scan may start where all keys left of its place are before its first.
-pub scan_start : (s : Past) (m : ℕ) → IsSteady s m → (g : Range) (f : Frame) (fs : List Frame) → IsStack s m (f ∷ fs) → AreAt s m g.from fs →
-    ((j : ℕ) (z : Key) → j < f.place → MayStandAt s m f.number j z → IsBefore z g.from) → IsScan s m g (f ∷ fs) []
-scan_start s m law g f fs stack at left = record {
+-- A scan may start where all keys before its gap are earlier than its first.
+pub scan_started : (d : Direction) (s : Past) (m : ℕ) → IsSteady s m → (g : Range) (f : Frame) (fs : List Frame) → IsStack s m (f ∷ fs) → IsWayEarlier d s m (first_key d g) fs →
+    ((j : ℕ) (z : Key) → WasPassed d f.place j → MayStandAt s m f.number j z → IsEarlier d z (first_key d g)) → IsScanBy d s m g (f ∷ fs) []
+scan_started d s m law g f fs stack at before = record {
   stack = stack;
   ordered = tt;
   within = tt;
   held = tt;
   passed = tt;
   short = omega arith;
-  covered = λ k kept range. inr (⊎_elim (λ on. inl (on, from k range on)) (λ x. inr x) (stack_reaches s m law f fs stack g.from k at kept range.0));
+  covered = λ k kept range. inr (⊎_elim (λ on. inl (on, there k range on)) (λ x. inr x) (way_reaches d s m law f fs stack (first_key d g) k at kept (from_first d g k range)));
 }
   where
-    from : (k : Key) → IsInRange g k → HadKeyBelow s m k (a_node f.number) → f.place ≤ spot k f.shape
-    from k range on = ⊎_elim
-        (λ lt. absurd (never_before k g.from (left (spot k f.shape) k lt (had_key_may_stand s m law f.number f.shape k (stack_shape s m f fs stack) on)) range.0))
-        (λ ge. ge) (cases_lt (spot k f.shape) f.place)
+    there : (k : Key) → IsInRange g k → HadKeyBelow s m k (a_node f.number) → IsToCome d f.place (spot k f.shape)
+    there k range on = ⊎_elim
+        (λ passed. absurd (never_earlier d k (first_key d g) (before (spot k f.shape) k passed (had_key_may_stand s m law f.number f.shape k (stack_shape s m f fs stack) on)) (from_first d g k range)))
+        (λ come. come) (passed_or_comes d f.place (spot k f.shape))

@@ -1,20 +1,19 @@
--- The steps of a scan keep what it knows.
-use Rattle.std.proofs.Common.{◌≡◌, ◌⊎◌, inl, inr, ℕ, suc, ◌<◌, ◌≤◌, List, [], ◌∷◌, length, sym, subst, arith, le_refl}
+-- The steps of a scan keep what it knows, in either direction.
+use Rattle.std.proofs.Common.{◌≡◌, ◌⊎◌, inl, inr, ℕ, suc, ◌-◌, ◌<◌, ◌≤◌, List, [], ◌∷◌, length, refl, sym, subst, arith, le_refl, ⊎_elim}
 use Rattle.std.proofs.lemmas.Bool.{cases_lt}
-use Rattle.tries.specs.Keys.{Key, IsBefore}
+use Rattle.tries.specs.Keys.{Key, IsBefore, IsAtMost}
 use Rattle.compound_node.specs.declared.entries.Entry.TheVariants.{Leaf, Node}
 use Rattle.tries.specs.Tree.{Subtrie}
 use Rattle.pieces.specs.Piece.{size}
 use Rattle.versions.specs.State.{Past, IsKeptSince, IsSteady}
 use Rattle.versions.specs.declared.Rec.TheVariants.{Node as a_node}
 use Rattle.tries.specs.Place.{spot}
-use Rattle.rowex_walks.specs.Scan.{IsPlaced, IsShaped, IsRead, MayStandAt, HadKeyBelow, Frame, IsStack, MayStandLeftOfOne, WasRightOfOne, IsAhead, Pair, Every, IsKeyListed, Range, IsInRange, IsScan, IsComplete, IsUpTo, IsCut}
+use Rattle.rowex_walks.specs.Scan.{IsPlaced, IsShaped, IsRead, MayStandAt, HadKeyBelow, Frame, IsStack, Pair, Every, IsKeyListed, Range, IsInRange}
+use Rattle.rowex_walks.specs.Directions.{gap_before, gap_behind, first_gap, to_come, first_key, last_key, IsEarlier, IsNoLater, IsToCome, WasPassed, WasPassedOnWay, HasPassed, ComesOnWay, Comes, IsScanBy, IsComplete, IsCut, IsReachedBy}
+use Rattle.rowex_walks.specs.declared.direction.Direction.{Direction}
+use Rattle.rowex_walks.specs.declared.direction.Direction.TheVariants.{Upwards, Downwards}
 use Rattle.tries.proofs.Places.{spot_below}
 use Rattle.rowex_walks.proofs.Scans.{may_stand_in_order, may_stand_at_child_place, leaf_may_stand, had_key_may_stand, child_had_key, leaf_had_key, read_held, before_trans, never_before}
-
--- The frame one place further.
-abbrev pub next : Frame → Frame
-next f = record f { place = suc f.place }
 
 pub every_map : (P Q : Pair → Type 0) (xs : List Pair) → ((x : Pair) → P x → Q x) → Every P xs → Every Q xs
 every_map P Q [] f h = tt
@@ -30,230 +29,271 @@ pub stack_place : (s : Past) (m : ℕ) (f : Frame) (i : ℕ) (fs : List Frame) �
 stack_place s m f i [] h = h
 stack_place s m f i (g ∷ gs) h = h
 
--- A passed key is before the keys that may stand at the topmost frame's place or right of it.
-pub passed_before : (s : Past) (m : ℕ) → IsSteady s m → (f : Frame) (fs : List Frame) → IsStack s m (f ∷ fs) → (k z : Key) → MayStandLeftOfOne s m k (f ∷ fs) →
-    (j : ℕ) → f.place ≤ j → MayStandAt s m f.number j z → IsBefore k z
-passed_before s m law f fs h k z (inl (i, lt, x)) j le y = may_stand_in_order s m law f.number i j (omega arith) k z x y
-passed_before s m law f [] h k z (inr x) j le y = absurd x
-passed_before s m law f (g ∷ gs) h k z (inr x) j le y =
-    passed_before s m law g gs h.2 k z x g.place (le_refl g.place) (may_stand_at_child_place s m law g.number g.place f.number f.height j z h.0 y)
+-- The node at the gap before the entry at its place, and at that behind it.
+abbrev pub before : Direction → Frame → Frame
+before d f = record f { place = gap_before d f.place }
 
--- And before those that are right of the places of the other frames.
-pub right_after : (s : Past) (m : ℕ) → IsSteady s m → (g : Frame) (gs : List Frame) → IsStack s m (g ∷ gs) → (l k : Key) →
-    MayStandAt s m g.number g.place l ⊎ MayStandLeftOfOne s m l (g ∷ gs) → WasRightOfOne s m k (g ∷ gs) → IsBefore l k
-right_after s m law g gs h l k (inl x) (inl (on, lt)) =
-    may_stand_in_order s m law g.number g.place (spot k g.shape) lt l k x (had_key_may_stand s m law g.number g.shape k (stack_shape s m g gs h) on)
-right_after s m law g gs h l k (inr x) (inl (on, lt)) =
-    passed_before s m law g gs h l k x (spot k g.shape) (omega arith) (had_key_may_stand s m law g.number g.shape k (stack_shape s m g gs h) on)
-right_after s m law g [] h l k x (inr y) = absurd y
-right_after s m law g (f ∷ fs) h l k (inl x) (inr y) =
-    right_after s m law f fs h.2 l k (inl (may_stand_at_child_place s m law f.number f.place g.number g.height g.place l h.0 x)) y
-right_after s m law g (f ∷ fs) h l k (inr (inl (j, lt, x))) (inr y) =
-    right_after s m law f fs h.2 l k (inl (may_stand_at_child_place s m law f.number f.place g.number g.height j l h.0 x)) y
-right_after s m law g (f ∷ fs) h l k (inr (inr x)) (inr y) = right_after s m law f fs h.2 l k (inr x) y
+abbrev pub behind : Direction → Frame → Frame
+behind d f = record f { place = gap_behind d f.place }
 
--- A passed key is before each key that is ahead.
-pub ahead_after : (s : Past) (m : ℕ) → IsSteady s m → (fs : List Frame) → IsStack s m fs → (l k : Key) → MayStandLeftOfOne s m l fs → IsAhead s m k fs → IsBefore l k
-ahead_after s m law [] h l k x y = absurd x
-ahead_after s m law (f ∷ fs) h l k x (inl (on, le)) =
-    passed_before s m law f fs h l k x (spot k f.shape) le (had_key_may_stand s m law f.number f.shape k (stack_shape s m f fs h) on)
-ahead_after s m law (f ∷ []) h l k x (inr y) = absurd y
-ahead_after s m law (f ∷ g ∷ gs) h l k (inl (j, lt, x)) (inr y) =
-    right_after s m law g gs h.2 l k (inl (may_stand_at_child_place s m law g.number g.place f.number f.height j l h.0 x)) y
-ahead_after s m law (f ∷ g ∷ gs) h l k (inr x) (inr y) = right_after s m law g gs h.2 l k (inr x) y
+-- ---- places and gaps
+pub come_before : (d : Direction) (place : ℕ) → IsToCome d (gap_before d place) place
+come_before Upwards place = le_refl place
+come_before Downwards place = omega arith
 
--- Where the topmost frame goes on by one place, what was passed is passed.
-passed_next : (s : Past) (m : ℕ) (k : Key) (f : Frame) (fs : List Frame) → MayStandLeftOfOne s m k (f ∷ fs) → MayStandLeftOfOne s m k (next f ∷ fs)
-passed_next s m k f fs (inl (j, lt, x)) = inl (j, omega arith, x)
-passed_next s m k f fs (inr x) = inr x
+pub passed_behind : (d : Direction) (place : ℕ) → WasPassed d (gap_behind d place) place
+passed_behind Upwards place = omega arith
+passed_behind Downwards place = le_refl place
 
--- What is ahead is at the place itself, or ahead of the next one.
-ahead_next : (s : Past) (m : ℕ) (k : Key) (f : Frame) (fs : List Frame) → IsAhead s m k (f ∷ fs) →
-    (HadKeyBelow s m k (a_node f.number) × (spot k f.shape ≡ f.place)) ⊎ IsAhead s m k (next f ∷ fs)
-ahead_next s m k f fs (inr x) = inr (inr x)
-ahead_next s m k f fs (inl (on, le)) = elim (cases_lt f.place (spot k f.shape)) as
-    (λ z. (HadKeyBelow s m k (a_node f.number) × (spot k f.shape ≡ f.place)) ⊎ IsAhead s m k (next f ∷ fs)) [
-      | inl h ↦ inr (inl (on, omega arith))
-      | inr h ↦ inl (on, omega arith)
-    ]
+-- behind an entry what was passed is passed,
+passed_further : (d : Direction) (place j : ℕ) → WasPassed d (gap_before d place) j → WasPassed d (gap_behind d place) j
+passed_further Upwards place j h = omega (arith, h)
+passed_further Downwards place j h = omega (arith, h)
 
--- A node is loaded at the topmost frame's place: one frame more.
-pub scan_push : (s : Past) (m : ℕ) → IsSteady s m → (g : Range) (f : Frame) (fs : List Frame) (xs : List Pair) → IsScan s m g (f ∷ fs) xs →
-    (c h : ℕ) (p : Subtrie) → IsPlaced s m f.number f.place (Node c h) → IsShaped s m c p →
-    IsScan s m g (record { number = c; height = h; shape = p; place = 0 } ∷ f ∷ fs) xs
-scan_push s m law g f fs xs w c h p at sh = record {
-  stack = (at, sh, w.stack);
-  ordered = w.ordered;
-  within = w.within;
-  held = w.held;
-  passed = every_map (λ x. MayStandLeftOfOne s m x.key (f ∷ fs)) (λ x. MayStandLeftOfOne s m x.key (top ∷ f ∷ fs)) xs (λ x y. inr y) w.passed;
-  short = w.short;
-  covered = λ k kept r. go k kept r (w.covered k kept r);
-}
-  where
-    top : Frame
-    top = record { number = c; height = h; shape = p; place = 0 }
+-- and the entry alone comes no more
+pub come_further : (d : Direction) (place j : ℕ) → IsToCome d (gap_before d place) j → (j ≡ place) ⊎ IsToCome d (gap_behind d place) j
+come_further Upwards place j h = ⊎_elim (λ lt. inr lt) (λ le. inl (omega (arith, h, le))) (cases_lt place j)
+come_further Downwards place j h = ⊎_elim (λ lt. inr lt) (λ le. inl (omega (arith, h, le))) (cases_lt j place)
 
-    ahead : (k : Key) → IsKeptSince s m k → IsInRange g k → IsAhead s m k (f ∷ fs) → IsAhead s m k (record { number = c; height = h; shape = p; place = 0 } ∷ f ∷ fs)
-    ahead k kept r (inr y) = inr (inr y)
-    ahead k kept r (inl (on, le)) = elim (cases_lt f.place (spot k f.shape)) as
-        (λ z. IsAhead s m k (record { number = c; height = h; shape = p; place = 0 } ∷ f ∷ fs)) [
-          | inl h ↦ inr (inl (on, h))
-          | inr d ↦
-              let there : HadKeyBelow s m k (a_node c) =
-              child_had_key s m law k kept f.number f.place f.shape (Node c h) (stack_shape s m f fs w.stack) on (omega arith) at in
-              inl (there, omega arith)
-        ]
+pub come_earlier : (d : Direction) (place j : ℕ) → IsToCome d (gap_behind d place) j → IsToCome d (gap_before d place) j
+come_earlier Upwards place j h = omega (arith, h)
+come_earlier Downwards place j h = omega (arith, h)
 
-    go : (k : Key) → IsKeptSince s m k → IsInRange g k → IsKeyListed k xs ⊎ IsAhead s m k (f ∷ fs) →
-        IsKeyListed k xs ⊎ IsAhead s m k (record { number = c; height = h; shape = p; place = 0 } ∷ f ∷ fs)
-    go k kept r (inl y) = inl y
-    go k kept r (inr y) = inr (ahead k kept r y)
+all_come : (d : Direction) (count j : ℕ) → j < count → IsToCome d (first_gap d count) j
+all_come Upwards count j h = omega arith
+all_come Downwards count j h = h
 
--- A frame has no place more: the next one goes on.
-pub scan_pop : (s : Past) (m : ℕ) → IsSteady s m → (g : Range) (f e : Frame) (fs : List Frame) (xs : List Pair) → IsScan s m g (f ∷ e ∷ fs) xs →
-    size f.shape ≤ f.place → IsScan s m g (next e ∷ fs) xs
-scan_pop s m law g f e fs xs w over = record {
-  stack = stack_place s m e (suc e.place) fs w.stack.2;
-  ordered = w.ordered;
-  within = w.within;
-  held = w.held;
-  passed = every_map (λ x. MayStandLeftOfOne s m x.key (f ∷ e ∷ fs)) (λ x. MayStandLeftOfOne s m x.key (next e ∷ fs)) xs (λ x y. back x.key y) w.passed;
-  short = w.short;
-  covered = λ k kept r. go k (w.covered k kept r);
-}
-  where
-    back : (k : Key) → MayStandLeftOfOne s m k (f ∷ e ∷ fs) → MayStandLeftOfOne s m k (next e ∷ fs)
-    back k (inl (j, lt, x)) = inl (e.place, omega arith, may_stand_at_child_place s m law e.number e.place f.number f.height j k w.stack.0 x)
-    back k (inr (inl (j, lt, x))) = inl (j, omega arith, x)
-    back k (inr (inr x)) = inr x
+none_comes : (d : Direction) (count gap j : ℕ) → to_come d count gap ≡ 0 → j < count → IsToCome d gap j → ⊥
+none_comes Upwards count gap j done inside h = omega (arith, done, inside, h)
+none_comes Downwards count gap j done inside h = omega (arith, done, h)
 
-    go : (k : Key) → IsKeyListed k xs ⊎ IsAhead s m k (f ∷ e ∷ fs) → IsKeyListed k xs ⊎ IsAhead s m k (next e ∷ fs)
-    go k (inl y) = inl y
-    go k (inr (inl (on, le))) = let b = spot_below k f.shape in absurd (omega arith)
-    go k (inr (inr (inl (on, lt)))) = inr (inl (on, omega arith))
-    go k (inr (inr (inr y))) = inr (inr y)
+pub passed_or_comes : (d : Direction) (gap j : ℕ) → WasPassed d gap j ⊎ IsToCome d gap j
+passed_or_comes Upwards gap j = cases_lt j gap
+passed_or_comes Downwards gap j = ⊎_elim (λ lt. inr lt) (λ le. inl le) (cases_lt j gap)
 
--- The last frame has no place more: all is covered.
-pub scan_end : (s : Past) (m : ℕ) → IsSteady s m → (g : Range) (f : Frame) (xs : List Pair) → IsScan s m g (f ∷ []) xs →
-    size f.shape ≤ f.place → IsComplete s m g xs
-scan_end s m law g f xs w over = record {
-  ordered = w.ordered;
-  within = w.within;
-  held = w.held;
-  short = w.short;
-  covered = λ k kept r. go k (w.covered k kept r);
-}
-  where
-    go : (k : Key) → IsKeyListed k xs ⊎ IsAhead s m k (f ∷ []) → IsKeyListed k xs
-    go k (inl y) = y
-    go k (inr (inr y)) = absurd y
-    go k (inr (inl (on, le))) = let b = spot_below k f.shape in absurd (omega arith)
+-- ---- keys
+earlier_trans : (d : Direction) (a b c : Key) → IsEarlier d a b → IsEarlier d b c → IsEarlier d a c
+earlier_trans Upwards a b c x y = before_trans a b c x y
+earlier_trans Downwards a b c x y = before_trans c b a y x
 
--- A leaf is loaded at the place. The keys that were there all the time are its own, or still ahead.
-leaf_covers : (s : Past) (m : ℕ) → IsSteady s m → (g : Range) (f : Frame) (fs : List Frame) (xs : List Pair) → IsScan s m g (f ∷ fs) xs →
-    (n : ℕ) (l : Key) (v : ℕ) → IsPlaced s m f.number f.place (Leaf n) → IsRead s m n l v → (k : Key) → IsKeptSince s m k → IsInRange g k →
-    IsKeyListed k xs ⊎ ((k ≡ l) ⊎ IsAhead s m k (next f ∷ fs))
-leaf_covers s m law g f fs xs w n l v at is k kept r = go (w.covered k kept r)
-  where
-    step : (HadKeyBelow s m k (a_node f.number) × (spot k f.shape ≡ f.place)) ⊎ IsAhead s m k (next f ∷ fs) → (k ≡ l) ⊎ IsAhead s m k (next f ∷ fs)
-    step (inr y) = inr y
-    step (inl (on, e)) =
-        inl (leaf_had_key s m law n k l v (child_had_key s m law k kept f.number f.place f.shape (Leaf n) (stack_shape s m f fs w.stack) on e at) is)
+pub never_earlier : (d : Direction) (a b : Key) → IsEarlier d a b → IsNoLater d b a → ⊥
+never_earlier Upwards a b x y = never_before a b x y
+never_earlier Downwards a b x y = never_before b a x y
 
-    go : IsKeyListed k xs ⊎ IsAhead s m k (f ∷ fs) → IsKeyListed k xs ⊎ ((k ≡ l) ⊎ IsAhead s m k (next f ∷ fs))
-    go (inl y) = inl y
-    go (inr y) = inr (step (ahead_next s m k f fs y))
+-- the ends of the range
+pub from_first : (d : Direction) (g : Range) (k : Key) → IsInRange g k → IsNoLater d (first_key d g) k
+from_first Upwards g k r = r.0
+from_first Downwards g k r = r.1
 
--- It is below the range: left out.
-pub scan_skip : (s : Past) (m : ℕ) → IsSteady s m → (g : Range) (f : Frame) (fs : List Frame) (xs : List Pair) → IsScan s m g (f ∷ fs) xs →
-    (n : ℕ) (l : Key) (v : ℕ) → IsPlaced s m f.number f.place (Leaf n) → IsRead s m n l v → IsBefore l g.from → IsScan s m g (next f ∷ fs) xs
-scan_skip s m law g f fs xs w n l v at is low = record {
-  stack = stack_place s m f (suc f.place) fs w.stack;
-  ordered = w.ordered;
-  within = w.within;
-  held = w.held;
-  passed = every_map (λ x. MayStandLeftOfOne s m x.key (f ∷ fs)) (λ x. MayStandLeftOfOne s m x.key (next f ∷ fs)) xs (λ x y. passed_next s m x.key f fs y) w.passed;
-  short = w.short;
-  covered = λ k kept r. go k r (leaf_covers s m law g f fs xs w n l v at is k kept r);
-}
-  where
-    go : (k : Key) → IsInRange g k → IsKeyListed k xs ⊎ ((k ≡ l) ⊎ IsAhead s m k (next f ∷ fs)) → IsKeyListed k xs ⊎ IsAhead s m k (next f ∷ fs)
-    go k r (inl y) = inl y
-    go k r (inr (inr y)) = inr y
-    go k r (inr (inl e)) = absurd (never_before k g.from (subst (λ z. IsBefore z g.from) (sym e) low) r.0)
+up_to_last : (d : Direction) (g : Range) (k : Key) → IsInRange g k → IsNoLater d k (last_key d g)
+up_to_last Upwards g k r = r.1
+up_to_last Downwards g k r = r.0
 
--- It is in the range, and there is room: one pair more.
-pub scan_take : (s : Past) (m : ℕ) → IsSteady s m → (g : Range) (f : Frame) (fs : List Frame) (xs : List Pair) → IsScan s m g (f ∷ fs) xs →
-    (n : ℕ) (l : Key) (v : ℕ) → IsPlaced s m f.number f.place (Leaf n) → IsRead s m n l v → IsInRange g l → length xs < g.limit →
-    IsScan s m g (next f ∷ fs) (record { key = l; value = v } ∷ xs)
-scan_take s m law g f fs xs w n l v at is r room = record {
-  stack = stack_place s m f (suc f.place) fs w.stack;
-  ordered = (
-    every_map (λ x. MayStandLeftOfOne s m x.key (f ∷ fs)) (λ x. IsBefore x.key l) xs
-        (λ x y. passed_before s m law f fs w.stack x.key l y f.place (le_refl f.place) fit) w.passed,
-    w.ordered,
-  );
-  within = (r, w.within);
-  held = (read_held s m n l v is, w.held);
-  passed = (
-    inl (f.place, omega arith, fit),
-    every_map (λ x. MayStandLeftOfOne s m x.key (f ∷ fs)) (λ x. MayStandLeftOfOne s m x.key (next f ∷ fs)) xs (λ x y. passed_next s m x.key f fs y) w.passed,
-  );
-  short = omega arith;
-  covered = λ k kept q. go k (leaf_covers s m law g f fs xs w n l v at is k kept q);
-}
-  where
+-- A key at a passed place is earlier than one at a place to come.
+pub may_stand_earlier : (d : Direction) (s : Past) (m : ℕ) → IsSteady s m → (r gap i j : ℕ) (y z : Key) → WasPassed d gap i → IsToCome d gap j →
+    MayStandAt s m r i y → MayStandAt s m r j z → IsEarlier d y z
+may_stand_earlier Upwards s m law r gap i j y z passed come x w = may_stand_in_order s m law r i j (omega (arith, passed, come)) y z x w
+may_stand_earlier Downwards s m law r gap i j y z passed come x w = may_stand_in_order s m law r j i (omega (arith, passed, come)) z y w x
+
+module _ (d : Direction) (s : Past) (m : ℕ) (law : IsSteady s m) where
+  -- A key that was passed on the way is earlier than those at the place of the first of these frames, or behind it.
+  way_earlier : (f : Frame) (fs : List Frame) → IsStack s m (f ∷ fs) → (k z : Key) → WasPassedOnWay d s m k (f ∷ fs) → (j : ℕ) → IsToCome d (gap_before d f.place) j →
+      MayStandAt s m f.number j z → IsEarlier d k z
+  way_earlier f fs h k z (inl (i, passed, x)) j come y = may_stand_earlier d s m law f.number (gap_before d f.place) i j k z passed come x y
+  way_earlier f [] h k z (inr x) j come y = absurd x
+  way_earlier f (g ∷ gs) h k z (inr x) j come y =
+      way_earlier g gs h.2 k z x g.place (come_before d g.place) (may_stand_at_child_place s m law g.number g.place f.number f.height j z h.0 y)
+
+  -- A passed key is earlier than those that are to come in the lowest node.
+  passed_earlier : (f : Frame) (fs : List Frame) → IsStack s m (f ∷ fs) → (k z : Key) → HasPassed d s m k (f ∷ fs) → (j : ℕ) → IsToCome d f.place j →
+      MayStandAt s m f.number j z → IsEarlier d k z
+  passed_earlier f fs h k z (inl (i, passed, x)) j come y = may_stand_earlier d s m law f.number f.place i j k z passed come x y
+  passed_earlier f [] h k z (inr x) j come y = absurd x
+  passed_earlier f (g ∷ gs) h k z (inr x) j come y =
+      way_earlier g gs h.2 k z x g.place (come_before d g.place) (may_stand_at_child_place s m law g.number g.place f.number f.height j z h.0 y)
+
+  -- And earlier than those behind the places of the other frames.
+  way_later : (g : Frame) (gs : List Frame) → IsStack s m (g ∷ gs) → (l k : Key) → MayStandAt s m g.number g.place l ⊎ WasPassedOnWay d s m l (g ∷ gs) →
+      ComesOnWay d s m k (g ∷ gs) → IsEarlier d l k
+  way_later g gs h l k (inl x) (inl (on, come)) =
+      may_stand_earlier d s m law g.number (gap_behind d g.place) g.place (spot k g.shape) l k (passed_behind d g.place) come x
+      (had_key_may_stand s m law g.number g.shape k (stack_shape s m g gs h) on)
+  way_later g gs h l k (inr x) (inl (on, come)) =
+      way_earlier g gs h l k x (spot k g.shape) (come_earlier d g.place (spot k g.shape) come) (had_key_may_stand s m law g.number g.shape k (stack_shape s m g gs h) on)
+  way_later g [] h l k x (inr y) = absurd y
+  way_later g (f ∷ fs) h l k (inl x) (inr y) = way_later f fs h.2 l k (inl (may_stand_at_child_place s m law f.number f.place g.number g.height g.place l h.0 x)) y
+  way_later g (f ∷ fs) h l k (inr (inl (j, passed, x))) (inr y) =
+      way_later f fs h.2 l k (inl (may_stand_at_child_place s m law f.number f.place g.number g.height j l h.0 x)) y
+  way_later g (f ∷ fs) h l k (inr (inr x)) (inr y) = way_later f fs h.2 l k (inr x) y
+
+  -- A passed key is earlier than each key that still comes.
+  comes_later : (fs : List Frame) → IsStack s m fs → (l k : Key) → HasPassed d s m l fs → Comes d s m k fs → IsEarlier d l k
+  comes_later [] h l k x y = absurd x
+  comes_later (f ∷ fs) h l k x (inl (on, come)) =
+      passed_earlier f fs h l k x (spot k f.shape) come (had_key_may_stand s m law f.number f.shape k (stack_shape s m f fs h) on)
+  comes_later (f ∷ []) h l k x (inr y) = absurd y
+  comes_later (f ∷ g ∷ gs) h l k (inl (j, passed, x)) (inr y) =
+      way_later g gs h.2 l k (inl (may_stand_at_child_place s m law g.number g.place f.number f.height j l h.0 x)) y
+  comes_later (f ∷ g ∷ gs) h l k (inr x) (inr y) = way_later g gs h.2 l k (inr x) y
+
+-- Behind an entry what was passed is passed,
+passed_next : (d : Direction) (s : Past) (m : ℕ) (k : Key) (f : Frame) (fs : List Frame) → HasPassed d s m k (before d f ∷ fs) → HasPassed d s m k (behind d f ∷ fs)
+passed_next d s m k f fs (inl (j, passed, x)) = inl (j, passed_further d f.place j passed, x)
+passed_next d s m k f fs (inr x) = inr x
+
+-- and what came is at its place, or still comes.
+comes_next : (d : Direction) (s : Past) (m : ℕ) (k : Key) (f : Frame) (fs : List Frame) → Comes d s m k (before d f ∷ fs) →
+    (HadKeyBelow s m k (a_node f.number) × (spot k f.shape ≡ f.place)) ⊎ Comes d s m k (behind d f ∷ fs)
+comes_next d s m k f fs (inr x) = inr (inr x)
+comes_next d s m k f fs (inl (on, come)) = ⊎_elim (λ e. inl (on, e)) (λ h. inr (inl (on, h))) (come_further d f.place (spot k f.shape) come)
+
+module _ (s : Past) (m : ℕ) (g : Range) (law : IsSteady s m) where
+  -- A node is loaded at the place: one frame more.
+  pub scan_pushed : (d : Direction) (f : Frame) (fs : List Frame) (xs : List Pair) → IsScanBy d s m g (before d f ∷ fs) xs → (c h : ℕ) (p : Subtrie) →
+      IsPlaced s m f.number f.place (Node c h) → IsShaped s m c p → IsScanBy d s m g (record { number = c; height = h; shape = p; place = first_gap d (size p) } ∷ f ∷ fs) xs
+  scan_pushed d f fs xs w c h p at sh = record {
+    stack = (at, sh, stack_place s m f f.place fs w.stack);
+    ordered = w.ordered;
+    within = w.within;
+    held = w.held;
+    passed = every_map (λ x. HasPassed d s m x.key (before d f ∷ fs)) (λ x. HasPassed d s m x.key (top ∷ f ∷ fs)) xs (λ x y. inr y) w.passed;
+    short = w.short;
+    covered = λ k kept r. ⊎_elim (λ y. inl y) (λ y. inr (go k kept (comes_next d s m k f fs y))) (w.covered k kept r);
+  }
+    where
+      top : Frame
+      top = record { number = c; height = h; shape = p; place = first_gap d (size p) }
+
+      go : (k : Key) → IsKeptSince s m k → (HadKeyBelow s m k (a_node f.number) × (spot k f.shape ≡ f.place)) ⊎ Comes d s m k (behind d f ∷ fs) →
+          Comes d s m k (record { number = c; height = h; shape = p; place = first_gap d (size p) } ∷ f ∷ fs)
+      go k kept (inr y) = inr y
+      go k kept (inl (on, e)) = inl (
+        child_had_key s m law k kept f.number f.place f.shape (Node c h) (stack_shape s m (before d f) fs w.stack) on e at,
+        all_come d (size p) (spot k p) (spot_below k p),
+      )
+
+  -- A frame has no place more: the one above it goes on.
+  pub scan_popped : (d : Direction) (f e : Frame) (fs : List Frame) (xs : List Pair) → IsScanBy d s m g (f ∷ e ∷ fs) xs → to_come d (size f.shape) f.place ≡ 0 →
+      IsScanBy d s m g (behind d e ∷ fs) xs
+  scan_popped d f e fs xs w done = record {
+    stack = stack_place s m e (gap_behind d e.place) fs w.stack.2;
+    ordered = w.ordered;
+    within = w.within;
+    held = w.held;
+    passed = every_map (λ x. HasPassed d s m x.key (f ∷ e ∷ fs)) (λ x. HasPassed d s m x.key (behind d e ∷ fs)) xs (λ x y. back x.key y) w.passed;
+    short = w.short;
+    covered = λ k kept r. go k (w.covered k kept r);
+  }
+    where
+      back : (k : Key) → HasPassed d s m k (f ∷ e ∷ fs) → HasPassed d s m k (behind d e ∷ fs)
+      back k (inl (j, passed, x)) = inl (e.place, passed_behind d e.place, may_stand_at_child_place s m law e.number e.place f.number f.height j k w.stack.0 x)
+      back k (inr (inl (j, passed, x))) = inl (j, passed_further d e.place j passed, x)
+      back k (inr (inr x)) = inr x
+
+      go : (k : Key) → IsKeyListed k xs ⊎ Comes d s m k (f ∷ e ∷ fs) → IsKeyListed k xs ⊎ Comes d s m k (behind d e ∷ fs)
+      go k (inl y) = inl y
+      go k (inr (inl (on, come))) = absurd (none_comes d (size f.shape) f.place (spot k f.shape) done (spot_below k f.shape) come)
+      go k (inr (inr y)) = inr y
+
+  -- The last frame has no place more: all is covered.
+  pub scan_ended : (d : Direction) (f : Frame) (xs : List Pair) → IsScanBy d s m g (f ∷ []) xs → to_come d (size f.shape) f.place ≡ 0 → IsComplete d s m g xs
+  scan_ended d f xs w done = record {
+    ordered = w.ordered;
+    within = w.within;
+    held = w.held;
+    short = w.short;
+    covered = λ k kept r. go k (w.covered k kept r);
+  }
+    where
+      go : (k : Key) → IsKeyListed k xs ⊎ Comes d s m k (f ∷ []) → IsKeyListed k xs
+      go k (inl y) = y
+      go k (inr (inr y)) = absurd y
+      go k (inr (inl (on, come))) = absurd (none_comes d (size f.shape) f.place (spot k f.shape) done (spot_below k f.shape) come)
+
+  -- A leaf is loaded at the place. The keys that were there all the time are its own, or still come.
+  module _ (f : Frame) (fs : List Frame) (xs : List Pair) (n : ℕ) (l : Key) (v : ℕ) (at : IsPlaced s m f.number f.place (Leaf n)) (is : IsRead s m n l v)
+      (d : Direction) (w : IsScanBy d s m g (before d f ∷ fs) xs) where
+    leaf_covers : (k : Key) → IsKeptSince s m k → IsInRange g k → IsKeyListed k xs ⊎ ((k ≡ l) ⊎ Comes d s m k (behind d f ∷ fs))
+    leaf_covers k kept r = ⊎_elim (λ y. inl y) (λ y. inr (step (comes_next d s m k f fs y))) (w.covered k kept r)
+      where
+        step : (HadKeyBelow s m k (a_node f.number) × (spot k f.shape ≡ f.place)) ⊎ Comes d s m k (behind d f ∷ fs) → (k ≡ l) ⊎ Comes d s m k (behind d f ∷ fs)
+        step (inr y) = inr y
+        step (inl (on, e)) =
+            inl (leaf_had_key s m law n k l v (child_had_key s m law k kept f.number f.place f.shape (Leaf n) (stack_shape s m (before d f) fs w.stack) on e at) is)
+
     fit : MayStandAt s m f.number f.place l
     fit = leaf_may_stand s m law f.number f.place n l v at is
 
-    go : (k : Key) → IsKeyListed k xs ⊎ ((k ≡ l) ⊎ IsAhead s m k (next f ∷ fs)) →
-        IsKeyListed k (record { key = l; value = v } ∷ xs) ⊎ IsAhead s m k (next f ∷ fs)
-    go k (inl y) = inl (inr y)
-    go k (inr (inr y)) = inr y
-    go k (inr (inl e)) = inl (inl e)
+    all_earlier : Every (λ x. IsEarlier d x.key l) xs
+    all_earlier = every_map (λ x. HasPassed d s m x.key (before d f ∷ fs)) (λ x. IsEarlier d x.key l) xs
+        (λ x y. passed_earlier d s m law (before d f) fs w.stack x.key l y f.place (come_before d f.place) fit) w.passed
 
--- It is past the range: the scan is at its end.
-pub scan_past : (s : Past) (m : ℕ) → IsSteady s m → (g : Range) (f : Frame) (fs : List Frame) (xs : List Pair) → IsScan s m g (f ∷ fs) xs →
-    (n : ℕ) (l : Key) (v : ℕ) → IsPlaced s m f.number f.place (Leaf n) → IsRead s m n l v → IsBefore g.upto l → IsComplete s m g xs
-scan_past s m law g f fs xs w n l v at is high = record {
-  ordered = w.ordered;
-  within = w.within;
-  held = w.held;
-  short = w.short;
-  covered = λ k kept r. go k r (leaf_covers s m law g f fs xs w n l v at is k kept r);
-}
-  where
-    fit : MayStandAt s m f.number f.place l
-    fit = leaf_may_stand s m law f.number f.place n l v at is
+    passed_then : Every (λ x. HasPassed d s m x.key (behind d f ∷ fs)) xs
+    passed_then = every_map (λ x. HasPassed d s m x.key (before d f ∷ fs)) (λ x. HasPassed d s m x.key (behind d f ∷ fs)) xs (λ x y. passed_next d s m x.key f fs y) w.passed
 
-    go : (k : Key) → IsInRange g k → IsKeyListed k xs ⊎ ((k ≡ l) ⊎ IsAhead s m k (next f ∷ fs)) → IsKeyListed k xs
-    go k r (inl y) = y
-    go k r (inr (inl e)) = absurd (never_before g.upto k (subst (IsBefore g.upto) (sym e) high) r.1)
-    go k r (inr (inr y)) = absurd (never_before g.upto k
-        (before_trans g.upto l k high
-        (ahead_after s m law (next f ∷ fs) (stack_place s m f (suc f.place) fs w.stack) l k (inl (f.place, omega arith, fit)) y)) r.1)
+    -- It comes before the range: left out.
+    pub scan_skipped : IsEarlier d l (first_key d g) → IsScanBy d s m g (behind d f ∷ fs) xs
+    scan_skipped early = record {
+      stack = stack_place s m f (gap_behind d f.place) fs w.stack;
+      ordered = w.ordered;
+      within = w.within;
+      held = w.held;
+      passed = passed_then;
+      short = w.short;
+      covered = λ k kept r. go k r (leaf_covers k kept r);
+    }
+      where
+        go : (k : Key) → IsInRange g k → IsKeyListed k xs ⊎ ((k ≡ l) ⊎ Comes d s m k (behind d f ∷ fs)) → IsKeyListed k xs ⊎ Comes d s m k (behind d f ∷ fs)
+        go k r (inl y) = inl y
+        go k r (inr (inr y)) = inr y
+        go k r (inr (inl e)) = absurd (never_earlier d k (first_key d g) (subst (λ z. IsEarlier d z (first_key d g)) (sym e) early) (from_first d g k r))
 
--- It is in the range, and there is no room: the scan is cut.
-pub scan_cut : (s : Past) (m : ℕ) → IsSteady s m → (g : Range) (f : Frame) (fs : List Frame) (xs : List Pair) → IsScan s m g (f ∷ fs) xs →
-    (n : ℕ) (l : Key) (v : ℕ) → IsPlaced s m f.number f.place (Leaf n) → IsRead s m n l v → IsInRange g l → length xs ≡ g.limit → IsCut s m g xs
-scan_cut s m law g f fs xs w n l v at is r full = record {
-  ordered = w.ordered;
-  within = w.within;
-  held = w.held;
-  full = full;
-  further = (
-    l,
-    v,
-    r,
-    read_held s m n l v is,
-    every_map (λ x. MayStandLeftOfOne s m x.key (f ∷ fs)) (λ x. IsBefore x.key l) xs
-        (λ x y. passed_before s m law f fs w.stack x.key l y f.place (le_refl f.place) (leaf_may_stand s m law f.number f.place n l v at is)) w.passed,
-  );
-  covered = λ k kept q u. go k xs w.passed u (w.covered k kept q);
-}
-  where
-    go : (k : Key) (ys : List Pair) → Every (λ x. MayStandLeftOfOne s m x.key (f ∷ fs)) ys → IsUpTo k ys → IsKeyListed k xs ⊎ IsAhead s m k (f ∷ fs) → IsKeyListed k xs
-    go k ys p u (inl y) = y
-    go k [] p u (inr y) = absurd u
-    go k (x ∷ ys) p u (inr y) = absurd (never_before x.key k (ahead_after s m law (f ∷ fs) w.stack x.key k p.0 y) u)
+    -- It is in the range, and there is room: one pair more.
+    pub scan_taken : IsInRange g l → length xs < g.limit → IsScanBy d s m g (behind d f ∷ fs) (record { key = l; value = v } ∷ xs)
+    scan_taken r room = record {
+      stack = stack_place s m f (gap_behind d f.place) fs w.stack;
+      ordered = (all_earlier, w.ordered);
+      within = (r, w.within);
+      held = (read_held s m n l v is, w.held);
+      passed = (inl (f.place, passed_behind d f.place, fit), passed_then);
+      short = omega (arith, room);
+      covered = λ k kept q. go k (leaf_covers k kept q);
+    }
+      where
+        go : (k : Key) → IsKeyListed k xs ⊎ ((k ≡ l) ⊎ Comes d s m k (behind d f ∷ fs)) →
+            IsKeyListed k (record { key = l; value = v } ∷ xs) ⊎ Comes d s m k (behind d f ∷ fs)
+        go k (inl y) = inl (inr y)
+        go k (inr (inr y)) = inr y
+        go k (inr (inl e)) = inl (inl e)
+
+    -- It comes behind the range: the scan is at its end.
+    pub scan_passed : IsEarlier d (last_key d g) l → IsComplete d s m g xs
+    scan_passed late = record {
+      ordered = w.ordered;
+      within = w.within;
+      held = w.held;
+      short = w.short;
+      covered = λ k kept r. go k r (leaf_covers k kept r);
+    }
+      where
+        go : (k : Key) → IsInRange g k → IsKeyListed k xs ⊎ ((k ≡ l) ⊎ Comes d s m k (behind d f ∷ fs)) → IsKeyListed k xs
+        go k r (inl y) = y
+        go k r (inr (inl e)) = absurd (never_earlier d (last_key d g) k (subst (IsEarlier d (last_key d g)) (sym e) late) (up_to_last d g k r))
+        go k r (inr (inr y)) = absurd (never_earlier d (last_key d g) k (earlier_trans d (last_key d g) l k late
+            (comes_later d s m law (behind d f ∷ fs) (stack_place s m f (gap_behind d f.place) fs w.stack) l k (inl (f.place, passed_behind d f.place, fit)) y)) (up_to_last d g k r))
+
+    -- It is in the range, and there is no room: the scan is cut.
+    pub scan_filled : IsInRange g l → length xs ≡ g.limit → IsCut d s m g xs
+    scan_filled r full = record {
+      ordered = w.ordered;
+      within = w.within;
+      held = w.held;
+      full = full;
+      further = (l, v, r, read_held s m n l v is, all_earlier);
+      covered = λ k kept q u. go k xs w.passed u (w.covered k kept q);
+    }
+      where
+        go : (k : Key) (ys : List Pair) → Every (λ x. HasPassed d s m x.key (before d f ∷ fs)) ys → IsReachedBy d k ys → IsKeyListed k xs ⊎ Comes d s m k (before d f ∷ fs) → IsKeyListed k xs
+        go k ys p u (inl y) = y
+        go k [] p u (inr y) = absurd u
+        go k (x ∷ ys) p u (inr y) = absurd (never_earlier d x.key k (comes_later d s m law (before d f ∷ fs) w.stack x.key k p.0 y) u)

@@ -3,6 +3,6 @@ pub mod Writer
 pub mod Spots
 pub mod Rise
 pub mod Scan
-pub mod Reverse
+pub mod Directions
 pub mod Statements
 pub mod Ways

@@ -53,10 +53,6 @@ IsRead s m r k v = (n : ℕ) × (m ≤ n) × (n ≤ s.now) × Stands s n (a_leaf
 abbrev pub MayStandAt : Past → ℕ → ℕ → ℕ → Key → Type 0
 MayStandAt s m r i y = (b : Tree) × (k : Key) × Stood s m r b × IsUnder b i k × AgreeUpToPlace (subtrie b) i k y
 
--- It may stand left of the place.
-abbrev pub MayStandLeft : Past → ℕ → ℕ → ℕ → Key → Type 0
-MayStandLeft s m r i y = (j : ℕ) × (j < i) × MayStandAt s m r j y
-
 -- The record had the key below it.
 abbrev pub HadKeyBelow : Past → ℕ → Key → Rec → Type 0
 HadKeyBelow s m k r = (n : ℕ) × (u : Tree) × (m ≤ n) × (n ≤ s.now) × Stands s n r u × Has u k
@@ -76,21 +72,6 @@ IsStack s m (f ∷ []) = IsRooted s m (Node f.number f.height) × IsShaped s m f
 IsStack s m (f ∷ g ∷ gs) =
     IsPlaced s m g.number g.place (Node f.number f.height) × IsShaped s m f.number f.shape × IsStack s m (g ∷ gs)
 
--- The key may stand left of the place of one of the frames.
-abbrev pub MayStandLeftOfOne : Past → ℕ → Key → List Frame → Type 0
-MayStandLeftOfOne s m k [] = ⊥
-MayStandLeftOfOne s m k (f ∷ fs) = MayStandLeft s m f.number f.place k ⊎ MayStandLeftOfOne s m k fs
-
--- The key was in the node of one of these frames, right of its place.
-abbrev pub WasRightOfOne : Past → ℕ → Key → List Frame → Type 0
-WasRightOfOne s m k [] = ⊥
-WasRightOfOne s m k (f ∷ fs) = (HadKeyBelow s m k (a_node f.number) × (f.place < spot k f.shape)) ⊎ WasRightOfOne s m k fs
-
--- The scan has the key still before it.
-abbrev pub IsAhead : Past → ℕ → Key → List Frame → Type 0
-IsAhead s m k [] = ⊥
-IsAhead s m k (f ∷ fs) = (HadKeyBelow s m k (a_node f.number) × (f.place ≤ spot k f.shape)) ⊎ WasRightOfOne s m k fs
-
 pub record Pair : Type 0 where
   pub key : Key
   pub value : ℕ
@@ -103,11 +84,6 @@ abbrev pub IsKeyListed : Key → List Pair → Type 0
 IsKeyListed k [] = ⊥
 IsKeyListed k (x ∷ xs) = (k ≡ x.key) ⊎ IsKeyListed k xs
 
--- The keys rise strictly, where the newest pair stands first.
-abbrev pub IsFalling : List Pair → Type 0
-IsFalling [] = Unit {0}
-IsFalling (x ∷ xs) = Every (λ y. IsBefore y.key x.key) xs × IsFalling xs
-
 -- The call's range and limit.
 pub record Range : Type 0 where
   pub from : Key
@@ -116,55 +92,6 @@ pub record Range : Type 0 where
 
 abbrev pub IsInRange : Range → Key → Type 0
 IsInRange g k = IsAtMost g.from k × IsAtMost k g.upto
-
--- The loop's invariant: the pairs so far (the newest first) and the way. How the pairs are ordered, which keys the scan has passed and
--- which are still before it, each direction says for itself.
-pub record IsScanWith (IsOrdered : List Pair → Type 0) (HasForkBefore IsComing : Past → ℕ → Key → List Frame → Type 0)
-    (s : Past) (m : ℕ) (g : Range) (fs : List Frame) (xs : List Pair) : Type 0 where
-  pub stack : IsStack s m fs
-  pub ordered : IsOrdered xs
-  pub within : Every (λ x. IsInRange g x.key) xs
-  pub held : Every (λ x. IsHeldSince s m x.key x.value) xs
-  pub passed : Every (λ x. HasForkBefore s m x.key fs) xs
-  pub short : length xs ≤ g.limit
-  pub covered : (k : Key) → IsKeptSince s m k → IsInRange g k → IsKeyListed k xs ⊎ IsComing s m k fs
-
--- What a scan promises, by versions: complete, or cut at the limit.
-pub record IsCompleteWith (IsOrdered : List Pair → Type 0) (s : Past) (m : ℕ) (g : Range) (xs : List Pair) : Type 0 where
-  pub ordered : IsOrdered xs
-  pub within : Every (λ x. IsInRange g x.key) xs
-  pub held : Every (λ x. IsHeldSince s m x.key x.value) xs
-  pub short : length xs ≤ g.limit
-  pub covered : (k : Key) → IsKeptSince s m k → IsInRange g k → IsKeyListed k xs
-
--- Cut, some key lies beyond all pairs, and the keys that the newest pair reaches are covered.
-pub record IsCutWith (IsOrdered : List Pair → Type 0) (IsReached : Key → List Pair → Type 0) (IsNearer : Key → Key → Type 0)
-    (s : Past) (m : ℕ) (g : Range) (xs : List Pair) : Type 0 where
-  pub ordered : IsOrdered xs
-  pub within : Every (λ x. IsInRange g x.key) xs
-  pub held : Every (λ x. IsHeldSince s m x.key x.value) xs
-  pub full : length xs ≡ g.limit
-  pub further : (k : Key) × (v : ℕ) × IsInRange g k × IsHeldSince s m k v × Every (λ x. IsNearer x.key k) xs
-  pub covered : (k : Key) → IsKeptSince s m k → IsInRange g k → IsReached k xs → IsKeyListed k xs
-
--- Of a scan upwards: the invariant, and what it promises.
-abbrev pub IsScan : Past → ℕ → Range → List Frame → List Pair → Type 0
-IsScan = IsScanWith IsFalling MayStandLeftOfOne IsAhead
-
-abbrev pub IsComplete : Past → ℕ → Range → List Pair → Type 0
-IsComplete = IsCompleteWith IsFalling
-
--- The key is that of one of the pairs, or below one of them.
-abbrev pub IsUpTo : Key → List Pair → Type 0
-IsUpTo k [] = ⊥
-IsUpTo k (x ∷ xs) = IsAtMost k x.key
-
-abbrev pub IsCut : Past → ℕ → Range → List Pair → Type 0
-IsCut = IsCutWith IsFalling IsUpTo IsBefore
-
--- Each key that may stand at this place of the record, or right of it, is above the key, and stays so while the past grows.
-abbrev pub KeysFromAreAbove : Past → ℕ → Key → ℕ → ℕ → Type 0
-KeysFromAreAbove s m k r i = (t : Past) → IsGrown s t → IsSteady t m → (j : ℕ) (z : Key) → i ≤ j → MayStandAt t m r j z → IsBefore k z
 
 -- The entry's record stood in a version since `m`, with the entry's height.
 abbrev pub EntryStoodSince : Past → ℕ → Entry → Type 0

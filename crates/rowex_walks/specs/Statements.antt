@@ -1,9 +1,7 @@
 -- The laws of walks.
-use Rattle.std.specs.Prelude.{◌≡◌, ◌≢◌, ◌⊎◌, ℕ, ◌++◌, List, [], ◌∷◌, length, Bool, false, true, Option, Some, None, ◌≤◌, ◌<◌}
+use Rattle.std.specs.Prelude.{◌≡◌, ◌≢◌, ◌⊎◌, ℕ, ◌++◌, List, [], ◌∷◌, length, Bool, Option, Some, None, ◌≤◌, ◌<◌}
 use Rattle.finite_map.specs.declared.Change.{Change}
 use Rattle.finite_map.specs.declared.Scan.{Scan as Answer}
-use Rattle.finite_map.specs.Scans.{IsLawfulScan}
-use Rattle.finite_map.specs.Reverse.{IsLawfulReverseScan}
 use Rattle.key_bits.specs.Key.{IsKey}
 use Rattle.compound_node.specs.declared.entries.Entry.{Entry}
 use Rattle.compound_node.specs.declared.entries.Entry.TheVariants.{Leaf, Node}
@@ -25,8 +23,9 @@ use Rattle.versions.specs.Steps.{IsVersionPublish}
 use Rattle.rowex_walks.specs.Writer.{added_change, replaced_change, removed_change, IsFoundBelow, IsNewLeaf}
 use Rattle.rowex_walks.specs.Spots.{HoldsSpot, IsLowAt, AffectsSpotAloneInCore, IsStoredAt}
 use Rattle.rowex_walks.specs.Rise.{IsNewSubtrie, IsEntryFor, IsUpper, IsLeafOf, IsBesideNode, subtrie_merged, entry, IsRise, linked_for_entry, linked_by_rise, unlinked_by_rise}
-use Rattle.rowex_walks.specs.Scan.{Pair, Range, IsComplete, IsCut, in_order_taken, IsRooted, IsPlaced, IsShaped, IsRead, EntryStoodSince}
-use Rattle.rowex_walks.specs.Reverse.{IsDownComplete, IsDownCut}
+use Rattle.rowex_walks.specs.Scan.{Pair, Range, in_order_taken, IsRooted, IsPlaced, IsShaped, IsRead, EntryStoodSince}
+use Rattle.rowex_walks.specs.Directions.{IsAnswer, IsLawfulBy}
+use Rattle.rowex_walks.specs.declared.direction.Direction.{Direction}
 use Rattle.compound_node.specs.Nodes.{height_of}
 use Rattle.versions.specs.Frames.{IsGrown}
 
@@ -104,28 +103,12 @@ GetEnds =
     (s : State) → IsLawfulState s → (m : ℕ) → IsReach s m → (k : Key) (n : ℕ) → IsLed s.past m k (Leaf n) →
     ((k ≡ (s.heap.leaves n).key) × IsHeldSince s.past m k (s.heap.leaves n).value) ⊎ ((k ≢ (s.heap.leaves n).key) × WasAbsentSince s.past m k)
 
--- The end of a scan of this kind makes it lawful in the fronts, with or without more pairs.
-abbrev pub EndsLawful : (Past → ℕ → Range → List Pair → Type 0) → Bool → (List Change → List Change → List ℕ → List ℕ → ℕ → Answer → Type 0) → Type 0
-EndsLawful HasEnded more IsLawful =
-    (s : Past) (before rest : List Change) (m : ℕ) → IsSteady s m → TellChanges s (before ++ rest) → (g : Range) → IsKey g.from → IsKey g.upto →
-    (xs : List Pair) (scan : Answer) → scan.pairs.items ≡ in_order_taken xs → scan.more ≡ more → HasEnded s (length before) g xs →
-    IsLawful before (before ++ rest) g.from g.upto g.limit scan
-
--- One that came to its end,
-abbrev pub ScanCompletes : Type 0
-ScanCompletes = EndsLawful IsComplete false IsLawfulScan
-
--- and one that was cut at the limit;
-abbrev pub ScanIsCut : Type 0
-ScanIsCut = EndsLawful IsCut true IsLawfulScan
-
--- and of those that go downwards, one that came to its end,
-abbrev pub DownScanCompletes : Type 0
-DownScanCompletes = EndsLawful IsDownComplete false IsLawfulReverseScan
-
--- and one that was cut.
-abbrev pub DownScanIsCut : Type 0
-DownScanIsCut = EndsLawful IsDownCut true IsLawfulReverseScan
+-- The end of a scan of this direction, with or without more pairs, makes it lawful in the fronts: it came to its end, or was cut at the limit.
+abbrev pub ScanIsLawful : Type 0
+ScanIsLawful =
+    (d : Direction) (more : Bool) (s : Past) (before rest : List Change) (m : ℕ) → IsSteady s m → TellChanges s (before ++ rest) → (g : Range) → IsKey g.from → IsKey g.upto →
+    (xs : List Pair) (scan : Answer) → scan.pairs.items ≡ in_order_taken xs → scan.more ≡ more → IsAnswer d s (length before) g xs more →
+    IsLawfulBy d before (before ++ rest) g.from g.upto g.limit scan
 
 -- The entry was found by a load: at the root, or at a place.
 abbrev pub LoadsRoot : Type 0

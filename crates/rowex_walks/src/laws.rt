@@ -1,7 +1,7 @@
 //! The laws of walks. The functions do nothing: their contracts are the laws.
 
 ghost use Rattle.rowex_walks.specs.Ways.{FoundSame, OneBody, PlacedSame, RootedSame, StillGrows, StillPlaced, StillRooted, WayBegins, WayEnds, WayGoesOn, WayIsBelow, WayOfLeaf};
-ghost use Rattle.rowex_walks.specs.Statements.{DownScanCompletes, DownScanIsCut, FirstKey, FoundIsKept, GetEnds, InsertAtSpot, LedPlaced, LoadsLeaf, LoadsNone, LoadsPlace, LoadsRoot, LoadsShape, MergeAtSpot, PairAtSpot, RemoveAtSpot, RemoveLast, ScanCompletes, ScanIsCut, UpperGoesOn, UpsertAtSpot};
+ghost use Rattle.rowex_walks.specs.Statements.{FirstKey, FoundIsKept, GetEnds, InsertAtSpot, LedPlaced, LoadsLeaf, LoadsNone, LoadsPlace, LoadsRoot, LoadsShape, MergeAtSpot, PairAtSpot, RemoveAtSpot, RemoveLast, ScanIsLawful, UpperGoesOn, UpsertAtSpot};
 
 /// An insertion that was checked under its locks is a legal publish that adds the key, in a node or at the root.
 pub fn insert_at_spot()
@@ -83,24 +83,9 @@ pub fn get_ends()
     ensures { GetEnds }
 {}
 
-/// A scan that came to its end is lawful.
-pub fn scan_completes()
-    ensures { ScanCompletes }
-{}
-
-/// A scan that was cut at its limit is lawful.
-pub fn scan_is_cut()
-    ensures { ScanIsCut }
-{}
-
-/// A scan downwards that came to its end is lawful.
-pub fn down_scan_completes()
-    ensures { DownScanCompletes }
-{}
-
-/// A scan downwards that was cut at its limit is lawful.
-pub fn down_scan_is_cut()
-    ensures { DownScanIsCut }
+/// A scan upwards or downwards that came to its end, or was cut at its limit, is lawful.
+pub fn scan_is_lawful()
+    ensures { ScanIsLawful }
 {}
 
 /// The descent of a writer below its lock begins at a node of which it has read the forks,
