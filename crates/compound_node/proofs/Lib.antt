@@ -1,6 +1,7 @@
 -- The lemmas, lowest first.
 pub mod Editing
 pub mod Shifting
+pub mod Spreading
 pub mod Ladders
 pub mod Full
 pub mod Heights

@@ -1,8 +1,8 @@
 -- More columns in the rows of a node.
-use Rattle.std.proofs.Common.{Bool, List, [], ap, arith, cond, drop, false, get_or, length, map, refl, subst, suc, sym, take, true, zero, ℕ, ⊎_elim, ◌++◌, ◌+◌, ◌<◌, ◌||◌, ◌∙◌, ◌∷◌, ◌≡◌, ◌≤◌, eqb}
+use Rattle.std.proofs.Common.{Bool, List, [], ap, arith, cond, false, get_or, length, map, refl, subst, suc, sym, take, true, zero, ℕ, ⊎_elim, ◌++◌, ◌+◌, ◌<◌, ◌||◌, ◌∙◌, ◌∷◌, ◌≡◌, ◌≤◌, eqb}
 use Rattle.std.proofs.lemmas.Bool.{cases_Bool, eqb-true, false≢true, or_cases, or_left}
 use Rattle.pieces.proofs.Tests.{same_bools}
-use Rattle.std.proofs.lemmas.List.{length-map, length-take-le, take_at}
+use Rattle.std.proofs.lemmas.List.{take-map}
 use Rattle.compound_node.specs.Joining.{IsWidened}
 use Rattle.partial_keys.proofs.Joining.{covers-new_column}
 use Rattle.partial_keys.proofs.Keeping.{IsColumns-with_position}
@@ -36,9 +36,8 @@ already cs p q here = same_bools (has cs q) (has cs q || has (p ∷ []) q) (or_l
     only p q g = ⊎_elim (λ e. eqb-true p q e) (λ e. absurd (false≢true e)) (or_cases (eqb p q) false g)
 
 -- one column more
-module _ (count : ℕ) (ps old old_rows cs rows : List ℕ) (p below : ℕ) (few : count ≤ length rows) (small : p < 65535) (room : has cs p ≡ false → length cs < 31) (place : below ≡ front_below p cs)
-    (before : IsWidened count ps old old_rows cs rows) where
-  pub widened_more : (new new_rows : List ℕ) → new ≡ cond (has cs p) cs (with_position p cs) → new_rows ≡ cond (has cs p) rows (map (spread_row below) (take count rows) ++ drop count rows) →
+module _ (count : ℕ) (ps old old_rows cs rows : List ℕ) (p : ℕ) (small : p < 65535) (room : has cs p ≡ false → length cs < 31) (before : IsWidened count ps old old_rows cs rows) where
+  pub widened_more : (new new_rows : List ℕ) → new ≡ cond (has cs p) cs (with_position p cs) → new_rows ≡ cond (has cs p) rows (map (spread_row (front_below p cs)) rows) →
       IsWidened count (ps ++ p ∷ []) old old_rows new new_rows
   widened_more new new_rows columns_are rows_are = ⊎_elim
       (λ (e : has cs p ≡ true).
@@ -51,10 +50,8 @@ module _ (count : ℕ) (ps old old_rows cs rows : List ℕ) (p below : ℕ) (few
       })
       (λ (e : has cs p ≡ false).
       let here : new ≡ with_position p cs = (rw e at columns_are) in
-      let there : new_rows ≡ map (spread_row below) (take count rows) ++ drop count rows = (rw e at rows_are) in
-      let long : length (map (spread_row below) (take count rows)) ≡ count = length-map (take count rows) (spread_row below) ∙ length-take-le count rows few in
-      let front : take count new_rows ≡ map (spread_row (front_below p cs)) (take count rows) =
-      ap (take count) there ∙ take_at (map (spread_row below) (take count rows)) (drop count rows) count long ∙ ap (λ k. map (spread_row k) (take count rows)) place in
+      let there : new_rows ≡ map (spread_row (front_below p cs)) rows = (rw e at rows_are) in
+      let front : take count new_rows ≡ map (spread_row (front_below p cs)) (take count rows) = ap (take count) there ∙ take-map (spread_row (front_below p cs)) count rows in
       record {
         columns = λ q. ap (λ ds. has ds q) here ∙ has-with_position p cs q ∙ ap (λ b. b || has (p ∷ []) q) (before.columns q) ∙ or_assoc (has old q) (has ps q) (has (p ∷ []) q) ∙ ap (λ b. has old q || b) (sym (has-push ps p q));
         positions = λ h. subst IsColumns (sym here) (IsColumns-with_position p cs (before.positions h) (room e) small e);

@@ -1,30 +1,43 @@
 //! The parts of two nodes under one fork.
 
-ghost use Rattle.std.specs.Prelude.{◌≡◌, ◌+◌, ◌<◌, ◌≤◌, ◌++◌, ◌∷◌, bit_or, length, map};
+ghost use Rattle.std.specs.Prelude.{◌≡◌, ◌+◌, ◌<◌, ◌≤◌, ◌++◌, ◌∷◌, ℕ, bit_or, false, if◌then◌else◌, length, map};
 ghost use Rattle.compound_node.specs.Joining.{IsWidened};
+ghost use Rattle.partial_keys.specs.Spread.{spread_row};
+ghost use Rattle.pieces.specs.Positions.{front_below, has, with_position};
 
-use super::heads::make_column;
-use super::rows::listed_rows;
+use super::rows::{listed_rows, spread_lanes};
 use arrayvec::ArrayVec;
 use partial_keys::Columns;
+use std::simd::prelude::*;
 
-/// Widens the first `count` rows: a position and those of other columns become columns, and each row has 0 in the new ones.
-pub(crate) fn widen(
-    columns: &mut Columns,
-    rows: &mut [u32; 32],
-    count: usize,
-    position: u16,
-    others: &Columns,
-)
-    requires few { count ≤ 32 }
+/// Widens the rows: a position and those of other columns become columns, and each row has 0 in the new ones.
+pub(crate) fn widen(columns: &mut Columns, rows: &mut [u32; 32], position: u16, others: &Columns)
     requires small { position < 65535 }
     requires room { length columns.old + length others.now < 31 }
-    ensures { IsWidened count (position ∷ others.now) columns.old rows.old columns.new rows.new }
+    ensures { (count : ℕ) → IsWidened count (position ∷ others.now) columns.old rows.old columns.new rows.new }
 {
-    make_column(columns, rows, count, position);
+    let mut lanes = with_column(columns, u32x32::from_array(*rows), position);
     for other in others.as_slice() {
-        make_column(columns, rows, count, *other);
+        lanes = with_column(columns, lanes, *other);
     }
+    *rows = lanes.to_array();
+}
+
+/// Makes a position a column, where it is none: the rows have 0 in it. Inline, so that they stay vectors from one column to the next.
+#[inline(always)]
+fn with_column(columns: &mut Columns, rows: u32x32, position: u16) -> u32x32
+    requires columns { length columns.old ≤ 31 }
+    requires room { has columns.old position ≡ false → length columns.old < 31 }
+    requires small { position < 65535 }
+    ensures columns { columns.new ≡ (if has columns.old position then columns.old else with_position position columns.old) }
+    ensures rows { result ≡ (if has columns.old position then rows else map (spread_row (front_below position columns.old)) rows) }
+{
+    let below = columns.below(position);
+    if columns.is_column_at(below, position) {
+        return rows;
+    }
+    columns.put(below, position);
+    spread_lanes(rows, below)
 }
 
 /// The rows of the 0 side, and behind them those of the 1 side, with this bit.

@@ -90,21 +90,9 @@ impl Node {
     {
         let (zero_count, one_count) = (zero.count() as usize, one.count() as usize);
         let (mut columns, mut zero_rows) = (*zero.columns(), *zero.sparse_places());
-        widen(
-            &mut columns,
-            &mut zero_rows,
-            zero_count,
-            position,
-            one.columns(),
-        );
+        widen(&mut columns, &mut zero_rows, position, one.columns());
         let (mut same_columns, mut one_rows) = (*one.columns(), *one.sparse_places());
-        widen(
-            &mut same_columns,
-            &mut one_rows,
-            one_count,
-            position,
-            zero.columns(),
-        );
+        widen(&mut same_columns, &mut one_rows, position, zero.columns());
         let bit = 1 << (31 - columns.below(position));
         let rows = both_rows(&zero_rows[..zero_count], &one_rows[..one_count], bit);
         let entries = both(zero.entries.as_slice(), one.entries.as_slice());

@@ -106,6 +106,17 @@ pub(crate) fn spread_all(rows: &mut [u32; 32], count: usize, j: u8)
     }
 }
 
+/// Puts a new column in at place `j` of all rows, which have 0 in it.
+#[inline(always)]
+pub(crate) fn spread_lanes(rows: u32x32, j: u8) -> u32x32
+    requires { j ≤ 31 }
+    ensures { result ≡ map (spread_row j) rows }
+{
+    let low = u32::MAX >> j;
+    let moved = (rows & u32x32::splat(low)) >> u32x32::splat(1);
+    rows & u32x32::splat(!low) | moved
+}
+
 /// The lanes' own places.
 const PLACES: [u32; 32] = [
     0, 1, 2, 3, 4, 5, 6, 7, 8, 9, 10, 11, 12, 13, 14, 15, 16, 17, 18, 19, 20, 21, 22, 23, 24, 25,

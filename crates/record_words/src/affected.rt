@@ -7,6 +7,7 @@ ghost use Rattle.record_words.specs.Node.{HasHeadWords, InNodesOf, head_words};
 ghost use Rattle.record_words.specs.Packed.{row_at};
 ghost use Rattle.record_words.specs.Reading.{IsSpelling};
 
+use crate::numbers::row_of;
 use crate::search::{quarters, rows_in};
 use crate::{FIRST_ROWS, HEAD_WORDS};
 use partial_keys::count_below;
@@ -37,11 +38,11 @@ pub fn affected_in(words: &[u64], found: u8, position: u16) -> (u8, u8)
 
 /// The sparse partial key at a place, used or unused.
 #[inline(always)]
-pub(crate) fn row_in(words: &[u64], at: u8) -> u32
+fn row_in(words: &[u64], at: u8) -> u32
     requires { (length words.now ≡ HEAD_WORDS) × (at < 32) }
     ensures { InNodesOf words.now (λ node. result ≡ row_at node.rows at) }
 {
-    (words[FIRST_ROWS + at as usize / 2] >> (32 * (at % 2)) & 0xffff_ffff) as u32
+    row_of(words[FIRST_ROWS + at as usize / 2], at)
 }
 
 /// How many sparse partial keys are below this number.

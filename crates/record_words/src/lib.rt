@@ -2,24 +2,24 @@
 #![tactic(auto)]
 
 mod affected;
-mod beside;
 mod entry;
 mod fixed;
 mod layout;
 mod leaf;
 mod node;
+mod numbers;
 mod origins;
 mod search;
 mod state;
 mod stock;
 
 pub use affected::affected_in;
-pub use beside::beside_in;
 pub use entry::{pack_entry, read_entry, read_some};
 use key_bits::MAX_BYTES;
 pub use layout::{Layout, LayoutFault, LeafClass, Location, Stock};
 pub use leaf::{key_word_at, key_words, pack_leaf, words_for, write_word};
 pub use node::{add_leaf, can_take_leaf, close_fork, drop_entry, pack_node, read_node};
+pub use numbers::{position_of, row_of};
 pub use origins::Origins;
 pub use search::{dense_in, search_in};
 pub use state::{Tag, pack_state, unpack_state};

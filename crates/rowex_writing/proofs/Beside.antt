@@ -1,19 +1,18 @@
 -- What a pass knows of the two nodes that become one.
-use Rattle.std.proofs.Common.{◌≡◌, ℕ, ◌-◌, ◌<◌, Bool, List, take, length, if◌then◌else◌, Some, None, refl, sym, ap, subst, ◌∙◌, arith}
+use Rattle.std.proofs.Common.{◌≡◌, ℕ, ◌-◌, ◌<◌, Bool, List, length, get_or, if◌then◌else◌, Some, None, sym, ap, subst, ◌∙◌, arith}
 use Rattle.std.specs.Prelude.{slice_get}
 use Rattle.std.proofs.lemmas.Bool.{lt-ltb}
+use Rattle.std.proofs.lemmas.List.{get_or_default}
 use Rattle.std.proofs.lemmas.Option.{slice_get-get_or}
-use Rattle.compound_node.specs.Nodes.{NodeView, HeadView, head_of, piece}
+use Rattle.compound_node.specs.Beside.{IsBesideIn}
+use Rattle.compound_node.specs.Nodes.{NodeView, piece}
 use Rattle.compound_node.specs.declared.entries.Entry.TheVariants.{Node}
-use Rattle.compound_node.proofs.Lawful.{same_count}
 use Rattle.pieces.specs.Changes.{beside}
-use Rattle.pieces.specs.Piece.{size}
+use Rattle.pieces.specs.Piece.{Place, size}
 use Rattle.pieces.proofs.Beside.{beside_elsewhere, sibling_beside}
 use Rattle.record_words.specs.declared.layout.Layout.{Layout}
-use Rattle.record_words.specs.Node.{HasHeadWords, InNodesOf, head_words}
-use Rattle.record_words.specs.Reading.{IsSpelling}
-use Rattle.record_words.proofs.Nodes.{head_part, same_head}
-use Rattle.tries.specs.Place.{entry_at, spot}
+use Rattle.record_words.specs.Packed.{position_at}
+use Rattle.tries.specs.Place.{entry_at, spot, subtrie_sibling}
 use Rattle.tries.specs.Tree.{Subtrie}
 use Rattle.tries.proofs.Building.{size-piece}
 use Rattle.tries.proofs.Places.{spot_below}
@@ -106,34 +105,36 @@ module _ (table : TableView) (a : SeatView) (job : Job) (takes : TakesOn table a
         let same = (way_node_locked table.layout a.known t.since job.key.now (upper job) e words takes.2 way_now.since node h).forks_are in
         ((way_now.since, node.seen), λ c law known. (node.forks, node.shaped c law known, subst (λ n. place < n) (shape_size shown node.forks same) low))
 
-    pub upper_head : (head : List ℕ) → head ≡ take 25 words → IsSpelling HasHeadWords head_words head
-    upper_head head is =
-        let (view, node) = locked_node table.layout a.known (upper job).number words takes.2 h in (head_of view, (view, node.has.lawful, refl), head_part view words node.spells ∙ sym is)
+    pub upper_within : (view : NodeView) → IsNodeOf words view → (upper job).at < length view.entries
+    upper_within view node =
+        let low : (upper job).at < size (piece view) = subst (λ i. i < size (piece view)) (sym (ap (λ (z : NodeWords). spot job.key.now z.subtrie) node.shows) ∙ upper_shows) (spot_below job.key.now (piece view)) in
+        omega (arith, low, size-piece view node.has.lawful)
 
-    pub upper_within : (head : List ℕ) → head ≡ take 25 words → InNodesOf head (λ node. (upper job).at < length node.entries)
-    upper_within head is other lawful same =
-        let (view, node) = locked_node table.layout a.known (upper job).number words takes.2 h in
-        let heads = same_head view other node.has.lawful lawful (head_part view words node.spells ∙ sym (same ∙ is)) in
-        let sub : shown ≡ piece view = ap (λ (z : NodeWords). z.subtrie) node.shows in
-        let low : (upper job).at < size (piece view) = subst (λ i. i < size (piece view)) (sym (ap (spot job.key.now) sub) ∙ upper_shows) (spot_below job.key.now (piece view)) in
-        omega (arith, low, size-piece view node.has.lawful, ap (λ (v : HeadView). length v.rows) heads, same_count view node.has.lawful, same_count other lawful)
+    module _ (view : NodeView) (node : IsNodeOf words view) (place column : ℕ) (forks : IsBesideIn view (upper job).at (Some (place, column))) where
+      pub column_few : column < 31
+      column_few = omega (arith, forks.in_range, node.has.lawful.positions.few)
 
-    module _ (head : List ℕ) (is : head ≡ take 25 words) (place position : ℕ) (forks : InNodesOf head (λ node. Some (place, position) ≡ beside (upper job).at (piece node))) where
-      pub forks_shown : beside (spot job.key.now shown) shown ≡ Some (place, position)
+      pub forks_shown : beside (spot job.key.now shown) shown ≡ Some (place, get_or view.columns column 0)
       forks_shown =
-          let (view, node) = locked_node table.layout a.known (upper job).number words takes.2 h in
           let sub : shown ≡ piece view = ap (λ (z : NodeWords). z.subtrie) node.shows in
-          ap (λ i. beside i shown) upper_shows ∙ (ap (beside (upper job).at) sub ∙ sym (forks view node.has.lawful (head_part view words node.spells ∙ sym is)))
+          ap (λ i. beside i shown) upper_shows ∙ (ap (beside (upper job).at) sub ∙ sym forks.is)
 
       pub place_shown : place < size shown
-      place_shown = (beside_elsewhere (spot job.key.now shown) place position shown (spot_below job.key.now shown) forks_shown).0
+      place_shown = (beside_elsewhere (spot job.key.now shown) place (get_or view.columns column 0) shown (spot_below job.key.now shown) forks_shown).0
 
-      pub found_beside : (number height : ℕ) → Node number height ≡ entry_at shown place → IsNeighbour a.known job (record { place = place; position = position; number = number })
-      found_beside number height entry = record {
-        words = words;
-        has = h;
-        forks = forks_shown;
-        height = height;
-        sibling = sym (sibling_spot job.key.now shown) ∙ sibling_beside (spot job.key.now shown) place position (Node number height) shown (spot_below job.key.now shown) forks_shown
-            (sym (place_is shown place) ∙ (ap (λ (b : Bool). if b then Some (entry_at shown place) else None) (lt-ltb place (size shown) place_shown) ∙ ap Some (sym entry)));
-      }
+      pub sibling_is : (number height : ℕ) → Node number height ≡ entry_at shown place → subtrie_sibling job.key.now shown ≡ Some (get_or view.columns column 0, Place (Node number height))
+      sibling_is number height entry =
+          sym (sibling_spot job.key.now shown) ∙ sibling_beside (spot job.key.now shown) place (get_or view.columns column 0) (Node number height) shown (spot_below job.key.now shown) forks_shown
+          (sym (place_is shown place) ∙ (ap (λ (b : Bool). if b then Some (entry_at shown place) else None) (lt-ltb place (size shown) place_shown) ∙ ap Some (sym entry)))
+
+      pub found_beside : (number height position : ℕ) → position ≡ position_at view.columns column → Node number height ≡ entry_at shown place →
+          IsNeighbour a.known job (record { place = place; position = position; number = number })
+      found_beside number height position at entry =
+          let is : get_or view.columns column 0 ≡ position = sym (at ∙ get_or_default view.columns column 65535 0 forks.in_range) in
+          record {
+            words = words;
+            has = h;
+            forks = forks_shown ∙ ap (λ p. Some (place, p)) is;
+            height = height;
+            sibling = sibling_is number height entry ∙ ap (λ p. Some (p, Place (Node number height))) is;
+          }

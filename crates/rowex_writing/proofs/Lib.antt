@@ -2,6 +2,7 @@
 pub mod Planning
 pub mod Remade
 pub mod Locking
+pub mod Heading
 pub mod Staging
 pub mod Raising
 pub mod Making

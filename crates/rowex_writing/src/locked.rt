@@ -1,9 +1,10 @@
 //! What a pass reads of a node that it has locked.
 
-ghost use Rattle.std.specs.Prelude.{◌≡◌, ◌<◌, ℕ, List, get_or, replicate, take, ◌≤◌, ◌+◌};
+ghost use Rattle.std.specs.Prelude.{◌≡◌, ◌<◌, ℕ, List, get_or, length, replicate, ◌≤◌, ◌+◌};
+ghost use Rattle.compound_node.specs.Beside.{IsBesideIn};
 ghost use Rattle.compound_node.specs.Nodes.{NodeView};
+ghost use Rattle.record_words.specs.Packed.{position_at, row_at};
 ghost use Rattle.versions.specs.declared.Rec.TheVariants.{Node as a_node};
-ghost use Rattle.record_words.specs.declared.TheConstants.{HEAD_WORDS};
 ghost use Rattle.tries.specs.Place.{entry_at};
 ghost use Rattle.rowex_core.specs.Reading.{node_words_of};
 ghost use Rattle.rowex_reading.specs.Possible.{IsPossible};
@@ -13,8 +14,10 @@ ghost use Rattle.rowex_table.specs.Seats.{IsSeatOf};
 ghost use Rattle.rowex_writing.specs.Going.{ReadsOn, HasLocked, IsLockedBy, IsNodeOf};
 ghost use Rattle.rowex_writing.specs.Loads.{ReadsEight};
 
-use compound_node::{Entry, Node};
-use record_words::{HEAD_WORDS, NODE_FIELDS, read_node, read_some};
+use compound_node::{Entry, Node, place_beside};
+use record_words::{
+    FIRST_ROWS, HEAD_WORDS, MAX_ENTRIES, NODE_FIELDS, position_of, read_node, read_some, row_of,
+};
 use rowex_core::{Gate, Rec, Spot};
 use rowex_table::{HotTable, TableSeat};
 
@@ -47,26 +50,72 @@ pub(crate) fn load_words<G: Gate>(
     load_eight(table, seat, gate, number, start, words, 49, end);
 }
 
-/// Loads the words of the head of a node that the pass has locked.
-pub(crate) fn load_head<G: Gate>(
+/// Loads the sparse partial key at a place of a locked node, whose record begins at `start`; 4,294,967,295 past the last one.
+#[inline(always)]
+fn load_row<G: Gate>(
     table: &HotTable,
     seat: &mut TableSeat,
     gate: &mut G,
     number: u32,
-) -> [u64; HEAD_WORDS]
+    start: usize,
+    at: u8,
+) -> u32
+    requires own { IsSeatOf table.now seat.old }
+    requires start { IsStartOf table.now.layout (a_node number) start }
+    ensures own { IsSeatOf table.now seat.new }
+    ensures reads { ReadsOn table.now G.becomes (seat.old, gate.old) (seat.new, gate.new) }
+    ensures row { (words : List ℕ) → HasLocked seat.old.known number words → (node : NodeView) → IsNodeOf words node → result ≡ row_at node.rows at }
+    ensures few { seat.new.known.steps ≤ seat.old.known.steps + 1 }
+{
+    if at as usize >= MAX_ENTRIES {
+        return u32::MAX;
+    }
+    let index = FIRST_ROWS + at as usize / 2;
+    row_of(load_word(table, seat, gate, number, start, index), at)
+}
+
+/// The place beside one of a locked node, and the column of the fork between the two; none where the other side of the last fork on
+/// the path has several places. Four sparse partial keys are loaded, and not the head.
+pub(crate) fn load_beside<G: Gate>(
+    table: &HotTable,
+    seat: &mut TableSeat,
+    gate: &mut G,
+    number: u32,
+    at: u8,
+) -> Option<(u8, u8)>
     requires own { IsSeatOf table.now seat.old }
     requires range { number < table.now.layout.nodes }
-    requires locked { IsLockedBy seat.old.known number }
+    requires place { at < 32 }
     ensures reads { ReadsOn table.now G.becomes (seat.old, gate.old) (seat.new, gate.new) }
-    ensures words { (those : List ℕ) → HasLocked seat.old.known number those → result ≡ take HEAD_WORDS those }
-    ensures few { seat.new.known.steps ≤ seat.old.known.steps + HEAD_WORDS }
+    ensures beside { (words : List ℕ) → HasLocked seat.old.known number words → (node : NodeView) → IsNodeOf words node → at < length node.entries → IsBesideIn node at result }
+    ensures few { seat.new.known.steps ≤ seat.old.known.steps + 4 }
 {
     let start = table.start_of(Rec::Node(number));
-    let mut words = [0; HEAD_WORDS];
-    for index in 0..HEAD_WORDS {
-        words[index] = load_word(table, seat, gate, number, start, index);
-    }
-    words
+    let before = load_row(table, seat, gate, number, start, at.saturating_sub(1));
+    let own = load_row(table, seat, gate, number, start, at);
+    let after = load_row(table, seat, gate, number, start, at + 1);
+    let second = load_row(table, seat, gate, number, start, at + 2);
+    place_beside(at, before, own, after, second)
+}
+
+/// Loads the position of a column of a locked node.
+pub(crate) fn load_position<G: Gate>(
+    table: &HotTable,
+    seat: &mut TableSeat,
+    gate: &mut G,
+    number: u32,
+    column: u8,
+) -> u16
+    requires own { IsSeatOf table.now seat.old }
+    requires range { number < table.now.layout.nodes }
+    requires column { column < 31 }
+    ensures reads { ReadsOn table.now G.becomes (seat.old, gate.old) (seat.new, gate.new) }
+    ensures position { (words : List ℕ) → HasLocked seat.old.known number words → (node : NodeView) → IsNodeOf words node → result ≡ position_at node.columns column }
+    ensures few { seat.new.known.steps ≤ seat.old.known.steps + 1 }
+{
+    let start = table.start_of(Rec::Node(number));
+    let index = 1 + column as usize / 4;
+    position_of(load_word(table, seat, gate, number, start, index), column)
 }
 
 /// Loads the entry at a place that a locked node has.

@@ -3,7 +3,6 @@
 ghost use Rattle.std.specs.Prelude.{◌≡◌, ◌<◌, ◌≤◌, ◌+◌, ◌-◌, ◌*◌, ◌++◌, ◌∷◌, [], ℕ, List, IfSome, None, false, true, length};
 ghost use Rattle.compound_node.specs.Nodes.{IsBuiltFrom, piece};
 ghost use Rattle.pieces.specs.Piece.{RisesFrom};
-ghost use Rattle.record_words.specs.declared.TheConstants.{HEAD_WORDS};
 ghost use Rattle.tries.specs.Keys.{Key as KeyValue};
 ghost use Rattle.tries.specs.Place.{fork_of, subtrie_collapsed};
 ghost use Rattle.versions.specs.declared.Rec.TheVariants.{Node as a_node};
@@ -26,12 +25,12 @@ use crate::building::{Build, make_words};
 use crate::deeds::Job;
 use crate::ending::retire;
 use crate::growing::has_number;
-use crate::locked::{load_head, load_place, load_words, read_locked};
+use crate::locked::{load_beside, load_place, load_position, load_words, read_locked};
 use crate::publishing::{ready_all, spot_above, stored_word};
 use crate::widening::{narrow, widen};
 use compound_node::{Entry, Half, Node};
 use insert_cases::Step;
-use record_words::{NODE_FIELDS, beside_in, close_fork, pack_node};
+use record_words::{NODE_FIELDS, close_fork, pack_node};
 use rowex_core::{Gate, Rec};
 use rowex_reading::Found;
 use rowex_records::fill_words;
@@ -90,7 +89,8 @@ fn sole_node(made: &[Rec]) -> Option<u32>
     }
 }
 
-/// The node beside the one that loses a leaf, if its entry is all of the last fork's other side, and both have few entries.
+/// The node beside the one that loses a leaf, if its entry is all of the last fork's other side, and both have few entries. A full node
+/// has none, for what is left of it has too many.
 fn find_beside<G: Gate>(
     table: &HotTable,
     seat: &mut TableSeat,
@@ -100,21 +100,23 @@ fn find_beside<G: Gate>(
     requires takes { TakesOn table.now seat.old job.now }
     ensures reads { ReadsOn table.now G.becomes (seat.old, gate.old) (seat.new, gate.new) }
     ensures beside { IfSome result (λ b. IsNeighbour seat.new.known job.now b) }
-    ensures few { seat.new.known.steps ≤ seat.old.known.steps + HEAD_WORDS + 2 }
+    ensures few { seat.new.known.steps ≤ seat.old.known.steps + 7 }
 {
-    let above = job.way[job.span.end - 1];
-    let words = load_head(table, seat, gate, above.number);
-    let Some((place, position)) = beside_in(&words, above.at) else {
+    let (above, low) = (job.way[job.span.end - 1], job.way[job.span.end]);
+    if low.count > 31 {
+        return None;
+    }
+    let Some((place, column)) = load_beside(table, seat, gate, above.number, above.at) else {
         return None;
     };
     let Entry::Node { number, .. } = load_place(table, seat, gate, above.number, place) else {
         return None;
     };
     let count = table.load_fixed(seat, gate, Rec::Node(number), 1) % 256;
-    let low = job.way[job.span.end];
     if count.saturating_add(u64::from(low.count)) > 33 {
         return None;
     }
+    let position = load_position(table, seat, gate, above.number, column);
     Some(Beside {
         place,
         position,

@@ -1,5 +1,5 @@
 -- The four cases.
-use Rattle.std.proofs.Common.{◌+◌, ◌-◌, ◌<◌, ◌≡◌, ◌≤◌, Option, ap₂, arith, length, subst, sym, ℕ, ◌∙◌}
+use Rattle.std.proofs.Common.{◌<◌, ◌≡◌, Option, ap₂, arith, length, subst, sym, ℕ, ◌∙◌}
 use Rattle.compound_node.proofs.Neighbours.{told_beside}
 use Rattle.compound_node.specs.Beside.{AreRound, IsBesideIn, column_before}
 use Rattle.compound_node.specs.Nodes.{IsLawfulNode, NodeView}

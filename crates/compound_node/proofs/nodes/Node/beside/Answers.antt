@@ -1,5 +1,5 @@
 -- The rows round the place tell it.
-use Rattle.std.proofs.Common.{◌≡◌, ◌+◌, ◌-◌, ◌<◌, ◌≤◌, Some, ap, arith, get_or, length, subst, sym, ◌∙◌}
+use Rattle.std.proofs.Common.{◌≡◌, Some, ap, arith, get_or, subst, ◌∙◌}
 use Rattle.compound_node.specs.Beside.{AreRound, IsBesideIn}
 use Rattle.compound_node.specs.Nodes.{IsLawfulNode, NodeView}
 use Rattle.compound_node.proofs.nodes.Node.beside.Goals as goal

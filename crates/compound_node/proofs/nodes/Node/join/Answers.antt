@@ -25,10 +25,10 @@ widen-requires-2-clause-room c = rw (c.columns-3.ensures, c.columns-4.ensures) (
 -- what both nodes' columns and rows are
 module _ (c : After-below) where
   zero_widened : IsWidened c.count.result (c.args.position ∷ c.args.one.now.columns) c.args.zero.now.columns (with_unused c.args.zero.now.rows) c.widen.new.columns c.widen.new.rows
-  zero_widened = rw (← c.columns.ensures, ← c.columns-2.ensures, ← c.sparse_places.ensures) c.widen.ensures
+  zero_widened = rw (← c.columns.ensures, ← c.columns-2.ensures, ← c.sparse_places.ensures) (c.widen.ensures c.count.result)
 
   one_widened : IsWidened c.count-2.result (c.args.position ∷ c.args.zero.now.columns) c.args.one.now.columns (with_unused c.args.one.now.rows) c.widen-2.new.columns c.widen-2.new.rows
-  one_widened = rw (← c.columns-3.ensures, ← c.columns-4.ensures, ← c.sparse_places-2.ensures) c.widen-2.ensures
+  one_widened = rw (← c.columns-3.ensures, ← c.columns-4.ensures, ← c.sparse_places-2.ensures) (c.widen-2.ensures c.count-2.result)
 
 pub overflow_sub-bit : goal.overflow_sub-bit
 overflow_sub-bit c = join_place c.args.position c.args.zero.now c.args.one.now c.count.ensures.lawful c.count-2.ensures.lawful c.requires.after c.requires.room

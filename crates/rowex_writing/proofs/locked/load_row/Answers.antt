@@ -1,0 +1,22 @@
+-- A word of the head has the row, and past the last place there is none.
+use Rattle.std.proofs.Common.{◌+◌, ◌/◌, ◌∙◌, arith, sym}
+use Rattle.std.proofs.lemmas.List.{get_or_past}
+use Rattle.compound_node.proofs.Lawful.{same_count}
+use Rattle.rowex_writing.proofs.Heading.{head_word}
+use Rattle.rowex_writing.proofs.Locking.{reads_none, seat_of}
+use Rattle.rowex_writing.proofs.locked.load_row.Goals as goal
+
+pub returns-then-at-ge-MAX_ENTRIES : goal.returns-then-at-ge-MAX_ENTRIES
+returns-then-at-ge-MAX_ENTRIES g c = record {
+  own = c.requires.own;
+  reads = reads_none c.args.table.now g.G.Gate.becomes (c.args.seat.now, c.args.gate.now);
+  row = λ words h node is. sym (get_or_past node.rows c.args.at 4294967295 (omega (arith, c.if-at-ge-MAX_ENTRIES.true, same_count node is.has.lawful, is.has.lawful.room)));
+  few = omega arith;
+}
+
+pub returns-clause-own : goal.returns-clause-own
+returns-clause-own g c = seat_of c.args.table.now g.G.Gate.becomes (c.args.seat.now, c.args.gate.now) (c.load_word.new.seat, c.load_word.new.gate) c.load_word.ensures.reads.goes c.requires.own
+
+pub returns-clause-row : goal.returns-clause-row
+returns-clause-row g c = λ words h node is.
+    c.row_of.ensures node is.has.lawful (head_word node words is (9 + c.args.at / 2) (omega (arith, c.if-at-ge-MAX_ENTRIES.false)) ∙ sym (c.load_word.ensures.word words h))
