@@ -1,7 +1,8 @@
 -- What the words give, read of a parse's matches.
-use Rattle.std.proofs.Common.{◌≡◌, ℕ, ◌<◌, ◌^◌, List, [], ◌∷◌, map, true, false, Bool, Option, Some, None, Result, Ok, Err, refl, sym, ap, ◌∙◌, subst, arith}
-use Rattle.std.specs.Prelude.{codes, find, option_and_then, option_map, slice_get, unwrap_or}
+use Rattle.std.proofs.Common.{◌≡◌, ◌⊎◌, inl, inr, ℕ, ◌<◌, ◌≤◌, ◌^◌, length, List, [], ◌∷◌, map, true, false, Bool, Option, Some, None, Result, Ok, Err, refl, sym, ap, ◌∙◌, subst, arith}
+use Rattle.std.specs.Prelude.{find, option_and_then, option_map, slice_get, unwrap_or}
 use Rattle.std.specs.Borrow.{Bor}
+use Rattle.std.proofs.lemmas.List.{length-map}
 use Rattle.std.specs.Str.{bytes_eq}
 use Rattle.std.specs.Str.Parse.{IsNumeral, ParsesUnsigned, digits_value, without_leading_plus}
 use Rattle.clap.specs.Facts.{Entry}
@@ -11,10 +12,17 @@ use Rattle.clap.specs.Walk.{Row, all_of, one_of, row_of, row_text, rows_of, text
 use Rattle.clap.specs.declared.builder.value_parser.Reading.{Reading}
 use Rattle.clap.specs.declared.parser.matches.Found.{Found}
 use Rattle.clap.specs.declared.parser.matches.MatchedArg.{MatchedArg}
-use Rattle.clap.specs.Words.{App, HasMatchesOf, is_simple, matches_of}
+use Rattle.clap.specs.declared.error.Error.{Error}
+use Rattle.clap.specs.declared.error.kind.ErrorKind.{ErrorKind}
+use Rattle.clap.specs.declared.error.kind.ErrorKind.TheVariants as kind
+use Rattle.clap.specs.Words.{App, HasKind, HasMatchesOf, IsAmong, Kinds, fault_of, kind_of, is_simple, is_simple_and_free, matches_of}
 use Rattle.clap.specs.declared.parser.matches.ArgMatches.{ArgMatches}
 use Rattle.clap.proofs.OnLiterals.{clap_on_literals}
-use Rattle.hot_command_line.specs.Options.{IsOptionNumber, command_line}
+use Rattle.hot_scripts.specs.declared.fault.RunFault.TheVariants.{Memory}
+use Rattle.hot_command_line.specs.declared.ending.Ending.{Ending}
+use Rattle.hot_command_line.specs.declared.ending.Ending.TheVariants.{Usage, Fault}
+use Rattle.hot_command_line.specs.Endings.{ending_of}
+use Rattle.hot_command_line.specs.Options.{DoParse, IsOptionNumber, command_line, names_in}
 
 -- a row of an entry has its first value's text
 first_text : (how : Reading) (vals : List (Bor (List ℕ))) → option_map (read_as how) (slice_get (texts vals) 0) ≡ option_map (λ s. read_as how s.now) (slice_get vals 0)
@@ -86,3 +94,45 @@ simple = refl
 
 pub rows_are : (a : App) (words : List (List ℕ)) (m : ArgMatches) → HasMatchesOf a words m → a ≡ command_line → rows_of (found_of m) ≡ matches_of command_line words
 rows_are a words m has is = (has (ap is_simple is ∙ simple)).0 ∙ ap (λ (b : App). matches_of b words) is
+
+-- and no argument of it shuts out another, so a parse tells exactly whether the words have a fault
+pub free : is_simple_and_free command_line ≡ true
+unfolding clap_on_literals
+free = refl
+
+-- the program's command line, made in a call
+module _ (a : App) (words : List (List ℕ)) (is : a ≡ command_line) where
+  pub faultless_at : (is_simple_and_free a ≡ true → fault_of a words ≡ []) → fault_of command_line words ≡ []
+  faultless_at told = subst (λ (b : App). fault_of b words ≡ []) is (told (ap is_simple_and_free is ∙ free))
+
+  -- Where its parse was refused, the words have a fault, or memory ran out.
+  pub refused_so : (error : Error) (ending : Ending) → (is_simple_and_free a ≡ true → HasKind (fault_of a words) error) → ending ≡ ending_of (kind_of error)
+      → ((ending ≡ Usage) × (DoParse words → ⊥)) ⊎ (ending ≡ Fault Memory)
+  refused_so error ending told same = by_kind (subst (λ (b : App). HasKind (fault_of b words) error) is (told (ap is_simple_and_free is ∙ free)))
+    where
+      no_fault : (kinds : Kinds) (k : ErrorKind) → IsAmong k kinds → kinds ≡ [] → ⊥
+      no_fault kinds k among none = subst (IsAmong k) none among
+
+      two_ends : (k : ErrorKind) → (ending_of k ≡ Usage) ⊎ (ending_of k ≡ Fault Memory)
+      two_ends kind.OutOfMemory = inr refl
+      two_ends k = inl refl
+
+      by_end : (DoParse words → ⊥) → (ending_of (kind_of error) ≡ Usage) ⊎ (ending_of (kind_of error) ≡ Fault Memory)
+          → ((ending ≡ Usage) × (DoParse words → ⊥)) ⊎ (ending ≡ Fault Memory)
+      by_end none (inl usage) = inl (same ∙ usage, none)
+      by_end none (inr memory) = inr (same ∙ memory)
+
+      by_kind : HasKind (fault_of command_line words) error → ((ending ≡ Usage) × (DoParse words → ⊥)) ⊎ (ending ≡ Fault Memory)
+      by_kind (inl memory) = inr (same ∙ ap ending_of memory)
+      by_kind (inr among) = by_end (λ fit. no_fault (fault_of command_line words) (kind_of error) among fit.faultless) (two_ends (kind_of error))
+
+-- as many names as the words have
+module _ (words : List (List ℕ)) (names : List (Bor (List ℕ))) (are : map (λ v. v.now) names ≡ names_in words) where
+  count_named : length (names_in words) ≡ length names
+  count_named = ap length (sym are) ∙ length-map names (λ (v : Bor (List ℕ)). v.now)
+
+  pub few_named : length names ≤ 63 → length (names_in words) ≤ 63
+  few_named few = subst (λ n. n ≤ 63) (sym count_named) few
+
+  pub many_named : 63 < length names → DoParse words → ⊥
+  many_named many fit = let few = fit.few in omega (arith, count_named)

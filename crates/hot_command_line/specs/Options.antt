@@ -1,10 +1,11 @@
 -- The arguments of the command line.
-use Rattle.std.specs.Prelude.{◌≡◌, ℕ, ◌<◌, ◌^◌, List, [], unwrap_or, Some, None, false, pos, codes}
+use Rattle.std.specs.Prelude.{◌≡◌, ℕ, ◌<◌, ◌≤◌, ◌^◌, List, [], length, unwrap_or, Some, None, false, pos, codes}
 use Rattle.std.specs.Str.Parse.{IsNumeral, digits_value, without_leading_plus}
-use Rattle.clap.specs.Words.{App, IsPlainArg, Row, Rule, all_of, matches_of, new_app, new_rule, one_of, rule_of, with_rule}
+use Rattle.clap.specs.Words.{App, IsPlainArg, Row, Rule, all_of, fault_of, matches_of, new_app, new_rule, one_of, rule_of, with_rule}
 use Rattle.clap.specs.declared.builder.action.ArgAction.TheVariants.{Append, Set}
 use Rattle.clap.specs.declared.builder.arg.Arg.{Arg}
 use Rattle.clap.specs.declared.builder.value_parser.ValueParser.TheVariants.{Signed}
+use Rattle.hot_scripts.specs.declared.script.TheConstants.{MAX_FILES}
 use Rattle.record_words.specs.declared.TheConstants.{MAX_LEAVES, MAX_NODES}
 
 -- an option of this name that takes a number from 1 to `most`, and the words that are no options, as the parser has them
@@ -37,8 +38,18 @@ pub record IsOptionNumber (rows : List Row) (option : List ℕ) (default number 
   pub given : (text : List ℕ) → one_of option rows ≡ Some text → IsNumeral 10 (without_leading_plus text) → digits_value 10 (without_leading_plus text) < 2 ^ 32
       → number ≡ digits_value 10 (without_leading_plus text)
 
--- These words, the program's name first, ask for so many nodes and leaves and for the files of these names.
+-- the names of files that these words have, the program's name first
+abbrev pub names_in : List (List ℕ) → List (List ℕ)
+names_in words = unwrap_or (all_of (codes "FILE") (matches_of command_line words)) []
+
+-- The words parse: the parser of the command line finds no fault in them, and they name no more files than there may be.
+pub record DoParse (words : List (List ℕ)) : Type 0 where
+  pub faultless : fault_of command_line words ≡ []
+  pub few : length (names_in words) ≤ MAX_FILES
+
+-- These words parse, and ask for so many nodes and leaves and for the files of these names.
 pub record IsAsked (words : List (List ℕ)) (nodes leaves : ℕ) (names : List (List ℕ)) : Type 0 where
+  pub parse : DoParse words
   pub nodes_are : IsOptionNumber (matches_of command_line words) (codes "nodes") 4096 nodes
   pub leaves_are : IsOptionNumber (matches_of command_line words) (codes "leaves") 16384 leaves
-  pub names_are : names ≡ unwrap_or (all_of (codes "FILE") (matches_of command_line words)) []
+  pub names_are : names ≡ names_in words

@@ -6,7 +6,7 @@ ghost use Rattle.record_words.specs.Limits.{IsLeafCount, IsNodeCount};
 ghost use Rattle.hot_scripts.specs.declared.fault.RunFault.TheVariants.{Memory};
 ghost use Rattle.hot_command_line.specs.declared.ending.Ending.TheVariants.{Usage, Fault};
 ghost use Rattle.hot_command_line.specs.Endings.{ending_of};
-ghost use Rattle.hot_command_line.specs.Options.{IsArgument, IsAsked, IsCountOption, names_rule};
+ghost use Rattle.hot_command_line.specs.Options.{DoParse, IsArgument, IsAsked, IsCountOption, names_rule};
 
 use crate::ending::Ending;
 use clap::builder::ValueParser;
@@ -74,10 +74,10 @@ fn file_names<'a>(alloc: Global, name: &'a str) -> Arg<'a>
 }
 
 /// What the command line asks for: the numbers that follow `--nodes` and `--leaves`, or 4,096 nodes and 16,384 leaves where it doesn't
-/// say, and at most `MAX_FILES` files, in order. It is refused by the usage line, or for want of memory.
+/// say, and at most `MAX_FILES` files, in order. It is refused by the usage line if the words don't parse, or for want of memory.
 pub fn parse<'a>(alloc: Global, words: &'a [String]) -> Result<Request<'a>, Ending>
     ensures asked { IfOk result (λ request. IsAsked (map string_bytes words.now) request.nodes request.leaves (map (λ name. name.now) request.files.items)) }
-    ensures refused { IfErr result (λ ending. (ending ≡ Usage) ⊎ (ending ≡ Fault Memory)) }
+    ensures refused { IfErr result (λ ending. ((ending ≡ Usage) × (DoParse (map string_bytes words.now) → ⊥)) ⊎ (ending ≡ Fault Memory)) }
 {
     let command = Command::new(alloc, "hot-run")
         .arg(count_option(alloc, "nodes", MAX_NODES))?

@@ -3,6 +3,7 @@
 ghost use Rattle.std.specs.Prelude.{◌≡◌, ◌+◌, ◌≤◌, [], false, IfOk, None, Ok, OnErr, Some};
 ghost use Rattle.seat_calls.specs.Answers.{HasFoundPair, IsListedInPart, IsUnnoted};
 ghost use Rattle.seat_calls.specs.Counts.{scan_steps};
+ghost use Rattle.seat_calls.specs.Traces.{HasGotRange, untold};
 ghost use Rattle.hot_index.specs.Cursors.{IsLeft, IsPartListed, rest_of};
 ghost use Rattle.seat_calls.specs.Passes.{Owns};
 ghost use Rattle.key_ranges.specs.Ranges.{last_with};
@@ -60,9 +61,9 @@ impl Cursor {
     /// Lists the next pairs of the range, at most `limit`, and drops earlier pairs of the list. Returns whether there are more. If
     /// not, the cursor is at its end, and each later call lists nothing.
     ///
-    /// Before its end, each call is a scan of the keys that are left, with a scan's promise and bound on steps. The next call goes on
-    /// at the least key above the last one listed. So it lists a key that was inserted between two calls if that lies above, and
-    /// not if it lies below.
+    /// Before its end, each call is a scan of the keys that are left, with a scan's promise, reads and bound on steps. The next call
+    /// goes on at the least key above the last one listed. So it lists a key that was inserted between two calls if that lies above,
+    /// and not if it lies below.
     ///
     /// Out of memory, the cursor stays where it is, and the list holds the first pairs, as after a `scan_into`.
     pub fn next_into(
@@ -80,6 +81,7 @@ impl Cursor {
         ensures refused { (rest : Rest) → self.old ≡ Some rest → OnErr result (IsListedInPart index.now.layout pass.old pass.new rest.from rest.upto limit pairs.new) }
         ensures memory { (rest : Rest) → self.old ≡ Some rest → OnErr result (HasFoundPair index.now.layout pass.old pass.new rest.from rest.upto limit) }
         ensures steps { pass.new.steps ≤ pass.old.steps + scan_steps limit }
+        ensures read { (rest : Rest) → self.old ≡ Some rest → HasGotRange index.now untold limit (pass.old, tt) (pass.new, tt) }
     {
         let Some(rest) = &self.rest else {
             pairs.clear();

@@ -136,8 +136,8 @@ impl Index {
     /// entry, 297 for each lock that it tries, 2 for each node record and 4 for each leaf record. So on the longest way the call
     /// makes at most 1,396,470 steps, and 2 for each pass, 6 for each node record and 10 for each leaf record.
     ///
-    /// It returns `Busy` only if another pass has locked or retired what it wants to lock, or has made a change since the call's
-    /// last pin. So an index of one pass is never busy.
+    /// It returns `Busy` only if another pass has locked or retired what it wants to lock, or has made a change since the pin under
+    /// which the call loaded the root last. So an index of one pass is never busy.
     ///
     /// It returns `FullNodes` or `FullLeaves` only if it found each node record, or each leaf record with room for the key, taken
     /// when its turn came. It makes the round of collection first. Then it looks again, unless the index has one pass and the round

@@ -109,7 +109,7 @@ steps : BoundedSteps
 steps = record {
   get = λ index k j h. (let depth = h.depth in let few = h.few in omega (arith, depth, few));
   get_many = λ index count k j h. few_entries j.steps k.steps count _ (count * most_entries) h.few h.depth;
-  change = λ index result k j h. h.few;
+  change = λ index call result k j h. h.few;
   scan = λ index limit k j h. (let most = h.most in let few = h.few in omega (arith, most, few));
   collect = λ index nodes leaves k j h. h.few;
   count = λ index counts k j h. (let many = h.many in omega (arith, many));

@@ -100,7 +100,7 @@ pub record BoundedSteps : Type 0 where
   pub get : (index : TableView) (k j : PassView) → HasGot index untold (k, tt) (j, tt) → j.steps ≤ k.steps + 36 + 26 * (9 * MAX_BYTES)
   pub get_many : (index : TableView) (count : ℕ) (k j : PassView) → HasGotMany index untold count (k, tt) (j, tt) →
       j.steps ≤ k.steps + 4 + 34 * count + 29 * (count * most_entries)
-  pub change : (index : TableView) (result : Result Reply TryFault) (k j : PassView) → HasMade index untold result (k, tt) (j, tt) →
+  pub change : (index : TableView) (call : Call) (result : Result Reply TryFault) (k j : PassView) → HasMade index untold call result (k, tt) (j, tt) →
       j.steps ≤ k.steps + try_steps index.layout
   pub scan : (index : TableView) (limit : ℕ) (k j : PassView) → HasGotRange index untold limit (k, tt) (j, tt) →
       j.steps ≤ k.steps + 101 + 26 * scan_entries limit + 8 * limit

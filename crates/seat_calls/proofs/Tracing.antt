@@ -1,6 +1,7 @@
 -- The steps of a call, and what its gate was told.
 use Rattle.std.proofs.Common.{◌≡◌, ℕ, ◌+◌, ◌*◌, ◌≤◌, List, [], ◌∷◌, ◌++◌, false, Result, inl, inr, refl, sym, ap, subst, arith, ◌∙◌}
 use Rattle.key_bits.specs.declared.TheConstants.{MAX_BYTES}
+use Rattle.finite_map.specs.declared.Call.{Call}
 use Rattle.finite_map.specs.declared.Note.{Note}
 use Rattle.finite_map.specs.declared.Reply.{Reply}
 use Rattle.rowex_core.specs.declared.event.Act.{Act}
@@ -24,6 +25,8 @@ use Rattle.rowex_writing.specs.Attempts.{HasAttempted}
 use Rattle.rowex_writing.specs.Changes.{HasTried}
 use Rattle.rowex_writing.specs.Locks.{targets_of}
 use Rattle.rowex_writing.specs.declared.attempts.TryFault.{TryFault}
+use Rattle.rowex_writing.specs.declared.plan.Full.{Full}
+use Rattle.seat_calls.specs.Answers.{IsRefused, fault_of}
 use Rattle.seat_calls.specs.Counts.{try_steps}
 use Rattle.seat_calls.specs.Passes.{PassView, pass_of}
 use Rattle.seat_calls.specs.Traces.{AreAttempts, AreRoundSteps, AreSmallSteps, AreTries, HasCollected, HasEnded, HasGot, HasMade, HasRead, HasStepped, HasTold, HasGotRange, IsAttempt, Tidies, is_full, reading, untold}
@@ -155,6 +158,9 @@ module _ {G : Type 0} (table : TableView) (becomes : G → Event → G → Type 
   runs_untold [] a b run = ap (λ (z : SeatView × G). (z.0, tt)) run
   runs_untold (act ∷ acts) a b run = ((run.0.0, tt), step_untold act (λ k. []) a run.0 run.1, runs_untold acts run.0 b run.2)
 
+  ends_untold : (acts : List Act) (last : Act) (said : Known → List Note) (a b : SeatView × G) → Ends table becomes acts last said a b → Ends table untold acts last said (a.0, tt) (b.0, tt)
+  ends_untold acts last said a b (m, run, end) = ((m.0, tt), runs_untold acts a m run, step_untold last said m b end)
+
   pub read_untold : (a b : PassView × G) → HasRead table becomes a b → HasRead table untold (a.0, tt) (b.0, tt)
   read_untold a b x = record {
     epoch = x.epoch;
@@ -171,7 +177,7 @@ module _ {G : Type 0} (table : TableView) (becomes : G → Event → G → Type 
   }
     where
       all : Ends table untold (reading x.epoch x.root x.loads) ClearPin x.said (a.0.seat, tt) (b.0.seat, tt)
-      all = ((x.steps.0.0, tt), runs_untold (reading x.epoch x.root x.loads) (a.0.seat, a.1) x.steps.0 x.steps.1, step_untold ClearPin x.said x.steps.0 (b.0.seat, b.1) x.steps.2)
+      all = ends_untold (reading x.epoch x.root x.loads) ClearPin x.said (a.0.seat, a.1) (b.0.seat, b.1) x.steps
 
   pub got_untold : (a b : PassView × G) → HasGot table becomes a b → HasGot table untold (a.0, tt) (b.0, tt)
   unfolding read_untold
@@ -182,8 +188,8 @@ module _ {G : Type 0} (table : TableView) (becomes : G → Event → G → Type 
   walked_untold limit a b x = record { read = read_untold a b x.read; most = x.most; few = x.few }
 
   -- a call that ended on its seat
-  pub has_made : {said : Known → List Note} {r : Result Reply TryFault} (a b : SeatView × G) → HasEnded table becomes (AreAttempts table.layout r) said a b → b.0.known.steps ≤ a.0.known.steps + try_steps table.layout →
-      a.0.known.steps ≤ b.0.known.fresh.step → HasMade table becomes r (pass_of a.0, a.1) (pass_of b.0, b.1)
+  pub has_made : {said : Known → List Note} {call : Call} {r : Result Reply TryFault} (a b : SeatView × G) → HasEnded table becomes (AreAttempts table becomes call r said a b) said a b → b.0.known.steps ≤ a.0.known.steps + try_steps table.layout →
+      a.0.known.steps ≤ b.0.known.fresh.step → HasMade table becomes call r (pass_of a.0, a.1) (pass_of b.0, b.1)
   has_made {said = said} a b (acts, tries, ends) few loaded = record {
     acts = acts;
     said = said;
@@ -196,13 +202,39 @@ module _ {G : Type 0} (table : TableView) (becomes : G → Event → G → Type 
     few = few;
   }
 
-  pub made_untold : (r : Result Reply TryFault) (a b : PassView × G) → HasMade table becomes r a b → HasMade table untold r (a.0, tt) (b.0, tt)
-  made_untold r a b x = record {
+  tries_untold : (call : Call) (r : Result Reply TryFault) (said : Known → List Note) (a b : SeatView × G) (acts : List Act) → AreTries table becomes call r said a b acts →
+      AreTries table untold call r said (a.0, tt) (b.0, tt) acts
+  tries_untold call r said a b acts (inl once) = inl once
+  tries_untold call r said a b acts (inr two) = inr (record {
+    first = two.first;
+    between = two.between;
+    second = two.second;
+    acts_are = two.acts_are;
+    tries = two.tries;
+    round = two.round;
+    tries_again = two.tries_again;
+    refused = (two.refused.0, tt);
+    tried = ends_untold two.first ClearPin silent a two.refused two.tried;
+    full = two.full;
+    lacked = two.lacked;
+    goes_on = ends_untold (two.between ++ two.second) ClearPin said two.refused b two.goes_on;
+  })
+
+  pub made_untold : (call : Call) (r : Result Reply TryFault) (a b : PassView × G) → HasMade table becomes call r a b → HasMade table untold call r (a.0, tt) (b.0, tt)
+  made_untold call r a b x = record {
     acts = x.acts;
     said = x.said;
     begins = x.begins;
     ends = x.ends;
-    tries = x.tries;
+    tries = record {
+      before = x.tries.before;
+      rest = x.tries.rest;
+      acts_are = x.tries.acts_are;
+      tidies = x.tries.tidies;
+      tidied = (x.tries.tidied.0, tt);
+      steps = runs_untold x.tries.before (a.0.seat, a.1) x.tries.tidied x.tries.steps;
+      tries = tries_untold call r x.said x.tries.tidied (b.0.seat, b.1) x.tries.rest x.tries.tries;
+    };
     steps = all;
     sees = x.sees;
     told = subst (λ (z : PassView). IsTold untold (events_of z.number (x.acts ++ ClearPin ∷ [])) tt tt) (sym x.begins) (ends_told table untold x.acts ClearPin x.said (a.0.seat, tt) (b.0.seat, tt) all);
@@ -210,7 +242,7 @@ module _ {G : Type 0} (table : TableView) (becomes : G → Event → G → Type 
   }
     where
       all : Ends table untold x.acts ClearPin x.said (a.0.seat, tt) (b.0.seat, tt)
-      all = ((x.steps.0.0, tt), runs_untold x.acts (a.0.seat, a.1) x.steps.0 x.steps.1, step_untold ClearPin x.said x.steps.0 (b.0.seat, b.1) x.steps.2)
+      all = ends_untold x.acts ClearPin x.said (a.0.seat, a.1) (b.0.seat, b.1) x.steps
 
   -- Calls that wait
 
@@ -248,7 +280,7 @@ module _ {G : Type 0} (table : TableView) (becomes : G → Event → G → Type 
   }
     where
       all : Ends table untold x.acts x.last x.said (a.0.seat, tt) (b.0.seat, tt)
-      all = ((x.steps.0.0, tt), runs_untold x.acts (a.0.seat, a.1) x.steps.0 x.steps.1, step_untold x.last x.said x.steps.0 (b.0.seat, b.1) x.steps.2)
+      all = ends_untold x.acts x.last x.said (a.0.seat, a.1) (b.0.seat, b.1) x.steps
 
   -- a call that only read
   pub read_told : (a b : PassView × G) → HasRead table becomes a b → HasTold table becomes a b
@@ -278,28 +310,44 @@ module _ {G : Type 0} (table : TableView) (becomes : G → Event → G → Type 
   attempt_run a b (acts, steps, run) = record { acts = acts; each = steps.pinned; tried_are = refl; steps = run }
 
   -- the call is over
-  pub ended_once : {said : Known → List Note} (r : Result Reply TryFault) (a b : SeatView × G) → is_full r ≡ false → HasEnded table becomes (IsAttempt table.layout) said a b → HasEnded table becomes (AreTries table.layout r) said a b
-  ended_once r a b stands (acts, tries, ends) = (acts, inl (tries, stands), ends)
+  pub ended_once : {said : Known → List Note} (call : Call) (r : Result Reply TryFault) (a b : SeatView × G) → is_full r ≡ false → HasEnded table becomes (IsAttempt table.layout) said a b →
+      HasEnded table becomes (AreTries table becomes call r said a b) said a b
+  ended_once call r a b stands (acts, tries, ends) = (acts, inl (tries, stands), ends)
 
-  -- or it was not noted; and there follow a round of collection and an attempt more
-  pub ended_again : {said : Known → List Note} {nodes leaves : ℕ} (r : Result Reply TryFault) (a b c d : SeatView × G) → HasEnded table becomes (IsAttempt table.layout) silent a b → IsRound table becomes b c nodes leaves →
-      HasEnded table becomes (IsAttempt table.layout) said c d → HasEnded table becomes (AreTries table.layout r) said a d
-  ended_again r a b c d (acts, tries, (m, steps, last)) round (more, tries_again, (n, rest, end)) =
-      let between = LoadEpoch round.epoch ∷ advance_steps round.epoch round.found ++ LoadEpoch round.next ∷ round.pins ++ round.nodes ++ round.leaves in (
+  -- or it was refused as full; and there follow a round of collection and an attempt more
+  pub ended_again : {said : Known → List Note} {nodes leaves : ℕ} (call : Call) (r : Result Reply TryFault) (full : Full) (a b c d : SeatView × G) → HasEnded table becomes (IsAttempt table.layout) silent a b →
+      IsRefused table.layout call (pass_of a.0) (pass_of b.0) (fault_of full) → IsRound table becomes b c nodes leaves → HasEnded table becomes (IsAttempt table.layout) said c d →
+      HasEnded table becomes (AreTries table becomes call r said a d) said a d
+  ended_again call r full a b c d (acts, tries, (m, steps, last)) lacked round (more, tries_again, (n, rest, end)) =
+      let between = LoadEpoch round.epoch ∷ advance_steps round.epoch round.found ++ LoadEpoch round.next ∷ round.pins ++ round.nodes ++ round.leaves in
+      let later = runs_append table becomes between more b c n round.does.steps rest in (
         acts ++ (ClearPin ∷ between ++ more),
-        inr (record { first = acts; between = between; second = more; acts_are = refl; tries = tries; round = round_steps_of round; tries_again = tries_again }),
-        (n, runs_append table becomes acts (ClearPin ∷ between ++ more) a m n steps (b, last, runs_append table becomes between more b c n round.does.steps rest), end),
+        inr (record {
+          first = acts;
+          between = between;
+          second = more;
+          acts_are = refl;
+          tries = tries;
+          round = round_steps_of round;
+          tries_again = tries_again;
+          refused = b;
+          tried = (m, steps, last);
+          full = full;
+          lacked = lacked;
+          goes_on = (n, later, end);
+        }),
+        (n, runs_append table becomes acts (ClearPin ∷ between ++ more) a m n steps (b, last, later), end),
       )
 
   -- before them, a small round or nothing
-  pub ended_tidied : {said : Known → List Note} {r : Result Reply TryFault} (a b c : SeatView × G) → Tidies table becomes a b → HasEnded table becomes (AreTries table.layout r) said b c →
-      HasEnded table becomes (AreAttempts table.layout r) said a c
+  pub ended_tidied : {said : Known → List Note} {call : Call} {r : Result Reply TryFault} (a b c : SeatView × G) → Tidies table becomes a b → HasEnded table becomes (AreTries table becomes call r said b c) said b c →
+      HasEnded table becomes (AreAttempts table becomes call r said a c) said a c
   ended_tidied {said = said} a b c (inl none) (acts, tries, ends) =
-      (acts, record { before = []; rest = acts; acts_are = refl; tidies = inl refl; tries = tries }, subst (λ (z : SeatView × G). Ends table becomes acts ClearPin said z c) none ends)
+      (acts, record { before = []; rest = acts; acts_are = refl; tidies = inl refl; tidied = b; steps = none; tries = tries }, subst (λ (z : SeatView × G). Ends table becomes acts ClearPin said z c) none ends)
   ended_tidied a b c (inr small) (acts, tries, (m, run, end)) =
       let before = LoadEpoch small.epoch ∷ advance_steps small.epoch small.found ++ LoadEpoch small.next ∷ small.pins ++ small.visits in (
         before ++ acts,
-        record { before = before; rest = acts; acts_are = refl; tidies = inr (small_steps_of small); tries = tries },
+        record { before = before; rest = acts; acts_are = refl; tidies = inr (small_steps_of small); tidied = b; steps = small.does.steps; tries = tries },
         (m, runs_append table becomes before acts a b m small.does.steps run, end),
       )
 

@@ -51,7 +51,7 @@ use Rattle.seat_calls.specs.Calls.{IsAwaited, IsAwaitedWith, IsTriedWith, MakesS
 use Rattle.seat_calls.specs.Counts.{once_steps, try_steps, twice_steps}
 use Rattle.seat_calls.specs.Noting.{change_notes, place_by}
 use Rattle.seat_calls.specs.Passes.{IsSettled, Owns, PassView, pass_of}
-use Rattle.seat_calls.specs.Traces.{AreAttempts, AreTries, HasMade, HasStepped, HasTold, IsAttempt, Tidies, is_full, untold}
+use Rattle.seat_calls.specs.Traces.{AreAttempts, AreTries, HasMade, HasStepped, HasTold, IsOneAttempt, Tidies, is_full, untold}
 use Rattle.seat_calls.proofs.Noting.{HasGoneOn, HasLooked, WasRight, event_makers, found_had, goes_on, legal_front, longer, noted, settles, note_of}
 use Rattle.seat_calls.proofs.Conflicts.{conflict_from_before, overtaken}
 use Rattle.seat_calls.proofs.Collected.{round_unnoted, small_few, small_later, small_unnoted}
@@ -224,13 +224,13 @@ module _ {G : Type 0} {table : TableView} {becomes : G → Event → G → Type 
 
 -- an attempt whose answer stands
 pub once_asked : {G : Type 0} {table : TableView} {becomes : G → Event → G → Type 0} {a b : SeatView × G} (call : Call) (r : Result Reply TryFault) → is_full r ≡ false →
-    HasAsked table becomes (IsAttempt table.layout) (once_steps table.layout) call r a b → HasAsked table becomes (AreTries table.layout r) (twice_steps table.layout) call r a b
-once_asked {table = table} {becomes = becomes} {a = a} {b = b} call r stands once = record { replied = once.replied; ended = ended_once table becomes r a b stands once.ended; later = once.later; few = omega (arith, once.few) }
+    HasAsked table becomes (IsOneAttempt table) (once_steps table.layout) call r a b → HasAsked table becomes (AreTries table becomes call r) (twice_steps table.layout) call r a b
+once_asked {table = table} {becomes = becomes} {a = a} {b = b} call r stands once = record { replied = once.replied; ended = ended_once table becomes call r a b stands once.ended; later = once.later; few = omega (arith, once.few) }
 
 -- a small round or nothing, and then the tries
 module _ {G : Type 0} {table : TableView} {becomes : G → Event → G → Type 0} (a b c : SeatView × G) (call : Call) (r : Result Reply TryFault) (settled : IsSettled a.0.known)
-    (asked : HasAsked table becomes (AreTries table.layout r) (twice_steps table.layout) call r b c) where
-  pub tidied_asked : Tidies table becomes a b → HasAsked table becomes (AreAttempts table.layout r) (try_steps table.layout) call r a c
+    (asked : HasAsked table becomes (AreTries table becomes call r) (twice_steps table.layout) call r b c) where
+  pub tidied_asked : Tidies table becomes a b → HasAsked table becomes (AreAttempts table becomes call r) (try_steps table.layout) call r a c
   tidied_asked (inl none) =
       let seats : b.0 ≡ a.0 = ap (λ (z : SeatView × G). z.0) none in
       record {
@@ -410,7 +410,7 @@ waited_leafless (RemoveIf key expected) r h = λ is. h (ap last_try is)
 
 -- nobody need be told
 pub tried_untold : {G : Type 0} {call : Call} {r : Result Reply TryFault} {index : TableView} {becomes : G → Event → G → Type 0} {a b : PassView × G} → IsTriedWith call r index becomes a b → IsTriedWith call r index untold (a.0, tt) (b.0, tt)
-tried_untold x = record { own = x.own; call = x.call; made = made_untold _ _ _ _ _ x.made; leafless = x.leafless }
+tried_untold x = record { own = x.own; call = x.call; made = made_untold _ _ _ _ _ _ x.made; leafless = x.leafless }
 
 -- a call that is no get is refused where it may be
 may : (call : Call) (fault : TryFault) → ((key : Key) → call ≢ Get key) → IsLeafless FullLeaves call (Err fault) → MayRefuse call fault
@@ -461,7 +461,7 @@ waited_lacks call (Err full) change h = waits_lack call full change h
 
 -- and its steps are a change's
 pub makes_steps : {G : Type 0} (call : Call) (r : Result Reply TryFault) (index : TableView) (becomes : G → Event → G → Type 0) (a b : PassView × G) → ((key : Key) → call ≢ Get key) →
-    HasMade index becomes r a b → MakesStepsWith call r index becomes a b
+    HasMade index becomes call r a b → MakesStepsWith call r index becomes a b
 makes_steps (Insert key value) r index becomes a b change made = made
 makes_steps (Upsert key value) r index becomes a b change made = made
 makes_steps (Exchange key expected value) r index becomes a b change made = made
@@ -473,11 +473,11 @@ makes_steps (RemoveIf key expected) r index becomes a b change made = made
 pub steps_untold : {G : Type 0} (call : Call) (r : Result Reply TryFault) (index : TableView) (becomes : G → Event → G → Type 0) (a b : PassView × G) → MakesStepsWith call r index becomes a b →
     MakesSteps call r index a.0 b.0
 steps_untold (Get key) r index becomes a b made = got_untold index becomes a b made
-steps_untold (Insert key value) r index becomes a b made = made_untold index becomes r a b made
-steps_untold (Upsert key value) r index becomes a b made = made_untold index becomes r a b made
-steps_untold (Exchange key expected value) r index becomes a b made = made_untold index becomes r a b made
-steps_untold (Remove key) r index becomes a b made = made_untold index becomes r a b made
-steps_untold (RemoveIf key expected) r index becomes a b made = made_untold index becomes r a b made
+steps_untold (Insert key value) r index becomes a b made = made_untold index becomes (Insert key value) r a b made
+steps_untold (Upsert key value) r index becomes a b made = made_untold index becomes (Upsert key value) r a b made
+steps_untold (Exchange key expected value) r index becomes a b made = made_untold index becomes (Exchange key expected value) r a b made
+steps_untold (Remove key) r index becomes a b made = made_untold index becomes (Remove key) r a b made
+steps_untold (RemoveIf key expected) r index becomes a b made = made_untold index becomes (RemoveIf key expected) r a b made
 
 -- A call on the seat of a pass of an index, as the index and the pass see it.
 module _ {table index : TableView} {k : PassView} {s t : SeatView} {call : Call} (index_is : table ≡ index) (pass_is : pass_of s ≡ k) where
@@ -497,12 +497,12 @@ module _ {table index : TableView} {k : PassView} {s t : SeatView} {call : Call}
   waited_call (Ok reply) h = replied_call (Ok reply) h
   waited_call (Err full) h = replied_call (Err (fault_of full)) h
 
-  pub tried_seen : {G : Type 0} {becomes : G → Event → G → Type 0} {g h : G} {r : Result Reply TryFault} → HasAsked table becomes (AreAttempts table.layout r) (try_steps table.layout) call r (s, g) (t, h) →
+  pub tried_seen : {G : Type 0} {becomes : G → Event → G → Type 0} {g h : G} {r : Result Reply TryFault} → HasAsked table becomes (AreAttempts table becomes call r) (try_steps table.layout) call r (s, g) (t, h) →
       IsTriedWith call r index becomes (k, g) (pass_of t, h)
   tried_seen {becomes = becomes} {g = g} {h = h} {r = r} asked = record {
     own = replied_own asked.replied;
     call = replied_call r asked.replied;
-    made = subst (λ (x : TableView × PassView). HasMade x.0 becomes r (x.1, g) (pass_of t, h)) (λ e. (index_is e, pass_is e)) (has_made table becomes (s, g) (t, h) asked.ended asked.few asked.replied.loaded);
+    made = subst (λ (x : TableView × PassView). HasMade x.0 becomes call r (x.1, g) (pass_of t, h)) (λ e. (index_is e, pass_is e)) (has_made table becomes (s, g) (t, h) asked.ended asked.few asked.replied.loaded);
     leafless = asked.replied.leafless;
   }
 

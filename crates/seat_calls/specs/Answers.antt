@@ -116,7 +116,7 @@ pub record IsOvertaken (layout : Layout) (k j : PassView) : Type 0 where
   pub below : change.pass < layout.passes
 
 -- Another pass of the index stood in the way: a lock of this call found what it wanted to lock locked or retired by it, or a change of
--- it was made since the call's last pin.
+-- it was made since the pin under which the call loaded the root last.
 pub record HasConflict (layout : Layout) (k j : PassView) : Type 0 where
   pub pass : j.number < layout.passes
   pub met : HasMetTaken layout j.number k.steps j.failed ⊎ IsOvertaken layout k j

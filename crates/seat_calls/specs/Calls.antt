@@ -24,7 +24,7 @@ pub record IsTriedWith {G : Type 0} (asked : Call) (result : Result Reply TryFau
     (a b : PassView × G) : Type 0 where
   pub own : Owns index b.0
   pub call : MatchResult result (IsNoted index.layout a.0 b.0 asked) (IsRefused index.layout asked a.0 b.0)
-  pub made : HasMade index becomes result a b
+  pub made : HasMade index becomes asked result a b
   pub leafless : IsLeafless FullLeaves asked result
 
 -- a change that doesn't wait, with no gate
@@ -34,7 +34,7 @@ IsTried asked result index k j = IsTriedWith asked result index untold (k, tt) (
 -- The steps of a call with this outcome, so many at most, of which the gate was told: those of a get, or of a change's attempts and rounds.
 abbrev pub MakesStepsWith : {G : Type 0} → Call → Result Reply TryFault → TableView → (G → Event → G → Type 0) → PassView × G → PassView × G → Type 0
 MakesStepsWith (Get key) result index becomes a b = HasGot index becomes a b
-MakesStepsWith asked result index becomes a b = HasMade index becomes result a b
+MakesStepsWith asked result index becomes a b = HasMade index becomes asked result a b
 
 abbrev pub MakesSteps : Call → Result Reply TryFault → TableView → PassView → PassView → Type 0
 MakesSteps asked result index k j = MakesStepsWith asked result index untold (k, tt) (j, tt)

@@ -1,6 +1,7 @@
 -- What a call does, step by step, and what its gate is told.
 use Rattle.std.specs.Prelude.{◌≡◌, ◌⊎◌, ◌+◌, ◌*◌, ◌≤◌, ℕ, All, List, [], ◌∷◌, ◌++◌, length, Bool, true, false, Result, Ok, Err}
 use Rattle.key_bits.specs.declared.TheConstants.{MAX_BYTES}
+use Rattle.finite_map.specs.declared.Call.{Call}
 use Rattle.finite_map.specs.declared.Note.{Note}
 use Rattle.finite_map.specs.declared.Reply.{Reply}
 use Rattle.record_words.specs.declared.layout.Layout.{Layout}
@@ -12,7 +13,7 @@ use Rattle.rowex_core.specs.declared.event.Event.{Event}
 use Rattle.rowex_core.specs.declared.event.Spot.TheVariants.{Root}
 use Rattle.rowex_core.specs.declared.known.Known.{Known}
 use Rattle.rowex_core.specs.Knowing.{SeesAllAtRoot}
-use Rattle.rowex_table.specs.Runs.{Ends, InTurn, IsTold, events_of}
+use Rattle.rowex_table.specs.Runs.{Ends, InTurn, IsTold, Runs, events_of, silent}
 use Rattle.rowex_table.specs.Seats.{TableView, SeatView}
 use Rattle.rowex_reading.specs.Reads.{IsBelowRoot, entries_in}
 use Rattle.rowex_scanning.specs.Counts.{scan_entries}
@@ -21,6 +22,8 @@ use Rattle.epochs.specs.declared.limbo.TheConstants.{MOST_VISITED}
 use Rattle.rowex_writing.specs.Attempts.{AreAttemptSteps}
 use Rattle.rowex_writing.specs.declared.attempts.TryFault.{TryFault}
 use Rattle.rowex_writing.specs.declared.attempts.TryFault.TheVariants.{Busy, FullNodes, FullLeaves}
+use Rattle.rowex_writing.specs.declared.plan.Full.{Full}
+use Rattle.seat_calls.specs.Answers.{IsRefused, fault_of}
 use Rattle.seat_calls.specs.Counts.{round_steps, try_steps}
 use Rattle.seat_calls.specs.Passes.{PassView, pass_of}
 
@@ -97,15 +100,26 @@ pub record AreSmallSteps (layout : Layout) (acts : List Act) : Type 0 where
   pub visits_each : VisitEach bound recs visits
   pub few : length recs ≤ MOST_VISITED
 
--- Two attempts, and a round of collection between them.
-pub record AreTwoAttempts (layout : Layout) (acts : List Act) : Type 0 where
+-- on a seat: one attempt
+abbrev pub IsOneAttempt : {G : Type 0} → TableView → (Known → List Note) → SeatView × G → SeatView × G → List Act → Type 0
+IsOneAttempt table said a b acts = IsAttempt table.layout acts
+
+-- On a seat: two attempts, and a round of collection between them. When the first had ended, the call was refused as full by it alone; and
+-- from there the other steps lead on.
+pub record AreTwoAttempts {G : Type 0} (table : TableView) (becomes : G → Event → G → Type 0) (call : Call) (said : Known → List Note)
+    (a b : SeatView × G) (acts : List Act) : Type 0 where
   pub first : List Act
   pub between : List Act
   pub second : List Act
   pub acts_are : acts ≡ first ++ (ClearPin ∷ between ++ second)
-  pub tries : IsAttempt layout first
-  pub round : AreRoundSteps layout between
-  pub tries_again : IsAttempt layout second
+  pub tries : IsAttempt table.layout first
+  pub round : AreRoundSteps table.layout between
+  pub tries_again : IsAttempt table.layout second
+  pub refused : SeatView × G
+  pub tried : Ends table becomes first ClearPin silent a refused
+  pub full : Full
+  pub lacked : IsRefused table.layout call (pass_of a.0) (pass_of refused.0) (fault_of full)
+  pub goes_on : Ends table becomes (between ++ second) ClearPin said refused b
 
 -- whether the call was refused as full
 abbrev pub is_full : Result Reply TryFault → Bool
@@ -114,17 +128,21 @@ is_full (Err Busy) = false
 is_full (Err FullNodes) = true
 is_full (Err FullLeaves) = true
 
--- One attempt, whose answer stands unless it is full; or two, with a round between them.
-abbrev pub AreTries : Layout → Result Reply TryFault → List Act → Type 0
-AreTries layout result acts = (IsAttempt layout acts × (is_full result ≡ false)) ⊎ AreTwoAttempts layout acts
+-- On a seat: one attempt, whose answer stands unless it is full; or two, with a round between them, where the first was full.
+abbrev pub AreTries : {G : Type 0} → TableView → (G → Event → G → Type 0) → Call → Result Reply TryFault → (Known → List Note) → SeatView × G → SeatView × G →
+    List Act → Type 0
+AreTries table becomes call result said a b acts = (IsAttempt table.layout acts × (is_full result ≡ false)) ⊎ AreTwoAttempts table becomes call said a b acts
 
--- These tries, and before them a small round or nothing.
-pub record AreAttempts (layout : Layout) (result : Result Reply TryFault) (acts : List Act) : Type 0 where
+-- On a seat: these tries, and before them a small round or nothing.
+pub record AreAttempts {G : Type 0} (table : TableView) (becomes : G → Event → G → Type 0) (call : Call) (result : Result Reply TryFault)
+    (said : Known → List Note) (a b : SeatView × G) (acts : List Act) : Type 0 where
   pub before : List Act
   pub rest : List Act
   pub acts_are : acts ≡ before ++ rest
-  pub tidies : (before ≡ []) ⊎ AreSmallSteps layout before
-  pub tries : AreTries layout result rest
+  pub tidies : (before ≡ []) ⊎ AreSmallSteps table.layout before
+  pub tidied : SeatView × G
+  pub steps : Runs table becomes before a tidied
+  pub tries : AreTries table becomes call result said tidied b rest
 
 -- On a seat: the pass makes a small round, or no step.
 abbrev pub Tidies : {G : Type 0} → TableView → (G → Event → G → Type 0) → SeatView × G → SeatView × G → Type 0
@@ -135,16 +153,17 @@ abbrev pub HasEnded : {G : Type 0} → TableView → (G → Event → G → Type
 HasEnded table becomes Are said a b = (acts : List Act) × Are acts × Ends table becomes acts ClearPin said a b
 
 -- The call makes one attempt, or two with a round of collection between them, and a small round or nothing before; it makes no other
--- step, from the seat that the pass has before to the one that it has after. An attempt tries each lock once at most, and the answer of a
--- first one that is full doesn't stand. The last step clears the pin, and with it come the call's notes. The gate is told each of the
+-- step, from the seat that the pass has before to the one that it has after. An attempt tries each lock once at most. A second one follows
+-- a first that was full, and no other. The last step clears the pin, and with it come the call's notes. The gate is told each of the
 -- steps, in order, and nothing else. So many they are at most. Answered or refused, its last load of the root has shown the pass all that
 -- any pass had seen by then.
-pub record HasMade {G : Type 0} (index : TableView) (becomes : G → Event → G → Type 0) (result : Result Reply TryFault) (a b : PassView × G) : Type 0 where
+pub record HasMade {G : Type 0} (index : TableView) (becomes : G → Event → G → Type 0) (call : Call) (result : Result Reply TryFault)
+    (a b : PassView × G) : Type 0 where
   pub acts : List Act
   pub said : Known → List Note
   pub begins : a.0 ≡ pass_of a.0.seat
   pub ends : b.0 ≡ pass_of b.0.seat
-  pub tries : AreAttempts index.layout result acts
+  pub tries : AreAttempts index becomes call result said (a.0.seat, a.1) (b.0.seat, b.1) acts
   pub steps : Ends index becomes acts ClearPin said (a.0.seat, a.1) (b.0.seat, b.1)
   pub sees : SeesAllAtRoot index.layout a.0.seat.known b.0.seat.known
   pub told : IsTold becomes (events_of a.0.number (acts ++ ClearPin ∷ [])) a.1 b.1

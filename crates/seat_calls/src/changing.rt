@@ -10,7 +10,7 @@ ghost use Rattle.seat_calls.specs.Answers.{fault_of};
 ghost use Rattle.seat_calls.specs.Asked.{HasAsked, HasReplied, HasRested, IsIdle, last_try};
 ghost use Rattle.seat_calls.specs.Counts.{once_steps, try_steps, twice_steps};
 ghost use Rattle.seat_calls.specs.Noting.{change_notes};
-ghost use Rattle.seat_calls.specs.Traces.{AreAttempts, AreTries, HasStepped, IsAttempt, Tidies, is_full};
+ghost use Rattle.seat_calls.specs.Traces.{AreAttempts, AreTries, HasStepped, IsOneAttempt, Tidies, is_full};
 
 use crate::room::Room;
 use epochs::{Given, collect_round, collect_small, pin, unpin};
@@ -30,7 +30,7 @@ pub fn try_change<G: Gate>(
     call: &Call,
 ) -> Result<Reply, TryFault>
     requires idle { IsIdle table.now seat.old }
-    ensures asked { HasAsked table.now G.becomes (AreAttempts table.now.layout result) (try_steps table.now.layout) call.now result (seat.old, gate.old) (seat.new, gate.new) }
+    ensures asked { HasAsked table.now G.becomes (AreAttempts table.now G.becomes call.now result) (try_steps table.now.layout) call.now result (seat.old, gate.old) (seat.new, gate.new) }
 {
     tidy(table, seat, gate, room);
     try_twice(table, seat, gate, room, call)
@@ -59,7 +59,7 @@ fn try_twice<G: Gate>(
     call: &Call,
 ) -> Result<Reply, TryFault>
     requires idle { IsIdle table.now seat.old }
-    ensures asked { HasAsked table.now G.becomes (AreTries table.now.layout result) (twice_steps table.now.layout) call.now result (seat.old, gate.old) (seat.new, gate.new) }
+    ensures asked { HasAsked table.now G.becomes (AreTries table.now G.becomes call.now result) (twice_steps table.now.layout) call.now result (seat.old, gate.old) (seat.new, gate.new) }
 {
     let first = try_once(table, seat, gate, room, call);
     let Some(lacks) = lacked(first) else {
@@ -164,7 +164,7 @@ fn try_once<G: Gate>(
     call: &Call,
 ) -> Result<Reply, TryFault>
     requires idle { IsIdle table.now seat.old }
-    ensures asked { HasAsked table.now G.becomes (IsAttempt table.now.layout) (once_steps table.now.layout) call.now result (seat.old, gate.old) (seat.new, gate.new) }
+    ensures asked { HasAsked table.now G.becomes (IsOneAttempt table.now) (once_steps table.now.layout) call.now result (seat.old, gate.old) (seat.new, gate.new) }
 {
     pin(table, seat, gate);
     let outcome = attempt(table, seat, gate, &mut room.way, &mut room.build, call);

@@ -8,7 +8,7 @@ use Rattle.rowex_writing.specs.declared.attempts.TryFault.{TryFault}
 use Rattle.seat_calls.specs.Answers.{fault_of}
 use Rattle.seat_calls.specs.Asked.{HasAsked}
 use Rattle.seat_calls.specs.Counts.{once_steps, twice_steps}
-use Rattle.seat_calls.specs.Traces.{AreTries, IsAttempt}
+use Rattle.seat_calls.specs.Traces.{AreTries, IsOneAttempt}
 use Rattle.seat_calls.specs.Passes.{pass_of}
 use Rattle.seat_calls.proofs.Collected.{does_idle, round_few}
 use Rattle.seat_calls.proofs.Resting.{cause_still, lacked_full}
@@ -38,7 +38,7 @@ returns-then-has_room g c =
     let table = c.args.table.now in
     let call = c.args.call.now in
     let k = pass_of c.args.seat.now in
-    let first = subst (λ (z : Result Reply TryFault). HasAsked table g.G.Gate.becomes (IsAttempt table.layout) (once_steps table.layout) call z (c.args.seat.now, c.args.gate.now) (c.try_once-first.new.seat, c.try_once-first.new.gate)) c.in-Some.ensures.some c.try_once-first.ensures.asked in
+    let first = subst (λ (z : Result Reply TryFault). HasAsked table g.G.Gate.becomes (IsOneAttempt table) (once_steps table.layout) call z (c.args.seat.now, c.args.gate.now) (c.try_once-first.new.seat, c.try_once-first.new.gate)) c.in-Some.ensures.some c.try_once-first.ensures.asked in
     let round = c.collect_round-round.ensures.round in
     let again = c.try_once.ensures.asked in
     let unnoted = first.replied.refused.unnoted in
@@ -47,7 +47,7 @@ returns-then-has_room g c =
     record {
       asked = record {
         replied = record { idle = again.replied.idle; noted = both.0; refused = both.1; leafless = again.replied.leafless; loaded = le_trans later again.replied.loaded };
-        ended = ended_again table g.G.Gate.becomes c.try_once.result (c.args.seat.now, c.args.gate.now) (c.try_once-first.new.seat, c.try_once-first.new.gate) (c.collect_round-round.new.seat, c.collect_round-round.new.gate) _ first.ended round again.ended;
+        ended = ended_again table g.G.Gate.becomes call c.try_once.result c.in-Some.lacks (c.args.seat.now, c.args.gate.now) (c.try_once-first.new.seat, c.try_once-first.new.gate) (c.collect_round-round.new.seat, c.collect_round-round.new.gate) _ first.ended first.replied.refused round again.ended;
         later = le_trans later again.later;
         few = (let count = round_few round in omega (arith, first.few, count, again.few));
       };
@@ -59,14 +59,14 @@ returns g c =
     let call = c.args.call.now in
     let k = pass_of c.args.seat.now in
     let fault = fault_of c.in-Some.lacks in
-    let first = subst (λ (z : Result Reply TryFault). HasAsked table g.G.Gate.becomes (IsAttempt table.layout) (once_steps table.layout) call z (c.args.seat.now, c.args.gate.now) (c.try_once-first.new.seat, c.try_once-first.new.gate)) c.in-Some.ensures.some c.try_once-first.ensures.asked in
+    let first = subst (λ (z : Result Reply TryFault). HasAsked table g.G.Gate.becomes (IsOneAttempt table) (once_steps table.layout) call z (c.args.seat.now, c.args.gate.now) (c.try_once-first.new.seat, c.try_once-first.new.gate)) c.in-Some.ensures.some c.try_once-first.ensures.asked in
     let round = c.collect_round-round.ensures.round in
     let again = c.refuse_again.ensures.rested in
     let unnoted = first.replied.refused.unnoted in
     let later = round_later k (c.try_once-first.new.seat, c.try_once-first.new.gate) (c.collect_round-round.new.seat, c.collect_round-round.new.gate) unnoted first.later first.replied.idle.1 round in
     let collected = then_collected k (c.try_once-first.new.seat, c.try_once-first.new.gate) (c.collect_round-round.new.seat, c.collect_round-round.new.gate) unnoted first.later first.replied.idle.1 round in
     let cause = cause_still (key_of call) k (c.try_once-first.new.seat, c.try_once-first.new.gate) (c.collect_round-round.new.seat, c.collect_round-round.new.gate) (c.refuse_again.new.seat, c.refuse_again.new.gate) round again.failed fault (lacked_full c.in-Some.lacks) first.replied.refused.cause in
-    let whole : HasAsked table g.G.Gate.becomes (AreTries table.layout (Err fault)) (twice_steps table.layout) call (Err fault) (c.args.seat.now, c.args.gate.now) (c.refuse_again.new.seat, c.refuse_again.new.gate) = record {
+    let whole : HasAsked table g.G.Gate.becomes (AreTries table g.G.Gate.becomes call (Err fault)) (twice_steps table.layout) call (Err fault) (c.args.seat.now, c.args.gate.now) (c.refuse_again.new.seat, c.refuse_again.new.gate) = record {
       replied = record {
         idle = again.idle;
         noted = tt;
@@ -74,8 +74,8 @@ returns g c =
         leafless = first.replied.leafless;
         loaded = subst (λ (z : Fresh). c.args.seat.now.known.steps ≤ z.step) (sym (again.fresh ∙ ap (λ (z : Known). z.fresh) round.does.rest)) first.replied.loaded;
       };
-      ended = ended_again table g.G.Gate.becomes (Err fault) (c.args.seat.now, c.args.gate.now) (c.try_once-first.new.seat, c.try_once-first.new.gate) (c.collect_round-round.new.seat, c.collect_round-round.new.gate) _ first.ended round again.ended;
+      ended = ended_again table g.G.Gate.becomes call (Err fault) c.in-Some.lacks (c.args.seat.now, c.args.gate.now) (c.try_once-first.new.seat, c.try_once-first.new.gate) (c.collect_round-round.new.seat, c.collect_round-round.new.gate) _ first.ended first.replied.refused round again.ended;
       later = omega (arith, later, again.steps);
       few = (let count = round_few round in omega (arith, first.few, count, again.steps));
     } in
-    record { asked = subst (λ (z : Result Reply TryFault). HasAsked table g.G.Gate.becomes (AreTries table.layout z) (twice_steps table.layout) call z (c.args.seat.now, c.args.gate.now) (c.refuse_again.new.seat, c.refuse_again.new.gate)) (sym c.in-Some.ensures.some) whole }
+    record { asked = subst (λ (z : Result Reply TryFault). HasAsked table g.G.Gate.becomes (AreTries table g.G.Gate.becomes call z) (twice_steps table.layout) call z (c.args.seat.now, c.args.gate.now) (c.refuse_again.new.seat, c.refuse_again.new.gate)) (sym c.in-Some.ensures.some) whole }

@@ -71,3 +71,9 @@ returns-clause-refused c = λ rest is. tt
 
 pub returns-clause-memory : goal.returns-clause-memory
 returns-clause-memory c = λ rest is. tt
+
+pub returns-in_err-more-clause-read : goal.returns-in_err-more-clause-read
+returns-in_err-more-clause-read c = λ rest is. c.scan_into.ensures.read
+
+pub returns-clause-read : goal.returns-clause-read
+returns-clause-read c = λ rest is. c.scan_into.ensures.read
