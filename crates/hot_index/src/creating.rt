@@ -6,12 +6,12 @@ ghost use lib.ListN.{get_elem?};
 ghost use Rattle.record_words.specs.Layout.{HasStock, leaves_of};
 ghost use Rattle.record_words.specs.Limits.{IsPassCount, IsStockPassCount, IsNodeCount, IsLeafCount, IsRecordCount};
 ghost use Rattle.rowex_table.specs.Seats.{IsNewSeatOf, SeatView};
-ghost use Rattle.seat_calls.specs.Passes.{PassView, Owns, IsNewPass, IsSettled, pass_of};
+ghost use Rattle.seat_calls.specs.Passes.{PassView, Owns, IsNewPass};
 
+use crate::closed::ClosedPass;
 use crate::index::{Index, Pass};
 use record_words::{Layout, LayoutFault, Stock};
 use rowex_table::{HotTable, TableSeat};
-use seat_calls::new_room;
 use std::alloc::{AllocError, Global};
 use thiserror::Error;
 
@@ -45,7 +45,7 @@ pub fn create(
     ensures leaves { (result ≡ Err (IndexFault.Layout LayoutFault.Leaves)) ↔ (IsPassCount passes × IsNodeCount nodes × ¬ IsLeafCount leaves) }
     ensures memory { result ≡ Err IndexFault.Memory → IsPassCount passes × IsNodeCount nodes × IsLeafCount leaves }
 {
-    made_of(alloc, Layout::of(passes, nodes, leaves))
+    opened_of(alloc, Layout::of(passes, nodes, leaves))
 }
 
 /// Makes an empty index with this number of passes (1 to 1,024) and this stock of records. A stock has 1 to 4,294,967,295 node
@@ -65,14 +65,63 @@ pub fn create_with(
     ensures leaves { (result ≡ Err (IndexFault.Layout LayoutFault.Leaves)) ↔ (IsStockPassCount passes × IsRecordCount stock.nodes × ¬ IsRecordCount (leaves_of stock)) }
     ensures memory { result ≡ Err IndexFault.Memory → IsStockPassCount passes × IsRecordCount stock.nodes × IsRecordCount (leaves_of stock) }
 {
+    opened_of(alloc, Layout::with_stock(passes, stock))
+}
+
+/// `create_with`, whose passes are closed: each takes two bytes until it is opened.
+pub fn create_closed(
+    alloc: Global,
+    passes: u32,
+    stock: Stock,
+) -> Result<(Index, Vec<ClosedPass>), IndexFault>
+    ensures layout { IfOk result (λ made. (made.0.layout.passes ≡ passes) × HasStock made.0.layout stock) }
+    ensures count { IfOk result (λ made. length made.1.items ≡ passes) }
+    ensures each { IfOk result (λ made. (q : ℕ) (p : PassView) → slice_get made.1.items q ≡ Some p → Owns made.0 p × IsNewPass q p) }
+    ensures passes { (result ≡ Err (IndexFault.Layout LayoutFault.Passes)) ↔ ¬ IsStockPassCount passes }
+    ensures nodes { (result ≡ Err (IndexFault.Layout LayoutFault.Nodes)) ↔ (IsStockPassCount passes × ¬ IsRecordCount stock.nodes) }
+    ensures leaves { (result ≡ Err (IndexFault.Layout LayoutFault.Leaves)) ↔ (IsStockPassCount passes × IsRecordCount stock.nodes × ¬ IsRecordCount (leaves_of stock)) }
+    ensures memory { result ≡ Err IndexFault.Memory → IsStockPassCount passes × IsRecordCount stock.nodes × IsRecordCount (leaves_of stock) }
+{
     made_of(alloc, Layout::with_stock(passes, stock))
+}
+
+/// The index of a layout, and its passes, opened, if the numbers that were asked for have a layout.
+fn opened_of(
+    alloc: Global,
+    found: Result<Layout, LayoutFault>,
+) -> Result<(Index, Vec<Pass>), IndexFault>
+    ensures layout { IfOk result (λ made. found ≡ Ok made.0.layout) }
+    ensures count { IfOk result (λ made. length made.1.items ≡ made.0.layout.passes) }
+    ensures each { IfOk result (λ made. (q : ℕ) (p : PassView) → slice_get made.1.items q ≡ Some p → Owns made.0 p × IsNewPass q p) }
+    ensures fault { (fault : LayoutFault) → (result ≡ Err (IndexFault.Layout fault)) ↔ (found ≡ Err fault) }
+    ensures memory { result ≡ Err IndexFault.Memory → IsOk found }
+{
+    let (index, closed) = match made_of(alloc, found) {
+        Ok(made) => made,
+        Err(fault) => return Err(fault),
+    };
+    match open_each(alloc, &index, closed) {
+        Ok(passes) => Ok((index, passes)),
+        Err(_) => Err(IndexFault::Memory),
+    }
+}
+
+/// The passes, opened for calls at this index, in their order.
+fn open_each(alloc: Global, index: &Index, closed: Vec<ClosedPass>) -> Result<Vec<Pass>, AllocError>
+    ensures { IfOk result (λ passes. passes.items ≡ closed.items) }
+{
+    let mut passes = Vec::new(alloc);
+    for pass in closed {
+        passes.push(pass.open(alloc, index)?)?;
+    }
+    Ok(passes)
 }
 
 /// The index of a layout, and its passes, if the numbers that were asked for have a layout.
 fn made_of(
     alloc: Global,
     found: Result<Layout, LayoutFault>,
-) -> Result<(Index, Vec<Pass>), IndexFault>
+) -> Result<(Index, Vec<ClosedPass>), IndexFault>
     ensures layout { IfOk result (λ made. found ≡ Ok made.0.layout) }
     ensures count { IfOk result (λ made. length made.1.items ≡ made.0.layout.passes) }
     ensures each { IfOk result (λ made. (q : ℕ) (p : PassView) → slice_get made.1.items q ≡ Some p → Owns made.0 p × IsNewPass q p) }
@@ -86,7 +135,7 @@ fn made_of(
 }
 
 /// The index of a layout, and its passes.
-fn made(alloc: Global, layout: Layout) -> Result<(Index, Vec<Pass>), AllocError>
+fn made(alloc: Global, layout: Layout) -> Result<(Index, Vec<ClosedPass>), AllocError>
     ensures layout { IfOk result (λ made. made.0.layout ≡ layout) }
     ensures count { IfOk result (λ made. length made.1.items ≡ layout.passes) }
     ensures each { IfOk result (λ made. (q : ℕ) (p : PassView) → slice_get made.1.items q ≡ Some p → Owns made.0 p × IsNewPass q p) }
@@ -101,23 +150,14 @@ fn passes_of(
     alloc: Global,
     table: &HotTable,
     seats: Vec<TableSeat>,
-) -> Result<Vec<Pass>, AllocError>
+) -> Result<Vec<ClosedPass>, AllocError>
     requires { (q : ℕ) (s : SeatView) → get_elem? seats.items q ≡ some s → IsNewSeatOf table.now q s }
     ensures count { IfOk result (λ passes. length passes.items ≡ length seats.items) }
     ensures each { IfOk result (λ passes. (q : ℕ) (p : PassView) → slice_get passes.items q ≡ Some p → Owns table.now p × IsNewPass q p) }
 {
     let mut passes = Vec::new(alloc);
     for seat in seats {
-        passes.push(new_pass(alloc, table, seat)?)?;
+        passes.push(ClosedPass { seat })?;
     }
     Ok(passes)
-}
-
-/// The pass of a seat of this table, with its own room.
-fn new_pass(alloc: Global, table: &HotTable, seat: TableSeat) -> Result<Pass, AllocError>
-    requires { IsSettled seat.known }
-    ensures { IfOk result (λ pass. pass ≡ pass_of seat) }
-{
-    let room = new_room(alloc, table.layout(), seat.number())?;
-    Ok(Pass { seat, room })
 }

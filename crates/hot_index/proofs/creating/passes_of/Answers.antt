@@ -1,5 +1,5 @@
 -- No pass yet, and one pass more.
-use Rattle.std.proofs.Common.{rules, ◌≡◌, ℕ, suc, ◌∷◌, [], ◌++◌, List, length, Some, ◌∙◌, sym, ap, subst, arith, length-append}
+use Rattle.std.proofs.Common.{rules, ◌≡◌, ℕ, suc, ◌∷◌, [], ◌++◌, List, length, Some, sym, ap, subst, arith, length-append}
 use Rattle.std.specs.List.{slice_get}
 use Rattle.std.specs.Vec.Iter.{into_iter_items}
 use Rattle.seat_calls.specs.Passes.{PassView, Owns, IsNewPass, IsSettled, pass_of}
@@ -17,8 +17,8 @@ loop-seat-init c =
       each = each_of_none (λ q (p : PassView). Owns c.args.table.now p × IsNewPass q p) _ none;
     }
 
-pub new_pass-requires : goal.new_pass-requires
-new_pass-requires c =
+pub invariant_of-push : goal.invariant_of-push
+invariant_of-push c =
     let steps : into_iter_items c.loop-seat.seat-iterator ≡ c.in-Some.seat ∷ into_iter_items c.next.new.self = c.in-Some.ensures.steps.0 in
     let first = first_of c.args.table.now _ c.in-Some.seat _ (subst (AreFrom c.args.table.now (length c.loop-seat.passes.items)) steps c.loop-seat.invariant.left) in
     subst IsSettled (sym first.1) (search rules)
@@ -29,7 +29,7 @@ loop-seat-preserved c =
     let seat = c.in-Some.seat in
     let steps : into_iter_items c.loop-seat.seat-iterator ≡ seat ∷ into_iter_items c.next.new.self = c.in-Some.ensures.steps.0 in
     let left : AreFrom table (length c.loop-seat.passes.items) (seat ∷ into_iter_items c.next.new.self) = subst (AreFrom table (length c.loop-seat.passes.items)) steps c.loop-seat.invariant.left in
-    let pushed : c.push.new.self.items ≡ c.loop-seat.passes.items ++ pass_of seat ∷ [] = ◌∙◌ {A = List PassView} c.in_ok-push.ensures.items (ap (λ (p : PassView). c.loop-seat.passes.items ++ p ∷ []) c.in_ok-new_pass.ensures) in
+    let pushed : c.push.new.self.items ≡ c.loop-seat.passes.items ++ pass_of seat ∷ [] = c.in_ok-push.ensures.items in
     let longer : suc (length c.loop-seat.passes.items) ≡ length c.push.new.self.items = let e = ap length pushed in grind (arith, length-append, e) in
     let shorter = ap length steps in
     let long = c.loop-seat.invariant.long in

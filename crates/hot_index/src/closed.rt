@@ -1,0 +1,105 @@
+//! Closed passes and handles: rights to use an index that take a few bytes, until they are opened.
+
+ghost use Rattle.std.specs.Prelude.{◌≡◌, IfErr, IfOk};
+ghost use Rattle.seat_calls.specs.Passes.{Owns};
+ghost use Rattle.hot_index.specs.Handles.{handle_at};
+
+use crate::handle::{Handle, ShowsIndex};
+use crate::index::{Index, Pass};
+use rowex_table::TableSeat;
+use seat_calls::new_room;
+use std::alloc::{AllocFailed, Global};
+use std::marker::Model;
+
+/// A pass without the buffers that its calls need, so it makes none. It takes two bytes, where an open one takes some 118 KB.
+#[derive(Drop)]
+pub struct ClosedPass {
+    pub(crate) seat: TableSeat,
+}
+
+impl Model for ClosedPass {
+    ghost use Rattle.seat_calls.specs.Passes.{PassView, IsSettled, pass_of};
+
+    ghost Value = { PassView };
+
+    ghost view = { λ p. pass_of p.seat };
+
+    ghost invariant = { λ p. IsSettled p.seat.known };
+}
+
+impl ClosedPass {
+    /// Opens the pass, for calls at this index, or gives it back where memory is refused.
+    pub fn open(self, alloc: Global, index: &Index) -> Result<Pass, AllocFailed<ClosedPass>>
+        ensures opened { IfOk result (λ pass. pass ≡ self) }
+        ensures kept { IfErr result (λ refused. refused.value ≡ self) }
+    {
+        match new_room(alloc, index.table.layout(), self.seat.number()) {
+            Ok(room) => Ok(Pass {
+                seat: self.seat,
+                room,
+            }),
+            Err(_) => Err(AllocFailed { value: self }),
+        }
+    }
+}
+
+impl Pass {
+    /// Closes the pass, whose buffers are freed. What it has seen and its calls stay known of it.
+    pub fn close(self) -> ClosedPass
+        ensures { result ≡ self }
+    {
+        ClosedPass { seat: self.seat }
+    }
+}
+
+/// A closed pass with its index, as a reference or a share.
+#[derive(Drop)]
+pub struct ClosedHandle<I: ShowsIndex> {
+    pub(crate) index: I,
+    pub(crate) pass: ClosedPass,
+}
+
+impl<I: ShowsIndex> Model for ClosedHandle<I> {
+    ghost use Rattle.hot_index.specs.Handles.{HandleView};
+    ghost use Rattle.seat_calls.specs.Passes.{Owns};
+
+    ghost Value = { HandleView };
+
+    ghost view = { λ h. record { index = I.shown h.index; pass = h.pass } };
+
+    ghost invariant = { λ h. Owns (I.shown h.index) h.pass };
+}
+
+impl<I: ShowsIndex> ClosedHandle<I> {
+    /// A closed handle of this pass.
+    pub fn new(index: I, pass: ClosedPass) -> ClosedHandle<I>
+        requires { Owns (I.shown index) pass }
+        ensures { result ≡ handle_at (I.shown index) pass }
+    {
+        ClosedHandle { index, pass }
+    }
+
+    /// Opens the handle, or gives it back where memory is refused.
+    pub fn open(self, alloc: Global) -> Result<Handle<I>, AllocFailed<ClosedHandle<I>>>
+        ensures opened { IfOk result (λ handle. handle ≡ self) }
+        ensures kept { IfErr result (λ refused. refused.value ≡ self) }
+    {
+        let ClosedHandle { index, pass } = self;
+        match pass.open(alloc, index.show()) {
+            Ok(pass) => Ok(Handle::new(index, pass)),
+            Err(refused) => Err(AllocFailed {
+                value: ClosedHandle::new(index, refused.value),
+            }),
+        }
+    }
+}
+
+impl<I: ShowsIndex> Handle<I> {
+    /// Closes the handle, whose pass's buffers are freed.
+    pub fn close(self) -> ClosedHandle<I>
+        ensures { result ≡ self }
+    {
+        let Handle { index, pass } = self;
+        ClosedHandle::new(index, pass.close())
+    }
+}

@@ -1,0 +1,56 @@
+//! How many keys a map has that passes share: by a count for each pass, which its own calls keep, and no other pass writes.
+#![tactic(auto)]
+
+ghost use Rattle.std.specs.Prelude.{◌≡◌, ◌<◌, ◌^◌, ◌++◌, ◌∷◌, [], ℕ, List, length};
+ghost use Rattle.finite_map.specs.declared.Call.{Call};
+ghost use Rattle.finite_map.specs.declared.Change.{Change};
+ghost use Rattle.finite_map.specs.declared.Note.{Note};
+ghost use Rattle.finite_map.specs.Fronts.{map_of};
+ghost use Rattle.key_counts.specs.Counts.{AreCounts, MayReply, IsCountOf, net_of};
+
+use finite_map::Reply;
+
+/// How many keys the calls of a pass have put in, less how many they have taken out, modulo 2^64.
+#[derive(Clone, Copy)]
+pub struct KeyCount {
+    pub keys: u64,
+}
+
+impl KeyCount {
+    /// The count of a pass that has made no call.
+    pub fn new() -> KeyCount
+        ensures { (q : ℕ) → IsCountOf q [] result }
+    {
+        KeyCount { keys: 0 }
+    }
+
+    /// Counts a call of the pass that was answered with this reply.
+    pub fn note(&mut self, reply: Reply)
+        ensures { (q place : ℕ) (notes : List Note) (call : Call) → MayReply call reply → IsCountOf q notes self.old →
+            IsCountOf q (notes ++ record { place = place; call = call; reply = reply } ∷ []) self.new }
+    {
+        self.keys = self.keys.wrapping_add(net(reply));
+    }
+}
+
+/// How many keys a call with this reply has put in, less how many it has taken out, modulo 2^64.
+fn net(reply: Reply) -> u64
+    ensures { result ≡ net_of reply }
+{
+    match reply {
+        Reply::Inserted | Reply::New => 1,
+        Reply::Removed(_) => u64::MAX,
+        _ => 0,
+    }
+}
+
+/// How many keys the map has, by the counts of all passes in the order of their numbers, when nobody changes it.
+pub fn total(counts: &[KeyCount]) -> u64
+    ensures { (front : List Change) → AreCounts front counts.now → length (map_of front) < 2 ^ 64 → result ≡ length (map_of front) }
+{
+    let mut total: u64 = 0;
+    for place in 0..counts.len() {
+        total = total.wrapping_add(counts[place].keys);
+    }
+    total
+}
