@@ -12,7 +12,7 @@ use Rattle.rowex_core.specs.declared.event.Spot.TheVariants.{Root, Slot}
 use Rattle.rowex_core.specs.declared.event.Target.TheVariants.{Anchor, Node as NodeTarget}
 use Rattle.rowex_core.specs.declared.known.Known.{Known}
 use Rattle.rowex_core.specs.Cores.{Core}
-use Rattle.rowex_core.specs.Knowing.{IsEvent, claim_learned, anchor_learned, learned_by}
+use Rattle.rowex_core.specs.Knowing.{IsEvent, claim_learned, anchor_learned, learned, learned_by}
 use Rattle.rowex_table.specs.Runs.{silent}
 use Rattle.rowex_table.specs.Stays.{LeavesFront, LeavesFresh, LeavesFailed, LeavesOwn, LeavesLocks, LeavesAnchor, LeavesPin, LeavesRound, IsNext}
 
@@ -20,6 +20,7 @@ module _ (layout : Layout) (k j : Known) where
   -- the same, but for what the act is about
   record IsAs (act : Act) (i : Known) : Type 0 where
     pass : i.pass ≡ k.pass
+    notes : i.notes ≡ k.notes
     front : LeavesFront act → i.front ≡ k.front
     fresh : LeavesFresh act → i.fresh ≡ k.fresh
     failed : LeavesFailed act → i.failed ≡ k.failed
@@ -30,16 +31,16 @@ module _ (layout : Layout) (k j : Known) where
     round : LeavesRound act → i.round ≡ k.round
 
   claimed : (c : Core) (r : Rec) (found : ℕ) (f : Fate) → IsAs (Claim r found) (claim_learned c r found f k)
-  claimed c r found Free = record { pass = refl; front = λ t. refl; fresh = λ t. refl; failed = λ t. absurd t; own = λ t. absurd t; locks = λ t. refl; anchor = λ t. refl; pin = λ t. refl; round = λ t. refl }
-  claimed c r found (HeldBy q) = record { pass = refl; front = λ t. refl; fresh = λ t. refl; failed = λ t. absurd t; own = λ t. absurd t; locks = λ t. refl; anchor = λ t. refl; pin = λ t. refl; round = λ t. refl }
-  claimed c r found (ReadyBy q) = record { pass = refl; front = λ t. refl; fresh = λ t. refl; failed = λ t. absurd t; own = λ t. absurd t; locks = λ t. refl; anchor = λ t. refl; pin = λ t. refl; round = λ t. refl }
-  claimed c r found (InTree s) = record { pass = refl; front = λ t. refl; fresh = λ t. refl; failed = λ t. absurd t; own = λ t. absurd t; locks = λ t. refl; anchor = λ t. refl; pin = λ t. refl; round = λ t. refl }
-  claimed c r found (UnlinkedBy s l q) = record { pass = refl; front = λ t. refl; fresh = λ t. refl; failed = λ t. absurd t; own = λ t. absurd t; locks = λ t. refl; anchor = λ t. refl; pin = λ t. refl; round = λ t. refl }
-  claimed c r found (Marked s l epoch) = record { pass = refl; front = λ t. refl; fresh = λ t. refl; failed = λ t. absurd t; own = λ t. absurd t; locks = λ t. refl; anchor = λ t. refl; pin = λ t. refl; round = λ t. refl }
+  claimed c r found Free = record { pass = refl; notes = refl; front = λ t. refl; fresh = λ t. refl; failed = λ t. absurd t; own = λ t. absurd t; locks = λ t. refl; anchor = λ t. refl; pin = λ t. refl; round = λ t. refl }
+  claimed c r found (HeldBy q) = record { pass = refl; notes = refl; front = λ t. refl; fresh = λ t. refl; failed = λ t. absurd t; own = λ t. absurd t; locks = λ t. refl; anchor = λ t. refl; pin = λ t. refl; round = λ t. refl }
+  claimed c r found (ReadyBy q) = record { pass = refl; notes = refl; front = λ t. refl; fresh = λ t. refl; failed = λ t. absurd t; own = λ t. absurd t; locks = λ t. refl; anchor = λ t. refl; pin = λ t. refl; round = λ t. refl }
+  claimed c r found (InTree s) = record { pass = refl; notes = refl; front = λ t. refl; fresh = λ t. refl; failed = λ t. absurd t; own = λ t. absurd t; locks = λ t. refl; anchor = λ t. refl; pin = λ t. refl; round = λ t. refl }
+  claimed c r found (UnlinkedBy s l q) = record { pass = refl; notes = refl; front = λ t. refl; fresh = λ t. refl; failed = λ t. absurd t; own = λ t. absurd t; locks = λ t. refl; anchor = λ t. refl; pin = λ t. refl; round = λ t. refl }
+  claimed c r found (Marked s l epoch) = record { pass = refl; notes = refl; front = λ t. refl; fresh = λ t. refl; failed = λ t. absurd t; own = λ t. absurd t; locks = λ t. refl; anchor = λ t. refl; pin = λ t. refl; round = λ t. refl }
 
   anchored : (c : Core) (found : ℕ) (o : Option ℕ) → IsAs (Lock Anchor found) (anchor_learned c found o k)
-  anchored c found None = record { pass = refl; front = λ t. refl; fresh = λ t. refl; failed = λ t. absurd t; own = λ t. refl; locks = λ t. refl; anchor = λ t. absurd t; pin = λ t. refl; round = λ t. refl }
-  anchored c found (Some q) = record { pass = refl; front = λ t. refl; fresh = λ t. refl; failed = λ t. absurd t; own = λ t. refl; locks = λ t. refl; anchor = λ t. absurd t; pin = λ t. refl; round = λ t. refl }
+  anchored c found None = record { pass = refl; notes = refl; front = λ t. refl; fresh = λ t. refl; failed = λ t. absurd t; own = λ t. refl; locks = λ t. refl; anchor = λ t. absurd t; pin = λ t. refl; round = λ t. refl }
+  anchored c found (Some q) = record { pass = refl; notes = refl; front = λ t. refl; fresh = λ t. refl; failed = λ t. absurd t; own = λ t. refl; locks = λ t. refl; anchor = λ t. absurd t; pin = λ t. refl; round = λ t. refl }
 
   one_of : (act : Act) (b : Bool) (x y : Known) → IsAs act x → IsAs act y → IsAs act (if b then x else y)
   one_of act true x y f g = f
@@ -49,28 +50,28 @@ module _ (layout : Layout) (k j : Known) where
   as_before c (Claim r found) = claimed c r found (c.fate r)
   as_before c (Lock Anchor found) = anchored c found c.anchor
   as_before c (Lock (NodeTarget n) found) = one_of (Lock (NodeTarget n) found) (nat_eq found 2) _ _
-      (record { pass = refl; front = λ t. refl; fresh = λ t. refl; failed = λ t. absurd t; own = λ t. refl; locks = λ t. absurd t; anchor = λ t. refl; pin = λ t. refl; round = λ t. refl })
-      (record { pass = refl; front = λ t. refl; fresh = λ t. refl; failed = λ t. absurd t; own = λ t. refl; locks = λ t. absurd t; anchor = λ t. refl; pin = λ t. refl; round = λ t. refl })
-  as_before c (LoadRef Root w) = record { pass = refl; front = λ t. absurd t; fresh = λ t. absurd t; failed = λ t. refl; own = λ t. refl; locks = λ t. refl; anchor = λ t. refl; pin = λ t. refl; round = λ t. refl }
-  as_before c (LoadRef (Slot n i) w) = record { pass = refl; front = λ t. absurd t; fresh = λ t. refl; failed = λ t. refl; own = λ t. refl; locks = λ t. refl; anchor = λ t. refl; pin = λ t. refl; round = λ t. refl }
-  as_before c (LoadFixed r offset w) = record { pass = refl; front = λ t. absurd t; fresh = λ t. refl; failed = λ t. refl; own = λ t. refl; locks = λ t. refl; anchor = λ t. refl; pin = λ t. refl; round = λ t. refl }
-  as_before c (Fill r offset w) = record { pass = refl; front = λ t. refl; fresh = λ t. refl; failed = λ t. refl; own = λ t. absurd t; locks = λ t. refl; anchor = λ t. refl; pin = λ t. refl; round = λ t. refl }
-  as_before c (Ready r) = record { pass = refl; front = λ t. refl; fresh = λ t. refl; failed = λ t. refl; own = λ t. absurd t; locks = λ t. refl; anchor = λ t. refl; pin = λ t. refl; round = λ t. refl }
-  as_before c (Release r) = record { pass = refl; front = λ t. refl; fresh = λ t. refl; failed = λ t. refl; own = λ t. absurd t; locks = λ t. refl; anchor = λ t. refl; pin = λ t. refl; round = λ t. refl }
-  as_before c (Publish Root w) = record { pass = refl; front = λ t. absurd t; fresh = λ t. refl; failed = λ t. refl; own = λ t. absurd t; locks = λ t. absurd t; anchor = λ t. absurd t; pin = λ t. refl; round = λ t. refl }
-  as_before c (Publish (Slot n i) w) = record { pass = refl; front = λ t. absurd t; fresh = λ t. refl; failed = λ t. refl; own = λ t. absurd t; locks = λ t. absurd t; anchor = λ t. refl; pin = λ t. refl; round = λ t. refl }
-  as_before c (Unlock Anchor) = record { pass = refl; front = λ t. refl; fresh = λ t. refl; failed = λ t. refl; own = λ t. refl; locks = λ t. refl; anchor = λ t. absurd t; pin = λ t. refl; round = λ t. refl }
-  as_before c (Unlock (NodeTarget n)) = record { pass = refl; front = λ t. refl; fresh = λ t. refl; failed = λ t. refl; own = λ t. refl; locks = λ t. absurd t; anchor = λ t. refl; pin = λ t. refl; round = λ t. refl }
-  as_before c (Mark r epoch) = record { pass = refl; front = λ t. refl; fresh = λ t. refl; failed = λ t. refl; own = λ t. absurd t; locks = λ t. refl; anchor = λ t. refl; pin = λ t. refl; round = λ t. refl }
-  as_before c (LoadEpoch w) = record { pass = refl; front = λ t. refl; fresh = λ t. refl; failed = λ t. refl; own = λ t. refl; locks = λ t. refl; anchor = λ t. refl; pin = λ t. refl; round = λ t. absurd t }
-  as_before c (Advance expected found) = record { pass = refl; front = λ t. refl; fresh = λ t. refl; failed = λ t. refl; own = λ t. refl; locks = λ t. refl; anchor = λ t. refl; pin = λ t. refl; round = λ t. refl }
-  as_before c (SetPin w) = record { pass = refl; front = λ t. refl; fresh = λ t. refl; failed = λ t. refl; own = λ t. refl; locks = λ t. refl; anchor = λ t. refl; pin = λ t. absurd t; round = λ t. refl }
-  as_before c ClearPin = record { pass = refl; front = λ t. refl; fresh = λ t. refl; failed = λ t. refl; own = λ t. refl; locks = λ t. refl; anchor = λ t. refl; pin = λ t. absurd t; round = λ t. refl }
-  as_before c (LoadPin o w) = record { pass = refl; front = λ t. refl; fresh = λ t. refl; failed = λ t. refl; own = λ t. refl; locks = λ t. refl; anchor = λ t. refl; pin = λ t. refl; round = λ t. absurd t }
+      (record { pass = refl; notes = refl; front = λ t. refl; fresh = λ t. refl; failed = λ t. absurd t; own = λ t. refl; locks = λ t. absurd t; anchor = λ t. refl; pin = λ t. refl; round = λ t. refl })
+      (record { pass = refl; notes = refl; front = λ t. refl; fresh = λ t. refl; failed = λ t. absurd t; own = λ t. refl; locks = λ t. absurd t; anchor = λ t. refl; pin = λ t. refl; round = λ t. refl })
+  as_before c (LoadRef Root w) = record { pass = refl; notes = refl; front = λ t. absurd t; fresh = λ t. absurd t; failed = λ t. refl; own = λ t. refl; locks = λ t. refl; anchor = λ t. refl; pin = λ t. refl; round = λ t. refl }
+  as_before c (LoadRef (Slot n i) w) = record { pass = refl; notes = refl; front = λ t. absurd t; fresh = λ t. refl; failed = λ t. refl; own = λ t. refl; locks = λ t. refl; anchor = λ t. refl; pin = λ t. refl; round = λ t. refl }
+  as_before c (LoadFixed r offset w) = record { pass = refl; notes = refl; front = λ t. absurd t; fresh = λ t. refl; failed = λ t. refl; own = λ t. refl; locks = λ t. refl; anchor = λ t. refl; pin = λ t. refl; round = λ t. refl }
+  as_before c (Fill r offset w) = record { pass = refl; notes = refl; front = λ t. refl; fresh = λ t. refl; failed = λ t. refl; own = λ t. absurd t; locks = λ t. refl; anchor = λ t. refl; pin = λ t. refl; round = λ t. refl }
+  as_before c (Ready r) = record { pass = refl; notes = refl; front = λ t. refl; fresh = λ t. refl; failed = λ t. refl; own = λ t. absurd t; locks = λ t. refl; anchor = λ t. refl; pin = λ t. refl; round = λ t. refl }
+  as_before c (Release r) = record { pass = refl; notes = refl; front = λ t. refl; fresh = λ t. refl; failed = λ t. refl; own = λ t. absurd t; locks = λ t. refl; anchor = λ t. refl; pin = λ t. refl; round = λ t. refl }
+  as_before c (Publish Root w) = record { pass = refl; notes = refl; front = λ t. absurd t; fresh = λ t. refl; failed = λ t. refl; own = λ t. absurd t; locks = λ t. absurd t; anchor = λ t. absurd t; pin = λ t. refl; round = λ t. refl }
+  as_before c (Publish (Slot n i) w) = record { pass = refl; notes = refl; front = λ t. absurd t; fresh = λ t. refl; failed = λ t. refl; own = λ t. absurd t; locks = λ t. absurd t; anchor = λ t. refl; pin = λ t. refl; round = λ t. refl }
+  as_before c (Unlock Anchor) = record { pass = refl; notes = refl; front = λ t. refl; fresh = λ t. refl; failed = λ t. refl; own = λ t. refl; locks = λ t. refl; anchor = λ t. absurd t; pin = λ t. refl; round = λ t. refl }
+  as_before c (Unlock (NodeTarget n)) = record { pass = refl; notes = refl; front = λ t. refl; fresh = λ t. refl; failed = λ t. refl; own = λ t. refl; locks = λ t. absurd t; anchor = λ t. refl; pin = λ t. refl; round = λ t. refl }
+  as_before c (Mark r epoch) = record { pass = refl; notes = refl; front = λ t. refl; fresh = λ t. refl; failed = λ t. refl; own = λ t. absurd t; locks = λ t. refl; anchor = λ t. refl; pin = λ t. refl; round = λ t. refl }
+  as_before c (LoadEpoch w) = record { pass = refl; notes = refl; front = λ t. refl; fresh = λ t. refl; failed = λ t. refl; own = λ t. refl; locks = λ t. refl; anchor = λ t. refl; pin = λ t. refl; round = λ t. absurd t }
+  as_before c (Advance expected found) = record { pass = refl; notes = refl; front = λ t. refl; fresh = λ t. refl; failed = λ t. refl; own = λ t. refl; locks = λ t. refl; anchor = λ t. refl; pin = λ t. refl; round = λ t. refl }
+  as_before c (SetPin w) = record { pass = refl; notes = refl; front = λ t. refl; fresh = λ t. refl; failed = λ t. refl; own = λ t. refl; locks = λ t. refl; anchor = λ t. refl; pin = λ t. absurd t; round = λ t. refl }
+  as_before c ClearPin = record { pass = refl; notes = refl; front = λ t. refl; fresh = λ t. refl; failed = λ t. refl; own = λ t. refl; locks = λ t. refl; anchor = λ t. refl; pin = λ t. absurd t; round = λ t. refl }
+  as_before c (LoadPin o w) = record { pass = refl; notes = refl; front = λ t. refl; fresh = λ t. refl; failed = λ t. refl; own = λ t. refl; locks = λ t. refl; anchor = λ t. refl; pin = λ t. refl; round = λ t. absurd t }
   as_before c (LoadState r w) = one_of (LoadState r w) (nat_eq w 0) _ _
-      (record { pass = refl; front = λ t. refl; fresh = λ t. refl; failed = λ t. absurd t; own = λ t. refl; locks = λ t. refl; anchor = λ t. refl; pin = λ t. refl; round = λ t. refl })
-      (record { pass = refl; front = λ t. refl; fresh = λ t. refl; failed = λ t. absurd t; own = λ t. refl; locks = λ t. refl; anchor = λ t. refl; pin = λ t. refl; round = λ t. refl })
-  as_before c (GiveBack r epoch found) = record { pass = refl; front = λ t. refl; fresh = λ t. refl; failed = λ t. refl; own = λ t. refl; locks = λ t. refl; anchor = λ t. refl; pin = λ t. refl; round = λ t. refl }
+      (record { pass = refl; notes = refl; front = λ t. refl; fresh = λ t. refl; failed = λ t. absurd t; own = λ t. refl; locks = λ t. refl; anchor = λ t. refl; pin = λ t. refl; round = λ t. refl })
+      (record { pass = refl; notes = refl; front = λ t. refl; fresh = λ t. refl; failed = λ t. absurd t; own = λ t. refl; locks = λ t. refl; anchor = λ t. refl; pin = λ t. refl; round = λ t. refl })
+  as_before c (GiveBack r epoch found) = record { pass = refl; notes = refl; front = λ t. refl; fresh = λ t. refl; failed = λ t. refl; own = λ t. refl; locks = λ t. refl; anchor = λ t. refl; pin = λ t. refl; round = λ t. refl }
 
   pub act_leaves : (act : Act) → IsEvent layout act silent k j → IsNext act k j
   act_leaves act e =
@@ -91,3 +92,7 @@ module _ (layout : Layout) (k j : Known) where
   -- and whatever is noted with it, a step that is no load of the root leaves what the last one found
   pub act_fresh : (act : Act) (said : Known → List Note) → IsEvent layout act said k j → LeavesFresh act → j.fresh ≡ k.fresh
   act_fresh act said e leaves = ap (λ (z : Known). z.fresh) e.learned_is ∙ (as_before e.core act).fresh leaves
+
+-- no step adds a note of its own
+pub learned_notes : (c : Core) (act : Act) (k : Known) → (learned c act k).notes ≡ k.notes
+learned_notes c act k = (as_before c.layout k k c act).notes

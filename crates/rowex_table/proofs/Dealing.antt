@@ -13,17 +13,21 @@ use Rattle.std.proofs.lemmas.Bool.Decides.{eqb_tells}
 use Rattle.finite_map.specs.declared.Change.{Change}
 use Rattle.finite_map.specs.Fronts.{BeginsWith, OthersGoOn}
 use Rattle.record_words.specs.declared.layout.Layout.{Layout}
+use Rattle.rowex_core.specs.declared.event.Event.{Event}
 use Rattle.rowex_core.specs.declared.known.Known.{Known}
-use Rattle.rowex_core.specs.declared.known.View.{View}
-use Rattle.rowex_core.specs.declared.known.View.TheVariants.{Spent, Dealer, Pass, Pair}
 use Rattle.rowex_core.specs.Cores.{Core}
 use Rattle.rowex_core.specs.Words.{Shows}
-use Rattle.rowex_core.specs.Knowing.{IsFact, IsUntouched, Knows, Knowing, IsViewOf}
+use Rattle.rowex_core.specs.Knowing.{IsFact, IsUntouched, Knows, IsViewOf}
 use Rattle.rowex_core.specs.Opening.{opening, opening_words}
 use Rattle.rowex_core.proofs.Promises.{opening_is_lawful}
-use Rattle.rowex_table.specs.Rule.{Ruled, opening_of, next_dealer, dealt, paired, first_of_two, second_of_two, with_front, SeatsHaveMet, Meeting, met}
+use Rattle.rowex_table.specs.declared.traces.Trace.{Trace}
+use Rattle.rowex_table.specs.declared.traces.TracedView.{TracedView}
+use Rattle.rowex_table.specs.declared.traces.TracedView.TheVariants.{Spent, Dealer, Pass, Pair}
+use Rattle.rowex_table.specs.Rule.{Ruled, IsTrueOf, opening_of, next_dealer, dealt, paired, first_of_two, second_of_two, with_front, SeatsHaveMet, TracesHaveMet, Meeting, met}
+use Rattle.rowex_table.specs.Traces.{HasTraces, IsShownRun, OthersStepOn, untraced, view_of}
 use Rattle.rowex_table.specs.Seats.{TableView, SeatView, IsNewSeatOf, IsNewSeat}
 use Rattle.rowex_table.proofs.Keeping.{Apart, apart_set, each_set, set_at}
+use Rattle.rowex_table.proofs.Onward.{others_none}
 
 -- Seats by their numbers, and each of them
 
@@ -37,7 +41,7 @@ numbered P first (x ∷ xs) h =
 -- the seats of new passes, each of its number, are seats of new passes
 pub all_new : (table : TableView) (items : List SeatView) → length items ≡ table.layout.passes → ((q : ℕ) (s : SeatView) → get_elem? items q ≡ some s → IsNewSeatOf table q s) → All (IsNewSeat table) items
 all_new table items long h = All-weaker (λ s. (q : ℕ) × (q < 0 + length items) × IsNewSeatOf table q s) (IsNewSeat table)
-    (λ s u. let low = u.1 in let is : s.known.pass ≡ u.0 = ap (λ (k : Known). k.pass) u.2.1 in ((u.2.0, omega arith), u.2.1 ∙ ap opening_of (sym is)))
+    (λ s u. let low = u.1 in let is : s.known.pass ≡ u.0 = ap (λ (k : Known). k.pass) u.2.1 in ((u.2.0, omega arith), u.2.1 ∙ ap opening_of (sym is), u.2.2, u.2.3))
     items (numbered (IsNewSeatOf table) 0 items (λ q s e. subst (λ z. IsNewSeatOf table z s) (omega arith) (h q s e)))
 
 -- The opening
@@ -48,16 +52,18 @@ opens {S = S} layout words is = record {
   lawful = (opening_is_lawful layout).0;
   layout_is = refl;
   shows = subst (Shows (opening layout)) (sym is) (opening_is_lawful layout).1;
-  knows = λ i v e. only (λ v. Knowing (opening layout) v) (opening_is_lawful layout).2 i v e;
+  run = [];
+  led = refl;
+  knows = λ i v e. only (λ v. IsTrueOf (opening layout) [] v) ((opening_is_lawful layout).2, All-nil (λ x. x.pass < 0)) i v e;
   apart = λ i j q v w a b ov ow. first i v a ∙ sym (first j w b);
   each = λ q low. (0, Dealer 0, refl, omega arith);
 }
   where
-    only : (P : View → Type 0) → P (Dealer 0) → (i : ℕ) (v : View) → get_elem? (Dealer 0 ∷ []) i ≡ some v → P v
+    only : (P : TracedView → Type 0) → P (Dealer 0) → (i : ℕ) (v : TracedView) → get_elem? (Dealer 0 ∷ []) i ≡ some v → P v
     only P p zero v e = subst P (some-injective (Dealer 0) v e) p
     only P p (suc i) v e = absurd (some-ne-none v (sym e))
 
-    first : (i : ℕ) (v : View) → get_elem? (Dealer 0 ∷ []) i ≡ some v → i ≡ 0
+    first : (i : ℕ) (v : TracedView) → get_elem? (Dealer 0 ∷ []) i ≡ some v → i ≡ 0
     first zero v e = refl
     first (suc i) v e = absurd (some-ne-none v (sym e))
 
@@ -69,16 +75,16 @@ at_end [] a b (suc j) e = absurd (some-ne-none b (sym e))
 at_end (x ∷ xs) a b zero e = inl e
 at_end (x ∷ xs) a b (suc j) e = ⊎_elim inl (λ t. inr (ap suc t.0, t.1)) (at_end xs a b j e)
 
-module _ {S : Type 0} (layout : Layout) (id : ℕ) (v left right : View) where
+module _ {S : Type 0} (layout : Layout) (id : ℕ) (v left right : TracedView) where
   -- each part keeps to the numbers and the knowledge of the whole, and they have no number in common
-  pub splits : ((c : Core) → c.layout ≡ layout → Knowing c v → Knowing c left × Knowing c right) → ((q : ℕ) → IsViewOf left q → IsViewOf v q) → ((q : ℕ) → IsViewOf right q → IsViewOf v q) → ((q : ℕ) → IsViewOf left q → IsViewOf right q → ⊥) → ((q : ℕ) → IsViewOf v q → IsViewOf left q ⊎ IsViewOf right q)
-      → Splits {S = S} {V = View} (Ruled layout) id v left right
+  pub splits : ((c : Core) (run : List Event) → c.layout ≡ layout → IsTrueOf c run v → IsTrueOf c run left × IsTrueOf c run right) → ((q : ℕ) → IsViewOf (view_of left) q → IsViewOf (view_of v) q) → ((q : ℕ) → IsViewOf (view_of right) q → IsViewOf (view_of v) q) → ((q : ℕ) → IsViewOf (view_of left) q → IsViewOf (view_of right) q → ⊥) → ((q : ℕ) → IsViewOf (view_of v) q → IsViewOf (view_of left) q ⊎ IsViewOf (view_of right) q)
+      → Splits {S = S} {V = TracedView} (Ruled layout) id v left right
   splits knowing lo ro lr vs s r here =
-      let parts = knowing r.core r.layout_is (r.knows id v here) in
-      let views : List View = set s.views id left in
+      let parts = knowing r.core r.run r.layout_is (r.knows id v here) in
+      let views : List TracedView = set s.views id left in
       let apart : Apart views = apart_set s.views id v left here lo r.apart in
-      let alone : (i q : ℕ) (w : View) → get_elem? views i ≡ some w → IsViewOf w q → IsViewOf right q → ⊥ = λ i q w e ow oright. ⊎_elim
-      (λ (t : (i ≡ id) × (left ≡ w)). lr q (subst (λ z. IsViewOf z q) (sym t.1) ow) oright)
+      let alone : (i q : ℕ) (w : TracedView) → get_elem? views i ≡ some w → IsViewOf (view_of w) q → IsViewOf (view_of right) q → ⊥ = λ i q w e ow oright. ⊎_elim
+      (λ (t : (i ≡ id) × (left ≡ w)). lr q (subst (λ z. IsViewOf (view_of z) q) (sym t.1) ow) oright)
       (λ (t : (i ≢ id) × (get_elem? s.views i ≡ some w)). t.0 (r.apart i id q w v t.1 here ow (ro q oright)))
       (at_set s.views id i left w e) in
       record {
@@ -86,19 +92,21 @@ module _ {S : Type 0} (layout : Layout) (id : ℕ) (v left right : View) where
         lawful = r.lawful;
         layout_is = r.layout_is;
         shows = r.shows;
+        run = r.run;
+        led = r.led;
         knows = λ i w e. ⊎_elim
-            (λ old. ⊎_elim (λ (t : (i ≡ id) × (left ≡ w)). subst (Knowing r.core) t.1 parts.0) (λ (t : (i ≢ id) × (get_elem? s.views i ≡ some w)). r.knows i w t.1) (at_set s.views id i left w old))
-            (λ (t : (i ≡ length views) × (right ≡ w)). subst (Knowing r.core) t.1 parts.1)
+            (λ old. ⊎_elim (λ (t : (i ≡ id) × (left ≡ w)). subst (IsTrueOf r.core r.run) t.1 parts.0) (λ (t : (i ≢ id) × (get_elem? s.views i ≡ some w)). r.knows i w t.1) (at_set s.views id i left w old))
+            (λ (t : (i ≡ length views) × (right ≡ w)). subst (IsTrueOf r.core r.run) t.1 parts.1)
             (at_end views right w i e);
         apart = λ i j q x y a b ox oy. ⊎_elim
-            (λ (olda : get_elem? views i ≡ some x). ⊎_elim (λ (oldb : get_elem? views j ≡ some y). apart i j q x y olda oldb ox oy) (λ (t : (j ≡ length views) × (right ≡ y)). absurd (alone i q x olda ox (subst (λ z. IsViewOf z q) (sym t.1) oy))) (at_end views right y j b))
-            (λ (t : (i ≡ length views) × (right ≡ x)). ⊎_elim (λ (oldb : get_elem? views j ≡ some y). absurd (alone j q y oldb oy (subst (λ z. IsViewOf z q) (sym t.1) ox))) (λ (u : (j ≡ length views) × (right ≡ y)). t.0 ∙ sym u.0) (at_end views right y j b))
+            (λ (olda : get_elem? views i ≡ some x). ⊎_elim (λ (oldb : get_elem? views j ≡ some y). apart i j q x y olda oldb ox oy) (λ (t : (j ≡ length views) × (right ≡ y)). absurd (alone i q x olda ox (subst (λ z. IsViewOf (view_of z) q) (sym t.1) oy))) (at_end views right y j b))
+            (λ (t : (i ≡ length views) × (right ≡ x)). ⊎_elim (λ (oldb : get_elem? views j ≡ some y). absurd (alone j q y oldb oy (subst (λ z. IsViewOf (view_of z) q) (sym t.1) ox))) (λ (u : (j ≡ length views) × (right ≡ y)). t.0 ∙ sym u.0) (at_end views right y j b))
             (at_end views right x i a);
         each = λ q low. let seat = r.each q low in ⊎_elim
             (λ (e : (eqb seat.0 id ≡ true) × (seat.0 ≡ id)). ⊎_elim
-            (λ (o : IsViewOf left q). (id, left, at_longer views (right ∷ []) id left (set_at s.views id left v here), o))
-            (λ (o : IsViewOf right q). (length views, right, at_last views right (length views) refl, o))
-            (vs q (subst (λ z. IsViewOf z q) (some-injective seat.1 v (sym seat.2 ∙ (ap (λ n. get_elem? s.views n) e.1 ∙ here))) seat.3)))
+            (λ (o : IsViewOf (view_of left) q). (id, left, at_longer views (right ∷ []) id left (set_at s.views id left v here), o))
+            (λ (o : IsViewOf (view_of right) q). (length views, right, at_last views right (length views) refl, o))
+            (vs q (subst (λ z. IsViewOf (view_of z) q) (some-injective seat.1 v (sym seat.2 ∙ (ap (λ n. get_elem? s.views n) e.1 ∙ here))) seat.3)))
             (λ (n : (eqb seat.0 id ≡ false) × (seat.0 ≢ id)). (seat.0, seat.1, at_longer views (right ∷ []) seat.0 seat.1 (set_else s.views id seat.0 left n.1 ∙ seat.2), seat.3))
             (eqb_tells seat.0 id);
       }
@@ -111,49 +119,56 @@ new_knows c m low h = record {
   own = h.own;
 }
 
-pub deals : {S : Type 0} (layout : Layout) (id : ℕ) (v : View) (m : ℕ) → m < layout.passes → v ≡ Dealer m → Splits {S = S} {V = View} (Ruled layout) id v (next_dealer v) (dealt v)
-deals {S = S} layout id v m low is = subst (λ (z : View). Splits {S = S} {V = View} (Ruled layout) id z (next_dealer z) (dealt z)) (sym is)
-    (splits layout id (Dealer m) (Dealer (m + 1)) (Pass (opening_of m))
-    (λ c at k. ((λ q low. k q (omega arith)), new_knows c m (subst (λ (z : Layout). m < z.passes) (sym at) low) (k m (omega arith))))
+-- the run of a table some of whose passes are still to be dealt: the next of them has made no step
+deals_trace : (m : ℕ) (run : List Event) → All (λ x. x.pass < m) run → HasTraces run (Dealer (m + 1)) × HasTraces run (Pass (opening_of m) untraced)
+deals_trace m run h = (All-weaker (λ x. x.pass < m) (λ x. x.pass < m + 1) (λ x low. omega (arith, low)) run h, (run, refl, All-weaker (λ x. x.pass < m) (λ x. x.pass ≢ m) (λ x low e. omega (arith, low, e)) run h))
+
+pub deals : {S : Type 0} (layout : Layout) (id : ℕ) (v : TracedView) (m : ℕ) → m < layout.passes → v ≡ Dealer m → Splits {S = S} {V = TracedView} (Ruled layout) id v (next_dealer v) (dealt v)
+deals {S = S} layout id v m low is = subst (λ (z : TracedView). Splits {S = S} {V = TracedView} (Ruled layout) id z (next_dealer z) (dealt z)) (sym is)
+    (splits layout id (Dealer m) (Dealer (m + 1)) (Pass (opening_of m) untraced)
+    (λ c run at k. (((λ q low. k.0 q (omega arith)), (deals_trace m run k.1).0), (new_knows c m (subst (λ (z : Layout). m < z.passes) (sym at) low) (k.0 m (omega arith)), (deals_trace m run k.1).1)))
     (λ q low. omega arith)
     (λ q e. omega arith)
     (λ q low e. omega arith)
     (λ q low. ⊎_elim (λ (h : m < q). inl (omega arith)) (λ (h : q ≤ m). inr (omega arith)) (cases_lt m q)))
 
-pub parts : {S : Type 0} (layout : Layout) (id : ℕ) (v : View) (j k : Known) → v ≡ Pair j k → j.pass ≢ k.pass → Splits {S = S} {V = View} (Ruled layout) id v (first_of_two v) (second_of_two v)
-parts {S = S} layout id v j k is ne = subst (λ (z : View). Splits {S = S} {V = View} (Ruled layout) id z (first_of_two z) (second_of_two z)) (sym is)
-    (splits layout id (Pair j k) (Pass j) (Pass k) (λ c at t. (t.0, t.1)) (λ q o. inl o) (λ q o. inr o) (λ q a b. ne (a ∙ sym b)) (λ q o. o))
+pub parts : {S : Type 0} (layout : Layout) (id : ℕ) (v : TracedView) (j : Known) (t : Trace) (k : Known) (u : Trace) → v ≡ Pair j t k u → j.pass ≢ k.pass →
+    Splits {S = S} {V = TracedView} (Ruled layout) id v (first_of_two v) (second_of_two v)
+parts {S = S} layout id v j t k u is ne = subst (λ (z : TracedView). Splits {S = S} {V = TracedView} (Ruled layout) id z (first_of_two z) (second_of_two z)) (sym is)
+    (splits layout id (Pair j t k u) (Pass j t) (Pass k u) (λ c run at h. ((h.0.0, h.1.0), (h.0.1, h.1.1))) (λ q o. inl o) (λ q o. inr o) (λ q a b. ne (a ∙ sym b)) (λ q o. o))
 
 -- Joining
 
-module _ {S : Type 0} (layout : Layout) (id other : ℕ) (v w both : View) where
+module _ {S : Type 0} (layout : Layout) (id other : ℕ) (v w both : TracedView) where
   -- the two are one seat now, which has the numbers of both; the other has none
-  pub joins_as : ((c : Core) → Knowing c v → Knowing c w → ((q : ℕ) → IsViewOf v q → IsViewOf w q → ⊥) → Knowing c both) → ((q : ℕ) → IsViewOf both q → IsViewOf v q ⊎ IsViewOf w q) → ((q : ℕ) → IsViewOf v q ⊎ IsViewOf w q → IsViewOf both q)
-      → Joins {S = S} {V = View} (Ruled layout) id v other w both Spent
+  pub joins_as : ((c : Core) (run : List Event) → IsTrueOf c run v → IsTrueOf c run w → ((q : ℕ) → IsViewOf (view_of v) q → IsViewOf (view_of w) q → ⊥) → IsTrueOf c run both) → ((q : ℕ) → IsViewOf (view_of both) q → IsViewOf (view_of v) q ⊎ IsViewOf (view_of w) q) → ((q : ℕ) → IsViewOf (view_of v) q ⊎ IsViewOf (view_of w) q → IsViewOf (view_of both) q)
+      → Joins {S = S} {V = TracedView} (Ruled layout) id v other w both Spent
   joins_as knowing of_both to_both s r here ne there =
       let second : get_elem? s.views other ≡ some w = ⊎_elim (λ (t : (other ≡ id) × (both ≡ w)). absurd (ne t.0)) (λ (t : (other ≢ id) × (get_elem? s.views other ≡ some w)). t.1) (at_set s.views id other both w there) in
-      let views : List View = set s.views id both in
+      let views : List TracedView = set s.views id both in
       -- a seat of the new list is one of the old that owns the same, or the joined one
-      let from : (i q : ℕ) (x : View) → get_elem? (set views other Spent) i ≡ some x → IsViewOf x q → ((i ≡ id) × (IsViewOf v q ⊎ IsViewOf w q)) ⊎ ((i ≢ id) × (i ≢ other) × (get_elem? s.views i ≡ some x)) = λ i q x e o. ⊎_elim
-      (λ (t : (i ≡ other) × (Spent ≡ x)). absurd (subst (λ z. IsViewOf z q) (sym t.1) o))
+      let from : (i q : ℕ) (x : TracedView) → get_elem? (set views other Spent) i ≡ some x → IsViewOf (view_of x) q → ((i ≡ id) × (IsViewOf (view_of v) q ⊎ IsViewOf (view_of w) q)) ⊎ ((i ≢ id) × (i ≢ other) × (get_elem? s.views i ≡ some x)) = λ i q x e o. ⊎_elim
+      (λ (t : (i ≡ other) × (Spent ≡ x)). absurd (subst (λ z. IsViewOf (view_of z) q) (sym t.1) o))
       (λ (t : (i ≢ other) × (get_elem? views i ≡ some x)). ⊎_elim
-      (λ (u : (i ≡ id) × (both ≡ x)). inl (u.0, of_both q (subst (λ z. IsViewOf z q) (sym u.1) o)))
+      (λ (u : (i ≡ id) × (both ≡ x)). inl (u.0, of_both q (subst (λ z. IsViewOf (view_of z) q) (sym u.1) o)))
       (λ (u : (i ≢ id) × (get_elem? s.views i ≡ some x)). inr (u.0, t.0, u.1))
       (at_set s.views id i both x t.1))
       (at_set views other i Spent x e) in
-      let clash : (i q : ℕ) (x : View) → i ≢ id → i ≢ other → get_elem? s.views i ≡ some x → IsViewOf x q → IsViewOf v q ⊎ IsViewOf w q → ⊥ = λ i q x a b e o own. ⊎_elim
-      (λ (p : IsViewOf v q). a (r.apart i id q x v e here o p))
-      (λ (p : IsViewOf w q). b (r.apart i other q x w e second o p))
+      let clash : (i q : ℕ) (x : TracedView) → i ≢ id → i ≢ other → get_elem? s.views i ≡ some x → IsViewOf (view_of x) q → IsViewOf (view_of v) q ⊎ IsViewOf (view_of w) q → ⊥ = λ i q x a b e o own. ⊎_elim
+      (λ (p : IsViewOf (view_of v) q). a (r.apart i id q x v e here o p))
+      (λ (p : IsViewOf (view_of w) q). b (r.apart i other q x w e second o p))
       own in
       record {
         core = r.core;
         lawful = r.lawful;
         layout_is = r.layout_is;
         shows = r.shows;
+        run = r.run;
+        led = r.led;
         knows = λ i x e. ⊎_elim
-            (λ (t : (i ≡ other) × (Spent ≡ x)). subst (Knowing r.core) t.1 tt)
+            (λ (t : (i ≡ other) × (Spent ≡ x)). subst (IsTrueOf r.core r.run) t.1 (tt, tt))
             (λ (t : (i ≢ other) × (get_elem? views i ≡ some x)). ⊎_elim
-            (λ (u : (i ≡ id) × (both ≡ x)). subst (Knowing r.core) u.1 (knowing r.core (r.knows id v here) (r.knows other w second) (λ q o p. ne (r.apart other id q w v second here p o))))
+            (λ (u : (i ≡ id) × (both ≡ x)). subst (IsTrueOf r.core r.run) u.1 (knowing r.core r.run (r.knows id v here) (r.knows other w second) (λ q o p. ne (r.apart other id q w v second here p o))))
             (λ (u : (i ≢ id) × (get_elem? s.views i ≡ some x)). r.knows i x u.1)
             (at_set s.views id i both x t.1))
             (at_set views other i Spent x e);
@@ -163,20 +178,21 @@ module _ {S : Type 0} (layout : Layout) (id other : ℕ) (v w both : View) where
             (from i q x a ox);
         each = λ q low. let seat = r.each q low in ⊎_elim
             (λ (e : (eqb seat.0 other ≡ true) × (seat.0 ≡ other)).
-            let is : IsViewOf w q = subst (λ z. IsViewOf z q) (some-injective seat.1 w (sym seat.2 ∙ (ap (λ n. get_elem? s.views n) e.1 ∙ second))) seat.3 in
+            let is : IsViewOf (view_of w) q = subst (λ z. IsViewOf (view_of z) q) (some-injective seat.1 w (sym seat.2 ∙ (ap (λ n. get_elem? s.views n) e.1 ∙ second))) seat.3 in
             (id, both, set_else views other id Spent (λ same. ne (sym same)) ∙ set_at s.views id both v here, to_both q (inr is)))
             (λ (n : (eqb seat.0 other ≡ false) × (seat.0 ≢ other)). ⊎_elim
             (λ (e : (eqb seat.0 id ≡ true) × (seat.0 ≡ id)).
-            let is : IsViewOf v q = subst (λ z. IsViewOf z q) (some-injective seat.1 v (sym seat.2 ∙ (ap (λ m. get_elem? s.views m) e.1 ∙ here))) seat.3 in
+            let is : IsViewOf (view_of v) q = subst (λ z. IsViewOf (view_of z) q) (some-injective seat.1 v (sym seat.2 ∙ (ap (λ m. get_elem? s.views m) e.1 ∙ here))) seat.3 in
             (id, both, set_else views other id Spent (λ same. ne (sym same)) ∙ set_at s.views id both v here, to_both q (inl is)))
             (λ (m : (eqb seat.0 id ≡ false) × (seat.0 ≢ id)). (seat.0, seat.1, set_else views other seat.0 Spent n.1 ∙ (set_else s.views id seat.0 both m.1 ∙ seat.2), seat.3))
             (eqb_tells seat.0 id))
             (eqb_tells seat.0 other);
       }
 
-pub joins : {S : Type 0} (layout : Layout) (id other : ℕ) (v w : View) (j k : Known) → v ≡ Pass j → w ≡ Pass k → Joins {S = S} {V = View} (Ruled layout) id v other w (paired v w) Spent
-joins {S = S} layout id other v w j k isv isw = subst (λ (z : View × View). Joins {S = S} {V = View} (Ruled layout) id z.0 other z.1 (paired z.0 z.1) Spent) (λ i. (sym isv i, sym isw i))
-    (joins_as layout id other (Pass j) (Pass k) (Pair j k) (λ c a b apart. (a, b, λ e. apart k.pass e refl)) (λ q o. o) (λ q o. o))
+pub joins : {S : Type 0} (layout : Layout) (id other : ℕ) (v w : TracedView) (j : Known) (t : Trace) (k : Known) (u : Trace) → v ≡ Pass j t → w ≡ Pass k u →
+    Joins {S = S} {V = TracedView} (Ruled layout) id v other w (paired v w) Spent
+joins {S = S} layout id other v w j t k u isv isw = subst (λ (z : TracedView × TracedView). Joins {S = S} {V = TracedView} (Ruled layout) id z.0 other z.1 (paired z.0 z.1) Spent) (λ i. (sym isv i, sym isw i))
+    (joins_as layout id other (Pass j t) (Pass k u) (Pair j t k u) (λ c run a b apart. ((a.0, b.0, λ e. apart k.pass e refl), (a.1, b.1))) (λ q o. o) (λ q o. o))
 
 -- The load of a meeting
 
@@ -195,17 +211,26 @@ met_knows c k h = record {
   own = h.own;
 }
 
-pub meets : {S : Type 0} (layout : Layout) (of : Option Layout) → of ≡ Some layout → (slots id i : ℕ) (me : Me S View) (j k : Known) → me ≡ (Pair j k, [])
-    → Allows {S = S} {V = View} (Ruled layout) slots id me i (λ n. n) (met of (table.step slots i 0 0 none) me)
-meets {S = S} layout of is_of slots id i me j k is =
-    subst (λ (o : Option Layout). Allows {S = S} {V = View} (Ruled layout) slots id me i (λ n. n) (met o (table.step slots i 0 0 none) me)) (sym is_of)
-    (subst (λ (m : Me S View). Allows {S = S} {V = View} (Ruled layout) slots id m i (λ n. n) (met (Some layout) (table.step slots i 0 0 none) m)) (sym is) go)
+-- a trace that is shown the whole run
+abbrev pub shown : List Event → Trace → Trace
+shown run t = record { events = run; asides = suc t.asides }
+
+pub shown_run : {S : Type 0} (layout : Layout) (s : State S TracedView) (r : Ruled layout s) (k : Known) (t : Trace) → OthersStepOn k.pass t.events r.run →
+    IsShownRun layout k.pass t.events r.run r.core.changes
+shown_run layout s r k t others = record { core = r.core; led = r.led; changes = refl; others = others }
+
+pub meets : {S : Type 0} (layout : Layout) (of : Option Layout) → of ≡ Some layout → (slots id i : ℕ) (me : Me S TracedView) (j : Known) (t : Trace) (k : Known) (u : Trace) → me ≡ (Pair j t k u, [])
+    → Allows {S = S} {V = TracedView} (Ruled layout) slots id me i (λ n. n) (met of (table.step slots i 0 0 none) me)
+meets {S = S} layout of is_of slots id i me j t k u is =
+    subst (λ (o : Option Layout). Allows {S = S} {V = TracedView} (Ruled layout) slots id me i (λ n. n) (met o (table.step slots i 0 0 none) me)) (sym is_of)
+    (subst (λ (m : Me S TracedView). Allows {S = S} {V = TracedView} (Ruled layout) slots id m i (λ n. n) (met (Some layout) (table.step slots i 0 0 none) m)) (sym is) go)
   where
-    go : Allows {S = S} {V = View} (Ruled layout) slots id (Pair j k, []) i (λ n. n) (met (Some layout) (table.step slots i 0 0 none) (Pair j k, []))
+    go : Allows {S = S} {V = TracedView} (Ruled layout) slots id (Pair j t k u, []) i (λ n. n) (met (Some layout) (table.step slots i 0 0 none) (Pair j t k u, []))
     go s r deep here low =
         let c : Core = r.core in
-        let both = r.knows id (Pair j k) here in
-        let new : View = Pair (with_front c.changes j) (with_front c.changes k) in (
+        let both = (r.knows id (Pair j t k u) here).0 in
+        let traces = (r.knows id (Pair j t k u) here).1 in
+        let new : TracedView = Pair (with_front c.changes j) (shown r.run t) (with_front c.changes k) (shown r.run u) in (
           new,
           table.keeps,
           tt,
@@ -214,14 +239,27 @@ meets {S = S} layout of is_of slots id i me j k is =
             lawful = r.lawful;
             layout_is = r.layout_is;
             shows = subst (Shows c) (sym (set-get_or s.words i 0)) r.shows;
+            run = r.run;
+            led = r.led;
             knows = λ m v e. ⊎_elim
-                (λ (t : (m ≡ id) × (new ≡ v)). subst (Knowing c) t.1 (met_knows c j both.0, met_knows c k both.1, both.2))
-                (λ (t : (m ≢ id) × (get_elem? s.views m ≡ some v)). r.knows m v t.1)
+                (λ (h : (m ≡ id) × (new ≡ v)). subst (IsTrueOf c r.run) h.1 ((met_knows c j both.0, met_knows c k both.1, both.2), (others_none j.pass r.run, others_none k.pass r.run)))
+                (λ (h : (m ≢ id) × (get_elem? s.views m ≡ some v)). r.knows m v h.1)
                 (at_set s.views id m new v e);
-            apart = apart_set s.views id (Pair j k) new here (λ q o. o) r.apart;
-            each = λ q low. each_set s.views id q (Pair j k) new here (λ o. o) (r.each q low);
+            apart = apart_set s.views id (Pair j t k u) new here (λ q o. o) r.apart;
+            each = λ q low. each_set s.views id q (Pair j t k u) new here (λ o. o) (r.each q low);
           },
-          (refl, (with_front c.changes j, with_front c.changes k, refl, (c.changes, refl, refl, r.lawful.core.told.legal, both.0.seen.front, both.1.seen.front, both.2, subst (λ (z : Layout). All (λ x. x.pass < z.passes) c.changes) r.layout_is r.lawful.makers))),
+          (
+            refl,
+            (
+              with_front c.changes j,
+              shown r.run t,
+              with_front c.changes k,
+              shown r.run u,
+              refl,
+              (c.changes, refl, refl, r.lawful.core.told.legal, both.0.seen.front, both.1.seen.front, both.2, subst (λ (z : Layout). All (λ x. x.pass < z.passes) c.changes) r.layout_is r.lawful.makers),
+              (refl, shown_run layout s r j t traces.0, shown_run layout s r k u traces.1, refl, refl),
+            ),
+          ),
         )
 
 -- one more at the end of a list
@@ -230,14 +268,14 @@ each_longer {A = A} P xs x n len each new q h e = ⊎_elim (each q h) (λ (t : (
 
 -- What a meeting's steps leave
 
-pub paired_me : {S : Type 0} (me a b : Me S View) (j k : Known) → me ≡ (paired a.0 b.0, a.1) → a ≡ (Pass j, []) → b ≡ (Pass k, []) → me ≡ (Pair j k, [])
-paired_me {S = S} me a b j k e is was = e ∙ (λ i. (paired (is i).0 (was i).0, (is i).1))
+pub paired_me : {S : Type 0} (me a b : Me S TracedView) (j : Known) (t : Trace) (k : Known) (u : Trace) → me ≡ (paired a.0 b.0, a.1) → a ≡ (Pass j t, []) → b ≡ (Pass k u, []) → me ≡ (Pair j t k u, [])
+paired_me {S = S} me a b j t k u e is was = e ∙ (λ i. (paired (is i).0 (was i).0, (is i).1))
 
-pub meeting : {S : Type 0} (layout : Layout) (of : Option Layout) → of ≡ Some layout → (me m' : Me S View) (j k : Known) → me ≡ (Pair j k, []) → (m'.1 ≡ me.1) × Meeting of me.0 m'.0
-    → (j' : Known) × (k' : Known) × (m' ≡ (Pair j' k', [])) × SeatsHaveMet layout j k j' k'
-meeting {S = S} layout of is_of me m' j k is h =
-    let t = subst (λ (v : View). Meeting (Some layout) v m'.0) (ap (λ (z : Me S View). z.0) is) (subst (λ (o : Option Layout). Meeting o me.0 m'.0) is_of h.1) in
-    (t.0, t.1, (λ i. (t.2 i, (h.0 ∙ ap (λ (z : Me S View). z.1) is) i)), t.3)
+pub meeting : {S : Type 0} (layout : Layout) (of : Option Layout) → of ≡ Some layout → (me m' : Me S TracedView) (j : Known) (t : Trace) (k : Known) (u : Trace) → me ≡ (Pair j t k u, []) → (m'.1 ≡ me.1) × Meeting of me.0 m'.0
+    → (j' : Known) × (t' : Trace) × (k' : Known) × (u' : Trace) × (m' ≡ (Pair j' t' k' u', [])) × SeatsHaveMet layout j k j' k' × TracesHaveMet layout j t k u j' t' k' u'
+meeting {S = S} layout of is_of me m' j t k u is h =
+    let met = subst (λ (v : TracedView). Meeting (Some layout) v m'.0) (ap (λ (z : Me S TracedView). z.0) is) (subst (λ (o : Option Layout). Meeting o me.0 m'.0) is_of h.1) in
+    (met.0, met.1, met.2, met.3, (λ i. (met.4 i, (h.0 ∙ ap (λ (z : Me S TracedView). z.1) is) i)), met.5, met.6)
 
 -- those who have met have different numbers
 pub apart_met : (layout : Layout) (j k j' k' : Known) → SeatsHaveMet layout j k j' k' → j'.pass ≢ k'.pass

@@ -2,6 +2,7 @@
 use Rattle.std.proofs.Common.{◌≡◌, ◌≢◌, ℕ, zero, suc, eqb, List, [], ◌∷◌, ◌++◌, set, get_or, Bool, true, false, nat_eq, if◌then◌else◌, Option, Some, None, refl, sym, ap, subst, ◌∙◌, ⊎_elim}
 use mathlib.Core.Option.{none, some, some-injective, some-ne-none}
 use lib.ListN.{get_elem?}
+use Rattle.atomic_table.specs.Seated.{TableId}
 use Rattle.atomic_table.specs.Table.{Me, Step, Allows}
 use Rattle.atomic_table.specs.Table as table
 use Rattle.atomic_table.proofs.Lists.{at_set, set_else}
@@ -13,20 +14,27 @@ use Rattle.versions.specs.declared.Rec.{Rec}
 use Rattle.versions.specs.Core.{Fate, Free, Held, Ready as ReadyBy, InTree, Unlinked, Marked}
 use Rattle.rowex_core.specs.declared.event.Act.{Act}
 use Rattle.rowex_core.specs.declared.event.Act.TheVariants.{Claim, Fill, Ready, Release, LoadRef, LoadFixed, Lock, Unlock, Publish, Mark, LoadEpoch, Advance, SetPin, ClearPin, LoadPin, LoadState, GiveBack}
+use Rattle.rowex_core.specs.declared.event.Event.{Event}
 use Rattle.rowex_core.specs.declared.event.Target.TheVariants.{Anchor, Node as NodeTarget}
 use Rattle.rowex_core.specs.declared.event.Spot.TheVariants.{Root, Slot}
 use Rattle.rowex_core.specs.declared.known.Known.{Known}
-use Rattle.rowex_core.specs.declared.known.View.{View}
-use Rattle.rowex_core.specs.declared.known.View.TheVariants.{Pass}
-use Rattle.rowex_core.specs.Cores.{Core}
+use Rattle.rowex_core.specs.Cores.{Core, IsLawful}
 use Rattle.rowex_core.specs.Words.{Shows, word_at}
 use Rattle.rowex_core.specs.Events.{Legal, after, location_of, writes}
-use Rattle.rowex_core.specs.Knowing.{Knows, Knowing, IsViewOf, IsEvent, learned, claim_learned, anchor_learned}
+use Rattle.rowex_core.specs.Knowing.{Knows, IsViewOf, IsEvent, learned, claim_learned, anchor_learned}
+use Rattle.rowex_core.specs.Opening.{opening}
 use Rattle.rowex_core.proofs.Keeping.{keeps}
 use Rattle.rowex_core.proofs.Learning.{learns}
 use Rattle.rowex_core.proofs.Staying.{stays_lawful}
 use Rattle.rowex_core.proofs.Writing.{step_writes, writes_one, in_table}
-use Rattle.rowex_table.specs.Rule.{Ruled, IsSomeSeats, did, MayStep, found_by, known_of}
+use Rattle.rowex_table.specs.declared.traces.Trace.{Trace}
+use Rattle.rowex_table.specs.declared.traces.TracedView.{TracedView}
+use Rattle.rowex_table.specs.declared.traces.TracedView.TheVariants.{Pass}
+use Rattle.rowex_table.specs.Rule.{Happens, IsTrueOf, Ruled, IsSomeSeats, did, MayStep, found_by, known_of, trace_of}
+use Rattle.rowex_table.specs.Runs.{StepsWith}
+use Rattle.rowex_table.specs.Seats.{SeatView, TableView}
+use Rattle.rowex_table.specs.Traces.{IsNextStep, view_of}
+use Rattle.rowex_table.proofs.Onward.{led_more, others_none, traces_more}
 
 -- A pass keeps its number
 
@@ -114,18 +122,18 @@ found_writes (GiveBack r epoch found) w x = refl
 
 -- The numbers of seats
 
-abbrev pub Apart : List View → Type 0
-Apart views = (i j q : ℕ) (v w : View) → get_elem? views i ≡ some v → get_elem? views j ≡ some w → IsViewOf v q → IsViewOf w q → i ≡ j
+abbrev pub Apart : List TracedView → Type 0
+Apart views = (i j q : ℕ) (v w : TracedView) → get_elem? views i ≡ some v → get_elem? views j ≡ some w → IsViewOf (view_of v) q → IsViewOf (view_of w) q → i ≡ j
 
 -- a seat whose view keeps to its numbers
-pub apart_set : (views : List View) (id : ℕ) (v w : View) → get_elem? views id ≡ some v → ((q : ℕ) → IsViewOf w q → IsViewOf v q) → Apart views → Apart (set views id w)
+pub apart_set : (views : List TracedView) (id : ℕ) (v w : TracedView) → get_elem? views id ≡ some v → ((q : ℕ) → IsViewOf (view_of w) q → IsViewOf (view_of v) q) → Apart views → Apart (set views id w)
 apart_set views id v w here owns apart i j q x y a b ox oy = ⊎_elim
     (λ (s : (i ≡ id) × (w ≡ x)). ⊎_elim
     (λ (t : (j ≡ id) × (w ≡ y)). s.0 ∙ sym t.0)
-    (λ (t : (j ≢ id) × (get_elem? views j ≡ some y)). s.0 ∙ apart id j q v y here t.1 (owns q (subst (λ z. IsViewOf z q) (sym s.1) ox)) oy)
+    (λ (t : (j ≢ id) × (get_elem? views j ≡ some y)). s.0 ∙ apart id j q v y here t.1 (owns q (subst (λ z. IsViewOf (view_of z) q) (sym s.1) ox)) oy)
     (at_set views id j w y b))
     (λ (s : (i ≢ id) × (get_elem? views i ≡ some x)). ⊎_elim
-    (λ (t : (j ≡ id) × (w ≡ y)). apart i id q x v s.1 here ox (owns q (subst (λ z. IsViewOf z q) (sym t.1) oy)) ∙ sym t.0)
+    (λ (t : (j ≡ id) × (w ≡ y)). apart i id q x v s.1 here ox (owns q (subst (λ z. IsViewOf (view_of z) q) (sym t.1) oy)) ∙ sym t.0)
     (λ (t : (j ≢ id) × (get_elem? views j ≡ some y)). apart i j q x y s.1 t.1 ox oy)
     (at_set views id j w y b))
     (at_set views id i w x a)
@@ -136,36 +144,50 @@ set_at (x ∷ xs) zero a b e = refl
 set_at (x ∷ xs) (suc i) a b e = set_at xs i a b e
 
 -- a number of some seat's: of the one that is set, where that keeps it, or of one of the others
-pub each_set : (views : List View) (id q : ℕ) (v w : View) → get_elem? views id ≡ some v → (IsViewOf v q → IsViewOf w q) → IsSomeSeats views q → IsSomeSeats (set views id w) q
+pub each_set : (views : List TracedView) (id q : ℕ) (v w : TracedView) → get_elem? views id ≡ some v → (IsViewOf (view_of v) q → IsViewOf (view_of w) q) → IsSomeSeats views q →
+    IsSomeSeats (set views id w) q
 each_set views id q v w here keeps (i, x, at, owns) = ⊎_elim
-    (λ (e : (eqb i id ≡ true) × (i ≡ id)). (id, w, set_at views id w v here, keeps (subst (λ z. IsViewOf z q) (some-injective x v (sym at ∙ (ap (λ n. get_elem? views n) e.1 ∙ here))) owns)))
+    (λ (e : (eqb i id ≡ true) × (i ≡ id)). (id, w, set_at views id w v here, keeps (subst (λ z. IsViewOf (view_of z) q) (some-injective x v (sym at ∙ (ap (λ n. get_elem? views n) e.1 ∙ here))) owns)))
     (λ (n : (eqb i id ≡ false) × (i ≢ id)). (i, x, set_else views id i w n.1 ∙ at, owns))
     (eqb_tells i id)
 
 -- A step
 
-module _ {S : Type 0} (layout : Layout) (slots id i : ℕ) (k : Known) (act : Act) (said : Known → List Note) (f tell : ℕ → ℕ) where
+-- what the pass's seat and the others know is true of the core after the step, and of the run with it
+pub true_after : (c : Core) (run : List Event) (k j : Known) (t : Trace) (act : Act) → IsLawful c → Knows c k → Legal c k.pass act → (notes : List Note) → j ≡ record (learned c act k) { notes = notes } →
+    let x : Event = record { pass = k.pass; act = act } in IsTrueOf (after c k.pass act) (run ++ x ∷ []) (Pass j (record { events = run ++ x ∷ []; asides = t.asides }))
+true_after c run k j t act law known legal notes is =
+    let x : Event = record { pass = k.pass; act = act } in
+    (subst (Knows (after c k.pass act)) (sym is) (renoted (after c k.pass act) (learned c act k) notes (learns c k act law known legal)), others_none j.pass (run ++ x ∷ []))
+
+pub still_true : (c : Core) (run : List Event) (q : ℕ) (act : Act) (v : TracedView) → IsLawful c → Legal c q act → ¬ IsViewOf (view_of v) q → IsTrueOf c run v →
+    IsTrueOf (after c q act) (run ++ record { pass = q; act = act } ∷ []) v
+still_true c run q act v law legal other h = (keeps c q act (view_of v) law legal other h.0, traces_more run (record { pass = q; act = act }) v other h.1)
+
+module _ {S : Type 0} (layout : Layout) (slots id i : ℕ) (k : Known) (t : Trace) (act : Act) (said : Known → List Note) (f tell : ℕ → ℕ) where
   -- what a step tells depends on its act alone
   abbrev st : Step S
   st = table.step 0 0 0 0 none
 
   -- the step keeps the rule, and is the event
   pub allows : i ≡ address layout (location_of k.pass act) → ((w : ℕ) → f w ≡ writes act w) → ((w : ℕ) → found_by act (tell w) ≡ found_by act w) → MayStep layout (found_by act) k
-      → Allows {S = S} {V = View} (Ruled layout) slots id (Pass k, []) i f (λ n m'. did (Some layout) act said st (Pass k, []) (tell n) m')
+      → Allows {S = S} {V = TracedView} (Ruled layout) slots id (Pass k t, []) i f (λ n m'. did (Some layout) act said st (Pass k t, []) (tell n) m')
   allows place new says apt s r deep here low =
       let c : Core = r.core in
       let w : ℕ = get_or s.words i 0 in
       let at : ℕ = word_at c (location_of k.pass act) in
-      let known : Knows c k = r.knows id (Pass k) here in
+      let known : Knows c k = (r.knows id (Pass k t) here).0 in
       let found : Legal c k.pass (found_by act at) = subst (λ z. Legal c k.pass (found_by act (word_at c z))) (found_place k.pass act 0) (apt c r.lawful r.layout_is known) in
       let inside = subst (λ z. Rattle.record_words.specs.Layout.IsInTable c.layout z) (found_place k.pass act at) (in_table c k.pass (found_by act at) found) in
       let there : i ≡ address c.layout (location_of k.pass act) = place ∙ ap (λ (z : Layout). address z (location_of k.pass act)) (sym r.layout_is) in
       let word : w ≡ at = ap (λ z. get_or s.words z 0) there ∙ r.shows.each (location_of k.pass act) inside in
       let does : Act = found_by act at in
       let j : Known = record (learned c does k) { notes = k.notes ++ said (learned c does k) } in
-      let mine : Knowing (after c k.pass does) (Pass j) = renoted (after c k.pass does) (learned c does k) j.notes (learns c k does r.lawful known found) in
-      let event : IsEvent layout does said k j = record { core = c; lawful = r.lawful; layout_is = r.layout_is; knows = known; legal = found; learned_is = refl } in (
-        Pass j,
+      let x : Event = record { pass = k.pass; act = does } in
+      let u : Trace = record { events = r.run ++ x ∷ []; asides = t.asides } in
+      let event : IsEvent layout does said k j = record { core = c; lawful = r.lawful; layout_is = r.layout_is; knows = known; legal = found; learned_is = refl } in
+      let next : IsNextStep layout k.pass does c t.events u.events = record { before = r.run; led = r.led; others = (r.knows id (Pass k t) here).1; next_is = refl } in (
+        Pass j u,
         table.keeps,
         tt,
         record {
@@ -175,21 +197,52 @@ module _ {S : Type 0} (layout : Layout) (slots id i : ℕ) (k : Known) (act : Ac
           shows = subst (λ (z : ℕ × ℕ). Shows (after c k.pass does) (set s.words z.0 z.1))
               (λ e. ((ap (λ z. address c.layout z) (found_place k.pass act at) ∙ sym there) e, (found_writes act at (word_at c (location_of k.pass does)) ∙ (ap (λ z. writes act (word_at c z)) (found_place k.pass act at) ∙ (ap (writes act) (sym word) ∙ sym (new w)))) e))
               (writes_one c k.pass does s.words r.lawful found r.shows);
+          run = r.run ++ x ∷ [];
+          led = led_more (opening layout) r.run c k.pass does r.led found;
           knows = λ m v e. ⊎_elim
-              (λ (t : (m ≡ id) × (Pass j ≡ v)). subst (Knowing (after c k.pass does)) t.1 mine)
-              (λ (t : (m ≢ id) × (get_elem? s.views m ≡ some v)). keeps c k.pass does v r.lawful found (λ o. t.0 (r.apart m id k.pass v (Pass k) t.1 here o refl)) (r.knows m v t.1))
-              (at_set s.views id m (Pass j) v e);
-          apart = apart_set s.views id (Pass k) (Pass j) here (λ q o. sym (learned_pass c does k) ∙ o) r.apart;
-          each = λ q low. each_set s.views id q (Pass k) (Pass j) here (λ o. learned_pass c does k ∙ o) (r.each q low);
+              (λ (h : (m ≡ id) × (Pass j u ≡ v)). subst (IsTrueOf (after c k.pass does) (r.run ++ x ∷ [])) h.1 (true_after c r.run k j t does r.lawful known found j.notes refl))
+              (λ (h : (m ≢ id) × (get_elem? s.views m ≡ some v)). still_true c r.run k.pass does v r.lawful found (λ o. h.0 (r.apart m id k.pass v (Pass k t) h.1 here o refl)) (r.knows m v h.1))
+              (at_set s.views id m (Pass j u) v e);
+          apart = apart_set s.views id (Pass k t) (Pass j u) here (λ q o. sym (learned_pass c does k) ∙ o) r.apart;
+          each = λ q low. each_set s.views id q (Pass k t) (Pass j u) here (λ o. learned_pass c does k ∙ o) (r.each q low);
         },
-        (refl, (j, refl, subst (λ z. IsEvent layout z said k j) (ap (found_by act) (sym word) ∙ sym (says w)) event)),
+        (refl, subst (λ z. Happens (Some layout) z said (Pass k t) (Pass j u)) (ap (found_by act) (sym word) ∙ sym (says w)) (j, u, event, refl, next, refl)),
       )
 
   -- the same for a seat that is a pass's
-  pub allows_me : (me : Me S View) (key : Layout) (of : Option Layout) → key ≡ layout → of ≡ Some layout → me ≡ (Pass (known_of me.0), []) → k ≡ known_of me.0 → i ≡ address layout (location_of k.pass act) → ((w : ℕ) → f w ≡ writes act w)
+  pub allows_me : (me : Me S TracedView) (key : Layout) (of : Option Layout) → key ≡ layout → of ≡ Some layout → me ≡ (Pass (known_of me.0) (trace_of me.0), []) → k ≡ known_of me.0 → t ≡ trace_of me.0 → i ≡ address layout (location_of k.pass act) → ((w : ℕ) → f w ≡ writes act w)
       → ((w : ℕ) → found_by act (tell w) ≡ found_by act w) → MayStep layout (found_by act) k
-      → Allows {S = S} {V = View} (Ruled key) slots id me i f (λ n m'. did of act said st me (tell n) m')
-  allows_me me key of count is_of is same place new says apt = subst (λ (x : Layout). Allows {S = S} {V = View} (Ruled x) slots id me i f (λ n m'. did of act said st me (tell n) m')) (sym count)
-      (subst (λ (x : Option Layout). Allows {S = S} {V = View} (Ruled layout) slots id me i f (λ n m'. did x act said st me (tell n) m')) (sym is_of)
-      (subst (λ (m : Me S View). Allows {S = S} {V = View} (Ruled layout) slots id m i f (λ n m'. did (Some layout) act said st m (tell n) m'))
-      (ap (λ (z : Known). let m : Me S View = (Pass z, []) in m) same ∙ sym is) (allows place new says apt)))
+      → Allows {S = S} {V = TracedView} (Ruled key) slots id me i f (λ n m'. did of act said st me (tell n) m')
+  allows_me me key of count is_of is same traced place new says apt = subst (λ (x : Layout). Allows {S = S} {V = TracedView} (Ruled x) slots id me i f (λ n m'. did of act said st me (tell n) m')) (sym count)
+      (subst (λ (x : Option Layout). Allows {S = S} {V = TracedView} (Ruled layout) slots id me i f (λ n m'. did x act said st me (tell n) m')) (sym is_of)
+      (subst (λ (m : Me S TracedView). Allows {S = S} {V = TracedView} (Ruled layout) slots id m i f (λ n m'. did (Some layout) act said st m (tell n) m'))
+      ((λ e. (Pass (same e) (traced e), [])) ∙ sym is) (allows place new says apt)))
+
+-- What a step leaves its seat
+
+pub stepped_me : {S : Type 0} (layout : Layout) (act : Act) (said : Known → List Note) (of : Option Layout) → of ≡ Some layout → (me m' : Me S TracedView) → me ≡ (Pass (known_of me.0) (trace_of me.0), []) → Happens of act said me.0 m'.0 →
+    (event : IsEvent layout act said (known_of me.0) (known_of m'.0)) × IsNextStep layout (known_of me.0).pass act event.core (trace_of me.0).events (trace_of m'.0).events × ((trace_of m'.0).asides ≡ (trace_of me.0).asides)
+stepped_me {S = S} layout act said of is_of me m' is h =
+    let k : Known = known_of me.0 in
+    let t : Trace = trace_of me.0 in
+    let happens : Happens (Some layout) act said (Pass k t) m'.0 =
+    subst (λ (v : TracedView). Happens (Some layout) act said v m'.0) (ap (λ (z : Me S TracedView). z.0) is) (subst (λ (o : Option Layout). Happens o act said me.0 m'.0) is_of h) in
+    subst (λ (v : TracedView). (event : IsEvent layout act said k (known_of v)) × IsNextStep layout k.pass act event.core t.events (trace_of v).events × ((trace_of v).asides ≡ t.asides)) (sym happens.3)
+    (happens.2, happens.4, happens.5)
+
+-- the seat of a pass, as contracts see it
+abbrev pub seat_of : {S : Type 0} → TableId → ℕ → Me S TracedView → SeatView
+seat_of table id me = record { table = table; id = id; known = known_of me.0; trace = (trace_of me.0).events; asides = (trace_of me.0).asides }
+
+pub steps_with : {G S : Type 0} (table : TableView) (becomes : G → Event → G → Type 0) (act : Act) (said : Known → List Note) (of : Option Layout) → of ≡ Some table.layout → (x y : TableId) (i j : ℕ) (me m' : Me S TracedView) →
+    me ≡ (Pass (known_of me.0) (trace_of me.0), []) → y ≡ x → j ≡ i → (m'.1 ≡ me.1) × Happens of act said me.0 m'.0 → (s : SeatView) → seat_of x i me ≡ s → (g h : G) (told : Act) → told ≡ act →
+    becomes g (record { pass = (known_of m'.0).pass; act = told }) h → StepsWith table becomes act said (s, g) (seat_of y j m', h)
+steps_with {G = G} table becomes act said of is_of x y i j me m' is tables ids did s seen g h told same tells =
+    let e = stepped_me table.layout act said of is_of me m' is did.1 in
+    let pass : (known_of m'.0).pass ≡ (known_of me.0).pass = ap (λ (z : Known). z.pass) e.0.learned_is ∙ learned_pass e.0.core act (known_of me.0) in
+    subst (λ (z : SeatView). StepsWith table becomes act said (z, g) (seat_of y j m', h)) seen (record {
+      seat = (tables, ids, pass, e.2);
+      event = e.0;
+      next = e.1;
+      told = subst (λ (z : ℕ × Act). becomes g (record { pass = z.0; act = z.1 }) h) (λ i. (pass i, same i)) tells;
+    })

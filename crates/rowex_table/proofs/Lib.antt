@@ -1,4 +1,5 @@
 -- The lemmas of the crate.
+pub mod Onward
 pub mod Keeping
 pub mod Dealing
 pub mod Stamps
@@ -8,3 +9,4 @@ pub mod ActsBefore
 pub mod ActsAfter
 pub mod ActsLeave
 pub mod Seeing
+pub mod Linking

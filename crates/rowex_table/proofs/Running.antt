@@ -11,10 +11,10 @@ use Rattle.rowex_table.specs.Statements.{RunsAreTold}
 -- One seat
 
 pub same_none : (s : SeatView) → IsSame s s
-same_none s = (refl, refl, refl)
+same_none s = (refl, refl, refl, refl)
 
 pub same_more : (s t u : SeatView) → IsSame s t → IsSame t u → IsSame s u
-same_more s t u first second = (second.0 ∙ first.0, second.1 ∙ first.1, second.2 ∙ first.2)
+same_more s t u first second = (second.0 ∙ first.0, second.1 ∙ first.1, second.2 ∙ first.2, second.3 ∙ first.3)
 
 -- Steps in turn: those of one part more
 pub in_turn_more : (Parts : ℕ → List Act → Type 0) (n : ℕ) (before last : List Act) → InTurn Parts n before → Parts n last → InTurn Parts (n + 1) (before ++ last)

@@ -9,102 +9,151 @@ use Rattle.rowex_core.specs.declared.event.Event.{Event}
 use Rattle.rowex_core.specs.declared.event.Spot.TheVariants.{Root, Slot}
 use Rattle.rowex_core.specs.declared.known.Fresh.{Fresh}
 use Rattle.rowex_core.specs.declared.known.Known.{Known}
-use Rattle.rowex_core.specs.Knowing.{IsEvent, SeesAllAtRoot, version_of}
+use Rattle.rowex_core.specs.Knowing.{IsEvent, version_of}
 use Rattle.rowex_core.proofs.Keeping.{seen_by}
-use Rattle.rowex_table.specs.Runs.{Ends, Runs, silent}
-use Rattle.rowex_table.specs.Seats.{TableView, SeatView, IsSame}
+use Rattle.rowex_table.specs.Runs.{Ends, Runs, SeesAllOfRun, Steps, StepsWith, silent}
+use Rattle.rowex_table.specs.Seats.{TableView, SeatView}
+use Rattle.rowex_table.specs.Traces.{RunBeginsWith}
 use Rattle.rowex_table.proofs.ActsLeave.{act_fresh}
-use Rattle.rowex_table.proofs.Running.{runs_same}
+use Rattle.rowex_table.proofs.Onward.{begins_itself, begins_on, next_begins, others_begin}
 
 -- one step more
 step_more : (layout : Layout) (act : Act) (said : Known → List Note) (k j : Known) → IsEvent layout act said k j → j.steps ≡ k.steps + 1
 step_more layout act said k j e = ap (λ (z : Known). z.steps) e.learned_is
 
--- a load of the root
-pub root_shows : (layout : Layout) (w : ℕ) (said : Known → List Note) (k j : Known) → IsEvent layout (LoadRef Root w) said k j → SeesAllAtRoot layout k j
-root_shows layout w said k j e =
-    let fresh : j.fresh ≡ record { front = e.core.changes; step = k.steps; pinned = version_of k.pin } = ap (λ (z : Known). z.fresh) e.learned_is in
-    let more = step_more layout (LoadRef Root w) said k j e in
-    record {
-      core = e.core;
-      lawful = e.lawful;
-      layout_is = e.layout_is;
-      at = k;
-      knows = e.knows;
-      pass = refl;
-      since = le_refl k.steps;
-      until = omega (arith, more);
-      fresh = fresh;
-      all = λ o known. subst (λ (z : Fresh). BeginsWith z.front o.front) (sym fresh) (seen_by e.core o known);
-    }
+-- the later view of a seat: the pass has made as many steps at least, and its trace goes on
+pub record IsAfter (s t : SeatView) : Type 0 where
+  pub pass : t.known.pass ≡ s.known.pass
+  pub steps : s.known.steps ≤ t.known.steps
+  pub trace : RunBeginsWith t.trace s.trace
 
--- steps that leave what was loaded before them, or load the root
-abbrev pub Shows : Layout → Known → Known → Type 0
-Shows layout k j = (j.fresh ≡ k.fresh) ⊎ SeesAllAtRoot layout k j
+pub after_itself : (s : SeatView) → IsAfter s s
+after_itself s = record { pass = refl; steps = le_refl s.known.steps; trace = begins_itself s.trace }
 
-pub event_shows : (layout : Layout) (act : Act) (said : Known → List Note) (k j : Known) → IsEvent layout act said k j → Shows layout k j
-event_shows layout (LoadRef Root w) said k j e = inr (root_shows layout w said k j e)
-event_shows layout (LoadRef (Slot n i) w) said k j e = inl (act_fresh layout k j (LoadRef (Slot n i) w) said e tt)
-event_shows layout act said k j e = inl (act_fresh layout k j act said e tt)
+pub after_trans : {s t u : SeatView} → IsAfter s t → IsAfter t u → IsAfter s u
+after_trans {s} {t} {u} x y = record { pass = y.pass ∙ x.pass; steps = le_trans x.steps y.steps; trace = begins_on s.trace t.trace u.trace x.trace y.trace }
 
 -- what was loaded since an earlier version
-pub sees_since : (layout : Layout) (k i j : Known) → i.pass ≡ k.pass → k.steps ≤ i.steps → SeesAllAtRoot layout i j → SeesAllAtRoot layout k j
-sees_since layout k i j same later s =
-    record { core = s.core; lawful = s.lawful; layout_is = s.layout_is; at = s.at; knows = s.knows; pass = s.pass ∙ same; since = le_trans later s.since; until = s.until; fresh = s.fresh; all = s.all }
-
--- and is not loaded again
-sees_still : (layout : Layout) (k i j : Known) → i.steps ≤ j.steps → SeesAllAtRoot layout k i → j.fresh ≡ i.fresh → SeesAllAtRoot layout k j
-sees_still layout k i j later s same = record {
-  core = s.core;
-  lawful = s.lawful;
-  layout_is = s.layout_is;
-  at = s.at;
-  knows = s.knows;
-  pass = s.pass;
-  since = s.since;
-  until = (let u = s.until in omega (arith, later));
-  fresh = same ∙ s.fresh;
-  all = λ o known. subst (λ (z : Fresh). BeginsWith z.front o.front) (sym same) (s.all o known);
+sees_since : (layout : Layout) (k i j : SeatView) → IsAfter k i → SeesAllOfRun layout i j → SeesAllOfRun layout k j
+sees_since layout k i j later x = record {
+  sees = (let s = x.sees in record { core = s.core; lawful = s.lawful; layout_is = s.layout_is; at = s.at; knows = s.knows; pass = s.pass ∙ later.pass; since = le_trans later.steps s.since; until = s.until; fresh = s.fresh; all = s.all });
+  run = x.run;
+  led = x.led;
+  since = begins_on k.trace i.trace x.run later.trace x.since;
+  until = x.until;
 }
 
--- once loaded, whatever follows
-pub sees_then : (layout : Layout) (k i j : Known) → i.pass ≡ k.pass → k.steps ≤ i.steps → i.steps ≤ j.steps → SeesAllAtRoot layout k i → Shows layout i j → SeesAllAtRoot layout k j
-sees_then layout k i j same later more s shows = ⊎_elim (sees_still layout k i j more s) (sees_since layout k i j same later) shows
+-- and is not loaded again
+sees_still : (layout : Layout) (k i j : SeatView) → IsAfter i j → SeesAllOfRun layout k i → j.known.fresh ≡ i.known.fresh → SeesAllOfRun layout k j
+sees_still layout k i j later x same = record {
+  sees = (let s = x.sees in record {
+    core = s.core;
+    lawful = s.lawful;
+    layout_is = s.layout_is;
+    at = s.at;
+    knows = s.knows;
+    pass = s.pass;
+    since = s.since;
+    until = (let u = s.until in let more = later.steps in omega (arith, more));
+    fresh = same ∙ s.fresh;
+    all = λ o known. subst (λ (z : Fresh). BeginsWith z.front o.front) (sym same) (s.all o known);
+  });
+  run = x.run;
+  led = x.led;
+  since = x.since;
+  until = begins_on x.run i.trace j.trace x.until later.trace;
+}
 
-shows_then : (layout : Layout) (k i j : Known) → i.pass ≡ k.pass → k.steps ≤ i.steps → i.steps ≤ j.steps → Shows layout k i → Shows layout i j → Shows layout k j
-shows_then layout k i j same later more first second = ⊎_elim
-    (λ (f : i.fresh ≡ k.fresh). ⊎_elim (λ (e : j.fresh ≡ i.fresh). inl (e ∙ f)) (λ s. inr (sees_since layout k i j same later s)) second)
-    (λ s. inr (sees_then layout k i j same later more s second))
+-- steps that leave what was loaded before them, or load the root
+abbrev pub Shows : Layout → SeatView → SeatView → Type 0
+Shows layout s t = (t.known.fresh ≡ s.known.fresh) ⊎ SeesAllOfRun layout s t
+
+-- once loaded, whatever follows
+pub sees_then : (layout : Layout) (k i j : SeatView) → IsAfter k i → IsAfter i j → SeesAllOfRun layout k i → Shows layout i j → SeesAllOfRun layout k j
+sees_then layout k i j first second s shows = ⊎_elim (sees_still layout k i j second s) (sees_since layout k i j first) shows
+
+shows_then : (layout : Layout) (k i j : SeatView) → IsAfter k i → IsAfter i j → Shows layout k i → Shows layout i j → Shows layout k j
+shows_then layout k i j later more first second = ⊎_elim
+    (λ (f : i.known.fresh ≡ k.known.fresh). ⊎_elim (λ (e : j.known.fresh ≡ i.known.fresh). inl (e ∙ f)) (λ s. inr (sees_since layout k i j later s)) second)
+    (λ s. inr (sees_then layout k i j later more s second))
     first
 
 module _ {G : Type 0} (table : TableView) (becomes : G → Event → G → Type 0) where
-  pub runs_later : (acts : List Act) (a b : SeatView × G) → Runs table becomes acts a b → a.0.known.steps ≤ b.0.known.steps
-  runs_later [] a b run = subst (λ (z : SeatView × G). a.0.known.steps ≤ z.0.known.steps) (sym run) (le_refl a.0.known.steps)
-  runs_later (act ∷ acts) a b run =
-      let one = step_more table.layout act silent a.0.known run.0.0.known run.1.event in
-      let rest = runs_later acts run.0 b run.2 in omega (arith, one, rest)
+  -- One step
 
-  pub runs_show : (acts : List Act) (a b : SeatView × G) → Runs table becomes acts a b → Shows table.layout a.0.known b.0.known
+  pub step_after : (act : Act) (said : Known → List Note) (a b : SeatView × G) → StepsWith table becomes act said a b → IsAfter a.0 b.0
+  step_after act said a b step =
+      let one = step_more table.layout act said a.0.known b.0.known step.event in
+      record { pass = step.seat.2; steps = omega (arith, one); trace = next_begins step.next }
+
+  -- a load of the root
+  pub root_shows : (w : ℕ) (said : Known → List Note) (a b : SeatView × G) → StepsWith table becomes (LoadRef Root w) said a b → SeesAllOfRun table.layout a.0 b.0
+  root_shows w said a b step =
+      let k : Known = a.0.known in
+      let j : Known = b.0.known in
+      let e = step.event in
+      let fresh : j.fresh ≡ record { front = e.core.changes; step = k.steps; pinned = version_of k.pin } = ap (λ (z : Known). z.fresh) e.learned_is in
+      let more = step_more table.layout (LoadRef Root w) said k j e in
+      record {
+        sees = record {
+          core = e.core;
+          lawful = e.lawful;
+          layout_is = e.layout_is;
+          at = k;
+          knows = e.knows;
+          pass = refl;
+          since = le_refl k.steps;
+          until = omega (arith, more);
+          fresh = fresh;
+          all = λ o known. subst (λ (z : Fresh). BeginsWith z.front o.front) (sym fresh) (seen_by e.core o known);
+        };
+        run = step.next.before;
+        led = step.next.led;
+        since = others_begin k.pass a.0.trace step.next.before step.next.others;
+        until = (record { pass = k.pass; act = LoadRef Root w } ∷ [], step.next.next_is);
+      }
+
+  pub step_shows : (act : Act) (said : Known → List Note) (a b : SeatView × G) → StepsWith table becomes act said a b → Shows table.layout a.0 b.0
+  step_shows (LoadRef Root w) said a b step = inr (root_shows w said a b step)
+  step_shows (LoadRef (Slot n i) w) said a b step = inl (act_fresh table.layout a.0.known b.0.known (LoadRef (Slot n i) w) said step.event tt)
+  step_shows act said a b step = inl (act_fresh table.layout a.0.known b.0.known act said step.event tt)
+
+  -- Steps one after the other
+
+  pub runs_after : (acts : List Act) (a b : SeatView × G) → Runs table becomes acts a b → IsAfter a.0 b.0
+  runs_after [] a b run = subst (λ (z : SeatView × G). IsAfter a.0 z.0) (sym run) (after_itself a.0)
+  runs_after (act ∷ acts) a b run = after_trans (step_after act silent a run.0 run.1) (runs_after acts run.0 b run.2)
+
+  pub runs_later : (acts : List Act) (a b : SeatView × G) → Runs table becomes acts a b → a.0.known.steps ≤ b.0.known.steps
+  runs_later acts a b run = (runs_after acts a b run).steps
+
+  pub runs_show : (acts : List Act) (a b : SeatView × G) → Runs table becomes acts a b → Shows table.layout a.0 b.0
   runs_show [] a b run = inl (ap (λ (z : SeatView × G). z.0.known.fresh) run)
   runs_show (act ∷ acts) a b run =
-      let one = step_more table.layout act silent a.0.known run.0.0.known run.1.event in
-      shows_then table.layout a.0.known run.0.0.known b.0.known run.1.seat.2 (omega (arith, one)) (runs_later acts run.0 b run.2) (event_shows table.layout act silent a.0.known run.0.0.known run.1.event)
-      (runs_show acts run.0 b run.2)
+      shows_then table.layout a.0 run.0.0 b.0 (step_after act silent a run.0 run.1) (runs_after acts run.0 b run.2) (step_shows act silent a run.0 run.1) (runs_show acts run.0 b run.2)
+
+  -- the root was loaded by one of these steps, and then these were made
+  pub runs_see : (acts more : List Act) (w : ℕ) (a m n b : SeatView × G) → Runs table becomes acts a m → Steps table becomes (LoadRef Root w) m n → Runs table becomes more n b → SeesAllOfRun table.layout a.0 b.0
+  runs_see acts more w a m n b first load rest =
+      let before = runs_after acts a m first in
+      let one = step_after (LoadRef Root w) silent m n load in
+      sees_then table.layout a.0 n.0 b.0 (after_trans before one) (runs_after more n b rest) (sees_since table.layout a.0 m.0 n.0 before (root_shows w silent m n load)) (runs_show more n b rest)
 
   -- the last load of the root was before the steps to come
   counted : (acts : List Act) (act : Act) (said : Known → List Note) (a b : SeatView × G) → Ends table becomes acts act said a b → a.0.known.fresh.step < a.0.known.steps
   counted [] act said a b ends = subst (λ (z : SeatView × G). z.0.known.fresh.step < z.0.known.steps) ends.1 ends.2.event.knows.counted.loaded
   counted (x ∷ acts) act said a b ends = ends.1.1.event.knows.counted.loaded
 
-  pub ends_show : (acts : List Act) (act : Act) (said : Known → List Note) (a b : SeatView × G) → Ends table becomes acts act said a b → Shows table.layout a.0.known b.0.known
+  pub ends_after : (acts : List Act) (act : Act) (said : Known → List Note) (a b : SeatView × G) → Ends table becomes acts act said a b → IsAfter a.0 b.0
+  ends_after acts act said a b ends = after_trans (runs_after acts a ends.0 ends.1) (step_after act said ends.0 b ends.2)
+
+  pub ends_show : (acts : List Act) (act : Act) (said : Known → List Note) (a b : SeatView × G) → Ends table becomes acts act said a b → Shows table.layout a.0 b.0
   ends_show acts act said a b ends =
-      let one = step_more table.layout act said ends.0.0.known b.0.known ends.2.event in
-      shows_then table.layout a.0.known ends.0.0.known b.0.known (runs_same table becomes acts a ends.0 ends.1).2 (runs_later acts a ends.0 ends.1) (omega (arith, one)) (runs_show acts a ends.0 ends.1)
-      (event_shows table.layout act said ends.0.0.known b.0.known ends.2.event)
+      shows_then table.layout a.0 ends.0.0 b.0 (runs_after acts a ends.0 ends.1) (step_after act said ends.0 b ends.2) (runs_show acts a ends.0 ends.1) (step_shows act said ends.0 b ends.2)
 
   -- where the last load of the root is one of these steps, it has shown all
   pub ends_see : (acts : List Act) (act : Act) (said : Known → List Note) (a b : SeatView × G) → Ends table becomes acts act said a b → a.0.known.steps ≤ b.0.known.fresh.step →
-      SeesAllAtRoot table.layout a.0.known b.0.known
+      SeesAllOfRun table.layout a.0 b.0
   ends_see acts act said a b ends late =
       let old = counted acts act said a b ends in ⊎_elim
       (λ (same : b.0.known.fresh ≡ a.0.known.fresh). let step = ap (λ (z : Fresh). z.step) same in absurd (omega (arith, old, late, step)))

@@ -9,42 +9,49 @@ use Rattle.atomic_table.specs.Table as table
 use Rattle.atomic_table.proofs.Lists.{at_set}
 use Rattle.finite_map.specs.declared.Change.{Change}
 use Rattle.record_words.specs.declared.layout.Layout.{Layout}
+use Rattle.rowex_core.specs.declared.event.Event.{Event}
 use Rattle.rowex_core.specs.declared.known.Known.{Known}
-use Rattle.rowex_core.specs.declared.known.View.{View}
-use Rattle.rowex_core.specs.declared.known.View.TheVariants.{Spent, Pass, Witness, Follower}
 use Rattle.rowex_core.specs.Cores.{Core}
 use Rattle.rowex_core.specs.Words.{Shows}
-use Rattle.rowex_core.specs.Knowing.{Knowing}
 use Rattle.rowex_core.proofs.Keeping.{seen_by}
-use Rattle.rowex_table.specs.Rule.{Ruled, followed, following, stamped, with_front}
-use Rattle.rowex_table.proofs.Dealing.{joins_as, met_knows, splits}
+use Rattle.rowex_table.specs.declared.traces.Trace.{Trace}
+use Rattle.rowex_table.specs.declared.traces.TracedView.{TracedView}
+use Rattle.rowex_table.specs.declared.traces.TracedView.TheVariants.{Spent, Pass, Witness, Follower}
+use Rattle.rowex_table.specs.Rule.{Ruled, IsTrueOf, followed, following, stamped, stamping, with_front}
+use Rattle.rowex_table.proofs.Dealing.{joins_as, met_knows, shown, shown_run, splits}
 use Rattle.rowex_table.proofs.Keeping.{apart_set, each_set}
+use Rattle.rowex_table.proofs.Onward.{others_begin, others_none}
 
 -- The split: the pass keeps all that it has
-pub stamps : {S : Type 0} (layout : Layout) (id : ℕ) (v : View) (k : Known) → v ≡ Pass k → Splits {S = S} {V = View} (Ruled layout) id v v (stamped v)
-stamps {S = S} layout id v k is = subst (λ (z : View). Splits {S = S} {V = View} (Ruled layout) id z z (stamped z)) (sym is)
-    (splits layout id (Pass k) (Pass k) (Witness k.front) (λ c at h. (h, seen_by c k h)) (λ q o. o) (λ q o. absurd o) (λ q a b. b) (λ q o. inl o))
+pub stamps : {S : Type 0} (layout : Layout) (id : ℕ) (v : TracedView) (k : Known) (t : Trace) → v ≡ Pass k t → Splits {S = S} {V = TracedView} (Ruled layout) id v (stamping v) (stamped v)
+stamps {S = S} layout id v k t is = subst (λ (z : TracedView). Splits {S = S} {V = TracedView} (Ruled layout) id z (stamping z) (stamped z)) (sym is)
+    (splits layout id (Pass k t) (stamping (Pass k t)) (Witness k.front t.events) (λ c run at h. (h, (seen_by c k h.0, others_begin k.pass t.events run h.1))) (λ q o. o) (λ q o. absurd o) (λ q a b. b)
+    (λ q o. inl o))
 
 -- The join
-pub joins_stamp : {S : Type 0} (layout : Layout) (id other : ℕ) (v w : View) (k : Known) (stamp : List Change) → v ≡ Pass k → w ≡ Witness stamp → Joins {S = S} {V = View} (Ruled layout) id v other w (following v w) Spent
-joins_stamp {S = S} layout id other v w k stamp isv isw = subst (λ (z : View × View). Joins {S = S} {V = View} (Ruled layout) id z.0 other z.1 (following z.0 z.1) Spent) (λ i. (sym isv i, sym isw i))
-    (joins_as layout id other (Pass k) (Witness stamp) (Follower k stamp) (λ c a b apart. (a, b)) (λ q o. inl o) (λ q o. ⊎_elim (λ p. p) (λ p. absurd p) o))
+pub joins_stamp : {S : Type 0} (layout : Layout) (id other : ℕ) (v w : TracedView) (k : Known) (t : Trace) (stamp : List Change) (steps : List Event) → v ≡ Pass k t → w ≡ Witness stamp steps →
+    Joins {S = S} {V = TracedView} (Ruled layout) id v other w (following v w) Spent
+joins_stamp {S = S} layout id other v w k t stamp steps isv isw =
+    subst (λ (z : TracedView × TracedView). Joins {S = S} {V = TracedView} (Ruled layout) id z.0 other z.1 (following z.0 z.1) Spent) (λ i. (sym isv i, sym isw i))
+    (joins_as layout id other (Pass k t) (Witness stamp steps) (Follower k t stamp steps) (λ c run a b apart. ((a.0, b.0), (a.1, b.1))) (λ q o. inl o) (λ q o. ⊎_elim (λ p. p) (λ p. absurd p) o))
 
-pub following_me : {S : Type 0} (me a b : Me S View) (k : Known) (stamp : List Change) → me ≡ (following a.0 b.0, a.1) → a ≡ (Pass k, []) → b ≡ (Witness stamp, []) → me ≡ (Follower k stamp, [])
-following_me {S = S} me a b k stamp e is was = e ∙ (λ i. (following (is i).0 (was i).0, (is i).1))
+pub following_me : {S : Type 0} (me a b : Me S TracedView) (k : Known) (t : Trace) (stamp : List Change) (steps : List Event) → me ≡ (following a.0 b.0, a.1) → a ≡ (Pass k t, []) → b ≡ (Witness stamp steps, []) →
+    me ≡ (Follower k t stamp steps, [])
+following_me {S = S} me a b k t stamp steps e is was = e ∙ (λ i. (following (is i).0 (was i).0, (is i).1))
 
 -- The load
-pub follows : {S : Type 0} (layout : Layout) (of : Option Layout) → of ≡ Some layout → (slots id i : ℕ) (me : Me S View) (k : Known) (stamp : List Change) → me ≡ (Follower k stamp, [])
-    → Allows {S = S} {V = View} (Ruled layout) slots id me i (λ n. n) (followed of (table.step slots i 0 0 none) me)
-follows {S = S} layout of is_of slots id i me k stamp is =
-    subst (λ (o : Option Layout). Allows {S = S} {V = View} (Ruled layout) slots id me i (λ n. n) (followed o (table.step slots i 0 0 none) me)) (sym is_of)
-    (subst (λ (m : Me S View). Allows {S = S} {V = View} (Ruled layout) slots id m i (λ n. n) (followed (Some layout) (table.step slots i 0 0 none) m)) (sym is) go)
+pub follows : {S : Type 0} (layout : Layout) (of : Option Layout) → of ≡ Some layout → (slots id i : ℕ) (me : Me S TracedView) (k : Known) (t : Trace) (stamp : List Change) (steps : List Event) → me ≡ (Follower k t stamp steps, [])
+    → Allows {S = S} {V = TracedView} (Ruled layout) slots id me i (λ n. n) (followed of (table.step slots i 0 0 none) me)
+follows {S = S} layout of is_of slots id i me k t stamp steps is =
+    subst (λ (o : Option Layout). Allows {S = S} {V = TracedView} (Ruled layout) slots id me i (λ n. n) (followed o (table.step slots i 0 0 none) me)) (sym is_of)
+    (subst (λ (m : Me S TracedView). Allows {S = S} {V = TracedView} (Ruled layout) slots id m i (λ n. n) (followed (Some layout) (table.step slots i 0 0 none) m)) (sym is) go)
   where
-    go : Allows {S = S} {V = View} (Ruled layout) slots id (Follower k stamp, []) i (λ n. n) (followed (Some layout) (table.step slots i 0 0 none) (Follower k stamp, []))
+    go : Allows {S = S} {V = TracedView} (Ruled layout) slots id (Follower k t stamp steps, []) i (λ n. n) (followed (Some layout) (table.step slots i 0 0 none) (Follower k t stamp steps, []))
     go s r deep here low =
         let c : Core = r.core in
-        let both = r.knows id (Follower k stamp) here in
-        let new : View = Pass (with_front c.changes k) in (
+        let both = (r.knows id (Follower k t stamp steps) here).0 in
+        let traces = (r.knows id (Follower k t stamp steps) here).1 in
+        let new : TracedView = Pass (with_front c.changes k) (shown r.run t) in (
           new,
           table.keeps,
           tt,
@@ -53,12 +60,23 @@ follows {S = S} layout of is_of slots id i me k stamp is =
             lawful = r.lawful;
             layout_is = r.layout_is;
             shows = subst (Shows c) (sym (set-get_or s.words i 0)) r.shows;
+            run = r.run;
+            led = r.led;
             knows = λ m v e. ⊎_elim
-                (λ (t : (m ≡ id) × (new ≡ v)). subst (Knowing c) t.1 (met_knows c k both.0))
-                (λ (t : (m ≢ id) × (get_elem? s.views m ≡ some v)). r.knows m v t.1)
+                (λ (h : (m ≡ id) × (new ≡ v)). subst (IsTrueOf c r.run) h.1 (met_knows c k both.0, others_none k.pass r.run))
+                (λ (h : (m ≢ id) × (get_elem? s.views m ≡ some v)). r.knows m v h.1)
                 (at_set s.views id m new v e);
-            apart = apart_set s.views id (Follower k stamp) new here (λ q o. o) r.apart;
-            each = λ q low. each_set s.views id q (Follower k stamp) new here (λ o. o) (r.each q low);
+            apart = apart_set s.views id (Follower k t stamp steps) new here (λ q o. o) r.apart;
+            each = λ q low. each_set s.views id q (Follower k t stamp steps) new here (λ o. o) (r.each q low);
           },
-          (refl, (with_front c.changes k, refl, (c.changes, refl, r.lawful.core.told.legal, both.0.seen.front, both.1, subst (λ (z : Layout). All (λ x. x.pass < z.passes) c.changes) r.layout_is r.lawful.makers))),
+          (
+            refl,
+            (
+              with_front c.changes k,
+              shown r.run t,
+              refl,
+              (c.changes, refl, r.lawful.core.told.legal, both.0.seen.front, both.1, subst (λ (z : Layout). All (λ x. x.pass < z.passes) c.changes) r.layout_is r.lawful.makers),
+              (shown_run layout s r k t traces.0, traces.1, refl),
+            ),
+          ),
         )

@@ -1,4 +1,5 @@
 -- The definitions of the crate.
+pub mod Traces
 pub mod Rule
 pub mod Rights
 pub mod Runs

@@ -1,5 +1,5 @@
 -- The rule of the table, and what its steps tell.
-use Rattle.std.specs.Prelude.{◌≡◌, ◌≢◌, ℕ, ◌+◌, ◌<◌, List, [], All, Option, Some, None}
+use Rattle.std.specs.Prelude.{◌≡◌, ◌≢◌, ℕ, suc, ◌+◌, ◌<◌, List, [], All, Option, Some, None}
 use mathlib.Core.Option.{some}
 use lib.ListN.{get_elem?}
 use Rattle.atomic_table.specs.Table.{State, Me, Step}
@@ -15,27 +15,38 @@ use Rattle.rowex_core.specs.declared.event.Act.{Act}
 use Rattle.rowex_core.specs.declared.event.Act.TheVariants.{Claim, LoadRef, LoadFixed, Lock, LoadEpoch, Advance, LoadPin, LoadState, GiveBack}
 use Rattle.rowex_core.specs.declared.event.Spot.{Spot}
 use Rattle.rowex_core.specs.declared.event.Spot.TheVariants.{Root, Slot}
+use Rattle.rowex_core.specs.declared.event.Event.{Event}
 use Rattle.rowex_core.specs.declared.known.Known.{Known}
-use Rattle.rowex_core.specs.declared.known.View.{View}
-use Rattle.rowex_core.specs.declared.known.View.TheVariants.{Spent, Dealer, Pass, Pair, Witness, Follower}
 use Rattle.rowex_core.specs.Cores.{Core, HasRecord, IsLawful}
 use Rattle.rowex_core.specs.Words.{Shows, word_at}
 use Rattle.rowex_core.specs.Events.{Legal, location_of, word_of}
 use Rattle.rowex_core.specs.Knowing.{Knows, Knowing, IsViewOf, IsEvent}
+use Rattle.rowex_core.specs.Opening.{opening}
+use Rattle.rowex_core.specs.Runs.{EventsLead}
+use Rattle.rowex_table.specs.declared.traces.Trace.{Trace}
+use Rattle.rowex_table.specs.declared.traces.TracedView.{TracedView}
+use Rattle.rowex_table.specs.declared.traces.TracedView.TheVariants.{Spent, Dealer, Pass, Pair, Witness, Follower}
+use Rattle.rowex_table.specs.Traces.{HasTraces, IsNextStep, IsShownRun, RunBeginsWith, untraced, view_of}
 
 -- some seat has this number
-abbrev pub IsSomeSeats : List View → ℕ → Type 0
-IsSomeSeats views q = (i : ℕ) × (v : View) × (get_elem? views i ≡ some v) × IsViewOf v q
+abbrev pub IsSomeSeats : List TracedView → ℕ → Type 0
+IsSomeSeats views q = (i : ℕ) × (v : TracedView) × (get_elem? views i ≡ some v) × IsViewOf (view_of v) q
 
--- There is a lawful core with this layout, which the words show; what each seat knows is true of it; no two seats have one
--- number, and each number of a pass is some seat's.
-pub record Ruled {S : Type 0} (layout : Layout) (s : State S View) : Type 0 where
+-- what a seat knows is true of the core, and its traces of the run
+abbrev pub IsTrueOf : Core → List Event → TracedView → Type 0
+IsTrueOf core run v = Knowing core (view_of v) × HasTraces run v
+
+-- There is a lawful core with this layout, which the words show, and to which all steps so far have led from a new table; what each seat
+-- knows is true of it and of these steps; no two seats have one number, and each number of a pass is some seat's.
+pub record Ruled {S : Type 0} (layout : Layout) (s : State S TracedView) : Type 0 where
   pub core : Core
   pub lawful : IsLawful core
   pub layout_is : core.layout ≡ layout
   pub shows : Shows core s.words
-  pub knows : (i : ℕ) (v : View) → get_elem? s.views i ≡ some v → Knowing core v
-  pub apart : (i j q : ℕ) (v w : View) → get_elem? s.views i ≡ some v → get_elem? s.views j ≡ some w → IsViewOf v q → IsViewOf w q → i ≡ j
+  pub run : List Event
+  pub led : EventsLead (opening layout) run core
+  pub knows : (i : ℕ) (v : TracedView) → get_elem? s.views i ≡ some v → IsTrueOf core run v
+  pub apart : (i j q : ℕ) (v w : TracedView) → get_elem? s.views i ≡ some v → get_elem? s.views j ≡ some w → IsViewOf (view_of v) q → IsViewOf (view_of w) q → i ≡ j
   pub each : (q : ℕ) → q < layout.passes → IsSomeSeats s.views q
 
 -- what a new pass knows
@@ -55,14 +66,18 @@ opening_of q = record {
   round = record { epoch = 0; version = 0; bound = 0; seen = [] };
 }
 
--- what a pass's seat knows
-abbrev pub known_of : View → Known
-known_of (Pass k) = k
+-- what a pass's seat knows, and its trace
+abbrev pub known_of : TracedView → Known
+known_of (Pass k t) = k
 known_of _ = opening_of 0
 
+abbrev pub trace_of : TracedView → Trace
+trace_of (Pass k t) = t
+trace_of _ = untraced
+
 -- the seat is that of the pass of this number, and holds nothing else
-abbrev pub IsOfPass : {S : Type 0} → Me S View → ℕ → Type 0
-IsOfPass me q = (me ≡ (Pass (known_of me.0), [])) × ((known_of me.0).pass ≡ q)
+abbrev pub IsOfPass : {S : Type 0} → Me S TracedView → ℕ → Type 0
+IsOfPass me q = (me ≡ (Pass (known_of me.0) (trace_of me.0), [])) × ((known_of me.0).pass ≡ q)
 
 -- the root, or one of the entries that a node may have
 abbrev pub HasEntryPlace : Spot → Type 0
@@ -102,34 +117,35 @@ found_by act w = act
 abbrev pub MayStep : Layout → (ℕ → Act) → Known → Type 0
 MayStep layout act k = (c : Core) → IsLawful c → c.layout ≡ layout → Knows c k → Legal c k.pass (act (word_at c (location_of k.pass (act 0))))
 
-abbrev pub Happens : Option Layout → Act → (Known → List Note) → View → View → Type 0
-Happens (Some layout) act said (Pass k) w = (j : Known) × (w ≡ Pass j) × IsEvent layout act said k j
+abbrev pub Happens : Option Layout → Act → (Known → List Note) → TracedView → TracedView → Type 0
+Happens (Some layout) act said (Pass k t) w =
+    (j : Known) × (u : Trace) × (event : IsEvent layout act said k j) × (w ≡ Pass j u) × IsNextStep layout k.pass act event.core t.events u.events × (u.asides ≡ t.asides)
 Happens _ act said v w = Unit {0}
 
--- a pass's step is an event, which finds the word that the step tells
-abbrev pub did : {S : Type 0} → Option Layout → Act → (Known → List Note) → Step S → Me S View → ℕ → Me S View → Type 0
+-- a pass's step is an event, which finds the word that the step tells, and the next one of the table's run
+abbrev pub did : {S : Type 0} → Option Layout → Act → (Known → List Note) → Step S → Me S TracedView → ℕ → Me S TracedView → Type 0
 did layout act said st m told m' = (m'.1 ≡ m.1) × Happens layout (found_by act told) said m.0 m'.0
 
 -- Seats dealt, and two that meet
 
-abbrev pub next_dealer : View → View
+abbrev pub next_dealer : TracedView → TracedView
 next_dealer (Dealer m) = Dealer (m + 1)
 next_dealer v = v
 
-abbrev pub dealt : View → View
-dealt (Dealer m) = Pass (opening_of m)
+abbrev pub dealt : TracedView → TracedView
+dealt (Dealer m) = Pass (opening_of m) untraced
 dealt _ = Spent
 
-abbrev pub paired : View → View → View
-paired (Pass j) (Pass k) = Pair j k
+abbrev pub paired : TracedView → TracedView → TracedView
+paired (Pass j t) (Pass k u) = Pair j t k u
 paired v w = Spent
 
-abbrev pub first_of_two : View → View
-first_of_two (Pair j k) = Pass j
+abbrev pub first_of_two : TracedView → TracedView
+first_of_two (Pair j t k u) = Pass j t
 first_of_two v = v
 
-abbrev pub second_of_two : View → View
-second_of_two (Pair j k) = Pass k
+abbrev pub second_of_two : TracedView → TracedView
+second_of_two (Pair j t k u) = Pass k u
 second_of_two v = Spent
 
 abbrev pub with_front : List Change → Known → Known
@@ -142,30 +158,46 @@ SeatsHaveMet layout j k j' k' =
     (front : List Change) × (j' ≡ with_front front j) × (k' ≡ with_front front k) × LegalFront front × OthersGoOn j.pass j.front front × OthersGoOn k.pass k.front front ×
     (j.pass ≢ k.pass) × All (λ x. x.pass < layout.passes) front
 
-abbrev pub Meeting : Option Layout → View → View → Type 0
-Meeting (Some layout) (Pair j k) w = (j' : Known) × (k' : Known) × (w ≡ Pair j' k') × SeatsHaveMet layout j k j' k'
+-- Both know of all steps so far, `run`, which led to a core in which just the changes of their fronts have been made.
+abbrev pub TracesHaveMet : Layout → Known → Trace → Known → Trace → Known → Trace → Known → Trace → Type 0
+TracesHaveMet layout j t k u j' t' k' u' =
+    (t'.events ≡ u'.events) × IsShownRun layout j.pass t.events t'.events j'.front × IsShownRun layout k.pass u.events u'.events k'.front ×
+    (t'.asides ≡ suc t.asides) × (u'.asides ≡ suc u.asides)
+
+abbrev pub Meeting : Option Layout → TracedView → TracedView → Type 0
+Meeting (Some layout) (Pair j t k u) w =
+    (j' : Known) × (t' : Trace) × (k' : Known) × (u' : Trace) × (w ≡ Pair j' t' k' u') × SeatsHaveMet layout j k j' k' × TracesHaveMet layout j t k u j' t' k' u'
 Meeting _ _ w = Unit {0}
 
-abbrev pub met : {S : Type 0} → Option Layout → Step S → Me S View → ℕ → Me S View → Type 0
+abbrev pub met : {S : Type 0} → Option Layout → Step S → Me S TracedView → ℕ → Me S TracedView → Type 0
 met layout st m told m' = (m'.1 ≡ m.1) × Meeting layout m.0 m'.0
 
 -- Stamps, and passes that follow them
 
--- the changes that a stamp's seat knows to have been made
-abbrev pub witnessed : View → List Change
-witnessed (Witness front) = front
+-- the changes that a stamp's seat knows to have been made, and the steps
+abbrev pub witnessed : TracedView → List Change
+witnessed (Witness front events) = front
 witnessed v = []
 
--- the seat is a stamp's, and holds nothing
-abbrev pub IsOfStamp : {S : Type 0} → Me S View → Type 0
-IsOfStamp me = me ≡ (Witness (witnessed me.0), [])
+abbrev pub witnessed_steps : TracedView → List Event
+witnessed_steps (Witness front events) = events
+witnessed_steps v = []
 
-abbrev pub stamped : View → View
-stamped (Pass k) = Witness k.front
+-- the seat is a stamp's, and holds nothing
+abbrev pub IsOfStamp : {S : Type 0} → Me S TracedView → Type 0
+IsOfStamp me = me ≡ (Witness (witnessed me.0) (witnessed_steps me.0), [])
+
+abbrev pub stamped : TracedView → TracedView
+stamped (Pass k t) = Witness k.front t.events
 stamped v = Spent
 
-abbrev pub following : View → View → View
-following (Pass k) (Witness front) = Follower k front
+-- the pass that has made the stamp
+abbrev pub stamping : TracedView → TracedView
+stamping (Pass k t) = Pass k (record { events = t.events; asides = suc t.asides })
+stamping v = v
+
+abbrev pub following : TracedView → TracedView → TracedView
+following (Pass k t) (Witness front events) = Follower k t front events
 following v w = Spent
 
 -- The pass that knew k knows j now: it has seen all changes so far, each of which was legal and made by a pass of the table. They begin
@@ -175,9 +207,14 @@ HasFollowed layout stamp k j =
     (front : List Change) × (j ≡ with_front front k) × LegalFront front × OthersGoOn k.pass k.front front × BeginsWith front stamp ×
     All (λ x. x.pass < layout.passes) front
 
-abbrev pub Following : Option Layout → View → View → Type 0
-Following (Some layout) (Follower k stamp) w = (j : Known) × (w ≡ Pass j) × HasFollowed layout stamp k j
+-- And of all steps so far, which begin with the stamp's.
+abbrev pub TraceHasFollowed : Layout → List Event → Known → Trace → Known → Trace → Type 0
+TraceHasFollowed layout stamp k t j u = IsShownRun layout k.pass t.events u.events j.front × RunBeginsWith u.events stamp × (u.asides ≡ suc t.asides)
+
+abbrev pub Following : Option Layout → TracedView → TracedView → Type 0
+Following (Some layout) (Follower k t stamp events) w =
+    (j : Known) × (u : Trace) × (w ≡ Pass j u) × HasFollowed layout stamp k j × TraceHasFollowed layout events k t j u
 Following _ _ w = Unit {0}
 
-abbrev pub followed : {S : Type 0} → Option Layout → Step S → Me S View → ℕ → Me S View → Type 0
+abbrev pub followed : {S : Type 0} → Option Layout → Step S → Me S TracedView → ℕ → Me S TracedView → Type 0
 followed layout st m told m' = (m'.1 ≡ m.1) × Following layout m.0 m'.0

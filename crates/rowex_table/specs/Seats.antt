@@ -1,26 +1,32 @@
 -- Tables and the seats of their passes, as contracts see them.
-use Rattle.std.specs.Prelude.{◌≡◌, ◌<◌, ℕ, List}
+use Rattle.std.specs.Prelude.{◌≡◌, ◌<◌, ℕ, suc, List, []}
 use Rattle.atomic_table.specs.Seated.{TableId}
 use Rattle.finite_map.specs.declared.Change.{Change}
 use Rattle.record_words.specs.declared.layout.Layout.{Layout}
+use Rattle.rowex_core.specs.declared.event.Event.{Event}
 use Rattle.rowex_core.specs.declared.known.Known.{Known}
 use Rattle.rowex_table.specs.Rule.{opening_of}
+use Rattle.rowex_table.specs.Traces.{IsShownRun}
 
 -- a table: which one it is, and how many passes and records it has
 pub record TableView : Type 0 where
   pub id : TableId
   pub layout : Layout
 
--- a seat: its table, which one it is there, and what its pass knows
+-- A seat: its table, which one it is there, and what its pass knows; all steps of all passes on this table, from the first up to the last of
+-- which the pass knows; and how often the pass has made a stamp, has followed one, or has met another pass.
 pub record SeatView : Type 0 where
   pub table : TableId
   pub id : ℕ
   pub known : Known
+  pub trace : List Event
+  pub asides : ℕ
 
--- a stamp: its table, and the changes that it tells of
+-- a stamp: its table, and the changes and the steps that it tells of
 pub record StampView : Type 0 where
   pub table : TableId
   pub front : List Change
+  pub trace : List Event
 
 -- the stamp is one of this table
 abbrev pub IsStampOf : TableView → StampView → Type 0
@@ -35,13 +41,23 @@ abbrev pub IsPassOf : TableView → SeatView → Type 0
 IsPassOf table s = IsSeatOf table s × (s.known.pass < table.layout.passes)
 
 -- one seat of one pass, before and after
+abbrev pub IsOneSeat : SeatView → SeatView → Type 0
+IsOneSeat s t = (t.table ≡ s.table) × (t.id ≡ s.id) × (t.known.pass ≡ s.known.pass)
+
+-- and meanwhile the pass has made no stamp, has followed none and has met no other pass
 abbrev pub IsSame : SeatView → SeatView → Type 0
-IsSame s t = (t.table ≡ s.table) × (t.id ≡ s.id) × (t.known.pass ≡ s.known.pass)
+IsSame s t = (t.table ≡ s.table) × (t.id ≡ s.id) × (t.known.pass ≡ s.known.pass) × (t.asides ≡ s.asides)
+
+-- The pass is shown all steps so far, and the changes that they have made, as where it follows a stamp or meets another pass.
+pub record IsShown (layout : Layout) (s t : SeatView) : Type 0 where
+  pub pass : t.known.pass ≡ s.known.pass
+  pub run : IsShownRun layout s.known.pass s.trace t.trace t.known.front
+  pub asides : t.asides ≡ suc s.asides
 
 -- the seat of a new pass of this table
 abbrev pub IsNewSeat : TableView → SeatView → Type 0
-IsNewSeat table s = IsPassOf table s × (s.known ≡ opening_of s.known.pass)
+IsNewSeat table s = IsPassOf table s × (s.known ≡ opening_of s.known.pass) × (s.trace ≡ []) × (s.asides ≡ 0)
 
 -- and its pass has this number
 abbrev pub IsNewSeatOf : TableView → ℕ → SeatView → Type 0
-IsNewSeatOf table q s = IsSeatOf table s × (s.known ≡ opening_of q)
+IsNewSeatOf table q s = IsSeatOf table s × (s.known ≡ opening_of q) × (s.trace ≡ []) × (s.asides ≡ 0)

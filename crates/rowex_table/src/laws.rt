@@ -1,10 +1,20 @@
-//! The laws of the table. The function does nothing: its contract is the law.
+//! The laws of the table. The functions do nothing: their contracts are the laws.
 
-ghost use Rattle.rowex_table.specs.Statements.{RunsAreTold};
+ghost use Rattle.rowex_table.specs.Statements.{EndsAreLinked, RunsAreLinked, RunsAreTold};
 
 use rowex_core::Gate;
 
 /// A gate is told the event of each step of a run, in order, and nothing else.
 pub fn runs_are_told<G: Gate>()
     ensures { RunsAreTold G.becomes }
+{}
+
+/// Steps of one pass, one after the other, stand in one run of the table.
+pub fn runs_are_linked<G: Gate>()
+    ensures { RunsAreLinked G.becomes }
+{}
+
+/// So do the steps of a call, with whose last one its notes come.
+pub fn ends_are_linked<G: Gate>()
+    ensures { EndsAreLinked G.becomes }
 {}

@@ -11,6 +11,8 @@ mod spot_steps;
 mod stamping;
 mod steps;
 mod table;
+mod traces;
 
 pub use stamping::TableStamp;
 pub use table::{HotTable, TableSeat};
+pub use traces::{Trace, TracedView};

@@ -6,19 +6,19 @@ ghost use Rattle.record_words.specs.declared.layout.Layout.{Layout as Laid};
 ghost use Rattle.rowex_core.specs.declared.event.Act.{Act as Deed};
 ghost use Rattle.rowex_core.specs.declared.event.Act.TheVariants.{ClearPin};
 ghost use Rattle.rowex_core.specs.declared.known.Known.{Known};
-ghost use Rattle.rowex_core.specs.declared.known.View.TheVariants.{Dealer, Spent};
-ghost use Rattle.rowex_table.specs.Rule.{Ruled, did, met, next_dealer, dealt, paired, first_of_two, second_of_two, stamped, following, followed};
+ghost use Rattle.rowex_table.specs.declared.traces.TracedView.TheVariants.{Dealer, Spent};
+ghost use Rattle.rowex_table.specs.Rule.{Ruled, did, met, next_dealer, dealt, paired, first_of_two, second_of_two, stamped, stamping, following, followed};
 
+use crate::traces::TracedView;
 use atomic_table::{Join, Play, Split, TableRule};
 use record_words::Layout;
-use rowex_core::View;
 use std::marker::{Brand, PhantomData};
 
-/// The rule of a table with a layout: there is a lawful core which its words show, what each seat knows is true of it, no two
-/// seats are of one pass, and each pass has a seat.
+/// The rule of a table with a layout: there is a lawful core which its words show, and to which all steps so far have led. What each
+/// seat knows is true of both, no two seats are of one pass, and each pass has a seat.
 pub(crate) struct RowexRule;
 
-impl TableRule<(), View, Layout> for RowexRule {
+impl TableRule<(), TracedView, Layout> for RowexRule {
     ghost holds = { Ruled };
 
     ghost first = { λ _. Dealer 0 };
@@ -45,7 +45,7 @@ pub(crate) struct Stepping<Q> {
     step: PhantomData<Q>,
 }
 
-impl<Q: Step> Play<(), View> for Stepping<Q> {
+impl<Q: Step> Play<(), TracedView> for Stepping<Q> {
     ghost then = { did Q.layout Q.act Q.said };
 }
 
@@ -53,13 +53,13 @@ pub(crate) struct Meets<Q> {
     step: PhantomData<Q>,
 }
 
-impl<Q: Step> Play<(), View> for Meets<Q> {
+impl<Q: Step> Play<(), TracedView> for Meets<Q> {
     ghost then = { met Q.layout };
 }
 
 pub(crate) struct Deal;
 
-impl Split<View> for Deal {
+impl Split<TracedView> for Deal {
     ghost left = { next_dealer };
 
     ghost right = { dealt };
@@ -67,13 +67,13 @@ impl Split<View> for Deal {
 
 pub(crate) struct Part;
 
-impl Split<View> for Part {
+impl Split<TracedView> for Part {
     ghost left = { first_of_two };
 
     ghost right = { second_of_two };
 }
 
-impl Join<View> for Part {
+impl Join<TracedView> for Part {
     ghost both = { paired };
 
     ghost spent = { Spent };
@@ -81,13 +81,13 @@ impl Join<View> for Part {
 
 pub(crate) struct Stamping;
 
-impl Split<View> for Stamping {
-    ghost left = { λ v. v };
+impl Split<TracedView> for Stamping {
+    ghost left = { stamping };
 
     ghost right = { stamped };
 }
 
-impl Join<View> for Stamping {
+impl Join<TracedView> for Stamping {
     ghost both = { following };
 
     ghost spent = { Spent };
@@ -97,6 +97,6 @@ pub(crate) struct Follows<Q> {
     step: PhantomData<Q>,
 }
 
-impl<Q: Step> Play<(), View> for Follows<Q> {
+impl<Q: Step> Play<(), TracedView> for Follows<Q> {
     ghost then = { followed Q.layout };
 }

@@ -4,7 +4,7 @@ ghost use Rattle.std.specs.Prelude.{◌≡◌, ℕ, IfOk, Some, All, length};
 ghost use mathlib.Core.Option.{some};
 ghost use lib.ListN.{get_elem?};
 ghost use Rattle.rowex_table.specs.Rule.{SeatsHaveMet};
-ghost use Rattle.rowex_table.specs.Seats.{SeatView, IsNewSeatOf, IsNewSeat, IsSeatOf};
+ghost use Rattle.rowex_table.specs.Seats.{SeatView, IsNewSeatOf, IsNewSeat, IsSeatOf, IsShown};
 
 use crate::plays::{Deal, Meets, Part, Step};
 use crate::table::{HotTable, TableSeat};
@@ -37,12 +37,14 @@ impl HotTable {
         Ok((HotTable { table, origins }, seats))
     }
 
-    /// Two passes meet: both have then seen the list of changes as it is now. It makes no event.
+    /// Two passes meet: both have then seen the changes and the steps as they are now. It makes no event.
     pub fn meet_seats(&self, first: TableSeat, second: TableSeat) -> (TableSeat, TableSeat)
         requires { IsSeatOf self.now first × IsSeatOf self.now second }
         ensures own { IsSeatOf self.now result.0 × IsSeatOf self.now result.1 }
         ensures passes { (result.0.known.pass ≡ first.known.pass) × (result.1.known.pass ≡ second.known.pass) }
         ensures met { SeatsHaveMet self.now.layout first.known second.known result.0.known result.1.known }
+        ensures traces { result.0.trace ≡ result.1.trace }
+        ensures shown { IsShown self.now.layout first result.0 × IsShown self.now.layout second result.1 }
     {
         self.meet_as::<Brand>(first, second)
     }
@@ -54,6 +56,8 @@ impl HotTable {
         ensures own { IsSeatOf self.now result.0 × IsSeatOf self.now result.1 }
         ensures passes { (result.0.known.pass ≡ first.known.pass) × (result.1.known.pass ≡ second.known.pass) }
         ensures met { SeatsHaveMet self.now.layout first.known second.known result.0.known result.1.known }
+        ensures traces { result.0.trace ≡ result.1.trace }
+        ensures shown { IsShown self.now.layout first result.0 × IsShown self.now.layout second result.1 }
     {
         let TableSeat { mut seat, pass } = first;
         let TableSeat {

@@ -1,19 +1,20 @@
 //! Stamps: what a pass has seen, as a value of its own, and the pass that follows one.
 
-ghost use Rattle.std.specs.Prelude.{◌≡◌, Some};
+ghost use Rattle.std.specs.Prelude.{◌≡◌, suc, Some};
 ghost use Rattle.rowex_table.specs.Rule.{HasFollowed};
-ghost use Rattle.rowex_table.specs.Seats.{IsSame, IsSeatOf, IsStampOf};
+ghost use Rattle.rowex_table.specs.Seats.{IsOneSeat, IsSeatOf, IsShown, IsStampOf};
+ghost use Rattle.rowex_table.specs.Traces.{RunBeginsWith};
 
 use crate::plays::{Follows, Stamping, Step};
 use crate::table::{HotTable, TableSeat};
+use crate::traces::TracedView;
 use atomic_table::Seat;
-use rowex_core::View;
 use std::marker::{Brand, Model};
 
 /// What a pass had seen, as a value that may go to another thread. It has no bytes, and no right to any step.
 #[derive(Drop)]
 pub struct TableStamp {
-    seat: Seat<(), View>,
+    seat: Seat<(), TracedView>,
 }
 
 impl Model for TableStamp {
@@ -21,30 +22,33 @@ impl Model for TableStamp {
 
     ghost Value = { StampView };
 
-    ghost use Rattle.rowex_table.specs.Rule.{IsOfStamp, witnessed};
+    ghost use Rattle.rowex_table.specs.Rule.{IsOfStamp, witnessed, witnessed_steps};
 
-    ghost view = { λ s. record { table = s.seat.table_id; front = witnessed s.seat.me.0 } };
+    ghost view = { λ s. record { table = s.seat.table_id; front = witnessed s.seat.me.0; trace = witnessed_steps s.seat.me.0 } };
 
     ghost invariant = { λ s. IsOfStamp s.seat.me };
 }
 
 impl HotTable {
-    /// A stamp with the changes that the pass has seen. It makes no event, and the pass is as it was.
+    /// A stamp with the changes that the pass has seen. It makes no event, and the pass is as it was, but that the stamp is counted.
     pub fn stamp_seat(&self, seat: &mut TableSeat) -> TableStamp
         requires { IsSeatOf self.now seat.old }
-        ensures same { seat.new ≡ seat.old }
+        ensures same { seat.new ≡ record seat.old { asides = suc seat.old.asides } }
         ensures own { IsStampOf self.now result }
         ensures front { result.front ≡ seat.old.known.front }
+        ensures trace { result.trace ≡ seat.old.trace }
     {
         let seat = self.table.shared.split_seat::<Stamping>(&mut seat.seat);
         TableStamp { seat }
     }
 
-    /// The pass sees the changes as they are now, and with them all that the stamp tells of. It makes no event.
+    /// The pass sees the changes and the steps as they are now, and with them all that the stamp tells of. It makes no event.
     pub fn follow_stamp(&self, seat: &mut TableSeat, stamp: TableStamp)
         requires { IsSeatOf self.now seat.old × IsStampOf self.now stamp }
-        ensures same { IsSame seat.old seat.new }
+        ensures same { IsOneSeat seat.old seat.new }
+        ensures shown { IsShown self.now.layout seat.old seat.new }
         ensures followed { HasFollowed self.now.layout stamp.front seat.old.known seat.new.known }
+        ensures traced { RunBeginsWith seat.new.trace stamp.trace }
     {
         self.follow_as::<Brand>(seat, stamp);
     }
@@ -53,8 +57,10 @@ impl HotTable {
     fn follow_as<Q: Step>(&self, seat: &mut TableSeat, stamp: TableStamp)
         requires own { IsSeatOf self.now seat.old × IsStampOf self.now stamp }
         requires layout { Q.layout ≡ Some self.now.layout }
-        ensures same { IsSame seat.old seat.new }
+        ensures same { IsOneSeat seat.old seat.new }
+        ensures shown { IsShown self.now.layout seat.old seat.new }
         ensures followed { HasFollowed self.now.layout stamp.front seat.old.known seat.new.known }
+        ensures traced { RunBeginsWith seat.new.trace stamp.trace }
     {
         let TableStamp { seat: witness } = stamp;
         let shared = &self.table.shared;

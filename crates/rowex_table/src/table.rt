@@ -3,16 +3,17 @@
 ghost use Rattle.std.specs.Prelude.{◌≡◌};
 
 use crate::plays::RowexRule;
+use crate::traces::TracedView;
 use atomic_table::{Seat, Table};
 use record_words::{Layout, Origins};
-use rowex_core::View;
 use std::alloc::Global;
 use std::marker::Model;
 
-/// The right of one pass to step. What its pass knows has no bytes, and changes at its steps, when it meets another and when it follows a stamp.
+/// The right of one pass to step. What its pass knows, and of which steps of all passes, has no bytes. It changes at its steps, when it
+/// meets another and when it follows a stamp.
 #[derive(Drop)]
 pub struct TableSeat {
-    pub(crate) seat: Seat<(), View>,
+    pub(crate) seat: Seat<(), TracedView>,
     pub(crate) pass: u16,
 }
 
@@ -21,9 +22,15 @@ impl Model for TableSeat {
 
     ghost Value = { SeatView };
 
-    ghost use Rattle.rowex_table.specs.Rule.{IsOfPass, known_of};
+    ghost use Rattle.rowex_table.specs.Rule.{IsOfPass, known_of, trace_of};
 
-    ghost view = { λ s. record { table = s.seat.table_id; id = s.seat.id; known = known_of s.seat.me.0 } };
+    ghost view = { λ s. record {
+      table = s.seat.table_id;
+      id = s.seat.id;
+      known = known_of s.seat.me.0;
+      trace = (trace_of s.seat.me.0).events;
+      asides = (trace_of s.seat.me.0).asides;
+    } };
 
     ghost invariant = { λ s. IsOfPass s.seat.me s.pass };
 }
@@ -40,7 +47,7 @@ impl TableSeat {
 /// The shared words of an index, which passes step on through a `&`.
 #[derive(Drop)]
 pub struct HotTable {
-    pub(crate) table: Table<(), View, Layout, RowexRule, Global>,
+    pub(crate) table: Table<(), TracedView, Layout, RowexRule, Global>,
     /// What is fixed of the layout, added up once: each step finds its word by this.
     pub(crate) origins: Origins,
 }

@@ -2,7 +2,7 @@
 use Rattle.std.proofs.Common.{rules, ◌≡◌, ℕ, ◌<◌, List, ap, subst, sym, ◌∙◌}
 use mathlib.Core.Option.{some}
 use lib.ListN.{get_elem?}
-use Rattle.rowex_table.specs.Rule.{known_of, next_dealer, dealt}
+use Rattle.rowex_table.specs.Rule.{known_of, next_dealer, dealt, trace_of}
 use Rattle.rowex_table.specs.Seats.{TableView, SeatView, IsNewSeatOf}
 use Rattle.rowex_table.proofs.Dealing.{opens, deals, each_longer, all_new}
 use Rattle.rowex_table.proofs.table.HotTable.new.Goals as goal
@@ -26,7 +26,7 @@ loop-number-preserved c =
       search rules,
       subst (λ (l : List SeatView). (q : ℕ) (h : SeatView) → get_elem? l q ≡ some h → IsNewSeatOf made q h) (sym c.in_ok-push.ensures.items)
           (each_longer (λ q (h : SeatView). IsNewSeatOf made q h) c.loop-number.seats.items _ c.loop-number.number c.loop-number.invariant.2 c.loop-number.invariant.3
-          (search rules, ap (λ m. known_of m.0) split.4 ∙ ap (λ v. known_of (dealt v)) was)),
+          (search rules, ap (λ m. known_of m.0) split.4 ∙ ap (λ v. known_of (dealt v)) was, ap (λ m. (trace_of m.0).events) split.4 ∙ ap (λ v. (trace_of (dealt v)).events) was, ap (λ m. (trace_of m.0).asides) split.4 ∙ ap (λ v. (trace_of (dealt v)).asides) was)),
     )
 
 pub returns-clause-each : goal.returns-clause-each

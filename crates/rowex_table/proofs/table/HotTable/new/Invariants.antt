@@ -2,7 +2,7 @@
 use Rattle.std.specs.Prelude.{◌≡◌, ℕ, [], length}
 use mathlib.Core.Option.{some}
 use lib.ListN.{get_elem?}
-use Rattle.rowex_core.specs.declared.known.View.TheVariants.{Dealer}
+use Rattle.rowex_table.specs.declared.traces.TracedView.TheVariants.{Dealer}
 use Rattle.rowex_table.specs.Seats.{TableView, SeatView, IsNewSeatOf}
 use Rattle.rowex_table.proofs.table.HotTable.new.Given as goal
 

@@ -1,0 +1,82 @@
+-- Runs of a table: the atomic steps of all passes, one after the other; and the traces of seats, which are what passes know of them.
+use Rattle.std.specs.Prelude.{◌≡◌, ◌≢◌, ℕ, ◌<◌, ◌++◌, All, List, [], ◌∷◌, if◌then◌else◌, nat_eq}
+use Rattle.finite_map.specs.declared.Change.{Change}
+use Rattle.record_words.specs.declared.layout.Layout.{Layout}
+use Rattle.rowex_core.specs.declared.event.Act.{Act}
+use Rattle.rowex_core.specs.declared.event.Event.{Event}
+use Rattle.rowex_core.specs.declared.known.Known.{Known}
+use Rattle.rowex_core.specs.declared.known.View.{View}
+use Rattle.rowex_core.specs.declared.known.View.TheVariants.{Spent as a_spent, Dealer as a_dealer, Pass as a_pass, Pair as a_pair, Witness as a_witness, Follower as a_follower}
+use Rattle.rowex_core.specs.Cores.{Core}
+use Rattle.rowex_core.specs.Events.{after}
+use Rattle.rowex_core.specs.Knowing.{learned}
+use Rattle.rowex_core.specs.Opening.{opening}
+use Rattle.rowex_core.specs.Runs.{EventsLead}
+use Rattle.rowex_table.specs.declared.traces.Trace.{Trace}
+use Rattle.rowex_table.specs.declared.traces.TracedView.{TracedView}
+use Rattle.rowex_table.specs.declared.traces.TracedView.TheVariants.{Spent, Dealer, Pass, Pair, Witness, Follower}
+
+-- Lists of steps
+
+-- the one list of steps begins with the other
+abbrev pub RunBeginsWith : List Event → List Event → Type 0
+RunBeginsWith later earlier = (more : List Event) × (later ≡ earlier ++ more)
+
+-- and goes on by steps of other passes than q alone
+abbrev pub OthersStepOn : ℕ → List Event → List Event → Type 0
+OthersStepOn q earlier later = (more : List Event) × (later ≡ earlier ++ more) × All (λ x. x.pass ≢ q) more
+
+-- from a new table on the steps are legal, one after the other
+abbrev pub IsRun : Layout → List Event → Type 0
+IsRun layout run = (c : Core) × EventsLead (opening layout) run c
+
+-- of these steps, those of pass q
+abbrev pub own_acts : ℕ → List Event → List Act
+own_acts q [] = []
+own_acts q (x ∷ xs) = if nat_eq x.pass q then x.act ∷ own_acts q xs else own_acts q xs
+
+-- what pass q knows that knew k in the core c, once these steps have been made: its own ones teach it
+abbrev pub taught : ℕ → Core → List Event → Known → Known
+taught q c [] k = k
+taught q c (x ∷ xs) k = taught q (after c x.pass x.act) xs (if nat_eq x.pass q then learned c x.act k else k)
+
+-- Traces
+
+-- a pass that has made no step
+abbrev pub untraced : Trace
+untraced = record { events = []; asides = 0 }
+
+-- what a seat knows, without its traces
+abbrev pub view_of : TracedView → View
+view_of Spent = a_spent
+view_of (Dealer m) = a_dealer m
+view_of (Pass k t) = a_pass k
+view_of (Pair j t k u) = a_pair j k
+view_of (Witness front events) = a_witness front
+view_of (Follower k t front events) = a_follower k front
+
+-- The run goes on from each trace of the view: behind the trace of a pass by steps of others alone. A pass that is still to be dealt has
+-- made none.
+abbrev pub HasTraces : List Event → TracedView → Type 0
+HasTraces run Spent = Unit {0}
+HasTraces run (Dealer m) = All (λ x. x.pass < m) run
+HasTraces run (Pass k t) = OthersStepOn k.pass t.events run
+HasTraces run (Pair j t k u) = OthersStepOn j.pass t.events run × OthersStepOn k.pass u.events run
+HasTraces run (Witness front events) = RunBeginsWith run events
+HasTraces run (Follower k t front events) = OthersStepOn k.pass t.events run × RunBeginsWith run events
+
+-- Pass q, which knew of the steps `trace`, makes this step in this core, and knows of the steps `next`. All steps so far lead from a new
+-- table to the core. They begin with the trace and go on by steps of others; the pass knows of them all now, and of its own behind them.
+pub record IsNextStep (layout : Layout) (q : ℕ) (act : Act) (core : Core) (trace next : List Event) : Type 0 where
+  pub before : List Event
+  pub led : EventsLead (opening layout) before core
+  pub others : OthersStepOn q trace before
+  pub next_is : next ≡ before ++ record { pass = q; act = act } ∷ []
+
+-- Pass q, which knew of the steps `trace`, is shown all steps so far, `run`, and all changes so far: the steps lead from a new table to a
+-- core in which just these changes have been made. They begin with the trace and go on by steps of others.
+pub record IsShownRun (layout : Layout) (q : ℕ) (trace run : List Event) (front : List Change) : Type 0 where
+  pub core : Core
+  pub led : EventsLead (opening layout) run core
+  pub changes : core.changes ≡ front
+  pub others : OthersStepOn q trace run

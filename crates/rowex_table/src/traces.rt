@@ -1,0 +1,29 @@
+//! What a seat of the table knows, and of which steps. No value of these types is made: contracts alone speak of them, and their
+//! numbers are whole numbers without bound.
+
+use finite_map::Change;
+use rowex_core::{Event, Known};
+use versions::Listed;
+
+/// The steps of which a pass knows.
+pub struct Trace {
+    /// All atomic steps of all passes, from the first on a new table up to the last of which this pass knows.
+    pub events: Listed<Event>,
+    /// How often the pass has made a stamp, has followed one, or has met another pass. None of these is a step.
+    pub asides: u64,
+}
+
+/// What a seat of the table knows, as a `View` says it, with a trace for each pass.
+pub enum TracedView {
+    /// Nothing more: it was given up in a join.
+    Spent,
+    /// That it hands out the pass numbers from this one on.
+    Dealer(u64),
+    Pass(Known, Trace),
+    /// What two passes know that have been joined.
+    Pair(Known, Trace, Known, Trace),
+    /// That these changes and these steps have been made. Its seat is no pass's, and has nothing.
+    Witness(Listed<Change>, Listed<Event>),
+    /// What a pass knows that a witness has been joined to, and what the witness knows.
+    Follower(Known, Trace, Listed<Change>, Listed<Event>),
+}
