@@ -1,9 +1,10 @@
 /* A log-structured store, whose key directory is the index. Values lie in a log, which only grows; the index has the place of each key's
  * last record: twice its offset, and one more if the record deletes the key. Several threads may write and read at once.
  *
- *     store LOG THREADS     put KEY VALUE     get KEY     del KEY     list PREFIX     fill COUNT
+ *     store LOG THREADS [KEYS]     put KEY VALUE     get KEY     del KEY     list PREFIX     fill COUNT
  *
- * A put is in the log when it returns; a store that must outlive the machine calls fdatasync, too. */
+ * A put is in the log when it returns; a store that must outlive the machine calls fdatasync, too. A record is written before the directory
+ * has its place. Where the directory is full, the record is taken back: until then the log is locked, so it is the log's last. */
 #define _XOPEN_SOURCE 700
 #include <hot.h>
 #include <errno.h>
@@ -67,20 +68,20 @@ static int is_record(const struct record *it, size_t room) {
 }
 
 /* Lets the directory have a key's record at this place, unless it has a later one. So it does not matter in which order threads come
- * here, after their appends or when they read a log again. */
-static void point(hot_handle *handle, const struct record *it, uint64_t offset) {
+ * here, after their appends or when they read a log again. Returns why the directory has no room for it, or HOT_DONE. */
+static hot_status point(hot_handle *handle, const struct record *it, uint64_t offset) {
     uint64_t place = 2 * offset + it->head.is_deletion, had;
     hot_status status = hot_insert(handle, it->bytes, it->head.key, place, &had);
     while ((status == HOT_EXISTS || status == HOT_DIFFERS) && had < place)
         status = hot_exchange(handle, it->bytes, it->head.key, had, place, &had);
-    if (status != HOT_INSERTED && status != HOT_EXCHANGED && status != HOT_EXISTS && status != HOT_DIFFERS)
-        die(hot_status_text(status)); /* it is in the log, and in the directory when the store is opened again */
+    return status == HOT_INSERTED || status == HOT_EXCHANGED || status == HOT_EXISTS || status == HOT_DIFFERS ? HOT_DONE : status;
 }
 
-static void change(hot_handle *handle, const char *key, const char *value, uint32_t is_deletion) {
+static hot_status change(hot_handle *handle, const char *key, const char *value, uint32_t is_deletion) {
     struct record *it = malloc(sizeof *it);
     size_t key_length = strlen(key), value_length = strlen(value);
     uint64_t offset;
+    hot_status status;
     if (!it || key_length == 0 || key_length > HOT_MAX_KEY || key_length + value_length > sizeof it->bytes)
         die("a key or value of this length can't be kept");
     it->head = (struct head){ 0, (uint32_t)key_length, (uint32_t)value_length, is_deletion };
@@ -92,10 +93,20 @@ static void change(hot_handle *handle, const char *key, const char *value, uint3
         offset += BLOCK - offset % BLOCK;
     if (pwrite(file, it, size_of(it), (off_t)offset) != (ssize_t)size_of(it))
         die("the log can't be written");
-    end = offset + size_of(it);
+    status = point(handle, it, offset);
+    if (status == HOT_DONE)
+        end = offset + size_of(it);
+    else if (ftruncate(file, (off_t)end))
+        die("the log can't be written");
     pthread_mutex_unlock(&appends);
-    point(handle, it, offset);
     free(it);
+    return status;
+}
+
+static void change_and_tell(hot_handle *handle, const char *key, const char *value, uint32_t is_deletion) {
+    hot_status status = change(handle, key, value, is_deletion);
+    if (status != HOT_DONE)
+        puts(hot_status_text(status));
 }
 
 static void get(hot_handle *handle, const char *key) {
@@ -150,7 +161,8 @@ static void recover(hot_handle *handle, unsigned number) {
             memcpy(it, block + at, (size_t)length - at);
             if (!is_record(it, (size_t)length - at))
                 break;
-            point(handle, it, start + at);
+            if (point(handle, it, start + at) != HOT_DONE)
+                die("the log has more keys than there is room for");
         }
         pthread_mutex_lock(&appends);
         if (at > 0 && end < start + at)
@@ -165,7 +177,7 @@ static void put_many(hot_handle *handle, unsigned number) {
     char key[32], value[32];
     for (i = number; i < fill; i += threads) {
         snprintf(key, sizeof key, "fill/%06u", i), snprintf(value, sizeof value, "value %u", i);
-        change(handle, key, value, 0);
+        change_and_tell(handle, key, value, 0);
     }
 }
 
@@ -201,11 +213,11 @@ int main(int argc, char **argv) {
     hot_status status;
     char line[1024], verb[8], key[256], value[512];
     hot_handle handle = HOT_HANDLE;
-    if (argc != 3 || (threads = (unsigned)atoi(argv[2])) == 0 || threads > MOST_THREADS)
-        die("usage: store LOG THREADS");
+    if (argc < 3 || argc > 4 || (threads = (unsigned)atoi(argv[2])) == 0 || threads > MOST_THREADS)
+        die("usage: store LOG THREADS [KEYS]");
     if ((file = open(argv[1], O_RDWR | O_CREAT, 0666)) < 0)
         die(strerror(errno));
-    hot_stock_for_keys(100000, 24, &stock);
+    hot_stock_for_keys(argc == 4 ? (uint32_t)atoi(argv[3]) : 100000, 24, &stock);
     if ((status = hot_open_index(&stock, threads + 1, &directory)) != HOT_DONE)
         die(hot_status_text(status));
     side_by_side(recover);
@@ -215,11 +227,11 @@ int main(int argc, char **argv) {
         if (sscanf(line, "%7s %255s %511[^\n]", verb, key, value) < 1)
             continue;
         if (strcmp(verb, "put") == 0)
-            change(&handle, key, value, 0);
+            change_and_tell(&handle, key, value, 0);
         else if (strcmp(verb, "get") == 0)
             get(&handle, key);
         else if (strcmp(verb, "del") == 0)
-            change(&handle, key, "", 1);
+            change_and_tell(&handle, key, "", 1);
         else if (strcmp(verb, "list") == 0)
             list(&handle, key);
         else if (strcmp(verb, "fill") == 0)
