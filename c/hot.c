@@ -10,6 +10,7 @@
 hot_status proved_try_insert(hot_handle *handle, const uint8_t *key, size_t length, uint64_t value, uint64_t *had);
 hot_status proved_try_upsert(hot_handle *handle, const uint8_t *key, size_t length, uint64_t value, uint64_t *had);
 hot_status proved_try_exchange(hot_handle *handle, const uint8_t *key, size_t length, uint64_t expected, uint64_t value, uint64_t *had);
+hot_status proved_try_add(hot_handle *handle, const uint8_t *key, size_t length, uint64_t delta, uint64_t *had);
 hot_status proved_try_remove(hot_handle *handle, const uint8_t *key, size_t length, uint64_t *had);
 hot_status proved_try_remove_if(hot_handle *handle, const uint8_t *key, size_t length, uint64_t expected, uint64_t *had);
 hot_status proved_destroy(hot_handle *handle);
@@ -113,6 +114,11 @@ hot_status hot_try_exchange(hot_handle *handle, const uint8_t *key, size_t lengt
     return proved_try_exchange(handle, key, length, expected, value, had ? had : &unread);
 }
 
+hot_status hot_try_add(hot_handle *handle, const uint8_t *key, size_t length, uint64_t delta, uint64_t *had) {
+    uint64_t unread;
+    return proved_try_add(handle, key, length, delta, had ? had : &unread);
+}
+
 hot_status hot_try_remove_if(hot_handle *handle, const uint8_t *key, size_t length, uint64_t expected, uint64_t *had) {
     uint64_t unread;
     return proved_try_remove_if(handle, key, length, expected, had ? had : &unread);
@@ -161,27 +167,11 @@ hot_status hot_remove_if(hot_handle *handle, const uint8_t *key, size_t length, 
     return status;
 }
 
-hot_status hot_try_add(hot_handle *handle, const uint8_t *key, size_t length, uint64_t delta, uint64_t *had) {
-    uint64_t seen;
-    hot_status status = hot_get(handle, key, length, &seen);
-    if (status != HOT_FOUND)
-        return status;
-    status = hot_try_exchange(handle, key, length, seen, seen + delta, NULL);
-    if (status == HOT_EXCHANGED && had)
-        *had = seen;
-    return status == HOT_EXCHANGED ? HOT_WAS : status == HOT_DIFFERS ? HOT_BUSY : status;
-}
-
 hot_status hot_add(hot_handle *handle, const uint8_t *key, size_t length, uint64_t delta, uint64_t *had) {
-    uint64_t seen;
-    hot_status status = hot_get(handle, key, length, &seen);
-    if (status != HOT_FOUND)
-        return status;
-    while ((status = hot_exchange(handle, key, length, seen, seen + delta, &seen)) == HOT_DIFFERS)
+    hot_status status;
+    while (is_to_wait(status = hot_try_add(handle, key, length, delta, had)))
         ;
-    if (status == HOT_EXCHANGED && had)
-        *had = seen;
-    return status == HOT_EXCHANGED ? HOT_WAS : status;
+    return status;
 }
 
 /* Hands each pair to `visit` with a handle in its context, and tells the first status that refused a change. */

@@ -215,6 +215,10 @@ hot_status hot_try_upsert(hot_handle *handle, const uint8_t *key, size_t length,
  * HOT_EXCHANGED, HOT_DIFFERS, HOT_ABSENT; or HOT_BUSY, HOT_HELD_BACK, HOT_FULL_NODES, HOT_FULL_LEAVES, HOT_KEY_TOO_LONG, HOT_CLOSED. */
 hot_status hot_try_exchange(hot_handle *handle, const uint8_t *key, size_t length, uint64_t expected, uint64_t value, uint64_t *had);
 
+/* Adds to the value of a key that is there, modulo 2 to the power of 64, by one search. The value that it had is written to `had`.
+ * HOT_WAS, HOT_ABSENT; or HOT_BUSY, HOT_HELD_BACK, HOT_FULL_NODES, HOT_FULL_LEAVES, HOT_KEY_TOO_LONG, HOT_CLOSED. */
+hot_status hot_try_add(hot_handle *handle, const uint8_t *key, size_t length, uint64_t delta, uint64_t *had);
+
 /* Removes a key. If it had a value, that is written to `had`.
  * HOT_REMOVED, HOT_ABSENT; or HOT_BUSY, HOT_HELD_BACK, HOT_FULL_NODES, HOT_KEY_TOO_LONG, HOT_CLOSED. */
 hot_status hot_try_remove(hot_handle *handle, const uint8_t *key, size_t length, uint64_t *had);
@@ -230,16 +234,10 @@ hot_status hot_insert(hot_handle *handle, const uint8_t *key, size_t length, uin
 hot_status hot_upsert(hot_handle *handle, const uint8_t *key, size_t length, uint64_t value, uint64_t *had);
 hot_status hot_remove(hot_handle *handle, const uint8_t *key, size_t length, uint64_t *had);
 
-/* The same for hot_try_exchange and hot_try_remove_if. */
+/* The same for hot_try_exchange, hot_try_add and hot_try_remove_if. */
 hot_status hot_exchange(hot_handle *handle, const uint8_t *key, size_t length, uint64_t expected, uint64_t value, uint64_t *had);
-hot_status hot_remove_if(hot_handle *handle, const uint8_t *key, size_t length, uint64_t expected, uint64_t *had);
-
-/* Adds to the value of a key that is there, modulo 2 to the power of 64, and writes the value before to `had`. It looks the key up, and
- * makes a compare and exchange from the value that it finds; where another call has changed that meanwhile, it is busy or begins again.
- * So it makes at most 56196 steps more than hot_try_exchange may; and hot_add waits where hot_exchange does.
- * HOT_WAS, HOT_ABSENT; or what hot_try_exchange or hot_exchange returns that is refused. */
-hot_status hot_try_add(hot_handle *handle, const uint8_t *key, size_t length, uint64_t delta, uint64_t *had);
 hot_status hot_add(hot_handle *handle, const uint8_t *key, size_t length, uint64_t delta, uint64_t *had);
+hot_status hot_remove_if(hot_handle *handle, const uint8_t *key, size_t length, uint64_t expected, uint64_t *had);
 
 /* Removes all keys, page by page, as hot_remove does. A key that another call puts in meanwhile may stay.
  * HOT_DONE; or HOT_CLOSED, HOT_NO_MEMORY or HOT_FULL_NODES, and then some keys are left. */

@@ -1,7 +1,7 @@
 -- Worked examples of the definitions, which compute.
 use Rattle.std.proofs.Common.{◌≡◌, ℕ, List, [], ◌∷◌, ◌++◌, true, refl, sym, subst, arith}
 use Rattle.finite_map.specs.declared.Call.{Call}
-use Rattle.finite_map.specs.declared.Call.TheVariants.{Insert, Upsert, Exchange, Get, Remove, RemoveIf}
+use Rattle.finite_map.specs.declared.Call.TheVariants.{Insert, Upsert, Exchange, Add, Get, Remove, RemoveIf}
 use Rattle.finite_map.specs.declared.Reply.{Reply}
 use Rattle.finite_map.specs.declared.Reply.TheVariants.{Inserted, Exists, New, Was, Exchanged, Differs, Value, Absent, Removed}
 use Rattle.finite_map.specs.declared.Kind.TheVariants.{Added, Replaced, Removed as TakenAway}
@@ -42,6 +42,13 @@ expecting = Exchange a 1 2 ∷ Insert a 1 ∷ Exchange a 1 2 ∷ Exchange a 1 3 
 
 replies_to_expecting : replies_of [] expecting ≡ Absent ∷ Inserted ∷ Exchanged ∷ Differs 2 ∷ Differs 2 ∷ Value 2 ∷ Removed 2 ∷ Absent ∷ []
 replies_to_expecting = refl
+
+-- calls that add: 2 ^ 64 - 1 and 2 make 1
+abbrev adding : List Call
+adding = Add a 1 ∷ Insert a 18446744073709551615 ∷ Add a 2 ∷ Add a 3 ∷ Get a ∷ []
+
+replies_to_adding : replies_of [] adding ≡ Absent ∷ Inserted ∷ Was 18446744073709551615 ∷ Was 1 ∷ Value 4 ∷ []
+replies_to_adding = refl
 
 -- the keys are in the order of their bytes, a prefix first
 abbrev three : Map

@@ -8,14 +8,14 @@ use Rattle.std.proofs.lemmas.List.Elements.{All-nil, All-head, All-tail, All-pus
 use Rattle.std.proofs.lemmas.Option.{slice_get_within}
 use Rattle.std.proofs.Math.Seq.{take-append_seam}
 use Rattle.finite_map.specs.declared.Call.{Call}
-use Rattle.finite_map.specs.declared.Call.TheVariants.{Insert, Upsert, Exchange, Get, Remove, RemoveIf}
+use Rattle.finite_map.specs.declared.Call.TheVariants.{Insert, Upsert, Exchange, Add, Get, Remove, RemoveIf}
 use Rattle.finite_map.specs.declared.Kind.{Kind}
 use Rattle.finite_map.specs.declared.Kind.TheVariants.{Added, Replaced, Removed as TakenAway}
 use Rattle.finite_map.specs.declared.Change.{Change}
 use Rattle.finite_map.specs.declared.Reply.{Reply}
 use Rattle.finite_map.specs.declared.Reply.TheVariants.{Exchanged, Differs, Removed}
 use Rattle.finite_map.specs.declared.Note.{Note}
-use Rattle.finite_map.specs.Maps.{Map, value_at, key_of, step_if, step_where, map_after, reply_of, with_value, without}
+use Rattle.finite_map.specs.Maps.{Map, value_at, key_of, step_if, step_where, map_after, reply_of, with_value, without, wrapped_sum}
 use Rattle.finite_map.specs.Fronts.{changed, map_of, Fits, LegalFront, OthersGoOn}
 use Rattle.finite_map.specs.Calls.{effect_of, is_change, change_of, place_after, StandsIn, RisesFrom, changes_of, own_changes, LegalCalls}
 use Rattle.finite_map.proofs.Growth.{legal_front_push}
@@ -75,6 +75,8 @@ quiet_where m (Upsert key value) None h = cc
 quiet_where m (Upsert key value) (Some held) h = cc
 quiet_where m (Exchange key expected value) None h = refl
 quiet_where m (Exchange key expected value) (Some held) h = quiet_if m (Exchange key expected value) held (with_value m key value) Exchanged refl (eqb held expected) h
+quiet_where m (Add key delta) None h = refl
+quiet_where m (Add key delta) (Some held) h = cc
 quiet_where m (Get key) None h = refl
 quiet_where m (Get key) (Some held) h = refl
 quiet_where m (Remove key) None h = refl
@@ -115,6 +117,10 @@ makes_where m q (Exchange key expected value) None e c h = cc
 makes_where m q (Exchange key expected value) (Some held) e c h =
     makes_if m q (Exchange key expected value) held (with_value m key value) Exchanged (Replaced, value) refl refl (ap is_some e) refl c (eqb held expected)
     (ap (λ o. (step_where o m (Exchange key expected value)).0) e) h
+makes_where m q (Add key delta) None e c h = cc
+makes_where m q (Add key delta) (Some held) e c h =
+    subst (MakesChange m q (Add key delta)) (same_value (change_with q (Add key delta) (Replaced, wrapped_sum held delta)) c h)
+    (record { fits = ap is_some e; map = ap (λ o. (step_where o m (Add key delta)).0) e })
 makes_where m q (Get key) None e c h = cc
 makes_where m q (Get key) (Some held) e c h = cc
 makes_where m q (Remove key) None e c h = cc

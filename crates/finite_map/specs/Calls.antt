@@ -1,14 +1,14 @@
 -- Legal calls of a pass, after Herlihy and Wing: where its answered calls stand in a front, and that each was answered as a finite map would.
 use Rattle.std.specs.Prelude.{◌≡◌, ℕ, ◌+◌, ◌≤◌, List, [], ◌∷◌, length, take, slice_get, filter, filter_map, map, All, Option, Some, None, Bool, is_some, option_map, nat_eq, if◌then◌else◌}
 use Rattle.finite_map.specs.declared.Call.{Call}
-use Rattle.finite_map.specs.declared.Call.TheVariants.{Insert, Upsert, Exchange, Remove, RemoveIf}
+use Rattle.finite_map.specs.declared.Call.TheVariants.{Insert, Upsert, Exchange, Add, Remove, RemoveIf}
 use Rattle.finite_map.specs.declared.Reply.{Reply}
 use Rattle.finite_map.specs.declared.Reply.TheVariants.{Inserted, New, Was, Exchanged, Removed}
 use Rattle.finite_map.specs.declared.Kind.{Kind}
 use Rattle.finite_map.specs.declared.Kind.TheVariants.{Added, Replaced, Removed as TakenAway}
 use Rattle.finite_map.specs.declared.Change.{Change}
 use Rattle.finite_map.specs.declared.Note.{Note}
-use Rattle.finite_map.specs.Maps.{Map, key_of, reply_of, replies_of, map_after_all}
+use Rattle.finite_map.specs.Maps.{Map, key_of, reply_of, replies_of, map_after_all, wrapped_sum}
 use Rattle.finite_map.specs.Fronts.{map_of, LegalFront}
 
 -- what a call with this reply did to its key, if it changed the map: the kind and the value of its change
@@ -17,6 +17,7 @@ effect_of (Insert key value) Inserted = Some (Added, value)
 effect_of (Upsert key value) New = Some (Added, value)
 effect_of (Upsert key value) (Was held) = Some (Replaced, value)
 effect_of (Exchange key expected value) Exchanged = Some (Replaced, value)
+effect_of (Add key delta) (Was held) = Some (Replaced, wrapped_sum held delta)
 effect_of (Remove key) (Removed held) = Some (TakenAway, held)
 effect_of (RemoveIf key expected) (Removed held) = Some (TakenAway, held)
 effect_of _ _ = None

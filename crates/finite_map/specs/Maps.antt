@@ -1,5 +1,5 @@
 -- A finite map from keys to numbers, and what one call makes of it.
-use Rattle.std.specs.Prelude.{◌≡◌, ℕ, List, [], ◌∷◌, fold, Bool, true, false, nat_eq, Option, Some, None}
+use Rattle.std.specs.Prelude.{◌≡◌, ℕ, ◌+◌, ◌%◌, ◌^◌, List, [], ◌∷◌, fold, Bool, true, false, nat_eq, Option, Some, None}
 use Rattle.std.specs.declared.cmp.Ordering.{Ordering}
 use Rattle.std.specs.Ordering.{nat_cmp}
 use Rattle.std.specs.Cmp.Lexicographic.{slice_cmp}
@@ -7,7 +7,7 @@ use Rattle.std.specs.List.Sorted.{IsStrictlySortedBy}
 use Rattle.std.specs.Map.{keys_of, lookup, remove_entry}
 use Rattle.std.specs.BTreeMap.{insert_entry, is_at}
 use Rattle.finite_map.specs.declared.Call.{Call}
-use Rattle.finite_map.specs.declared.Call.TheVariants.{Insert, Upsert, Exchange, Get, Remove, RemoveIf}
+use Rattle.finite_map.specs.declared.Call.TheVariants.{Insert, Upsert, Exchange, Add, Get, Remove, RemoveIf}
 use Rattle.finite_map.specs.declared.Reply.{Reply}
 use Rattle.finite_map.specs.declared.Reply.TheVariants.{Inserted, Exists, New, Was, Exchanged, Differs, Value, Absent, Removed}
 
@@ -40,9 +40,14 @@ abbrev pub key_of : Call → List ℕ
 key_of (Insert key value) = key
 key_of (Upsert key value) = key
 key_of (Exchange key expected value) = key
+key_of (Add key delta) = key
 key_of (Get key) = key
 key_of (Remove key) = key
 key_of (RemoveIf key expected) = key
+
+-- the sum of two values, which goes on from 0 behind the greatest one
+abbrev pub wrapped_sum : ℕ → ℕ → ℕ
+wrapped_sum held delta = (held + delta) % 2 ^ 64
 
 -- what a call that expects a value makes of a map and replies, where its key has that value; else the map stays
 abbrev pub step_if : Bool → Map → ℕ → Map × Reply → Map × Reply
@@ -57,6 +62,8 @@ step_where None m (Upsert key value) = (with_value m key value, New)
 step_where (Some held) m (Upsert key value) = (with_value m key value, Was held)
 step_where None m (Exchange key expected value) = (m, Absent)
 step_where (Some held) m (Exchange key expected value) = step_if (nat_eq held expected) m held (with_value m key value, Exchanged)
+step_where None m (Add key delta) = (m, Absent)
+step_where (Some held) m (Add key delta) = (with_value m key (wrapped_sum held delta), Was held)
 step_where None m (Get key) = (m, Absent)
 step_where (Some held) m (Get key) = (m, Value held)
 step_where None m (Remove key) = (m, Absent)
@@ -90,6 +97,7 @@ abbrev pub AddsKey : Map → Call → Type 0
 AddsKey m (Insert key value) = value_at m key ≡ None
 AddsKey m (Upsert key value) = value_at m key ≡ None
 AddsKey m (Exchange key expected value) = ⊥
+AddsKey m (Add key delta) = ⊥
 AddsKey m (Get key) = ⊥
 AddsKey m (Remove key) = ⊥
 AddsKey m (RemoveIf key expected) = ⊥

@@ -12,6 +12,8 @@ pub enum Call {
     Upsert(Key, u64),
     /// Gives the key the second value if it has the first: a compare-and-exchange.
     Exchange(Key, u64, u64),
+    /// Adds the number to the value of the key, if it has one: the sum modulo 2 to the power of 64.
+    Add(Key, u64),
     /// Asks for the value of the key.
     Get(Key),
     /// Removes the key.
@@ -29,7 +31,7 @@ pub enum Reply {
     Exists(u64),
     /// Of `Upsert`: the key was absent and has the value now.
     New,
-    /// Of `Upsert`: the key had this value and has the new one now.
+    /// Of `Upsert` and `Add`: the key had this value and has the new one now.
     Was(u64),
     /// Of `Exchange`: the key had the expected value and has the new one now.
     Exchanged,

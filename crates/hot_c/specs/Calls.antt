@@ -2,7 +2,7 @@
 use Rattle.std.specs.Prelude.{◌≡◌, ℕ, ◌≤◌, List, length, map, All, slice_get, Option, Some, None, IsSome, Result, Ok, Err, MatchResult}
 use Rattle.key_bits.specs.declared.TheConstants.{MAX_BYTES}
 use Rattle.finite_map.specs.declared.Call.{Call}
-use Rattle.finite_map.specs.declared.Call.TheVariants.{Exchange, Get, Insert, Remove, RemoveIf, Upsert}
+use Rattle.finite_map.specs.declared.Call.TheVariants.{Add, Exchange, Get, Insert, Remove, RemoveIf, Upsert}
 use Rattle.finite_map.specs.declared.Reply.{Reply}
 use Rattle.record_words.specs.Limits.{IsPassCount, IsStockPassCount, IsNodeCount, IsLeafCount, IsRecordCount}
 use Rattle.record_words.specs.Layout.{HasStock, leaves_of}
@@ -45,6 +45,7 @@ abbrev pub for_key : List ℕ → Call → Call
 for_key key (Insert own value) = Insert key value
 for_key key (Upsert own value) = Upsert key value
 for_key key (Exchange own expected value) = Exchange key expected value
+for_key key (Add own delta) = Add key delta
 for_key key (Get own) = Get key
 for_key key (Remove own) = Remove key
 for_key key (RemoveIf own expected) = RemoveIf key expected

@@ -1,7 +1,7 @@
 //! The calls for programs in C. `c/hot.h` says how to use them.
 
 ghost use Rattle.std.specs.Prelude.{◌≡◌, ◌≢◌, ◌⊎◌, ◌↔◌, ℕ, List, IsOk, IsSome, None, Some, length};
-ghost use Rattle.finite_map.specs.declared.Call.TheVariants.{Exchange, Get, Insert, Remove, RemoveIf, Upsert};
+ghost use Rattle.finite_map.specs.declared.Call.TheVariants.{Add, Exchange, Get, Insert, Remove, RemoveIf, Upsert};
 ghost use Rattle.rowex_writing.specs.declared.attempts.TryFault.TheVariants.{FullLeaves};
 ghost use Rattle.seat_calls.specs.Answers.{MayRefuse};
 ghost use Rattle.hot_c.specs.declared.opened.Opened.{Opened};
@@ -190,6 +190,16 @@ pub extern "C" fn hot_try_exchange(
     make_call(handle, &mut call, key, had)
 }
 
+/// Adds a number to the value of a key, modulo 2 to the power of 64: `WAS` with the value that it had; or `ABSENT`, and then it changes
+/// nothing.
+#[unsafe(no_mangle)]
+pub extern "C" fn hot_try_add(handle: &mut Handle, key: &[u8], delta: u64, had: &mut u64) -> u32
+    ensures call { Answers key.now (Add key.now delta) handle.old.slot.opened handle.new.slot.opened had.old had.new result }
+{
+    let mut call = Call::Add(Key::empty(), delta);
+    make_call(handle, &mut call, key, had)
+}
+
 /// Removes a key: `REMOVED` with the value that it had, or `ABSENT`. It needs no leaf record, so it never answers `FULL_LEAVES`.
 #[unsafe(no_mangle)]
 pub extern "C" fn hot_try_remove(handle: &mut Handle, key: &[u8], had: &mut u64) -> u32
@@ -242,6 +252,7 @@ fn set_key(call: &mut Call, key: &[u8]) -> Result<(), KeyFault>
         Call::Insert(own, _) => own.set_bytes(key),
         Call::Upsert(own, _) => own.set_bytes(key),
         Call::Exchange(own, _, _) => own.set_bytes(key),
+        Call::Add(own, _) => own.set_bytes(key),
         Call::Get(own) => own.set_bytes(key),
         Call::Remove(own) => own.set_bytes(key),
         Call::RemoveIf(own, _) => own.set_bytes(key),

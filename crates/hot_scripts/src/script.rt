@@ -147,7 +147,7 @@ fn key_of(call: &Call) -> &Key
 {
     match call {
         Call::Insert(key, _) | Call::Upsert(key, _) | Call::Exchange(key, _, _) => key,
-        Call::Get(key) | Call::Remove(key) | Call::RemoveIf(key, _) => key,
+        Call::Add(key, _) | Call::Get(key) | Call::Remove(key) | Call::RemoveIf(key, _) => key,
     }
 }
 

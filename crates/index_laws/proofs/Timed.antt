@@ -4,7 +4,7 @@ use Rattle.std.specs.Prelude.{get_or}
 use Rattle.std.proofs.lemmas.Bool.{cases_eq}
 use Rattle.std.proofs.lemmas.List.Elements.{All-cons, All-from_recursion, All-nil}
 use Rattle.finite_map.specs.declared.Call.{Call}
-use Rattle.finite_map.specs.declared.Call.TheVariants.{Insert, Upsert, Exchange, Get, Remove, RemoveIf}
+use Rattle.finite_map.specs.declared.Call.TheVariants.{Insert, Upsert, Exchange, Add, Get, Remove, RemoveIf}
 use Rattle.finite_map.specs.declared.Note.{Note}
 use Rattle.finite_map.specs.declared.Reply.{Reply}
 use Rattle.finite_map.specs.Calls.{LegalCalls}
@@ -151,6 +151,8 @@ lack_may_refuse (Upsert key value) Nodes lack = tt
 lack_may_refuse (Upsert key value) Leaves lack = tt
 lack_may_refuse (Exchange key expected value) Nodes lack = tt
 lack_may_refuse (Exchange key expected value) Leaves lack = tt
+lack_may_refuse (Add key delta) Nodes lack = tt
+lack_may_refuse (Add key delta) Leaves lack = tt
 lack_may_refuse (Get key) Nodes lack = lack
 lack_may_refuse (Get key) Leaves lack = lack
 lack_may_refuse (Remove key) Nodes lack = tt

@@ -26,6 +26,7 @@ fn key_in(call: &Call) -> &Key
         Call::Insert(key, _) => key,
         Call::Upsert(key, _) => key,
         Call::Exchange(key, _, _) => key,
+        Call::Add(key, _) => key,
         Call::Get(key) => key,
         Call::Remove(key) => key,
         Call::RemoveIf(key, _) => key,
@@ -44,6 +45,8 @@ fn reply_where(call: &Call, held: Option<u64>) -> Reply
         (Call::Exchange(..), None) => Reply::Absent,
         (Call::Exchange(_, expected, _), Some(value)) if value == *expected => Reply::Exchanged,
         (Call::Exchange(..), Some(value)) => Reply::Differs(value),
+        (Call::Add(..), None) => Reply::Absent,
+        (Call::Add(..), Some(value)) => Reply::Was(value),
         (Call::Get(_), None) => Reply::Absent,
         (Call::Get(_), Some(value)) => Reply::Value(value),
         (Call::Remove(_), None) => Reply::Absent,
@@ -63,6 +66,9 @@ fn effect(call: &Call, reply: Reply) -> Option<(Kind, u64)>
         (Call::Upsert(_, value), Reply::New) => Some((Kind::Added, *value)),
         (Call::Upsert(_, value), Reply::Was(_)) => Some((Kind::Replaced, *value)),
         (Call::Exchange(_, _, value), Reply::Exchanged) => Some((Kind::Replaced, *value)),
+        (Call::Add(_, delta), Reply::Was(held)) => {
+            Some((Kind::Replaced, held.wrapping_add(*delta)))
+        }
         (Call::Remove(_) | Call::RemoveIf(..), Reply::Removed(held)) => Some((Kind::Removed, held)),
         _ => None,
     }

@@ -1,6 +1,6 @@
 //! An index of one thread, over a sorted map.
 ghost use Rattle.std.specs.Prelude.{◌≡◌, ◌≢◌, ℕ, List, [], ◌≤◌, length, take, IfOk, IsOk, OnOk, OnErr};
-ghost use Rattle.finite_map.specs.declared.Call.TheVariants.{Exchange, RemoveIf};
+ghost use Rattle.finite_map.specs.declared.Call.TheVariants.{Add, Exchange, RemoveIf};
 ghost use Rattle.finite_map.specs.Maps.{map_after, reply_of, map_after_all, replies_of, AddsKey};
 ghost use Rattle.finite_map.specs.Scans.{IsScanOf, range_of};
 
@@ -53,6 +53,7 @@ impl PlainIndex {
                 None => Ok(Reply::New),
             },
             Call::Exchange(key, expected, value) => self.exchange(key, expected, value),
+            Call::Add(key, delta) => self.add(key, delta),
             Call::Get(key) => match self.entries.get(&key) {
                 Some(held) => Ok(Reply::Value(*held)),
                 None => Ok(Reply::Absent),
@@ -79,6 +80,20 @@ impl PlainIndex {
             }
             Some(held) => Ok(Reply::Differs(*held)),
         }
+    }
+
+    /// Adds to the value of a key that is there.
+    fn add(&mut self, key: Key, delta: u64) -> Result<Reply, AllocError>
+        ensures reply { IfOk result (λ reply. reply ≡ reply_of self.old (Add key delta)) }
+        ensures map { OnOk result (self.new ≡ map_after self.old (Add key delta)) }
+        ensures memory { IsOk result }
+    {
+        let Some(held) = self.entries.get(&key) else {
+            return Ok(Reply::Absent);
+        };
+        let had = *held;
+        self.entries.insert(key, had.wrapping_add(delta))?;
+        Ok(Reply::Was(had))
     }
 
     /// Takes a key away where it has the expected value.

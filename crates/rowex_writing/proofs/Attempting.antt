@@ -3,7 +3,7 @@ use Rattle.std.specs.Prelude.{if◌then◌else◌, nat_eq}
 use Rattle.std.specs.Option.{option_map}
 use Rattle.std.proofs.Common.{◌≡◌, ◌≢◌, ◌⊎◌, inl, inr, ℕ, ◌≤◌, ◌<◌, List, [], ◌∷◌, length, refl, sym, ap, subst, ◌∙◌, arith, Option, Some, None, Bool, true, false, Ok, Err}
 use Rattle.finite_map.specs.declared.Call.{Call}
-use Rattle.finite_map.specs.declared.Call.TheVariants.{Insert, Upsert, Exchange, Get, Remove, RemoveIf}
+use Rattle.finite_map.specs.declared.Call.TheVariants.{Insert, Upsert, Exchange, Add, Get, Remove, RemoveIf}
 use Rattle.finite_map.specs.declared.Change.{Change}
 use Rattle.finite_map.specs.declared.Kind.{Kind}
 use Rattle.finite_map.specs.declared.Kind.TheVariants.{Added, Replaced, Removed as TakenAway}
@@ -11,7 +11,7 @@ use Rattle.finite_map.specs.declared.Reply.{Reply}
 use Rattle.finite_map.specs.declared.Reply.TheVariants.{Exchanged, Exists, Absent, Removed}
 use Rattle.finite_map.specs.Calls.{effect_of}
 use Rattle.finite_map.specs.Fronts.{OthersGoOn}
-use Rattle.finite_map.specs.Maps.{Map, key_of, step_if, with_value, without}
+use Rattle.finite_map.specs.Maps.{Map, key_of, step_if, with_value, without, wrapped_sum}
 use Rattle.finite_map.proofs.Growth.{others_on}
 use Rattle.insert_cases.specs.declared.choice.Case.{Case}
 use Rattle.insert_cases.specs.declared.choice.Case.TheVariants.{LeafPushdown, NormalInsert, Overflow}
@@ -134,6 +134,8 @@ no_effect (Exchange key expected value) (Some held) e = go (nat_eq held expected
     go : (b : Bool) → (if b then Some ToUpsert else None) ≡ None → effect_of (Exchange key expected value) (step_if b [] held (with_value [] key value, Exchanged)).1 ≡ None
     go true e = absurd (cc)
     go false e = refl
+no_effect (Add key delta) None e = refl
+no_effect (Add key delta) (Some held) e = absurd (cc)
 no_effect (Get key) None e = refl
 no_effect (Get key) (Some held) e = refl
 no_effect (Remove key) held e = absurd (cc)
@@ -165,6 +167,8 @@ answers_looked j (Insert key value) (Some held) aim reply e answers found =
     let is : reply ≡ Exists held = subst (λ a. Answers a (Some held) reply) (some_is _ _ (sym e)) answers in (Some held, found, is, ap (effect_of (Insert key value)) is)
 answers_looked j (Upsert key value) held aim reply e answers found = absurd (subst (λ a. Answers a held reply) (some_is _ _ (sym e)) answers)
 answers_looked j (Exchange key expected value) held aim reply e answers found = absurd (aim_met (λ a. Answers a held reply) expected held ToUpsert aim e answers)
+answers_looked j (Add key delta) None aim reply e answers found = absurd (cc)
+answers_looked j (Add key delta) (Some held) aim reply e answers found = absurd (subst (λ a. Answers a (Some held) reply) (some_is _ _ (sym e)) answers)
 answers_looked j (Get key) held aim reply e answers found = absurd (cc)
 answers_looked j (Remove key) None aim reply e answers found =
     let is : reply ≡ Absent = subst (λ a. Answers a None reply) (some_is _ _ (sym e)) answers in (None, found, is, ap (effect_of (Remove key)) is)
@@ -232,7 +236,7 @@ module _ (q : ℕ) (x : Change) (was : Option ℕ) where
   expected_effect P true own aim held met e = refl
   expected_effect P false own aim held met e = absurd (cc)
 
-  made_change : (call : Call) (held : Option ℕ) (aim : Aim) → aim_of call held ≡ Some aim → IsMade q (key_of call) (value_in call) aim held x was → IsChangeOf q call (reply_to call held) x was
+  made_change : (call : Call) (held : Option ℕ) (aim : Aim) → aim_of call held ≡ Some aim → IsMade q (key_of call) (value_in call held) aim held x was → IsChangeOf q call (reply_to call held) x was
   made_change (Insert key value) None aim e made =
       let (x_is, was_is) = subst (λ a. IsMade q key value a None x was) (some_is _ _ (sym e)) made in is_change_of (Insert key value) None Added value refl x_is was_is
   made_change (Insert key value) (Some held) aim e made = absurd (subst (λ a. IsMade q key value a (Some held) x was) (some_is _ _ (sym e)) made)
@@ -244,6 +248,10 @@ module _ (q : ℕ) (x : Change) (was : Option ℕ) where
   made_change (Exchange key expected value) (Some held) aim e made =
       let (x_is, was_is) = aim_met (λ a. IsMade q key value a (Some held) x was) expected (Some held) ToUpsert aim e made in
       is_change_of (Exchange key expected value) (Some held) Replaced value (expected_effect (effect_of (Exchange key expected value)) (nat_eq held expected) ToUpsert aim held _ e) x_is was_is
+  made_change (Add key delta) None aim e made = absurd (cc)
+  made_change (Add key delta) (Some held) aim e made =
+      let (x_is, was_is) = subst (λ a. IsMade q key (wrapped_sum held delta) a (Some held) x was) (some_is _ _ (sym e)) made in
+      is_change_of (Add key delta) (Some held) Replaced (wrapped_sum held delta) refl x_is was_is
   made_change (Get key) held aim e made = absurd (cc)
   made_change (Remove key) None aim e made = absurd (subst (λ a. IsMade q key 0 a None x was) (some_is _ _ (sym e)) made)
   made_change (Remove key) (Some held) aim e made =
@@ -269,6 +277,7 @@ pub leafless : (call : Call) (held : Option ℕ) (aim : Aim) (fault : TryFault) 
 leafless (Insert key value) held aim fault e h = tt
 leafless (Upsert key value) held aim fault e h = tt
 leafless (Exchange key expected value) held aim fault e h = tt
+leafless (Add key delta) held aim fault e h = tt
 leafless (Get key) held aim fault e h = tt
 leafless (Remove key) held aim fault e h = λ is. h (sym (some_is _ _ e)) (let z : fault ≡ FullLeaves = cc in z)
 leafless (RemoveIf key expected) held aim fault e h = λ is. aim_met (λ a. a ≡ ToRemove → ⊥) expected held ToRemove aim e (λ removes. h removes (let z : fault ≡ FullLeaves = cc in z)) refl
@@ -277,6 +286,7 @@ pub answered_leafless : (call : Call) (reply : Reply) → IsLeafless FullLeaves 
 answered_leafless (Insert key value) reply = tt
 answered_leafless (Upsert key value) reply = tt
 answered_leafless (Exchange key expected value) reply = tt
+answered_leafless (Add key delta) reply = tt
 answered_leafless (Get key) reply = tt
 answered_leafless (Remove key) reply = λ is. absurd (cc)
 answered_leafless (RemoveIf key expected) reply = λ is. absurd (cc)
@@ -375,10 +385,10 @@ pub answered_look : (k j : Known) (call : Call) (reply : Reply) → IsLater k j 
 answered_look k j call reply later looked = inl (looked, later.front)
 
 pub answered_change : (k p i j : Known) (m : ℕ) (key : Key) (value : ℕ) (way : List Step) (call : Call) (held : Option ℕ) (aim : Aim) (found : Found) (span : Span) (deed : Deed) → IsLater k i →
-    key ≡ key_of call → value ≡ value_in call → held ≡ value_of found → aim_of call held ≡ Some aim → IsPlanned p m key way aim found (a_change span deed) → HasDone i j deed key value found →
+    key ≡ key_of call → value ≡ value_in call held → held ≡ value_of found → aim_of call held ≡ Some aim → IsPlanned p m key way aim found (a_change span deed) → HasDone i j deed key value found →
     HasAnswered k j call (reply_to call held)
 answered_change k p i j m key value way call held aim found span deed later key_is value_is held_is e planned done =
     let (x, was, made, changed) = plan_does i j p m key value way aim found span deed planned done in
-    let asked = subst (λ h. IsMade i.pass (key_of call) (value_in call) aim h x was) (sym held_is)
+    let asked = subst (λ h. IsMade i.pass (key_of call) (value_in call held) aim h x was) (sym held_is)
     (subst (λ v. IsMade i.pass (key_of call) v aim (value_of found) x was) value_is (subst (λ z. IsMade i.pass z value aim (value_of found) x was) key_is made)) in
     inr (x, was, subst (λ q. IsChangeOf q call (reply_to call held) x was) later.pass (made_change i.pass x was call held aim e asked), changed_from_before k i j x was later.pass later.front changed)

@@ -16,17 +16,19 @@ pub(crate) fn key_of(call: &Call) -> &Key
 {
     match call {
         Call::Insert(key, _) | Call::Upsert(key, _) | Call::Exchange(key, _, _) => key,
-        Call::Get(key) | Call::Remove(key) | Call::RemoveIf(key, _) => key,
+        Call::Add(key, _) | Call::Get(key) | Call::Remove(key) | Call::RemoveIf(key, _) => key,
     }
 }
 
-/// The value that a call gives its key; 0 if it gives none.
-pub(crate) fn value_in(call: &Call) -> u64
-    ensures { result ≡ the_value_in call.now }
+/// The value that a call gives its key, which has this value, or none; 0 if it gives none.
+pub(crate) fn value_in(call: &Call, held: Option<u64>) -> u64
+    ensures { result ≡ the_value_in call.now held }
 {
-    match call {
-        Call::Insert(_, value) | Call::Upsert(_, value) | Call::Exchange(_, _, value) => *value,
-        Call::Get(_) | Call::Remove(_) | Call::RemoveIf(..) => 0,
+    match (call, held) {
+        (Call::Insert(_, value) | Call::Upsert(_, value) | Call::Exchange(_, _, value), _) =>
+            *value,
+        (Call::Add(_, delta), Some(had)) => had.wrapping_add(*delta),
+        (Call::Add(..) | Call::Get(_) | Call::Remove(_) | Call::RemoveIf(..), _) => 0,
     }
 }
 
@@ -44,7 +46,8 @@ pub(crate) fn value_of(found: Found) -> Option<u64>
     }
 }
 
-/// What a call aims at whose key has this value, or none. A get, and a call that expects another value, aim at nothing.
+/// What a call aims at whose key has this value, or none. A get, a call that expects another value, and an addition to an absent key
+/// aim at nothing.
 pub(crate) fn aim_of(call: &Call, held: Option<u64>) -> Option<Aim>
     ensures { result ≡ the_aim call.now held }
 {
@@ -53,6 +56,7 @@ pub(crate) fn aim_of(call: &Call, held: Option<u64>) -> Option<Aim>
         Call::Insert(..) => Some(Aim::Insert),
         Call::Upsert(..) => Some(Aim::Upsert),
         Call::Exchange(_, expected, _) => aim_where(*expected, held, Aim::Upsert),
+        Call::Add(..) => held.and(Some(Aim::Upsert)),
         Call::Remove(_) => Some(Aim::Remove),
         Call::RemoveIf(_, expected) => aim_where(*expected, held, Aim::Remove),
     }
@@ -80,6 +84,8 @@ pub(crate) fn reply_to(call: &Call, held: Option<u64>) -> Reply
         (Call::Exchange(..), None) => Reply::Absent,
         (Call::Exchange(_, expected, _), Some(held)) if held == *expected => Reply::Exchanged,
         (Call::Exchange(..), Some(held)) => Reply::Differs(held),
+        (Call::Add(..), None) => Reply::Absent,
+        (Call::Add(..), Some(held)) => Reply::Was(held),
         (Call::Get(_), None) => Reply::Absent,
         (Call::Get(_), Some(held)) => Reply::Value(held),
         (Call::Remove(_), None) => Reply::Absent,

@@ -90,7 +90,7 @@ pub fn attempt<G: Gate>(
             let job = Job {
                 way,
                 key,
-                value: value_in(call),
+                value: value_in(call, held),
                 found,
                 span,
             };

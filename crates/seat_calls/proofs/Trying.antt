@@ -4,7 +4,7 @@ use Rattle.std.specs.Prelude.{All, IfOk, IfErr, MatchResult, is_some, nat_eq}
 use Rattle.std.specs.Option.{option_map}
 use Rattle.std.proofs.lemmas.List.Elements.{All-head, All-tail}
 use Rattle.finite_map.specs.declared.Call.{Call}
-use Rattle.finite_map.specs.declared.Call.TheVariants.{Insert, Upsert, Exchange, Get, Remove, RemoveIf}
+use Rattle.finite_map.specs.declared.Call.TheVariants.{Insert, Upsert, Exchange, Add, Get, Remove, RemoveIf}
 use Rattle.finite_map.specs.declared.Change.{Change}
 use Rattle.finite_map.specs.declared.Kind.{Kind}
 use Rattle.finite_map.specs.declared.Note.{Note}
@@ -72,6 +72,8 @@ any_map (Upsert key value) None m = refl
 any_map (Upsert key value) (Some held) m = refl
 any_map (Exchange key expected value) None m = refl
 any_map (Exchange key expected value) (Some held) m = either_reply (nat_eq held expected) m [] held _ _ Exchanged
+any_map (Add key delta) None m = refl
+any_map (Add key delta) (Some held) m = refl
 any_map (Get key) None m = refl
 any_map (Get key) (Some held) m = refl
 any_map (Remove key) None m = refl
@@ -405,6 +407,7 @@ waited_leafless (Get key) r h = tt
 waited_leafless (Insert key value) r h = tt
 waited_leafless (Upsert key value) r h = tt
 waited_leafless (Exchange key expected value) r h = tt
+waited_leafless (Add key delta) r h = tt
 waited_leafless (Remove key) r h = λ is. h (ap last_try is)
 waited_leafless (RemoveIf key expected) r h = λ is. h (ap last_try is)
 
@@ -417,6 +420,7 @@ may : (call : Call) (fault : TryFault) → ((key : Key) → call ≢ Get key) �
 may (Insert key value) fault change h = tt
 may (Upsert key value) fault change h = tt
 may (Exchange key expected value) fault change h = tt
+may (Add key delta) fault change h = tt
 may (Get key) fault change h = absurd (change key refl)
 may (Remove key) Busy change h = tt
 may (Remove key) FullNodes change h = tt
@@ -434,6 +438,7 @@ lacks : (call : Call) (full : Full) → MayRefuse call (fault_of full) → MayLa
 lacks (Insert key value) full h = tt
 lacks (Upsert key value) full h = tt
 lacks (Exchange key expected value) full h = tt
+lacks (Add key delta) full h = tt
 lacks (Get key) full h = h
 lacks (Remove key) OfNodes h = tt
 lacks (Remove key) OfLeaves h = h
@@ -449,6 +454,7 @@ waits_lack : (call : Call) (full : Full) → ((key : Key) → call ≢ Get key) 
 waits_lack (Insert key value) full change h = tt
 waits_lack (Upsert key value) full change h = tt
 waits_lack (Exchange key expected value) full change h = tt
+waits_lack (Add key delta) full change h = tt
 waits_lack (Get key) full change h = absurd (change key refl)
 waits_lack (Remove key) OfNodes change h = tt
 waits_lack (Remove key) OfLeaves change h = h refl
@@ -465,6 +471,7 @@ pub makes_steps : {G : Type 0} (call : Call) (r : Result Reply TryFault) (index 
 makes_steps (Insert key value) r index becomes a b change made = made
 makes_steps (Upsert key value) r index becomes a b change made = made
 makes_steps (Exchange key expected value) r index becomes a b change made = made
+makes_steps (Add key delta) r index becomes a b change made = made
 makes_steps (Get key) r index becomes a b change made = absurd (change key refl)
 makes_steps (Remove key) r index becomes a b change made = made
 makes_steps (RemoveIf key expected) r index becomes a b change made = made
@@ -476,6 +483,7 @@ steps_untold (Get key) r index becomes a b made = got_untold index becomes a b m
 steps_untold (Insert key value) r index becomes a b made = made_untold index becomes (Insert key value) r a b made
 steps_untold (Upsert key value) r index becomes a b made = made_untold index becomes (Upsert key value) r a b made
 steps_untold (Exchange key expected value) r index becomes a b made = made_untold index becomes (Exchange key expected value) r a b made
+steps_untold (Add key delta) r index becomes a b made = made_untold index becomes (Add key delta) r a b made
 steps_untold (Remove key) r index becomes a b made = made_untold index becomes (Remove key) r a b made
 steps_untold (RemoveIf key expected) r index becomes a b made = made_untold index becomes (RemoveIf key expected) r a b made
 

@@ -3,7 +3,7 @@ use Rattle.std.specs.Prelude.{◌≡◌, ◌≢◌, ◌⊎◌, ℕ, ◌<◌, ◌
 use Rattle.std.specs.Option.{option_to_list}
 use Rattle.finite_map.specs.declared.Change.{Change}
 use Rattle.finite_map.specs.declared.Call.{Call}
-use Rattle.finite_map.specs.declared.Call.TheVariants.{Insert, Upsert, Exchange, Get, Remove, RemoveIf}
+use Rattle.finite_map.specs.declared.Call.TheVariants.{Insert, Upsert, Exchange, Add, Get, Remove, RemoveIf}
 use Rattle.finite_map.specs.declared.Reply.{Reply}
 use Rattle.finite_map.specs.declared.Reply.TheVariants.{Value, Absent}
 use Rattle.finite_map.specs.declared.Scan.{Scan}
@@ -143,6 +143,7 @@ abbrev pub MayLack : Call → Full → Type 0
 MayLack (Insert key value) full = Unit {0}
 MayLack (Upsert key value) full = Unit {0}
 MayLack (Exchange key expected value) full = Unit {0}
+MayLack (Add key delta) full = Unit {0}
 MayLack (Get key) full = ⊥
 MayLack (Remove key) Nodes = Unit {0}
 MayLack (Remove key) Leaves = ⊥
