@@ -51,9 +51,6 @@ is_full h n e = elim (cases_lt n 32) [
   | inr g ↦ g
 ]
 
-pub never_pushed : (h n : ℕ) → case_of h n false ≡ LeafPushdown → ⊥
-never_pushed h n = not_pushed h n
-
 -- ---- what is chosen
 module _ (h n first last : ℕ) (entry : Entry) (c : Choice) (i : IsChosenAt h n first last entry c) where
   -- the node gets the leaf where several entries are affected, or it has leaves alone

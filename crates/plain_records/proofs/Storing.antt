@@ -98,14 +98,6 @@ module _ (old : NodeView) where
     both_for (Many u) Same P Q x y = elim y [ ]
     both_for Same second P Q x y = elim x [ ]
 
-    -- an entry first, and a half in the old record
-    pub single_shows : (p : ℕ) (e : Entry) (half : Half) (P : Piece Entry) → GrownShows old (Two (record { position = p; zero = One e; one = half })) P →
-        RisenShows (kept_nodes xs n half) old (Split p e (kept_entry n (Node n h) half)) P
-    single_shows p e half (Place x) s = elim s [ ]
-    single_shows p e (One f) (Fork q a b) s = (s.0, inl s.1.0.0, inl s.1.1.0)
-    single_shows p e (Many v) (Fork q a b) s = (s.0, inl s.1.0.0, kept_for (Many v) b s.1.1)
-    single_shows p e Same (Fork q a b) s = (s.0, inl s.1.0, inr (named_old xs n h b at high lawful s.1.1))
-
     -- a node or the old one first, and a half that gets a new record
     pub double_shows : (p : ℕ) (first half : Half) (P : Piece Entry) → ((e : Entry) → first ≢ One e) → GrownShows old (Two (record { position = p; zero = first; one = half })) P →
         RisenShows (kept_nodes (pushed_nodes xs half) n first) old (Split p (kept_entry n (Node n h) first) (pushed_entry (length xs) (Node n h) half)) P
