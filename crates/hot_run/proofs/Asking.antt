@@ -10,8 +10,9 @@ use Rattle.hot_scripts.specs.declared.command.Command.{Command}
 use Rattle.hot_scripts.specs.declared.fault.RunFault.{RunFault}
 use Rattle.hot_scripts.specs.declared.fault.RunFault.TheVariants.{Read, Write, Memory, Script, FileScript, Large}
 use Rattle.hot_command_line.specs.Files.{AreStarts, IsFileFault}
-use Rattle.hot_command_line.specs.Options.{IsAsked}
-use Rattle.hot_command_line.specs.declared.ending.Ending.TheVariants.{Fault}
+use Rattle.hot_command_line.specs.Options.{DoParse, IsAsked}
+use Rattle.hot_command_line.specs.declared.ending.Ending.{Ending}
+use Rattle.hot_command_line.specs.declared.ending.Ending.TheVariants.{Usage, Fault}
 use Rattle.hot_scripts.specs.InFiles.{IsParsed, commands_of_files}
 use Rattle.hot_scripts.specs.Streams.{IsReadFault}
 use Rattle.hot_run.specs.Scripts.{LawfulScripts, MayEndScriptsBy}
@@ -84,6 +85,12 @@ module _ (files : List (List ℕ)) (old new : Option (List ℕ)) where
   read_ended scripts parsed (FileScript file number reason) is = absurd is
   read_ended scripts parsed Large is = inr (subst IsOk (sym parsed) refl, is)
 
+-- The words were refused, or memory was.
+pub words_ended : (bytes : List ℕ → Option (List ℕ)) (words : List (List ℕ)) (old new : Option (List ℕ)) (ending : Ending)
+    → ((ending ≡ Usage) × (DoParse words → ⊥)) ⊎ (ending ≡ Fault Memory) → MayEndAsAsked bytes words old new ending
+words_ended bytes words old new ending (inl (usage, none)) = rw usage none
+words_ended bytes words old new ending (inr memory) = rw memory tt
+
 -- A file could not be read, or memory was refused, or the run that was asked for has ended by a fault.
 module _ (bytes : List ℕ → Option (List ℕ)) (words : List (List ℕ)) (nodes leaves : ℕ) (names : List (List ℕ)) (old new : Option (List ℕ)) where
   faulted : (fault : RunFault) → IsAsked words nodes leaves names → MayEndAllBy bytes names old new fault → HasFaultAsAsked bytes words old new fault
@@ -91,7 +98,7 @@ module _ (bytes : List ℕ → Option (List ℕ)) (words : List (List ℕ)) (nod
 
   pub asked_ended : (fault : RunFault) → IsAsked words nodes leaves names → IsFileFault fault ⊎ MayEndAllBy bytes names old new fault
       → MayEndAsAsked bytes words old new (Fault fault)
-  asked_ended Read asked ended = tt
+  asked_ended Read asked ended = asked.parse
   asked_ended Memory asked ended = tt
   asked_ended Write asked (inl is) = absurd is
   asked_ended Write asked (inr ended) = faulted Write asked ended

@@ -8,7 +8,7 @@ use Rattle.seat_calls.specs.Traces.{untold}
 use Rattle.hot_command_line.specs.declared.ending.Ending.{Ending}
 use Rattle.hot_command_line.specs.declared.ending.Ending.TheVariants.{Usage, Fault}
 use Rattle.hot_command_line.specs.Files.{AreStarts}
-use Rattle.hot_command_line.specs.Options.{IsAsked}
+use Rattle.hot_command_line.specs.Options.{DoParse, IsAsked}
 use Rattle.hot_run.specs.Runs.{IsAnsweredScript, MayEndBy}
 use Rattle.hot_run.specs.Scripts.{LawfulScripts, MayEndScriptsBy}
 
@@ -45,9 +45,10 @@ pub record HasFaultAsAsked (bytes : List ℕ → Option (List ℕ)) (words : Lis
   pub asked : IsAsked words nodes leaves names
   pub ended : MayEndAllBy bytes names old new fault
 
--- It may end without answers where the words are refused, a read fails or memory is refused; else by a fault of the run.
+-- It may end without answers where the words don't parse or memory is refused; where they parse and a read fails; else by a fault of the
+-- run.
 abbrev pub MayEndAsAsked : (List ℕ → Option (List ℕ)) → List (List ℕ) → Option (List ℕ) → Option (List ℕ) → Ending → Type 0
-MayEndAsAsked bytes words old new Usage = Unit {0}
-MayEndAsAsked bytes words old new (Fault Read) = Unit {0}
+MayEndAsAsked bytes words old new Usage = DoParse words → ⊥
+MayEndAsAsked bytes words old new (Fault Read) = DoParse words
 MayEndAsAsked bytes words old new (Fault Memory) = Unit {0}
 MayEndAsAsked bytes words old new (Fault fault) = HasFaultAsAsked bytes words old new fault

@@ -34,7 +34,7 @@ where
     ensures ok { OnOk result (IsAnsweredAsAsked S.bytes (map string_bytes words.now) (R.remaining reader.old) (R.remaining reader.new)
         (W.contents writer.old) (W.contents writer.new)) }
 
-    // A fault of the run is one that the scripts have.
+    // It is refused as wrong usage only if the words don't parse. A fault of the run is one that the scripts have.
     ensures fault { IfErr result (MayEndAsAsked S.bytes (map string_bytes words.now) (R.remaining reader.old) (R.remaining reader.new)) }
 
     // Nothing was written but where a write failed.

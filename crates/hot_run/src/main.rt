@@ -9,6 +9,8 @@ mod indexes;
 pub mod one;
 pub mod scripts;
 mod together;
+#[cfg(test)]
+mod waiting;
 
 use asked::answer;
 use hot_command_line::arguments::words;

@@ -1,7 +1,12 @@
 -- By what the run that was asked for has ended.
 use Rattle.std.proofs.lemmas.Result.{err_from_is_err_and}
-use Rattle.hot_run.proofs.Asking.{asked_ended}
+use Rattle.hot_run.proofs.Asking.{asked_ended, words_ended}
 use Rattle.hot_run.proofs.asked.answer.Goals as goal
+
+pub returns-in_err-request-clause-fault : goal.returns-in_err-request-clause-fault
+returns-in_err-request-clause-fault g c =
+    let p = err_from_is_err_and c.from_residual.result c.from_residual.ensures.1 in
+    rw (p.1, p.2) (words_ended g.S.FileSystem.bytes _ _ _ _ c.in_err-request.ensures.refused)
 
 pub returns-in_err-answer_request-clause-fault : goal.returns-in_err-answer_request-clause-fault
 returns-in_err-answer_request-clause-fault g c =
