@@ -15,7 +15,7 @@ use rowex_writing::{Full, TryFault};
 use std::sync::Wait;
 
 impl Index {
-    /// Makes any of the calls, as `get`, `try_insert`, `try_upsert`, `try_exchange`, `try_remove` or `try_remove_if` does.
+    /// Makes any of the calls, as `get`, `try_insert`, `try_upsert`, `try_exchange`, `try_add`, `try_remove` or `try_remove_if` does.
     ///
     /// It makes no more steps than `try_insert` may. A get is never refused. A removal is never refused as full of leaves.
     pub fn try_call(&self, pass: &mut Pass, call: &Call) -> Result<Reply, TryFault>
@@ -47,8 +47,8 @@ impl Index {
         }
     }
 
-    /// Makes any of the calls, as `get`, `insert`, `upsert`, `exchange`, `remove` or `remove_if` does. It reports each of its steps
-    /// to a gate.
+    /// Makes any of the calls, as `get`, `insert`, `upsert`, `exchange`, `add`, `remove` or `remove_if` does. It reports each of its
+    /// steps to a gate.
     ///
     /// A get is never refused. A removal never returns `Full::Leaves`.
     pub fn call_with<R: Wait, G: Gate>(

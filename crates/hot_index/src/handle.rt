@@ -1,7 +1,7 @@
 //! A handle: a pass at its index. Its calls don't ask that the pass belong to the index, since it does.
 
 ghost use Rattle.std.specs.Prelude.{◌≡◌, ◌≢◌, [], All, Err, IfOk, length, map};
-ghost use Rattle.finite_map.specs.declared.Call.TheVariants.{Exchange, Get, Insert, Remove, RemoveIf, Upsert};
+ghost use Rattle.finite_map.specs.declared.Call.TheVariants.{Add, Exchange, Get, Insert, Remove, RemoveIf, Upsert};
 ghost use Rattle.finite_map.specs.Reverse.{IsLawfulReverseScan};
 ghost use Rattle.seat_calls.specs.Answers.{HaveMet, IsNoted, IsUnnoted, got};
 ghost use Rattle.seat_calls.specs.Calls.{IsAwaited, IsCallTried, IsListRead, IsListReadBy, IsRangeRead, IsScanRead, IsScanReadBy, IsTried};
@@ -144,6 +144,13 @@ impl<I: ShowsIndex> Handle<I> {
             .exchange(rt, &mut self.pass, key, expected, value)
     }
 
+    /// As `Index::add`.
+    pub fn add<R: Wait>(&mut self, rt: &R, key: &Key, delta: u64) -> Result<Reply, Full>
+        ensures { Stays (IsAwaited (Add key.now delta) result) self.old self.new }
+    {
+        self.index.show().add(rt, &mut self.pass, key, delta)
+    }
+
     /// As `Index::remove`.
     pub fn remove<R: Wait>(&mut self, rt: &R, key: &Key) -> Result<Reply, Full>
         ensures call { Stays (IsAwaited (Remove key.now) result) self.old self.new }
@@ -183,6 +190,13 @@ impl<I: ShowsIndex> Handle<I> {
         self.index
             .show()
             .try_exchange(&mut self.pass, key, expected, value)
+    }
+
+    /// As `Index::try_add`.
+    pub fn try_add(&mut self, key: &Key, delta: u64) -> Result<Reply, TryFault>
+        ensures { Stays (IsTried (Add key.now delta) result) self.old self.new }
+    {
+        self.index.show().try_add(&mut self.pass, key, delta)
     }
 
     /// As `Index::try_remove`.

@@ -12,8 +12,8 @@
 //! # Calls
 //!
 //! - *Look-ups*: `get`, `get_many`. They take no lock, and make a bounded number of atomic steps, whatever other threads do.
-//! - *Changes*: `insert`, `upsert`, `remove`, `exchange`, `remove_if`. Each makes one store that other threads see at once. These
-//!   forms wait while another pass is in the way. The `try_` forms return [`TryFault`] instead, after a bounded number of steps.
+//! - *Changes*: `insert`, `upsert`, `remove`, `exchange`, `add`, `remove_if`. Each makes one store that other threads see at once.
+//!   These forms wait while another pass is in the way. The `try_` forms return [`TryFault`] instead, after a bounded number of steps.
 //! - *Scans*: `scan`, `scan_into`, downwards `scan_reverse`, `prefix_into`, `first`, `last`, and [`Cursor`]s. A scan is no single
 //!   moment: each pair was there at a moment of it, and no key is left out that was there all along.
 //! - *Upkeep*: `collect` gives back what was retired, and `census` counts the records. Calls collect by themselves.
@@ -32,6 +32,7 @@
 //! pass go on. The plain forms use [`NoGate`], which does nothing.
 #![tactic(auto)]
 
+mod adding;
 mod calls;
 mod closed;
 mod creating;
