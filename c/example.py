@@ -17,7 +17,7 @@ REFUSALS = (*range(8, 16), 18)
 class Handle(ctypes.Structure):
     """struct hot_handle. It must not be copied: an array of them stays where it is, and calls take byref of a place."""
 
-    _fields_ = [("tag", c_uint32), ("slot", c_void_p), ("index", c_void_p)]
+    _fields_ = [("tag", c_uint32), ("slot", c_void_p), ("place", c_void_p)]
 
 
 class Stock(ctypes.Structure):

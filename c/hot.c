@@ -6,7 +6,12 @@
 #include <stdlib.h>
 #include <string.h>
 
-/* The proved calls of which c/run changes the names: there `had` is never NULL, and a handle is closed for good. */
+/* The proved calls of which c/object changes the names: there `had` is never NULL, and a handle is closed for good. Two of them are used
+ * here alone: one opens a handle of a new index, which keeps the passes of the others, and one opens the next of these. */
+hot_status proved_create(uint32_t nodes, uint32_t leaves, hot_handle *handles, size_t count);
+hot_status proved_create_with(const hot_stock *stock, hot_handle *handles, size_t count);
+hot_status proved_create_keeping(const hot_stock *stock, size_t passes, hot_handle *keeper);
+hot_status proved_open_kept(hot_handle *keeper, hot_handle *handle);
 hot_status proved_try_insert(hot_handle *handle, const uint8_t *key, size_t length, uint64_t value, uint64_t *had);
 hot_status proved_try_upsert(hot_handle *handle, const uint8_t *key, size_t length, uint64_t value, uint64_t *had);
 hot_status proved_try_exchange(hot_handle *handle, const uint8_t *key, size_t length, uint64_t expected, uint64_t value, uint64_t *had);
@@ -94,19 +99,52 @@ hot_status hot_each(hot_handle *handle, const uint8_t *from, size_t from_length,
     return status;
 }
 
+/* What an index keeps of each handle, by its number. Each `keys` is 64 bytes behind the one before, so that no two are in one line of a
+ * processor's cache. */
+typedef struct hot_place {
+    hot_index *index;
+    hot_handle closed; /* the handle, while it is given back */
+    int64_t keys;      /* how many keys its calls have put in, less those that they have taken out */
+    uint32_t state;
+    uint8_t rest[64 - sizeof(void *) - sizeof(hot_handle) - sizeof(int64_t) - sizeof(uint32_t)];
+} hot_place;
+
+/* A place's state: no program has its handle, which is there; one has it, or another call looks after it; or it is still to be opened. */
+enum { GIVEN_BACK, TAKEN, UNOPENED };
+
+/* An index. Either it opens its handles one by one, and those that were not opened yet are kept by `keeper`; or they were opened with it,
+ * and the last one that is closed frees it. */
+struct hot_index {
+    size_t count;
+    hot_place *places;
+    size_t left;       /* how many handles are open that were opened with it, or 0 */
+    hot_handle keeper; /* it is the last one to be opened itself */
+    uint32_t lock;     /* 1 while a call opens a handle that the keeper keeps, or closes the index */
+};
+
+/* Notes what a change has done with the number of keys, by its status. Only the calls of one handle write its count. */
+static hot_status counted(hot_handle *handle, hot_status status) {
+    int64_t *keys, more = status == HOT_INSERTED || status == HOT_NEW ? 1 : status == HOT_REMOVED ? -1 : 0;
+    if (more != 0) {
+        keys = &handle->place->keys;
+        __atomic_store_n(keys, __atomic_load_n(keys, __ATOMIC_RELAXED) + more, __ATOMIC_RELAXED);
+    }
+    return status;
+}
+
 hot_status hot_try_insert(hot_handle *handle, const uint8_t *key, size_t length, uint64_t value, uint64_t *had) {
     uint64_t unread;
-    return proved_try_insert(handle, key, length, value, had ? had : &unread);
+    return counted(handle, proved_try_insert(handle, key, length, value, had ? had : &unread));
 }
 
 hot_status hot_try_upsert(hot_handle *handle, const uint8_t *key, size_t length, uint64_t value, uint64_t *had) {
     uint64_t unread;
-    return proved_try_upsert(handle, key, length, value, had ? had : &unread);
+    return counted(handle, proved_try_upsert(handle, key, length, value, had ? had : &unread));
 }
 
 hot_status hot_try_remove(hot_handle *handle, const uint8_t *key, size_t length, uint64_t *had) {
     uint64_t unread;
-    return proved_try_remove(handle, key, length, had ? had : &unread);
+    return counted(handle, proved_try_remove(handle, key, length, had ? had : &unread));
 }
 
 hot_status hot_try_exchange(hot_handle *handle, const uint8_t *key, size_t length, uint64_t expected, uint64_t value, uint64_t *had) {
@@ -121,7 +159,7 @@ hot_status hot_try_add(hot_handle *handle, const uint8_t *key, size_t length, ui
 
 hot_status hot_try_remove_if(hot_handle *handle, const uint8_t *key, size_t length, uint64_t expected, uint64_t *had) {
     uint64_t unread;
-    return proved_try_remove_if(handle, key, length, expected, had ? had : &unread);
+    return counted(handle, proved_try_remove_if(handle, key, length, expected, had ? had : &unread));
 }
 
 /* Whether a change is to be tried again, once other threads have run: another call is in its way, or holds records back. */
@@ -214,12 +252,16 @@ hot_status hot_copy(hot_handle *from, hot_handle *to) {
 }
 
 hot_status hot_len(hot_handle *handle, size_t *count) {
-    hot_counts counts;
-    hot_status status = hot_census(handle, &counts);
-    if (status == HOT_DONE)
-        *count = (size_t)counts.short_leaves.live + counts.medium_leaves.live + counts.large_leaves.live + counts.wide_leaves.live +
-                 counts.long_leaves.live;
-    return status;
+    uint16_t number;
+    size_t place;
+    int64_t keys = 0;
+    hot_status status = hot_number(handle, &number);
+    if (status != HOT_DONE)
+        return status;
+    for (place = 0; place < handle->place->index->count; place++)
+        keys += __atomic_load_n(&handle->place->index->places[place].keys, __ATOMIC_RELAXED);
+    *count = keys > 0 ? (size_t)keys : 0;
+    return HOT_DONE;
 }
 
 void hot_stock_for_lengths(const uint32_t *keys, hot_stock *stock) {
@@ -269,20 +311,86 @@ hot_status hot_get_packed(hot_handle *handle, const uint8_t *bytes, const size_t
     return status;
 }
 
-/* An index whose handles are given out one by one. Those that are free wait in `passes`, each at the place of its number; a place that is
- * taken has a closed handle. Whoever exchanges 1 for the 0 in `taken` has the place, until it stores 0 there. */
-struct hot_index {
-    size_t count;
-    hot_handle *passes;
-    uint32_t *taken;
-};
-
-static int take_place(hot_index *index, size_t place) {
-    return __atomic_exchange_n(&index->taken[place], 1, __ATOMIC_SEQ_CST) == 0;
+static void free_index(hot_index *index) {
+    free(index->places);
+    free(index);
 }
 
-static void give_place(hot_index *index, size_t place) {
-    __atomic_store_n(&index->taken[place], 0, __ATOMIC_SEQ_CST);
+/* An index with so many places, none of which has a handle; or NULL where memory is refused. */
+static hot_index *new_index(size_t count) {
+    static const hot_handle closed = HOT_HANDLE;
+    hot_index *index = malloc(sizeof *index);
+    size_t place;
+    if (index == NULL)
+        return NULL;
+    index->count = count;
+    index->left = 0;
+    index->keeper = closed;
+    index->lock = 0;
+    index->places = calloc(count, sizeof *index->places);
+    if (index->places == NULL) {
+        free(index);
+        return NULL;
+    }
+    for (place = 0; place < count; place++) {
+        index->places[place].index = index;
+        index->places[place].state = UNOPENED;
+    }
+    return index;
+}
+
+/* Gives handles that were opened together, with an index, their places in one; or closes them where memory is refused. */
+static hot_status placed(hot_status status, hot_handle *handles, size_t count) {
+    hot_index *index;
+    size_t place;
+    if (status != HOT_DONE)
+        return status;
+    index = new_index(count);
+    for (place = 0; place < count; place++)
+        if (index == NULL)
+            proved_destroy(&handles[place]);
+        else
+            handles[place].place = &index->places[place];
+    if (index == NULL)
+        return HOT_NO_MEMORY;
+    index->left = count;
+    return HOT_DONE;
+}
+
+hot_status hot_create(uint32_t nodes, uint32_t leaves, hot_handle *handles, size_t count) {
+    return placed(proved_create(nodes, leaves, handles, count), handles, count);
+}
+
+hot_status hot_create_with(const hot_stock *stock, hot_handle *handles, size_t count) {
+    return placed(proved_create_with(stock, handles, count), handles, count);
+}
+
+hot_status hot_open_index(const hot_stock *stock, size_t handles, hot_index **index) {
+    size_t bytes;
+    hot_index *made;
+    hot_status status = hot_stock_bytes(stock, handles, &bytes);
+    if (status != HOT_DONE)
+        return status;
+    made = new_index(handles);
+    if (made == NULL)
+        return HOT_NO_MEMORY;
+    status = proved_create_keeping(stock, handles, &made->keeper);
+    if (status == HOT_DONE)
+        *index = made;
+    else
+        free_index(made);
+    return status;
+}
+
+/* Takes a handle that was given back, at this place. */
+static int take(hot_place *place) {
+    uint32_t state = GIVEN_BACK;
+    return __atomic_load_n(&place->state, __ATOMIC_SEQ_CST) == GIVEN_BACK &&
+           __atomic_compare_exchange_n(&place->state, &state, TAKEN, 0, __ATOMIC_SEQ_CST, __ATOMIC_SEQ_CST);
+}
+
+static void set_state(hot_place *place, uint32_t state) {
+    __atomic_store_n(&place->state, state, __ATOMIC_SEQ_CST);
 }
 
 /* Moves a handle to a place that has a closed one. */
@@ -292,31 +400,31 @@ static void move_handle(hot_handle *to, hot_handle *from) {
     *from = closed;
 }
 
-static void free_index(hot_index *index) {
-    free(index->passes);
-    free(index->taken);
-    free(index);
+static void lock(hot_index *index) {
+    while (__atomic_exchange_n(&index->lock, 1, __ATOMIC_SEQ_CST) != 0)
+        sched_yield();
 }
 
-hot_status hot_open_index(const hot_stock *stock, size_t handles, hot_index **index) {
-    size_t bytes;
-    hot_index *made;
-    hot_status status = hot_stock_bytes(stock, handles, &bytes);
-    if (status != HOT_DONE)
-        return status;
-    made = malloc(sizeof *made);
-    if (made == NULL)
-        return HOT_NO_MEMORY;
-    made->count = handles;
-    made->passes = calloc(handles, sizeof *made->passes);
-    made->taken = calloc(handles, sizeof *made->taken);
-    status = made->passes == NULL || made->taken == NULL ? HOT_NO_MEMORY : hot_create_with(stock, made->passes, handles);
-    if (status != HOT_DONE) {
-        free_index(made);
-        return status;
+static void unlock(hot_index *index) {
+    __atomic_store_n(&index->lock, 0, __ATOMIC_SEQ_CST);
+}
+
+/* Opens a handle that was not opened yet: the next of those that the keeper keeps, and at last the keeper itself. */
+static hot_status open_kept(hot_index *index, hot_handle *handle) {
+    uint16_t number;
+    hot_status status;
+    lock(index);
+    status = proved_open_kept(&index->keeper, handle);
+    if (status == HOT_NO_HANDLE) {
+        move_handle(handle, &index->keeper);
+        status = HOT_DONE;
     }
-    *index = made;
-    return HOT_DONE;
+    if (status == HOT_DONE && hot_number(handle, &number) == HOT_DONE) {
+        handle->place = &index->places[number];
+        set_state(handle->place, TAKEN);
+    }
+    unlock(index);
+    return status == HOT_CLOSED ? HOT_NO_HANDLE : status;
 }
 
 hot_status hot_open(hot_index *index, hot_handle *handle) {
@@ -325,37 +433,53 @@ hot_status hot_open(hot_index *index, hot_handle *handle) {
     if (hot_number(handle, &number) == HOT_DONE)
         return HOT_OPEN;
     for (place = 0; place < index->count; place++)
-        if (take_place(index, place)) {
-            move_handle(handle, &index->passes[place]);
-            handle->index = index;
+        if (take(&index->places[place])) {
+            move_handle(handle, &index->places[place].closed);
             return HOT_DONE;
         }
-    return HOT_NO_HANDLE;
+    return open_kept(index, handle);
 }
 
 hot_status hot_close(hot_handle *handle) {
-    hot_index *index = handle->index;
-    uint16_t place;
-    hot_status status = hot_number(handle, &place);
+    hot_place *place = handle->place;
+    uint16_t number;
+    hot_status status = hot_number(handle, &number);
     if (status != HOT_DONE)
         return status;
-    if (index == NULL)
-        return proved_destroy(handle);
-    move_handle(&index->passes[place], handle);
-    give_place(index, place);
+    if (__atomic_load_n(&place->index->left, __ATOMIC_SEQ_CST) > 0) {
+        proved_destroy(handle);
+        if (__atomic_sub_fetch(&place->index->left, 1, __ATOMIC_SEQ_CST) == 0)
+            free_index(place->index);
+        return HOT_DONE;
+    }
+    move_handle(&place->closed, handle);
+    set_state(place, GIVEN_BACK);
     return HOT_DONE;
+}
+
+/* Takes all handles that have been opened, if all were given back. */
+static int take_all(hot_index *index) {
+    size_t place;
+    for (place = 0; place < index->count; place++)
+        if (index->places[place].state != UNOPENED && !take(&index->places[place])) {
+            while (place-- > 0)
+                if (index->places[place].state != UNOPENED)
+                    set_state(&index->places[place], GIVEN_BACK);
+            return 0;
+        }
+    return 1;
 }
 
 hot_status hot_close_index(hot_index *index) {
     size_t place;
+    lock(index);
+    if (!take_all(index)) {
+        unlock(index);
+        return HOT_OPEN;
+    }
     for (place = 0; place < index->count; place++)
-        if (!take_place(index, place)) {
-            while (place > 0)
-                give_place(index, --place);
-            return HOT_OPEN;
-        }
-    for (place = 0; place < index->count; place++)
-        proved_destroy(&index->passes[place]);
+        proved_destroy(&index->places[place].closed);
+    proved_destroy(&index->keeper);
     free_index(index);
     return HOT_DONE;
 }

@@ -29,12 +29,15 @@
  * the child of a process with threads. A call has 48 KiB of stack.
  *
  * A call fails only by its status. None waits for another, except hot_insert, hot_upsert, hot_exchange, hot_remove, hot_remove_if and
- * hot_add, and hot_copy and hot_clear, which make such calls. Each other call ends after a bounded number of steps, whatever other
- * threads do: a step is one atomic access to a word of the index. Each call below that makes steps gives its bound, for the worst
- * tree that there can be.
+ * hot_add; hot_copy and hot_clear, which make such calls; and hot_open, for another hot_open. Each other call ends after a bounded number
+ * of steps, whatever other threads do: a step is one atomic access to a word of the index. Each call below that makes steps gives its
+ * bound, for the worst tree that there can be.
  *
- * Each handle has memory for the pairs of its scans, which the next scan uses again. After a scan it goes if the keys have more than
- * 32 KiB of it, or the rest has. So a handle keeps 64 KiB at most between its calls.
+ * A handle takes some 118 KB, from when it is first opened, so that no change needs memory. One that hot_open_index made and that was
+ * not opened yet takes some 80 bytes.
+ *
+ * Each handle has memory for the pairs of its scans, too, which the next scan uses again. After a scan it goes if the keys have more than
+ * 32 KiB of it, or the rest has. So a handle keeps 64 KiB of it at most between its calls.
  *
  * The library starts no threads and keeps no data outside its indexes. It needs POSIX, and an x86-64 processor of the level for which it
  * was compiled: x86-64-v3, which has AVX2, unless the machine that compiled it had not, or x86-64-v2 was asked for.
@@ -103,7 +106,7 @@ typedef struct hot_handle {
     struct {
         void *at;
     } slot;
-    hot_index *index;
+    struct hot_place *place;
 } hot_handle;
 
 /* A closed handle: hot_handle handles[2] = { HOT_HANDLE, HOT_HANDLE }; */
@@ -158,11 +161,12 @@ hot_status hot_stock_bytes(const hot_stock *stock, size_t handles, size_t *bytes
  * HOT_DONE; or HOT_OUT_OF_RANGE or HOT_NO_MEMORY, and then nothing is written. */
 hot_status hot_open_index(const hot_stock *stock, size_t handles, hot_index **index);
 
-/* Opens a handle of the index, at any time and from any thread. It looks at no more than one word for each handle of the index.
- * HOT_DONE; or HOT_OPEN if the handle is open already, or HOT_NO_HANDLE if it found none that was free. */
+/* Opens a handle of the index, at any time and from any thread. It looks at no more than one word for each handle of the index. If it
+ * finds none that was given back, it opens one for the first time, which needs memory and waits for other calls that do so.
+ * HOT_DONE; or HOT_OPEN if the handle is open already, HOT_NO_HANDLE if it found none that was free, or HOT_NO_MEMORY. */
 hot_status hot_open(hot_index *index, hot_handle *handle);
 
-/* Gives a handle of hot_open back to its index, from any thread: hot_open may then give it out again, with what it keeps for its scans.
+/* Gives a handle of hot_open back to its index, from any thread: hot_open may then give it out again, with the memory that it keeps.
  * It closes a handle of hot_create as hot_destroy does.
  * HOT_DONE; or HOT_CLOSED if it is closed already. */
 hot_status hot_close(hot_handle *handle);
@@ -361,8 +365,9 @@ typedef struct hot_counts {
  * HOT_DONE; or HOT_CLOSED. */
 hot_status hot_census(hot_handle *handle, hot_counts *counts);
 
-/* Counts the keys of the handle's index, each of which has one leaf record: all leaves that are in use, by hot_census. So it makes a
- * step for each record. The number is exact where nobody changes the index meanwhile.
+/* Writes how many keys the handle's index has. Each handle keeps a count of those that its calls put in and took out, and this adds up
+ * the counts of all handles; it makes no steps. The number is exact if no change runs meanwhile. Else each change that does is counted
+ * or not.
  * HOT_DONE; or HOT_CLOSED. */
 hot_status hot_len(hot_handle *handle, size_t *count);
 

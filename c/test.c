@@ -615,6 +615,33 @@ static void test_index(void) {
     CHECK(hot_create_with(&stock, &alone, 1) == HOT_DONE && hot_close(&alone) == HOT_DONE && hot_close(&alone) == HOT_CLOSED);
 }
 
+/* How many keys there are: by the counts of all handles, also of those that are closed, whichever call of which handle put a key in or
+ * took it out. */
+static void test_len(void) {
+    static const hot_stock stock = {20, 40, 0, 0, 0, 0};
+    hot_index *index;
+    hot_handle handles[3] = {HOT_HANDLE, HOT_HANDLE, HOT_HANDLE};
+    size_t count = 7;
+    int round;
+    CHECK(hot_len(&handles[0], &count) == HOT_CLOSED && count == 7);
+    for (round = 0; round < 2; round++) {
+        if (round == 0)
+            CHECK(hot_create_with(&stock, handles, 3) == HOT_DONE);
+        else
+            CHECK(hot_open_index(&stock, 3, &index) == HOT_DONE && hot_open(index, &handles[0]) == HOT_DONE && hot_open(index, &handles[1]) == HOT_DONE);
+        CHECK(hot_len(&handles[0], &count) == HOT_DONE && count == 0);
+        CHECK(hot_insert(&handles[0], bytes("a"), 1, 1, NULL) == HOT_INSERTED && hot_insert(&handles[1], bytes("a"), 1, 2, NULL) == HOT_EXISTS);
+        CHECK(hot_upsert(&handles[0], bytes("b"), 1, 1, NULL) == HOT_NEW && hot_try_upsert(&handles[1], bytes("b"), 1, 2, NULL) == HOT_WAS);
+        CHECK(hot_try_insert(&handles[0], bytes("c"), 1, 1, NULL) == HOT_INSERTED && hot_exchange(&handles[1], bytes("c"), 1, 1, 2, NULL) == HOT_EXCHANGED);
+        CHECK(hot_len(&handles[0], &count) == HOT_DONE && count == 3);
+        CHECK(hot_remove_if(&handles[1], bytes("c"), 1, 1, NULL) == HOT_DIFFERS && hot_remove_if(&handles[1], bytes("c"), 1, 2, NULL) == HOT_REMOVED);
+        CHECK(hot_try_remove(&handles[1], bytes("b"), 1, NULL) == HOT_REMOVED && hot_remove(&handles[0], bytes("b"), 1, NULL) == HOT_ABSENT);
+        CHECK(hot_close(&handles[0]) == HOT_DONE && hot_len(&handles[1], &count) == HOT_DONE && count == 1);
+        CHECK(hot_remove(&handles[1], bytes("a"), 1, NULL) == HOT_REMOVED && hot_len(&handles[1], &count) == HOT_DONE && count == 0);
+        CHECK(hot_close(&handles[1]) == HOT_DONE && (round == 0 ? hot_close(&handles[2]) : hot_close_index(index)) == HOT_DONE);
+    }
+}
+
 /* No value is wanted. */
 static void test_unread(void) {
     hot_handle handle = HOT_HANDLE;
@@ -970,6 +997,7 @@ int main(void) {
     test_sizes();
     test_handles();
     test_index();
+    test_len();
     test_unread();
     test_add();
     test_copy();

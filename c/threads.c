@@ -461,13 +461,15 @@ static int test_stopped(unsigned calls) {
     return waits > 0;
 }
 
-/* Fifth test: eight threads share an index with three handles. Each opens one for a few calls, and closes it. */
+/* Fifth test: eight threads share an index with three handles. Each opens one for a few calls, and closes it. In the end there are as
+ * many keys as the counts of the handles tell. */
 #define SHARED 3
 #define VISITS 20000
 
 static void *visit(void *given) {
     static const uint8_t name[1] = {'n'};
     hot_index *index = given;
+    uint8_t other[1];
     int turn;
     for (turn = 0; turn < VISITS; turn++) {
         hot_handle handle = HOT_HANDLE;
@@ -476,6 +478,9 @@ static void *visit(void *given) {
             sched_yield();
         CHECK(status == HOT_DONE);
         CHECK(hot_add(&handle, name, 1, 1, NULL) == HOT_WAS);
+        other[0] = (uint8_t)(turn % 50);
+        status = turn % 3 ? hot_upsert(&handle, other, 1, 0, NULL) : hot_remove(&handle, other, 1, NULL);
+        CHECK(status < HOT_BUSY);
         CHECK(hot_close(&handle) == HOT_DONE);
     }
     return NULL;
@@ -486,6 +491,9 @@ static void test_opening(void) {
     hot_index *index;
     hot_handle handle = HOT_HANDLE;
     pthread_t threads[CROWDED];
+    hot_pair pairs[LIMIT];
+    size_t count, keys;
+    uint32_t more;
     uint64_t value = 0;
     int i;
     CHECK(hot_open_index(&stock, SHARED, &index) == HOT_DONE);
@@ -496,6 +504,8 @@ static void test_opening(void) {
     for (i = 0; i < CROWDED; i++)
         CHECK(pthread_join(threads[i], NULL) == 0);
     CHECK(hot_open(index, &handle) == HOT_DONE && hot_get(&handle, (const uint8_t *)"n", 1, &value) == HOT_FOUND);
+    CHECK(hot_scan(&handle, hot_last_key, 0, HOT_TO_END, pairs, LIMIT, &count, &more) == HOT_DONE && !more);
+    CHECK(hot_len(&handle, &keys) == HOT_DONE && keys == count);
     CHECK(value == CROWDED * VISITS && hot_close(&handle) == HOT_DONE && hot_close_index(index) == HOT_DONE);
 }
 

@@ -34,14 +34,14 @@ struct RawIndex {
 struct RawHandle {
     tag: u32,
     slot: *mut c_void,
-    index: *mut RawIndex,
+    place: *mut c_void,
 }
 
 impl RawHandle {
     const CLOSED: RawHandle = RawHandle {
         tag: 0,
         slot: ptr::null_mut(),
-        index: ptr::null_mut(),
+        place: ptr::null_mut(),
     };
 }
 

@@ -10,3 +10,4 @@ pub mod Places
 pub mod Written
 pub mod Answered
 pub mod LookedUp
+pub mod Keepers

@@ -12,7 +12,7 @@ first_of P first x items h = subst (λ q. P q x) (omega arith) (h 0 x refl)
 pub rest_of : {A : Type 0} (P : ℕ → A → Type 0) (first : ℕ) (x : A) (items : List A) → AreFrom P first (x ∷ items) → AreFrom P (suc first) items
 rest_of P first x items h q y e = subst (λ i. P i y) (omega arith) (h (suc q) y e)
 
-same : {A : Type 0} (x y : A) → Some x ≡ Some y → x ≡ y
+pub same : {A : Type 0} (x y : A) → Some x ≡ Some y → x ≡ y
 same x y e = cc
 
 head : {A : Type 0} (x y : A) (xs ys : List A) → x ∷ xs ≡ y ∷ ys → x ≡ y

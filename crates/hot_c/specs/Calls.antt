@@ -1,5 +1,5 @@
 -- What the calls of a program in C say.
-use Rattle.std.specs.Prelude.{◌≡◌, ℕ, ◌≤◌, List, length, map, All, slice_get, Option, Some, None, IsSome, Result, Ok, Err, MatchResult}
+use Rattle.std.specs.Prelude.{◌≡◌, ◌⊎◌, ◌+◌, ◌++◌, ◌∷◌, [], ℕ, ◌≤◌, List, length, map, reverse, All, slice_get, Option, Some, None, IsSome, Result, Ok, Err, MatchResult}
 use Rattle.key_bits.specs.declared.TheConstants.{MAX_BYTES}
 use Rattle.finite_map.specs.declared.Call.{Call}
 use Rattle.finite_map.specs.declared.Call.TheVariants.{Add, Exchange, Get, Insert, Remove, RemoveIf, Upsert}
@@ -14,7 +14,7 @@ use Rattle.rowex_writing.specs.declared.attempts.TryFault.TheVariants.{Busy, Ful
 use Rattle.seat_calls.specs.Answers.{IsNoted, IsRefused, IsUnnoted}
 use Rattle.seat_calls.specs.Calls.{MakesSteps}
 use Rattle.seat_calls.specs.Census.{HasCounted}
-use Rattle.hot_index.specs.Handles.{Stays}
+use Rattle.hot_index.specs.Handles.{HandleView, Stays}
 use Rattle.seat_calls.specs.Passes.{PassView, IsNewPass}
 use Rattle.seat_calls.specs.Traces.{HasCollected, untold}
 use Rattle.seat_calls.specs.declared.census.RecordCounts.{RecordCounts}
@@ -22,7 +22,7 @@ use Rattle.hot_c.specs.Refusals.{TellsOfLeaves, TellsOfNodes}
 use Rattle.hot_c.specs.Statuses.{reply_status, value_after}
 use Rattle.hot_c.specs.declared.handle.Handle.{Handle}
 use Rattle.hot_c.specs.declared.opened.Opened.{Opened}
-use Rattle.hot_c.specs.declared.status.TheConstants.{BUSY, KEY_TOO_LONG, CLOSED}
+use Rattle.hot_c.specs.declared.status.TheConstants.{BUSY, CLOSED, DONE, KEY_TOO_LONG, NO_HANDLE, NO_MEMORY}
 
 -- the key is short enough
 abbrev pub FitsInKey : List ℕ → Type 0
@@ -115,3 +115,32 @@ HaveOpened nodes leaves = HaveOpenedOn (HasCounts nodes leaves)
 -- the handles are open on one new index with this stock
 abbrev pub HaveOpenedStock : Stock → List Handle → Type 0
 HaveOpenedStock stock = HaveOpenedOn (λ layout. HasStock layout stock)
+
+-- The first handle of a new index, with the last of so many passes. It keeps the others, the one with the least number as the next to
+-- be opened.
+pub record IsKeeper (passes : ℕ) (HasRecords : Layout → Type 0) (opened : Opened) : Type 0 where
+  pub layout : (opened.handle.index.layout.passes ≡ passes) × HasRecords opened.handle.index.layout
+  pub count : length opened.kept.items + 1 ≡ passes
+  pub each : (q : ℕ) (h : HandleView) → slice_get (reverse opened.kept.items ++ opened.handle ∷ []) q ≡ Some h →
+      (h.index ≡ opened.handle.index) × IsNewPass q h.pass
+
+-- a handle was opened that keeps the others of a new index with this stock
+abbrev pub HasOpenedKeeper : ℕ → Stock → Option Opened → Type 0
+HasOpenedKeeper passes stock new = (opened : Opened) × (new ≡ Some opened) × IsKeeper passes (λ layout. HasStock layout stock) opened
+
+-- it keeps the same closed handles as before
+abbrev pub KeepsAll : Opened → Opened → Type 0
+KeepsAll was now = (now.handle ≡ was.handle) × (now.kept.items ≡ was.kept.items)
+
+-- The next of the closed handles that one keeps was opened, which keeps none itself.
+pub record HasOpenedNext (was now opened : Opened) : Type 0 where
+  pub next : was.kept.items ≡ now.kept.items ++ opened.handle ∷ []
+  pub same : now.handle ≡ was.handle
+  pub alone : opened.kept.items ≡ []
+
+-- From an open handle that keeps others, a closed one was opened with the next of them; or there was none, or no memory.
+abbrev pub OpensNext : Opened → Option Opened → Option Opened → ℕ → Type 0
+OpensNext was keeper handle status = (now : Opened) × (keeper ≡ Some now) ×
+    (((status ≡ DONE) × (opened : Opened) × (handle ≡ Some opened) × HasOpenedNext was now opened)
+    ⊎ ((status ≡ NO_HANDLE) × (handle ≡ None) × (was.kept.items ≡ []) × KeepsAll was now)
+    ⊎ ((status ≡ NO_MEMORY) × (handle ≡ None) × KeepsAll was now))

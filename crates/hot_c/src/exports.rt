@@ -5,17 +5,19 @@ ghost use Rattle.finite_map.specs.declared.Call.TheVariants.{Add, Exchange, Get,
 ghost use Rattle.rowex_writing.specs.declared.attempts.TryFault.TheVariants.{FullLeaves};
 ghost use Rattle.seat_calls.specs.Answers.{MayRefuse};
 ghost use Rattle.hot_c.specs.declared.opened.Opened.{Opened};
-ghost use Rattle.hot_c.specs.Calls.{Answers, AreClosed, FitsInKey, HasGivenBack, HasSeenRecords, HaveOpened, HaveOpenedStock, IsSize, IsStockSize, StaysOpen, for_key};
+ghost use Rattle.hot_c.specs.Calls.{Answers, AreClosed, FitsInKey, HasGivenBack, HasSeenRecords, HasOpenedKeeper, HaveOpened, HaveOpenedStock, IsSize, IsStockSize, OpensNext, StaysOpen, for_key};
 ghost use Rattle.hot_c.specs.Lookups.{LooksUpAll};
 ghost use Rattle.hot_c.specs.Stocks.{TakesBytes, stock_in};
 ghost use Rattle.record_words.specs.Layout.{stock_for};
 
 use crate::handle::Handle;
 use crate::lookups::{Lookup, are_fit, keys_of, write_found};
-use crate::opening::{are_closed, is_size, is_stock_size, make_passes, make_stocked, open_all};
+use crate::opening::{
+    are_closed, is_size, is_stock_size, make_keeper, make_passes, make_stocked, open_all,
+};
 use crate::status::{
-    BUSY, CLOSED, DONE, FULL_LEAVES, FULL_NODES, HELD_BACK, KEY_TOO_LONG, NO_MEMORY, OPEN,
-    OUT_OF_RANGE, tell_reply,
+    BUSY, CLOSED, DONE, FULL_LEAVES, FULL_NODES, HELD_BACK, KEY_TOO_LONG, NO_HANDLE, NO_MEMORY,
+    OPEN, OUT_OF_RANGE, tell_reply,
 };
 use crate::stock::HotStock;
 use hot_index::{Call, IndexFault, RecordCounts};
@@ -71,6 +73,61 @@ pub extern "C" fn hot_create_with(alloc: Global, stock: &HotStock, handles: &mut
         }
         Err(IndexFault::Layout(_)) => OUT_OF_RANGE,
         Err(IndexFault::Memory) => NO_MEMORY,
+    }
+}
+
+/// Makes an empty index with this stock of records and so many passes, and opens a handle, which must be closed before, with the last
+/// of the passes. It keeps the others for `hot_open_kept`.
+#[unsafe(no_mangle)]
+pub extern "C" fn hot_create_keeping(
+    alloc: Global,
+    stock: &HotStock,
+    passes: usize,
+    handle: &mut Handle,
+) -> u32
+    ensures range { ¬ IsStockSize passes (stock_in stock.now) → (result ≡ OUT_OF_RANGE) × (handle.new ≡ handle.old) }
+    ensures open { IsStockSize passes (stock_in stock.now) → IsSome handle.old.slot.opened → (result ≡ OPEN) × (handle.new ≡ handle.old) }
+    ensures made { handle.old.slot.opened ≡ None → IsStockSize passes (stock_in stock.now) →
+        ((result ≡ DONE) × HasOpenedKeeper passes (stock_in stock.now) handle.new.slot.opened) ⊎ ((result ≡ NO_MEMORY) × (handle.new ≡ handle.old)) }
+{
+    let records = stock.stock();
+    if !is_stock_size(passes, &records) {
+        return OUT_OF_RANGE;
+    }
+    if handle.is_open() {
+        return OPEN;
+    }
+    match make_keeper(alloc, passes as u32, records) {
+        Ok(keeper) => {
+            handle.open(keeper);
+            DONE
+        }
+        Err(IndexFault::Layout(_)) => OUT_OF_RANGE,
+        Err(IndexFault::Memory) => NO_MEMORY,
+    }
+}
+
+/// Opens a closed handle with the next of the passes that another one keeps, if it keeps any.
+#[unsafe(no_mangle)]
+pub extern "C" fn hot_open_kept(alloc: Global, keeper: &mut Handle, handle: &mut Handle) -> u32
+    ensures closed { keeper.old.slot.opened ≡ None → (result ≡ CLOSED) × (keeper.new.slot.opened ≡ None) × (handle.new ≡ handle.old) }
+    ensures open { IsSome keeper.old.slot.opened → IsSome handle.old.slot.opened → (result ≡ OPEN) × (keeper.new ≡ keeper.old) × (handle.new ≡ handle.old) }
+    ensures opened { (was : Opened) → keeper.old.slot.opened ≡ Some was → handle.old.slot.opened ≡ None →
+        OpensNext was keeper.new.slot.opened handle.new.slot.opened result }
+{
+    if !keeper.is_open() {
+        return CLOSED;
+    }
+    if handle.is_open() {
+        return OPEN;
+    }
+    match keeper.slot.lend().open_next(alloc) {
+        Ok(Some(opened)) => {
+            handle.open(opened);
+            DONE
+        }
+        Ok(None) => NO_HANDLE,
+        Err(_) => NO_MEMORY,
     }
 }
 

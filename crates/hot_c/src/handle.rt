@@ -15,8 +15,8 @@ const TAG: u32 = 0x544f_4821;
 pub struct Handle {
     tag: u32,
     pub slot: Slot,
-    /// C's own: where `hot_open` has it from, or 0.
-    pub index: usize,
+    /// C's own: its place in its index.
+    pub place: usize,
     pub ghost tagged: { (tag ≡ 0x544f_4821) ↔ IsSome slot.opened },
 }
 

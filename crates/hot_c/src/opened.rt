@@ -1,6 +1,6 @@
 //! What an open handle holds.
 
-ghost use Rattle.std.specs.Prelude.{◌≡◌, IfErr, Result};
+ghost use Rattle.std.specs.Prelude.{◌≡◌, [], IfErr, IfOk, MatchOption, Result};
 ghost use Rattle.finite_map.specs.declared.Call.TheVariants.{Get};
 ghost use Rattle.finite_map.specs.declared.Reply.{Reply as ReplyView};
 ghost use Rattle.rowex_writing.specs.declared.attempts.TryFault.{TryFault as FaultView};
@@ -8,14 +8,14 @@ ghost use Rattle.seat_calls.specs.Answers.{IsNoted, MayRefuse};
 ghost use Rattle.seat_calls.specs.Calls.{IsRangeRead};
 ghost use Rattle.hot_index.specs.Handles.{Stays};
 ghost use Rattle.seat_calls.specs.Traces.{HasGot, untold};
-ghost use Rattle.hot_c.specs.Calls.{TellsOutcome};
+ghost use Rattle.hot_c.specs.Calls.{HasOpenedNext, KeepsAll, TellsOutcome};
 ghost use Rattle.hot_c.specs.Orders.{IsFilledIn};
 ghost use Rattle.hot_c.specs.Statuses.{value_after};
 
 use crate::pairs::Order;
 use crate::refusals::{tell_leaves, tell_nodes};
 use crate::status::{BUSY, tell_reply};
-use hot_index::{Call, Handle, Index, Reply, TryFault};
+use hot_index::{Call, ClosedHandle, Handle, Index, Reply, TryFault};
 use key_bits::Key;
 use packed_pairs::Pairs;
 use std::alloc::{AllocError, Global};
@@ -29,9 +29,30 @@ const MOST_KEPT: usize = 32_768;
 pub struct Opened {
     pub handle: Handle<Arc<Index, Global>>,
     pub list: Pairs,
+    /// Closed handles of the index that others will open, the last one first.
+    pub kept: Vec<ClosedHandle<Arc<Index, Global>>>,
 }
 
 impl Opened {
+    /// Opens the next of the closed handles that are kept, if there is one. Where memory is refused it is kept on.
+    pub fn open_next(&mut self, alloc: Global) -> Result<Option<Box<Opened, Global>>, AllocError>
+        ensures opened { IfOk result (λ next. MatchOption next (self.old.kept.items ≡ [] × KeepsAll self.old self.new) (λ b. HasOpenedNext self.old self.new b.value)) }
+        ensures refused { IfErr result (λ _. KeepsAll self.old self.new) }
+    {
+        let Some(closed) = self.kept.pop() else {
+            return Ok(None);
+        };
+        let refused = match closed.open(alloc) {
+            Ok(handle) => match boxed(alloc, handle) {
+                Ok(opened) => return Ok(Some(opened)),
+                Err(handle) => handle.close(),
+            },
+            Err(refused) => refused.value,
+        };
+        self.kept.push(refused)?;
+        Err(AllocError)
+    }
+
     /// The value of a key, as a reply. No `Call` is made for it, which would be a copy of the key.
     pub fn get(&mut self, key: &Key) -> Reply
         ensures { Stays (λ index k j. IsNoted index.layout k j (Get key.now) result × HasGot index untold (k, tt) (j, tt)) self.old.handle self.new.handle }
@@ -82,4 +103,20 @@ impl Opened {
     {
         self.list.let_go(alloc, MOST_KEPT);
     }
+}
+
+/// An open handle in a box, with an empty list, which keeps no other; or the handle again, where memory is refused.
+fn boxed(
+    alloc: Global,
+    handle: Handle<Arc<Index, Global>>,
+) -> Result<Box<Opened, Global>, Handle<Arc<Index, Global>>>
+    ensures opened { IfOk result (λ b. (b.value.handle ≡ handle) × (b.value.kept.items ≡ [])) }
+    ensures refused { IfErr result (λ h. h ≡ handle) }
+{
+    let opened = Opened {
+        handle,
+        list: Pairs::new(alloc),
+        kept: Vec::new(alloc),
+    };
+    Box::new(alloc, opened).map_err(|refused| refused.value.handle)
 }

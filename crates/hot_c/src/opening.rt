@@ -1,13 +1,16 @@
 //! How handles are opened: on a new index, with a pass for each.
 
-ghost use Rattle.std.specs.Prelude.{◌≡◌, ◌≢◌, ◌↔◌, ℕ, Err, IfErr, IfOk, IsErr, IsTrue, Some, length, map, slice_get};
+ghost use Rattle.std.specs.Prelude.{◌≡◌, ◌≢◌, ◌↔◌, ◌++◌, ◌∷◌, [], ℕ, All, Err, IfErr, IfOk, IsErr, IsTrue, Some, length, map, reverse, slice_get};
 ghost use Rattle.seat_calls.specs.Passes.{IsNewPass, Owns, PassView};
-ghost use Rattle.hot_c.specs.Calls.{AreClosed, AreNew, HasCounts, IsSize, IsStockSize};
+ghost use Rattle.hot_index.specs.Handles.{handle_at};
+ghost use Rattle.hot_c.specs.Calls.{AreClosed, AreNew, HasCounts, IsKeeper, IsSize, IsStockSize};
 ghost use Rattle.record_words.specs.Layout.{HasStock};
 
 use crate::handle::Handle;
 use crate::opened::Opened;
-use hot_index::{Index, IndexFault, Pass, create, create_with};
+use hot_index::{
+    ClosedHandle, ClosedPass, Index, IndexFault, Pass, create, create_closed, create_with,
+};
 use packed_pairs::Pairs;
 use record_words::{MAX_LEAVES, MAX_NODES, MAX_PASSES, MAX_STOCK_PASSES, Stock};
 use std::alloc::{AllocError, Global};
@@ -87,6 +90,57 @@ pub fn make_stocked(
     share(alloc, index, passes).map_err(|_| IndexFault::Memory)
 }
 
+/// The last pass of a new index with this stock, opened, with its share. It keeps the others, and the first of them is the next to
+/// be opened.
+pub fn make_keeper(
+    alloc: Global,
+    passes: u32,
+    stock: Stock,
+) -> Result<Box<Opened, Global>, IndexFault>
+    ensures size { IsStockSize passes stock → IfErr result (λ fault. fault ≡ IndexFault.Memory) }
+    ensures range { ¬ IsStockSize passes stock → IsErr result × result ≢ Err IndexFault.Memory }
+    ensures made { IfOk result (λ made. IsKeeper passes (λ layout. HasStock layout stock) made.value) }
+{
+    let (index, passes) = create_closed(alloc, passes, stock)?;
+    keep(alloc, index, passes).map_err(|_| IndexFault::Memory)
+}
+
+/// The last of these passes of an index, opened, with its share. It keeps the others, the first one last.
+fn keep(
+    alloc: Global,
+    index: Index,
+    passes: Vec<ClosedPass>,
+) -> Result<Box<Opened, Global>, AllocError>
+    requires { All (Owns index) passes.items }
+    ensures all { IfOk result (λ b. reverse b.value.kept.items ++ b.value.handle ∷ [] ≡ map (handle_at index) passes.items) }
+{
+    let index = Arc::new(alloc, index)?;
+    let mut kept = closed_handles(alloc, &index, passes)?;
+    let Some(last) = kept.pop() else {
+        return Err(AllocError);
+    };
+    kept.reverse();
+    let handle = last.open(alloc)?;
+    let list = Pairs::new(alloc);
+    Ok(Box::new(alloc, Opened { handle, list, kept })?)
+}
+
+/// Closed handles of these passes, each with a share of the index.
+fn closed_handles(
+    alloc: Global,
+    index: &Arc<Index, Global>,
+    passes: Vec<ClosedPass>,
+) -> Result<Vec<ClosedHandle<Arc<Index, Global>>>, AllocError>
+    requires { All (Owns index.now.value) passes.items }
+    ensures { IfOk result (λ handles. handles.items ≡ map (handle_at index.now.value) passes.items) }
+{
+    let mut handles = Vec::new(alloc);
+    for pass in passes {
+        handles.push(ClosedHandle::new(Arc::try_clone(index)?, pass))?;
+    }
+    Ok(handles)
+}
+
 /// The passes of an index, each with its share.
 fn share(
     alloc: Global,
@@ -103,7 +157,8 @@ fn share(
         let index = Arc::try_clone(&index)?;
         let handle = hot_index::Handle::new(index, pass);
         let list = Pairs::new(alloc);
-        shared.push(Box::new(alloc, Opened { handle, list })?)?;
+        let kept = Vec::new(alloc);
+        shared.push(Box::new(alloc, Opened { handle, list, kept })?)?;
     }
     Ok(shared)
 }

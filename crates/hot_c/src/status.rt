@@ -44,6 +44,8 @@ pub const EXCHANGED: u32 = 16;
 pub const DIFFERS: u32 = 17;
 /// No record was free, but other calls hold some back; nothing was changed.
 pub const HELD_BACK: u32 = 18;
+/// No handle is kept that could be opened.
+pub const NO_HANDLE: u32 = 19;
 
 /// The status of a reply. Where the reply has a value, it is written.
 pub fn tell_reply(reply: Reply, value: &mut u64) -> u32

@@ -1,0 +1,51 @@
+-- A new index whose passes are kept by the handle of the last one.
+use Rattle.std.proofs.Common.{◌≡◌, ℕ, zero, suc, ◌+◌, List, [], ◌∷◌, ◌++◌, length, map, reverse, All, Box, Some, Result, Ok, Err, IfOk, IsErrAnd, MatchResult, refl, sym, ap, ◌∙◌, subst, arith, length-append}
+use Rattle.std.specs.Global.{Global}
+use Rattle.std.specs.List.{slice_get}
+use Rattle.std.proofs.lemmas.List.{length-map, length-reverse, reverse-reverse}
+use Rattle.std.proofs.lemmas.List.Elements.{All-nil, All-cons}
+use Rattle.record_words.specs.declared.layout.Layout.{Layout}
+use Rattle.rowex_table.specs.Seats.{TableView}
+use Rattle.seat_calls.specs.Passes.{IsNewPass, Owns, PassView}
+use Rattle.hot_index.specs.Handles.{HandleView, handle_at}
+use Rattle.hot_c.specs.Calls.{IsKeeper}
+use Rattle.hot_c.specs.declared.opened.Opened.{Opened}
+use Rattle.hot_c.proofs.Places.{mapped}
+
+-- what holds of each by its place holds of all
+pub all_of : {A : Type 0} (P : A → Type 0) (xs : List A) → ((q : ℕ) (x : A) → slice_get xs q ≡ Some x → P x) → All P xs
+all_of P [] h = All-nil P
+all_of P (x ∷ xs) h = All-cons P x xs (h 0 x refl) (all_of P xs (λ q y e. h (suc q) y e))
+
+-- all but the last, reversed twice, and the last
+pub all_again : {A : Type 0} (all kept back : List A) (last : A) → all ≡ kept ++ last ∷ [] → back ≡ reverse kept → reverse back ++ last ∷ [] ≡ all
+all_again all kept back last split turned = ap (λ xs. reverse xs ++ last ∷ []) turned ∙ ap (λ xs. xs ++ last ∷ []) (reverse-reverse kept) ∙ sym split
+
+at_end : {A : Type 0} (xs : List A) (x : A) → slice_get (xs ++ x ∷ []) (length xs) ≡ Some x
+at_end [] x = refl
+at_end (y ∷ xs) x = at_end xs x
+
+-- these passes of an index, each as a handle there
+module _ (index : TableView) (passes : ℕ) (HasRecords : Layout → Type 0) (closed : List PassView) where
+  pub is_keeper : (index.layout.passes ≡ passes) × HasRecords index.layout → length closed ≡ passes → ((q : ℕ) (p : PassView) → slice_get closed q ≡ Some p → Owns index p × IsNewPass q p)
+      → (b : Opened) → reverse b.kept.items ++ b.handle ∷ [] ≡ map (handle_at index) closed → IsKeeper passes HasRecords b
+  is_keeper layout count each b all =
+      let kept = b.kept.items in let handle = b.handle in
+      let found = λ (q : ℕ) (h : HandleView) (got : slice_get (reverse kept ++ handle ∷ []) q ≡ Some h).
+      mapped (handle_at index) closed q h (subst (λ l. slice_get l q ≡ Some h) all got) in
+      let last = found (length (reverse kept)) handle (at_end (reverse kept) handle) in
+      let mine : handle.index ≡ index = ap (λ (h : HandleView). h.index) (sym last.2) in
+      let long = ap length all in let short = length-map closed (handle_at index) in let same = length-reverse kept in let more = length-append (reverse kept) (handle ∷ []) in
+      record {
+        layout = subst (λ (i : TableView). (i.layout.passes ≡ passes) × HasRecords i.layout) (sym mine) layout;
+        count = omega (arith, long, short, same, more, count);
+        each = λ q h got. let it = found q h got in
+            (ap (λ (x : HandleView). x.index) (sym it.2) ∙ sym mine, subst (λ (x : HandleView). IsNewPass q x.pass) it.2 (each q it.0 it.1).1);
+      }
+
+  pub keeper_made : {E D : Type 0} (Q : E → D → Type 0) (r : Result (Box Opened Global) E) (s : Result (Box Opened Global) D) → MatchResult r (λ x. s ≡ Ok x) (λ e. IsErrAnd s (Q e))
+      → (index.layout.passes ≡ passes) × HasRecords index.layout → length closed ≡ passes → ((q : ℕ) (p : PassView) → slice_get closed q ≡ Some p → Owns index p × IsNewPass q p)
+      → IfOk r (λ b. reverse b.value.kept.items ++ b.value.handle ∷ [] ≡ map (handle_at index) closed) → IfOk s (λ b. IsKeeper passes HasRecords b.value)
+  keeper_made Q (Ok x) s same layout count each all = subst (λ t. IfOk t (λ b. IsKeeper passes HasRecords b.value)) (sym same) (is_keeper layout count each x.value all)
+  keeper_made Q (Err e) (Err d) same layout count each all = tt
+  keeper_made Q (Err e) (Ok x) same layout count each all = absurd same
