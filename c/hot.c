@@ -2,6 +2,7 @@
  * one, calls for many keys, an index that opens its handles one by one, and the calls that wait: the proved library may neither wait
  * nor yield, so it says when to try again, and the wait is here. */
 #include "hot.h"
+#include <cpuid.h>
 #include <sched.h>
 #include <stdlib.h>
 #include <string.h>
@@ -13,6 +14,15 @@ hot_status proved_try_exchange(hot_handle *handle, const uint8_t *key, size_t le
 hot_status proved_try_remove(hot_handle *handle, const uint8_t *key, size_t length, uint64_t *had);
 hot_status proved_try_remove_if(hot_handle *handle, const uint8_t *key, size_t length, uint64_t expected, uint64_t *had);
 hot_status proved_destroy(hot_handle *handle);
+
+/* Those that a program may call before it has a handle: there the processor is known to be one for which they were compiled. */
+hot_status proved_create(uint32_t nodes, uint32_t leaves, hot_handle *handles, size_t count);
+hot_status proved_create_with(const hot_stock *stock, hot_handle *handles, size_t count);
+void proved_stock_for_keys(uint32_t keys, size_t longest, hot_stock *stock);
+hot_status proved_stock_bytes(const hot_stock *stock, size_t handles, size_t *bytes);
+
+/* Lets a handle see all that another has seen; both are of one index. */
+hot_status proved_see(hot_handle *handle, hot_handle *leader);
 
 uint32_t hot_version(void) {
     return HOT_VERSION_MAJOR << 16 | HOT_VERSION_MINOR << 8 | HOT_VERSION_PATCH;
@@ -44,8 +54,50 @@ const char *hot_status_text(hot_status status) {
     case HOT_DIFFERS: return "the key has another value";
     case HOT_HELD_BACK: return "other calls hold records back";
     case HOT_NO_HANDLE: return "no handle is free";
+    case HOT_OTHER_INDEX: return "it is of another index";
+    case HOT_OLD_PROCESSOR: return "the processor is too old for this library";
     default: return "not a status";
     }
+}
+
+/* The level of x86-64 for which the proved calls are compiled, which c/object tells; 0, for a test, is one that no processor has. */
+#ifndef HOT_LEVEL
+#define HOT_LEVEL 2
+#endif
+
+/* Whether the processor and the system have what x86-64-v3 has and x86-64-v2 may lack, if that is asked for. */
+static int is_processor_new(void) {
+    enum { FMA = 1 << 12, MOVBE = 1 << 22, OSXSAVE = 1 << 27, F16C = 1 << 29, FIRST = FMA | MOVBE | OSXSAVE | F16C };
+    enum { BMI1 = 1 << 3, AVX2 = 1 << 5, BMI2 = 1 << 8, SEVENTH = BMI1 | AVX2 | BMI2, LZCNT = 1 << 5, VECTORS = 6 };
+    unsigned int a, b, c, d, saved, unread;
+    if (HOT_LEVEL == 2)
+        return 1;
+    if (HOT_LEVEL == 0 || !__get_cpuid(1, &a, &b, &c, &d) || (c & FIRST) != FIRST)
+        return 0;
+    __asm__("xgetbv" : "=a"(saved), "=d"(unread) : "c"(0));
+    if ((saved & VECTORS) != VECTORS || !__get_cpuid_count(7, 0, &a, &b, &c, &d) || (b & SEVENTH) != SEVENTH)
+        return 0;
+    return __get_cpuid(0x80000001, &a, &b, &c, &d) && (c & LZCNT) != 0;
+}
+
+hot_status hot_create(uint32_t nodes, uint32_t leaves, hot_handle *handles, size_t count) {
+    return is_processor_new() ? proved_create(nodes, leaves, handles, count) : HOT_OLD_PROCESSOR;
+}
+
+hot_status hot_create_with(const hot_stock *stock, hot_handle *handles, size_t count) {
+    return is_processor_new() ? proved_create_with(stock, handles, count) : HOT_OLD_PROCESSOR;
+}
+
+void hot_stock_for_keys(uint32_t keys, size_t longest, hot_stock *stock) {
+    static const hot_stock none = {0, 0, 0, 0, 0, 0};
+    if (is_processor_new())
+        proved_stock_for_keys(keys, longest, stock);
+    else
+        *stock = none;
+}
+
+hot_status hot_stock_bytes(const hot_stock *stock, size_t handles, size_t *bytes) {
+    return is_processor_new() ? proved_stock_bytes(stock, handles, bytes) : HOT_OLD_PROCESSOR;
 }
 
 static int is_below(const uint8_t *one, size_t one_length, const uint8_t *other, size_t other_length) {
@@ -280,11 +332,15 @@ hot_status hot_get_packed(hot_handle *handle, const uint8_t *bytes, const size_t
 }
 
 /* An index whose handles are given out one by one. Those that are free wait in `passes`, each at the place of its number; a place that is
- * taken has a closed handle. Whoever exchanges 1 for the 0 in `taken` has the place, until it stores 0 there. */
+ * taken has a closed handle. Whoever exchanges 1 for the 0 in `taken` has the place, until it stores 0 there. Once there is a moment of
+ * the index, a handle is its teller, which has seen all that any moment tells of: it stays at its place, which is taken; without one,
+ * `teller` is `count`. Whoever exchanges 1 for the 0 in `is_telling` may use it. */
 struct hot_index {
     size_t count;
     hot_handle *passes;
     uint32_t *taken;
+    size_t teller;
+    uint32_t is_telling;
 };
 
 static int take_place(hot_index *index, size_t place) {
@@ -317,7 +373,8 @@ hot_status hot_open_index(const hot_stock *stock, size_t handles, hot_index **in
     made = malloc(sizeof *made);
     if (made == NULL)
         return HOT_NO_MEMORY;
-    made->count = handles;
+    made->count = made->teller = handles;
+    made->is_telling = 0;
     made->passes = calloc(handles, sizeof *made->passes);
     made->taken = calloc(handles, sizeof *made->taken);
     status = made->passes == NULL || made->taken == NULL ? HOT_NO_MEMORY : hot_create_with(stock, made->passes, handles);
@@ -359,9 +416,10 @@ hot_status hot_close(hot_handle *handle) {
 hot_status hot_close_index(hot_index *index) {
     size_t place;
     for (place = 0; place < index->count; place++)
-        if (!take_place(index, place)) {
-            while (place > 0)
-                give_place(index, --place);
+        if (place != index->teller && !take_place(index, place)) {
+            while (place-- > 0)
+                if (place != index->teller)
+                    give_place(index, place);
             return HOT_OPEN;
         }
     for (place = 0; place < index->count; place++)
@@ -372,4 +430,70 @@ hot_status hot_close_index(hot_index *index) {
 
 hot_status hot_destroy(hot_handle *handle) {
     return hot_close(handle);
+}
+
+/* Whether a handle is open, and of the index, if it is one of hot_open_index. */
+static hot_status is_handle_of(const hot_index *index, hot_handle *handle) {
+    uint16_t number;
+    hot_status status = hot_number(handle, &number);
+    return status != HOT_DONE ? status : index == NULL || handle->index != index ? HOT_OTHER_INDEX : HOT_DONE;
+}
+
+hot_status hot_meet(hot_handle *one, hot_handle *other) {
+    hot_status status = is_handle_of(one->index, one);
+    if (status == HOT_DONE)
+        status = is_handle_of(one->index, other);
+    if (status == HOT_DONE && one != other) {
+        proved_see(one, other);
+        proved_see(other, one);
+    }
+    return status;
+}
+
+/* Between these two no other thread uses the teller. */
+static void begin_telling(hot_index *index) {
+    while (__atomic_exchange_n(&index->is_telling, 1, __ATOMIC_SEQ_CST))
+        sched_yield();
+}
+
+static void end_telling(hot_index *index) {
+    __atomic_store_n(&index->is_telling, 0, __ATOMIC_SEQ_CST);
+}
+
+/* Takes a place for the teller, unless it has one. */
+static hot_status find_teller(hot_index *index) {
+    size_t place;
+    for (place = 0; index->teller == index->count && place < index->count; place++)
+        if (take_place(index, place))
+            index->teller = place;
+    return index->teller == index->count ? HOT_NO_HANDLE : HOT_DONE;
+}
+
+hot_status hot_stamp(hot_handle *handle, hot_moment *moment) {
+    hot_index *index = handle->index;
+    hot_status status = is_handle_of(index, handle);
+    if (status != HOT_DONE)
+        return status;
+    begin_telling(index);
+    status = find_teller(index);
+    if (status == HOT_DONE) {
+        proved_see(&index->passes[index->teller], handle);
+        moment->index = index;
+    }
+    end_telling(index);
+    return status;
+}
+
+hot_status hot_follow(hot_handle *handle, const hot_moment *moment) {
+    hot_index *index = handle->index;
+    hot_status status = is_handle_of(moment->index, handle);
+    if (status != HOT_DONE)
+        return status;
+    begin_telling(index);
+    if (index->teller < index->count)
+        proved_see(handle, &index->passes[index->teller]);
+    else
+        status = HOT_OTHER_INDEX;
+    end_telling(index);
+    return status;
 }

@@ -74,19 +74,24 @@ struct entry {
     friend bool operator!=(const entry &one, const entry &other) { return !(one == other); }
 };
 
+/// What a handle had seen: hot_moment.
+using moment = hot_moment;
+
 /// How many records a collection gave back.
 struct collected {
     std::uint32_t nodes, leaves;
 };
 
 /// Throws for each status that isn't an answer: std::length_error for a key of more than HOT_MAX_KEY bytes, or one for which no leaf
-/// record has room; std::bad_alloc; std::invalid_argument for numbers out of range; std::logic_error for handles that are closed or open;
-/// std::runtime_error where no handle is free.
+/// record has room; std::bad_alloc; std::invalid_argument for numbers out of range, and for what is of another index; std::logic_error for
+/// handles that are closed or open; std::runtime_error where no handle is free, or the processor is too old.
 inline void check(hot_status status) {
     switch (status) {
     case HOT_KEY_TOO_LONG: throw std::length_error(hot_status_text(status));
+    case HOT_OTHER_INDEX:
     case HOT_OUT_OF_RANGE: throw std::invalid_argument(hot_status_text(status));
     case HOT_NO_MEMORY: throw std::bad_alloc();
+    case HOT_OLD_PROCESSOR:
     case HOT_NO_HANDLE: throw std::runtime_error(hot_status_text(status));
     case HOT_CLOSED:
     case HOT_OPEN: throw std::logic_error(hot_status_text(status));
@@ -406,6 +411,16 @@ class handle {
         check(hot_len(it(), &count));
         return count;
     }
+
+    /// Order in time: two handles that meet see all that either has seen; a moment tells any handle that follows it of all that this one has
+    /// seen. hot.h says what a moment is, and that the first one takes a handle of the index.
+    void meet(handle &other) { check(hot_meet(it(), other.it())); }
+    [[nodiscard]] moment stamp() {
+        moment made{};
+        check(hot_stamp(it(), &made));
+        return made;
+    }
+    void follow(const moment &told) { check(hot_follow(it(), &told)); }
 
     collected collect() {
         collected given{};

@@ -86,6 +86,21 @@ static void test_index() {
     CHECK(third.get("b") == 1);
 }
 
+// Handles that meet, and moments, also of another index, and where no handle is left for the first.
+static void test_order() {
+    hot::index index(hot::stock_for_keys(100, 8), 3), other(hot::stock_for_keys(100, 8), 2);
+    hot::handle one = index.open(), two = index.open(), strange = other.open(), last = other.open();
+    CHECK(!one.insert("a", 1).is_refused());
+    one.meet(two);
+    const hot::moment told = one.stamp(), copy = told;
+    two.follow(copy);
+    CHECK(two.get("a") == 1);
+    CHECK(throws<std::invalid_argument>([&] { one.meet(strange); }) && throws<std::invalid_argument>([&] { strange.follow(told); }));
+    CHECK(throws<std::runtime_error>([&] { (void)strange.stamp(); }) && throws<std::runtime_error>([&] { (void)index.open(); }));
+    two.close();
+    CHECK(throws<std::logic_error>([&] { one.meet(two); }) && throws<std::logic_error>([&] { (void)two.stamp(); }));
+}
+
 // Calls that expect a value: made, declined with the value that the key has, or absent.
 static void test_expected() {
     auto handles = hot::create(100, 100);
@@ -310,6 +325,7 @@ static void test_counting() {
 int main() {
     test_calls();
     test_index();
+    test_order();
     test_expected();
     test_full();
     test_stock();
