@@ -60,18 +60,19 @@ class key_view : public std::string_view {
     key_view(const Bytes &bytes) : std::string_view(reinterpret_cast<const char *>(std::data(bytes)), std::size(bytes)) {}
 };
 
-/// A key with its value. The key lies in the page that the pair is of.
-struct pair {
-    std::string_view key;
-    std::uint64_t value;
-};
-
 /// A key with its value, and no part of anything else.
 struct entry {
     std::string key;
     std::uint64_t value;
     friend bool operator==(const entry &one, const entry &other) { return one.key == other.key && one.value == other.value; }
     friend bool operator!=(const entry &one, const entry &other) { return !(one == other); }
+};
+
+/// A key with its value. The key lies in the page that the pair is of. As an `entry` it may be kept.
+struct pair {
+    std::string_view key;
+    std::uint64_t value;
+    operator entry() const { return {std::string(key), value}; }
 };
 
 /// What a handle had seen: hot_moment.
@@ -279,6 +280,8 @@ class packed {
     iterator end() const { return {keys_.data() + used_, heads_.data() + count_}; }
     std::size_t size() const { return count_; }
     bool empty() const { return count_ == 0; }
+    /// All of them, copied.
+    std::vector<entry> entries() const { return std::vector<entry>(begin(), end()); }
     /// Whether the range has more pairs than these.
     bool has_more() const { return more_ != 0; }
 
