@@ -2,6 +2,7 @@
  * one, calls for many keys, an index that opens its handles one by one, and the calls that wait: the proved library may neither wait
  * nor yield, so it says when to try again, and the wait is here. */
 #include "hot.h"
+#include <cpuid.h>
 #include <sched.h>
 #include <stdlib.h>
 #include <string.h>
@@ -19,6 +20,13 @@ hot_status proved_try_add(hot_handle *handle, const uint8_t *key, size_t length,
 hot_status proved_try_remove(hot_handle *handle, const uint8_t *key, size_t length, uint64_t *had);
 hot_status proved_try_remove_if(hot_handle *handle, const uint8_t *key, size_t length, uint64_t expected, uint64_t *had);
 hot_status proved_destroy(hot_handle *handle);
+
+/* And those that a program may call before it has a handle: there the processor is known to be one for which they were compiled. */
+void proved_stock_for_keys(uint32_t keys, size_t longest, hot_stock *stock);
+hot_status proved_stock_bytes(const hot_stock *stock, size_t handles, size_t *bytes);
+
+/* Lets a handle see all that another has seen; both are of one index. */
+hot_status proved_see(hot_handle *handle, hot_handle *leader);
 
 uint32_t hot_version(void) {
     return HOT_VERSION_MAJOR << 16 | HOT_VERSION_MINOR << 8 | HOT_VERSION_PATCH;
@@ -50,8 +58,42 @@ const char *hot_status_text(hot_status status) {
     case HOT_DIFFERS: return "the key has another value";
     case HOT_HELD_BACK: return "other calls hold records back";
     case HOT_NO_HANDLE: return "no handle is free";
+    case HOT_OTHER_INDEX: return "it is of another index";
+    case HOT_OLD_PROCESSOR: return "the processor is too old for this library";
     default: return "not a status";
     }
+}
+
+/* The level of x86-64 for which the proved calls are compiled, which c/object tells; 0, for a test, is one that no processor has. */
+#ifndef HOT_LEVEL
+#define HOT_LEVEL 2
+#endif
+
+/* Whether the processor and the system have what x86-64-v3 has and x86-64-v2 may lack, if that is asked for. */
+static int is_processor_new(void) {
+    enum { FMA = 1 << 12, MOVBE = 1 << 22, OSXSAVE = 1 << 27, F16C = 1 << 29, FIRST = FMA | MOVBE | OSXSAVE | F16C };
+    enum { BMI1 = 1 << 3, AVX2 = 1 << 5, BMI2 = 1 << 8, SEVENTH = BMI1 | AVX2 | BMI2, LZCNT = 1 << 5, VECTORS = 6 };
+    unsigned int a, b, c, d, saved, unread;
+    if (HOT_LEVEL == 2)
+        return 1;
+    if (HOT_LEVEL == 0 || !__get_cpuid(1, &a, &b, &c, &d) || (c & FIRST) != FIRST)
+        return 0;
+    __asm__("xgetbv" : "=a"(saved), "=d"(unread) : "c"(0));
+    if ((saved & VECTORS) != VECTORS || !__get_cpuid_count(7, 0, &a, &b, &c, &d) || (b & SEVENTH) != SEVENTH)
+        return 0;
+    return __get_cpuid(0x80000001, &a, &b, &c, &d) && (c & LZCNT) != 0;
+}
+
+void hot_stock_for_keys(uint32_t keys, size_t longest, hot_stock *stock) {
+    static const hot_stock none = {0, 0, 0, 0, 0, 0};
+    if (is_processor_new())
+        proved_stock_for_keys(keys, longest, stock);
+    else
+        *stock = none;
+}
+
+hot_status hot_stock_bytes(const hot_stock *stock, size_t handles, size_t *bytes) {
+    return is_processor_new() ? proved_stock_bytes(stock, handles, bytes) : HOT_OLD_PROCESSOR;
 }
 
 static int is_below(const uint8_t *one, size_t one_length, const uint8_t *other, size_t other_length) {
@@ -120,6 +162,8 @@ struct hot_index {
     size_t left;       /* how many handles are open that were opened with it, or 0 */
     hot_handle keeper; /* it is the last one to be opened itself */
     uint32_t lock;     /* 1 while a call opens a handle that the keeper keeps, or closes the index */
+    hot_handle teller; /* once there is a moment of the index: it has seen all that any moment tells of */
+    uint32_t is_telling; /* 1 while a call uses the teller */
 };
 
 /* Notes what a change has done with the number of keys, by its status. Only the calls of one handle write its count. */
@@ -325,8 +369,8 @@ static hot_index *new_index(size_t count) {
         return NULL;
     index->count = count;
     index->left = 0;
-    index->keeper = closed;
-    index->lock = 0;
+    index->keeper = index->teller = closed;
+    index->lock = index->is_telling = 0;
     index->places = calloc(count, sizeof *index->places);
     if (index->places == NULL) {
         free(index);
@@ -358,11 +402,11 @@ static hot_status placed(hot_status status, hot_handle *handles, size_t count) {
 }
 
 hot_status hot_create(uint32_t nodes, uint32_t leaves, hot_handle *handles, size_t count) {
-    return placed(proved_create(nodes, leaves, handles, count), handles, count);
+    return placed(is_processor_new() ? proved_create(nodes, leaves, handles, count) : HOT_OLD_PROCESSOR, handles, count);
 }
 
 hot_status hot_create_with(const hot_stock *stock, hot_handle *handles, size_t count) {
-    return placed(proved_create_with(stock, handles, count), handles, count);
+    return placed(is_processor_new() ? proved_create_with(stock, handles, count) : HOT_OLD_PROCESSOR, handles, count);
 }
 
 hot_status hot_open_index(const hot_stock *stock, size_t handles, hot_index **index) {
@@ -457,13 +501,18 @@ hot_status hot_close(hot_handle *handle) {
     return HOT_DONE;
 }
 
+/* Whether a handle that a program may open has been opened at this place. */
+static int was_opened(const hot_place *place) {
+    return place->state != UNOPENED && place != place->index->teller.place;
+}
+
 /* Takes all handles that have been opened, if all were given back. */
 static int take_all(hot_index *index) {
     size_t place;
     for (place = 0; place < index->count; place++)
-        if (index->places[place].state != UNOPENED && !take(&index->places[place])) {
+        if (was_opened(&index->places[place]) && !take(&index->places[place])) {
             while (place-- > 0)
-                if (index->places[place].state != UNOPENED)
+                if (was_opened(&index->places[place]))
                     set_state(&index->places[place], GIVEN_BACK);
             return 0;
         }
@@ -479,6 +528,7 @@ hot_status hot_close_index(hot_index *index) {
     }
     for (place = 0; place < index->count; place++)
         proved_destroy(&index->places[place].closed);
+    proved_destroy(&index->teller);
     proved_destroy(&index->keeper);
     free_index(index);
     return HOT_DONE;
@@ -486,4 +536,65 @@ hot_status hot_close_index(hot_index *index) {
 
 hot_status hot_destroy(hot_handle *handle) {
     return hot_close(handle);
+}
+
+/* The index of a handle, if it is open. */
+static hot_index *index_of(const hot_handle *handle) {
+    return handle->place == NULL ? NULL : handle->place->index;
+}
+
+/* Whether a handle is open, and of the index. */
+static hot_status is_handle_of(const hot_index *index, hot_handle *handle) {
+    uint16_t number;
+    hot_status status = hot_number(handle, &number);
+    return status != HOT_DONE || index_of(handle) == index ? status : HOT_OTHER_INDEX;
+}
+
+hot_status hot_meet(hot_handle *one, hot_handle *other) {
+    hot_index *index = index_of(one);
+    hot_status status = is_handle_of(index, one);
+    if (status == HOT_DONE)
+        status = is_handle_of(index, other);
+    if (status == HOT_DONE && one != other) {
+        proved_see(one, other);
+        proved_see(other, one);
+    }
+    return status;
+}
+
+/* Between these two no other thread uses the teller. */
+static void begin_telling(hot_index *index) {
+    while (__atomic_exchange_n(&index->is_telling, 1, __ATOMIC_SEQ_CST))
+        sched_yield();
+}
+
+static void end_telling(hot_index *index) {
+    __atomic_store_n(&index->is_telling, 0, __ATOMIC_SEQ_CST);
+}
+
+hot_status hot_stamp(hot_handle *handle, hot_moment *moment) {
+    hot_index *index = index_of(handle);
+    hot_status status = is_handle_of(index, handle);
+    if (status != HOT_DONE)
+        return status;
+    begin_telling(index);
+    if (index->teller.place == NULL)
+        status = hot_open(index, &index->teller);
+    if (status == HOT_DONE) {
+        proved_see(&index->teller, handle);
+        moment->index = index;
+    }
+    end_telling(index);
+    return status;
+}
+
+hot_status hot_follow(hot_handle *handle, const hot_moment *moment) {
+    hot_index *index = index_of(handle);
+    hot_status status = moment->index == NULL ? HOT_OTHER_INDEX : is_handle_of(moment->index, handle);
+    if (status != HOT_DONE)
+        return status;
+    begin_telling(index);
+    status = proved_see(handle, &index->teller);
+    end_telling(index);
+    return status;
 }

@@ -29,9 +29,9 @@
  * the child of a process with threads. A call has 48 KiB of stack.
  *
  * A call fails only by its status. None waits for another, except hot_insert, hot_upsert, hot_exchange, hot_remove, hot_remove_if and
- * hot_add; hot_copy and hot_clear, which make such calls; and hot_open, for another hot_open. Each other call ends after a bounded number
- * of steps, whatever other threads do: a step is one atomic access to a word of the index. Each call below that makes steps gives its
- * bound, for the worst tree that there can be.
+ * hot_add; hot_copy and hot_clear, which make such calls; hot_open, for another hot_open; and hot_stamp and hot_follow, for each other.
+ * Each other call ends after a bounded number of steps, whatever other threads do: a step is one atomic access to a word of the index.
+ * Each call below that makes steps gives its bound, for the worst tree that there can be.
  *
  * A handle takes some 118 KB, from when it is first opened, so that no change needs memory. One that hot_open_index made and that was
  * not opened yet takes some 80 bytes.
@@ -40,7 +40,9 @@
  * 32 KiB of it, or the rest has. So a handle keeps 64 KiB of it at most between its calls.
  *
  * The library starts no threads and keeps no data outside its indexes. It needs POSIX, and an x86-64 processor of the level for which it
- * was compiled: x86-64-v3, which has AVX2, unless the machine that compiled it had not, or x86-64-v2 was asked for.
+ * was compiled: x86-64-v3, which has AVX2, unless the machine that compiled it had not, or x86-64-v2 was asked for. On an older one
+ * hot_create, hot_create_with, hot_open_index and hot_stock_bytes return HOT_OLD_PROCESSOR and write nothing, and stocks have no records;
+ * any other call may end the program there.
  * `pkg-config --cflags --libs hot` tells how to link it. */
 #ifndef HOT_H
 #define HOT_H
@@ -54,7 +56,7 @@ extern "C" {
 
 /* The version of this header. A program that is right with an earlier version of the same major number is right with this one. */
 #define HOT_VERSION_MAJOR 2
-#define HOT_VERSION_MINOR 0
+#define HOT_VERSION_MINOR 1
 #define HOT_VERSION_PATCH 0
 
 /* The version of the library that is linked: 65536 times the major number, 256 times the minor one, and the patch. */
@@ -91,7 +93,9 @@ enum {
     HOT_EXCHANGED = 16,    /* the key had the expected value, and has the new one */
     HOT_DIFFERS = 17,      /* the key has this value, which is not the expected one, and keeps it */
     HOT_HELD_BACK = 18,    /* too few records were free, but other calls hold some back: try again */
-    HOT_NO_HANDLE = 19     /* all handles of the index are open */
+    HOT_NO_HANDLE = 19,    /* all handles of the index are open */
+    HOT_OTHER_INDEX = 20,  /* the handle, or the moment, is of another index */
+    HOT_OLD_PROCESSOR = 21 /* the library was compiled for newer processors */
 };
 
 /* A few words of English for a status. The text is static; a number that is no status has a text too. */
@@ -122,8 +126,8 @@ typedef struct hot_pair {
 /* Makes an empty index and opens `count` handles on it, 1 to 64; all must be closed before. The index has `nodes` node records, 1 to
  * 65535, and `leaves` leaf records, 1 to 262143. Each key takes one leaf record; a node record holds 2 to 32 keys or nodes. Have some
  * of both to spare, since a change builds the new before it gives the old back.
- * HOT_DONE; or HOT_OUT_OF_RANGE, for which it looks before it looks at the handles, HOT_OPEN or HOT_NO_MEMORY, and then no handle was
- * opened. */
+ * HOT_DONE; or HOT_OUT_OF_RANGE, for which it looks before it looks at the handles, HOT_OPEN, HOT_NO_MEMORY or HOT_OLD_PROCESSOR, and
+ * then no handle was opened. */
 hot_status hot_create(uint32_t nodes, uint32_t leaves, hot_handle *handles, size_t count);
 
 /* How many records of each size an index has. A key takes a leaf record of the smallest size with room for it, or a larger one where
@@ -139,7 +143,7 @@ typedef struct hot_stock {
 
 /* Makes an empty index with this stock and opens `count` handles on it, 1 to 1024; all must be closed before. It has 1 to 4294967295
  * nodes, and 1 to 4294967295 leaves of all sizes together. (The leaves that hot_create makes are all long.)
- * HOT_DONE; or HOT_OUT_OF_RANGE, HOT_OPEN or HOT_NO_MEMORY, as hot_create. */
+ * HOT_DONE; or HOT_OUT_OF_RANGE, HOT_OPEN, HOT_NO_MEMORY or HOT_OLD_PROCESSOR, as hot_create. */
 hot_status hot_create_with(const hot_stock *stock, hot_handle *handles, size_t count);
 
 /* Writes a stock for `keys` keys of at most `longest` bytes each: 9 leaves for 8 keys, of the smallest size with room for such a key,
@@ -154,11 +158,11 @@ void hot_stock_for_lengths(const uint32_t *keys, hot_stock *stock);
 
 /* Writes how many bytes the records and pins of an index with this stock and this number of handles take. While it is being made, an
  * index takes twice that.
- * HOT_DONE; or HOT_OUT_OF_RANGE, where hot_create_with would answer that. */
+ * HOT_DONE; or HOT_OUT_OF_RANGE or HOT_OLD_PROCESSOR, where hot_create_with would return that. */
 hot_status hot_stock_bytes(const hot_stock *stock, size_t handles, size_t *bytes);
 
 /* Makes an empty index with this stock and room for so many handles, 1 to 1024, and writes it to `index`.
- * HOT_DONE; or HOT_OUT_OF_RANGE or HOT_NO_MEMORY, and then nothing is written. */
+ * HOT_DONE; or HOT_OUT_OF_RANGE, HOT_NO_MEMORY or HOT_OLD_PROCESSOR, and then nothing is written. */
 hot_status hot_open_index(const hot_stock *stock, size_t handles, hot_index **index);
 
 /* Opens a handle of the index, at any time and from any thread. It looks at no more than one word for each handle of the index. If it
@@ -171,9 +175,33 @@ hot_status hot_open(hot_index *index, hot_handle *handle);
  * HOT_DONE; or HOT_CLOSED if it is closed already. */
 hot_status hot_close(hot_handle *handle);
 
-/* Frees an index of hot_open_index. No other call with it may be under way, or follow.
+/* Frees an index of hot_open_index. No other call with it or a moment of it may be under way, or follow.
  * HOT_DONE; or HOT_OPEN if a handle is open, and then it stays as it is. */
 hot_status hot_close_index(hot_index *index);
+
+/* Order in time. A handle has seen its own calls, and all that was published when a call of it loaded the root. Whatever a handle has
+ * seen comes before its later calls. These calls let a handle see what another has seen. Handles of hot_create can't make them. */
+
+/* Lets two handles of an index see all that either has seen. So later calls of each come after the earlier calls of both. It makes 6
+ * loads, which count as no steps.
+ * HOT_DONE; or HOT_CLOSED, HOT_OTHER_INDEX. */
+hot_status hot_meet(hot_handle *one, hot_handle *other);
+
+/* A moment of an index: bytes that may be copied, kept, and sent to any thread, by a lock, by a thread's start or join, or by a
+ * sequentially consistent atomic. They hold nothing that must be given back. The index must be there when a moment of it is followed. */
+typedef struct hot_moment {
+    hot_index *index;
+} hot_moment;
+
+/* Writes a moment, which tells of all that the handle has seen. The first such call takes one of the index's handles for good, as hot_open
+ * would: so make the index with room for one more. It makes at most 3 loads, once no other thread makes such a call or hot_follow.
+ * HOT_DONE; or HOT_CLOSED, HOT_NO_HANDLE if none is free, as with handles of hot_create, or HOT_NO_MEMORY. */
+hot_status hot_stamp(hot_handle *handle, hot_moment *moment);
+
+/* Lets the handle see all that the moment tells of. So its later calls come after all calls that had returned to the handle of hot_stamp,
+ * or that it had seen. It may also see what later moments of the index tell of. It makes 3 loads, once no other thread makes such a call.
+ * HOT_DONE; or HOT_CLOSED, HOT_OTHER_INDEX. */
+hot_status hot_follow(hot_handle *handle, const hot_moment *moment);
 
 /* Writes a handle's number: its place in the array that was opened, or among the handles of its index.
  * HOT_DONE; or HOT_CLOSED. */

@@ -60,12 +60,6 @@ class key_view : public std::string_view {
     key_view(const Bytes &bytes) : std::string_view(reinterpret_cast<const char *>(std::data(bytes)), std::size(bytes)) {}
 };
 
-/// A key with its value. The key lies in the page that the pair is of.
-struct pair {
-    std::string_view key;
-    std::uint64_t value;
-};
-
 /// A key with its value, and no part of anything else.
 struct entry {
     std::string key;
@@ -74,19 +68,31 @@ struct entry {
     friend bool operator!=(const entry &one, const entry &other) { return !(one == other); }
 };
 
+/// A key with its value. The key lies in the page that the pair is of. As an `entry` it may be kept.
+struct pair {
+    std::string_view key;
+    std::uint64_t value;
+    operator entry() const { return {std::string(key), value}; }
+};
+
+/// What a handle had seen: hot_moment.
+using moment = hot_moment;
+
 /// How many records a collection gave back.
 struct collected {
     std::uint32_t nodes, leaves;
 };
 
 /// Throws for each status that isn't an answer: std::length_error for a key of more than HOT_MAX_KEY bytes, or one for which no leaf
-/// record has room; std::bad_alloc; std::invalid_argument for numbers out of range; std::logic_error for handles that are closed or open;
-/// std::runtime_error where no handle is free.
+/// record has room; std::bad_alloc; std::invalid_argument for numbers out of range, and for what is of another index; std::logic_error for
+/// handles that are closed or open; std::runtime_error where no handle is free, or the processor is too old.
 inline void check(hot_status status) {
     switch (status) {
     case HOT_KEY_TOO_LONG: throw std::length_error(hot_status_text(status));
+    case HOT_OTHER_INDEX:
     case HOT_OUT_OF_RANGE: throw std::invalid_argument(hot_status_text(status));
     case HOT_NO_MEMORY: throw std::bad_alloc();
+    case HOT_OLD_PROCESSOR:
     case HOT_NO_HANDLE: throw std::runtime_error(hot_status_text(status));
     case HOT_CLOSED:
     case HOT_OPEN: throw std::logic_error(hot_status_text(status));
@@ -274,6 +280,8 @@ class packed {
     iterator end() const { return {keys_.data() + used_, heads_.data() + count_}; }
     std::size_t size() const { return count_; }
     bool empty() const { return count_ == 0; }
+    /// All of them, copied.
+    std::vector<entry> entries() const { return std::vector<entry>(begin(), end()); }
     /// Whether the range has more pairs than these.
     bool has_more() const { return more_ != 0; }
 
@@ -406,6 +414,16 @@ class handle {
         check(hot_len(it(), &count));
         return count;
     }
+
+    /// Order in time: two handles that meet see all that either has seen; a moment tells any handle that follows it of all that this one has
+    /// seen. hot.h says what a moment is, and that the first one takes a handle of the index.
+    void meet(handle &other) { check(hot_meet(it(), other.it())); }
+    [[nodiscard]] moment stamp() {
+        moment made{};
+        check(hot_stamp(it(), &made));
+        return made;
+    }
+    void follow(const moment &told) { check(hot_follow(it(), &told)); }
 
     collected collect() {
         collected given{};

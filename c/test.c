@@ -421,10 +421,10 @@ static void test_before(void) {
 
 /* Each status has a text, and what is none has another. */
 static void test_texts(void) {
-    for (hot_status one = HOT_DONE; one <= HOT_NO_HANDLE + 1; one++)
+    for (hot_status one = HOT_DONE; one <= HOT_OLD_PROCESSOR + 1; one++)
         for (hot_status other = HOT_DONE; other < one; other++)
             CHECK(strcmp(hot_status_text(one), hot_status_text(other)));
-    CHECK(!strcmp(hot_status_text(UINT32_MAX), hot_status_text(HOT_NO_HANDLE + 1)));
+    CHECK(!strcmp(hot_status_text(UINT32_MAX), hot_status_text(HOT_OLD_PROCESSOR + 1)));
 }
 
 /* Keys of the greatest length and beyond. */
@@ -445,9 +445,17 @@ static void test_long_keys(void) {
     CHECK(hot_try_insert(&handle, key, sizeof key, 6, &value) == HOT_KEY_TOO_LONG);
     CHECK(hot_try_upsert(&handle, key, sizeof key, 6, &value) == HOT_KEY_TOO_LONG);
     CHECK(hot_try_remove(&handle, key, sizeof key, &value) == HOT_KEY_TOO_LONG);
+    CHECK(hot_try_exchange(&handle, key, sizeof key, 5, 6, &value) == HOT_KEY_TOO_LONG);
+    CHECK(hot_try_remove_if(&handle, key, sizeof key, 5, &value) == HOT_KEY_TOO_LONG && value == 5);
+    CHECK(hot_insert(&handle, key, sizeof key, 6, &value) == HOT_KEY_TOO_LONG && hot_upsert(&handle, key, sizeof key, 6, &value) == HOT_KEY_TOO_LONG);
+    CHECK(hot_remove(&handle, key, sizeof key, &value) == HOT_KEY_TOO_LONG && hot_try_add(&handle, key, sizeof key, 1, &value) == HOT_KEY_TOO_LONG);
     CHECK(hot_exchange(&handle, key, sizeof key, 5, 6, &value) == HOT_KEY_TOO_LONG);
     CHECK(hot_remove_if(&handle, key, sizeof key, 5, &value) == HOT_KEY_TOO_LONG && value == 5);
     CHECK(hot_scan(&handle, key, 0, key, sizeof key, &pair, 1, &count, &more) == HOT_KEY_TOO_LONG && count == 1);
+    CHECK(hot_scan(&handle, key, sizeof key, key, 0, &pair, 1, &count, &more) == HOT_KEY_TOO_LONG && count == 1);
+    CHECK(hot_scan_reverse(&handle, key, sizeof key, key, 0, &pair, 1, &count, &more) == HOT_KEY_TOO_LONG && count == 1);
+    CHECK(hot_scan_last(&handle, key, sizeof key, key, 0, &pair, 1, &count, &more) == HOT_KEY_TOO_LONG && count == 1);
+    CHECK(hot_scan_prefix(&handle, key, 0, key, sizeof key, &pair, 1, &count, &more) == HOT_KEY_TOO_LONG && count == 1);
     CHECK(hot_destroy(&handle) == HOT_DONE);
 }
 
@@ -535,6 +543,13 @@ static void check_closed(hot_handle *handle) {
     uint32_t nodes = 7, leaves = 7, more = 7;
     size_t count = 7;
     hot_pair pair;
+    hot_head head;
+    hot_lookup lookup = {bytes("a"), 1, 7, HOT_BUSY};
+    hot_counts counts;
+    hot_moment moment = {NULL};
+    uint8_t key[HOT_MAX_KEY];
+    static const size_t length = 1;
+    hot_status status = HOT_BUSY;
     CHECK(hot_number(handle, &number) == HOT_CLOSED && number == 7);
     CHECK(hot_get(handle, bytes("a"), 1, &value) == HOT_CLOSED && value == 7);
     CHECK(hot_try_insert(handle, bytes("a"), 1, 1, &value) == HOT_CLOSED);
@@ -545,7 +560,20 @@ static void check_closed(hot_handle *handle) {
     CHECK(hot_remove_if(handle, bytes("a"), 1, 1, &value) == HOT_CLOSED && value == 7);
     CHECK(hot_scan(handle, bytes("a"), 1, bytes("b"), 1, &pair, 1, &count, &more) == HOT_CLOSED && count == 7);
     CHECK(hot_collect(handle, &nodes, &leaves) == HOT_CLOSED && nodes == 7);
-    CHECK(hot_destroy(handle) == HOT_CLOSED);
+    CHECK(hot_insert(handle, bytes("a"), 1, 1, &value) == HOT_CLOSED && hot_remove(handle, bytes("a"), 1, &value) == HOT_CLOSED);
+    CHECK(hot_try_exchange(handle, bytes("a"), 1, 1, 2, &value) == HOT_CLOSED && hot_try_remove_if(handle, bytes("a"), 1, 1, &value) == HOT_CLOSED);
+    CHECK(hot_add(handle, bytes("a"), 1, 1, &value) == HOT_CLOSED && hot_try_add(handle, bytes("a"), 1, 1, &value) == HOT_CLOSED && value == 7);
+    CHECK(hot_get_many(handle, &lookup, 1) == HOT_CLOSED && lookup.status == HOT_BUSY);
+    CHECK(hot_get_packed(handle, bytes("a"), &length, 1, &value, &status) == HOT_CLOSED && status == HOT_BUSY && value == 7);
+    CHECK(hot_scan_reverse(handle, bytes("a"), 1, bytes("b"), 1, &pair, 1, &count, &more) == HOT_CLOSED);
+    CHECK(hot_scan_last(handle, bytes("a"), 1, bytes("b"), 1, &pair, 1, &count, &more) == HOT_CLOSED);
+    CHECK(hot_scan_prefix(handle, bytes("a"), 1, NULL, 0, &pair, 1, &count, &more) == HOT_CLOSED);
+    CHECK(hot_scan_packed(handle, bytes("a"), 1, bytes("b"), 1, key, 1, &head, 1, &count, &more) == HOT_CLOSED);
+    CHECK(hot_scan_packed_reverse(handle, bytes("a"), 1, bytes("b"), 1, key, 1, &head, 1, &count, &more) == HOT_CLOSED && count == 7 && more == 7);
+    CHECK(hot_first(handle, bytes("a"), 1, &pair) == HOT_CLOSED && hot_last(handle, bytes("a"), 1, &pair) == HOT_CLOSED);
+    CHECK(hot_census(handle, &counts) == HOT_CLOSED && hot_len(handle, &count) == HOT_CLOSED && hot_clear(handle) == HOT_CLOSED && count == 7);
+    CHECK(hot_meet(handle, handle) == HOT_CLOSED && hot_stamp(handle, &moment) == HOT_CLOSED && hot_follow(handle, &moment) == HOT_CLOSED);
+    CHECK(moment.index == NULL && hot_close(handle) == HOT_CLOSED && hot_destroy(handle) == HOT_CLOSED);
 }
 
 /* Making and closing: numbers out of range, handles that are open, any order of closing, and opening again. */
@@ -640,6 +668,36 @@ static void test_len(void) {
         CHECK(hot_remove(&handles[1], bytes("a"), 1, NULL) == HOT_REMOVED && hot_len(&handles[1], &count) == HOT_DONE && count == 0);
         CHECK(hot_close(&handles[1]) == HOT_DONE && (round == 0 ? hot_close(&handles[2]) : hot_close_index(index)) == HOT_DONE);
     }
+}
+
+/* Handles that meet, and moments: of another index, of none, where no handle is left; copied, followed twice, and by several handles. What
+ * takes a handle for them doesn't keep the index open. */
+static void test_order(void) {
+    static const hot_stock stock = {10, 10, 0, 0, 0, 0};
+    hot_index *index = NULL, *other = NULL;
+    hot_handle handles[3] = {HOT_HANDLE, HOT_HANDLE, HOT_HANDLE}, strange = HOT_HANDLE, alone = HOT_HANDLE;
+    hot_moment moment = {NULL}, copy;
+    uint64_t had = 7;
+    CHECK(hot_open_index(&stock, 3, &index) == HOT_DONE && hot_open_index(&stock, 1, &other) == HOT_DONE);
+    CHECK(hot_open(index, &handles[0]) == HOT_DONE && hot_open(index, &handles[1]) == HOT_DONE && hot_open(index, &handles[2]) == HOT_DONE);
+    CHECK(hot_open(other, &strange) == HOT_DONE && hot_create_with(&stock, &alone, 1) == HOT_DONE);
+    CHECK(hot_insert(&handles[0], bytes("a"), 1, 1, NULL) == HOT_INSERTED);
+    CHECK(hot_meet(&handles[0], &handles[1]) == HOT_DONE && hot_meet(&handles[1], &handles[1]) == HOT_DONE);
+    CHECK(hot_meet(&handles[0], &strange) == HOT_OTHER_INDEX && hot_meet(&strange, &handles[0]) == HOT_OTHER_INDEX);
+    CHECK(hot_meet(&alone, &alone) == HOT_DONE && hot_meet(&handles[0], &alone) == HOT_OTHER_INDEX);
+    CHECK(hot_follow(&handles[0], &moment) == HOT_OTHER_INDEX && hot_stamp(&alone, &moment) == HOT_NO_HANDLE);
+    CHECK(hot_stamp(&handles[0], &moment) == HOT_NO_HANDLE && hot_stamp(&strange, &moment) == HOT_NO_HANDLE && moment.index == NULL);
+    CHECK(hot_close(&handles[2]) == HOT_DONE && hot_stamp(&handles[0], &moment) == HOT_DONE && moment.index == index);
+    CHECK(hot_open(index, &handles[2]) == HOT_NO_HANDLE && hot_meet(&handles[0], &handles[2]) == HOT_CLOSED);
+    copy = moment;
+    CHECK(hot_follow(&handles[1], &copy) == HOT_DONE && hot_follow(&handles[1], &copy) == HOT_DONE && hot_follow(&handles[0], &moment) == HOT_DONE);
+    CHECK(hot_get(&handles[1], bytes("a"), 1, &had) == HOT_FOUND && had == 1);
+    CHECK(hot_follow(&strange, &copy) == HOT_OTHER_INDEX && hot_follow(&alone, &copy) == HOT_OTHER_INDEX);
+    CHECK(hot_close_index(index) == HOT_OPEN && hot_stamp(&handles[1], &moment) == HOT_DONE && hot_follow(&handles[0], &copy) == HOT_DONE);
+    CHECK(hot_close(&handles[0]) == HOT_DONE && hot_close_index(index) == HOT_OPEN && hot_open(index, &handles[0]) == HOT_DONE);
+    CHECK(hot_follow(&handles[0], &copy) == HOT_DONE && hot_close(&handles[0]) == HOT_DONE && hot_close(&handles[1]) == HOT_DONE);
+    CHECK(hot_close_index(index) == HOT_DONE && hot_close(&strange) == HOT_DONE && hot_close_index(other) == HOT_DONE);
+    CHECK(hot_destroy(&alone) == HOT_DONE);
 }
 
 /* No value is wanted. */
@@ -974,7 +1032,7 @@ static void test_small_rounds(void) {
 
 int main(void) {
     CHECK(sizeof(hot_handle) == 24 && sizeof(hot_pair) == 256 && sizeof(hot_stock) == 24 && sizeof(hot_head) == 16);
-    CHECK(sizeof(hot_lookup) == 32 && sizeof(hot_states) == 16 && sizeof(hot_counts) == 104);
+    CHECK(sizeof(hot_moment) == 8 && sizeof(hot_lookup) == 32 && sizeof(hot_states) == 16 && sizeof(hot_counts) == 104);
     test_calls();
     test_many();
     test_census();
@@ -998,6 +1056,7 @@ int main(void) {
     test_handles();
     test_index();
     test_len();
+    test_order();
     test_unread();
     test_add();
     test_copy();

@@ -13,7 +13,8 @@
 static_assert(std::input_iterator<hot::range::iterator> && std::ranges::input_range<hot::range> && std::ranges::viewable_range<hot::range>);
 static_assert(std::is_same_v<std::ranges::range_value_t<hot::range>, hot::entry>);
 static_assert(std::bidirectional_iterator<hot::packed::iterator> && std::ranges::bidirectional_range<const hot::packed>);
-static_assert(std::ranges::sized_range<hot::packed> && std::ranges::common_range<hot::packed>);
+static_assert(std::ranges::sized_range<hot::packed> && std::ranges::common_range<hot::packed> && std::ranges::viewable_range<hot::packed &>);
+static_assert(!std::ranges::borrowed_range<hot::packed> && std::convertible_to<hot::pair, hot::entry>);
 static_assert(std::movable<hot::handle> && std::movable<hot::index> && std::default_initializable<hot::handle>);
 static_assert(std::convertible_to<std::span<const std::byte>, hot::key_view> && !std::convertible_to<int, hot::key_view>);
 #endif
@@ -84,6 +85,21 @@ static void test_index() {
     CHECK(throws<std::invalid_argument>([] { hot::index none(hot::stock_for_keys(1, 8), 0); }));
     { const hot::index gone = std::move(index); }
     CHECK(third.get("b") == 1);
+}
+
+// Handles that meet, and moments, also of another index, and where no handle is left for the first.
+static void test_order() {
+    hot::index index(hot::stock_for_keys(100, 8), 3), other(hot::stock_for_keys(100, 8), 2);
+    hot::handle one = index.open(), two = index.open(), strange = other.open(), last = other.open();
+    CHECK(!one.insert("a", 1).is_refused());
+    one.meet(two);
+    const hot::moment told = one.stamp(), copy = told;
+    two.follow(copy);
+    CHECK(two.get("a") == 1);
+    CHECK(throws<std::invalid_argument>([&] { one.meet(strange); }) && throws<std::invalid_argument>([&] { strange.follow(told); }));
+    CHECK(throws<std::runtime_error>([&] { (void)strange.stamp(); }) && throws<std::runtime_error>([&] { (void)index.open(); }));
+    two.close();
+    CHECK(throws<std::logic_error>([&] { one.meet(two); }) && throws<std::logic_error>([&] { (void)two.stamp(); }));
 }
 
 // Calls that expect a value: made, declined with the value that the key has, or absent.
@@ -235,6 +251,9 @@ static void test_containers() {
     hot::packed last(1, 2);
     handle.scan_packed_reverse({}, hot::greatest(), last);
     CHECK(last.size() == 1 && last.has_more() && (*last.begin()).key == "ac" && ++last.begin() == last.end());
+    const std::vector<hot::entry> kept = last.entries();
+    handle.scan_packed({}, "ab", last);
+    CHECK((*last.begin()).key == "ab" && kept.size() == 1 && kept[0] == hot::entry{"ac", 2});
     // Clang has views of other libraries from its version 16 on.
 #if __cplusplus >= 202002L && (!defined __clang__ || __clang_major__ >= 16)
     CHECK(handle.get_many(std::span(keys)).at(0) == 2 && handle.get(std::span(bytes)) == 1);
@@ -310,6 +329,7 @@ static void test_counting() {
 int main() {
     test_calls();
     test_index();
+    test_order();
     test_expected();
     test_full();
     test_stock();

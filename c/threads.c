@@ -1,5 +1,6 @@
 /* Tests of the library by threads: two that change keys of all lengths beside two that look up, scan and list; four that make calls
- * by chance where few records are to spare, or none; eight on one core, so that each is stopped in the middle of its calls; and eight that share three handles. */
+ * by chance where few records are to spare, or none; eight on one core, so that each is stopped in the middle of its calls; eight that share three
+ * handles; and four that send each other moments. */
 #define _GNU_SOURCE
 #include "hot.h"
 #include <pthread.h>
@@ -509,6 +510,66 @@ static void test_opening(void) {
     CHECK(value == CROWDED * VISITS && hot_close(&handle) == HOT_DONE && hot_close_index(index) == HOT_DONE);
 }
 
+/* Sixth test: threads tell each other of moments. Each gives a key of its own the number of its turn, and sends a moment with that number;
+ * whoever follows the moment finds the number, or a later one. Meanwhile the index can't be closed, since their handles are open. */
+#define TELLERS 4
+#define TURNS 20000
+
+static pthread_mutex_t told_lock = PTHREAD_MUTEX_INITIALIZER;
+static struct told {
+    hot_moment moment;
+    uint64_t number;
+} told[TELLERS];
+
+typedef struct teller {
+    hot_handle *handle;
+    uint8_t name;
+} teller;
+
+static void *tell(void *given) {
+    teller *me = given;
+    uint8_t next = (uint8_t)((me->name + 1) % TELLERS);
+    struct told mine, other;
+    uint64_t value;
+    for (mine.number = 1; mine.number <= TURNS; mine.number++) {
+        CHECK(hot_upsert(me->handle, &me->name, 1, mine.number, NULL) == HOT_WAS);
+        CHECK(hot_stamp(me->handle, &mine.moment) == HOT_DONE);
+        pthread_mutex_lock(&told_lock);
+        told[me->name] = mine;
+        other = told[next];
+        pthread_mutex_unlock(&told_lock);
+        CHECK(hot_follow(me->handle, &other.moment) == HOT_DONE);
+        CHECK(hot_get(me->handle, &next, 1, &value) == HOT_FOUND && value >= other.number);
+    }
+    return NULL;
+}
+
+static void test_telling(void) {
+    static const hot_stock stock = {100, 100, 0, 0, 0, 0};
+    hot_index *index;
+    hot_handle handles[TELLERS];
+    teller tellers[TELLERS];
+    pthread_t threads[TELLERS];
+    uint8_t i;
+    memset(handles, 0, sizeof handles);
+    CHECK(hot_open_index(&stock, TELLERS + 1, &index) == HOT_DONE);
+    for (i = 0; i < TELLERS; i++) {
+        tellers[i].handle = &handles[i];
+        tellers[i].name = i;
+        CHECK(hot_open(index, &handles[i]) == HOT_DONE && hot_insert(&handles[i], &i, 1, 0, NULL) == HOT_INSERTED);
+        CHECK(hot_stamp(&handles[i], &told[i].moment) == HOT_DONE && hot_meet(&handles[0], &handles[i]) == HOT_DONE);
+    }
+    for (i = 0; i < TELLERS; i++)
+        CHECK(pthread_create(&threads[i], NULL, tell, &tellers[i]) == 0);
+    for (i = 0; i < 100; i++)
+        CHECK(hot_close_index(index) == HOT_OPEN);
+    for (i = 0; i < TELLERS; i++)
+        CHECK(pthread_join(threads[i], NULL) == 0);
+    for (i = 0; i < TELLERS; i++)
+        CHECK(hot_close_index(index) == HOT_OPEN && hot_close(&handles[i]) == HOT_DONE);
+    CHECK(hot_close_index(index) == HOT_DONE);
+}
+
 int main(void) {
     /* Keys, nodes and leaves: room for all; more keys than leaves; one node, which comes and goes. */
     static const unsigned crowds[5][3] = {{500, 60, 520}, {12, 16, 8}, {5, 1, 16}, {3, 1, 2}, {2, 1, 1}};
@@ -521,6 +582,7 @@ int main(void) {
         ;
     CHECK(i < 10);
     test_opening();
+    test_telling();
     if (!failures)
         puts("passed: threads that read while others change keys of all lengths, threads where few records are to spare, and threads that are stopped");
     return failures;

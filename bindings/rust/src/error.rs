@@ -14,6 +14,10 @@ pub enum Error {
     KeyTooLong,
     /// All handles of the index are open.
     NoHandle,
+    /// The handle or the moment is of another index.
+    OtherIndex,
+    /// The library was compiled for newer processors.
+    OldProcessor,
     /// The number of keys, records or handles is out of range.
     OutOfRange,
     /// There is no memory.
@@ -32,6 +36,8 @@ impl Error {
             ffi::OUT_OF_RANGE => Error::OutOfRange,
             ffi::NO_MEMORY => Error::NoMemory,
             ffi::NO_HANDLE => Error::NoHandle,
+            ffi::OTHER_INDEX => Error::OtherIndex,
+            ffi::OLD_PROCESSOR => Error::OldProcessor,
             0..=7 | ffi::EXCHANGED | ffi::DIFFERS => return Ok(status),
             _ => Error::Unexpected(status),
         })
@@ -50,6 +56,8 @@ impl fmt::Display for Error {
             Error::FullLeaves => ffi::text(ffi::FULL_LEAVES),
             Error::KeyTooLong => ffi::text(ffi::KEY_TOO_LONG),
             Error::NoHandle => ffi::text(ffi::NO_HANDLE),
+            Error::OtherIndex => ffi::text(ffi::OTHER_INDEX),
+            Error::OldProcessor => ffi::text(ffi::OLD_PROCESSOR),
             Error::OutOfRange => ffi::text(ffi::OUT_OF_RANGE),
             Error::NoMemory => ffi::text(ffi::NO_MEMORY),
             Error::Unexpected(status) => ffi::text(status),

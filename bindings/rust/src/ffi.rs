@@ -23,6 +23,8 @@ pub(crate) const NO_MEMORY: Status = 15;
 pub(crate) const EXCHANGED: Status = 16;
 pub(crate) const DIFFERS: Status = 17;
 pub(crate) const NO_HANDLE: Status = 19;
+pub(crate) const OTHER_INDEX: Status = 20;
+pub(crate) const OLD_PROCESSOR: Status = 21;
 
 /// What only the library sees.
 #[repr(C)]
@@ -43,6 +45,11 @@ impl RawHandle {
         slot: ptr::null_mut(),
         place: ptr::null_mut(),
     };
+}
+
+#[repr(C)]
+struct RawMoment {
+    index: *mut RawIndex,
 }
 
 #[repr(C)]
@@ -140,6 +147,9 @@ extern "C" {
     fn hot_last(handle: *mut RawHandle, upto: *const u8, length: usize, pair: *mut RawPair) -> Status;
     fn hot_census(handle: *mut RawHandle, counts: *mut Census) -> Status;
     fn hot_len(handle: *mut RawHandle, count: *mut usize) -> Status;
+    fn hot_meet(one: *mut RawHandle, other: *mut RawHandle) -> Status;
+    fn hot_stamp(handle: *mut RawHandle, moment: *mut RawMoment) -> Status;
+    fn hot_follow(handle: *mut RawHandle, moment: *const RawMoment) -> Status;
 }
 
 /// A status in words.
@@ -208,6 +218,12 @@ impl Drop for Index {
         // SAFETY: all handles are closed, since an open one keeps the index.
         unsafe { hot_close_index(self.at) };
     }
+}
+
+/// What a handle had seen, of an index that is there as long as it. The library's moment has no more than the index.
+#[derive(Clone)]
+pub(crate) struct Seen {
+    index: Arc<Index>,
 }
 
 /// An open handle, of one thread at a time: it is not `Sync`, since it has cells.
@@ -373,6 +389,24 @@ impl Lease {
         let mut count = 0;
         unsafe { hot_len(self.raw(), &mut count) };
         count
+    }
+
+    /// The other lease may be this one, since the library is handed pointers.
+    pub(crate) fn meet(&self, other: &Lease) -> Status {
+        unsafe { hot_meet(self.raw(), other.raw()) }
+    }
+
+    pub(crate) fn stamp(&self) -> Result<Seen, Error> {
+        let mut moment = RawMoment { index: ptr::null_mut() };
+        Error::check(unsafe { hot_stamp(self.raw(), &mut moment) })?;
+        Ok(Seen {
+            index: Arc::clone(&self.index),
+        })
+    }
+
+    pub(crate) fn follow(&self, seen: &Seen) -> Status {
+        let moment = RawMoment { index: seen.index.at };
+        unsafe { hot_follow(self.raw(), &moment) }
     }
 
     pub(crate) fn census(&self) -> Census {

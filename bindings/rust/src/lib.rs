@@ -27,7 +27,7 @@ mod range;
 pub use error::{CompareExchangeError, Error, TryInsertError};
 pub use range::{KeyRange, Range};
 
-use ffi::{Index, Lease};
+use ffi::{Index, Lease, Seen};
 use std::fmt;
 use std::sync::Arc;
 
@@ -131,6 +131,18 @@ impl Hot {
     /// How many handles the index has room for.
     pub fn handles(&self) -> usize {
         self.index.handles()
+    }
+}
+
+/// All that a handle had seen when [`Handle::stamp`] made it. Any thread may have it, and clones of it.
+#[derive(Clone)]
+pub struct Moment {
+    seen: Seen,
+}
+
+impl fmt::Debug for Moment {
+    fn fmt(&self, to: &mut fmt::Formatter<'_>) -> fmt::Result {
+        to.debug_struct("Moment").finish_non_exhaustive()
     }
 }
 
@@ -331,6 +343,38 @@ impl Handle {
             (ffi::KEY_TOO_LONG, _) => Ok(None),
             (status, _) => Error::check(status).map(|_| None),
         }
+    }
+
+    /// A moment that tells of all that this handle has seen. The first one of an index takes one of its handles for good, and is refused
+    /// with [`Error::NoHandle`] where none is left.
+    ///
+    /// ```
+    /// let index = hot::Hot::with_capacity(10, 8, 3)?;
+    /// let (writer, reader) = (index.handle()?, index.handle()?);
+    /// writer.insert("oak", 1)?;
+    /// let moment = writer.stamp()?;
+    /// std::thread::scope(|scope| {
+    ///     scope.spawn(move || {
+    ///         reader.follow(&moment)?;
+    ///         assert_eq!(reader.get("oak"), Some(1));
+    ///         Ok::<(), hot::Error>(())
+    ///     });
+    /// });
+    /// # Ok::<(), hot::Error>(())
+    /// ```
+    pub fn stamp(&self) -> Result<Moment, Error> {
+        self.lease.stamp().map(|seen| Moment { seen })
+    }
+
+    /// Lets this handle see all that the moment tells of: its later calls come after those that had returned by then. A moment of another
+    /// index is refused with [`Error::OtherIndex`].
+    pub fn follow(&self, moment: &Moment) -> Result<(), Error> {
+        Error::check(self.lease.follow(&moment.seen)).map(|_| ())
+    }
+
+    /// Lets both handles see all that either has seen. A handle of another index is refused with [`Error::OtherIndex`].
+    pub fn meet(&self, other: &Handle) -> Result<(), Error> {
+        Error::check(self.lease.meet(&other.lease)).map(|_| ())
     }
 
     /// The pairs whose keys are in a range, in order from either end, fetched page by page. The handle may be used meanwhile. Each pair

@@ -244,6 +244,24 @@ fn handles_are_given_back() {
 }
 
 #[test]
+fn moments_are_of_one_index() {
+    let index = Hot::with_capacity(10, 8, 2).unwrap();
+    let (one, two) = (index.handle().unwrap(), index.handle().unwrap());
+    let other = Hot::with_capacity(10, 8, 2).unwrap().handle().unwrap();
+    assert_eq!((one.meet(&two), one.meet(&one)), (Ok(()), Ok(())));
+    assert_eq!(one.meet(&other), Err(Error::OtherIndex));
+    assert_eq!(one.stamp().err(), Some(Error::NoHandle));
+    drop(two);
+    let moment = one.stamp().unwrap();
+    assert_eq!(one.follow(&moment.clone()), Ok(()));
+    assert_eq!(other.follow(&moment), Err(Error::OtherIndex));
+    assert_eq!(index.handle().err(), Some(Error::NoHandle));
+    drop((index, one));
+    // The index is there as long as a moment.
+    assert_eq!(other.follow(&moment), Err(Error::OtherIndex));
+}
+
+#[test]
 fn a_range_goes_on_while_its_handle_changes_the_index() {
     let handle = Hot::with_capacity(1000, 8, 1).unwrap().handle().unwrap();
     handle.extend((0..1000u64).map(|n| (n.to_be_bytes(), n))).unwrap();

@@ -12,3 +12,4 @@ pub mod Packs
 pub mod Ends
 pub mod Stocks
 pub mod Lookups
+pub mod Following

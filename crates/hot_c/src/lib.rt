@@ -4,6 +4,7 @@
 mod around;
 mod ends;
 mod exports;
+mod following;
 mod handle;
 mod lending;
 mod lookups;

@@ -7,6 +7,7 @@ ghost use Rattle.rowex_writing.specs.declared.attempts.TryFault.{TryFault as Fau
 ghost use Rattle.seat_calls.specs.Answers.{IsNoted, MayRefuse};
 ghost use Rattle.seat_calls.specs.Calls.{IsRangeRead};
 ghost use Rattle.hot_index.specs.Handles.{Stays};
+ghost use Rattle.hot_index.specs.Stamps.{HasCaughtUp, IsStampFrom};
 ghost use Rattle.seat_calls.specs.Traces.{HasGot, untold};
 ghost use Rattle.hot_c.specs.Calls.{HasOpenedNext, KeepsAll, TellsOutcome};
 ghost use Rattle.hot_c.specs.Orders.{IsFilledIn};
@@ -15,7 +16,7 @@ ghost use Rattle.hot_c.specs.Statuses.{value_after};
 use crate::pairs::Order;
 use crate::refusals::{tell_leaves, tell_nodes};
 use crate::status::{BUSY, tell_reply};
-use hot_index::{Call, ClosedHandle, Handle, Index, Reply, TryFault};
+use hot_index::{Call, ClosedHandle, Handle, Index, Reply, ShowsIndex, Stamp, TryFault};
 use key_bits::Key;
 use packed_pairs::Pairs;
 use std::alloc::{AllocError, Global};
@@ -95,6 +96,26 @@ impl Opened {
                     .scan_reverse_into(from, upto, limit, &mut self.list)
             }
         }
+    }
+
+    /// A stamp of all that the handle has seen.
+    pub fn stamp(&mut self) -> Stamp
+        ensures same { self.new ≡ self.old }
+        ensures own { IsStampFrom self.old.handle.index result }
+        ensures front { result.front ≡ self.old.handle.pass.front }
+    {
+        self.handle.index.show().stamp(&mut self.handle.pass)
+    }
+
+    /// Lets the handle see all that was seen when the stamp was made.
+    pub fn follow(&mut self, stamp: Stamp)
+        requires { IsStampFrom self.old.handle.index stamp }
+        ensures { Stays (λ index k j. HasCaughtUp index.layout stamp.front k j) self.old.handle self.new.handle }
+    {
+        self.handle
+            .index
+            .show()
+            .follow(&mut self.handle.pass, stamp);
     }
 
     /// Empties the list, and gives its memory back if it has grown large.

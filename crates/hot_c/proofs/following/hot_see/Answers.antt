@@ -1,0 +1,42 @@
+-- The handle follows the leader's stamp.
+use Rattle.std.proofs.Common.{◌≡◌, ◌⊎◌, List, Option, None, Some, inl, inr, refl, sym, ap, subst, ◌∙◌}
+use Rattle.finite_map.specs.declared.Change.{Change}
+use Rattle.hot_index.specs.Handles.{HandleView, Stays}
+use Rattle.hot_index.specs.Stamps.{HasCaughtUp}
+use Rattle.hot_c.specs.Following.{SeesLeader}
+use Rattle.hot_c.specs.declared.opened.Opened.{Opened}
+use Rattle.hot_c.proofs.following.hot_see.Goals as goal
+
+never : (s : Opened) → Some s ≡ None → ⊥
+never s e = cc
+
+same_in : (s t : Opened) → Some s ≡ Some t → s ≡ t
+same_in s t e = cc
+
+-- the handle has seen this front
+abbrev CaughtUp : List Change → HandleView → HandleView → Type 0
+CaughtUp front = Stays (λ index k j. HasCaughtUp index.layout front k j)
+
+sees : (s u t m : Opened) (old old_leader : Option Opened) (front : List Change) → old ≡ Some s → old_leader ≡ Some t → m ≡ t → front ≡ t.handle.pass.front →
+    CaughtUp front s.handle u.handle → SeesLeader old (Some u) old_leader (Some m) 0
+sees s u t m old old_leader front was led same told stays = record {
+  closed = λ either. absurd (neither either);
+  seen = λ leader some is. (
+    refl,
+    record {
+      before = s;
+      after = u;
+      was = was;
+      is = refl;
+      stays = subst (λ (f : List Change). CaughtUp f s.handle u.handle) (told ∙ ap (λ (o : Opened). o.handle.pass.front) (same_in t leader (sym led ∙ is))) stays;
+    },
+  );
+  leader = ap Some same ∙ sym led;
+}
+  where
+    neither : (old ≡ None) ⊎ (old_leader ≡ None) → ⊥
+    neither (inl none) = never s (sym was ∙ none)
+    neither (inr none) = never t (sym led ∙ none)
+
+pub returns : goal.returns
+returns c = sees _ _ _ _ _ _ _ c.lend-2.ensures.value c.lend.ensures.value c.stamp-stamp.ensures.same c.stamp-stamp.ensures.front c.follow.ensures

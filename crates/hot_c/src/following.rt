@@ -1,0 +1,20 @@
+//! How a handle sees what another has seen, for programs in C: so their calls are ordered in time.
+
+ghost use Rattle.hot_c.specs.Following.{AreAtOneIndex, SeesLeader};
+
+use crate::handle::Handle;
+use crate::status::{CLOSED, DONE};
+
+/// Lets a handle see all changes that another handle at the same index, its leader, has seen. `c/hot.c` compares the indexes.
+#[unsafe(no_mangle)]
+pub extern "C" fn hot_see(handle: &mut Handle, leader: &mut Handle) -> u32
+    requires { AreAtOneIndex handle.old.slot.opened leader.old.slot.opened }
+    ensures { SeesLeader handle.old.slot.opened handle.new.slot.opened leader.old.slot.opened leader.new.slot.opened result }
+{
+    if !handle.is_open() || !leader.is_open() {
+        return CLOSED;
+    }
+    let stamp = leader.slot.lend().stamp();
+    handle.slot.lend().follow(stamp);
+    DONE
+}
