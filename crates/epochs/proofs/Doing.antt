@@ -13,6 +13,7 @@ use Rattle.rowex_core.specs.declared.event.Event.{Event}
 use Rattle.rowex_core.specs.declared.known.Failed.{Failed}
 use Rattle.rowex_core.specs.declared.known.FailedAct.TheVariants.{LoadState as a_load}
 use Rattle.rowex_core.specs.declared.known.Known.{Known}
+use Rattle.rowex_core.specs.Cores.{holder_of}
 use Rattle.rowex_core.specs.Events.{word_of}
 use Rattle.rowex_core.specs.Knowing.{IsEvent, failed_with}
 use Rattle.rowex_table.specs.Runs.{silent, Steps, Does}
@@ -53,9 +54,9 @@ looked k j failed e =
     let bare : record k { failed = failed; steps = k.steps + 1; notes = k.notes ++ [] } ≡ record k { failed = failed; steps = k.steps + 1 } = ap (λ (notes : List Note). let z : Known = record k { failed = failed; steps = k.steps + 1; notes = notes } in z) (append-nil k.notes) in
     e ∙ (bare ∙ ap (λ (z : Known). let y : Known = record (collecting k z) { steps = k.steps + 1 } in y) (sym e))
 
-look_rest : (r : Rec) (w : ℕ) (free : Bool) (k j : Known) → j ≡ record (if free then k else failed_with k a_load (word_of r 0) w) { steps = k.steps + 1; notes = k.notes ++ [] } → j ≡ record (collecting k j) { steps = k.steps + 1 }
-look_rest r w true k j e = looked k j _ e
-look_rest r w false k j e = looked k j _ e
+look_rest : (r : Rec) (w : ℕ) (free : Bool) (by : Option ℕ) (k j : Known) → j ≡ record (if free then k else failed_with k (a_load by) (word_of r 0) w) { steps = k.steps + 1; notes = k.notes ++ [] } → j ≡ record (collecting k j) { steps = k.steps + 1 }
+look_rest r w true by k j e = looked k j _ e
+look_rest r w false by k j e = looked k j _ e
 
 module _ {G : Type 0} (table : TableView) (becomes : G → Event → G → Type 0) where
   pub does_one : (act : Act) (a b : SeatView × G) → OnlyPaces act → Steps table becomes act a b → Does table becomes paced (act ∷ []) a b
@@ -72,7 +73,7 @@ module _ {G : Type 0} (table : TableView) (becomes : G → Event → G → Type 
   -- Visits, one after the other
 
   pub collects_look : (r : Rec) (w : ℕ) (a b : SeatView × G) → Steps table becomes (LoadState r w) a b → Does table becomes collecting (LoadState r w ∷ []) a b
-  collects_look r w a b step = running.does_one table becomes collecting (LoadState r w) a b step (look_rest r w (nat_eq w 0) a.0.known b.0.known step.event.learned_is)
+  collects_look r w a b step = running.does_one table becomes collecting (LoadState r w) a b step (look_rest r w (nat_eq w 0) (holder_of (step.event.core.fate r)) a.0.known b.0.known step.event.learned_is)
 
   -- steps on pins and rounds are among those that may change the failed steps too
   pub collects : (acts : List Act) (a b : SeatView × G) → Does table becomes paced acts a b → Does table becomes collecting acts a b

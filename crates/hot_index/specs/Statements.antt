@@ -1,5 +1,5 @@
 -- What the contracts of the index give in other words.
-use Rattle.std.specs.Prelude.{◌≡◌, ◌≤◌, List}
+use Rattle.std.specs.Prelude.{◌≡◌, ◌⊎◌, ◌<◌, ◌≤◌, ℕ, List, [], length, Contains, Option, None}
 use Rattle.key_bits.specs.Key.{IsKey}
 use Rattle.finite_map.specs.declared.Call.{Call}
 use Rattle.finite_map.specs.declared.Change.{Change}
@@ -7,22 +7,39 @@ use Rattle.finite_map.specs.declared.Reply.{Reply}
 use Rattle.finite_map.specs.Calls.{place_after}
 use Rattle.finite_map.specs.Fronts.{BeginsWith}
 use Rattle.record_words.specs.declared.layout.Layout.{Layout}
-use Rattle.versions.specs.declared.Rec.TheVariants.{Leaf as a_leaf}
+use Rattle.record_words.specs.Leaf.{words_for}
+use Rattle.versions.specs.declared.Rec.{Rec}
+use Rattle.versions.specs.declared.Rec.TheVariants.{Node as a_node, Leaf as a_leaf}
 use Rattle.tries.specs.Keys.{Key}
-use Rattle.rowex_records.specs.Claims.{AllMissed}
-use Rattle.rowex_writing.specs.declared.attempts.TryFault.TheVariants.{Busy, FullLeaves}
+use Rattle.rowex_records.specs.Claims.{AllMissed, AllMissedFrom, IsAnothers}
+use Rattle.rowex_writing.specs.Counts.{most_made}
+use Rattle.rowex_writing.specs.declared.attempts.TryFault.TheVariants.{Busy, FullLeaves, FullNodes}
 use Rattle.seat_calls.specs.Answers.{IsCause, IsNoted}
 use Rattle.seat_calls.specs.Passes.{PassView}
 
--- Where all leaf records are long, as in an index that `create` makes, a call that lacks one has found each of them not free.
+-- Where all leaf records are long, as in an index that `create` makes, a call that lacks one has found each of them not free, and none its
+-- own.
 abbrev pub LacksAllLong : Type 0
 LacksAllLong =
     (layout : Layout) (key : Key) (k j : PassView) → layout.long_from ≡ 0 → IsKey key → IsCause layout key k j FullLeaves →
-    AllMissed a_leaf layout.leaves j.failed k.steps
+    AllMissed (IsAnothers layout j.number []) a_leaf layout.leaves j.failed k.steps
 
 -- A call of a pass whose index has no other pass is never refused as busy.
 abbrev pub OnePassIsNeverBusy : Type 0
 OnePassIsNeverBusy = (layout : Layout) (key : Key) (k j : PassView) → layout.passes ≡ 1 → ¬ (IsCause layout key k j Busy)
+
+-- whose a record is: no pass's, in the tree or retired
+abbrev pub IsNobodys : Rec → Option ℕ → Type 0
+IsNobodys r by = by ≡ None
+
+-- A call of a pass whose index has no other pass lacks a leaf record only if each that has room for its key was in the tree or retired, when
+-- its turn came; and so for node records, but for a few that the call had claimed itself.
+abbrev pub OnePassFullIsFull : Type 0
+OnePassFullIsFull =
+    (layout : Layout) (key : Key) (k j : PassView) → layout.passes ≡ 1 → j.number < layout.passes →
+    (IsCause layout key k j FullLeaves → AllMissedFrom IsNobodys layout (words_for (length key)) j.failed k.steps) ×
+    (IsCause layout key k j FullNodes →
+    (own : List Rec) × (length own ≤ most_made) × AllMissed (λ r by. IsNobodys r by ⊎ Contains own r) a_node layout.nodes j.failed k.steps)
 
 -- A call was answered, and a stamp tells of all that its pass had seen then. Where a pass has seen what the stamp tells of before it
 -- begins a call, that call's place is no earlier than the first one's, and later than the first one's change.

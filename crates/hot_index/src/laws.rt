@@ -1,6 +1,6 @@
 //! Laws of the index. The functions do nothing: their contracts are the laws.
 
-ghost use Rattle.hot_index.specs.Statements.{LacksAllLong, OnePassIsNeverBusy, ReturnedBeforeBegun};
+ghost use Rattle.hot_index.specs.Statements.{LacksAllLong, OnePassFullIsFull, OnePassIsNeverBusy, ReturnedBeforeBegun};
 
 /// If all leaf records are long, as in an index that `create` makes, a call that lacks one has found each of them taken.
 pub fn lacks_all_long()
@@ -10,6 +10,11 @@ pub fn lacks_all_long()
 /// A call is busy only because of another pass of the index. In an index of one pass no call is.
 pub fn one_pass_is_never_busy()
     ensures { OnePassIsNeverBusy }
+{}
+
+/// In an index of one pass a call is full only if each record that would serve holds a leaf or a node, or is retired.
+pub fn one_pass_full_is_full()
+    ensures { OnePassFullIsFull }
 {}
 
 /// A call that had returned when a stamp was made comes before each call that a pass begins after it has followed the stamp. It stands

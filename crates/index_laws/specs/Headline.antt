@@ -81,8 +81,8 @@ ScansShow IsLawful IsReached =
     IsListedBy IsLawful layout (pass_of s) (pass_of e) from upto limit scan.pairs.items scan.more →
     IsLawful (pass_of e).fresh.front (pass_of e).front from upto limit scan × IsScanInTime IsReached at call.since t from upto scan
 
--- A refused call has changed nothing. One that is busy found that another pass stood in its way, and with one pass it is never busy; one that
--- is full found each record not free that would have served, though it may hold some of these itself.
+-- A refused call has changed nothing. One that is busy found that another pass stood in its way, and with one pass it is never busy. One that
+-- is full found each record not free that would have served; and none of these was its own, but for a few node records.
 abbrev pub Refusals : Type 0
 Refusals =
     (layout : Layout) (call : Call) (k j : PassView) (fault : TryFault) → IsRefused layout call k j fault → LegalCalls k.front k.number k.notes →

@@ -31,7 +31,7 @@ use Rattle.rowex_core.specs.declared.known.FailedAct.{FailedAct}
 use Rattle.rowex_core.specs.declared.known.FailedAct.TheVariants.{Claim as a_claim, Lock as a_lock, LoadState as a_load}
 use Rattle.rowex_core.specs.declared.known.Known.{Known}
 use Rattle.rowex_core.specs.Reading.{entry_of, head_entry, root_of}
-use Rattle.rowex_core.specs.Cores.{Core, IsLawful, heap_of}
+use Rattle.rowex_core.specs.Cores.{Core, IsLawful, heap_of, holder_of}
 use Rattle.rowex_core.specs.Words.{record_word}
 use Rattle.versions.proofs.Publish.{version_old}
 use Rattle.rowex_core.specs.declared.event.Spot.{Spot}
@@ -185,7 +185,7 @@ module _ (c : Core) (k : Known) (h : Knows c k) where
   claim_learns r found Free e = fate_learns r (HeldBy k.pass) _ (ap is_in_tree e) refl
       (rw (by_itself k.pass, same_rec_refl r) (ap (λ (z : List Owned). record { rec = r; holding = Held; words = c.words r } ∷ z) (ap (λ f. owned r (c.words r) (holding_of k.pass f)) (sym e) ∙ had r)))
       (λ i o. rw o (had i))
-  claim_learns r found _ e = with_failed c k a_claim (word_of r 0) found h
+  claim_learns r found f e = with_failed c k (a_claim (holder_of f)) (word_of r 0) found h
 
   fill_learns : (r : Rec) (offset w : ℕ) → c.fate r ≡ HeldBy k.pass → IsTrue (record c { words = with_word c.words r offset w }) (record k { own = map (with_filled_word r offset w) k.own })
   fill_learns r offset w e = record {
@@ -388,9 +388,9 @@ learns_by c k ClearPin law h l = pin_learns c k h None
 learns_by c k (LoadPin o w) law h l = round_learns c k h _ _ (ap (λ (s : Share). let z = s.round in let x : Round = record { epoch = z.epoch; version = z.version; bound = lowered z.bound (c.pins o); seen = o ∷ z.seen } in x) h.own)
 learns_by c k (LoadState r w) law h l = go (cases_Bool (eqb w 0))
   where
-    go : ((eqb w 0 ≡ true) ⊎ (eqb w 0 ≡ false)) → IsTrue c (state_learned r w k)
+    go : ((eqb w 0 ≡ true) ⊎ (eqb w 0 ≡ false)) → IsTrue c (state_learned c r w k)
     go (inl e) = rw e (is_true h)
-    go (inr e) = rw e (with_failed c k a_load (word_of r 0) w h)
+    go (inr e) = rw e (with_failed c k (a_load (holder_of (c.fate r))) (word_of r 0) w h)
 learns_by c k (GiveBack r epoch found) law h l = is_true (knows_kept c _ k (give_back_frame c k.pass r epoch (c.fate r) refl) h)
 
 -- The step is counted, and with it the last load of the root and what failed.
@@ -410,7 +410,7 @@ module _ (c : Core) (k : Known) (h : AreCounted k.steps k.fresh.step k.failed) w
 
   claim_next : (r : Rec) (found : ℕ) (f : Fate) → IsNext (claim_learned c r found f k)
   claim_next r found Free = same_next
-  claim_next r found _ = failed_next a_claim (word_of r 0) found
+  claim_next r found f = failed_next (a_claim (holder_of f)) (word_of r 0) found
 
   anchor_next : (found : ℕ) (o : Option ℕ) → IsNext (anchor_learned c found o k)
   anchor_next found None = same_next
@@ -424,7 +424,7 @@ module _ (c : Core) (k : Known) (h : AreCounted k.steps k.fresh.step k.failed) w
   next_by (Claim r found) = claim_next r found (c.fate r)
   next_by (Lock Anchor found) = anchor_next found c.anchor
   next_by (Lock (NodeTarget n) found) = either_next (nat_eq found 2) _ _ same_next (failed_next (a_lock (blocking_pass_of c n (c.fate (a_node n)))) (target_word (NodeTarget n)) found)
-  next_by (LoadState r w) = either_next (nat_eq w 0) _ _ same_next (failed_next a_load (word_of r 0) w)
+  next_by (LoadState r w) = either_next (nat_eq w 0) _ _ same_next (failed_next (a_load (holder_of (c.fate r))) (word_of r 0) w)
   next_by (LoadRef Root w) = before k.steps (omega arith)
   next_by (LoadRef (Slot n j) w) = same_next
   next_by (Unlock Anchor) = same_next

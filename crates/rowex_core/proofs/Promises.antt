@@ -81,6 +81,7 @@ opening_is_lawful layout = (
       fits = λ r h. absurd h;
       retired = λ n since last q e. absurd (let x : Free ≡ Unlinked since last q = e in cc);
       used = λ r. inl refl;
+      holders = λ r q e. absurd (let x : None ≡ Some q = e in cc);
     };
     epochs = record { now = (omega arith, lit< tt); loads = λ q. inl refl; pinned = λ q p e. absurd (let x : None ≡ Some p = e in cc); marked = λ r since last epoch e. absurd (let x : Free ≡ Marked since last epoch = e in cc) };
     root = tt;

@@ -19,7 +19,7 @@ use Rattle.rowex_core.specs.declared.event.Act.TheVariants.{Publish}
 use Rattle.rowex_core.specs.declared.event.Spot.{Spot}
 use Rattle.rowex_core.specs.declared.event.Spot.TheVariants.{Root, Slot}
 use Rattle.rowex_core.specs.Reading.{node_words_of, leaf_of, entry_of, IsPacked}
-use Rattle.rowex_core.specs.Cores.{Core, IsLawful, bare, heap_of, HasRecord, IsSized, FitsIn, IsWhole}
+use Rattle.rowex_core.specs.Cores.{Core, IsLawful, bare, heap_of, HasRecord, IsSized, FitsIn, IsWhole, holder_of}
 use Rattle.rowex_core.specs.Events.{after, stored_words, stored_root, next_tree, next_change, IsLegalPublish, IsPackedAt, IsLockedAt}
 use Rattle.rowex_core.proofs.Frames.{change_pass}
 use Rattle.rowex_core.proofs.Records.{sized_after}
@@ -56,6 +56,21 @@ unlinked_before now q false (ReadyBy i) since last p e = absurd cc
 unlinked_before now q false (InTree s) since last p e = inr (s, refl, refl, cc)
 unlinked_before now q false (Unlinked s l i) since last p e = inl e
 unlinked_before now q false (Marked s l i) since last p e = absurd cc
+
+-- who has a record then: the pass that publishes, of what it unlinks
+holder_after : (now q passes : ℕ) (b : Bool) (f : Fate) → q < passes → (p : ℕ) → (holder_of f ≡ Some p → p < passes) → holder_of (next_fate now q b f) ≡ Some p → p < passes
+holder_after now q passes true Free low p old e = old e
+holder_after now q passes true (Held i) low p old e = old e
+holder_after now q passes true (ReadyBy i) low p old e = absurd (let x : None ≡ Some p = e in cc)
+holder_after now q passes true (InTree s) low p old e = old e
+holder_after now q passes true (Unlinked s l i) low p old e = old e
+holder_after now q passes true (Marked s l i) low p old e = old e
+holder_after now q passes false Free low p old e = old e
+holder_after now q passes false (Held i) low p old e = old e
+holder_after now q passes false (ReadyBy i) low p old e = old e
+holder_after now q passes false (InTree s) low p old e = subst (λ z. z < passes) (let x : q ≡ p = cc in x) low
+holder_after now q passes false (Unlinked s l i) low p old e = old e
+holder_after now q passes false (Marked s l i) low p old e = old e
 
 pub entry_small : (e : Option Entry) → HasEntryWord e → entry_word e < 2 ^ 64
 entry_small None h = omega arith
@@ -135,6 +150,7 @@ module _ (c : Core) (q : ℕ) (spot : Spot) (w : ℕ) (law : IsLawful c) (l : Is
       fits = λ r h. published_fits spot r (whole_before c.past.now q (is_linked (next_tree c spot w) r) (c.fate r) h);
       retired = published_locks;
       used = published_used;
+      holders = λ r p e. holder_after c.past.now q c.layout.passes (is_linked (next_tree c spot w) r) (c.fate r) low p (law.records.holders r p) e;
     };
     epochs = record {
       now = law.epochs.now;

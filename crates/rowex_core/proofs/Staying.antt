@@ -15,7 +15,7 @@ use Rattle.rowex_core.specs.declared.event.Act.{Act}
 use Rattle.rowex_core.specs.declared.event.Act.TheVariants.{Claim, Fill, Ready, Release, LoadRef, LoadFixed, Lock, Unlock, Publish, Mark, LoadEpoch, Advance, SetPin, ClearPin, LoadPin, LoadState, GiveBack}
 use Rattle.rowex_core.specs.declared.event.Target.TheVariants.{Anchor, Node as NodeTarget}
 use Rattle.rowex_core.specs.Reading.{node_words_of, leaf_of, IsPacked}
-use Rattle.rowex_core.specs.Cores.{Core, IsLawful, bare, heap_of, HasRecord, HasWord, FitsIn, IsWhole}
+use Rattle.rowex_core.specs.Cores.{Core, IsLawful, bare, heap_of, HasRecord, HasWord, FitsIn, IsWhole, holder_of}
 use Rattle.rowex_core.specs.Words.{tag_of}
 use Rattle.rowex_core.specs.Events.{Legal, IsOffset, after, with_word, claimed, marked, given_back, anchored, locked_where, advanced}
 use Rattle.rowex_core.proofs.Records.{word_at_record, sized_after}
@@ -44,8 +44,9 @@ new_unlinked f n since last q e = subst IsNew e n
 new_marked : (f : Fate) → IsNew f → (since last epoch : ℕ) → f ≡ Marked since last epoch → ⊥
 new_marked f n since last epoch e = subst IsNew e n
 
-fate_stays : (c : Core) (r : Rec) (f : Fate) → IsLawful c → IsLawfulCore (bare (record c { shared = with_fate c.shared r f })) → HasRecord c.layout r → IsNew f → (IsWhole f → IsPacked r (c.words r) × FitsIn c.layout r (c.words r)) → IsLawful (record c { shared = with_fate c.shared r f })
-fate_stays c r f law core has new packed = record {
+fate_stays : (c : Core) (r : Rec) (f : Fate) → IsLawful c → IsLawfulCore (bare (record c { shared = with_fate c.shared r f })) → HasRecord c.layout r → IsNew f → ((q : ℕ) → holder_of f ≡ Some q → q < c.layout.passes) →
+    (IsWhole f → IsPacked r (c.words r) × FitsIn c.layout r (c.words r)) → IsLawful (record c { shared = with_fate c.shared r f })
+fate_stays c r f law core has new by packed = record {
   core = core;
   records = record {
     sized = law.records.sized;
@@ -54,6 +55,7 @@ fate_stays c r f law core has new packed = record {
     retired = λ n since last q. fate_at c r f (λ i g. i ≡ a_node n → g ≡ Unlinked since last q → c.lock n ≡ Some q)
         (λ e x. absurd (new_unlinked f new since last q x)) (λ i e x y. law.records.retired n since last q (ap c.fate (sym x) ∙ y)) (a_node n) refl;
     used = fate_at c r f (λ i g. (g ≡ Free) ⊎ HasRecord c.layout i) (inr has) (λ i e. law.records.used i);
+    holders = fate_at c r f (λ i g. (q : ℕ) → holder_of g ≡ Some q → q < c.layout.passes) by (λ i e. law.records.holders i);
   };
   epochs = record {
     now = law.epochs.now;
@@ -67,13 +69,20 @@ fate_stays c r f law core has new packed = record {
   makers = law.makers;
 }
 
-claim_stays : (c : Core) (q : ℕ) (r : Rec) (f : Fate) → IsLawful c → HasRecord c.layout r → c.fate r ≡ f → IsLawful (record c { shared = claimed c.shared q r f })
-claim_stays c q r Free law has e = fate_stays c r (Held q) law (step_lawful (bare c) q _ law.core (claims r e)) has tt (λ x. absurd x)
-claim_stays c q r (Held p) law has e = law
-claim_stays c q r (ReadyBy p) law has e = law
-claim_stays c q r (InTree s) law has e = law
-claim_stays c q r (Unlinked s l p) law has e = law
-claim_stays c q r (Marked s l p) law has e = law
+-- the pass that has it then is one of the index, if this one is
+one_holder : (q p passes : ℕ) → q < passes → Some q ≡ Some p → p < passes
+one_holder q p passes small e = subst (λ z. z < passes) (let x : q ≡ p = cc in x) small
+
+no_holder : (p passes : ℕ) → None ≡ Some p → p < passes
+no_holder p passes e = absurd (let x : None ≡ Some p = e in cc)
+
+claim_stays : (c : Core) (q : ℕ) (r : Rec) (f : Fate) → q < c.layout.passes → IsLawful c → HasRecord c.layout r → c.fate r ≡ f → IsLawful (record c { shared = claimed c.shared q r f })
+claim_stays c q r Free small law has e = fate_stays c r (Held q) law (step_lawful (bare c) q _ law.core (claims r e)) has tt (λ p x. one_holder q p c.layout.passes small x) (λ x. absurd x)
+claim_stays c q r (Held p) small law has e = law
+claim_stays c q r (ReadyBy p) small law has e = law
+claim_stays c q r (InTree s) small law has e = law
+claim_stays c q r (Unlinked s l p) small law has e = law
+claim_stays c q r (Marked s l p) small law has e = law
 
 give_back_stays : (c : Core) (q : ℕ) (r : Rec) (epoch : ℕ) (f : Fate) → IsLawful c → HasRecord c.layout r → c.fate r ≡ f → epoch < (c.rounds q).bound →
     ((o : ℕ) → o < c.layout.passes → has_seen (c.rounds q).seen o ≡ true) → IsLawful (record c { shared = given_back c.shared r epoch f })
@@ -86,7 +95,7 @@ give_back_stays c q r epoch (Marked s l m) law has e low seen = go (cases_Bool (
   where
     go : ((eqb m epoch ≡ true) ⊎ (eqb m epoch ≡ false)) → IsLawful (record c { shared = if nat_eq m epoch then with_fate c.shared r Free else c.shared })
     go (inl x) = rw x (fate_stays c r Free law (step_lawful (bare c) q _ law.core (gives_back r s l m e (let y = eqb-true m epoch x in omega arith)
-        (λ o p z. seen o (law.epochs.pinned o p z).0))) has tt (λ y. absurd y))
+        (λ o p z. seen o (law.epochs.pinned o p z).0))) has tt (λ p y. no_holder p c.layout.passes y) (λ y. absurd y))
     go (inr x) = rw x law
 
 mark_stays : (c : Core) (q : ℕ) (r : Rec) (epoch since last : ℕ) → IsLawful c → HasRecord c.layout r → epoch ≡ (c.rounds q).epoch → c.fate r ≡ Unlinked since last q →
@@ -100,6 +109,7 @@ mark_stays c q r epoch since last law has same e late = record {
     retired = λ n s l p. fate_at c r (Marked since last epoch) (λ i g. i ≡ a_node n → g ≡ Unlinked s l p → (unlocked c.shared r).lock n ≡ Some p)
         (λ x y. absurd cc) (λ i x y z. rw (subst (λ v. same_rec v r ≡ false) y x) (law.records.retired n s l p (ap c.fate (sym y) ∙ z))) (a_node n) refl;
     used = fate_at c r (Marked since last epoch) (λ i g. (g ≡ Free) ⊎ HasRecord c.layout i) (inr has) (λ i x. law.records.used i);
+    holders = fate_at c r (Marked since last epoch) (λ i g. (p : ℕ) → holder_of g ≡ Some p → p < c.layout.passes) (λ p x. no_holder p c.layout.passes x) (λ i x. law.records.holders i);
   };
   epochs = record {
     now = law.epochs.now;
@@ -138,6 +148,7 @@ fill_stays c q r offset w law e at small there = record {
     fits = word_at_record c.words r offset w (λ i words. IsWhole (c.fate i) → FitsIn c.layout i words) (λ x. absurd (subst IsWhole e x)) (λ i ne. law.records.fits i);
     retired = law.records.retired;
     used = law.records.used;
+    holders = law.records.holders;
   };
   epochs = law.epochs;
   root = law.root;
@@ -162,7 +173,7 @@ anchor_stays c q (Some p) small law e = law
 lock_stays : (c : Core) (n since : ℕ) (o : Option ℕ) → ((p : ℕ) → o ≡ Some p → p < c.layout.passes) → IsLawful c → c.fate (a_node n) ≡ InTree since → IsLawfulCore (bare (record c { shared = with_lock c.shared n o })) → IsLawful (record c { shared = with_lock c.shared n o })
 lock_stays c n since o by law e core = record {
   core = core;
-  records = record { sized = law.records.sized; packed = law.records.packed; fits = law.records.fits; retired = λ i s l q h. go i s l q h (cases_Bool (eqb i n)); used = law.records.used };
+  records = record { sized = law.records.sized; packed = law.records.packed; fits = law.records.fits; retired = λ i s l q h. go i s l q h (cases_Bool (eqb i n)); used = law.records.used; holders = law.records.holders };
   epochs = law.epochs;
   root = law.root;
   lockers = record { root = law.lockers.root; nodes = λ i p is. taken i p is (cases_Bool (eqb i n)) };
@@ -241,10 +252,10 @@ advance_stays c q expected law low = go (cases_Bool (eqb c.epoch expected))
 
 -- A legal step keeps the core lawful.
 pub stays_lawful : (c : Core) (q : ℕ) (act : Act) → IsLawful c → Legal c q act → IsLawful (after c q act)
-stays_lawful c q (Claim r found) law (a, b) = claim_stays c q r (c.fate r) law b.0 refl
+stays_lawful c q (Claim r found) law (a, b) = claim_stays c q r (c.fate r) a law b.0 refl
 stays_lawful c q (Fill r offset w) law (a, b) = fill_stays c q r offset w law b.1 b.2 b.3 b.4
-stays_lawful c q (Ready r) law (a, b) = fate_stays c r (ReadyBy q) law (step_lawful (bare c) q _ law.core (readies r b.1)) b.0 tt (λ x. (b.2, b.3))
-stays_lawful c q (Release r) law (a, b) = fate_stays c r Free law (step_lawful (bare c) q _ law.core (releases r b.1)) b.0 tt (λ x. absurd x)
+stays_lawful c q (Ready r) law (a, b) = fate_stays c r (ReadyBy q) law (step_lawful (bare c) q _ law.core (readies r b.1)) b.0 tt (λ p x. one_holder q p c.layout.passes a x) (λ x. (b.2, b.3))
+stays_lawful c q (Release r) law (a, b) = fate_stays c r Free law (step_lawful (bare c) q _ law.core (releases r b.1)) b.0 tt (λ p x. no_holder p c.layout.passes x) (λ x. absurd x)
 stays_lawful c q (LoadRef spot w) law l = law
 stays_lawful c q (LoadFixed r offset w) law l = law
 stays_lawful c q (Lock Anchor found) law (a, b) = anchor_stays c q c.anchor a law refl

@@ -1,5 +1,5 @@
 -- The state of the shared words and of all versions so far.
-use Rattle.std.specs.Prelude.{◌≡◌, ◌⊎◌, ℕ, ◌<◌, ◌≤◌, ◌^◌, List, length, get_or, All, Option, Some}
+use Rattle.std.specs.Prelude.{◌≡◌, ◌⊎◌, ℕ, ◌<◌, ◌≤◌, ◌^◌, List, length, get_or, All, Option, Some, None}
 use Rattle.record_words.specs.declared.TheConstants.{EPOCHS, NODE_WORDS, NODE_FIELDS, LEAF_FIELDS}
 use Rattle.record_words.specs.declared.layout.Layout.{Layout}
 use Rattle.versions.specs.declared.Rec.{Rec}
@@ -11,7 +11,7 @@ use Rattle.versions.specs.Steps.{IsLawfulCore}
 use Rattle.record_words.specs.Entry.{HasEntryWord}
 use Rattle.record_words.specs.Layout.{leaf_size}
 use Rattle.record_words.specs.Leaf.{words_for}
-use Rattle.versions.specs.Core.{BareCore as Versions, Shared, Fate, Free, Held, Unlinked, Marked}
+use Rattle.versions.specs.Core.{BareCore as Versions, Shared, Fate, Free, Held, Ready, InTree, Unlinked, Marked}
 use Rattle.rowex_core.specs.Reading.{node_words_of, leaf_of, IsPacked}
 
 -- The words of each record but its state, and all else that passes share.
@@ -61,6 +61,15 @@ IsWhole Free = ⊥
 IsWhole (Held q) = ⊥
 IsWhole _ = Unit {0}
 
+-- the pass that has the record of this fate; in the tree or retired it is nobody's
+abbrev pub holder_of : Fate → Option ℕ
+holder_of Free = None
+holder_of (Held q) = Some q
+holder_of (Ready q) = Some q
+holder_of (InTree since) = None
+holder_of (Unlinked since last q) = Some q
+holder_of (Marked since last epoch) = None
+
 -- What holds of the records, where these are their words, fates and locks.
 pub record AreRecords (layout : Layout) (words : Rec → List ℕ) (fate : Rec → Fate) (lock : ℕ → Option ℕ) : Type 0 where
   -- each has its number of words, and those of one that is neither free nor held spell a value
@@ -72,6 +81,8 @@ pub record AreRecords (layout : Layout) (words : Rec → List ℕ) (fate : Rec �
   pub retired : (n since last q : ℕ) → fate (a_node n) ≡ Unlinked since last q → lock n ≡ Some q
   -- only those of the table are used
   pub used : (r : Rec) → (fate r ≡ Free) ⊎ HasRecord layout r
+  -- and only passes of the index have records of their own
+  pub holders : (r : Rec) (q : ℕ) → holder_of (fate r) ≡ Some q → q < layout.passes
 
 -- What holds of the epochs: they are from 1 on and below EPOCHS, and so are pins and marks; only passes of the index are pinned.
 pub record AreEpochs (layout : Layout) (epoch : ℕ) (pins : ℕ → Option Pin) (rounds : ℕ → Round) (fate : Rec → Fate) : Type 0 where

@@ -34,7 +34,7 @@ use Rattle.rowex_core.specs.declared.known.FailedAct.TheVariants.{Claim as a_cla
 use Rattle.rowex_core.specs.declared.known.Known.{Known}
 use Rattle.rowex_core.specs.declared.known.View.{View}
 use Rattle.rowex_core.specs.declared.known.View.TheVariants.{Spent, Dealer, Pass, Pair, Witness, Follower}
-use Rattle.rowex_core.specs.Cores.{Core, IsLawful}
+use Rattle.rowex_core.specs.Cores.{Core, IsLawful, holder_of}
 use Rattle.rowex_core.specs.Reading.{entry_of, root_of, entry_in, HasWordAt}
 use Rattle.rowex_core.specs.Sharing.{share, known_share, nothing}
 use Rattle.rowex_core.specs.Words.{record_word}
@@ -138,7 +138,7 @@ without_lock n locks = filter (λ l. not (nat_eq l.node n)) locks
 
 abbrev pub claim_learned : Core → Rec → ℕ → Fate → Known → Known
 claim_learned c r found Free k = record k { own = record { rec = r; holding = Held; words = c.words r } ∷ k.own }
-claim_learned c r found _ k = failed_with k a_claim (state_of r) found
+claim_learned c r found f k = failed_with k (a_claim (holder_of f)) (state_of r) found
 
 -- the pass that made the change
 abbrev pub maker_of : Option Change → Option ℕ
@@ -165,8 +165,8 @@ node_learned c n found k =
     else failed_with k (a_lock (blocking_pass_of c n (c.fate (a_node n)))) (target_word (NodeTarget n)) found
 
 -- a load finds the record not free
-abbrev pub state_learned : Rec → ℕ → Known → Known
-state_learned r w k = if nat_eq w (state_word FreeTag) then k else failed_with k a_load (state_of r) w
+abbrev pub state_learned : Core → Rec → ℕ → Known → Known
+state_learned c r w k = if nat_eq w (state_word FreeTag) then k else failed_with k (a_load (holder_of (c.fate r))) (state_of r) w
 
 -- the version of a pin
 abbrev pub version_of : Option Pin → ℕ
@@ -242,7 +242,7 @@ learned_by c (Advance expected found) k = k
 learned_by c (SetPin w) k = record k { pin = Some (record { word = w; version = c.past.now; floor = c.epoch }) }
 learned_by c ClearPin k = record k { pin = None }
 learned_by c (LoadPin o w) k = record k { round = with_seen k.round o (c.pins o) }
-learned_by c (LoadState r w) k = state_learned r w k
+learned_by c (LoadState r w) k = state_learned c r w k
 learned_by c (GiveBack r epoch found) k = k
 
 -- and it counts the step

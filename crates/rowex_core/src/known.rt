@@ -57,11 +57,12 @@ pub struct Locked {
 
 /// What kind of step it was that failed.
 pub enum FailedAct {
-    Claim,
+    /// A claim of a record that the pass `by` had; or that nobody had, in the tree or retired.
+    Claim { by: Option<u64> },
     /// A lock that the pass `by` had; or of a retired node, that a change of `by` had unlinked.
     Lock { by: Option<u64> },
-    /// A load that found a state other than free.
-    LoadState,
+    /// A load that found a state other than free: of a record that the pass `by` had; or that nobody had, in the tree or retired.
+    LoadState { by: Option<u64> },
 }
 
 /// A claim or a lock that failed, or a load of a state that was not free: the word that it found, and the number of the

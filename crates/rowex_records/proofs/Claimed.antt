@@ -1,8 +1,8 @@
 -- What claims of records come to.
 use Rattle.std.proofs.Common.{◌≡◌, ◌≢◌, ℕ, zero, suc, ◌+◌, ◌-◌, ◌<◌, ◌≤◌, min, inl, inr, List, [], ◌∷◌, ◌++◌, length, Option, Bool, true, false, nat_lt, nat_eq, if◌then◌else◌, refl, sym, ap, subst, ◌∙◌, arith, add-zero, length-append}
-use Rattle.std.specs.Prelude.{All, Contains, IfNone, IfSome, MatchOption, Some, None}
+use Rattle.std.specs.Prelude.{All, Contains, IfNone, IfSome, MatchOption, Some, None, map}
 use Rattle.std.proofs.lemmas.Bool.{eqb-true, eqb-false, ltb-true, ltb-false, lt-ltb, le-ltb}
-use Rattle.std.proofs.lemmas.List.Elements.{All-contains, All-weaker}
+use Rattle.std.proofs.lemmas.List.Elements.{All-contains, All-head, All-tail, All-weaker}
 use Rattle.record_words.specs.declared.layout.Layout.{Layout}
 use Rattle.record_words.specs.Layout.{leaf_size, leaf_start}
 use Rattle.record_words.specs.State.{state_word}
@@ -13,11 +13,12 @@ use Rattle.rowex_core.specs.declared.event.Act.TheVariants.{Claim, LoadState}
 use Rattle.rowex_core.specs.declared.event.Event.{Event}
 use Rattle.rowex_core.specs.declared.known.Failed.{Failed}
 use Rattle.rowex_core.specs.declared.known.FailedAct.{FailedAct}
-use Rattle.rowex_core.specs.declared.known.FailedAct.TheVariants.{Claim as a_claim, LoadState as a_load}
+use Rattle.rowex_core.specs.declared.known.FailedAct.TheVariants.{Claim as a_claim, Lock as a_lock, LoadState as a_load}
 use Rattle.rowex_core.specs.declared.known.Holding.{Holding}
 use Rattle.rowex_core.specs.declared.known.Holding.TheVariants.{Held, Ready as IsReady, Unlinked as IsUnlinked}
 use Rattle.rowex_core.specs.declared.known.Known.{Known}
-use Rattle.rowex_core.specs.Cores.{Core}
+use Rattle.rowex_core.specs.declared.known.Owned.{Owned}
+use Rattle.rowex_core.specs.Cores.{Core, IsLawful, holder_of}
 use Rattle.rowex_core.specs.Words.{lock_of, tag_of}
 use Rattle.rowex_core.specs.Events.{word_of}
 use Rattle.rowex_core.specs.Sharing.{IsOwned, fate_of}
@@ -31,7 +32,7 @@ use Rattle.rowex_table.proofs.Rights.{free_tag}
 use Rattle.rowex_table.proofs.Running.{in_turn_more, does_count}
 use Rattle.rowex_records.specs.declared.claiming.RecordKind.{RecordKind}
 use Rattle.rowex_records.specs.declared.claiming.RecordKind.TheVariants.{Node, Leaf}
-use Rattle.rowex_records.specs.Claims.{claiming, begin_of, count_of, record_of, wrapped, HasIndex, IsKindOf, Misses, HasMissedSince, MissesOne, HoldsOneMore, ClaimsOne, FindsNone, Claims, AllMissed, GoesOnBehind, GoesOnTrying, TriesSome}
+use Rattle.rowex_records.specs.Claims.{claiming, begin_of, count_of, record_of, wrapped, HasIndex, IsKindOf, Misses, IsAnothers, IsAnothersTo, TellsState, HasMissedSince, records_had, MissesOne, HoldsOneMore, ClaimsOne, FindsNone, Claims, AllMissed, GoesOnBehind, GoesOnTrying, TriesSome}
 use Rattle.rowex_records.specs.Starts.{IsRow, first_word}
 use Rattle.rowex_records.proofs.Making.{counted, claims_nothing, claims_one, looks_one, claims_append}
 
@@ -106,7 +107,7 @@ spaced_leaves layout first end number upto size same i low =
 abbrev pub Learns : FailedAct → Rec → ℕ → Known → Known → Type 0
 Learns act r found k l = (l.own ≡ k.own) × (l.failed ≡ record { act = act; location = word_of r 0; word = found; step = k.steps } ∷ k.failed)
 
-learns_of : (c : Core) (r : Rec) (found : ℕ) (lock : Option ℕ) (f : Fate) (k : Known) → found ≡ state_word (tag_of lock f) → 1 ≤ found → Learns a_claim r found k (claim_learned c r found f k)
+learns_of : (c : Core) (r : Rec) (found : ℕ) (lock : Option ℕ) (f : Fate) (k : Known) → found ≡ state_word (tag_of lock f) → 1 ≤ found → Learns (a_claim (holder_of f)) r found k (claim_learned c r found f k)
 learns_of c r found lock Free k e low = absurd (omega arith)
 learns_of c r found lock (HeldBy q) k e low = (refl, refl)
 learns_of c r found lock (ReadyBy q) k e low = (refl, refl)
@@ -123,23 +124,70 @@ free_apart c k r known free = All-weaker (IsOwned k.pass c) (λ o. o.rec ≢ r) 
     owned IsReady e = cc
     owned (IsUnlinked since last) e = cc
 
-further : (missed : List Failed) (x : Failed) (r : Rec) (since : ℕ) → HasMissedSince missed r since → HasMissedSince (x ∷ missed) r since
-further missed x r since (step, late, (act, word, tells, one, (at, low, is))) = (step, late, (act, word, tells, one, (suc at, omega arith, is)))
+-- a record that a pass has is among its records
+record_had : (own : List Owned) (o : Owned) → Contains own o → Contains (map (λ (o : Owned). o.rec) own) o.rec
+record_had [] o (i, low, is) = absurd (omega arith)
+record_had (p ∷ own) o (zero, low, is) = (0, omega arith, ap (λ (z : Owned). z.rec) is)
+record_had (p ∷ own) o (suc i, low, is) = let rest = record_had own o (i, omega arith, is) in let below = rest.1 in (suc rest.0, omega arith, rest.2)
+
+-- and where each that it has is one of these, so is each of its records
+pub among_held : (made : List Rec) (own : List Owned) → All (λ o. (o.holding ≡ Held) × Contains made o.rec) own → (r : Rec) → Contains (map (λ (o : Owned). o.rec) own) r → Contains made r
+among_held made [] only r (i, low, is) = absurd (omega arith)
+among_held made (o ∷ own) only r (zero, low, is) = subst (Contains made) is (All-head (λ (p : Owned). (p.holding ≡ Held) × Contains made p.rec) o own only).1
+among_held made (o ∷ own) only r (suc i, low, is) = among_held made own (All-tail (λ (p : Owned). (p.holding ≡ Held) × Contains made p.rec) o own only) r (i, omega arith, is)
+
+-- whose a record is in a lawful core: its own if it knows that it has it
+module _ (c : Core) (k : Known) (r : Rec) (law : IsLawful c) (known : Knows c k) where
+  has_it : (h : Holding) → c.fate r ≡ fate_of k.pass h → Contains (records_had k) r
+  has_it h e = record_had k.own (record { rec = r; holding = h; words = c.words r }) ((knows_all c k known).all_own r h e)
+
+  is_anothers : (f : Fate) → c.fate r ≡ f → IsAnothersTo c.layout k r (holder_of f)
+  is_anothers Free e = tt
+  is_anothers (HeldBy q) e = (law.records.holders r q (ap holder_of e), λ mine. has_it Held (e ∙ ap HeldBy mine))
+  is_anothers (ReadyBy q) e = (law.records.holders r q (ap holder_of e), λ mine. has_it IsReady (e ∙ ap ReadyBy mine))
+  is_anothers (InTree s) e = tt
+  is_anothers (Unlinked s l q) e = (law.records.holders r q (ap holder_of e), λ mine. has_it (IsUnlinked s l) (e ∙ ap (λ z. Unlinked s l z) mine))
+  is_anothers (Marked s l epoch) e = tt
+
+-- so it is to the pass that had the same records before
+pub anothers_before : (layout : Layout) (k j : Known) (r : Rec) (by : Option ℕ) → j.pass ≡ k.pass → j.own ≡ k.own → IsAnothersTo layout j r by → IsAnothersTo layout k r by
+anothers_before layout k j r by pass own h =
+    subst (λ z. IsAnothers layout k.pass (map (λ (o : Owned). o.rec) z) r by) own (subst (λ q. IsAnothers layout q (records_had j) r by) pass h)
+
+-- and to one that has more records
+pub anothers_among : (layout : Layout) (q : ℕ) (own more : List Rec) (r : Rec) (by : Option ℕ) → (Contains own r → Contains more r) → IsAnothers layout q own r by → IsAnothers layout q more r by
+anothers_among layout q own more r None among h = tt
+anothers_among layout q own more r (Some by) among h = (h.0, λ mine. among (h.1 mine))
+
+tells_so : (Whose Their : Option ℕ → Type 0) (act : FailedAct) → ((by : Option ℕ) → Whose by → Their by) → TellsState Whose act → TellsState Their act
+tells_so Whose Their (a_claim by) so tells = so by tells
+tells_so Whose Their (a_load by) so tells = so by tells
+tells_so Whose Their (a_lock by) so tells = absurd tells
+
+-- what is said of whose it was may be put otherwise
+pub missed_so : (Whose Their : Rec → Option ℕ → Type 0) (missed : List Failed) (r : Rec) (since : ℕ) → ((by : Option ℕ) → Whose r by → Their r by) → HasMissedSince Whose missed r since → HasMissedSince Their missed r since
+missed_so Whose Their missed r since so (step, late, (act, word, tells, one, has)) = (step, late, (act, word, tells_so (Whose r) (Their r) act so tells, one, has))
+
+pub missed_before : (layout : Layout) (k j : Known) (missed : List Failed) (r : Rec) (since : ℕ) → j.pass ≡ k.pass → j.own ≡ k.own → HasMissedSince (IsAnothersTo layout j) missed r since → HasMissedSince (IsAnothersTo layout k) missed r since
+missed_before layout k j missed r since pass own h = missed_so (IsAnothersTo layout j) (IsAnothersTo layout k) missed r since (λ by. anothers_before layout k j r by pass own) h
+
+further : (Whose : Rec → Option ℕ → Type 0) (missed : List Failed) (x : Failed) (r : Rec) (since : ℕ) → HasMissedSince Whose missed r since → HasMissedSince Whose (x ∷ missed) r since
+further Whose missed x r since (step, late, (act, word, tells, one, (at, low, is))) = (step, late, (act, word, tells, one, (suc at, omega arith, is)))
 
 at_front : (missed failed : List Failed) (x : Failed) → Contains missed x → Contains (missed ++ failed) x
 at_front [] failed x (i, low, is) = absurd (omega arith)
 at_front (y ∷ missed) failed x (zero, low, is) = (0, omega arith, is)
 at_front (y ∷ missed) failed x (suc i, low, is) = let rest = at_front missed failed x (i, omega arith, is) in let below = rest.1 in (suc rest.0, omega arith, rest.2)
 
-pub missed_among : (missed failed : List Failed) (r : Rec) (since : ℕ) → HasMissedSince missed r since → HasMissedSince (missed ++ failed) r since
-missed_among missed failed r since (step, late, (act, word, tells, one, has)) = (step, late, (act, word, tells, one, at_front missed failed _ has))
+pub missed_among : (Whose : Rec → Option ℕ → Type 0) (missed failed : List Failed) (r : Rec) (since : ℕ) → HasMissedSince Whose missed r since → HasMissedSince Whose (missed ++ failed) r since
+missed_among Whose missed failed r since (step, late, (act, word, tells, one, has)) = (step, late, (act, word, tells, one, at_front missed failed _ has))
 
-pub missed_earlier : (missed : List Failed) (r : Rec) (since later : ℕ) → since ≤ later → HasMissedSince missed r later → HasMissedSince missed r since
-missed_earlier missed r since later low (step, late, has) = (step, omega arith, has)
+pub missed_earlier : (Whose : Rec → Option ℕ → Type 0) (missed : List Failed) (r : Rec) (since later : ℕ) → since ≤ later → HasMissedSince Whose missed r later → HasMissedSince Whose missed r since
+missed_earlier Whose missed r since later low (step, late, has) = (step, omega arith, has)
 
 -- where each was found not free since a later step, it was since an earlier one
-pub all_earlier : (kind : ℕ → Rec) (n : ℕ) (failed : List Failed) (since later : ℕ) → since ≤ later → AllMissed kind n failed later → AllMissed kind n failed since
-all_earlier kind n failed since later low all q below = missed_earlier failed (kind q) since later low (all q below)
+pub all_earlier : (Whose : Rec → Option ℕ → Type 0) (kind : ℕ → Rec) (n : ℕ) (failed : List Failed) (since later : ℕ) → since ≤ later → AllMissed Whose kind n failed later → AllMissed Whose kind n failed since
+all_earlier Whose kind n failed since later low all q below = missed_earlier Whose failed (kind q) since later low (all q below)
 
 -- a record that is claimed is held,
 pub more_is_claimed : (r : Rec) (k j : Known) → HoldsOneMore r k j → IsClaimed j r
@@ -155,14 +203,26 @@ more_since r k i j same holds = record {
 }
 
 module _ {G : Type 0} (table : TableView) (becomes : G → Event → G → Type 0) where
-  load_misses : (r : Rec) (word : ℕ) (a b : SeatView × G) → 1 ≤ word → Steps table becomes (LoadState r word) a b → Learns a_load r word a.0.known b.0.known
+  -- whose the record was that a step found not free
+  abbrev by_of : (r : Rec) (act : Act) (a b : SeatView × G) → Steps table becomes act a b → Option ℕ
+  by_of r act a b step = holder_of (step.event.core.fate r)
+
+  step_tells : (r : Rec) (act : Act) (a b : SeatView × G) (step : Steps table becomes act a b) → IsAnothersTo table.layout a.0.known r (by_of r act a b step)
+  step_tells r act a b step = let e = step.event in subst (λ (l : Layout). IsAnothersTo l a.0.known r (holder_of (e.core.fate r))) e.layout_is (is_anothers e.core a.0.known r e.lawful e.knows (e.core.fate r) refl)
+
+  load_misses : (r : Rec) (word : ℕ) (a b : SeatView × G) → 1 ≤ word → (step : Steps table becomes (LoadState r word) a b) →
+      Learns (a_load (by_of r (LoadState r word) a b step)) r word a.0.known b.0.known
   load_misses r word a b low step = go (nat_eq word 0) refl step.event.learned_is
     where
-      go : (free : Bool) → nat_eq word 0 ≡ free → b.0.known ≡ counted a.0.known (if free then a.0.known else failed_with a.0.known a_load (word_of r 0) word) → Learns a_load r word a.0.known b.0.known
+      by : Option ℕ
+      by = by_of r (LoadState r word) a b step
+
+      go : (free : Bool) → nat_eq word 0 ≡ free → b.0.known ≡ counted a.0.known (if free then a.0.known else failed_with a.0.known (a_load by) (word_of r 0) word) → Learns (a_load by) r word a.0.known b.0.known
       go true e is = absurd (let zero_word = eqb-true word 0 e in omega arith)
       go false e is = (ap (λ (z : Known). z.own) is, ap (λ (z : Known). z.failed) is)
 
-  claim_misses : (r : Rec) (found : ℕ) (a b : SeatView × G) → 1 ≤ found → Steps table becomes (Claim r found) a b → Learns a_claim r found a.0.known b.0.known
+  claim_misses : (r : Rec) (found : ℕ) (a b : SeatView × G) → 1 ≤ found → (step : Steps table becomes (Claim r found) a b) →
+      Learns (a_claim (by_of r (Claim r found) a b step)) r found a.0.known b.0.known
   claim_misses r found a b low step =
       let e = step.event in
       let learns = learns_of e.core r found (lock_of e.core r) (e.core.fate r) a.0.known e.legal.1.1 low in
@@ -175,9 +235,9 @@ module _ {G : Type 0} (table : TableView) (becomes : G → Event → G → Type 
     misses = (word, low, inl refl);
     does = looks_one table becomes r word a b step;
     own = (load_misses r word a b low step).0;
-    failed = record { act = a_load; location = word_of r 0; word = word; step = a.0.known.steps };
+    failed = record { act = a_load (by_of r (LoadState r word) a b step); location = word_of r 0; word = word; step = a.0.known.steps };
     failed_is = (load_misses r word a b low step).1;
-    tells = (a.0.known.steps, omega arith, (a_load, word, tt, low, (0, omega arith, refl)));
+    tells = (a.0.known.steps, omega arith, (a_load (by_of r (LoadState r word) a b step), word, step_tells r (LoadState r word) a b step, low, (0, omega arith, refl)));
   }
 
   -- or found it free, and teaches nothing,
@@ -191,14 +251,16 @@ module _ {G : Type 0} (table : TableView) (becomes : G → Event → G → Type 
   pub missed_by_claim : (r : Rec) (found : ℕ) (a i b : SeatView × G) → 1 ≤ found → Steps table becomes (LoadState r 0) a i → Steps table becomes (Claim r found) i b → MissesOne table becomes r a b
   missed_by_claim r found a i b low load claim =
       let first = looked r a i load in
+      let act : FailedAct = a_claim (by_of r (Claim r found) i b claim) in
+      let tells = anothers_before table.layout a.0.known i.0.known r (by_of r (Claim r found) i b claim) (ap (λ (z : Known). z.pass) load.event.learned_is) first.0 (step_tells r (Claim r found) i b claim) in
       let learns = claim_misses r found i b low claim in record {
         acts = LoadState r 0 ∷ Claim r found ∷ [];
         misses = (found, low, inr refl);
         does = tries_two r found a i b load claim;
         own = learns.0 ∙ first.0;
-        failed = record { act = a_claim; location = word_of r 0; word = found; step = i.0.known.steps };
-        failed_is = learns.1 ∙ ap (λ l. record { act = a_claim; location = word_of r 0; word = found; step = i.0.known.steps } ∷ l) first.1;
-        tells = (i.0.known.steps, let next = first.2 in omega arith, (a_claim, found, tt, low, (0, omega arith, refl)));
+        failed = record { act = act; location = word_of r 0; word = found; step = i.0.known.steps };
+        failed_is = learns.1 ∙ ap (λ l. record { act = act; location = word_of r 0; word = found; step = i.0.known.steps } ∷ l) first.1;
+        tells = (i.0.known.steps, let next = first.2 in omega arith, (act, found, tells, low, (0, omega arith, refl)));
       }
 
   -- or took it
@@ -268,24 +330,31 @@ module _ {G : Type 0} (table : TableView) (becomes : G → Event → G → Type 
       at : a.0.known.steps ≤ i.0.known.steps
       at = let steps = does_count table becomes claiming none.tries a i none.does in omega arith
 
-      each : (z : ℕ) → z < m + 1 → HasMissedSince (one.failed ∷ none.missed) (kind (wrapped n from z)) a.0.known.steps
+      Whose : Rec → Option ℕ → Type 0
+      Whose = IsAnothersTo table.layout a.0.known
+
+      tells : HasMissedSince Whose (one.failed ∷ []) (kind number) i.0.known.steps
+      tells = missed_before table.layout a.0.known i.0.known (one.failed ∷ []) (kind number) i.0.known.steps (ap (λ (z : Known). z.pass) none.does.rest) none.own one.tells
+
+      each : (z : ℕ) → z < m + 1 → HasMissedSince Whose (one.failed ∷ none.missed) (kind (wrapped n from z)) a.0.known.steps
       each z below = go (nat_lt z m) refl
         where
-          go : (t : Bool) → nat_lt z m ≡ t → HasMissedSince (one.failed ∷ none.missed) (kind (wrapped n from z)) a.0.known.steps
-          go true e = further none.missed one.failed (kind (wrapped n from z)) a.0.known.steps (none.each z (ltb-true z m e))
+          go : (t : Bool) → nat_lt z m ≡ t → HasMissedSince Whose (one.failed ∷ none.missed) (kind (wrapped n from z)) a.0.known.steps
+          go true e = further Whose none.missed one.failed (kind (wrapped n from z)) a.0.known.steps (none.each z (ltb-true z m e))
           go false e =
               let high = ltb-false z m e in
               let same : m ≡ z = omega arith in
-              subst (λ y. HasMissedSince (one.failed ∷ none.missed) (kind (wrapped n from y)) a.0.known.steps) same
-              (subst (λ y. HasMissedSince (one.failed ∷ none.missed) (kind y) a.0.known.steps) is
-              (missed_among (one.failed ∷ []) none.missed (kind number) a.0.known.steps (missed_earlier (one.failed ∷ []) (kind number) a.0.known.steps i.0.known.steps at one.tells)))
+              subst (λ y. HasMissedSince Whose (one.failed ∷ none.missed) (kind (wrapped n from y)) a.0.known.steps) same
+              (subst (λ y. HasMissedSince Whose (one.failed ∷ none.missed) (kind y) a.0.known.steps) is
+              (missed_among Whose (one.failed ∷ []) none.missed (kind number) a.0.known.steps (missed_earlier Whose (one.failed ∷ []) (kind number) a.0.known.steps i.0.known.steps at tells)))
 
   -- where all have been tried, each was found not free since the first
-  pub all_missed : (kind : ℕ → Rec) (n from : ℕ) (a b : SeatView × G) → from < n → FindsNone table becomes kind n from n a b → AllMissed kind n b.0.known.failed a.0.known.steps
+  pub all_missed : (kind : ℕ → Rec) (n from : ℕ) (a b : SeatView × G) → from < n → FindsNone table becomes kind n from n a b → AllMissed (IsAnothersTo table.layout a.0.known) kind n b.0.known.failed a.0.known.steps
   all_missed kind n from a b low none q below =
       let turn = turned_to n from q low below in
-      subst (λ l. HasMissedSince l (kind q) a.0.known.steps) (sym none.failed) (missed_among none.missed a.0.known.failed (kind q) a.0.known.steps
-      (subst (λ z. HasMissedSince none.missed (kind z) a.0.known.steps) turn.2 (none.each turn.0 turn.1)))
+      let Whose : Rec → Option ℕ → Type 0 = IsAnothersTo table.layout a.0.known in
+      subst (λ l. HasMissedSince Whose l (kind q) a.0.known.steps) (sym none.failed) (missed_among Whose none.missed a.0.known.failed (kind q) a.0.known.steps
+      (subst (λ z. HasMissedSince Whose none.missed (kind z) a.0.known.steps) turn.2 (none.each turn.0 turn.1)))
 
   -- A row of records: none yet, one more, and one that was free
 
@@ -355,7 +424,7 @@ module _ {G : Type 0} (table : TableView) (becomes : G → Event → G → Type 
     claims_whole None all tried = let same : min n left ≡ n = omega arith in subst (λ z. FindsNone table becomes kind n (begin_of n from) z a b) same tried.1
     claims_whole (Some number) all tried = tried.0
 
-    pub none_whole : (answer : Option ℕ) → left ≡ n → HasTried answer → IfNone answer (AllMissed kind n b.0.known.failed a.0.known.steps)
+    pub none_whole : (answer : Option ℕ) → left ≡ n → HasTried answer → IfNone answer (AllMissed (IsAnothersTo table.layout a.0.known) kind n b.0.known.failed a.0.known.steps)
     none_whole None all tried = λ q low. all_missed kind n (begin_of n from) a b (begins_low n from (omega arith)) (claims_whole None all tried) q low
     none_whole (Some number) all tried = tt
 

@@ -1,6 +1,6 @@
 -- Steps on records of the pass's own: what they leave of what it knows, and how they follow one another.
 use Rattle.std.proofs.Common.{◌≡◌, ℕ, ◌+◌, List, [], ◌∷◌, ◌++◌, Bool, true, false, nat_eq, refl, sym, ap, ◌∙◌}
-use Rattle.std.specs.Prelude.{if◌then◌else◌}
+use Rattle.std.specs.Prelude.{if◌then◌else◌, Option}
 use Rattle.std.proofs.lemmas.List.{append-nil}
 use Rattle.finite_map.specs.declared.Note.{Note}
 use Rattle.record_words.specs.declared.layout.Layout.{Layout}
@@ -13,7 +13,7 @@ use Rattle.rowex_core.specs.declared.known.Failed.{Failed}
 use Rattle.rowex_core.specs.declared.known.FailedAct.TheVariants.{LoadState as a_load}
 use Rattle.rowex_core.specs.declared.known.Owned.{Owned}
 use Rattle.rowex_core.specs.declared.known.Known.{Known}
-use Rattle.rowex_core.specs.Cores.{Core}
+use Rattle.rowex_core.specs.Cores.{Core, holder_of}
 use Rattle.rowex_core.specs.Events.{word_of}
 use Rattle.rowex_core.specs.Knowing.{IsEvent, claim_learned, failed_with}
 use Rattle.rowex_table.specs.Runs.{silent, Steps, Does}
@@ -59,9 +59,9 @@ claim_rest c r found (InTree s) k j e = settled k j _ _ e
 claim_rest c r found (Unlinked s l q) k j e = settled k j _ _ e
 claim_rest c r found (Marked s l epoch) k j e = settled k j _ _ e
 
-look_rest : (r : Rec) (word : ℕ) (free : Bool) (k j : Known) → j ≡ counted k (if free then k else failed_with k a_load (word_of r 0) word) → j ≡ record (claiming k j) { steps = k.steps + 1 }
-look_rest r word true k j e = settled k j _ _ e
-look_rest r word false k j e = settled k j _ _ e
+look_rest : (r : Rec) (word : ℕ) (free : Bool) (by : Option ℕ) (k j : Known) → j ≡ counted k (if free then k else failed_with k (a_load by) (word_of r 0) word) → j ≡ record (claiming k j) { steps = k.steps + 1 }
+look_rest r word true by k j e = settled k j _ _ e
+look_rest r word false by k j e = settled k j _ _ e
 
 module _ {G : Type 0} (table : TableView) (becomes : G → Event → G → Type 0) where
   -- Steps on held records, one after the other
@@ -85,7 +85,7 @@ module _ {G : Type 0} (table : TableView) (becomes : G → Event → G → Type 
 
   -- a load of a state teaches nothing else than a claim may
   pub looks_one : (r : Rec) (word : ℕ) (a b : SeatView × G) → Steps table becomes (LoadState r word) a b → Does table becomes claiming (LoadState r word ∷ []) a b
-  looks_one r word a b step = running.does_one table becomes claiming (LoadState r word) a b step (look_rest r word (nat_eq word 0) a.0.known b.0.known step.event.learned_is)
+  looks_one r word a b step = running.does_one table becomes claiming (LoadState r word) a b step (look_rest r word (nat_eq word 0) (holder_of (step.event.core.fate r)) a.0.known b.0.known step.event.learned_is)
 
   pub claims_append : (acts more : List Act) (a m b : SeatView × G) → Does table becomes claiming acts a m → Does table becomes claiming more m b → Does table becomes claiming (acts ++ more) a b
   claims_append acts more a m b first second = running.does_append table becomes claiming (λ k i j n o. refl) acts more a m b first second

@@ -1,5 +1,5 @@
 -- Tries of the records of a kind, from one number on and then from 0.
-use Rattle.std.specs.Prelude.{◌≡◌, ◌≢◌, ℕ, ◌+◌, ◌-◌, ◌<◌, ◌≤◌, ◌*◌, ◌⊎◌, List, [], ◌∷◌, ◌++◌, length, nat_lt, All, Contains, MatchOption, Option, if◌then◌else◌}
+use Rattle.std.specs.Prelude.{◌≡◌, ◌≢◌, ℕ, ◌+◌, ◌-◌, ◌<◌, ◌≤◌, ◌*◌, ◌⊎◌, List, [], ◌∷◌, ◌++◌, length, map, nat_lt, All, Contains, MatchOption, Option, Some, None, if◌then◌else◌}
 use Rattle.record_words.specs.declared.layout.Layout.{Layout}
 use Rattle.record_words.specs.Layout.{leaf_size}
 use Rattle.versions.specs.declared.Rec.{Rec}
@@ -9,9 +9,10 @@ use Rattle.rowex_core.specs.declared.event.Act.TheVariants.{Claim, LoadState}
 use Rattle.rowex_core.specs.declared.event.Event.{Event}
 use Rattle.rowex_core.specs.declared.known.Failed.{Failed}
 use Rattle.rowex_core.specs.declared.known.FailedAct.{FailedAct}
-use Rattle.rowex_core.specs.declared.known.FailedAct.TheVariants.{Lock as a_lock}
+use Rattle.rowex_core.specs.declared.known.FailedAct.TheVariants.{Claim as a_claim, Lock as a_lock, LoadState as a_load}
 use Rattle.rowex_core.specs.declared.known.Holding.TheVariants.{Held}
 use Rattle.rowex_core.specs.declared.known.Known.{Known}
+use Rattle.rowex_core.specs.declared.known.Owned.{Owned}
 use Rattle.rowex_core.specs.Cores.{word_count_of}
 use Rattle.rowex_core.specs.Events.{word_of}
 use Rattle.rowex_table.specs.Runs.{Does, InTurn}
@@ -55,21 +56,37 @@ wrapped n from m = if nat_lt (from + m) n then from + m else from + m - n
 abbrev pub Misses : Rec → List Act → Type 0
 Misses r acts = (word : ℕ) × (1 ≤ word) × ((acts ≡ LoadState r word ∷ []) ⊎ (acts ≡ LoadState r 0 ∷ Claim r word ∷ []))
 
--- a failed step of this kind finds that a record is not free
-abbrev pub TellsState : FailedAct → Type 0
-TellsState (a_lock by) = ⊥
-TellsState act = Unit {0}
+-- Whose record r may be when pass q finds it not free: nobody's, in the tree or retired; or a pass's of the index. It is not q's own, unless
+-- it is one of these.
+abbrev pub IsAnothers : Layout → ℕ → List Rec → Rec → Option ℕ → Type 0
+IsAnothers layout q own r None = Unit {0}
+IsAnothers layout q own r (Some by) = (by < layout.passes) × (by ≡ q → Contains own r)
 
--- among these is a claim of the record, or a load of its state, at this step, which found it not free
-abbrev pub HasMissed : List Failed → Rec → ℕ → Type 0
-HasMissed failed r step =
-    (act : FailedAct) × (word : ℕ) × TellsState act × (1 ≤ word) × Contains failed (record { act = act; location = word_of r 0; word = word; step = step })
+-- the records that a pass has
+abbrev pub records_had : Known → List Rec
+records_had k = map (λ (o : Owned). o.rec) k.own
+
+-- it is not the pass's own, unless the pass knows that it has it
+abbrev pub IsAnothersTo : Layout → Known → Rec → Option ℕ → Type 0
+IsAnothersTo layout k = IsAnothers layout k.pass (records_had k)
+
+-- a failed step finds that a record is not free, and whose it is
+abbrev pub TellsState : (Option ℕ → Type 0) → FailedAct → Type 0
+TellsState Whose (a_claim by) = Whose by
+TellsState Whose (a_load by) = Whose by
+TellsState Whose (a_lock by) = ⊥
+
+-- among these is a claim of the record, or a load of its state, at this step, which found it not free, and whose it was
+abbrev pub HasMissed : (Rec → Option ℕ → Type 0) → List Failed → Rec → ℕ → Type 0
+HasMissed Whose failed r step =
+    (act : FailedAct) × (word : ℕ) × TellsState (Whose r) act × (1 ≤ word) × Contains failed (record { act = act; location = word_of r 0; word = word; step = step })
 
 -- and so at this step or a later one
-abbrev pub HasMissedSince : List Failed → Rec → ℕ → Type 0
-HasMissedSince failed r since = (step : ℕ) × (since ≤ step) × HasMissed failed r step
+abbrev pub HasMissedSince : (Rec → Option ℕ → Type 0) → List Failed → Rec → ℕ → Type 0
+HasMissedSince Whose failed r since = (step : ℕ) × (since ≤ step) × HasMissed Whose failed r step
 
--- The pass tries the record and finds it not free. It has one failed step more, which tells so, and its own records as they were.
+-- The pass tries the record and finds it not free. It has one failed step more, which tells so and whose it was, and its own records as
+-- they were.
 pub record MissesOne {G : Type 0} (table : TableView) (becomes : G → Event → G → Type 0) (r : Rec) (a b : SeatView × G) : Type 0 where
   pub acts : List Act
   pub misses : Misses r acts
@@ -77,7 +94,7 @@ pub record MissesOne {G : Type 0} (table : TableView) (becomes : G → Event →
   pub own : b.0.known.own ≡ a.0.known.own
   pub failed : Failed
   pub failed_is : b.0.known.failed ≡ failed ∷ a.0.known.failed
-  pub tells : HasMissedSince (failed ∷ []) r a.0.known.steps
+  pub tells : HasMissedSince (IsAnothersTo table.layout a.0.known) (failed ∷ []) r a.0.known.steps
 
 -- From k to j the pass has come to hold this record, beside those that it had, of which none is this one.
 pub record HoldsOneMore (r : Rec) (k j : Known) : Type 0 where
@@ -107,7 +124,7 @@ pub record FindsNone {G : Type 0} (table : TableView) (becomes : G → Event →
   pub missed : List Failed
   pub failed : b.0.known.failed ≡ missed ++ a.0.known.failed
   pub size : length missed ≡ m
-  pub each : (i : ℕ) → i < m → HasMissedSince missed (kind (wrapped n from i)) a.0.known.steps
+  pub each : (i : ℕ) → i < m → HasMissedSince (IsAnothersTo table.layout a.0.known) missed (kind (wrapped n from i)) a.0.known.steps
 
 -- The pass finds some of the n records of the kind not free, from this one on, and then claims the one of this number.
 pub record Claims {G : Type 0} (table : TableView) (becomes : G → Event → G → Type 0) (kind : ℕ → Rec) (n from number : ℕ) (a b : SeatView × G) : Type 0 where
@@ -138,10 +155,10 @@ abbrev pub GoesOnBehind : {G : Type 0} → TableView → (G → Event → G → 
 GoesOnBehind {G = G} table becomes kind n begin most answer tried b c =
     (a : SeatView × G) → FindsNone table becomes kind n begin 1 a b → TriesSome table becomes kind n begin most answer tried a c
 
--- each of the n records of the kind was found not free by one of these, at this step or a later one
-abbrev pub AllMissed : (ℕ → Rec) → ℕ → List Failed → ℕ → Type 0
-AllMissed kind n failed since = (q : ℕ) → q < n → HasMissedSince failed (kind q) since
+-- each of the n records of the kind was found not free by one of these, at this step or a later one, and whose it was
+abbrev pub AllMissed : (Rec → Option ℕ → Type 0) → (ℕ → Rec) → ℕ → List Failed → ℕ → Type 0
+AllMissed Whose kind n failed since = (q : ℕ) → q < n → HasMissedSince Whose failed (kind q) since
 
 -- and so was each leaf record that has so many words at least
-abbrev pub AllMissedFrom : Layout → ℕ → List Failed → ℕ → Type 0
-AllMissedFrom layout words failed since = (q : ℕ) → q < layout.leaves → words ≤ leaf_size layout q → HasMissedSince failed (a_leaf q) since
+abbrev pub AllMissedFrom : (Rec → Option ℕ → Type 0) → Layout → ℕ → List Failed → ℕ → Type 0
+AllMissedFrom Whose layout words failed since = (q : ℕ) → q < layout.leaves → words ≤ leaf_size layout q → HasMissedSince Whose failed (a_leaf q) since

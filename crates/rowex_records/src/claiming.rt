@@ -5,7 +5,7 @@ ghost use Rattle.rowex_core.specs.Cores.{HasRecord};
 ghost use Rattle.rowex_table.specs.Rights.{IsClaimed};
 ghost use Rattle.rowex_table.specs.Rule.{IsStartOf};
 ghost use Rattle.rowex_table.specs.Seats.{IsSeatOf};
-ghost use Rattle.rowex_records.specs.Claims.{AllMissed, Claims, ClaimsOne, FindsNone, GoesOnBehind, MissesNumber, MissesOne, TriesSome, HasIndex, IsKindOf, GoesOnTrying, begin_of, count_of, record_of};
+ghost use Rattle.rowex_records.specs.Claims.{AllMissed, IsAnothersTo, Claims, ClaimsOne, FindsNone, GoesOnBehind, MissesNumber, MissesOne, TriesSome, HasIndex, IsKindOf, GoesOnTrying, begin_of, count_of, record_of};
 ghost use Rattle.rowex_records.specs.Starts.{IsRow, first_word};
 ghost use Rattle.rowex_records.specs.Records.{GivesUp, GivesUpAll, HoldsJust};
 
@@ -91,7 +91,8 @@ pub fn claim_record<G: Gate>(
         FindsNone table.now G.becomes (record_of kind) n (begin_of n from) n (seat.old, gate.old) (seat.new, gate.new))
         (λ number. let n = count_of kind table.now.layout in
         Claims table.now G.becomes (record_of kind) n (begin_of n from) number (seat.old, gate.old) (seat.new, gate.new)) }
-    ensures none { IfNone result (AllMissed (record_of kind) (count_of kind table.now.layout) seat.new.known.failed seat.old.known.steps) }
+    ensures none { IfNone result
+        (AllMissed (IsAnothersTo table.now.layout seat.old.known) (record_of kind) (count_of kind table.now.layout) seat.new.known.failed seat.old.known.steps) }
     ensures held { IfSome result (λ number. (number < count_of kind table.now.layout) × IsClaimed seat.new.known (record_of kind number)) }
 {
     let mut left = kind.count(table.layout());

@@ -28,7 +28,7 @@ use Rattle.rowex_core.specs.declared.known.FailedAct.TheVariants.{Claim as a_cla
 use Rattle.rowex_core.specs.declared.known.Known.{Known}
 use Rattle.rowex_core.specs.declared.known.Locked.{Locked}
 use Rattle.rowex_core.specs.declared.known.Owned.{Owned}
-use Rattle.rowex_core.specs.Cores.{Core, word_count_of}
+use Rattle.rowex_core.specs.Cores.{Core, holder_of, word_count_of}
 use Rattle.rowex_core.specs.Words.{lock_of, lock_tag, tag_of, record_word}
 use Rattle.rowex_core.specs.Events.{target_word, word_of}
 use Rattle.rowex_core.specs.declared.event.Target.{Target}
@@ -239,7 +239,7 @@ module _ (layout : Layout) (said : Known → List Note) (k j : Known) where
   act_seen c (LoadEpoch w) o t = same c
   act_seen c (Advance expected found) o t = same c
   act_seen c (LoadPin p w) o t = same c
-  act_seen c (LoadState r w) o t = one_of (nat_eq w 0) c k (failed_with k a_load (word_of r 0) w) (same c) (same c)
+  act_seen c (LoadState r w) o t = one_of (nat_eq w 0) c k (failed_with k (a_load (holder_of (c.fate r))) (word_of r 0) w) (same c) (same c)
   act_seen c (GiveBack r epoch found) o t = same c
   act_seen c (Publish spot w) o t = absurd t
   act_seen c (SetPin w) o t = absurd t
@@ -282,7 +282,7 @@ module _ (layout : Layout) (k j : Known) where
   lock_fails Anchor found e ne = failed_step e.core (Lock Anchor found) (a_lock (blocking_pass_at e.core Anchor)) (target_word Anchor) found e.learned_is (anchor_held e.core found e.core.anchor e.legal.1 ne)
   lock_fails (NodeTarget n) found e ne = failed_step e.core (Lock (NodeTarget n) found) (a_lock (blocking_pass_at e.core (NodeTarget n))) (target_word (NodeTarget n)) found e.learned_is (rw (dead found 2 ne) refl)
 
-  claim_held : (c : Core) (r : Rec) (found : ℕ) (f : Fate) → found ≡ state_word (tag_of (lock_of c r) f) → (found ≡ 0 → ⊥) → claim_learned c r found f k ≡ failed_with k a_claim (word_of r 0) found
+  claim_held : (c : Core) (r : Rec) (found : ℕ) (f : Fate) → found ≡ state_word (tag_of (lock_of c r) f) → (found ≡ 0 → ⊥) → claim_learned c r found f k ≡ failed_with k (a_claim (holder_of f)) (word_of r 0) found
   claim_held c r found Free e ne = absurd (ne e)
   claim_held c r found (HeldBy q) e ne = refl
   claim_held c r found (ReadyBy q) e ne = refl
@@ -290,8 +290,9 @@ module _ (layout : Layout) (k j : Known) where
   claim_held c r found (UnlinkedBy s l q) e ne = refl
   claim_held c r found (Marked s l epoch) e ne = refl
 
-  pub claim_fails : (r : Rec) (found : ℕ) → IsEvent layout (Claim r found) silent k j → (found ≡ 0 → ⊥) → j ≡ record (failed_with k a_claim (word_of r 0) found) { steps = k.steps + 1 }
-  claim_fails r found e ne = failed_step e.core (Claim r found) a_claim (word_of r 0) found e.learned_is (claim_held e.core r found (e.core.fate r) e.legal.1.1 ne)
+  pub claim_fails : (r : Rec) (found : ℕ) (e : IsEvent layout (Claim r found) silent k j) → (found ≡ 0 → ⊥) →
+      j ≡ record (failed_with k (a_claim (holder_of (e.core.fate r))) (word_of r 0) found) { steps = k.steps + 1 }
+  claim_fails r found e ne = failed_step e.core (Claim r found) (a_claim (holder_of (e.core.fate r))) (word_of r 0) found e.learned_is (claim_held e.core r found (e.core.fate r) e.legal.1.1 ne)
 
 -- The root, under the anchor's lock
 

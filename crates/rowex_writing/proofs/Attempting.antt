@@ -23,6 +23,7 @@ use Rattle.versions.specs.declared.Rec.TheVariants.{Node as a_node}
 use Rattle.rowex_core.specs.declared.event.Event.{Event}
 use Rattle.rowex_core.specs.declared.known.Known.{Known}
 use Rattle.rowex_table.specs.Seats.{TableView, SeatView, IsSeatOf}
+use Rattle.rowex_records.specs.Claims.{IsAnothers}
 use Rattle.rowex_records.proofs.Claimed.{all_earlier}
 use Rattle.rowex_reading.specs.Possible.{IsPossible}
 use Rattle.rowex_reading.specs.Reads.{Looks, Reads}
@@ -349,7 +350,7 @@ refused_busy layout key k i j m (p, pinned, early) loaded first next why = recor
 }
 
 full_before : (layout : Layout) (key : Key) (k i j : Known) (full : Full) → k.steps ≤ i.steps → IsFull layout key i j full → IsFull layout key k j full
-full_before layout key k i j Nodes low f = all_earlier a_node layout.nodes j.failed k.steps i.steps low f
+full_before layout key k i j Nodes low (own, few, f) = (own, few, all_earlier (IsAnothers layout j.pass own) a_node layout.nodes j.failed k.steps i.steps low f)
 full_before layout key k i j Leaves low f = λ q within room. let (step, from, at) = f q within room in (step, (omega (arith, low, from)), at)
 
 others_since : (k i j : Known) → IsLater k i → OthersGoOn i.pass i.front j.front → OthersGoOn k.pass k.front j.front

@@ -54,7 +54,8 @@ use Rattle.rowex_rights.specs.Ending.{IsAtRest}
 use Rattle.rowex_rights.proofs.Loops.{later_transitive}
 use Rattle.rowex_writing.specs.declared.plan.Full.TheVariants.{Nodes, Leaves}
 use Rattle.rowex_writing.specs.Building.{FitsAbove, HasLeafMade, IsChain, HasRisenTo, gone_unless_whole, gone_with_way}
-use Rattle.rowex_writing.specs.Changes.{HasNoRoom, HasRun, HasTakenSpan, IsChecked, IsFull, IsPlanned, IsPutChange, MayPublishOnceReady}
+use Rattle.rowex_records.specs.Claims.{IsAnothers}
+use Rattle.rowex_writing.specs.Changes.{HasNoRoom, HasRun, HasTakenSpan, IsChecked, IsFull, IsPlanned, IsPutChange, LacksLeaves, LacksNodes, MayPublishOnceReady}
 use Rattle.rowex_writing.specs.Going.{HasLocked, WorksOn}
 use Rattle.rowex_writing.specs.Growths.{HasNumber, MayGrow}
 use Rattle.rowex_writing.specs.Locks.{AreNodes, Works, numbers_of, span_numbers}
@@ -174,21 +175,25 @@ pub range_records : (layout : Layout) (way : List Step) (b d : ℕ) → AreNodes
 range_records layout way b d nodes = node_records layout (slice_range way b d) (range_nodes layout way b d nodes)
 
 -- ---- none was free
-full_on : {G : Type 0} (table : TableView) (becomes : G → Event → G → Type 0) (key : Key) (k : Known) (b c : SeatView × G) (full : Full) → HasRun table becomes b c → IsFull table.layout key k b.0.known full → IsFull table.layout key k c.0.known full
-full_on table becomes key k b c Nodes run missed = missed_on table becomes a_node table.layout.nodes k.steps b c run missed
-full_on table becomes key k b c Leaves run missed = missed_from_on table becomes (words_for (length key)) k.steps b c run missed
+full_on : {G : Type 0} (table : TableView) (becomes : G → Event → G → Type 0) (key : Key) (k : Known) (b c : SeatView × G) (full : Full) → c.0.known.pass ≡ b.0.known.pass → HasRun table becomes b c → IsFull table.layout key k b.0.known full → IsFull table.layout key k c.0.known full
+full_on table becomes key k b c Nodes same run (own, few, missed) =
+    subst (λ q. LacksNodes table.layout q c.0.known.failed k.steps) (sym same)
+    (own, few, missed_on table becomes (IsAnothers table.layout b.0.known.pass own) a_node table.layout.nodes k.steps b c run missed)
+full_on table becomes key k b c Leaves same run missed =
+    subst (λ q. LacksLeaves table.layout key q c.0.known.failed k.steps) (sym same)
+    (missed_from_on table becomes (IsAnothers table.layout b.0.known.pass []) (words_for (length key)) k.steps b c run missed)
 
 pub no_room : {G : Type 0} (table : TableView) (becomes : G → Event → G → Type 0) (key : Key) (a b c : SeatView × G) (full : Full) → WorksOn table becomes a b → Works table becomes b c → IsAtRest c.0.known →
     IsFull table.layout key a.0.known b.0.known full → HasNoRoom table.layout key a.0.known c.0.known full
 no_room table becomes key a b c full goes works rest missed = record {
   rest = rest;
   others = (later_transitive a.0.known b.0.known c.0.known goes.stays.0 (works_later table becomes b c works)).front;
-  full_of = full_on table becomes key a.0.known b c full (works_run table becomes b c works) missed;
+  full_of = full_on table becomes key a.0.known b c full (works_later table becomes b c works).pass (works_run table becomes b c works) missed;
 }
 
 -- nor since an earlier version
 pub full_since : (layout : Layout) (key : Key) (a b c : Known) (full : Full) → a.steps ≤ b.steps → IsFull layout key b c full → IsFull layout key a c full
-full_since layout key a b c Nodes count missed = λ q low. (let (step, late, miss) = missed q low in (step, le_trans count late, miss))
+full_since layout key a b c Nodes count (own, few, missed) = (own, few, λ q low. (let (step, late, miss) = missed q low in (step, le_trans count late, miss)))
 full_since layout key a b c Leaves count missed = λ q low room. (let (step, late, miss) = missed q low room in (step, le_trans count late, miss))
 
 -- ---- the leaf's record is made

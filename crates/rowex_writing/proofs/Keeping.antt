@@ -23,7 +23,7 @@ use Rattle.rowex_core.specs.declared.known.FailedAct.TheVariants.{Lock as a_lock
 use Rattle.rowex_core.specs.declared.known.Holding.TheVariants.{Held}
 use Rattle.rowex_core.specs.declared.known.Known.{Known}
 use Rattle.rowex_core.specs.declared.known.Owned.{Owned}
-use Rattle.rowex_core.specs.Cores.{Core, HasRecord}
+use Rattle.rowex_core.specs.Cores.{Core, HasRecord, holder_of}
 use Rattle.rowex_core.specs.Events.{target_word, word_of}
 use Rattle.rowex_core.specs.Knowing.{IsEvent, failed_with, claim_learned, anchor_learned, node_learned, state_learned, blocking_pass_at}
 use Rattle.rowex_core.specs.Sharing.{IsOwned}
@@ -35,6 +35,8 @@ use Rattle.rowex_table.specs.Runs.{Runs, silent}
 use Rattle.rowex_table.specs.Seats.{TableView, SeatView}
 use Rattle.rowex_table.proofs.ActsLeave.{act_leaves}
 use Rattle.rowex_records.specs.Claims.{AllMissed, AllMissedFrom, HasMissedSince}
+use Rattle.rowex_records.proofs.Claimed.{among_held}
+use Rattle.rowex_writing.specs.Walks.{HasNoOther}
 use Rattle.rowex_records.specs.Records.{HoldsJust}
 use Rattle.rowex_writing.specs.Building.{IsBuilding}
 use Rattle.rowex_writing.specs.Changes.{HasRun, HasChanged}
@@ -64,10 +66,10 @@ module _ (c : Core) (k : Known) (x : Failed) (h : Contains k.failed x) where
       go true = h
       go false = one_more k.failed _ x h
 
-  state_failed : (r : Rec) (w : ℕ) → Contains (state_learned r w k).failed x
+  state_failed : (r : Rec) (w : ℕ) → Contains (state_learned c r w k).failed x
   state_failed r w = go (nat_eq w 0)
     where
-      go : (b : Bool) → Contains (if b then k else failed_with k a_load (word_of r 0) w).failed x
+      go : (b : Bool) → Contains (if b then k else failed_with k (a_load (holder_of (c.fate r))) (word_of r 0) w).failed x
       go true = h
       go false = one_more k.failed _ x h
 
@@ -85,14 +87,14 @@ module _ {G : Type 0} (table : TableView) (becomes : G → Event → G → Type 
   run_failed (act ∷ acts) a b (m, s, rest) x h = run_failed acts m b rest x (failed_on table.layout a.0.known m.0.known act x s.event h)
 
   -- none was free still
-  pub missed_there : (r : Rec) (since : ℕ) (a b : SeatView × G) → HasRun table becomes a b → HasMissedSince a.0.known.failed r since → HasMissedSince b.0.known.failed r since
-  missed_there r since a b run (step, late, (act, word, tells, one, has)) = (step, late, (act, word, tells, one, run_failed run.acts a b run.steps _ has))
+  pub missed_there : (Whose : Rec → Option ℕ → Type 0) (r : Rec) (since : ℕ) (a b : SeatView × G) → HasRun table becomes a b → HasMissedSince Whose a.0.known.failed r since → HasMissedSince Whose b.0.known.failed r since
+  missed_there Whose r since a b run (step, late, (act, word, tells, one, has)) = (step, late, (act, word, tells, one, run_failed run.acts a b run.steps _ has))
 
-  pub missed_on : (kind : ℕ → Rec) (n since : ℕ) (a b : SeatView × G) → HasRun table becomes a b → AllMissed kind n a.0.known.failed since → AllMissed kind n b.0.known.failed since
-  missed_on kind n since a b run missed = λ q low. missed_there (kind q) since a b run (missed q low)
+  pub missed_on : (Whose : Rec → Option ℕ → Type 0) (kind : ℕ → Rec) (n since : ℕ) (a b : SeatView × G) → HasRun table becomes a b → AllMissed Whose kind n a.0.known.failed since → AllMissed Whose kind n b.0.known.failed since
+  missed_on Whose kind n since a b run missed = λ q low. missed_there Whose (kind q) since a b run (missed q low)
 
-  pub missed_from_on : (words since : ℕ) (a b : SeatView × G) → HasRun table becomes a b → AllMissedFrom table.layout words a.0.known.failed since → AllMissedFrom table.layout words b.0.known.failed since
-  missed_from_on words since a b run missed = λ q low room. missed_there (a_leaf q) since a b run (missed q low room)
+  pub missed_from_on : (Whose : Rec → Option ℕ → Type 0) (words since : ℕ) (a b : SeatView × G) → HasRun table becomes a b → AllMissedFrom Whose table.layout words a.0.known.failed since → AllMissedFrom Whose table.layout words b.0.known.failed since
+  missed_from_on Whose words since a b run missed = λ q low room. missed_there Whose (a_leaf q) since a b run (missed q low room)
 
 -- ---- records that are given up
 reverse_more : {X : Type 0} (x : X) (xs : List X) → reverse (x ∷ xs) ≡ reverse xs ++ x ∷ []
@@ -153,6 +155,10 @@ module _ (table : TableView) (a : SeatView) (made : List Rec) (news : List Made)
     each = all_reversed (IsClaimed a.known) (recs_of news) (all_ofs (IsClaimed a.known) (recs_of news) claimed);
     apart = apart_reversed (recs_of news) b.holds.1;
   })
+
+  -- the pass has no others
+  pub made_alone : HasNoOther a.known made
+  made_alone r has = among_held made a.known.own made_held.only r has
 
   pub made_records : AreInTable table.layout made
   made_records =

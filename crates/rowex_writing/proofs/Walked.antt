@@ -1,15 +1,17 @@
 -- The walk of a change over the records of a kind: how it begins, goes on and ends.
 use Rattle.std.proofs.Common.{◌≡◌, ◌⊎◌, inl, inr, ℕ, suc, ◌+◌, ◌-◌, ◌<◌, ◌≤◌, List, [], ◌∷◌, ◌++◌, Bool, true, false, nat_lt, Option, length, get_or, if◌then◌else◌, refl, sym, ap, subst, ◌∙◌, arith}
-use Rattle.std.specs.Prelude.{Contains}
+use Rattle.std.specs.Prelude.{Contains, map}
 use Rattle.std.proofs.lemmas.Bool.{ltb-true, ltb-false, lt-ltb, le-ltb}
 use Rattle.std.proofs.lemmas.List.{get_or_default}
 use Rattle.std.proofs.lemmas.List.Elements.{Contains-append_left, Contains-push}
+use Rattle.record_words.specs.declared.layout.Layout.{Layout}
 use Rattle.versions.specs.declared.Rec.{Rec}
 use Rattle.versions.specs.declared.Rec.TheVariants.{Node as a_node}
 use Rattle.rowex_core.specs.declared.event.Act.TheVariants.{LoadState}
 use Rattle.rowex_core.specs.declared.event.Event.{Event}
 use Rattle.rowex_core.specs.declared.known.Failed.{Failed}
 use Rattle.rowex_core.specs.declared.known.Known.{Known}
+use Rattle.rowex_core.specs.declared.known.Owned.{Owned}
 use Rattle.rowex_core.specs.declared.known.Holding.TheVariants.{Held}
 use Rattle.rowex_core.specs.Cores.{HasRecord}
 use Rattle.rowex_table.specs.Made.{Made}
@@ -17,14 +19,14 @@ use Rattle.rowex_table.specs.Rights.{IsClaimed}
 use Rattle.rowex_table.specs.Runs.{Steps}
 use Rattle.rowex_table.specs.Seats.{TableView, SeatView}
 use Rattle.rowex_table.proofs.Running.{does_count}
-use Rattle.rowex_records.specs.Claims.{AllMissed, Claims, FindsNone, HasMissedSince, MissesOne, begin_of, claiming, wrapped}
-use Rattle.rowex_records.proofs.Claimed.{held_misses, missed_among, missed_earlier, turned_to}
+use Rattle.rowex_records.specs.Claims.{AllMissed, Claims, FindsNone, HasMissedSince, IsAnothers, IsAnothersTo, MissesOne, begin_of, claiming, records_had, wrapped}
+use Rattle.rowex_records.proofs.Claimed.{anothers_among, anothers_before, held_misses, missed_among, missed_earlier, missed_so, turned_to}
 use Rattle.rowex_records.proofs.Making.{looks_one}
 use Rattle.rowex_writing.specs.declared.building.Build.{Build}
 use Rattle.rowex_writing.specs.Building.{IsBuilding}
 use Rattle.rowex_writing.specs.Going.{WorksOn}
-use Rattle.rowex_writing.specs.Walks.{IsClaimWalk, WalksOn}
-use Rattle.rowex_writing.proofs.Keeping.{made_held, made_records, run_failed}
+use Rattle.rowex_writing.specs.Walks.{HasNoOther, IsClaimWalk, WalksOn}
+use Rattle.rowex_writing.proofs.Keeping.{made_alone, made_held, made_records, run_failed}
 use Rattle.rowex_writing.proofs.Locking.{goes_more, goes_none}
 use Rattle.rowex_writing.proofs.Making.{miss_on, steps_rise}
 
@@ -64,11 +66,26 @@ next_on n begin t number low within is = subst (λ z. begin_of n (z + 1) ≡ wra
         let inside : nat_lt (begin + t - n + 1) n ≡ true = lt-ltb (begin + t - n + 1) n (omega arith) in
         rw inside ((let same : begin + t - n + 1 ≡ begin + (t + 1) - n = omega arith in same) ∙ sym (high_is n (begin + (t + 1)) (omega arith)))
 
+-- ---- whose it was
+-- what is said of the pass is said of the same one later, which may have more records
+pub missed_as : (layout : Layout) (q p : ℕ) (own more : List Rec) (failed : List Failed) (r : Rec) (since : ℕ) → p ≡ q → (Contains own r → Contains more r) → HasMissedSince (IsAnothers layout q own) failed r since → HasMissedSince (IsAnothers layout p more) failed r since
+missed_as layout q p own more failed r since same among missed =
+    subst (λ z. HasMissedSince (IsAnothers layout z more) failed r since) (sym same)
+    (missed_so (IsAnothers layout q own) (IsAnothers layout q more) failed r since (λ by. anothers_among layout q own more r by among) missed)
+
+-- and of more failed steps
+missed_more : (Whose : Rec → Option ℕ → Type 0) (failed more : List Failed) (r : Rec) (since : ℕ) → ((x : Failed) → Contains failed x → Contains more x) → HasMissedSince Whose failed r since → HasMissedSince Whose more r since
+missed_more Whose failed more r since kept (step, late, (act, word, tells, one, has)) = (step, late, (act, word, tells, one, kept _ has))
+
+-- a pass that has the same records has no other still
+pub alone_still : (k j : Known) (made : List Rec) → j.own ≡ k.own → HasNoOther k made → HasNoOther j made
+alone_still k j made same alone r has = alone r (subst (λ own. Contains (map (λ (o : Owned). o.rec) own) r) same has)
+
 -- ---- the walk
 module _ (kind : ℕ → Rec) (n : ℕ) where
   -- a walk that is to try each record begins at any number
-  pub walk_begins : (k : Known) (made : List Rec) (next left : ℕ) → 0 < n → left ≡ n → IsClaimWalk kind n k.steps k made next left
-  walk_begins k made next left some whole = record {
+  pub walk_begins : (layout : Layout) (k : Known) (made : List Rec) (next left : ℕ) → 0 < n → left ≡ n → IsClaimWalk layout kind n k.steps k made next left
+  walk_begins layout k made next left some whole = record {
     early = omega arith;
     begin = begin_of n next;
     low = begins (nat_lt next n) refl;
@@ -83,46 +100,59 @@ module _ (kind : ℕ → Rec) (n : ℕ) where
       begins false e = rw e some
 
   -- it goes on being one, where failed steps and records come to those that there are
-  pub walk_stays : (since : ℕ) (k j : Known) (made more : List Rec) (next left : ℕ) → k.steps ≤ j.steps → ((x : Failed) → Contains k.failed x → Contains j.failed x) → ((r : Rec) → Contains made r → Contains more r)
-      → IsClaimWalk kind n since k made next left → IsClaimWalk kind n since j more next left
-  walk_stays since k j made more next left later failed kept w = record {
+  pub walk_stays : (layout : Layout) (since : ℕ) (k j : Known) (made more : List Rec) (next left : ℕ) → j.pass ≡ k.pass → k.steps ≤ j.steps → ((x : Failed) → Contains k.failed x → Contains j.failed x) → ((r : Rec) → Contains made r → Contains more r)
+      → IsClaimWalk layout kind n since k made next left → IsClaimWalk layout kind n since j more next left
+  walk_stays layout since k j made more next left same later failed kept w = record {
     early = let early = w.early in omega arith;
     begin = w.begin;
     low = w.low;
     tried = w.tried;
     count = w.count;
     next_is = w.next_is;
-    each = λ i low. elim (w.each i low) [ inl (step, late, (act, word, tells, one, has)) ↦ inl (step, late, (act, word, tells, one, failed _ has)) | inr has ↦ inr (kept _ has) ];
+    each = λ i low. elim (w.each i low) [
+      | inl missed ↦ inl (missed_as layout k.pass j.pass made more j.failed (kind (wrapped n w.begin i)) since same (kept (kind (wrapped n w.begin i)))
+          (missed_more (IsAnothers layout k.pass made) k.failed j.failed (kind (wrapped n w.begin i)) since failed missed))
+      | inr has ↦ inr (kept _ has)
+    ];
   }
 
   -- where all have been tried, each was found not free, if those that are made were
-  pub walk_ends : (since : ℕ) (k : Known) (made : List Rec) (next left : ℕ) → left ≡ 0 → ((r : Rec) → Contains made r → HasMissedSince k.failed r since) → IsClaimWalk kind n since k made next left → AllMissed kind n k.failed since
-  walk_ends since k made next left none looked w q low =
+  pub walk_ends : (layout : Layout) (since : ℕ) (k : Known) (made : List Rec) (next left : ℕ) → left ≡ 0 → ((r : Rec) → Contains made r → HasMissedSince (IsAnothers layout k.pass made) k.failed r since) →
+      IsClaimWalk layout kind n since k made next left → AllMissed (IsAnothers layout k.pass made) kind n k.failed since
+  walk_ends layout since k made next left none looked w q low =
       let (i, within, is) = turned_to n w.begin q w.low low in
       let all = w.count in
-      subst (λ z. HasMissedSince k.failed (kind z) since) is (elim (w.each i (omega arith)) [ inl missed ↦ missed | inr has ↦ looked _ has ])
+      subst (λ z. HasMissedSince (IsAnothers layout k.pass made) k.failed (kind z) since) is (elim (w.each i (omega arith)) [ inl missed ↦ missed | inr has ↦ looked _ has ])
 
   module _ {G : Type 0} (table : TableView) (becomes : G → Event → G → Type 0) where
     pub walk_on : (since : ℕ) (a b : SeatView × G) (made more : List Rec) (next left : ℕ) → WorksOn table becomes a b → ((r : Rec) → Contains made r → Contains more r)
-        → IsClaimWalk kind n since a.0.known made next left → IsClaimWalk kind n since b.0.known more next left
+        → IsClaimWalk table.layout kind n since a.0.known made next left → IsClaimWalk table.layout kind n since b.0.known more next left
     walk_on since a b made more next left goes kept w =
-        walk_stays since a.0.known b.0.known made more next left (steps_rise table becomes goes.acts a b goes.steps) (λ x has. run_failed table becomes goes.acts a b goes.steps x has) kept w
+        walk_stays table.layout since a.0.known b.0.known made more next left goes.stays.0.pass (steps_rise table becomes goes.acts a b goes.steps) (λ x has. run_failed table becomes goes.acts a b goes.steps x has) kept w
 
     -- after tries that found none free
-    module _ (since m : ℕ) (a b : SeatView × G) (made : List Rec) (next left : ℕ) (w : IsClaimWalk kind n since a.0.known made next left) (within : m ≤ left) (none : FindsNone table becomes kind n (begin_of n next) m a b) where
-      pub each_tried : (i : ℕ) → i < w.tried + m → HasMissedSince b.0.known.failed (kind (wrapped n w.begin i)) since ⊎ Contains made (kind (wrapped n w.begin i))
+    module _ (since m : ℕ) (a b : SeatView × G) (made : List Rec) (next left : ℕ) (alone : HasNoOther a.0.known made) (w : IsClaimWalk table.layout kind n since a.0.known made next left) (within : m ≤ left)
+        (none : FindsNone table becomes kind n (begin_of n next) m a b) where
+      abbrev Whose : Rec → Option ℕ → Type 0
+      Whose = IsAnothers table.layout b.0.known.pass made
+
+      same : b.0.known.pass ≡ a.0.known.pass
+      same = ap (λ (z : Known). z.pass) none.does.rest
+
+      pub each_tried : (i : ℕ) → i < w.tried + m → HasMissedSince (IsAnothers table.layout b.0.known.pass made) b.0.known.failed (kind (wrapped n w.begin i)) since ⊎ Contains made (kind (wrapped n w.begin i))
       each_tried i low = go (nat_lt i w.tried) refl
         where
           count : w.tried + left ≡ n
           count = w.count
 
-          go : (t : Bool) → nat_lt i w.tried ≡ t → HasMissedSince b.0.known.failed (kind (wrapped n w.begin i)) since ⊎ Contains made (kind (wrapped n w.begin i))
+          go : (t : Bool) → nat_lt i w.tried ≡ t → HasMissedSince Whose b.0.known.failed (kind (wrapped n w.begin i)) since ⊎ Contains made (kind (wrapped n w.begin i))
           go true e = elim (w.each i (ltb-true i w.tried e)) [
-            | inl missed ↦ inl (subst (λ l. HasMissedSince l (kind (wrapped n w.begin i)) since) (sym none.failed) (beyond none.missed a.0.known.failed (kind (wrapped n w.begin i)) since missed))
+            | inl missed ↦ inl (subst (λ l. HasMissedSince Whose l (kind (wrapped n w.begin i)) since) (sym none.failed) (beyond none.missed a.0.known.failed (kind (wrapped n w.begin i)) since
+                (missed_as table.layout a.0.known.pass b.0.known.pass made made a.0.known.failed (kind (wrapped n w.begin i)) since same (λ h. h) missed)))
             | inr has ↦ inr has
           ]
             where
-              beyond : (missed failed : List Failed) (r : Rec) (since : ℕ) → HasMissedSince failed r since → HasMissedSince (missed ++ failed) r since
+              beyond : (missed failed : List Failed) (r : Rec) (since : ℕ) → HasMissedSince Whose failed r since → HasMissedSince Whose (missed ++ failed) r since
               beyond [] failed r since h = h
               beyond (x ∷ missed) failed r since h = let (step, late, (act, word, tells, one, (at, inside, is))) = beyond missed failed r since h in (step, late, (act, word, tells, one, (suc at, omega arith, is)))
           go false e =
@@ -131,26 +161,28 @@ module _ (kind : ℕ → Rec) (n : ℕ) where
               let at : wrapped n (begin_of n next) (i - w.tried) ≡ wrapped n w.begin i =
               ap (λ z. wrapped n z (i - w.tried)) (w.next_is (omega arith)) ∙
               (wrapped_on n w.begin w.tried (i - w.tried) w.low (omega arith) (omega arith) ∙ ap (wrapped n w.begin) (let same : w.tried + (i - w.tried) ≡ i = omega arith in same)) in
-              inl (subst (λ l. HasMissedSince l (kind (wrapped n w.begin i)) since) (sym none.failed) (missed_among none.missed a.0.known.failed (kind (wrapped n w.begin i)) since
-              (missed_earlier none.missed (kind (wrapped n w.begin i)) since a.0.known.steps early (subst (λ z. HasMissedSince none.missed (kind z) a.0.known.steps) at (none.each (i - w.tried) (omega arith))))))
+              let r : Rec = kind (wrapped n w.begin i) in
+              inl (subst (λ l. HasMissedSince Whose l r since) (sym none.failed) (missed_among Whose none.missed a.0.known.failed r since (missed_earlier Whose none.missed r since a.0.known.steps early
+              (missed_as table.layout a.0.known.pass b.0.known.pass (records_had a.0.known) made none.missed r a.0.known.steps same (alone r)
+              (subst (λ z. HasMissedSince (IsAnothersTo table.layout a.0.known) none.missed (kind z) a.0.known.steps) at (none.each (i - w.tried) (omega arith)))))))
 
     -- none of those that were left is free
-    pub walk_out : (since left less : ℕ) (a b : SeatView × G) (made : List Rec) (next m : ℕ) → WorksOn table becomes a b → m ≡ left → less ≡ 0 → FindsNone table becomes kind n (begin_of n next) m a b
-        → IsClaimWalk kind n since a.0.known made next left → IsClaimWalk kind n since b.0.known made next less
-    walk_out since left less a b made next m goes all out none w = record {
+    pub walk_out : (since left less : ℕ) (a b : SeatView × G) (made : List Rec) (next m : ℕ) → HasNoOther a.0.known made → WorksOn table becomes a b → m ≡ left → less ≡ 0 → FindsNone table becomes kind n (begin_of n next) m a b
+        → IsClaimWalk table.layout kind n since a.0.known made next left → IsClaimWalk table.layout kind n since b.0.known made next less
+    walk_out since left less a b made next m alone goes all out none w = record {
       early = let rise = steps_rise table becomes goes.acts a b goes.steps in let early = w.early in omega arith;
       begin = w.begin;
       low = w.low;
       tried = w.tried + m;
       count = let count = w.count in omega arith;
       next_is = λ more. absurd (omega arith);
-      each = each_tried since m a b made next left w (omega arith) none;
+      each = each_tried since m a b made next left alone w (omega arith) none;
     }
 
     -- one of them is claimed
-    pub walk_claims : (since left less number : ℕ) (a b : SeatView × G) (made : List Rec) (next : ℕ) → WorksOn table becomes a b → (claims : Claims table becomes kind n (begin_of n next) number a b) → less + claims.tried + 1 ≡ left
-        → IsClaimWalk kind n since a.0.known made next left → IsClaimWalk kind n since b.0.known (made ++ kind number ∷ []) (number + 1) less
-    walk_claims since left less number a b made next goes claims spent w = record {
+    pub walk_claims : (since left less number : ℕ) (a b : SeatView × G) (made : List Rec) (next : ℕ) → HasNoOther a.0.known made → WorksOn table becomes a b → (claims : Claims table becomes kind n (begin_of n next) number a b) → less + claims.tried + 1 ≡ left
+        → IsClaimWalk table.layout kind n since a.0.known made next left → IsClaimWalk table.layout kind n since b.0.known (made ++ kind number ∷ []) (number + 1) less
+    walk_claims since left less number a b made next alone goes claims spent w = record {
       early = let rise = steps_rise table becomes goes.acts a b goes.steps in let early = w.early in omega arith;
       begin = w.begin;
       low = w.low;
@@ -169,12 +201,17 @@ module _ (kind : ℕ → Rec) (n : ℕ) where
         here : number ≡ wrapped n w.begin (w.tried + claims.tried)
         here = claims.number_is ∙ (ap (λ z. wrapped n z claims.tried) (w.next_is (omega arith)) ∙ wrapped_on n w.begin w.tried claims.tried w.low (omega arith) (omega arith))
 
-        each : (i : ℕ) → i < w.tried + claims.tried + 1 → HasMissedSince b.0.known.failed (kind (wrapped n w.begin i)) since ⊎ Contains (made ++ kind number ∷ []) (kind (wrapped n w.begin i))
+        Whose : Rec → Option ℕ → Type 0
+        Whose = IsAnothers table.layout b.0.known.pass (made ++ kind number ∷ [])
+
+        each : (i : ℕ) → i < w.tried + claims.tried + 1 → HasMissedSince Whose b.0.known.failed (kind (wrapped n w.begin i)) since ⊎ Contains (made ++ kind number ∷ []) (kind (wrapped n w.begin i))
         each i low = go (nat_lt i (w.tried + claims.tried)) refl
           where
-            go : (t : Bool) → nat_lt i (w.tried + claims.tried) ≡ t → HasMissedSince b.0.known.failed (kind (wrapped n w.begin i)) since ⊎ Contains (made ++ kind number ∷ []) (kind (wrapped n w.begin i))
-            go true e = elim (each_tried since claims.tried a claims.before made next left w (omega arith) claims.none i (ltb-true i (w.tried + claims.tried) e)) [
-              | inl missed ↦ inl (subst (λ l. HasMissedSince l (kind (wrapped n w.begin i)) since) (sym claims.one.failed) missed)
+            go : (t : Bool) → nat_lt i (w.tried + claims.tried) ≡ t → HasMissedSince Whose b.0.known.failed (kind (wrapped n w.begin i)) since ⊎ Contains (made ++ kind number ∷ []) (kind (wrapped n w.begin i))
+            go true e = elim (each_tried since claims.tried a claims.before made next left alone w (omega arith) claims.none i (ltb-true i (w.tried + claims.tried) e)) [
+              | inl missed ↦ inl (subst (λ l. HasMissedSince Whose l (kind (wrapped n w.begin i)) since) (sym claims.one.failed)
+                  (missed_as table.layout claims.before.0.known.pass b.0.known.pass made (made ++ kind number ∷ []) claims.before.0.known.failed (kind (wrapped n w.begin i)) since
+                  (ap (λ (z : Known). z.pass) claims.one.does.rest) (Contains-append_left made (kind number ∷ []) (kind (wrapped n w.begin i))) missed))
               | inr has ↦ inr (Contains-append_left made (kind number ∷ []) (kind (wrapped n w.begin i)) has)
             ]
             go false e =
@@ -191,7 +228,7 @@ module _ {G : Type 0} (table : TableView) (becomes : G → Event → G → Type 
   pub record HasLooked (index : ℕ) (a b : SeatView × G) : Type 0 where
     pub goes : WorksOn table becomes a b
     pub own : b.0.known.own ≡ a.0.known.own
-    pub seen : (i : ℕ) (d : Rec) → i < index → HasMissedSince b.0.known.failed (get_or made i d) a.0.known.steps
+    pub seen : (i : ℕ) (d : Rec) → i < index → HasMissedSince (IsAnothers table.layout a.0.known.pass made) b.0.known.failed (get_or made i d) a.0.known.steps
     pub few : b.0.known.steps ≤ a.0.known.steps + index
 
   pub looked_none : (a : SeatView × G) → HasLooked 0 a a
@@ -221,22 +258,31 @@ module _ {G : Type 0} (table : TableView) (becomes : G → Event → G → Type 
       later : a.0.known.steps ≤ m.0.known.steps
       later = steps_rise table becomes looked.goes.acts a m looked.goes.steps
 
-      seen : (i : ℕ) (e : Rec) → i < index + 1 → HasMissedSince b.0.known.failed (get_or made i e) a.0.known.steps
+      Whose : Rec → Option ℕ → Type 0
+      Whose = IsAnothers table.layout a.0.known.pass made
+
+      tells : HasMissedSince Whose (one.failed ∷ []) r m.0.known.steps
+      tells = missed_so (IsAnothersTo table.layout m.0.known) Whose (one.failed ∷ []) r m.0.known.steps
+          (λ by h. anothers_among table.layout a.0.known.pass (records_had a.0.known) made r by (made_alone table a.0 made news building r)
+          (anothers_before table.layout a.0.known m.0.known r by looked.goes.stays.0.pass looked.own h)) one.tells
+
+      seen : (i : ℕ) (e : Rec) → i < index + 1 → HasMissedSince Whose b.0.known.failed (get_or made i e) a.0.known.steps
       seen i e below = go (nat_lt i index) refl
         where
-          go : (t : Bool) → nat_lt i index ≡ t → HasMissedSince b.0.known.failed (get_or made i e) a.0.known.steps
+          go : (t : Bool) → nat_lt i index ≡ t → HasMissedSince Whose b.0.known.failed (get_or made i e) a.0.known.steps
           go true is =
               let (since, late, (act, found, tells, some, has)) = looked.seen i e (ltb-true i index is) in
               (since, late, (act, found, tells, some, run_failed table becomes goes.acts m b goes.steps _ has))
           go false is =
               let past = ltb-false i index is in
               let same : index ≡ i = omega arith in
-              subst (λ z. HasMissedSince b.0.known.failed (get_or made z e) a.0.known.steps) same
-              (subst (λ z. HasMissedSince b.0.known.failed z a.0.known.steps) (get_or_default made index d e low)
-              (subst (λ l. HasMissedSince l r a.0.known.steps) (sym one.failed_is) (missed_among (one.failed ∷ []) m.0.known.failed r a.0.known.steps (missed_earlier (one.failed ∷ []) r a.0.known.steps m.0.known.steps later one.tells))))
+              subst (λ z. HasMissedSince Whose b.0.known.failed (get_or made z e) a.0.known.steps) same
+              (subst (λ z. HasMissedSince Whose b.0.known.failed z a.0.known.steps) (get_or_default made index d e low)
+              (subst (λ l. HasMissedSince Whose l r a.0.known.steps) (sym one.failed_is)
+              (missed_among Whose (one.failed ∷ []) m.0.known.failed r a.0.known.steps (missed_earlier Whose (one.failed ∷ []) r a.0.known.steps m.0.known.steps later tells))))
 
-  pub looked_all : (index : ℕ) (a b : SeatView × G) → length made ≤ index → HasLooked index a b → (r : Rec) → Contains made r → HasMissedSince b.0.known.failed r a.0.known.steps
-  looked_all index a b all looked r (i, low, is) = subst (λ z. HasMissedSince b.0.known.failed z a.0.known.steps) is (looked.seen i r (omega arith))
+  pub looked_all : (index : ℕ) (a b : SeatView × G) → length made ≤ index → HasLooked index a b → (r : Rec) → Contains made r → HasMissedSince (IsAnothers table.layout a.0.known.pass made) b.0.known.failed r a.0.known.steps
+  looked_all index a b all looked r (i, low, is) = subst (λ z. HasMissedSince (IsAnothers table.layout a.0.known.pass made) b.0.known.failed z a.0.known.steps) is (looked.seen i r (omega arith))
 
 -- ---- what builds goes on with the walk
 pub walks_later : {G : Type 0} (table : TableView) (becomes : G → Event → G → Type 0) {X : Type 0} (a m : SeatView × G) (k : Known) (build after : Build) (answer : Option X) → WorksOn table becomes a m →

@@ -16,6 +16,7 @@ use Rattle.versions.specs.declared.Rec.TheVariants.{Node as a_node}
 use Rattle.rowex_core.specs.declared.event.Event.{Event}
 use Rattle.rowex_core.specs.declared.event.Spot.{Spot}
 use Rattle.rowex_core.specs.declared.event.Target.{Target}
+use Rattle.rowex_core.specs.declared.known.Failed.{Failed}
 use Rattle.rowex_core.specs.declared.known.Known.{Known}
 use Rattle.rowex_core.specs.Reading.{node_words_of}
 use Rattle.rowex_walks.specs.Scan.{IsShaped}
@@ -25,10 +26,11 @@ use Rattle.rowex_table.specs.Seats.{TableView, SeatView, IsSeatOf}
 use Rattle.rowex_table.specs.Stays.{LeavesPin}
 use Rattle.rowex_reading.specs.Possible.{IsPossible}
 use Rattle.rowex_reading.specs.Seen.{Sure}
-use Rattle.rowex_records.specs.Claims.{AllMissed, AllMissedFrom}
+use Rattle.rowex_records.specs.Claims.{AllMissed, AllMissedFrom, IsAnothers}
 use Rattle.rowex_rights.specs.Ending.{IsAtRest}
 use Rattle.rowex_rights.specs.Stages.{HasReady}
 use Rattle.rowex_writing.specs.Building.{IsBuilding}
+use Rattle.rowex_writing.specs.Counts.{most_made}
 use Rattle.rowex_writing.specs.Going.{HasLocked}
 use Rattle.rowex_writing.specs.Jobs.{IsJobFrom}
 use Rattle.rowex_writing.specs.Locks.{HasLockedSpan, TriesBy, TriesOnceBy}
@@ -117,10 +119,19 @@ pub record HasChanged (k j : Known) (x : Change) (was : Option ℕ) : Type 0 whe
   pub fits : Fits (map_of before) x
   pub was_held : value_at (map_of before) x.key ≡ was
 
+-- From this step on pass q found each node record not free: another pass had it, or a node in the tree or a retired one; or it is one of
+-- the few that q had claimed for its change.
+abbrev pub LacksNodes : Layout → ℕ → List Failed → ℕ → Type 0
+LacksNodes layout q failed since = (own : List Rec) × (length own ≤ most_made) × AllMissed (IsAnothers layout q own) a_node layout.nodes failed since
+
+-- It found each leaf record that has room for the key not free: another pass had it, or a leaf in the tree or a retired one.
+abbrev pub LacksLeaves : Layout → Key → ℕ → List Failed → ℕ → Type 0
+LacksLeaves layout key q failed since = AllMissedFrom (IsAnothers layout q []) layout (words_for (length key)) failed since
+
 -- no record was free, when the pass wanted one: of the nodes, or of the leaf records that have room for this key
 abbrev pub IsFull : Layout → Key → Known → Known → Full → Type 0
-IsFull layout key k j Nodes = AllMissed a_node layout.nodes j.failed k.steps
-IsFull layout key k j Leaves = AllMissedFrom layout (words_for (length key)) j.failed k.steps
+IsFull layout key k j Nodes = LacksNodes layout j.pass j.failed k.steps
+IsFull layout key k j Leaves = LacksLeaves layout key j.pass j.failed k.steps
 
 -- The pass has made no change, for want of a record; it has nothing of its own and no lock.
 pub record HasNoRoom (layout : Layout) (key : Key) (k j : Known) (full : Full) : Type 0 where

@@ -1,9 +1,10 @@
 -- Claims of leaf records of one class after the other.
-use Rattle.std.specs.Prelude.{ℕ, ◌<◌, ◌≤◌, List}
+use Rattle.std.specs.Prelude.{ℕ, ◌<◌, ◌≤◌, List, Option}
+use Rattle.versions.specs.declared.Rec.{Rec}
 use Rattle.versions.specs.declared.Rec.TheVariants.{Leaf as a_leaf}
 use Rattle.rowex_core.specs.declared.known.Failed.{Failed}
 use Rattle.rowex_records.specs.Claims.{HasMissedSince}
 
--- each leaf record from one number on and below another was found not free by one of these, at this step or a later one
-abbrev pub AllMissedBetween : ℕ → ℕ → List Failed → ℕ → Type 0
-AllMissedBetween from upto failed since = (q : ℕ) → from ≤ q → q < upto → HasMissedSince failed (a_leaf q) since
+-- each leaf record from one number on and below another was found not free by one of these, at this step or a later one, and whose it was
+abbrev pub AllMissedBetween : (Rec → Option ℕ → Type 0) → ℕ → ℕ → List Failed → ℕ → Type 0
+AllMissedBetween Whose from upto failed since = (q : ℕ) → from ≤ q → q < upto → HasMissedSince Whose failed (a_leaf q) since

@@ -5,7 +5,7 @@ ghost use Rattle.record_words.specs.Layout.{leaf_size};
 ghost use Rattle.record_words.specs.declared.TheConstants.{LEAF_WORDS};
 ghost use Rattle.versions.specs.declared.Rec.TheVariants.{Leaf as a_leaf};
 ghost use Rattle.rowex_table.specs.Seats.{IsSeatOf};
-ghost use Rattle.rowex_records.specs.Claims.{AllMissed, AllMissedFrom, HoldsOneMore, IsKindOf, count_of, record_of};
+ghost use Rattle.rowex_records.specs.Claims.{AllMissed, AllMissedFrom, HoldsOneMore, IsAnothersTo, IsKindOf, count_of, record_of};
 ghost use Rattle.rowex_writing.specs.Classes.{AllMissedBetween};
 ghost use Rattle.rowex_writing.specs.Going.{WorksOn};
 
@@ -32,7 +32,8 @@ pub(crate) fn claim_next<G: Gate>(
     requires kind { IsKindOf kind table.now.layout }
     ensures goes { WorksOn table.now G.becomes (seat.old, gate.old) (seat.new, gate.new) }
     ensures claims { MatchOption result
-        ((seat.new.known.own ≡ seat.old.known.own) × AllMissed (record_of kind) (count_of kind table.now.layout) seat.new.known.failed seat.old.known.steps)
+        ((seat.new.known.own ≡ seat.old.known.own) ×
+        AllMissed (IsAnothersTo table.now.layout seat.old.known) (record_of kind) (count_of kind table.now.layout) seat.new.known.failed seat.old.known.steps)
         (λ number. (number < count_of kind table.now.layout) × HoldsOneMore (record_of kind number) seat.old.known seat.new.known) }
     ensures few { seat.new.known.steps ≤ seat.old.known.steps + 2 * count_of kind table.now.layout + 2 }
 {
@@ -83,7 +84,8 @@ pub(crate) fn claim_leaf<G: Gate>(
     requires words { words ≤ LEAF_WORDS }
     ensures goes { WorksOn table.now G.becomes (seat.old, gate.old) (seat.new, gate.new) }
     ensures claims { MatchOption result
-        ((seat.new.known.own ≡ seat.old.known.own) × AllMissedFrom table.now.layout words seat.new.known.failed seat.old.known.steps)
+        ((seat.new.known.own ≡ seat.old.known.own) ×
+        AllMissedFrom (IsAnothersTo table.now.layout seat.old.known) table.now.layout words seat.new.known.failed seat.old.known.steps)
         (λ number. (number < table.now.layout.leaves) × (words ≤ leaf_size table.now.layout number) ×
         HoldsOneMore (a_leaf number) seat.old.known seat.new.known) }
     ensures few { seat.new.known.steps ≤ seat.old.known.steps + 4 * table.now.layout.leaves }
@@ -130,7 +132,8 @@ fn claim_between<G: Gate>(
     requires range { (from ≤ upto) × (upto ≤ table.now.layout.leaves) }
     ensures goes { WorksOn table.now G.becomes (seat.old, gate.old) (seat.new, gate.new) }
     ensures claims { MatchOption result
-        ((seat.new.known.own ≡ seat.old.known.own) × AllMissedBetween from upto seat.new.known.failed seat.old.known.steps)
+        ((seat.new.known.own ≡ seat.old.known.own) ×
+        AllMissedBetween (IsAnothersTo table.now.layout seat.old.known) from upto seat.new.known.failed seat.old.known.steps)
         (λ number. (from ≤ number) × (number < upto) × HoldsOneMore (a_leaf number) seat.old.known seat.new.known) }
     ensures few { seat.new.known.steps ≤ seat.old.known.steps + 4 * (upto - from) }
 {

@@ -11,11 +11,10 @@ ghost use Rattle.rowex_core.specs.Reading.{entry_of};
 ghost use Rattle.rowex_table.specs.Made.{Made};
 ghost use Rattle.rowex_table.specs.Seats.{IsSeatOf};
 ghost use Rattle.rowex_reading.specs.Possible.{IsPossible};
-ghost use Rattle.rowex_records.specs.Claims.{AllMissedFrom};
 ghost use Rattle.rowex_rights.specs.Stages.{HasReady};
 ghost use Rattle.tries.specs.Content.{item};
 ghost use Rattle.rowex_writing.specs.Building.{HasLeafMade, IsBuilding};
-ghost use Rattle.rowex_writing.specs.Changes.{HasChanged, HasRun};
+ghost use Rattle.rowex_writing.specs.Changes.{HasChanged, HasRun, LacksLeaves};
 ghost use Rattle.rowex_writing.specs.Counts.{leaf_steps};
 ghost use Rattle.rowex_writing.specs.Deeds.{MayReplace, leaf_gone};
 ghost use Rattle.rowex_writing.specs.Going.{WorksOn};
@@ -53,7 +52,7 @@ pub(crate) fn make_leaf<G: Gate>(
     requires key { IsKey key.now }
     ensures goes { WorksOn table.now G.becomes (seat.old, gate.old) (seat.new, gate.new) }
     ensures made { MatchOption result
-        (IsBuilding table.now seat.new build.new.made.items [] × AllMissedFrom table.now.layout (words_for (length key.now)) seat.new.known.failed seat.old.known.steps)
+        (IsBuilding table.now seat.new build.new.made.items [] × LacksLeaves table.now.layout key.now seat.new.known.pass seat.new.known.failed seat.old.known.steps)
         (λ n. HasLeafMade table.now seat.new build.new.made.items (item n key.now value)) }
     ensures few { seat.new.known.steps ≤ seat.old.known.steps + leaf_steps table.now.layout }
 {

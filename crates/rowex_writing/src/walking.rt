@@ -5,10 +5,10 @@ ghost use Rattle.versions.specs.declared.Rec.{Rec as Record};
 ghost use Rattle.versions.specs.declared.Rec.TheVariants.{Node as a_node};
 ghost use Rattle.rowex_table.specs.Made.{Made};
 ghost use Rattle.rowex_table.specs.Seats.{IsSeatOf};
-ghost use Rattle.rowex_records.specs.Claims.{AllMissed, HasMissedSince, HoldsOneMore};
+ghost use Rattle.rowex_records.specs.Claims.{AllMissed, HasMissedSince, HoldsOneMore, IsAnothers};
 ghost use Rattle.rowex_writing.specs.Building.{IsBuilding};
 ghost use Rattle.rowex_writing.specs.Going.{WorksOn};
-ghost use Rattle.rowex_writing.specs.Walks.{HasWalked, IsClaimWalk, Spends};
+ghost use Rattle.rowex_writing.specs.Walks.{HasNoOther, HasWalked, IsClaimWalk, Spends};
 
 use crate::building::Build;
 use crate::claims::claim_spare;
@@ -33,8 +33,8 @@ pub(crate) fn claim_node<G: Gate>(
         (λ number. (number < table.now.layout.nodes) × HoldsOneMore (a_node number) seat.old.known seat.new.known) }
     ensures made { build.new.made.items ≡ build.old.made.items }
     ensures walk { (since : ℕ) → HasWalked table.now.layout since seat.old.known build.old → MatchOption result
-        (AllMissed a_node table.now.layout.nodes seat.new.known.failed since)
-        (λ number. IsClaimWalk a_node table.now.layout.nodes since seat.new.known (build.old.made.items ++ a_node number ∷ [])
+        (AllMissed (IsAnothers table.now.layout seat.new.known.pass build.new.made.items) a_node table.now.layout.nodes seat.new.known.failed since)
+        (λ number. IsClaimWalk table.now.layout a_node table.now.layout.nodes since seat.new.known (build.old.made.items ++ a_node number ∷ [])
         build.new.nodes.next build.new.left_nodes) }
     ensures few { Spends 2 seat.old.known build.old seat.new.known build.new result }
 {
@@ -51,7 +51,8 @@ fn look_at<G: Gate>(table: &HotTable, seat: &mut TableSeat, gate: &mut G, made: 
     requires building { (news : List Made) × IsBuilding table.now seat.old made.now news }
     ensures goes { WorksOn table.now G.becomes (seat.old, gate.old) (seat.new, gate.new) }
     ensures own { seat.new.known.own ≡ seat.old.known.own }
-    ensures seen { (r : Record) → Contains made.now r → HasMissedSince seat.new.known.failed r seat.old.known.steps }
+    ensures seen { (r : Record) → Contains made.now r →
+        HasMissedSince (IsAnothers table.now.layout seat.old.known.pass made.now) seat.new.known.failed r seat.old.known.steps }
     ensures few { seat.new.known.steps ≤ seat.old.known.steps + length made.now }
 {
     for index in 0..made.len() {
@@ -74,9 +75,10 @@ fn claim_left<G: Gate>(
     ensures goes { WorksOn table.now G.becomes (seat.old, gate.old) (seat.new, gate.new) }
     ensures claims { MatchOption result (seat.new.known.own ≡ seat.old.known.own)
         (λ number. (number < table.now.layout.nodes) × HoldsOneMore (a_node number) seat.old.known seat.new.known) }
-    ensures walk { (since : ℕ) (made : List Record) → IsClaimWalk a_node table.now.layout.nodes since seat.old.known made supply.old.next left.old → MatchOption result
-        ((left.new ≡ 0) × IsClaimWalk a_node table.now.layout.nodes since seat.new.known made supply.new.next left.new)
-        (λ number. IsClaimWalk a_node table.now.layout.nodes since seat.new.known (made ++ a_node number ∷ []) supply.new.next left.new) }
+    ensures walk { (since : ℕ) (made : List Record) → HasNoOther seat.old.known made →
+        IsClaimWalk table.now.layout a_node table.now.layout.nodes since seat.old.known made supply.old.next left.old → MatchOption result
+        ((left.new ≡ 0) × IsClaimWalk table.now.layout a_node table.now.layout.nodes since seat.new.known made supply.new.next left.new)
+        (λ number. IsClaimWalk table.now.layout a_node table.now.layout.nodes since seat.new.known (made ++ a_node number ∷ []) supply.new.next left.new) }
     ensures few { seat.new.known.steps + 2 * left.new ≤ seat.old.known.steps + 2 * left.old + 2 }
 {
     if let Some(number) = claim_spare(table, seat, gate, RecordKind::Node, &mut supply.spare) {

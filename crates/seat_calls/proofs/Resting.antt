@@ -1,5 +1,5 @@
 -- An attempt that does nothing, and what the one before it was refused for.
-use Rattle.std.proofs.Common.{◌≡◌, ℕ, ◌+◌, List, [], ◌∷◌, ◌++◌, None, Err, true, refl, sym, ap, subst, ◌∙◌, arith}
+use Rattle.std.proofs.Common.{◌≡◌, ℕ, ◌+◌, List, [], ◌∷◌, ◌++◌, Option, None, Err, true, refl, sym, ap, subst, ◌∙◌, arith}
 use Rattle.std.specs.Prelude.{Contains}
 use Rattle.std.proofs.lemmas.Bool.{false≢true}
 use Rattle.std.proofs.lemmas.List.{append-nil}
@@ -21,7 +21,8 @@ use Rattle.rowex_table.specs.Seats.{TableView, SeatView}
 use Rattle.rowex_table.specs.Stays.{LeavesPin}
 use Rattle.epochs.specs.Rounds.{IsRound, advance_steps}
 use Rattle.epochs.specs.Runs.{Pins}
-use Rattle.rowex_records.specs.Claims.{HasMissedSince}
+use Rattle.rowex_records.specs.Claims.{HasMissedSince, IsAnothers}
+use Rattle.rowex_writing.specs.Changes.{LacksLeaves, LacksNodes}
 use Rattle.rowex_writing.specs.Attempts.{AreAttemptSteps, IsOfSearch}
 use Rattle.rowex_writing.specs.declared.attempts.TryFault.{TryFault}
 use Rattle.rowex_writing.specs.declared.attempts.TryFault.TheVariants.{Busy, FullNodes, FullLeaves}
@@ -87,17 +88,22 @@ module _ {G : Type 0} {table : TableView} {becomes : G → Event → G → Type 
 
 -- A round of collection follows, and then no step fails: what the call was refused for as full stays a cause.
 module _ {G : Type 0} {table : TableView} {becomes : G → Event → G → Type 0} {nodes leaves : ℕ} (key : Key) (k : PassView) (b c d : SeatView × G) (round : IsRound table becomes b c nodes leaves)
-    (failed : d.0.known.failed ≡ c.0.known.failed) where
-  missed_still : (r : Rec) → HasMissedSince b.0.known.failed r k.steps → HasMissedSince d.0.known.failed r k.steps
-  missed_still r (step, late, (act, word, tells, one, has)) =
+    (failed : d.0.known.failed ≡ c.0.known.failed) (number : d.0.known.pass ≡ c.0.known.pass) where
+  same : d.0.known.pass ≡ b.0.known.pass
+  same = number ∙ ap (λ (z : Known). z.pass) round.does.rest
+
+  missed_still : (Whose : Rec → Option ℕ → Type 0) (r : Rec) → HasMissedSince Whose b.0.known.failed r k.steps → HasMissedSince Whose d.0.known.failed r k.steps
+  missed_still Whose r (step, late, (act, word, tells, one, has)) =
       let x : Failed = record { act = act; location = word_of r 0; word = word; step = step } in
       let acts = LoadEpoch round.epoch ∷ advance_steps round.epoch round.found ++ LoadEpoch round.next ∷ round.pins ++ round.nodes ++ round.leaves in
       (step, late, (act, word, tells, one, subst (λ (z : List Failed). Contains z x) (sym failed) (run_failed table becomes acts b c round.does.steps x has)))
 
   pub cause_still : (fault : TryFault) → is_full (Err fault) ≡ true → IsCause table.layout key k (pass_of b.0) fault → IsCause table.layout key k (pass_of d.0) fault
   cause_still Busy full cause = absurd (false≢true full)
-  cause_still FullNodes full all = λ q low. missed_still (a_node q) (all q low)
-  cause_still FullLeaves full all = λ q low room. missed_still (a_leaf q) (all q low room)
+  cause_still FullNodes full (own, few, all) =
+      subst (λ q. LacksNodes table.layout q d.0.known.failed k.steps) (sym same) (own, few, λ q low. missed_still (IsAnothers table.layout b.0.known.pass own) (a_node q) (all q low))
+  cause_still FullLeaves full all =
+      subst (λ q. LacksLeaves table.layout key q d.0.known.failed k.steps) (sym same) (λ q low room. missed_still (IsAnothers table.layout b.0.known.pass []) (a_leaf q) (all q low room))
 
 -- one that lacked these was refused as full
 pub lacked_full : (full : Full) → is_full (Err (fault_of full)) ≡ true

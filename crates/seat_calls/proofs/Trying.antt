@@ -32,13 +32,13 @@ use Rattle.rowex_table.specs.Seats.{IsSame, SeatView, TableView}
 use Rattle.rowex_table.specs.Stays.{LeavesPin}
 use Rattle.rowex_table.proofs.ActsLeave.{act_leaves}
 use Rattle.rowex_table.proofs.Running.{runs_same}
-use Rattle.rowex_records.specs.Claims.{AllMissed, HasMissed}
+use Rattle.rowex_records.specs.Claims.{AllMissed, HasMissed, IsAnothers}
 use Rattle.rowex_rights.specs.Ending.{IsAtRest}
 use Rattle.epochs.specs.Runs.{Pins}
 use Rattle.rowex_writing.specs.Asking.{reply_to}
 use Rattle.rowex_writing.specs.Attempts as tries
 use Rattle.rowex_writing.specs.Attempts.{HasAnswered, HasLoadedRoot, HasRefused, IsChangeOf, IsLeafless}
-use Rattle.rowex_writing.specs.Changes.{HasChanged, HasTried}
+use Rattle.rowex_writing.specs.Changes.{HasChanged, HasTried, LacksLeaves, LacksNodes}
 use Rattle.rowex_writing.specs.Locks.{HasMetLock, HasMetTaken}
 use Rattle.rowex_writing.specs.declared.plan.Full.{Full}
 use Rattle.rowex_writing.specs.declared.plan.Full.TheVariants.{Nodes as OfNodes, Leaves as OfLeaves}
@@ -164,18 +164,20 @@ change_noted layout call reply s i t x was before settled gone event others fron
 -- Causes
 
 -- what holds of some step of these, from one on, holds of some from an earlier one on
-missed_on : (kind : ℕ → Rec) (n : ℕ) (tried more : List Failed) (since later : ℕ) → since ≤ later → more ≡ tried → AllMissed kind n tried later → AllMissed kind n more since
-missed_on kind n tried more since later le same all q low =
-    let one = all q low in (one.0, le_trans le one.1, subst (λ (z : List Failed). HasMissed z (kind q) one.0) (sym same) one.2)
+missed_on : (Whose : Rec → Option ℕ → Type 0) (kind : ℕ → Rec) (n : ℕ) (tried more : List Failed) (since later : ℕ) → since ≤ later → more ≡ tried → AllMissed Whose kind n tried later → AllMissed Whose kind n more since
+missed_on Whose kind n tried more since later le same all q low =
+    let one = all q low in (one.0, le_trans le one.1, subst (λ (z : List Failed). HasMissed Whose z (kind q) one.0) (sym same) one.2)
 
 -- a cause of a part of a call, after which the pass had no further failed step, saw no further change and loaded no root, is one of
 -- the call
 pub cause_from_before : (layout : Layout) (key : Key) (k j h i : PassView) (fault : TryFault) → k.steps ≤ j.steps → i.number ≡ h.number → i.failed ≡ h.failed → i.front ≡ h.front → i.fresh ≡ h.fresh →
     IsCause layout key j h fault → IsCause layout key k i fault
 cause_from_before layout key k j h i Busy steps number failed front fresh conflict = conflict_from_before layout k j h i steps number failed front fresh conflict
-cause_from_before layout key k j h i FullNodes steps number failed front fresh all = missed_on a_node layout.nodes h.failed i.failed k.steps j.steps steps failed all
-cause_from_before layout key k j h i FullLeaves steps number failed front fresh all = λ q low room.
-    let one = all q low room in (one.0, le_trans steps one.1, subst (λ (z : List Failed). HasMissed z (a_leaf q) one.0) (sym failed) one.2)
+cause_from_before layout key k j h i FullNodes steps number failed front fresh (own, few, all) =
+    subst (λ q. LacksNodes layout q i.failed k.steps) (sym number) (own, few, missed_on (IsAnothers layout h.number own) a_node layout.nodes h.failed i.failed k.steps j.steps steps failed all)
+cause_from_before layout key k j h i FullLeaves steps number failed front fresh all =
+    subst (λ q. LacksLeaves layout key q i.failed k.steps) (sym number)
+    (λ q low room. let one = all q low room in (one.0, le_trans steps one.1, subst (λ (z : List Failed). HasMissed (IsAnothers layout h.number []) z (a_leaf q) one.0) (sym failed) one.2))
 
 -- A part of a call that was not noted, and the rest of the call
 

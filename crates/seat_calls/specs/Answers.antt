@@ -14,9 +14,7 @@ use Rattle.finite_map.specs.Scans.{is_within, IsHeldBetween, IsLawfulScan}
 use Rattle.finite_map.specs.Weaves.{LegalHistory, weave}
 use Rattle.tries.specs.Keys.{Key}
 use Rattle.record_words.specs.declared.layout.Layout.{Layout}
-use Rattle.record_words.specs.Leaf.{words_for}
-use Rattle.versions.specs.declared.Rec.TheVariants.{Node as a_node}
-use Rattle.rowex_records.specs.Claims.{AllMissed, AllMissedFrom}
+use Rattle.rowex_writing.specs.Changes.{LacksLeaves, LacksNodes}
 use Rattle.rowex_writing.specs.Locks.{HasMetTaken}
 use Rattle.rowex_writing.specs.declared.attempts.TryFault.{TryFault}
 use Rattle.rowex_writing.specs.declared.attempts.TryFault.TheVariants.{Busy, FullNodes, FullLeaves}
@@ -122,11 +120,11 @@ pub record HasConflict (layout : Layout) (k j : PassView) : Type 0 where
   pub met : HasMetTaken layout j.number k.steps j.failed ⊎ IsOvertaken layout k j
 
 -- Why a call was refused: another pass stood in its way; or of each node record, or of each leaf record with room for its key, a claim
--- failed or a load found the state not free.
+-- failed or a load found the state not free. Then none of these was the pass's own, but for a few node records.
 abbrev pub IsCause : Layout → Key → PassView → PassView → TryFault → Type 0
 IsCause layout key k j Busy = HasConflict layout k j
-IsCause layout key k j FullNodes = AllMissed a_node layout.nodes j.failed k.steps
-IsCause layout key k j FullLeaves = AllMissedFrom layout (words_for (length key)) j.failed k.steps
+IsCause layout key k j FullNodes = LacksNodes layout j.number j.failed k.steps
+IsCause layout key k j FullLeaves = LacksLeaves layout key j.number j.failed k.steps
 
 -- A call was refused: it has changed nothing and adds no note, and this is the cause.
 pub record IsRefused (layout : Layout) (call : Call) (k j : PassView) (fault : TryFault) : Type 0 where

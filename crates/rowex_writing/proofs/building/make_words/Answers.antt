@@ -45,7 +45,7 @@ returns-clause-made g c = λ news node has spells b. (
 
 pub returns-clause-walk : goal.returns-clause-walk
 returns-clause-walk g c = λ since w.
-    subst (λ z. IsClaimWalk a_node c.args.table.now.layout.nodes since c.fill_words.new.seat.known z c.claim_node.new.build.nodes.next c.claim_node.new.build.left_nodes)
+    subst (λ z. IsClaimWalk c.args.table.now.layout a_node c.args.table.now.layout.nodes since c.fill_words.new.seat.known z c.claim_node.new.build.nodes.next c.claim_node.new.build.left_nodes)
     (sym (c.push.ensures.items ∙ ap (λ z. z ++ a_node c.in_ok-number.number ∷ []) c.claim_node.ensures.made))
     (walk_on a_node c.args.table.now.layout.nodes c.args.table.now g.G.Gate.becomes since (c.claim_node.new.seat, c.claim_node.new.gate) (c.fill_words.new.seat, c.fill_words.new.gate)
     (c.args.build.now.made.items ++ a_node c.in_ok-number.number ∷ []) (c.args.build.now.made.items ++ a_node c.in_ok-number.number ∷ []) c.claim_node.new.build.nodes.next c.claim_node.new.build.left_nodes

@@ -3,7 +3,8 @@ use Rattle.std.proofs.Common.{◌≡◌, ℕ, ◌+◌, ◌-◌, ◌*◌, ◌<◌
 use Rattle.record_words.specs.declared.layout.Layout.{Layout}
 use Rattle.record_words.specs.Layout.{leaf_size}
 use Rattle.versions.specs.declared.Rec.TheVariants.{Leaf as a_leaf}
-use Rattle.rowex_records.proofs.Claimed.{more_since}
+use Rattle.rowex_records.specs.Claims.{IsAnothersTo}
+use Rattle.rowex_records.proofs.Claimed.{missed_before, more_since}
 use Rattle.rowex_writing.specs.Classes.{AllMissedBetween}
 use Rattle.rowex_writing.proofs.Classes.{missed_all}
 use Rattle.rowex_writing.proofs.Locking.{goes_more, seat_of}
@@ -30,12 +31,14 @@ returns-in_err-number-clause-claims g c =
     let since = c.args.seat.now.known.steps in
     let goes = c.claim_between.ensures.goes in
     let late = steps_rise table g.G.Gate.becomes goes.acts (c.args.seat.now, c.args.gate.now) (c.claim_between.new.seat, c.claim_between.new.gate) goes.steps in
-    let later = subst (λ (z : Layout). AllMissedBetween c.pass_by-from.result z.leaves c.claim_between.new.seat.known.failed since) at c.in_default.ensures.claims.1 in
+    let later = subst (λ (z : Layout). AllMissedBetween (IsAnothersTo table.layout c.args.seat.now.known) c.pass_by-from.result z.leaves c.claim_between.new.seat.known.failed since) at c.in_default.ensures.claims.1 in
     rw c.from_residual.ensures (
       c.in_err-number.ensures.claims.0 ∙ c.in_default.ensures.claims.0,
-      missed_all table g.G.Gate.becomes c.args.words c.first_with-first.result c.pass_by-from.result since (c.claim_between.new.seat, c.claim_between.new.gate)
+      missed_all table g.G.Gate.becomes (IsAnothersTo table.layout c.args.seat.now.known) c.args.words c.first_with-first.result c.pass_by-from.result since (c.claim_between.new.seat, c.claim_between.new.gate)
           (c.claim_between-2.new.seat, c.claim_between-2.new.gate) late c.claim_between-2.ensures.goes
-          (λ q low. subst (λ (z : Layout). leaf_size z q < c.args.words) at (c.first_with-first.ensures.below q low)) later c.in_err-number.ensures.claims.1,
+          (λ q low. subst (λ (z : Layout). leaf_size z q < c.args.words) at (c.first_with-first.ensures.below q low)) later
+          (λ q low high. missed_before table.layout c.args.seat.now.known c.claim_between.new.seat.known c.claim_between-2.new.seat.known.failed (a_leaf q) c.claim_between.new.seat.known.steps
+          goes.stays.0.pass c.in_default.ensures.claims.0 (c.in_err-number.ensures.claims.1 q low high)),
     )
 
 pub returns-clause-goes : goal.returns-clause-goes

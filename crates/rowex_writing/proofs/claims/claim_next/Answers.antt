@@ -1,7 +1,7 @@
 -- The spare record was not free, or there was none; then one of all records is claimed, or none was free.
 use Rattle.std.proofs.Common.{◌∙◌, arith}
-use Rattle.rowex_records.specs.Claims.{count_of, record_of}
-use Rattle.rowex_records.proofs.Claimed.{all_earlier, claims_holds, more_since}
+use Rattle.rowex_records.specs.Claims.{IsAnothersTo, count_of, record_of}
+use Rattle.rowex_records.proofs.Claimed.{all_earlier, claims_holds, missed_before, more_since}
 use Rattle.rowex_writing.proofs.Locking.{goes_more, seat_of}
 use Rattle.rowex_writing.proofs.Making.{none_on, claim_on, steps_rise}
 use Rattle.rowex_writing.proofs.claims.claim_next.Goals as goal
@@ -16,8 +16,10 @@ returns-in_err-number-clause-goes g c =
 pub returns-in_err-number-clause-claims : goal.returns-in_err-number-clause-claims
 returns-in_err-number-clause-claims g c = rw c.from_residual.ensures (
   c.in_err-number.ensures.claims.own ∙ c.in_default.ensures.claims,
-  all_earlier (record_of c.args.kind) (count_of c.args.kind c.args.table.now.layout) c.claim_record.new.seat.known.failed c.args.seat.now.known.steps c.claim_spare.new.seat.known.steps
-      (steps_rise c.args.table.now g.G.Gate.becomes c.claim_spare.ensures.goes.acts (c.args.seat.now, c.args.gate.now) (c.claim_spare.new.seat, c.claim_spare.new.gate) c.claim_spare.ensures.goes.steps) c.in_err-number.ensures.none,
+  all_earlier (IsAnothersTo c.args.table.now.layout c.args.seat.now.known) (record_of c.args.kind) (count_of c.args.kind c.args.table.now.layout) c.claim_record.new.seat.known.failed c.args.seat.now.known.steps c.claim_spare.new.seat.known.steps
+      (steps_rise c.args.table.now g.G.Gate.becomes c.claim_spare.ensures.goes.acts (c.args.seat.now, c.args.gate.now) (c.claim_spare.new.seat, c.claim_spare.new.gate) c.claim_spare.ensures.goes.steps)
+      (λ q low. missed_before c.args.table.now.layout c.args.seat.now.known c.claim_spare.new.seat.known c.claim_record.new.seat.known.failed (record_of c.args.kind q) c.claim_spare.new.seat.known.steps
+      c.claim_spare.ensures.goes.stays.0.pass c.in_default.ensures.claims (c.in_err-number.ensures.none q low)),
 )
 
 pub returns-clause-goes : goal.returns-clause-goes

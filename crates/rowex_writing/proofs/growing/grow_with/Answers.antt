@@ -20,8 +20,12 @@ returns-in_default-clause-full g c =
     record {
       not_made = c.in_default.ensures.made may.growing;
       few = omega (arith, made_one may.growing.lowest.made_leaf.building, c.raise_grown.ensures.more, may.within.0);
-      full_of = c.in_default.ensures.walk c.args.seat.now.known.steps
-          (walk_begins a_node c.args.table.now.layout.nodes c.args.seat.now.known c.args.build.now.made.items c.args.build.now.nodes.next c.layout.result.nodes c.args.table.now.layout.nodes_in_range.0 (ap (λ (z : Layout). z.nodes) c.layout.ensures));
+      full_of = (
+        c.raise_grown.new.build.made.items,
+        omega (arith, made_one may.growing.lowest.made_leaf.building, c.raise_grown.ensures.more, may.within, may.depth),
+        c.in_default.ensures.walk c.args.seat.now.known.steps
+            (walk_begins a_node c.args.table.now.layout.nodes c.args.table.now.layout c.args.seat.now.known c.args.build.now.made.items c.args.build.now.nodes.next c.layout.result.nodes c.args.table.now.layout.nodes_in_range.0 (ap (λ (z : Layout). z.nodes) c.layout.ensures)),
+      );
     }
 
 pub returns-in_default-clause-few : goal.returns-in_default-clause-few

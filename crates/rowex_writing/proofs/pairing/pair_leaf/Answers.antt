@@ -52,12 +52,16 @@ returns-in_default-make_node g c = record {
     goes = (goes_more c.args.table.now g.G.Gate.becomes (c.args.seat.now, c.args.gate.now) (c.make_leaf.new.seat, c.make_leaf.new.gate) (c.make_node.new.seat, c.make_node.new.gate) c.make_leaf.ensures.goes c.make_node.ensures.goes);
     raised = tt;
     full = (let missed = c.in_default-make_node.ensures.walk c.make_leaf.new.seat.known.steps
-        (walk_begins a_node c.args.table.now.layout.nodes c.make_leaf.new.seat.known c.make_leaf.new.build.made.items c.make_leaf.new.build.nodes.next c.layout.result.nodes c.args.table.now.layout.nodes_in_range.0 (ap (λ (z : Layout). z.nodes) c.layout.ensures)) in
+        (walk_begins a_node c.args.table.now.layout.nodes c.args.table.now.layout c.make_leaf.new.seat.known c.make_leaf.new.build.made.items c.make_leaf.new.build.nodes.next c.layout.result.nodes c.args.table.now.layout.nodes_in_range.0 (ap (λ (z : Layout). z.nodes) c.layout.ensures)) in
         let rise = steps_rise c.args.table.now g.G.Gate.becomes c.make_leaf.ensures.goes.acts (c.args.seat.now, c.args.gate.now) (c.make_leaf.new.seat, c.make_leaf.new.gate) c.make_leaf.ensures.goes.steps in
         record {
           not_made = c.in_default-make_node.ensures.made (made_of_leaf (item c.in-Some.leaf c.args.job.now.key.now c.args.job.now.value) c.in-Some.ensures.made.fresh ∷ []) c.in-Some.ensures.made.building;
           few = omega (arith, made_one c.in-Some.ensures.made.building, c.make_node.ensures.more);
-          full_of = full_since c.args.table.now.layout c.args.job.now.key.now c.args.seat.now.known c.make_leaf.new.seat.known c.make_node.new.seat.known Nodes rise missed;
+          full_of = full_since c.args.table.now.layout c.args.job.now.key.now c.args.seat.now.known c.make_leaf.new.seat.known c.make_node.new.seat.known Nodes rise (
+            c.make_node.new.build.made.items,
+            omega (arith, made_one c.in-Some.ensures.made.building, c.make_node.ensures.more),
+            missed,
+          );
         });
     few = (let whole : c.layout.result.nodes ≡ c.args.table.now.layout.nodes = ap (λ (z : Layout). z.nodes) c.layout.ensures in
         let few : c.make_node.new.seat.known.steps + 2 * c.make_node.new.build.left_nodes ≤ c.make_leaf.new.seat.known.steps + 2 * c.layout.result.nodes + node_steps + length c.make_node.new.build.made.items = c.in_default-make_node.ensures.few in

@@ -1,9 +1,10 @@
 -- A claim and its fills are the first record.
 use Rattle.std.proofs.Common.{◌∷◌, [], ◌++◌, subst, sym, ap, ◌∙◌, length, arith}
 use Rattle.versions.specs.declared.Rec.TheVariants.{Leaf as a_leaf}
-use Rattle.rowex_records.specs.Claims.{AllMissedFrom}
+use Rattle.rowex_records.specs.Claims.{AllMissedFrom, IsAnothersTo}
 use Rattle.rowex_records.proofs.Claimed.{more_is_claimed}
 use Rattle.rowex_writing.specs.Building.{HasLeafMade, IsBuilding}
+use Rattle.rowex_writing.proofs.Classes.{lacks_leaves}
 use Rattle.rowex_writing.proofs.Locking.{goes_more, seat_of}
 use Rattle.rowex_writing.proofs.Making.{set_some_on, building_leaf, building_none, building_on}
 use Rattle.rowex_writing.proofs.publishing.make_leaf.Goals as goal
@@ -19,7 +20,8 @@ pub returns-in_err-number-clause-made : goal.returns-in_err-number-clause-made
 returns-in_err-number-clause-made g c = rw c.from_residual.ensures (
   subst (λ z. IsBuilding c.args.table.now c.claim_leaf.new.seat z []) (sym c.clear.ensures) (building_on c.args.table.now g.G.Gate.becomes (c.args.seat.now, c.args.gate.now) (c.claim_leaf.new.seat, c.claim_leaf.new.gate) [] []
       c.claim_leaf.ensures.goes c.in_err-number.ensures.claims.0 (building_none c.args.table.now c.args.seat.now c.requires.own c.requires.possible c.requires.none)),
-  subst (λ w. AllMissedFrom c.args.table.now.layout w c.claim_leaf.new.seat.known.failed c.args.seat.now.known.steps) c.words_for.ensures.words c.in_err-number.ensures.claims.1,
+  lacks_leaves c.args.table.now.layout c.args.key.now c.args.seat.now.known c.claim_leaf.new.seat.known c.claim_leaf.new.seat.known.failed c.args.seat.now.known.steps c.claim_leaf.ensures.goes.stays.0.pass c.requires.none
+      (subst (λ w. AllMissedFrom (IsAnothersTo c.args.table.now.layout c.args.seat.now.known) c.args.table.now.layout w c.claim_leaf.new.seat.known.failed c.args.seat.now.known.steps) c.words_for.ensures.words c.in_err-number.ensures.claims.1),
 )
 
 pub returns-clause-goes : goal.returns-clause-goes

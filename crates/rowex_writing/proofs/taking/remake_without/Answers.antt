@@ -39,8 +39,12 @@ returns-in_default-clause-full g c =
       record {
         not_made = c.in_default.ensures.made job.key.now words (lowest_leads c.args.table.now c.args.seat.now m job.key.now job.way.now c.args.number value job.span b _ at) h;
         few = omega (arith, ap length c.requires.made, c.raise_without.ensures.more);
-        full_of = c.in_default.ensures.walk c.args.seat.now.known.steps
-            (walk_begins a_node c.args.table.now.layout.nodes c.args.seat.now.known c.args.build.now.made.items c.args.build.now.nodes.next c.layout.result.nodes c.args.table.now.layout.nodes_in_range.0 (ap (λ (z : Layout). z.nodes) c.layout.ensures));
+        full_of = (
+          c.raise_without.new.build.made.items,
+          omega (arith, ap length c.requires.made, c.raise_without.ensures.more),
+          c.in_default.ensures.walk c.args.seat.now.known.steps
+              (walk_begins a_node c.args.table.now.layout.nodes c.args.table.now.layout c.args.seat.now.known c.args.build.now.made.items c.args.build.now.nodes.next c.layout.result.nodes c.args.table.now.layout.nodes_in_range.0 (ap (λ (z : Layout). z.nodes) c.layout.ensures)),
+        );
       },
     )
 

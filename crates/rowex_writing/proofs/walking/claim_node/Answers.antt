@@ -1,11 +1,14 @@
 -- A record is claimed; or none was free, and those that are made are looked at.
-use Rattle.std.proofs.Common.{◌∙◌, sym, subst, Contains, ap, arith, length}
+use Rattle.std.proofs.Common.{◌∙◌, ℕ, Option, sym, subst, Contains, ap, arith, length}
+use Rattle.versions.specs.declared.Rec.{Rec as Record}
 use Rattle.versions.specs.declared.Rec.TheVariants.{Node as a_node}
+use Rattle.rowex_records.specs.Claims.{HasMissedSince, IsAnothers}
 use Rattle.rowex_records.proofs.Claimed.{missed_earlier}
 use Rattle.rowex_writing.specs.Building.{IsBuilding}
+use Rattle.rowex_writing.proofs.Keeping.{made_alone}
 use Rattle.rowex_writing.proofs.Locking.{goes_more}
 use Rattle.rowex_writing.proofs.Making.{building_on}
-use Rattle.rowex_writing.proofs.Walked.{walk_on, walk_ends}
+use Rattle.rowex_writing.proofs.Walked.{missed_as, walk_on, walk_ends}
 use Rattle.rowex_writing.proofs.walking.claim_node.Goals as goal
 
 pub claim_left-claimed-requires : goal.claim_left-claimed-requires
@@ -30,10 +33,17 @@ returns-clause-claims g c = c.look_at.ensures.own ∙ c.in_default.ensures.claim
 
 pub returns-clause-walk : goal.returns-clause-walk
 returns-clause-walk g c = λ since w.
-    let (none, walk) = c.in_default.ensures.walk since c.args.build.now.made.items w in
+    let (news, b) = c.requires.building in
+    let made = c.args.build.now.made.items in
+    let (none, walk) = c.in_default.ensures.walk since made (made_alone c.args.table.now c.args.seat.now made news b) w in
     let early = walk.early in
-    walk_ends a_node c.args.table.now.layout.nodes since c.look_at.new.seat.known c.args.build.now.made.items c.claim_left-claimed.new.supply.next c.claim_left-claimed.new.left none
-    (λ r has. missed_earlier c.look_at.new.seat.known.failed r since c.claim_left-claimed.new.seat.known.steps early (c.look_at.ensures.seen r (subst (λ z. Contains z r) (sym c.as_slice.ensures.value) has)))
+    walk_ends a_node c.args.table.now.layout.nodes c.args.table.now.layout since c.look_at.new.seat.known c.args.build.now.made.items c.claim_left-claimed.new.supply.next c.claim_left-claimed.new.left none
+    (λ r has.
+    let Whose : Record → Option ℕ → Type 0 = IsAnothers c.args.table.now.layout c.claim_left-claimed.new.seat.known.pass made in
+    missed_as c.args.table.now.layout c.claim_left-claimed.new.seat.known.pass c.look_at.new.seat.known.pass made made c.look_at.new.seat.known.failed r since c.look_at.ensures.goes.stays.0.pass (λ h. h)
+    (missed_earlier Whose c.look_at.new.seat.known.failed r since c.claim_left-claimed.new.seat.known.steps early
+    (subst (λ z. HasMissedSince (IsAnothers c.args.table.now.layout c.claim_left-claimed.new.seat.known.pass z) c.look_at.new.seat.known.failed r c.claim_left-claimed.new.seat.known.steps) c.as_slice.ensures.value
+    (c.look_at.ensures.seen r (subst (λ z. Contains z r) (sym c.as_slice.ensures.value) has)))))
     (walk_on a_node c.args.table.now.layout.nodes c.args.table.now g.G.Gate.becomes since (c.claim_left-claimed.new.seat, c.claim_left-claimed.new.gate) (c.look_at.new.seat, c.look_at.new.gate) c.args.build.now.made.items c.args.build.now.made.items
     c.claim_left-claimed.new.supply.next c.claim_left-claimed.new.left c.look_at.ensures.goes (λ r has. has) walk)
 
@@ -44,7 +54,9 @@ pub returns-in-Some-clause-claims : goal.returns-in-Some-clause-claims
 returns-in-Some-clause-claims g c = c.in-Some.ensures.claims
 
 pub returns-in-Some-clause-walk : goal.returns-in-Some-clause-walk
-returns-in-Some-clause-walk g c = λ since w. c.in-Some.ensures.walk since c.args.build.now.made.items w
+returns-in-Some-clause-walk g c = λ since w.
+    let (news, b) = c.requires.building in
+    c.in-Some.ensures.walk since c.args.build.now.made.items (made_alone c.args.table.now c.args.seat.now c.args.build.now.made.items news b) w
 
 pub returns-in-Some-clause-few : goal.returns-in-Some-clause-few
 returns-in-Some-clause-few g c = let few = c.in-Some.ensures.few in omega (arith, few)
