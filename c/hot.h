@@ -180,7 +180,7 @@ hot_status hot_close(hot_handle *handle);
 hot_status hot_close_index(hot_index *index);
 
 /* Order in time. A handle has seen its own calls, and all that was published when a call of it loaded the root. Whatever a handle has
- * seen comes before its later calls. These calls let a handle see what another has seen. Handles of hot_create can't make them. */
+ * seen comes before its later calls. These calls let a handle see what another has seen. */
 
 /* Lets two handles of an index see all that either has seen. So later calls of each come after the earlier calls of both. It makes 6
  * loads, which count as no steps.

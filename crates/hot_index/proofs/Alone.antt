@@ -2,8 +2,8 @@
 use Rattle.std.proofs.Common.{◌≡◌, ◌⊎◌, inl, inr, ℕ, ◌<◌, List, [], Option, Some, None, Contains, ⊎_elim, refl, arith}
 use Rattle.record_words.specs.declared.layout.Layout.{Layout}
 use Rattle.versions.specs.declared.Rec.{Rec}
-use Rattle.rowex_core.specs.declared.known.Failed.{Failed}
-use Rattle.rowex_records.specs.Claims.{HasMissedSince, IsAnothers}
+use Rattle.versions.specs.declared.Rec.TheVariants.{Node as a_node, Leaf as a_leaf}
+use Rattle.rowex_records.specs.Claims.{IsAnothers}
 use Rattle.rowex_records.proofs.Claimed.{missed_so}
 use Rattle.rowex_writing.specs.Locks.{HasMetTaken}
 use Rattle.seat_calls.specs.Answers.{IsOvertaken}
@@ -30,10 +30,10 @@ alone_with_none layout q r by one mine its = ⊎_elim (λ (nobodys : IsNobodys r
 
 pub one_pass_full_is_full : OnePassFullIsFull
 one_pass_full_is_full layout key k j one mine = (
-  λ all q low room. missed_so (IsAnothers layout j.number []) IsNobodys j.failed _ k.steps (λ by. alone_with_none layout j.number _ by one mine) (all q low room),
+  λ all q low room. missed_so (IsAnothers layout j.number []) IsNobodys j.failed (a_leaf q) k.steps (λ by. alone_with_none layout j.number (a_leaf q) by one mine) (all q low room),
   λ cause. (
     cause.0,
     cause.1,
-    λ q low. missed_so (IsAnothers layout j.number cause.0) (λ r by. IsNobodys r by ⊎ Contains cause.0 r) j.failed _ k.steps (λ by. alone layout j.number cause.0 _ by one mine) (cause.2 q low),
+    λ q low. missed_so (IsAnothers layout j.number cause.0) (λ r by. IsNobodys r by ⊎ Contains cause.0 r) j.failed (a_node q) k.steps (λ by. alone layout j.number cause.0 (a_node q) by one mine) (cause.2 q low),
   ),
 )

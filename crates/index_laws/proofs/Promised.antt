@@ -18,7 +18,7 @@ use Rattle.rowex_core.proofs.Promises.{entries_in_reach, in_reach}
 use Rattle.record_words.specs.declared.layout.Layout.{Layout}
 use Rattle.seat_calls.specs.Answers.{IsCause, MayRefuse, ScanLaw}
 use Rattle.seat_calls.specs.Many.{most_entries}
-use Rattle.hot_index.proofs.Alone.{one_pass_is_never_busy}
+use Rattle.hot_index.proofs.Alone.{one_pass_full_is_full, one_pass_is_never_busy}
 use Rattle.hot_index.proofs.Stamped.{returned_before_begun}
 use Rattle.real_time.specs.Moments.{Happening, IsWholeRun, Moment}
 use Rattle.real_time.specs.Scanning.{IsScanInTime}
@@ -128,6 +128,7 @@ headline = record {
   scans = scans;
   reverse_scans = reverse_scans;
   refusals = refusals;
+  full_alone = one_pass_full_is_full;
   never_refused = never_refused;
   steps = steps;
   out_of_reach = in_reach;

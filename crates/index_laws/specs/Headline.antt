@@ -32,7 +32,7 @@ use Rattle.seat_calls.specs.Counts.{round_steps, try_steps}
 use Rattle.seat_calls.specs.Many.{HasGotMany, most_entries}
 use Rattle.seat_calls.specs.Passes.{PassView, pass_of}
 use Rattle.seat_calls.specs.Traces.{HasCollected, HasGot, HasGotRange, HasMade, untold}
-use Rattle.hot_index.specs.Statements.{ReturnedBeforeBegun}
+use Rattle.hot_index.specs.Statements.{OnePassFullIsFull, ReturnedBeforeBegun}
 use Rattle.real_time.specs.Moments.{Happening, IsWholeRun, Moment, Pending}
 use Rattle.real_time.specs.Scanning.{IsScanInTime, map_at}
 use Rattle.index_laws.specs.Lives.{OneHistoryOfAll}
@@ -124,6 +124,8 @@ pub record Headline : Type 0 where
   pub scans : ScansShow IsLawfulScan IsUpToLast
   pub reverse_scans : ScansShow IsLawfulReverseScan IsDownToLast
   pub refusals : Refusals
+  -- with one pass, each record that a full call lacked was in the tree or retired, but for a few node records that it had claimed
+  pub full_alone : OnePassFullIsFull
   pub never_refused : NeverRefused
   pub steps : BoundedSteps
   -- a record that a pinned pass may reach is not reused, and its words are as they were when it stood in the tree, but for its state, a node's

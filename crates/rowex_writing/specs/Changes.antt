@@ -119,12 +119,13 @@ pub record HasChanged (k j : Known) (x : Change) (was : Option ℕ) : Type 0 whe
   pub fits : Fits (map_of before) x
   pub was_held : value_at (map_of before) x.key ≡ was
 
--- From this step on pass q found each node record not free: another pass had it, or a node in the tree or a retired one; or it is one of
--- the few that q had claimed for its change.
+-- Pass q lacks a node record: each was found not free, at this step or a later one. None was its own, but for a few that it had then; so
+-- another pass had it, or nobody, in the tree or retired.
 abbrev pub LacksNodes : Layout → ℕ → List Failed → ℕ → Type 0
 LacksNodes layout q failed since = (own : List Rec) × (length own ≤ most_made) × AllMissed (IsAnothers layout q own) a_node layout.nodes failed since
 
--- It found each leaf record that has room for the key not free: another pass had it, or a leaf in the tree or a retired one.
+-- It lacks a leaf record with room for the key: each was found not free. None was its own; so another pass had it, or nobody, in the tree
+-- or retired.
 abbrev pub LacksLeaves : Layout → Key → ℕ → List Failed → ℕ → Type 0
 LacksLeaves layout key q failed since = AllMissedFrom (IsAnothers layout q []) layout (words_for (length key)) failed since
 

@@ -12,7 +12,7 @@ most_nodes = 9 * MAX_BYTES
 abbrev pub most_locks : ℕ
 most_locks = suc most_nodes
 
--- the most records that it makes: two for each lock
+-- the most records that a change makes: two for each lock
 abbrev pub most_made : ℕ
 most_made = 2 * most_locks
 
