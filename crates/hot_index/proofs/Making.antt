@@ -40,7 +40,7 @@ rest_of table first s seats h q t e = subst (λ i. IsNewSeatOf table i t) (omega
 
 -- the pass of a new seat is new
 pub new_pass : (table : TableView) (q : ℕ) (s : SeatView) → IsNewSeatOf table q s → Owns table (pass_of s) × IsNewPass q (pass_of s)
-new_pass table q s new = (new.0, (ap (λ (k : Known). k.pass) new.1, ap (λ (k : Known). k.front) new.1, ap (λ (k : Known). k.notes) new.1))
+new_pass table q s new = (new.0, (ap (λ (k : Known). k.pass) new.1, ap (λ (k : Known). k.front) new.1, ap (λ (k : Known). k.notes) new.1, new.1, new.2, new.3))
 
 -- what is told just if something was found is told just if what that means holds
 pub told_as_found : {Told Found Means : Type 0} → (Told ↔ Found) → (Found ↔ Means) → (Told ↔ Means)

@@ -1,10 +1,10 @@
 -- What a pass has seen that follows a stamp.
-use Rattle.std.specs.Prelude.{◌≡◌, List}
+use Rattle.std.specs.Prelude.{◌≡◌, suc, List}
 use Rattle.finite_map.specs.declared.Change.{Change}
 use Rattle.finite_map.specs.Fronts.{BeginsWith}
 use Rattle.record_words.specs.declared.layout.Layout.{Layout}
 use Rattle.rowex_table.specs.Rule.{with_front}
-use Rattle.rowex_table.specs.Seats.{StampView, TableView}
+use Rattle.rowex_table.specs.Seats.{IsShown, StampView, TableView}
 use Rattle.seat_calls.specs.Answers.{IsUnnoted}
 use Rattle.seat_calls.specs.Passes.{PassView, pass_of}
 
@@ -12,9 +12,14 @@ use Rattle.seat_calls.specs.Passes.{PassView, pass_of}
 abbrev pub IsStampFrom : TableView → StampView → Type 0
 IsStampFrom index stamp = stamp.table ≡ index.id
 
--- The pass k is the pass j now: it has seen the stamp's changes, beside those that it had seen before. No call of it is noted, and nothing
--- else of its seat has changed, so it has made no step.
+-- the pass k is the pass j now, and has made one stamp more; nothing else of it has changed
+abbrev pub HasStamped : PassView → PassView → Type 0
+HasStamped k j = j ≡ record k { seat = record k.seat { asides = suc k.seat.asides } }
+
+-- The pass k is the pass j now: it has seen the stamp's changes, beside those that it had seen before, and knows of all steps so far. No call
+-- of it is noted, and nothing else of its seat has changed but that this is counted; so it has made no step.
 pub record HasCaughtUp (layout : Layout) (stamp : List Change) (k j : PassView) : Type 0 where
   pub unnoted : IsUnnoted layout k j
   pub told : BeginsWith j.front stamp
-  pub rest : j ≡ pass_of (record k.seat { known = with_front j.front k.seat.known })
+  pub shown : IsShown layout k.seat j.seat
+  pub rest : j ≡ pass_of (record k.seat { known = with_front j.front k.seat.known; trace = j.seat.trace; asides = suc k.seat.asides })

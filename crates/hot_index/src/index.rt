@@ -2,6 +2,7 @@
 
 ghost use Rattle.std.specs.Prelude.{◌≡◌, length};
 ghost use Rattle.finite_map.specs.declared.Call.TheVariants.{Get, Insert, Remove, Upsert};
+ghost use Rattle.rowex_table.specs.Seats.{IsShown};
 ghost use Rattle.seat_calls.specs.Passes.{Owns};
 ghost use Rattle.seat_calls.specs.Answers.{IsNoted, IsUnnoted, HaveMet, got};
 ghost use Rattle.seat_calls.specs.Calls.{IsAwaited, IsAwaitedWith, IsTried, IsTriedWith};
@@ -288,7 +289,8 @@ impl Index {
         self.change_with(rt, pass, &mut NoGate, &Call::Remove(key.copy()))
     }
 
-    /// Lets two passes meet, and returns them. Each has then seen what the other had seen, and all that was published before.
+    /// Lets two passes meet, and returns them. Each has then seen what the other had seen, and all that was published before. Each knows
+    /// of all steps so far, and the meeting is counted among its `asides`.
     ///
     /// It loads one word three times and ignores what it finds. These loads count as no steps of either pass, and no gate hears of
     /// them.
@@ -297,6 +299,8 @@ impl Index {
         ensures own { Owns self.now result.0 × Owns self.now result.1 }
         ensures met { HaveMet self.now.layout first second result.0 result.1 }
         ensures steps { (result.0.steps ≡ first.steps) × (result.1.steps ≡ second.steps) }
+        ensures traces { result.0.seat.trace ≡ result.1.seat.trace }
+        ensures shown { IsShown self.now.layout first.seat result.0.seat × IsShown self.now.layout second.seat result.1.seat }
     {
         let (one, other) = (first.room, second.room);
         let (first, second) = self.table.meet_seats(first.seat, second.seat);

@@ -1,8 +1,9 @@
 //! Stamps: what a pass has seen, as a value that can go to another thread without the pass.
 
 ghost use Rattle.std.specs.Prelude.{◌≡◌};
+ghost use Rattle.rowex_table.specs.Traces.{RunBeginsWith};
 ghost use Rattle.seat_calls.specs.Passes.{Owns};
-ghost use Rattle.hot_index.specs.Stamps.{HasCaughtUp, IsStampFrom};
+ghost use Rattle.hot_index.specs.Stamps.{HasCaughtUp, HasStamped, IsStampFrom};
 
 use crate::index::{Index, Pass};
 use rowex_table::TableStamp;
@@ -24,25 +25,29 @@ impl Model for Stamp {
 }
 
 impl Index {
-    /// A stamp of all that the pass has seen, its own changes included. The pass stays as it is. The call makes one load, which
-    /// counts as no step.
+    /// A stamp of all that the pass has seen, its own changes included. The pass stays as it is, but that the stamp is counted among its
+    /// `asides`. The call makes one load, which counts as no step.
     pub fn stamp(&self, pass: &mut Pass) -> Stamp
         requires { Owns self.now pass.old }
-        ensures same { pass.new ≡ pass.old }
+        ensures same { HasStamped pass.old pass.new }
+        ensures owned { Owns self.now pass.new }
         ensures own { IsStampFrom self.now result }
         ensures front { result.front ≡ pass.old.front }
+        ensures trace { result.trace ≡ pass.old.seat.trace }
     {
         let stamp = self.table.stamp_seat(&mut pass.seat);
         Stamp { stamp }
     }
 
     /// Lets the pass see all that was seen when the stamp was made. So its later calls come after the calls that had returned by then
-    /// (`laws::returned_before_begun`). Nothing else of the pass changes. The call makes two loads, which count as no steps.
+    /// (`laws::returned_before_begun`). Nothing else of the pass changes, but that this is counted among its `asides`. The call makes two
+    /// loads, which count as no steps.
     pub fn follow(&self, pass: &mut Pass, stamp: Stamp)
         requires own { Owns self.now pass.old }
         requires stamp { IsStampFrom self.now stamp }
         ensures own { Owns self.now pass.new }
         ensures followed { HasCaughtUp self.now.layout stamp.front pass.old pass.new }
+        ensures traced { RunBeginsWith pass.new.seat.trace stamp.trace }
     {
         let Stamp { stamp } = stamp;
         self.table.follow_stamp(&mut pass.seat, stamp);

@@ -2,5 +2,6 @@
 pub mod Timed
 pub mod Shown
 pub mod Stepping
+pub mod Traced
 pub mod Living
 pub mod Promised

@@ -26,6 +26,7 @@ use Rattle.real_time.proofs.Replies.{behind, effect, replies_in_time}
 use Rattle.real_time.proofs.Scanning.{scans_in_time}
 use Rattle.index_laws.specs.Headline.{BoundedSteps, Freshness, FreshnessOfMany, Headline, History, NeverRefused, OneHistory, Refusals, ScansShow}
 use Rattle.index_laws.proofs.Living.{one_history_of_all}
+use Rattle.index_laws.proofs.Traced.{ended_before_loaded, traced_are_executions}
 use Rattle.index_laws.proofs.Timed.{executions_are_linearizable, legal_now, noted_placed, responses, returned_responds}
 
 calls-append : (ns : List Note) (n : Note) → calls_of (ns ++ n ∷ []) ≡ calls_of ns ++ answered n.call n.reply ∷ []
@@ -120,11 +121,13 @@ headline = record {
   history = history;
   one_history = one_history;
   one_history_of_all = one_history_of_all;
+  traced = traced_are_executions;
   linearizable = executions_are_linearizable;
   responses = responses;
   freshness = freshness;
   freshness_of_many = freshness_of_many;
   order_in_time = returned_before_begun;
+  order_of_steps = ended_before_loaded;
   scans = scans;
   reverse_scans = reverse_scans;
   refusals = refusals;

@@ -4,8 +4,9 @@
 -- What no contract can say, and so is no promise here:
 -- - that the code runs, and that a call returns at all;
 -- - what a call does that never returns, but for its steps on the table;
--- - that what passes do is an execution. The kit says of its table that each atomic step is one step of it, and that it has one state between
---   any two of them. What one step then is in a run, `StepsAreMoments` says.
+-- - when a call begins and ends, by the clock. The kit says of its table that each atomic step is one step of it, and that it has one state
+--   between any two of them. By its rule all steps are one list, of which each pass knows a part, and contracts of steps say how they follow one
+--   another in it: so what they tell is an execution (`traced`).
 use Rattle.std.specs.Prelude.{◌≡◌, ◌≢◌, ◌⊎◌, ℕ, ◌+◌, ◌*◌, ◌<◌, ◌≤◌, All, List, [], ◌∷◌, ◌++◌, Result}
 use Rattle.key_bits.specs.declared.TheConstants.{MAX_BYTES}
 use Rattle.finite_map.specs.declared.Call.{Call}
@@ -38,6 +39,7 @@ use Rattle.real_time.specs.Scanning.{IsScanInTime, map_at}
 use Rattle.index_laws.specs.Lives.{OneHistoryOfAll}
 use Rattle.index_laws.specs.Executions.{HasAnsweredMany, IsReturning}
 use Rattle.index_laws.specs.Statements.{ExecutionsAreLinearizable, Responses}
+use Rattle.index_laws.specs.Traced.{EndedBeforeLoaded, TracedAreExecutions}
 
 -- The answered calls of a pass, with the changes of others that it has seen, are a legal history of a finite map, in which each stands once
 -- and in the order in which it was made: a call that is noted comes last.
@@ -114,6 +116,8 @@ pub record Headline : Type 0 where
   pub one_history : OneHistory
   -- and so do any number of passes that have seen the same: each call that they have lived through stands in it once
   pub one_history_of_all : OneHistoryOfAll
+  -- contracts of steps, of meetings and stamps and of calls, linked by what passes know of the table's steps, make an execution
+  pub traced : TracedAreExecutions
   -- the look-ups and changes of an execution are linearizable; and what contracts say of calls that have ended makes an execution a run
   pub linearizable : ExecutionsAreLinearizable
   pub responses : Responses
@@ -121,6 +125,8 @@ pub record Headline : Type 0 where
   pub freshness_of_many : FreshnessOfMany
   -- between passes that hear of each other by a stamp or a meeting, a call that had returned stands at no later place than one that then began
   pub order_in_time : ReturnedBeforeBegun
+  -- and between any passes, a call stands at no later place than one that loads the root after its last step
+  pub order_of_steps : EndedBeforeLoaded
   pub scans : ScansShow IsLawfulScan IsUpToLast
   pub reverse_scans : ScansShow IsLawfulReverseScan IsDownToLast
   pub refusals : Refusals

@@ -1,6 +1,7 @@
 -- The definitions of the crate.
 pub mod Executions
 pub mod Steps
+pub mod Traced
 pub mod Statements
 pub mod Lives
 pub mod Headline

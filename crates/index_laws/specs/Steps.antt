@@ -1,5 +1,5 @@
 -- What an atomic step makes of the state of the table, and of the core that shows it.
-use Rattle.std.specs.Prelude.{◌≡◌, ℕ, List, [], ◌++◌, Some, get_or}
+use Rattle.std.specs.Prelude.{◌≡◌, ℕ, List, [], ◌∷◌, ◌++◌, Some, get_or}
 use mathlib.Core.Option.{some}
 use lib.ListN.{get_elem?}
 use Rattle.atomic_table.specs.Table.{State, keeps, stepped}
@@ -7,13 +7,15 @@ use Rattle.finite_map.specs.declared.Note.{Note}
 use Rattle.record_words.specs.Layout.{address}
 use Rattle.record_words.specs.declared.layout.Layout.{Layout}
 use Rattle.rowex_core.specs.declared.event.Act.{Act}
+use Rattle.rowex_core.specs.declared.event.Event.{Event}
 use Rattle.rowex_core.specs.declared.known.Known.{Known}
-use Rattle.rowex_core.specs.declared.known.View.{View}
-use Rattle.rowex_core.specs.declared.known.View.TheVariants.{Pass}
 use Rattle.rowex_core.specs.Cores.{Core}
 use Rattle.rowex_core.specs.Events.{Legal, after, location_of, writes}
 use Rattle.rowex_core.specs.Knowing.{learned}
 use Rattle.rowex_core.specs.Words.{word_at}
+use Rattle.rowex_table.specs.declared.traces.Trace.{Trace}
+use Rattle.rowex_table.specs.declared.traces.TracedView.{TracedView}
+use Rattle.rowex_table.specs.declared.traces.TracedView.TheVariants.{Pass}
 use Rattle.rowex_table.specs.Rule.{MayStep, Ruled, found_by}
 use Rattle.real_time.specs.Moments.{IsMomentStep, Moment, Pending}
 
@@ -25,25 +27,35 @@ made_at c k act = found_by act (word_at c (location_of k.pass act))
 abbrev pub known_after : Core → Known → Act → List Note → Known
 known_after c k act notes = record (learned c (made_at c k act) k) { notes = k.notes ++ notes }
 
--- the state of the table after the step of the seat's pass: one word is written, and the seat has this view
-abbrev pub state_after : Layout → State (Unit {0}) View → ℕ → Known → Act → Known → State (Unit {0}) View
-state_after layout s id k act j =
-    let word = address layout (location_of k.pass act) in stepped s word (writes act (get_or s.words word 0)) id [] (Pass j) keeps
+-- all steps so far, with this one
+abbrev pub run_after : List Event → Core → Known → Act → List Event
+run_after run c k act = run ++ record { pass = k.pass; act = made_at c k act } ∷ []
 
--- By the rule of the table a core shows its state. A step that a pass may make, by what it knows, is legal in this very core; and the core
--- after it shows the state that the step leads to, and what the pass then knows. So cores of steps follow one another, as in a run.
+-- the state of the table after the step of the seat's pass: one word is written, and the seat has this view
+abbrev pub state_after : Layout → State (Unit {0}) TracedView → ℕ → Known → Act → TracedView → State (Unit {0}) TracedView
+state_after layout s id k act v =
+    let word = address layout (location_of k.pass act) in stepped s word (writes act (get_or s.words word 0)) id [] v keeps
+
+-- what its seat then knows, and of which steps
+abbrev pub view_after : List Event → Core → Known → Trace → Act → List Note → TracedView
+view_after run c k t act notes = Pass (known_after c k act notes) (record { events = run_after run c k act; asides = t.asides })
+
+-- By the rule of the table a core shows its state, to which all steps so far have led. A step that a pass may make, by what it knows, is legal
+-- in this very core; and the core after it shows the state that the step leads to, and what the pass then knows. The table's run has one step
+-- more. So cores of steps follow one another.
 abbrev pub StepsFollow : Type 0
 StepsFollow =
-    (layout : Layout) (s : State (Unit {0}) View) (r : Ruled layout s) (id : ℕ) (k : Known) → get_elem? s.views id ≡ some (Pass k) →
+    (layout : Layout) (s : State (Unit {0}) TracedView) (r : Ruled layout s) (id : ℕ) (k : Known) (t : Trace) → get_elem? s.views id ≡ some (Pass k t) →
     (act : Act) (notes : List Note) → MayStep layout (found_by act) k → Legal r.core k.pass (made_at r.core k act) ×
-    (next : Ruled layout (state_after layout s id k act (known_after r.core k act notes))) × (next.core ≡ after r.core k.pass (made_at r.core k act))
+    (next : Ruled layout (state_after layout s id k act (view_after r.run r.core k t act notes))) × (next.core ≡ after r.core k.pass (made_at r.core k act)) ×
+    (next.run ≡ run_after r.run r.core k act)
 
 -- And where a moment of a run has this core, and knows of the pass what its seat knows, the step is a step of the run: it leads to a moment
 -- that has the core which shows the next state, and knows of the pass what its seat then knows.
 abbrev pub StepsAreMoments : Type 0
 StepsAreMoments =
-    (layout : Layout) (s : State (Unit {0}) View) (r : Ruled layout s) (id : ℕ) (k : Known) → get_elem? s.views id ≡ some (Pass k) →
+    (layout : Layout) (s : State (Unit {0}) TracedView) (r : Ruled layout s) (id : ℕ) (k : Known) (t : Trace) → get_elem? s.views id ≡ some (Pass k t) →
     (act : Act) (notes : List Note) → MayStep layout (found_by act) k →
     (a : Moment) → a.core ≡ r.core → a.known k.pass ≡ k → (call : Pending) → a.pending k.pass ≡ Some call →
-    (next : Ruled layout (state_after layout s id k act (known_after r.core k act notes))) × (b : Moment) ×
+    (next : Ruled layout (state_after layout s id k act (view_after r.run r.core k t act notes))) × (b : Moment) ×
     (b.core ≡ next.core) × (b.known k.pass ≡ known_after r.core k act notes) × IsMomentStep a b k.pass (made_at r.core k act) notes

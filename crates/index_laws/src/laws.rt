@@ -2,6 +2,7 @@
 ghost use Rattle.index_laws.specs.Headline.{Headline};
 ghost use Rattle.index_laws.specs.Statements.{AGetReturns, Responses};
 ghost use Rattle.index_laws.specs.Steps.{StepsAreMoments, StepsFollow};
+ghost use Rattle.index_laws.specs.Traced.{AGetIsTraced, CallsMakeNoAsides, EndedBeforeLoaded, EndedOrLoadedBefore, LoadsSeeAll, TracedAreExecutions};
 
 /// A run may begin where an index has just been made, and a call that has ended does so in it as its contract says.
 pub fn responses()
@@ -26,4 +27,34 @@ pub fn steps_follow()
 /// So it is a step of a run whose moment has that core.
 pub fn steps_are_moments()
     ensures { StepsAreMoments }
+{}
+
+/// Contracts of steps, of stamps and meetings and of calls, linked by traces alone, make an execution.
+pub fn traced_are_executions()
+    ensures { TracedAreExecutions }
+{}
+
+/// There are executions by contracts alone in which calls return.
+pub fn a_get_is_traced()
+    ensures { AGetIsTraced }
+{}
+
+/// A load of the root shows all changes that any pass had seen by its last step before.
+pub fn loads_see_all()
+    ensures { LoadsSeeAll }
+{}
+
+/// A call comes before each call that loads the root after its last step, with no stamp and no meeting.
+pub fn ended_before_loaded()
+    ensures { EndedBeforeLoaded }
+{}
+
+/// Of two calls in one run of the table the one comes first, or the other had loaded the root before the one's last step.
+pub fn ended_or_loaded_before()
+    ensures { EndedOrLoadedBefore }
+{}
+
+/// A call makes no stamp, follows none and meets no other pass.
+pub fn calls_make_no_asides()
+    ensures { CallsMakeNoAsides }
 {}

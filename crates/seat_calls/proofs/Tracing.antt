@@ -9,11 +9,10 @@ use Rattle.rowex_core.specs.declared.event.Act.TheVariants.{ClearPin, LoadEpoch,
 use Rattle.rowex_core.specs.declared.event.Event.{Event}
 use Rattle.rowex_core.specs.declared.event.Spot.TheVariants.{Root}
 use Rattle.rowex_core.specs.declared.known.Known.{Known}
-use Rattle.rowex_table.specs.Runs.{Ends, IsTold, Runs, Steps, StepsWith, events_of, silent}
+use Rattle.rowex_table.specs.Runs.{Ends, IsTold, Runs, SeesAllOfRun, Steps, StepsWith, events_of, silent}
 use Rattle.rowex_table.specs.Seats.{TableView, SeatView}
-use Rattle.rowex_core.specs.Knowing.{SeesAllAtRoot}
-use Rattle.rowex_table.proofs.Running.{ends_told, runs_append, runs_one, runs_same}
-use Rattle.rowex_table.proofs.Seeing.{ends_see, event_shows, root_shows, runs_later, runs_show, sees_since, sees_then}
+use Rattle.rowex_table.proofs.Running.{ends_told, runs_append, runs_one}
+use Rattle.rowex_table.proofs.Seeing.{ends_see, runs_after, runs_see, sees_then, step_after, step_shows}
 use Rattle.epochs.specs.Rounds.{IsRound, IsSmallRound, advance_steps}
 use Rattle.epochs.specs.declared.limbo.TheConstants.{MOST_VISITED}
 use Rattle.epochs.specs.Runs.{Pins}
@@ -70,11 +69,8 @@ module _ {G : Type 0} (table : TableView) (becomes : G → Event → G → Type 
   HasSteps a b = (acts : List Act) × Runs table becomes acts a b
 
   -- a pass that was pinned, and then loaded the root
-  pub pinned_sees : {a b m : SeatView × G} (pins : Pins table becomes a b) (w : ℕ) → Steps table becomes (LoadRef Root w) b m → SeesAllAtRoot table.layout a.0.known m.0.known
-  pinned_sees {a = a} {b = b} {m = m} pins w step =
-      let pinned = LoadEpoch pins.0 ∷ SetPin pins.0 ∷ [] in
-      sees_since table.layout a.0.known b.0.known m.0.known (runs_same table becomes pinned a b pins.1.steps).2 (runs_later table becomes pinned a b pins.1.steps)
-      (root_shows table.layout w silent b.0.known m.0.known step.event)
+  pub pinned_sees : {a b m : SeatView × G} (pins : Pins table becomes a b) (w : ℕ) → Steps table becomes (LoadRef Root w) b m → SeesAllOfRun table.layout a.0 m.0
+  pinned_sees {a = a} {b = b} {m = m} pins w step = runs_see table becomes (LoadEpoch pins.0 ∷ SetPin pins.0 ∷ []) [] w a b m m pins.1.steps step refl
 
   -- a call that pinned its pass, looked and cleared the pin
   pub has_read : {e n : ℕ} {said : Known → List Note} {a b c d : SeatView × G} → Pins table becomes a b → Looks table becomes e n b c → StepsWith table becomes ClearPin said c d →
@@ -88,7 +84,7 @@ module _ {G : Type 0} (table : TableView) (becomes : G → Event → G → Type 
     ends = refl;
     below = looks.rest.below;
     steps = all;
-    sees = sees_then table.layout a.0.known c.0.known d.0.known (runs_same table becomes ran a c run).2 (runs_later table becomes ran a c run) (omega (arith, cleared)) looked (event_shows table.layout ClearPin said c.0.known d.0.known end.event);
+    sees = sees_then table.layout a.0 c.0 d.0 (runs_after table becomes ran a c run) (step_after table becomes ClearPin said c d end) looked (step_shows table becomes ClearPin said c d end);
     told = ends_told table becomes (reading pins.0 looks.root.0 looks.rest.acts) ClearPin said a d all;
   }
     where
@@ -104,19 +100,8 @@ module _ {G : Type 0} (table : TableView) (becomes : G → Event → G → Type 
       all : Ends table becomes (reading pins.0 looks.root.0 looks.rest.acts) ClearPin said a d
       all = (c, run, end)
 
-      cleared : d.0.known.steps ≡ c.0.known.steps + 1
-      cleared = ap (λ (z : Known). z.steps) end.event.learned_is
-
-      looked : SeesAllAtRoot table.layout a.0.known c.0.known
-      looked =
-          let pinned = LoadEpoch pins.0 ∷ SetPin pins.0 ∷ [] in
-          let rest = looks.rest.steps in
-          let before = runs_later table becomes pinned a b pins.1.steps in
-          let at_root = pinned_sees pins looks.root.0 looks.root.1 in
-          let one : looks.at.0.known.steps ≡ b.0.known.steps + 1 = ap (λ (z : Known). z.steps) looks.root.1.event.learned_is in
-          let same = looks.root.1.seat.2 ∙ (runs_same table becomes pinned a b pins.1.steps).2 in
-          sees_then table.layout a.0.known looks.at.0.known c.0.known same (omega (arith, before, one)) (runs_later table becomes looks.rest.acts looks.at c rest) at_root
-          (runs_show table becomes looks.rest.acts looks.at c rest)
+      looked : SeesAllOfRun table.layout a.0 c.0
+      looked = runs_see table becomes (LoadEpoch pins.0 ∷ SetPin pins.0 ∷ []) looks.rest.acts looks.root.0 a b looks.at c pins.1.steps looks.root.1 looks.rest.steps
 
   -- and how many steps it has made, by the entries that it has loaded
   read_steps : {e n : ℕ} {said : Known → List Note} {a b c d : SeatView × G} → Pins table becomes a b → Looks table becomes e n b c → StepsWith table becomes ClearPin said c d →
@@ -152,7 +137,7 @@ module _ {G : Type 0} (table : TableView) (becomes : G → Event → G → Type 
   -- Nobody need be told.
 
   pub step_untold : (act : Act) (said : Known → List Note) (a b : SeatView × G) → StepsWith table becomes act said a b → StepsWith table untold act said (a.0, tt) (b.0, tt)
-  step_untold act said a b x = record { seat = x.seat; event = x.event; told = tt }
+  step_untold act said a b x = record { seat = x.seat; event = x.event; next = x.next; told = tt }
 
   pub runs_untold : (acts : List Act) (a b : SeatView × G) → Runs table becomes acts a b → Runs table untold acts (a.0, tt) (b.0, tt)
   runs_untold [] a b run = ap (λ (z : SeatView × G). (z.0, tt)) run

@@ -14,10 +14,9 @@ use Rattle.rowex_core.specs.declared.event.Act.{Act}
 use Rattle.rowex_core.specs.declared.event.Act.TheVariants.{LoadRef, LoadFixed, ClearPin}
 use Rattle.rowex_core.specs.declared.event.Event.{Event}
 use Rattle.rowex_core.specs.declared.known.Known.{Known}
-use Rattle.rowex_core.specs.Knowing.{SeesAllAtRoot}
 use Rattle.rowex_reading.specs.Reads.{ReadsRoot, entries_in}
 use Rattle.rowex_reading.specs.declared.along.TheConstants.{MOST_TURNS}
-use Rattle.rowex_table.specs.Runs.{Ends, IsTold, Runs, events_of}
+use Rattle.rowex_table.specs.Runs.{Ends, IsTold, Runs, SeesAllOfRun, events_of}
 use Rattle.rowex_table.specs.Seats.{SeatView, TableView}
 use Rattle.tries.specs.Keys.{Key}
 use Rattle.seat_calls.specs.Answers.{got}
@@ -80,8 +79,8 @@ pub record HasLookedUp {G : Type 0} (table : TableView) (becomes : G → Event �
 
 -- The call pins the pass, loads the root, looks so many keys up, and clears the pin: these steps lead from the very seat that the pass has
 -- before to the one that it has after, one after the other, and no other does. With the last one come the call's notes, and none of them
--- stands before what the pass has seen by its first load of the root, which is all that any pass had seen by then. The gate is told each
--- of them, in order, and nothing else. It makes at most 29 steps for each entry that it loads, 34 for each key, and 4 beside.
+-- stands before what the pass has seen by its first load of the root: all changes that the table's steps had made by then. The gate is
+-- told each of them, in order, and nothing else. It makes at most 29 steps for each entry that it loads, 34 for each key, and 4 beside.
 pub record HasGotMany {G : Type 0} (index : TableView) (becomes : G → Event → G → Type 0) (count : ℕ) (a b : PassView × G) : Type 0 where
   pub epoch : ℕ
   pub root : ℕ
@@ -91,7 +90,7 @@ pub record HasGotMany {G : Type 0} (index : TableView) (becomes : G → Event �
   pub begins : a.0 ≡ pass_of a.0.seat
   pub ends : b.0 ≡ pass_of b.0.seat
   pub pinned : Runs index becomes (reading epoch root []) (a.0.seat, a.1) first
-  pub sees : SeesAllAtRoot index.layout a.0.seat.known first.0.known
+  pub sees : SeesAllOfRun index.layout a.0.seat first.0
   pub looks : All IsLook loads
   pub steps : Ends index becomes loads ClearPin said first (b.0.seat, b.1)
   pub fresh : (added : List Note) → b.0.notes ≡ a.0.notes ++ added → All (λ n. length first.0.known.front ≤ n.place) added

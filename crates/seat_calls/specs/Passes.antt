@@ -9,11 +9,12 @@ use Rattle.record_words.specs.declared.layout.Layout.{Layout}
 use Rattle.rowex_core.specs.declared.known.Failed.{Failed}
 use Rattle.rowex_core.specs.declared.known.Fresh.{Fresh}
 use Rattle.rowex_core.specs.declared.known.Known.{Known}
+use Rattle.rowex_table.specs.Rule.{opening_of}
 use Rattle.rowex_table.specs.Seats.{TableView, SeatView}
 
--- A pass: its seat in the table, with all that it knows; and told of it by names of their own the table of its index, its number, the
--- changes that it has seen, those at its last load of the root, its answered calls, the number of its next atomic step, and what its
--- failed claims and locks and its loads of states found.
+-- A pass: its seat in the table, with all that it knows, and of which steps; and told of it by names of their own the table of its index, its
+-- number, the changes that it has seen, those at its last load of the root, its answered calls, the number of its next atomic step, and what
+-- its failed claims and locks and its loads of states found.
 pub record PassView : Type 0 where
   pub seat : SeatView
   pub table : TableId
@@ -57,6 +58,7 @@ pub record IsSettled (k : Known) : Type 0 where
   pub loaded : k.fresh.step < k.steps
   pub legal : LegalCalls k.front k.pass k.notes
 
--- a pass that has made no call
+-- a pass that has made no call, nor anything else, and knows of no step of any pass
 abbrev pub IsNewPass : ℕ → PassView → Type 0
-IsNewPass q pass = (pass.number ≡ q) × (pass.front ≡ []) × (pass.notes ≡ [])
+IsNewPass q pass =
+    (pass.number ≡ q) × (pass.front ≡ []) × (pass.notes ≡ []) × (pass.seat.known ≡ opening_of q) × (pass.seat.trace ≡ []) × (pass.seat.asides ≡ 0)

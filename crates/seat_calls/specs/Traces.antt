@@ -12,8 +12,7 @@ use Rattle.rowex_core.specs.declared.event.Act.TheVariants.{LoadEpoch, SetPin, L
 use Rattle.rowex_core.specs.declared.event.Event.{Event}
 use Rattle.rowex_core.specs.declared.event.Spot.TheVariants.{Root}
 use Rattle.rowex_core.specs.declared.known.Known.{Known}
-use Rattle.rowex_core.specs.Knowing.{SeesAllAtRoot}
-use Rattle.rowex_table.specs.Runs.{Ends, InTurn, IsTold, Runs, events_of, silent}
+use Rattle.rowex_table.specs.Runs.{Ends, InTurn, IsTold, Runs, SeesAllOfRun, events_of, silent}
 use Rattle.rowex_table.specs.Seats.{TableView, SeatView}
 use Rattle.rowex_reading.specs.Reads.{IsBelowRoot, entries_in}
 use Rattle.rowex_scanning.specs.Counts.{scan_entries}
@@ -37,7 +36,8 @@ reading epoch root loads = LoadEpoch epoch ∷ SetPin epoch ∷ LoadRef Root roo
 
 -- The call pins the pass, loads the root and then words below it, and clears the pin: these steps lead from the very seat that the
 -- pass has before to the one that it has after, one after the other, and no other does. With the last one come the call's notes. The
--- gate is told each of them, in order, and nothing else. The load of the root shows the pass all that any pass had seen by then.
+-- gate is told each of them, in order, and nothing else. The load of the root shows the pass all changes that the table's steps had made
+-- by then, and so all that any pass had seen.
 pub record HasRead {G : Type 0} (index : TableView) (becomes : G → Event → G → Type 0) (a b : PassView × G) : Type 0 where
   pub epoch : ℕ
   pub root : ℕ
@@ -47,7 +47,7 @@ pub record HasRead {G : Type 0} (index : TableView) (becomes : G → Event → G
   pub ends : b.0 ≡ pass_of b.0.seat
   pub below : All IsBelowRoot loads
   pub steps : Ends index becomes (reading epoch root loads) ClearPin said (a.0.seat, a.1) (b.0.seat, b.1)
-  pub sees : SeesAllAtRoot index.layout a.0.seat.known b.0.seat.known
+  pub sees : SeesAllOfRun index.layout a.0.seat b.0.seat
   pub told : IsTold becomes (events_of a.0.number (reading epoch root loads ++ ClearPin ∷ [])) a.1 b.1
 
 -- A get loads one entry in each node on the way of its key: it makes at most 26 steps for each entry that it loads, and 36 beside.
@@ -155,8 +155,8 @@ HasEnded table becomes Are said a b = (acts : List Act) × Are acts × Ends tabl
 -- The call makes one attempt, or two with a round of collection between them, and a small round or nothing before; it makes no other
 -- step, from the seat that the pass has before to the one that it has after. An attempt tries each lock once at most. A second one follows
 -- a first that was full, and no other. The last step clears the pin, and with it come the call's notes. The gate is told each of the
--- steps, in order, and nothing else. So many they are at most. Answered or refused, its last load of the root has shown the pass all that
--- any pass had seen by then.
+-- steps, in order, and nothing else. So many they are at most. Answered or refused, its last load of the root has shown the pass all
+-- changes that the table's steps had made by then, and so all that any pass had seen.
 pub record HasMade {G : Type 0} (index : TableView) (becomes : G → Event → G → Type 0) (call : Call) (result : Result Reply TryFault)
     (a b : PassView × G) : Type 0 where
   pub acts : List Act
@@ -165,7 +165,7 @@ pub record HasMade {G : Type 0} (index : TableView) (becomes : G → Event → G
   pub ends : b.0 ≡ pass_of b.0.seat
   pub tries : AreAttempts index becomes call result said (a.0.seat, a.1) (b.0.seat, b.1) acts
   pub steps : Ends index becomes acts ClearPin said (a.0.seat, a.1) (b.0.seat, b.1)
-  pub sees : SeesAllAtRoot index.layout a.0.seat.known b.0.seat.known
+  pub sees : SeesAllOfRun index.layout a.0.seat b.0.seat
   pub told : IsTold becomes (events_of a.0.number (acts ++ ClearPin ∷ [])) a.1 b.1
   pub few : b.0.steps ≤ a.0.steps + try_steps index.layout
 
@@ -175,7 +175,7 @@ HasStepped table becomes said a b = (acts : List Act) × (last : Act) × Ends ta
 
 -- The pass makes these steps, one after the other, and no other, from the seat that it has before to the one that it has after; with
 -- the last one come the call's notes. The gate is told each of them, in order, and nothing else. Answered or refused, its last load of the
--- root has shown the pass all that any pass had seen by then.
+-- root has shown the pass all changes that the table's steps had made by then, and so all that any pass had seen.
 pub record HasTold {G : Type 0} (index : TableView) (becomes : G → Event → G → Type 0) (a b : PassView × G) : Type 0 where
   pub acts : List Act
   pub last : Act
@@ -183,7 +183,7 @@ pub record HasTold {G : Type 0} (index : TableView) (becomes : G → Event → G
   pub begins : a.0 ≡ pass_of a.0.seat
   pub ends : b.0 ≡ pass_of b.0.seat
   pub steps : Ends index becomes acts last said (a.0.seat, a.1) (b.0.seat, b.1)
-  pub sees : SeesAllAtRoot index.layout a.0.seat.known b.0.seat.known
+  pub sees : SeesAllOfRun index.layout a.0.seat b.0.seat
   pub told : IsTold becomes (events_of a.0.number (acts ++ last ∷ [])) a.1 b.1
 
 -- The pass makes one round of collection, from the seat that it has before to the one that it has after, whose own exchanges give back

@@ -14,4 +14,4 @@ returns-clause-followed c =
     subst (λ (y : StampView). HasCaughtUp c.args.self.now.layout y.front c.args.pass.now (pass_of c.follow_stamp.new.seat)) c.stamp.view_is
     (subst (λ (x : TableView). HasCaughtUp x.layout c.stamp.inside.stamp.front c.args.pass.now (pass_of c.follow_stamp.new.seat)) c.self.view_is
     (subst (λ (z : PassView). HasCaughtUp c.self.inside.table.layout c.stamp.inside.stamp.front z (pass_of c.follow_stamp.new.seat)) c.pass.view_is
-    (caught_up c.self.inside.table.layout _ _ _ c.follow_stamp.ensures.same c.follow_stamp.ensures.followed c.pass.invariant)))
+    (caught_up c.self.inside.table.layout _ _ _ c.follow_stamp.ensures.same c.follow_stamp.ensures.shown c.follow_stamp.ensures.followed c.pass.invariant)))

@@ -1,0 +1,135 @@
+-- Executions as contracts tell of them: each pass's seat at each moment, and the run of the table. No core is named: the traces of the seats
+-- link the steps.
+use Rattle.std.specs.Prelude.{◌≡◌, ◌≢◌, ◌⊎◌, ℕ, suc, ◌<◌, ◌≤◌, List, [], ◌∷◌, ◌++◌, Option, None, Some}
+use Rattle.finite_map.specs.declared.Call.{Call}
+use Rattle.finite_map.specs.declared.Call.TheVariants.{Get}
+use Rattle.finite_map.specs.declared.Change.{Change}
+use Rattle.finite_map.specs.declared.Note.{Note}
+use Rattle.finite_map.specs.declared.Reply.{Reply}
+use Rattle.finite_map.specs.declared.Reply.TheVariants.{Absent}
+use Rattle.finite_map.specs.Calls.{place_after}
+use Rattle.finite_map.specs.Fronts.{BeginsWith}
+use Rattle.record_words.specs.declared.layout.Layout.{Layout}
+use Rattle.rowex_core.specs.declared.event.Act.{Act}
+use Rattle.rowex_core.specs.declared.event.Event.{Event}
+use Rattle.rowex_core.specs.declared.known.Known.{Known}
+use Rattle.rowex_core.specs.Cores.{Core}
+use Rattle.rowex_core.specs.Events.{after}
+use Rattle.rowex_core.specs.Knowing.{learned}
+use Rattle.rowex_core.specs.Opening.{opening}
+use Rattle.rowex_table.specs.Rule.{with_front}
+use Rattle.rowex_table.specs.Runs.{Ends, SeesAllOfRun, StepsWith}
+use Rattle.rowex_table.specs.Seats.{IsNewSeatOf, IsShown, SeatView, TableView}
+use Rattle.rowex_table.specs.Traces.{RunBeginsWith}
+use Rattle.seat_calls.specs.Answers.{IsNoted}
+use Rattle.seat_calls.specs.Passes.{pass_of}
+use Rattle.seat_calls.specs.Traces.{untold}
+use Rattle.real_time.specs.Histories.{complete_calls}
+use Rattle.real_time.specs.Moments.{Happening, Moment, Pending, invokes, refuses, responds, shows, steps}
+use Rattle.index_laws.specs.Executions.{HasBeenRefused, HasReturned, IsExecution}
+
+-- The index at a moment, as contracts see it: all steps so far, the seat of each pass, and the call of each pass that is pending, if one is.
+pub record Instant : Type 0 where
+  pub run : List Event
+  pub seat : ℕ → SeatView
+  pub pending : ℕ → Option Pending
+
+-- Pass q, which has a call pending, makes the step, as the contract of a step says, with these notes. It comes behind all steps so far.
+pub record IsSeatStep (table : TableView) (a b : Instant) (q : ℕ) (act : Act) (notes : List Note) : Type 0 where
+  pub said : Known → List Note
+  pub step : StepsWith table untold act said (a.seat q, tt) (b.seat q, tt)
+  pub pass : (a.seat q).known.pass ≡ q
+  pub notes_are : notes ≡ said (learned step.event.core act (a.seat q).known)
+  pub behind : step.next.before ≡ a.run
+  pub run : b.run ≡ a.run ++ record { pass = q; act = act } ∷ []
+  pub others : (o : ℕ) → o ≢ q → b.seat o ≡ a.seat o
+  pub call : Pending
+  pub called : a.pending q ≡ Some call
+  pub pending : b.pending ≡ a.pending
+
+-- Pass q is shown all steps so far, and the changes that they have made, as the contracts of stamps and meetings say.
+pub record IsSeatShowing (table : TableView) (a b : Instant) (q : ℕ) (front : List Change) : Type 0 where
+  pub shown : IsShown table.layout (a.seat q) (b.seat q)
+  pub known : (b.seat q).known ≡ with_front front (a.seat q).known
+  pub more : BeginsWith front (a.seat q).known.front
+  pub whole : (b.seat q).trace ≡ a.run
+  pub run : b.run ≡ a.run
+  pub others : (o : ℕ) → o ≢ q → b.seat o ≡ a.seat o
+  pub pending : b.pending ≡ a.pending
+
+-- Of the two moments the run and all seats are the same, and pass q's pending call is this one at the second, if any.
+pub record IsSeatTurn (layout : Layout) (a b : Instant) (q : ℕ) (call : Option Pending) : Type 0 where
+  pub pass : q < layout.passes
+  pub run : b.run ≡ a.run
+  pub seats : b.seat ≡ a.seat
+  pub own : b.pending q ≡ call
+  pub others : (o : ℕ) → o ≢ q → b.pending o ≡ a.pending o
+
+-- the core to which steps lead
+abbrev pub core_of : Core → List Event → Core
+core_of c [] = c
+core_of c (x ∷ xs) = core_of (after c x.pass x.act) xs
+
+-- The moment of an execution: its core is the one to which the run has led from the new table.
+abbrev pub moment_of : Layout → Instant → Moment
+moment_of layout a = record { core = core_of (opening layout) a.run; known = λ q. (a.seat q).known; pending = a.pending }
+
+-- what happens at moment t leads to the next one, by the contracts of steps, of stamps and meetings, and of calls that end
+abbrev pub ContractsLeadOn : TableView → (ℕ → Instant) → ℕ → Happening → Type 0
+ContractsLeadOn table at t (steps q act notes) = IsSeatStep table (at t) (at (suc t)) q act notes
+ContractsLeadOn table at t (shows q front) = IsSeatShowing table (at t) (at (suc t)) q front
+ContractsLeadOn table at t (invokes q calls) = ((at t).pending q ≡ None) × IsSeatTurn table.layout (at t) (at (suc t)) q (Some (record { since = t; calls = calls }))
+ContractsLeadOn table at t (responds q notes) =
+    (call : Pending) × HasReturned table.layout (λ i. moment_of table.layout (at i)) q t call notes × IsSeatTurn table.layout (at t) (at (suc t)) q None
+ContractsLeadOn table at t (refuses q) =
+    (call : Pending) × HasBeenRefused table.layout (λ i. moment_of table.layout (at i)) q t call × IsSeatTurn table.layout (at t) (at (suc t)) q None
+
+-- An execution by contracts alone: all seats are new at first, no step has been made, and no call is pending.
+pub record IsTracedExecution (table : TableView) (last : ℕ) (at : ℕ → Instant) (happens : ℕ → Happening) : Type 0 where
+  pub run : (at 0).run ≡ []
+  pub seats : (q : ℕ) → IsNewSeatOf table q ((at 0).seat q)
+  pub pending : (q : ℕ) → (at 0).pending q ≡ None
+  pub next : (t : ℕ) → t < last → ContractsLeadOn table at t (happens t)
+
+-- It is an execution: its cores follow one another.
+abbrev pub TracedAreExecutions : Type 0
+TracedAreExecutions =
+    (table : TableView) (last : ℕ) (at : ℕ → Instant) (happens : ℕ → Happening) → IsTracedExecution table last at happens →
+    IsExecution table.layout last (λ t. moment_of table.layout (at t)) happens
+
+-- There are such, in which a call returns: the execution of `AGetReturns` is one.
+abbrev pub AGetIsTraced : Type 0
+AGetIsTraced =
+    (table : TableView) → 0 < table.layout.passes → (key : List ℕ) → (at : ℕ → Instant) × (happens : ℕ → Happening) ×
+    IsTracedExecution table 6 at happens × (complete_calls happens 6 ≡ (5, record { place = 0; call = Get key; reply = Absent }) ∷ [])
+
+-- A pass made steps; and a call of any pass loaded the root in a run of the table that begins with what the first one then knew of, so after
+-- its last step. That load showed all changes that the first pass had seen.
+abbrev pub LoadsSeeAll : Type 0
+LoadsSeeAll =
+    (index : TableView) (s t : SeatView) (acts : List Act) (last : Act) (said : Known → List Note) → Ends index untold acts last said (s, tt) (t, tt) →
+    (u v : SeatView) (loads : SeesAllOfRun index.layout u v) → RunBeginsWith loads.run t.trace → BeginsWith v.known.fresh.front t.known.front
+
+-- So if the first one's steps answered a call, the later call's place is no earlier than the first one's, and later than its change. No stamp
+-- and no meeting need tell the later pass.
+abbrev pub EndedBeforeLoaded : Type 0
+EndedBeforeLoaded =
+    (index : TableView) (s t : SeatView) (call : Call) (reply : Reply) (first : IsNoted index.layout (pass_of s) (pass_of t) call reply) →
+    (acts : List Act) (last : Act) (said : Known → List Note) → Ends index untold acts last said (s, tt) (t, tt) →
+    (u v : SeatView) (later : Call) (answer : Reply) (second : IsNoted index.layout (pass_of u) (pass_of v) later answer) →
+    (loads : SeesAllOfRun index.layout u v) → RunBeginsWith loads.run t.trace →
+    place_after (record { place = first.place; call = call; reply = reply }) ≤ second.place
+
+-- So where both are parts of one run, as those of passes are that have met since, either the two calls stand so, or the later one had loaded
+-- the root before the first one's last step.
+abbrev pub EndedOrLoadedBefore : Type 0
+EndedOrLoadedBefore =
+    (index : TableView) (s t : SeatView) (call : Call) (reply : Reply) (first : IsNoted index.layout (pass_of s) (pass_of t) call reply) →
+    (acts : List Act) (last : Act) (said : Known → List Note) → Ends index untold acts last said (s, tt) (t, tt) →
+    (u v : SeatView) (later : Call) (answer : Reply) (second : IsNoted index.layout (pass_of u) (pass_of v) later answer) →
+    (loads : SeesAllOfRun index.layout u v) (run : List Event) → RunBeginsWith run t.trace → RunBeginsWith run loads.run →
+    (place_after (record { place = first.place; call = call; reply = reply }) ≤ second.place) ⊎ RunBeginsWith t.trace loads.run
+
+-- A call makes no stamp, follows none and meets no other pass, whatever steps it makes.
+abbrev pub CallsMakeNoAsides : Type 0
+CallsMakeNoAsides = (index : TableView) (acts : List Act) (last : Act) (said : Known → List Note) (s t : SeatView) → Ends index untold acts last said (s, tt) (t, tt) → t.asides ≡ s.asides
