@@ -187,7 +187,7 @@ fn begun(rt: &impl Abort, alloc: Global, layout: Result<Layout, LayoutFault>) ->
 
 const LEAF: Rec = Rec::Leaf(0);
 
-const NO_RECORD: [Line; 24] = [
+const NO_RECORD: [Line; 25] = [
     (0, Step::Claim(LEAF, 0), true),
     (0, Step::Claim(LEAF, 0), false),
     (0, Step::Claim(LEAF, 1), true),
@@ -203,6 +203,7 @@ const NO_RECORD: [Line; 24] = [
     (0, Step::SetPin(1), false),
     (0, Step::ClearPin, true),
     (0, Step::Advance(1, 1), true),
+    (0, Step::LoadEpoch(1), false),
     (0, Step::LoadEpoch(2), true),
     (0, Step::GiveBack(LEAF, 1, 0), false),
     (0, Step::LoadPin(0, 0), true),
