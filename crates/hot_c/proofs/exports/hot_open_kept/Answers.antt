@@ -9,14 +9,14 @@ pub returns-in-Ok-Some-clause-opened : goal.returns-in-Ok-Some-clause-opened
 returns-in-Ok-Some-clause-opened c = λ was held closed. let now = c.open_next.new.self in let opened = c.in-Ok-Some.opened.value in
     let lent = same c.lend.result.now was (sym c.lend.ensures.value ∙ held) in
     let next : HasOpenedNext c.lend.result.now now opened = subst (λ found. MatchOption found ((c.lend.result.now.kept.items ≡ []) × KeepsAll c.lend.result.now now)
-        (λ b. HasOpenedNext c.lend.result.now now b.value)) c.in-Ok-Some.field-0-is c.in-Ok-Some.ensures.opened in
+    (λ b. HasOpenedNext c.lend.result.now now b.value)) c.in-Ok-Some.field-0-is c.in-Ok-Some.ensures.opened in
     (now, refl, inl (refl, opened, c.open.ensures, subst (λ (o : Opened). HasOpenedNext o now opened) lent next))
 
 pub returns-in-Ok-None-clause-opened : goal.returns-in-Ok-None-clause-opened
 returns-in-Ok-None-clause-opened c = λ was held closed. let now = c.open_next.new.self in
     let lent = same c.lend.result.now was (sym c.lend.ensures.value ∙ held) in
     let none : (c.lend.result.now.kept.items ≡ []) × KeepsAll c.lend.result.now now = subst (λ found. MatchOption found ((c.lend.result.now.kept.items ≡ []) × KeepsAll c.lend.result.now now)
-        (λ b. HasOpenedNext c.lend.result.now now b.value)) c.in-Ok-None.field-0-is c.in-Ok-None.ensures.opened in
+    (λ b. HasOpenedNext c.lend.result.now now b.value)) c.in-Ok-None.field-0-is c.in-Ok-None.ensures.opened in
     let it = subst (λ (o : Opened). (o.kept.items ≡ []) × KeepsAll o now) lent none in
     (now, refl, inr (inl (refl, closed, it.0, it.1)))
 
