@@ -1,6 +1,6 @@
 /* Tests of the library by threads: two that change keys of all lengths beside two that look up, scan and list; four that make calls
- * by chance where few records are to spare, or none; eight on one core, so that each is stopped in the middle of its calls; eight that share three
- * handles; and four that send each other moments. */
+ * by chance where few records are to spare, or none; eight on one core, so that each is stopped in the middle of its calls; eight that
+ * share three handles; four that send each other moments; and two that take most keys out and put them in again beside two that scan. */
 #define _GNU_SOURCE
 #include "hot.h"
 #include <pthread.h>
@@ -570,6 +570,86 @@ static void test_telling(void) {
     CHECK(hot_close_index(index) == HOT_DONE);
 }
 
+/* Seventh test: two threads take all their keys out and put them in again, so that nodes merge and split, beside two that scan upwards and
+ * downwards. Each scan has every key that stays, and none twice. */
+#define STAYS 16
+#define WAVES 60
+
+static int at_work;
+
+/* The pairs rise from `first` on up to `last`, or fall by a step of -1, and every key that stays is there. */
+static void check_stays(const hot_pair *pairs, size_t count, int first, int step, int last, uint32_t more) {
+    int expected = first;
+    size_t i;
+    for (i = 0; i < count + !more; i++) {
+        int number = i < count ? (int)number_of(&pairs[i]) : last + step;
+        CHECK((number - expected) * step >= 0);
+        for (; (number - expected) * step > 0; expected += step)
+            CHECK(expected % STAYS != 0);
+        expected = number + step;
+    }
+}
+
+static void *scan_both_ways(void *given) {
+    worker *me = given;
+    while (__atomic_load_n(&at_work, __ATOMIC_SEQ_CST) > 0) {
+        hot_pair pairs[LIMIT];
+        unsigned low = next(&me->state) % (NUMBERS - 400), high = low + next(&me->state) % 400;
+        key from = key_of(low), upto = key_of(high);
+        size_t count = 0;
+        uint32_t more = 0;
+        CHECK(hot_scan(me->handle, from.bytes, from.length, upto.bytes, upto.length, pairs, LIMIT, &count, &more) == HOT_DONE);
+        check_stays(pairs, count, (int)low, 1, (int)high, more);
+        CHECK(hot_scan_reverse(me->handle, from.bytes, from.length, upto.bytes, upto.length, pairs, LIMIT, &count, &more) == HOT_DONE);
+        check_stays(pairs, count, (int)high, -1, (int)low, more);
+    }
+    return NULL;
+}
+
+/* All keys of this half that don't stay go, and come again, in the same order; at last they go. */
+static void *make_waves(void *given) {
+    worker *me = given;
+    unsigned turn, i;
+    for (turn = 0; turn <= 2 * WAVES; turn++)
+        for (i = 0; i < NUMBERS; i++) {
+            unsigned number = i * 7919 % NUMBERS;
+            if (number % STAYS == 0 || number % 2 != me->half)
+                continue;
+            if (turn % 2 == 0)
+                take_out(me->handle, number);
+            else
+                put_in(me->handle, number);
+        }
+    __atomic_sub_fetch(&at_work, 1, __ATOMIC_SEQ_CST);
+    return NULL;
+}
+
+/* At last there are six keys a node or more, since nodes have merged. */
+static void test_waves(void) {
+    static const hot_stock stock = {600, 500, 500, 500, 500, 500};
+    static void *(*const does[4])(void *) = {make_waves, make_waves, scan_both_ways, scan_both_ways};
+    hot_handle handles[4] = {HOT_HANDLE, HOT_HANDLE, HOT_HANDLE, HOT_HANDLE};
+    worker workers[4];
+    pthread_t threads[4];
+    hot_counts counts;
+    unsigned i;
+    CHECK(hot_create_with(&stock, handles, 4) == HOT_DONE);
+    for (i = 0; i < NUMBERS; i++)
+        put_in(&handles[0], i);
+    at_work = 2;
+    for (i = 0; i < 4; i++) {
+        workers[i].handle = &handles[i];
+        workers[i].state = 6364136223846793005u + i;
+        workers[i].half = i % 2;
+        CHECK(pthread_create(&threads[i], NULL, does[i], &workers[i]) == 0);
+    }
+    for (i = 0; i < 4; i++)
+        CHECK(pthread_join(threads[i], NULL) == 0);
+    CHECK(hot_census(&handles[0], &counts) == HOT_DONE && counts.nodes.live * 6 <= NUMBERS / STAYS);
+    for (i = 0; i < 4; i++)
+        CHECK(hot_destroy(&handles[i]) == HOT_DONE);
+}
+
 int main(void) {
     /* Keys, nodes and leaves: room for all; more keys than leaves; one node, which comes and goes. */
     static const unsigned crowds[5][3] = {{500, 60, 520}, {12, 16, 8}, {5, 1, 16}, {3, 1, 2}, {2, 1, 1}};
@@ -583,7 +663,8 @@ int main(void) {
     CHECK(i < 10);
     test_opening();
     test_telling();
+    test_waves();
     if (!failures)
-        puts("passed: threads that read while others change keys of all lengths, threads where few records are to spare, and threads that are stopped");
+        puts("passed: threads that read while others change keys of all lengths, or make nodes merge, threads where few records are to spare, and threads that are stopped");
     return failures;
 }
