@@ -24,6 +24,13 @@ static void call(hot_handle *handle, const char *kind, uint64_t number)
     case 'u':
         must(hot_try_upsert(handle, key, length, number + 1, &had), HOT_WAS);
         break;
+    case 'a':
+        must(hot_try_add(handle, key, length, 1, &had), HOT_WAS);
+        break;
+    case 'e':
+        must(hot_get(handle, key, length, &had), HOT_FOUND);
+        must(hot_try_exchange(handle, key, length, had, had + 1, &had), HOT_EXCHANGED);
+        break;
     case 'r':
         must(hot_try_remove(handle, key, length, &had), HOT_REMOVED);
         break;
@@ -45,8 +52,8 @@ int main(int words, char **word)
     uint64_t keys = words > 3 ? strtoull(word[2], NULL, 10) : 0, calls = words > 3 ? strtoull(word[3], NULL, 10) : 0, number;
     hot_handle handle = HOT_HANDLE;
     int of = words == 5 && !strcmp(word[4], "urls") ? PAGES : RANDOM;
-    if (words != (of == PAGES ? 5 : 4) || !strchr("iurgsp", word[1][0]) || keys < 1 || keys > MOST_KEYS || calls > keys || calls > MOST_CALLS) {
-        fprintf(stderr, "usage: count insert|upsert|remove|get|scan|packed KEYS CALLS [urls]    at most 200,000 and 20,000, and no more calls than keys\n");
+    if (words != (of == PAGES ? 5 : 4) || !strchr("iuaergsp", word[1][0]) || keys < 1 || keys > MOST_KEYS || calls > keys || calls > MOST_CALLS) {
+        fprintf(stderr, "usage: count insert|upsert|add|exchange|remove|get|scan|packed KEYS CALLS [urls]    at most 200,000 and 20,000, and no more calls than keys\n");
         return 2;
     }
     must(hot_create(MOST_KEYS / 8, MOST_KEYS + 2 * MOST_CALLS, &handle, 1), HOT_DONE);

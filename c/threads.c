@@ -201,10 +201,14 @@ static void *read_all(void *given) {
     return NULL;
 }
 
-/* Adds one to a value that both writers count with, whatever it was. */
-static void add_one(hot_handle *handle) {
+/* Adds one to a value that both writers count with, whatever it was: the one writer by an addition, the other by exchanges. */
+static void add_one(hot_handle *handle, int half) {
     uint64_t seen = 0;
     hot_status status;
+    if (half) {
+        CHECK(hot_add(handle, (const uint8_t *)"~", 1, 1, NULL) == HOT_WAS);
+        return;
+    }
     do
         status = hot_exchange(handle, (const uint8_t *)"~", 1, seen, seen + 1, &seen);
     while (status == HOT_DIFFERS);
@@ -247,7 +251,7 @@ static void *change_all(void *given) {
         in[number] = !in[number];
         overwrite(me->handle, next(&me->state) % (NUMBERS / 2) * 2, (uint64_t)round);
         if (round < ADDS)
-            add_one(me->handle);
+            add_one(me->handle, me->half);
     }
     for (round = 0; round < NUMBERS; round++) {
         key at = key_of((unsigned)round);
