@@ -1,6 +1,7 @@
 -- What a call says by which a handle of a program in C sees what another has seen.
 use Rattle.std.specs.Prelude.{◌≡◌, ◌⊎◌, ℕ, Option, Some, None, IsSome}
 use Rattle.hot_index.specs.Stamps.{HasCaughtUp}
+use Rattle.seat_calls.specs.Passes.{PassView}
 use Rattle.hot_c.specs.Calls.{StaysOpen}
 use Rattle.hot_c.specs.declared.opened.Opened.{Opened}
 use Rattle.hot_c.specs.declared.status.TheConstants.{CLOSED, DONE}
@@ -9,10 +10,14 @@ use Rattle.hot_c.specs.declared.status.TheConstants.{CLOSED, DONE}
 abbrev pub AreAtOneIndex : Option Opened → Option Opened → Type 0
 AreAtOneIndex one other = (o p : Opened) → one ≡ Some o → other ≡ Some p → p.handle.index ≡ o.handle.index
 
+-- All that calls tell of the pass is as it was: its number, the changes that it has seen, its answered calls, and its steps.
+abbrev pub IsAsTold : PassView → PassView → Type 0
+IsAsTold k j = (j.number ≡ k.number) × (j.front ≡ k.front) × (j.fresh ≡ k.fresh) × (j.notes ≡ k.notes) × (j.steps ≡ k.steps) × (j.failed ≡ k.failed)
+
 -- A handle sees what its leader has seen: it has now seen all changes that the leader has seen, beside those that it had seen before,
 -- and no call of it is noted. The leader is as it was. Where either is closed, that is told and nothing has changed.
 pub record SeesLeader (old new old_leader new_leader : Option Opened) (status : ℕ) : Type 0 where
-  pub closed : (old ≡ None) ⊎ (old_leader ≡ None) → (status ≡ CLOSED) × (new ≡ old)
+  pub closed : (old ≡ None) ⊎ (old_leader ≡ None) → (status ≡ CLOSED) × (new ≡ old) × (new_leader ≡ old_leader)
   pub seen : (leader : Opened) → IsSome old → old_leader ≡ Some leader →
       (status ≡ DONE) × StaysOpen (λ index k j. HasCaughtUp index.layout leader.handle.pass.front k j) old new
-  pub leader : new_leader ≡ old_leader
+      × StaysOpen (λ index k j. IsAsTold k j) old_leader new_leader

@@ -10,6 +10,7 @@ ghost use Rattle.hot_index.specs.Handles.{Stays};
 ghost use Rattle.hot_index.specs.Stamps.{HasCaughtUp, IsStampFrom};
 ghost use Rattle.seat_calls.specs.Traces.{HasGot, untold};
 ghost use Rattle.hot_c.specs.Calls.{HasOpenedNext, KeepsAll, TellsOutcome};
+ghost use Rattle.hot_c.specs.Following.{IsAsTold};
 ghost use Rattle.hot_c.specs.Orders.{IsFilledIn};
 ghost use Rattle.hot_c.specs.Statuses.{value_after};
 
@@ -100,7 +101,7 @@ impl Opened {
 
     /// A stamp of all that the handle has seen.
     pub fn stamp(&mut self) -> Stamp
-        ensures same { self.new ≡ self.old }
+        ensures same { Stays (λ index k j. IsAsTold k j) self.old.handle self.new.handle }
         ensures own { IsStampFrom self.old.handle.index result }
         ensures front { result.front ≡ self.old.handle.pass.front }
     {

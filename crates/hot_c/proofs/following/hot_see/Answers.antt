@@ -3,7 +3,7 @@ use Rattle.std.proofs.Common.{◌≡◌, ◌⊎◌, List, Option, None, Some, in
 use Rattle.finite_map.specs.declared.Change.{Change}
 use Rattle.hot_index.specs.Handles.{HandleView, Stays}
 use Rattle.hot_index.specs.Stamps.{HasCaughtUp}
-use Rattle.hot_c.specs.Following.{SeesLeader}
+use Rattle.hot_c.specs.Following.{IsAsTold, SeesLeader}
 use Rattle.hot_c.specs.declared.opened.Opened.{Opened}
 use Rattle.hot_c.proofs.following.hot_see.Goals as goal
 
@@ -17,8 +17,8 @@ same_in s t e = cc
 abbrev CaughtUp : List Change → HandleView → HandleView → Type 0
 CaughtUp front = Stays (λ index k j. HasCaughtUp index.layout front k j)
 
-sees : (s u t m : Opened) (old old_leader : Option Opened) (front : List Change) → old ≡ Some s → old_leader ≡ Some t → m ≡ t → front ≡ t.handle.pass.front →
-    CaughtUp front s.handle u.handle → SeesLeader old (Some u) old_leader (Some m) 0
+sees : (s u t m : Opened) (old old_leader : Option Opened) (front : List Change) → old ≡ Some s → old_leader ≡ Some t →
+    Stays (λ index k j. IsAsTold k j) t.handle m.handle → front ≡ t.handle.pass.front → CaughtUp front s.handle u.handle → SeesLeader old (Some u) old_leader (Some m) 0
 sees s u t m old old_leader front was led same told stays = record {
   closed = λ either. absurd (neither either);
   seen = λ leader some is. (
@@ -30,8 +30,8 @@ sees s u t m old old_leader front was led same told stays = record {
       is = refl;
       stays = subst (λ (f : List Change). CaughtUp f s.handle u.handle) (told ∙ ap (λ (o : Opened). o.handle.pass.front) (same_in t leader (sym led ∙ is))) stays;
     },
+    record { before = t; after = m; was = led; is = refl; stays = same },
   );
-  leader = ap Some same ∙ sym led;
 }
   where
     neither : (old ≡ None) ⊎ (old_leader ≡ None) → ⊥
