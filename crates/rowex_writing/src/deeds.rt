@@ -2,15 +2,17 @@
 
 ghost use Rattle.std.specs.Prelude.{◌≡◌, ◌≢◌, Err};
 ghost use Rattle.rowex_writing.specs.Changes.{HasTakenPlan};
-ghost use Rattle.rowex_writing.specs.Deeds.{CarriesOut};
+ghost use Rattle.rowex_writing.specs.Deeds.{CarriesOut, leaf_gone};
+ghost use Rattle.rowex_writing.specs.Putting.{leaf_found};
+ghost use Rattle.rowex_writing.specs.declared.plan.Deed.TheVariants.{Put, Pair};
 
-use crate::building::Build;
-use crate::growing::grow_node;
-use crate::pairing::pair_leaf;
-use crate::plan::{Deed, Full, Span};
-use crate::putting::put_leaf;
-use crate::taking::take_leaf;
 use compound_node::Entry;
+use crate::building::{Build, make_node};
+use crate::growing::grow_node;
+use crate::plan::{Deed, Full, Span};
+use crate::publishing::make_leaf;
+use crate::remaking::pair_with_leaf;
+use crate::taking::take_leaf;
 use insert_cases::Step;
 use key_bits::Key;
 use rowex_core::Gate;
@@ -59,4 +61,65 @@ pub(crate) fn carry_out<G: Gate>(
         Deed::Grow { position } => grow_node(table, seat, gate, build, job, position),
         Deed::Take => take_leaf(table, seat, gate, build, job),
     }
+}
+
+/// The new leaf takes the place of what the search found: nothing, or the leaf that has the key.
+pub(crate) fn put_leaf<G: Gate>(
+    table: &HotTable,
+    seat: &mut TableSeat,
+    gate: &mut G,
+    build: &mut Build,
+    job: &Job<'_>,
+) -> Result<Raised, Full>
+    requires taken { HasTakenPlan table.now seat.old job.now Put }
+    ensures done { CarriesOut table.now G.becomes (seat.old, gate.old) (seat.new, gate.new) build.new.made.items job.now Put result }
+{
+    let Some(number) = make_leaf(table, seat, gate, build, job.key, job.value) else {
+        return Err(Full::Leaves);
+    };
+    Ok(Raised {
+        entry: Some(Entry::Leaf(number)),
+        low: job.span.len,
+        leaf: found_leaf(job.found),
+    })
+}
+
+/// The leaf that the search found, if any.
+fn found_leaf(found: Found) -> Option<u32>
+    ensures { leaf_gone result ≡ leaf_found found }
+{
+    match found {
+        Found::Nothing => None,
+        Found::Leaf { number, .. } => Some(number),
+    }
+}
+
+/// A new node of the found leaf and the new one, with a fork at the position, takes the found leaf's place.
+pub(crate) fn pair_leaf<G: Gate>(
+    table: &HotTable,
+    seat: &mut TableSeat,
+    gate: &mut G,
+    build: &mut Build,
+    job: &Job<'_>,
+    position: u16,
+) -> Result<Raised, Full>
+    requires taken { HasTakenPlan table.now seat.old job.now (Pair position) }
+    ensures done { CarriesOut table.now G.becomes (seat.old, gate.old) (seat.new, gate.new) build.new.made.items job.now (Pair position) result }
+{
+    let Found::Leaf { number: old, .. } = job.found else {
+        unreachable!()
+    };
+    let Some(leaf) = make_leaf(table, seat, gate, build, job.key, job.value) else {
+        return Err(Full::Leaves);
+    };
+    build.left_nodes = table.layout().nodes;
+    let pair = pair_with_leaf(job.key, position, Entry::Leaf(old), leaf);
+    let Some(entry) = make_node(table, seat, gate, build, &pair) else {
+        return Err(Full::Nodes);
+    };
+    Ok(Raised {
+        entry: Some(entry),
+        low: job.span.len,
+        leaf: None,
+    })
 }

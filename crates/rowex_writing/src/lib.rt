@@ -6,7 +6,7 @@
 //!
 //! 1. *Search* (`rowex_reading`): the path of the key, and the leaf at its end with the key's first mismatch. A call whose answer
 //!    needs no change ends here.
-//! 2. *Plan* (`plan`, `finding`): which nodes of the path are remade, the span, and what is done at its lower end, the deed. A
+//! 2. *Plan* (`plan`): which nodes of the path are remade, the span, and what is done at its lower end, the deed. A
 //!    deed puts a leaf in an entry's place, pushes a leaf down into a node of two, grows a node by a leaf, or takes a leaf out.
 //!    The cases of an insertion are those of HOT: normal insert, leaf pushdown, parent pull up, intermediate node, new root.
 //! 3. *Locks* (`locks`): the nodes of the span and the one above it are locked, from the lowest up; the anchor stands for the
@@ -44,22 +44,17 @@ mod checking;
 mod claims;
 mod deeds;
 mod ending;
-mod finding;
 mod growing;
 mod locked;
 mod locks;
 mod merging;
-mod pairing;
 mod plan;
 mod publishing;
-mod putting;
 mod remaking;
-mod supply;
 mod taking;
-mod walking;
 mod widening;
 
 pub use attempts::{TryFault, attempt};
 pub use building::Build;
 pub use plan::Full;
-pub use supply::Supply;
+pub use claims::Supply;

@@ -9,7 +9,7 @@ use Rattle.rowex_writing.proofs.Keeping.{made_alone}
 use Rattle.rowex_writing.proofs.Locking.{goes_more}
 use Rattle.rowex_writing.proofs.Making.{building_on}
 use Rattle.rowex_writing.proofs.Walked.{missed_as, walk_on, walk_ends}
-use Rattle.rowex_writing.proofs.walking.claim_node.Goals as goal
+use Rattle.rowex_writing.proofs.claims.claim_node.Goals as goal
 
 pub claim_left-claimed-requires : goal.claim_left-claimed-requires
 claim_left-claimed-requires g c = record { own = c.requires.building.1.seat }

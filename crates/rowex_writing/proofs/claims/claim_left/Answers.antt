@@ -7,7 +7,7 @@ use Rattle.rowex_writing.proofs.Counting.{claims_count, none_count}
 use Rattle.rowex_writing.proofs.Locking.{goes_more, seat_of}
 use Rattle.rowex_writing.proofs.Making.{none_on, claim_on}
 use Rattle.rowex_writing.proofs.Walked.{alone_still, walk_on, walk_out, walk_claims}
-use Rattle.rowex_writing.proofs.walking.claim_left.Goals as goal
+use Rattle.rowex_writing.proofs.claims.claim_left.Goals as goal
 
 pub returns-in-Some-clause-walk : goal.returns-in-Some-clause-walk
 returns-in-Some-clause-walk g c = λ since made alone w.

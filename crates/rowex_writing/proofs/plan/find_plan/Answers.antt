@@ -6,7 +6,7 @@ use Rattle.rowex_reading.proofs.Led.{reader_then, reads_later, reads_none}
 use Rattle.rowex_reading.proofs.Ways.{way_place}
 use Rattle.rowex_writing.proofs.Affecting.{known_planned, beside_planned}
 use Rattle.rowex_writing.proofs.Planning.{plan_within, beside_within}
-use Rattle.rowex_writing.proofs.finding.find_plan.Goals as goal
+use Rattle.rowex_writing.proofs.plan.find_plan.Goals as goal
 
 pub find_affected-first-requires-clause-place : goal.find_affected-first-requires-clause-place
 find_affected-first-requires-clause-place g c =
