@@ -19,7 +19,7 @@ use Rattle.tries.specs.Content.{first}
 use Rattle.tries.proofs.Tries.{has_first, within_trans, within_child, trie_within, built_within, follows_if_has, rises}
 use Rattle.insert_cases.specs.declared.choice.Case.{Case}
 use Rattle.insert_cases.specs.declared.choice.Choice.{Choice}
-use Rattle.insert_cases.specs.declared.choice.Step.{Step}
+use Rattle.insert_cases.specs.declared.choice.PathNode.{PathNode}
 use Rattle.insert_cases.specs.Levels.{IsLevel, IsChosen}
 use Rattle.insert_cases.specs.Ways.{below, stage, IsStep, IsStepAt, IsLeaf, IsWay, WayBelow, body, is_leaf, case_of, IsAffectedNode}
 use Rattle.insert_cases.proofs.Affecting.{FirstForkIsNot, key_part}
@@ -30,17 +30,17 @@ pub some_injective : {A : Type 0} {a b : A} → Some a ≡ Some b → a ≡ b
 some_injective e = cc
 
 -- ---- stages of a way
-pub some_at : (ss : List Step) (l : ℕ) → l < length ss → (s : Step) × (slice_get ss l ≡ Some s)
+pub some_at : (ss : List PathNode) (l : ℕ) → l < length ss → (s : PathNode) × (slice_get ss l ≡ Some s)
 some_at [] l h = absurd (omega arith)
 some_at (s ∷ ss) zero h = (s, refl)
 some_at (s ∷ ss) (suc l) h = some_at ss l (omega arith)
 
-pub way_at : (k : Key) (t : Tree) (ss : List Step) → IsWay k t ss → (l : ℕ) (s : Step) → slice_get ss l ≡ Some s → IsStepAt k s (stage k t l)
+pub way_at : (k : Key) (t : Tree) (ss : List PathNode) → IsWay k t ss → (l : ℕ) (s : PathNode) → slice_get ss l ≡ Some s → IsStepAt k s (stage k t l)
 way_at k t [] w l s e = absurd (let z : None ≡ Some s = e in cc)
 way_at k t (x ∷ ss) w zero s e = subst (λ z. IsStepAt k z t) (some_injective e) w.0
 way_at k t (x ∷ ss) w (suc l) s e = way_at k (below k t) ss w.1 l s e
 
-way_end : (k : Key) (t : Tree) (ss : List Step) → IsWay k t ss → IsLeaf (stage k t (length ss))
+way_end : (k : Key) (t : Tree) (ss : List PathNode) → IsWay k t ss → IsLeaf (stage k t (length ss))
 way_end k t [] w = w
 way_end k t (x ∷ ss) w = way_end k (below k t) ss w.1
 
@@ -67,14 +67,14 @@ found-stage k t zero = refl
 found-stage k t (suc l) = found-stage k (below k t) l ∙ found-below k t
 
 -- the node at a step
-pub record IsNodeAt (k : Key) (s : Step) (u : Tree) : Type 0 where
+pub record IsNodeAt (k : Key) (s : PathNode) (u : Tree) : Type 0 where
   pub number : ℕ
   pub fixed : Fixed
   pub inner : Tree
   pub is : u ≡ node number fixed inner
   pub step : IsStep k s number fixed inner
 
-pub node_at : (k : Key) (s : Step) (u : Tree) → IsStepAt k s u → IsNodeAt k s u
+pub node_at : (k : Key) (s : PathNode) (u : Tree) → IsStepAt k s u → IsNodeAt k s u
 node_at k s (leaf n l v) i = elim i [ ]
 node_at k s (node n x b) i = record { number = n; fixed = x; inner = b; is = refl; step = i }
 node_at k s (fork p a b) i = elim i [ ]
@@ -105,7 +105,7 @@ below_node k q a c (leaf m l v) i w n x b e = absurd cc
 below_node k q a c (node m y d) i w n x b e = way_below k q a c d i w
 below_node k q a c (fork p d g) i w n x b e = absurd cc
 
-way_rises : (k : Key) (t : Tree) (ss : List Step) → IsWay k t ss → IsTrie t → (l j : ℕ) → l < j → (q : ℕ) (a c : Tree) → Within (fork q a c) (stage k t j) →
+way_rises : (k : Key) (t : Tree) (ss : List PathNode) → IsWay k t ss → IsTrie t → (l j : ℕ) → l < j → (q : ℕ) (a c : Tree) → Within (fork q a c) (stage k t j) →
     l < length ss → WayBelow q k (body (stage k t l))
 way_rises k t [] w i l j h q a c in_j o = absurd (omega arith)
 way_rises k t (s ∷ ss) w i zero zero h q a c in_j o = absurd (omega arith)
@@ -217,10 +217,10 @@ is_whole k p (fork q a c) f h =
     }
 
 -- ---- the choice
-module _ (k : Key) (t : Tree) (p : ℕ) (way : List Step) (trie : IsTrie t) (built : IsBuilt t) (w : IsWay k t way) (d : IsFirstDifference k (found k t).key p)
+module _ (k : Key) (t : Tree) (p : ℕ) (way : List PathNode) (trie : IsTrie t) (built : IsBuilt t) (w : IsWay k t way) (d : IsFirstDifference k (found k t).key p)
     (level : ℕ) (at : IsLevel way p level) where
   -- the node at a level of the way
-  node_here : (l : ℕ) (s : Step) → slice_get way l ≡ Some s → IsNodeAt k s (stage k t l)
+  node_here : (l : ℕ) (s : PathNode) → slice_get way l ≡ Some s → IsNodeAt k s (stage k t l)
   node_here l s e = node_at k s (stage k t l) (way_at k t way w l s e)
 
   trie_here : (l : ℕ) (n : ℕ) (x : Fixed) (b : Tree) → stage k t l ≡ node n x b → IsTrie b
@@ -247,7 +247,7 @@ module _ (k : Key) (t : Tree) (p : ℕ) (way : List Step) (trie : IsTrie t) (bui
   module _ (first last : ℕ) (from : affected_first p (spot k (subtrie (body (stage k t level)))) (subtrie (body (stage k t level))) ≡ first)
       (upto : affected_count p (spot k (subtrie (body (stage k t level)))) (subtrie (body (stage k t level))) + first ≡ last + 1) where
     -- the affected node is the one at the level
-    at_level : (s : Step) → slice_get way level ≡ Some s → (one : Bool) → (IsPart (affected p k (body (stage k t level))) × (is_leaf (affected p k (body (stage k t level))) ≡ one)) →
+    at_level : (s : PathNode) → slice_get way level ≡ Some s → (one : Bool) → (IsPart (affected p k (body (stage k t level))) × (is_leaf (affected p k (body (stage k t level))) ≡ one)) →
         IsAffectedNode k p t (record { level = level; first = first; last = last; case = case_of s.height s.count one })
     at_level s e one part =
         let u = node_here level s e in
@@ -269,7 +269,7 @@ module _ (k : Key) (t : Tree) (p : ℕ) (way : List Step) (trie : IsTrie t) (bui
         }
 
     -- or the next one, all of it
-    at_next : (s : Step) → slice_get way (level + 1) ≡ Some s → last ≤ first →
+    at_next : (s : PathNode) → slice_get way (level + 1) ≡ Some s → last ≤ first →
         IsAffectedNode k p t (record { level = level + 1; first = 0; last = s.count - 1; case = case_of s.height s.count false })
     at_next s e small =
         let r = some_at way level at.within in
@@ -319,30 +319,30 @@ module _ (k : Key) (t : Tree) (p : ℕ) (way : List Step) (trie : IsTrie t) (bui
         ]
 
 -- ---- what the code makes of its steps
-pub chosen_several : (way : List Step) (level first last : ℕ) (s : Step) (r : Case) → first < last → slice_get way level ≡ Some s → r ≡ case_of s.height s.count false →
+pub chosen_several : (way : List PathNode) (level first last : ℕ) (s : PathNode) (r : Case) → first < last → slice_get way level ≡ Some s → r ≡ case_of s.height s.count false →
     IsChosen way level first last (record { level = level; first = first; last = last; case = r })
 chosen_several way level first last s r h at e = record {
   several = λ _ z f. let same : s ≡ z = some_injective (sym at ∙ f) in
-      ap (λ q. let c : Choice = record { level = level; first = first; last = last; case = q } in c) (e ∙ ap (λ (q : Step). case_of q.height q.count false) same);
+      ap (λ q. let c : Choice = record { level = level; first = first; last = last; case = q } in c) (e ∙ ap (λ (q : PathNode). case_of q.height q.count false) same);
   next = λ g z f. absurd (omega arith);
   leaf = λ g o z f. absurd (omega arith);
 }
 
-pub chosen_next : (way : List Step) (level first last : ℕ) (s : Step) (r : Case) → last ≤ first → level + 1 < length way → slice_get way (level + 1) ≡ Some s →
+pub chosen_next : (way : List PathNode) (level first last : ℕ) (s : PathNode) (r : Case) → last ≤ first → level + 1 < length way → slice_get way (level + 1) ≡ Some s →
     r ≡ case_of s.height s.count false → IsChosen way level first last (record { level = level + 1; first = 0; last = s.count - 1; case = r })
 chosen_next way level first last s r h o at e = record {
   several = λ g z f. absurd (omega arith);
   next = λ g z f. let same : s ≡ z = some_injective (sym at ∙ f) in
       ap (λ q. let c : Choice = record { level = level + 1; first = 0; last = s.count - 1; case = q } in c) e ∙
-      ap (λ (q : Step). let c : Choice = record { level = level + 1; first = 0; last = q.count - 1; case = case_of q.height q.count false } in c) same;
+      ap (λ (q : PathNode). let c : Choice = record { level = level + 1; first = 0; last = q.count - 1; case = case_of q.height q.count false } in c) same;
   leaf = λ g q z f. absurd (omega arith);
 }
 
-pub chosen_leaf : (way : List Step) (level first last : ℕ) (s : Step) (r : Case) → last ≤ first → length way ≤ level + 1 → slice_get way level ≡ Some s →
+pub chosen_leaf : (way : List PathNode) (level first last : ℕ) (s : PathNode) (r : Case) → last ≤ first → length way ≤ level + 1 → slice_get way level ≡ Some s →
     r ≡ case_of s.height s.count true → IsChosen way level first last (record { level = level; first = first; last = last; case = r })
 chosen_leaf way level first last s r h o at e = record {
   several = λ g z f. absurd (omega arith);
   next = λ g z f. absurd (let i = slice_get_within way (level + 1) z f in omega arith);
   leaf = λ g q z f. let same : s ≡ z = some_injective (sym at ∙ f) in
-      ap (λ q. let c : Choice = record { level = level; first = first; last = last; case = q } in c) (e ∙ ap (λ (q : Step). case_of q.height q.count true) same);
+      ap (λ q. let c : Choice = record { level = level; first = first; last = last; case = q } in c) (e ∙ ap (λ (q : PathNode). case_of q.height q.count true) same);
 }

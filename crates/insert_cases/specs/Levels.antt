@@ -1,21 +1,21 @@
 -- The choice of the affected node, in terms of the steps of a way.
 use Rattle.std.specs.Prelude.{◌≡◌, ℕ, ◌+◌, ◌-◌, ◌<◌, ◌≤◌, List, length, slice_get, Some, false, true}
 use Rattle.insert_cases.specs.declared.choice.Choice.{Choice}
-use Rattle.insert_cases.specs.declared.choice.Step.{Step}
+use Rattle.insert_cases.specs.declared.choice.PathNode.{PathNode}
 use Rattle.insert_cases.specs.Ways.{case_of}
 
 -- the last step whose first position is below p, or the first step
-pub record IsLevel (way : List Step) (p level : ℕ) : Type 0 where
+pub record IsLevel (way : List PathNode) (p level : ℕ) : Type 0 where
   pub within : level < length way
-  pub low : 0 < level → (s : Step) → slice_get way level ≡ Some s → s.first_position < p
-  pub rest : (k : ℕ) (s : Step) → level < k → slice_get way k ≡ Some s → p ≤ s.first_position
+  pub low : 0 < level → (s : PathNode) → slice_get way level ≡ Some s → s.first_position < p
+  pub rest : (k : ℕ) (s : PathNode) → level < k → slice_get way k ≡ Some s → p ≤ s.first_position
 
 -- the node at the level, or the next one with all its entries
-pub record IsChosen (way : List Step) (level first last : ℕ) (c : Choice) : Type 0 where
-  pub several : first < last → (s : Step) → slice_get way level ≡ Some s → c ≡ record { level = level; first = first; last = last; case = case_of s.height s.count false }
-  pub next : last ≤ first → (s : Step) → slice_get way (level + 1) ≡ Some s →
+pub record IsChosen (way : List PathNode) (level first last : ℕ) (c : Choice) : Type 0 where
+  pub several : first < last → (s : PathNode) → slice_get way level ≡ Some s → c ≡ record { level = level; first = first; last = last; case = case_of s.height s.count false }
+  pub next : last ≤ first → (s : PathNode) → slice_get way (level + 1) ≡ Some s →
       c ≡ record { level = level + 1; first = 0; last = s.count - 1; case = case_of s.height s.count false }
-  pub leaf : last ≤ first → length way ≤ level + 1 → (s : Step) → slice_get way level ≡ Some s →
+  pub leaf : last ≤ first → length way ≤ level + 1 → (s : PathNode) → slice_get way level ≡ Some s →
       c ≡ record { level = level; first = first; last = last; case = case_of s.height s.count true }
 
 -- what rises from a node of this height goes into its parent of that height: the parent is one higher
@@ -24,7 +24,7 @@ IsPullUp child parent = parent ≡ child + 1
 
 -- The end of the chain of pull ups that begins at a full node: each node below the end is full, and its parent is one
 -- higher; the end is topmost, or has room, or its parent is higher still.
-pub record IsChainEnd (way : List Step) (level end : ℕ) : Type 0 where
+pub record IsChainEnd (way : List PathNode) (level end : ℕ) : Type 0 where
   pub upto : end ≤ level
-  pub pulls : (l : ℕ) (s u : Step) → end ≤ l → l < level → slice_get way (l + 1) ≡ Some s → slice_get way l ≡ Some u → (s.count ≡ 32) × IsPullUp s.height u.height
-  pub stops : (l : ℕ) (s u : Step) → l + 1 ≡ end → slice_get way end ≡ Some s → slice_get way l ≡ Some u → s.count ≡ 32 → IsPullUp s.height u.height → ⊥
+  pub pulls : (l : ℕ) (s u : PathNode) → end ≤ l → l < level → slice_get way (l + 1) ≡ Some s → slice_get way l ≡ Some u → (s.count ≡ 32) × IsPullUp s.height u.height
+  pub stops : (l : ℕ) (s u : PathNode) → l + 1 ≡ end → slice_get way end ≡ Some s → slice_get way l ≡ Some u → s.count ≡ 32 → IsPullUp s.height u.height → ⊥

@@ -11,7 +11,7 @@ use Rattle.tries.specs.Tree.{Tree, leaf, node, fork, Fixed, subtrie, first_posit
 use Rattle.insert_cases.specs.declared.choice.Case.{Case}
 use Rattle.insert_cases.specs.declared.choice.Case.TheVariants.{LeafPushdown, NormalInsert, Overflow}
 use Rattle.insert_cases.specs.declared.choice.Choice.{Choice}
-use Rattle.insert_cases.specs.declared.choice.Step.{Step}
+use Rattle.insert_cases.specs.declared.choice.PathNode.{PathNode}
 
 -- where a search goes on below a node
 abbrev pub below : Key → Tree → Tree
@@ -25,14 +25,14 @@ stage k t zero = t
 stage k t (suc l) = stage k (below k t) l
 
 -- what a step tells of its node
-pub record IsStep (k : Key) (s : Step) (n : ℕ) (x : Fixed) (b : Tree) : Type 0 where
+pub record IsStep (k : Key) (s : PathNode) (n : ℕ) (x : Fixed) (b : Tree) : Type 0 where
   pub number : s.number ≡ n
   pub height : s.height ≡ x.height
   pub first : s.first_position ≡ first_position (subtrie b)
   pub count : s.count ≡ size (subtrie b)
   pub at : s.at ≡ spot k (subtrie b)
 
-abbrev pub IsStepAt : Key → Step → Tree → Type 0
+abbrev pub IsStepAt : Key → PathNode → Tree → Type 0
 IsStepAt k s (leaf n l v) = ⊥
 IsStepAt k s (node n x b) = IsStep k s n x b
 IsStepAt k s (fork p a b) = ⊥
@@ -43,7 +43,7 @@ IsLeaf (node n x b) = ⊥
 IsLeaf (fork p a b) = ⊥
 
 -- the steps of a key's search through a tree, down to a leaf
-abbrev pub IsWay : Key → Tree → List Step → Type 0
+abbrev pub IsWay : Key → Tree → List PathNode → Type 0
 IsWay k t [] = IsLeaf t
 IsWay k t (s ∷ ss) = IsStepAt k s t × IsWay k (below k t) ss
 

@@ -12,7 +12,7 @@ ghost use Rattle.insert_cases.specs.Ways.{IsWay, IsAffectedNode, case_of, stage,
 
 /// A node on the way of a search, topmost first, and the entry that the search took there.
 #[derive(Clone, Copy, Default)]
-pub struct Step {
+pub struct PathNode {
     /// The node's record number.
     pub number: u32,
     /// The node's stored height.
@@ -52,7 +52,7 @@ pub struct Choice {
 }
 
 /// The last node on the way whose first position is below `position`, or the topmost where there is none.
-pub fn level_below(way: &[Step], position: u16) -> usize
+pub fn level_below(way: &[PathNode], position: u16) -> usize
     requires { 0 < length way.now }
     ensures { IsLevel way.now position result }
 {
@@ -68,7 +68,7 @@ pub fn level_below(way: &[Step], position: u16) -> usize
 /// The insertion case for a key that differs from the leaf that its search finds first at a position: `level` is what
 /// `level_below` gives for it, and the entries from `first` to `last` of that node are those that the position affects.
 /// Where one entry alone is affected and the way goes on below it, the whole next node is affected instead.
-pub fn choose(way: &[Step], level: usize, first: u8, last: u8) -> Choice
+pub fn choose(way: &[PathNode], level: usize, first: u8, last: u8) -> Choice
     requires { level < length way.now }
     ensures chosen { IsChosen way.now level first last result }
     ensures affected { (k : KeyBytes) (t : Tree) (p : ℕ) → IsTrie t → IsBuilt t → IsWay k t way.now → IsFirstDifference k (found k t).key p →
@@ -103,7 +103,7 @@ pub fn choose(way: &[Step], level: usize, first: u8, last: u8) -> Choice
 }
 
 /// What is done at a node, where one leaf alone is affected or not.
-fn case_at(step: Step, one_leaf: bool) -> Case
+fn case_at(step: PathNode, one_leaf: bool) -> Case
     ensures { result ≡ case_of step.height step.count one_leaf }
 {
     if one_leaf && step.height > 1 {
@@ -117,7 +117,7 @@ fn case_at(step: Step, one_leaf: bool) -> Case
 
 /// The uppermost node on the way that gets another one in its place, where the node at `level` overflows: the halves
 /// of a full node go into its parent where that is one higher, and a full parent overflows in turn.
-pub fn chain_end(way: &[Step], level: usize) -> usize
+pub fn chain_end(way: &[PathNode], level: usize) -> usize
     requires { level < length way.now }
     ensures { IsChainEnd way.now level result }
 {
@@ -129,7 +129,7 @@ pub fn chain_end(way: &[Step], level: usize) -> usize
 }
 
 /// Whether what rises from a full node goes into its parent.
-fn is_pulled_up(child: Step, parent: Step) -> bool
+fn is_pulled_up(child: PathNode, parent: PathNode) -> bool
     ensures { IsTrue result ↔ ((child.count ≡ 32) × IsPullUp child.height parent.height) }
 {
     child.count == 32 && is_pull_up(child.height, parent.height)

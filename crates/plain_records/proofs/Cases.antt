@@ -11,7 +11,7 @@ use Rattle.compound_node.specs.declared.entries.Entry.TheVariants.{Leaf, Node}
 use Rattle.insert_cases.specs.declared.choice.Case.{Case}
 use Rattle.insert_cases.specs.declared.choice.Case.TheVariants.{LeafPushdown, NormalInsert, Overflow}
 use Rattle.insert_cases.specs.declared.choice.Choice.{Choice}
-use Rattle.insert_cases.specs.declared.choice.Step.{Step}
+use Rattle.insert_cases.specs.declared.choice.PathNode.{PathNode}
 use Rattle.insert_cases.specs.declared.raising.Risen.{Risen}
 use Rattle.insert_cases.specs.declared.raising.Risen.TheVariants.{Whole, Split}
 use Rattle.insert_cases.specs.Risen.{subtrie_of}
@@ -111,7 +111,7 @@ pair_low v b p l e low built = over ∙ low_pair b
 
 module _ {ns : List NodeView} {ls : List LeafRecord} {x : Item} {p n h : ℕ} {t : Tree} (i : IsAddable ns ls x p (Node n h) t) (u : IsHere ns ls x p n h t) (v : NodeView) (is : v ≡ get_or ns n v)
     (first last : ℕ) (from : affected_first p (spot x.key (subtrie u.body)) (subtrie u.body) ≡ first) (upto : affected_count p (spot x.key (subtrie u.body)) (subtrie u.body) + first ≡ last + 1)
-    (s : Step) (tall : s.height ≡ v.height) (many : s.count ≡ length v.entries) (entry : Entry) (low : height_of entry < v.height)
+    (s : PathNode) (tall : s.height ≡ v.height) (many : s.count ≡ length v.entries) (entry : Entry) (low : height_of entry < v.height)
     (c : Choice) (chosen : IsChosenAt s.height s.count first last entry c) where
   same_node : v ≡ u.shown.0.view
   same_node = read_at ns n u.shown.0.view v u.shown.0.at is

@@ -5,15 +5,15 @@ ghost use Rattle.compound_node.specs.Nodes.{IsEntry};
 ghost use Rattle.plain_records.specs.Cases.{IsInRecords, IsChosenAt, TakesLeaf};
 
 use compound_node::{Entry, Node};
-use insert_cases::{Case, Choice, Step, choose};
+use insert_cases::{Case, Choice, PathNode, choose};
 use key_bits::Key;
 
 /// The step of a key's search that takes entry `at` of a node.
-pub fn step_at(node: &Node, number: u32, at: u8) -> Step
+pub fn step_at(node: &Node, number: u32, at: u8) -> PathNode
     ensures height { result.height ≡ node.now.height }
     ensures count { result.count ≡ length node.now.entries }
 {
-    Step {
+    PathNode {
         number,
         height: node.height(),
         first_position: node.first_position(),
@@ -26,7 +26,7 @@ pub fn step_at(node: &Node, number: u32, at: u8) -> Step
 /// the key's search goes on to `entry`.
 pub fn choice_at(
     nodes: &Vec<Node>,
-    step: Step,
+    step: PathNode,
     entry: Entry,
     key: &Key,
     first: u8,

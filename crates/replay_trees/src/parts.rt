@@ -33,7 +33,7 @@ pub(crate) fn read_entry(
     ensures read { IfOk result (λ good. IsEntryRead records.entry.nodes.now records.entry.leaves.now least entry good linked.old linked.new) }
 {
     match entry {
-        Entry::Leaf(number) => take_leaf(records.leaves, number, linked),
+        Entry::Leaf(number) => read_leaf(records.leaves, number, linked),
         Entry::Node { number, height } => {
             let Some(node) = node_at(records.nodes, number, height) else {
                 return Ok(false);
@@ -90,7 +90,7 @@ fn read_cut(records: Records, least: u32, cut: Cut, linked: &mut Linked) -> Resu
 }
 
 /// Adds a leaf record of the table, and answers whether its words spell a value.
-fn take_leaf(
+fn read_leaf(
     leaves: &[[u64; LEAF_FIELDS]],
     number: u32,
     linked: &mut Linked,

@@ -11,7 +11,7 @@ use Rattle.pieces.specs.Piece.{Place, Fork, size}
 use Rattle.compound_node.specs.Nodes.{HeadView, InEachNode, IsLawfulNode, node_of, leaves, piece, height_of}
 use Rattle.compound_node.specs.declared.entries.Entry.{Entry}
 use Rattle.compound_node.specs.declared.entries.Entry.TheVariants.{Leaf as LeafEntry, Node}
-use Rattle.insert_cases.specs.declared.choice.Step.{Step}
+use Rattle.insert_cases.specs.declared.choice.PathNode.{PathNode}
 use Rattle.insert_cases.proofs.Choosing.{agrees, differs}
 use Rattle.record_words.specs.declared.layout.Layout.{Layout}
 use Rattle.record_words.specs.declared.TheConstants.{HEAD_WORDS, LEAF_FIELDS}
@@ -38,39 +38,39 @@ use Rattle.rowex_reading.specs.declared.descent.Found.TheVariants.{Nothing, Leaf
 use Rattle.rowex_reading.proofs.Ways.{node_later}
 
 -- what stands at the head of a way that leads to the entry
-abbrev first_of : List Step → Entry → Entry
+abbrev first_of : List PathNode → Entry → Entry
 first_of [] e = e
 first_of (s ∷ way) e = Node s.number s.height
 
 -- each node of the way names the next one, and the last one the entry
-abbrev AreWayNodes : Layout → Known → ℕ → Key → List Step → Entry → Type 0
+abbrev AreWayNodes : Layout → Known → ℕ → Key → List PathNode → Entry → Type 0
 AreWayNodes layout k m key [] e = Unit {0}
 AreWayNodes layout k m key (s ∷ way) e = IsWayNode layout k m key s (first_of way e) × AreWayNodes layout k m key way e
 
 -- Since its load of the root at m the search has come down this way, and goes on to the entry.
-pub record IsGoing (layout : Layout) (k : Known) (m : ℕ) (key : Key) (way : List Step) (e : Entry) : Type 0 where
+pub record IsGoing (layout : Layout) (k : Known) (m : ℕ) (key : Key) (way : List PathNode) (e : Entry) : Type 0 where
   pub root : Sure k (λ past. IsRooted past m (first_of way e))
   pub nodes : AreWayNodes layout k m key way e
   pub falls : length way + height_of e ≤ 9 * MAX_BYTES
 
 -- ---- the way
 -- one node more
-first_more : (way : List Step) (s : Step) (e : Entry) → first_of (way ++ s ∷ []) e ≡ first_of way (Node s.number s.height)
+first_more : (way : List PathNode) (s : PathNode) (e : Entry) → first_of (way ++ s ∷ []) e ≡ first_of way (Node s.number s.height)
 first_more [] s e = refl
 first_more (t ∷ way) s e = refl
 
 module _ (layout : Layout) (k : Known) (m : ℕ) (key : Key) where
-  nodes_more : (way : List Step) (s : Step) (e : Entry) → AreWayNodes layout k m key way (Node s.number s.height) → IsWayNode layout k m key s e → AreWayNodes layout k m key (way ++ s ∷ []) e
+  nodes_more : (way : List PathNode) (s : PathNode) (e : Entry) → AreWayNodes layout k m key way (Node s.number s.height) → IsWayNode layout k m key s e → AreWayNodes layout k m key (way ++ s ∷ []) e
   nodes_more [] s e nodes node = (node, tt)
   nodes_more (t ∷ way) s e (first, nodes) node = (subst (IsWayNode layout k m key t) (sym (first_more way s e)) first, nodes_more way s e nodes node)
 
   -- what names the topmost node, or the end of the search where there is no node
-  named_first : (way : List Step) (number value : ℕ) (mismatch : Option ℕ) → named way (Leaf number value mismatch) 0 ≡ Some (first_of way (LeafEntry number))
+  named_first : (way : List PathNode) (number value : ℕ) (mismatch : Option ℕ) → named way (Leaf number value mismatch) 0 ≡ Some (first_of way (LeafEntry number))
   named_first [] number value mismatch = refl
   named_first (s ∷ way) number value mismatch = refl
 
   -- each node by its index
-  node_at : (way : List Step) (number value : ℕ) (mismatch : Option ℕ) → AreWayNodes layout k m key way (LeafEntry number) → (i : ℕ) (s : Step) → slice_get way i ≡ Some s →
+  node_at : (way : List PathNode) (number value : ℕ) (mismatch : Option ℕ) → AreWayNodes layout k m key way (LeafEntry number) → (i : ℕ) (s : PathNode) → slice_get way i ≡ Some s →
       (e : Entry) × (named way (Leaf number value mismatch) (suc i) ≡ Some e) × IsWayNode layout k m key s e
   node_at [] number value mismatch nodes i s at = absurd (omega (arith, slice_get_within [] i s at))
   node_at (t ∷ way) number value mismatch nodes zero s at =
@@ -78,7 +78,7 @@ module _ (layout : Layout) (k : Known) (m : ℕ) (key : Key) where
   node_at (t ∷ way) number value mismatch nodes (suc i) s at = node_at way number value mismatch nodes.1 i s at
 
 module _ (layout : Layout) (k j : Known) (m : ℕ) (key : Key) (later : IsLater k j) where
-  nodes_later : (way : List Step) (e : Entry) → AreWayNodes layout k m key way e → AreWayNodes layout j m key way e
+  nodes_later : (way : List PathNode) (e : Entry) → AreWayNodes layout k m key way e → AreWayNodes layout j m key way e
   nodes_later [] e nodes = tt
   nodes_later (s ∷ way) e (node, nodes) = (node_later layout k j m key later s (first_of way e) node, nodes_later way e nodes)
 
@@ -86,7 +86,7 @@ module _ (layout : Layout) (k j : Known) (m : ℕ) (key : Key) (later : IsLater 
   root_on e root = sure_later {P = λ past. IsRooted past m e} (rooted_stable m e) later root
 
   -- the search goes on by a node that it has read
-  pub going_on : (way : List Step) (s : Step) (e : Entry) → IsGoing layout k m key way (Node s.number s.height) → IsWayNode layout j m key s e → IsGoing layout j m key (way ++ s ∷ []) e
+  pub going_on : (way : List PathNode) (s : PathNode) (e : Entry) → IsGoing layout k m key way (Node s.number s.height) → IsWayNode layout j m key s e → IsGoing layout j m key (way ++ s ∷ []) e
   going_on way s e going node = record {
     root = subst (λ z. Sure j (λ past. IsRooted past m z)) (sym (first_more way s e)) (root_on (first_of way (Node s.number s.height)) going.root);
     nodes = nodes_more layout j m key way s e (nodes_later way (Node s.number s.height) going.nodes) node;
@@ -94,7 +94,7 @@ module _ (layout : Layout) (k j : Known) (m : ℕ) (key : Key) (later : IsLater 
   }
 
   -- and ends at a leaf
-  pub going_ends : (way : List Step) (number value : ℕ) (mismatch : Option ℕ) → IsGoing layout k m key way (LeafEntry number) → IsKey key → IsPinnedSince j m → IsFoundAt j m key (Leaf number value mismatch) →
+  pub going_ends : (way : List PathNode) (number value : ℕ) (mismatch : Option ℕ) → IsGoing layout k m key way (LeafEntry number) → IsKey key → IsPinnedSince j m → IsFoundAt j m key (Leaf number value mismatch) →
       IsWayOf layout j m key way (Leaf number value mismatch)
   going_ends way number value mismatch going is_key since found = record {
     is_key = is_key;
@@ -107,12 +107,12 @@ module _ (layout : Layout) (k j : Known) (m : ℕ) (key : Key) (later : IsLater 
   }
 
 -- the search begins
-pub going_first : (layout : Layout) (k : Known) (m : ℕ) (key : Key) (way : List Step) (e : Entry) → way ≡ [] → height_of e ≤ 9 * MAX_BYTES → Sure k (λ past. IsRooted past m e) → IsGoing layout k m key way e
+pub going_first : (layout : Layout) (k : Known) (m : ℕ) (key : Key) (way : List PathNode) (e : Entry) → way ≡ [] → height_of e ≤ 9 * MAX_BYTES → Sure k (λ past. IsRooted past m e) → IsGoing layout k m key way e
 going_first layout k m key way e none low root =
     subst (λ z. IsGoing layout k m key z e) (sym none) (let start : IsGoing layout k m key [] e = record { root = root; nodes = tt; falls = omega arith } in start)
 
 -- at an empty root it has no way
-pub ends_nowhere : (layout : Layout) (k : Known) (m : ℕ) (key : Key) (way : List Step) → way ≡ [] → IsKey key → IsPinnedSince k m → RootWas k m None → IsWayOf layout k m key way Nothing
+pub ends_nowhere : (layout : Layout) (k : Known) (m : ℕ) (key : Key) (way : List PathNode) → way ≡ [] → IsKey key → IsPinnedSince k m → RootWas k m None → IsWayOf layout k m key way Nothing
 ends_nowhere layout k m key way none is_key since blank = subst (λ z. IsWayOf layout k m key z Nothing) (sym none) nowhere
   where
     nowhere : IsWayOf layout k m key [] Nothing
@@ -142,20 +142,20 @@ module _ (head : HeadView) (lawful : IsLawfulNode (node_of head (leaves (length 
   head_size = size-piece (node_of head (leaves (length head.rows))) lawful ∙ length-replicate (length head.rows) (LeafEntry 0)
 
   pub step_is : (number at count first : ℕ) → count ≡ length head.rows → InEachNode head (λ node. AtRootFork (λ p a b. first ≡ p) (piece node)) →
-      (let s : Step = record { number = number; height = head.height; first_position = first; count = count; at = at } in s) ≡ step_at head number at
+      (let s : PathNode = record { number = number; height = head.height; first_position = first; count = count; at = at } in s) ≡ step_at head number at
   step_is number at count first count_is root =
       let n : count ≡ size (shape_of head) = count_is ∙ sym head_size in
       let f : first ≡ first_position (shape_of head) = first_is first (shape_of head) (root (node_of head (leaves (length head.rows))) lawful refl) in cc
 
 -- The search is at an entry.
 module _ {G : Type 0} {table : TableView} {becomes : G → Event → G → Type 0} {a b c : SeatView × G} {key : Key} {d : Entry} (at : IsAt table becomes a b key d)
-    (way : List Step) (going : IsGoing table.layout b.0.known (since b.0.known) key way d) where
+    (way : List PathNode) (going : IsGoing table.layout b.0.known (since b.0.known) key way d) where
   -- It is a node, of which the head was read, and so the step there: there is an entry at the key's place.
-  module _ (n height : ℕ) (step : Step) (head : HeadView) (is : d ≡ Node n height) (reads : Reads table becomes 0 HEAD_WORDS b c) (high : head.height ≡ height)
+  module _ (n height : ℕ) (step : PathNode) (head : HeadView) (is : d ≡ Node n height) (reads : Reads table becomes 0 HEAD_WORDS b c) (high : head.height ≡ height)
       (lawful : IsLawfulNode (node_of head (leaves (length head.rows)))) (shaped : Sure c.0.known (λ s. IsShaped s (since b.0.known) n (shape_of head)))
       (stepped : step ≡ step_at head n (spot key (shape_of head))) where
     spot_is : step.at ≡ spot key (shape_of head)
-    spot_is = ap (λ (s : Step). s.at) stepped
+    spot_is = ap (λ (s : PathNode). s.at) stepped
 
     pub there : HasPlace c.0.known (since b.0.known) n height step.at
     there = place_of at n height (shape_of head) step.at is (le_refl HEAD_WORDS) reads shaped spot_is
@@ -200,8 +200,8 @@ module _ {G : Type 0} {table : TableView} {becomes : G → Event → G → Type 
       -- and goes on by it
       pub way_on : IsPossible table.layout b.0.known → IsGoing table.layout i.0.known (since i.0.known) key (way ++ step ∷ []) e
       way_on possible =
-          let t : Step = record (step_at head n step.at) { height = height } in
-          let same : t ≡ step = ap (λ z. let x : Step = record (step_at head n step.at) { height = z } in x) (sym high) ∙ (ap (step_at head n) spot_is ∙ sym stepped) in
+          let t : PathNode = record (step_at head n step.at) { height = height } in
+          let same : t ≡ step = ap (λ z. let x : PathNode = record (step_at head n step.at) { height = z } in x) (sym high) ∙ (ap (step_at head n) spot_is ∙ sym stepped) in
           let here : IsGoing table.layout b.0.known (since b.0.known) key way (Node n height) = subst (IsGoing table.layout b.0.known (since b.0.known) key way) is going in
           subst (λ z. IsGoing table.layout i.0.known (since i.0.known) key (way ++ z ∷ []) e) same
           (subst (λ o. IsGoing table.layout i.0.known o key (way ++ t ∷ []) e) (sym (same_since both))

@@ -4,7 +4,7 @@ use Rattle.std.proofs.lemmas.List.{drop_at, get_or_append_left, set-append_right
 use Rattle.compound_node.proofs.Roots.{root_of_head}
 use Rattle.compound_node.specs.declared.entries.Entry.TheVariants.{Node}
 use Rattle.compound_node.specs.Nodes.{NodeView, IsLawfulNode, head_of, leaves, node_of, piece}
-use Rattle.insert_cases.specs.declared.choice.Step.{Step}
+use Rattle.insert_cases.specs.declared.choice.PathNode.{PathNode}
 use Rattle.key_bits.specs.Bits.{bit_of}
 use Rattle.partial_keys.specs.Rows.{dense_of}
 use Rattle.pieces.specs.Piece.{leads_to}
@@ -81,9 +81,9 @@ module _ {k : Known} {m n h : ℕ} (words : List ℕ) (are : AreHeadWords k m n 
 
   -- the step there
   pub step_spelled : (number at : ℕ) →
-      (let s : Step = record { number = number; height = get_or words 0 0 / 65536; first_position = get_or words 1 0 % 65536; count = get_or words 0 0 % 256; at = at } in s) ≡ step_at are.head number at
+      (let s : PathNode = record { number = number; height = get_or words 0 0 / 65536; first_position = get_or words 1 0 % 65536; count = get_or words 0 0 % 256; at = at } in s) ≡ step_at are.head number at
   step_spelled number at =
-      ap (λ h. let s : Step = record { number = number; height = h; first_position = get_or words 1 0 % 65536; count = get_or words 0 0 % 256; at = at } in s) (height_read node are.lawful words are.words_are)
+      ap (λ h. let s : PathNode = record { number = number; height = h; first_position = get_or words 1 0 % 65536; count = get_or words 0 0 % 256; at = at } in s) (height_read node are.lawful words are.words_are)
       ∙ step_is are.head are.lawful number at (get_or words 0 0 % 256) (get_or words 1 0 % 65536) (count_read node are.lawful words are.words_are) (root_of_head are.head (get_or words 1 0 % 65536) (first_read node are.lawful words are.words_are))
 
 -- Both parts are a node's.
@@ -107,7 +107,7 @@ module _ {k : Known} {m n h : ℕ} (front back : List ℕ) (long : length front 
 
     -- and the step there
     pub step_read : (number : ℕ) →
-        (let s : Step = record { number = number; height = get_or front 0 0 / 65536; first_position = get_or front 1 0 % 65536; count = get_or front 0 0 % 256; at = at } in s) ≡ step_at are.head number (spot key (shape_of are.head))
+        (let s : PathNode = record { number = number; height = get_or front 0 0 / 65536; first_position = get_or front 1 0 % 65536; count = get_or front 0 0 % 256; at = at } in s) ≡ step_at are.head number (spot key (shape_of are.head))
     step_read number =
-        ap₂ (λ a b. let s : Step = record { number = number; height = a / 65536; first_position = b % 65536; count = a % 256; at = at } in s) (sym numbers) (sym (get_or_append_left front back 0 1 (omega (arith, long))))
+        ap₂ (λ a b. let s : PathNode = record { number = number; height = a / 65536; first_position = b % 65536; count = a % 256; at = at } in s) (sym numbers) (sym (get_or_append_left front back 0 1 (omega (arith, long))))
         ∙ (step_spelled (front ++ back) are number at ∙ ap (step_at are.head number) spot_is)

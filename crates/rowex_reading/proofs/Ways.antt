@@ -1,7 +1,7 @@
 -- The way of a search: what names its nodes; and what was found stays known while the pass goes on.
 use Rattle.std.proofs.Common.{◌≡◌, ℕ, zero, suc, ◌<◌, ◌≤◌, List, [], ◌∷◌, length, Option, Some, None, refl, ap, arith, subst, sym}
 use Rattle.std.specs.Prelude.{slice_get}
-use Rattle.insert_cases.specs.declared.choice.Step.{Step}
+use Rattle.insert_cases.specs.declared.choice.PathNode.{PathNode}
 use Rattle.insert_cases.proofs.Choosing.{some_injective}
 use Rattle.compound_node.specs.declared.entries.Entry.{Entry}
 use Rattle.compound_node.specs.declared.entries.Entry.TheVariants.{Node}
@@ -20,13 +20,13 @@ use Rattle.rowex_reading.specs.declared.descent.Found.{Found}
 use Rattle.rowex_reading.specs.declared.descent.Found.TheVariants.{Nothing, Leaf}
 
 -- what names a node of a way
-pub named_at : (way : List Step) (found : Found) (i : ℕ) (s : Step) → slice_get way i ≡ Some s → named way found i ≡ Some (Node s.number s.height)
+pub named_at : (way : List PathNode) (found : Found) (i : ℕ) (s : PathNode) → slice_get way i ≡ Some s → named way found i ≡ Some (Node s.number s.height)
 named_at [] found i s at = absurd (let z : None ≡ Some s = at in cc)
-named_at (x ∷ way) found zero s at = ap (λ (z : Step). Some (Node z.number z.height)) (some_injective at)
+named_at (x ∷ way) found zero s at = ap (λ (z : PathNode). Some (Node z.number z.height)) (some_injective at)
 named_at (x ∷ way) found (suc i) s at = named_at way found i s at
 
 -- and what its search ended at
-pub named_end : (way : List Step) (found : Found) (i : ℕ) → length way ≤ i → named way found i ≡ end_of found
+pub named_end : (way : List PathNode) (found : Found) (i : ℕ) → length way ≤ i → named way found i ≡ end_of found
 named_end [] found i h = refl
 named_end (x ∷ way) found zero h = absurd (omega arith)
 named_end (x ∷ way) found (suc i) h = named_end way found i (omega arith)
@@ -36,7 +36,7 @@ module _ (layout : Layout) (k j : Known) (m : ℕ) (key : Key) (later : IsLater 
   root_later None h = sure_later {P = λ s. IsBlank s m} (blank_stable m) later h
   root_later (Some e) h = sure_later {P = λ s. IsRooted s m e} (rooted_stable m e) later h
 
-  pub node_later : (s : Step) (e : Entry) → IsWayNode layout k m key s e → IsWayNode layout j m key s e
+  pub node_later : (s : PathNode) (e : Entry) → IsWayNode layout k m key s e → IsWayNode layout j m key s e
   node_later s e w = record {
     forks = w.forks;
     range = w.range;
@@ -55,7 +55,7 @@ module _ (layout : Layout) (k j : Known) (m : ℕ) (key : Key) (later : IsLater 
   found_later (Leaf number value mismatch) (l, read, differ) = (l, sure_later {P = λ p. IsRead p m number l value} (read_stable m number l value) later read, differ)
 
 -- what a search has found is known later on
-pub way_later : (layout : Layout) (k j : Known) (m : ℕ) (key : Key) (way : List Step) (found : Found) → IsLater k j → IsWayOf layout k m key way found → IsWayOf layout j m key way found
+pub way_later : (layout : Layout) (k j : Known) (m : ℕ) (key : Key) (way : List PathNode) (found : Found) → IsLater k j → IsWayOf layout k m key way found → IsWayOf layout j m key way found
 way_later layout k j m key way found later w = record {
   is_key = w.is_key;
   since = since_later later w.since;
@@ -66,7 +66,7 @@ way_later layout k j m key way found later w = record {
 }
 
 -- each of its nodes has a place on the key's way
-pub way_place : (layout : Layout) (k : Known) (m : ℕ) (key : Key) (way : List Step) (found : Found) → IsWayOf layout k m key way found → (i : ℕ) (s : Step) → slice_get way i ≡ Some s → HasPlace k m s.number s.height s.at
+pub way_place : (layout : Layout) (k : Known) (m : ℕ) (key : Key) (way : List PathNode) (found : Found) → IsWayOf layout k m key way found → (i : ℕ) (s : PathNode) → slice_get way i ≡ Some s → HasPlace k m s.number s.height s.at
 way_place layout k m key way found w i s at =
     let node = (w.nodes i s at).2 in
     shape_place ((w.since, node.seen), node.shaped) (subst (λ z. z < size node.forks) (sym node.at) (spot_below key node.forks))

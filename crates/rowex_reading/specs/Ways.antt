@@ -5,7 +5,7 @@ use Rattle.key_bits.specs.declared.TheConstants.{MAX_BYTES}
 use Rattle.compound_node.specs.Nodes.{HeadView, height_of}
 use Rattle.compound_node.specs.declared.entries.Entry.{Entry}
 use Rattle.compound_node.specs.declared.entries.Entry.TheVariants.{Leaf as LeafEntry, Node}
-use Rattle.insert_cases.specs.declared.choice.Step.{Step}
+use Rattle.insert_cases.specs.declared.choice.PathNode.{PathNode}
 use Rattle.pieces.specs.Piece.{size}
 use Rattle.record_words.specs.declared.layout.Layout.{Layout}
 use Rattle.tries.specs.Keys.{Key, bit, AgreeBelow}
@@ -31,13 +31,13 @@ value_of found = None
 
 -- What names the i-th node of the way, the root or the entry that the search took in the node above it; after the last node, what
 -- the search ended at.
-abbrev pub named : List Step → Found → ℕ → Option Entry
+abbrev pub named : List PathNode → Found → ℕ → Option Entry
 named [] found i = end_of found
 named (s ∷ way) found zero = Some (Node s.number s.height)
 named (s ∷ way) found (suc i) = named way found i
 
 -- the step at a node with this head, where the search takes the entry at a place
-abbrev pub step_at : HeadView → ℕ → ℕ → Step
+abbrev pub step_at : HeadView → ℕ → ℕ → PathNode
 step_at head number at = record { number = number; height = head.height; first_position = first_position (shape_of head); count = size (shape_of head); at = at }
 
 -- the root's entry in a version since m
@@ -46,7 +46,7 @@ RootWas k m None = Sure k (λ past. IsBlank past m)
 RootWas k m (Some e) = Sure k (λ past. IsRooted past m e)
 
 -- Since version m the pass was led to the node of the step, and has read its forks and, at the place on the key's way, this entry.
-pub record IsWayNode (layout : Layout) (k : Known) (m : ℕ) (key : Key) (s : Step) (e : Entry) : Type 0 where
+pub record IsWayNode (layout : Layout) (k : Known) (m : ℕ) (key : Key) (s : PathNode) (e : Entry) : Type 0 where
   pub forks : Subtrie
   pub range : s.number < layout.nodes
   pub seen : Sure k (λ past. EntryStoodSince past m (Node s.number s.height))
@@ -69,10 +69,10 @@ IsFoundAt k m key Nothing = Unit {0}
 IsFoundAt k m key (Leaf number value mismatch) = (l : Key) × Sure k (λ past. IsRead past m number l value) × IsMismatch key l mismatch
 
 -- What a search for the key has found, which loaded the root at version m.
-pub record IsWayOf (layout : Layout) (k : Known) (m : ℕ) (key : Key) (way : List Step) (found : Found) : Type 0 where
+pub record IsWayOf (layout : Layout) (k : Known) (m : ℕ) (key : Key) (way : List PathNode) (found : Found) : Type 0 where
   pub is_key : IsKey key
   pub since : IsPinnedSince k m
   pub root : RootWas k m (named way found 0)
-  pub nodes : (i : ℕ) (s : Step) → slice_get way i ≡ Some s → (e : Entry) × (named way found (i + 1) ≡ Some e) × IsWayNode layout k m key s e
+  pub nodes : (i : ℕ) (s : PathNode) → slice_get way i ≡ Some s → (e : Entry) × (named way found (i + 1) ≡ Some e) × IsWayNode layout k m key s e
   pub found_at : IsFoundAt k m key found
   pub depth : length way ≤ 9 * MAX_BYTES

@@ -10,7 +10,7 @@ ghost use Rattle.rowex_reading.specs.Ways.{IsWayOf, value_of};
 use crate::reading::{find_step, load_entry_from, load_places, load_root};
 use arrayvec::ArrayVec;
 use compound_node::Entry;
-use insert_cases::Step;
+use insert_cases::PathNode;
 use key_bits::{Key, MAX_BYTES, mismatch_in};
 use rowex_core::{Gate, Rec};
 use rowex_table::{HotTable, TableSeat};
@@ -40,7 +40,7 @@ pub fn search_way<G: Gate>(
     seat: &mut TableSeat,
     gate: &mut G,
     key: &Key,
-    way: &mut ArrayVec<Step, MOST_NODES>,
+    way: &mut ArrayVec<PathNode, MOST_NODES>,
 ) -> Found
     requires own { IsSeatOf table.now seat.old }
     requires pinned { IsSome seat.old.known.pin }

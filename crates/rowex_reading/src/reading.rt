@@ -17,7 +17,7 @@ ghost use Rattle.tries.specs.Place.{spot};
 ghost use Rattle.tries.specs.Tree.{Subtrie};
 
 use compound_node::Entry;
-use insert_cases::Step;
+use insert_cases::PathNode;
 use key_bits::{Key, MAX_BYTES};
 use record_words::{
     FIRST_ROWS, HEAD_WORDS, ROW_WORDS, dense_in, key_word_at, key_words, read_entry, read_some,
@@ -66,7 +66,7 @@ pub fn enter_node<G: Gate>(
     seat: &mut TableSeat,
     gate: &mut G,
     number: u32,
-) -> Step
+) -> PathNode
     requires reader { IsReader table.now seat.old }
     requires led { (m h : ℕ) × IsLedTo seat.old.known m (NodeEntry number h) }
     ensures reads { Reads table.now G.becomes 0 HEAD_WORDS (seat.old, gate.old) (seat.new, gate.new) }
@@ -76,7 +76,7 @@ pub fn enter_node<G: Gate>(
 {
     let mut words = [0; HEAD_WORDS];
     load_head_words(table, seat, gate, number, &mut words);
-    Step {
+    PathNode {
         number,
         height: (words[0] / 65_536) as u16,
         first_position: (words[1] % 65_536) as u16,
@@ -117,7 +117,7 @@ pub fn find_step<G: Gate>(
     number: u32,
     start: usize,
     key: &Key,
-) -> Step
+) -> PathNode
     requires reader { IsReader table.now seat.old }
     requires led { (m h : ℕ) × IsLedTo seat.old.known m (NodeEntry number h) }
     requires start { IsStartOf table.now.layout (a_node number) start }
@@ -137,7 +137,7 @@ pub fn find_step<G: Gate>(
         let offset = (FIRST_ROWS + index) as u8 + 1;
         back[index] = table.load_fixed_from(seat, gate, rec, start, offset);
     }
-    Step {
+    PathNode {
         number,
         height: (front[0] / 65_536) as u16,
         first_position: (front[1] % 65_536) as u16,

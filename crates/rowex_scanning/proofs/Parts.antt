@@ -1,7 +1,7 @@
 -- A scan for which memory was refused, as one that was cut at the number of its pairs.
 use Rattle.std.proofs.Common.{◌≡◌, ℕ, ◌<◌, ◌≤◌, List, [], ◌∷◌, length, true, refl, ap, sym, ◌∙◌, subst, arith}
 use Rattle.compound_node.specs.declared.entries.Entry.TheVariants.{Leaf}
-use Rattle.insert_cases.specs.declared.choice.Step.{Step}
+use Rattle.insert_cases.specs.declared.choice.PathNode.{PathNode}
 use Rattle.tries.specs.Keys.{Key}
 use Rattle.rowex_core.specs.declared.known.Known.{Known}
 use Rattle.rowex_table.specs.Made.{IsLater}
@@ -15,7 +15,7 @@ use Rattle.rowex_scanning.proofs.Directed.{scan_limited}
 use Rattle.rowex_scanning.proofs.Walking.{IsAtEntry, IsBeforeEntry, before_with, leaf_full, length_in_order_taken, walk_full}
 
 -- A walk is one with the limit of its pairs, too.
-before_limited : {d : Direction} {k : Known} {m : ℕ} {g : Range} {at : Step} {frames : List Step} {pairs : List (Key × ℕ)} → IsBeforeEntry d k m g at frames pairs → IsBeforeEntry d k m (limited g (length pairs)) at frames pairs
+before_limited : {d : Direction} {k : Known} {m : ℕ} {g : Range} {at : PathNode} {frames : List PathNode} {pairs : List (Key × ℕ)} → IsBeforeEntry d k m g at frames pairs → IsBeforeEntry d k m (limited g (length pairs)) at frames pairs
 before_limited {d} {k} {m} {g} {pairs = pairs} w = before_with w (limited g (length pairs)) (λ c lawful recalls.
     scan_limited (seen c k) m g d (length pairs) (before d w.stage ∷ w.others) w.taken (let n = ap length w.pairs_are ∙ length_in_order_taken w.taken in omega (arith, n)) (w.scan c lawful recalls))
 
@@ -27,7 +27,7 @@ module _ {d : Direction} {k : Known} {g : Range} {key : Key} {pairs more : List 
       (subst (λ (z : List (Key × ℕ)). length z < g.limit) (sym r.2) room, subst (λ (z : List (Key × ℕ)). HasScanned d k (limited g (length z)) more true) (sym r.2) h)
 
 -- At a leaf of the walk.
-pub walk_part : {d : Direction} {k j : Known} {m : ℕ} {g : Range} {at : Step} {frames : List Step} {pairs more : List (Key × ℕ)} {number : ℕ} → IsLater k j → IsLeafRefused k j g number pairs more → length pairs ≤ g.limit →
+pub walk_part : {d : Direction} {k j : Known} {m : ℕ} {g : Range} {at : PathNode} {frames : List PathNode} {pairs more : List (Key × ℕ)} {number : ℕ} → IsLater k j → IsLeafRefused k j g number pairs more → length pairs ≤ g.limit →
     since j ≡ m → IsAtEntry d k m g at frames pairs (Leaf number) → HasScannedPart d j g more
 walk_part {d} {k} {j} {g = g} {pairs = pairs} {more = more} {number = number} l r short same a =
     let cut : IsLeafTaken d k j (limited g (length pairs)) number pairs more Full = record { key = r.key; value = r.value; read = r.read; taken = (r.refused.0, refl, r.refused.2) } in

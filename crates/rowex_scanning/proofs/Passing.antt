@@ -6,7 +6,7 @@ use Rattle.std.proofs.lemmas.Grind.{get_or-set_at}
 use Rattle.compound_node.specs.Nodes.{height_of}
 use Rattle.compound_node.specs.declared.entries.Entry.{Entry}
 use Rattle.compound_node.specs.declared.entries.Entry.TheVariants.{Leaf, Node}
-use Rattle.insert_cases.specs.declared.choice.Step.{Step}
+use Rattle.insert_cases.specs.declared.choice.PathNode.{PathNode}
 use Rattle.record_words.specs.declared.layout.Layout.{Layout}
 use Rattle.rowex_core.specs.declared.known.Known.{Known}
 use Rattle.rowex_table.specs.Made.{IsLater}
@@ -24,10 +24,10 @@ use Rattle.rowex_scanning.proofs.Directed.{gap_before_place, gap_behind_place, g
 use Rattle.rowex_scanning.proofs.Walking.{IsAtEntry, bound_later, bound_leaf, bound_next, entry_led, taken_more, walk_at_place, walk_further}
 
 -- a node with another gap
-abbrev at_gap : Step → ℕ → Step
+abbrev at_gap : PathNode → ℕ → PathNode
 at_gap top gap = record top { at = gap }
 
-module _ (d : Direction) (m : ℕ) (top : Step) where
+module _ (d : Direction) (m : ℕ) (top : PathNode) where
   -- after more loads
   module _ {k j : Known} (l : IsLater k j) where
     pub places_later : (count : ℕ) → HasPlaces d k m top count → HasPlaces d j m top count
@@ -57,18 +57,18 @@ module _ (d : Direction) (m : ℕ) (top : Step) where
       (cases_lt o i)
 
 -- Before any leaf.
-pub passed_none : {d : Direction} {k : Known} {m : ℕ} {g : Range} {top : Step} {frames : List Step} {xs : List (Key × ℕ)} → IsWalk d k m g top frames xs → IsBound d k m (first_key d g) top frames → HavePassed d k m g top frames 0 xs xs
+pub passed_none : {d : Direction} {k : Known} {m : ℕ} {g : Range} {top : PathNode} {frames : List PathNode} {xs : List (Key × ℕ)} → IsWalk d k m g top frames xs → IsBound d k m (first_key d g) top frames → HavePassed d k m g top frames 0 xs xs
 passed_none {d} {k} {m} {g} {top} {frames} {xs} w b = record {
   more = omega arith;
-  walk = subst (λ (z : Step). IsWalk d k m g z frames xs) same w;
-  bound = subst (λ (z : Step). IsBound d k m (first_key d g) z frames) same b;
+  walk = subst (λ (z : PathNode). IsWalk d k m g z frames xs) same w;
+  bound = subst (λ (z : PathNode). IsBound d k m (first_key d g) z frames) same b;
 }
   where
     same : top ≡ record top { at = gap_after d top.at 0 }
     same = ap (at_gap top) (sym (gap_none d top.at))
 
 -- Behind some leaves, at one more.
-module _ {d : Direction} {k : Known} {m : ℕ} {g : Range} {top : Step} {frames : List Step} {i : ℕ} {xs ys : List (Key × ℕ)} (fits : top.at ≤ top.count) (come : i < to_come d top.count top.at) (p : HavePassed d k m g top frames i xs ys)
+module _ {d : Direction} {k : Known} {m : ℕ} {g : Range} {top : PathNode} {frames : List PathNode} {i : ℕ} {xs ys : List (Key × ℕ)} (fits : top.at ≤ top.count) (come : i < to_come d top.count top.at) (p : HavePassed d k m g top frames i xs ys)
     {number : ℕ} (placed : Sure k (λ s. IsPlaced s m top.number (place_ahead d top.at i) (Leaf number))) where
   pub leaf_at : IsAtEntry d k m g (record top { at = place_ahead d top.at i }) frames ys (Leaf number)
   leaf_at = record { walk = walk_at_place i fits come p.walk; placed = placed }
@@ -90,12 +90,12 @@ module _ {d : Direction} {k : Known} {m : ℕ} {g : Range} {top : Step} {frames 
   }
 
 -- What became of the walk where all were taken; since the same version.
-pub taken_all : {d : Direction} {k : Known} {n m : ℕ} {g : Range} {top after : Step} {frames : List Step} {count : ℕ} {xs ys : List (Key × ℕ)} {verdict : Verdict} → AreTaken d k n g top after frames count xs ys verdict → verdict ≡ Further →
+pub taken_all : {d : Direction} {k : Known} {n m : ℕ} {g : Range} {top after : PathNode} {frames : List PathNode} {count : ℕ} {xs ys : List (Key × ℕ)} {verdict : Verdict} → AreTaken d k n g top after frames count xs ys verdict → verdict ≡ Further →
     n ≡ m → (after ≡ record top { at = gap_after d top.at count }) × HavePassed d k m g top frames count xs ys
 taken_all {d} {k} {n} {m} {g} {top} {after} {frames} {count} {xs} {ys} taken is same =
     let (moved, passed) = subst (λ z. AreTaken d k n g top after frames count xs ys z) is taken in (moved, subst (λ z. HavePassed d k z g top frames count xs ys) same passed)
 
 -- At the node that comes behind them.
-pub node_at : {d : Direction} {k : Known} {m : ℕ} {g : Range} {top : Step} {frames : List Step} {count number : ℕ} {xs ys : List (Key × ℕ)} → top.at ≤ top.count → count < to_come d top.count top.at → HavePassed d k m g top frames count xs ys →
+pub node_at : {d : Direction} {k : Known} {m : ℕ} {g : Range} {top : PathNode} {frames : List PathNode} {count number : ℕ} {xs ys : List (Key × ℕ)} → top.at ≤ top.count → count < to_come d top.count top.at → HavePassed d k m g top frames count xs ys →
     (ahead : IsNodeAhead d k m top count number) → IsAtEntry d k m g (record top { at = place_ahead d top.at count }) frames ys (Node number ahead.0)
 node_at {count = count} fits come p ahead = record { walk = walk_at_place count fits come p.walk; placed = ahead.2 }

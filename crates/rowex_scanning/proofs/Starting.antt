@@ -7,7 +7,7 @@ use Rattle.compound_node.specs.declared.entries.Entry.{Entry}
 use Rattle.compound_node.specs.declared.entries.Entry.TheVariants.{Leaf as LeafEntry, Node}
 use Rattle.insert_cases.specs.declared.choice.Case.{Case}
 use Rattle.insert_cases.specs.declared.choice.Choice.{Choice}
-use Rattle.insert_cases.specs.declared.choice.Step.{Step}
+use Rattle.insert_cases.specs.declared.choice.PathNode.{PathNode}
 use Rattle.insert_cases.specs.Levels.{IsLevel, IsChosen}
 use Rattle.insert_cases.proofs.Affecting.{first_zero, first_one, key_part}
 use Rattle.insert_cases.proofs.Choosing.{some_injective, some_at}
@@ -91,11 +91,11 @@ pub affected_low : (d i first last : ℕ) (x : Subtrie) → affected_first d i x
 affected_low d i first last x from upto = let h = affected_fits d x i in omega (arith, from, upto, h.0)
 
 -- ---- the way of a search that has ended at a leaf
-module _ (layout : Layout) (k : Known) (m : ℕ) (key : Key) (way : List Step) (number value : ℕ) (differ : Option ℕ) (w : IsWayOf layout k m key way (Leaf number value differ)) (possible : IsPossible layout k) where
+module _ (layout : Layout) (k : Known) (m : ℕ) (key : Key) (way : List PathNode) (number value : ℕ) (differ : Option ℕ) (w : IsWayOf layout k m key way (Leaf number value differ)) (possible : IsPossible layout k) where
   abbrev found : Found
   found = Leaf number value differ
 
-  abbrev step : (i : ℕ) → i < length way → (s : Step) × (slice_get way i ≡ Some s)
+  abbrev step : (i : ℕ) → i < length way → (s : PathNode) × (slice_get way i ≡ Some s)
   step i h = some_at way i h
 
   abbrev node : (i : ℕ) (h : i < length way) → (e : Entry) × (named way found (i + 1) ≡ Some e) × IsWayNode layout k m key (step i h).0 e
@@ -115,8 +115,8 @@ module _ (layout : Layout) (k : Known) (m : ℕ) (key : Key) (way : List Step) (
   frame_is : (i : ℕ) (h : i < length way) → frame (stage i h) ≡ (step i h).0
   frame_is i h =
       let s = (step i h).0 in
-      ap (λ z. let x : Step = record { number = s.number; height = s.height; first_position = z; count = size (node i h).2.forks; at = s.at } in x) (sym (node i h).2.first) ∙
-      ap (λ z. let x : Step = record { number = s.number; height = s.height; first_position = s.first_position; count = z; at = s.at } in x) (sym (node i h).2.count)
+      ap (λ z. let x : PathNode = record { number = s.number; height = s.height; first_position = z; count = size (node i h).2.forks; at = s.at } in x) (sym (node i h).2.first) ∙
+      ap (λ z. let x : PathNode = record { number = s.number; height = s.height; first_position = s.first_position; count = z; at = s.at } in x) (sym (node i h).2.count)
 
   frames_are : (n : ℕ) (h : n ≤ length way) → take n way ≡ frames_of (stages n h)
   frames_are zero h = refl
@@ -186,9 +186,9 @@ module _ (layout : Layout) (k : Known) (m : ℕ) (key : Key) (way : List Step) (
       go (f ∷ fs) at = beyond_append d m key (frames_of fs) (frame f) (go fs (λ c lawful known. (at c lawful known).1)) (λ c lawful known. at_beyond d (seen c k) m f.number f.place key (at c lawful known).0)
 
   -- the step of a start is the way's
-  of_step : (i : ℕ) (h : i < length way) (place : ℕ) (top : Step) → top ≡ record (step i h).0 { at = place } → (s : Step) → slice_get way i ≡ Some s → top ≡ record s { at = top.at }
+  of_step : (i : ℕ) (h : i < length way) (place : ℕ) (top : PathNode) → top ≡ record (step i h).0 { at = place } → (s : PathNode) → slice_get way i ≡ Some s → top ≡ record s { at = top.at }
   of_step i h place top is s there =
-      is ∙ (ap (λ (z : Step). let x : Step = record z { at = place } in x) (some_injective (sym (step i h).1 ∙ there)) ∙ ap (λ z. let x : Step = record s { at = z } in x) (sym (ap (λ (z : Step). z.at) is)))
+      is ∙ (ap (λ (z : PathNode). let x : PathNode = record z { at = place } in x) (some_injective (sym (step i h).1 ∙ there)) ∙ ap (λ z. let x : PathNode = record s { at = z } in x) (sym (ap (λ (z : PathNode). z.at) is)))
 
   -- If it may stand at a node's place, it may so at the nodes' above.
   at_above : (i : ℕ) (h : i < length way) → StandsAt i h → Sure k (λ s. AreAt s m key (stages (suc i) h))
@@ -196,12 +196,12 @@ module _ (layout : Layout) (k : Known) (m : ℕ) (key : Key) (way : List Step) (
 
   -- ---- the walk from a node on
   begins : (i : ℕ) (h : i < length way) (g : Range) → g.from ≡ key → (place : ℕ) → place ≤ size (stage i h).shape → Sure k (λ s. IsScanBy Upwards s m g (record (stage i h) { place = place } ∷ stages i (down h)) []) →
-      (top : Step) → top ≡ record (step i h).0 { at = place } → IsWalk Upwards k m g top (take i way) []
+      (top : PathNode) → top ≡ record (step i h).0 { at = place } → IsWalk Upwards k m g top (take i way) []
   begins i h g from place fits scan top is = record {
     lowest = record (stage i h) { place = place };
     others = stages i (down h);
     taken = [];
-    top_is = is ∙ ap (λ (z : Step). let x : Step = record z { at = place } in x) (sym (frame_is i h));
+    top_is = is ∙ ap (λ (z : PathNode). let x : PathNode = record z { at = place } in x) (sym (frame_is i h));
     frames_are = frames_are i (down h);
     pairs_are = refl;
     room = (node i h).2.room;
@@ -222,9 +222,9 @@ module _ (layout : Layout) (k : Known) (m : ℕ) (key : Key) (way : List Step) (
         (at_on_way Upwards (seen c k) m (steady c lawful known) g.from (stages i (down h)) (subst (λ z. AreAt (seen c k) m z (stages i (down h))) (sym from) (above c lawful known)))
         (λ j z lt at. subst (IsBefore z) (sym from) (may_stand_in_order (seen c k) m (steady c lawful known) (stage i h).number j (stage i h).place lt z key at (stands c lawful known)))
 
-    bound_behind : (top : Step) → top ≡ record (step i h).0 { at = suc (step i h).0.at } → IsBound Upwards k m key top (take i way)
+    bound_behind : (top : PathNode) → top ≡ record (step i h).0 { at = suc (step i h).0.at } → IsBound Upwards k m key top (take i way)
     bound_behind top is = record {
-      there = λ c lawful known. subst (λ (z : Step). IsPastKey Upwards (seen c k) m key z.number z.at) (sym is) (at_beyond Upwards (seen c k) m (stage i h).number (stage i h).place key (stands c lawful known));
+      there = λ c lawful known. subst (λ (z : PathNode). IsPastKey Upwards (seen c k) m key z.number z.at) (sym is) (at_beyond Upwards (seen c k) m (stage i h).number (stage i h).place key (stands c lawful known));
       above = are_beyond Upwards i (down h) above;
     }
 
@@ -232,7 +232,7 @@ module _ (layout : Layout) (k : Known) (m : ℕ) (key : Key) (way : List Step) (
     beneath c lawful known = at_beyond Downwards (seen c k) m (stage i h).number (stage i h).place key (stands c lawful known)
 
     -- the leaf comes first
-    pub starts_at_leaf : IsAtMost key leaf_key → (top : Step) → top ≡ (step i h).0 → IsParting k m key way number (record { level = i; top = top; leaf = true })
+    pub starts_at_leaf : IsAtMost key leaf_key → (top : PathNode) → top ≡ (step i h).0 → IsParting k m key way number (record { level = i; top = top; leaf = true })
     starts_at_leaf le top is = record {
       upwards = record {
         within = h;
@@ -251,11 +251,11 @@ module _ (layout : Layout) (k : Known) (m : ℕ) (key : Key) (way : List Step) (
       };
       of_way = of_step i h (step i h).0.at top is;
       left = are_beyond Downwards i (down h) above;
-      side = inl (subst (λ (z : Step). Sure k (λ s. IsPastKey Downwards s m key z.number z.at)) (sym is) beneath);
+      side = inl (subst (λ (z : PathNode). Sure k (λ s. IsPastKey Downwards s m key z.number z.at)) (sym is) beneath);
     }
 
     -- or it is below the key, and the scan starts behind it
-    pub starts_behind_leaf : IsBefore leaf_key key → (top : Step) → top ≡ record (step i h).0 { at = suc (step i h).0.at } → IsParting k m key way number (record { level = i; top = top; leaf = false })
+    pub starts_behind_leaf : IsBefore leaf_key key → (top : PathNode) → top ≡ record (step i h).0 { at = suc (step i h).0.at } → IsParting k m key way number (record { level = i; top = top; leaf = false })
     starts_behind_leaf low top is = record {
       upwards = record {
         within = h;
@@ -273,7 +273,7 @@ module _ (layout : Layout) (k : Known) (m : ℕ) (key : Key) (way : List Step) (
         last = last;
         step = (step i h).0;
         there = (step i h).1;
-        behind = ap (λ (z : Step). z.at) is;
+        behind = ap (λ (z : PathNode). z.at) is;
         found = leaf_key;
         value = value;
         read = w.found_at.1;
@@ -300,13 +300,13 @@ module _ (layout : Layout) (k : Known) (m : ℕ) (key : Key) (way : List Step) (
         (placed_next i h o c lawful known) ((node (suc i) o).2.shaped c lawful known) (leaf_fits c lawful known (suc i) o) (λ q lt. sym (agree q (omega (arith, lt, low))))
 
     pub starts_among : (i : ℕ) (h : i < length way) → 2 ≤ size (subtrie_affected d key (stage i h).shape) → Sure k (λ s. AreAt s m key (stages i (down h))) →
-        (top : Step) → top ≡ record (step i h).0 { at = start_place d key (stage i h).shape } → IsParting k m key way number (record { level = i; top = top; leaf = false })
+        (top : PathNode) → top ≡ record (step i h).0 { at = start_place d key (stage i h).shape } → IsParting k m key way number (record { level = i; top = top; leaf = false })
     starts_among i h two at top is = record {
       upwards = record {
         within = h;
         begun = (
           record {
-            there = λ c lawful known. subst (λ (z : Step). IsPastKey Upwards (seen c k) m key z.number z.at) (sym is)
+            there = λ c lawful known. subst (λ (z : PathNode). IsPastKey Upwards (seen c k) m key z.number z.at) (sym is)
                 (sides_beyond Upwards (seen c k) m (stage i h).number (stage i h).shape ((node i h).2.shaped c lawful known) key leaf_key d agree (fits_at i h c lawful known) ne two);
             above = are_beyond Upwards i (down h) at;
           },
@@ -319,7 +319,7 @@ module _ (layout : Layout) (k : Known) (m : ℕ) (key : Key) (way : List Step) (
       };
       of_way = of_step i h (start_place d key (stage i h).shape) top is;
       left = are_beyond Downwards i (down h) at;
-      side = inl (λ c lawful known. subst (λ (z : Step). IsPastKey Downwards (seen c k) m key z.number z.at) (sym is)
+      side = inl (λ c lawful known. subst (λ (z : PathNode). IsPastKey Downwards (seen c k) m key z.number z.at) (sym is)
           (sides_beyond Downwards (seen c k) m (stage i h).number (stage i h).shape ((node i h).2.shaped c lawful known) key leaf_key d agree (fits_at i h c lawful known) ne two));
     }
       where
@@ -327,7 +327,7 @@ module _ (layout : Layout) (k : Known) (m : ℕ) (key : Key) (way : List Step) (
         stack_with c lawful known = stack_place (seen c k) m (stage i h) (start_place d key (stage i h).shape) (stages i (down h)) (stack c lawful known (suc i) h)
 
   -- ---- where the search's leaf has the key
-  pub starts_same : differ ≡ None → (i : ℕ) → i + 1 ≡ length way → (top : Step) → slice_get way i ≡ Some top → IsParting k m key way number (record { level = i; top = top; leaf = true })
+  pub starts_same : differ ≡ None → (i : ℕ) → i + 1 ≡ length way → (top : PathNode) → slice_get way i ≡ Some top → IsParting k m key way number (record { level = i; top = top; leaf = true })
   starts_same none i last top at =
       let h : i < length way = omega (arith, last) in
       let same : key ≡ leaf_key = subst (IsMismatch key leaf_key) none w.found_at.2 in
@@ -335,7 +335,7 @@ module _ (layout : Layout) (k : Known) (m : ℕ) (key : Key) (way : List Step) (
       (some_injective (sym at ∙ (step i h).1))
 
   -- ---- where it differs
-  module _ (d : ℕ) (differs : differ ≡ Some d) (level : ℕ) (is : IsLevel way d level) (s : Step) (there : slice_get way level ≡ Some s) (x : Subtrie) (shapes : Sure k (λ p. IsShaped p m s.number x))
+  module _ (d : ℕ) (differs : differ ≡ Some d) (level : ℕ) (is : IsLevel way d level) (s : PathNode) (there : slice_get way level ≡ Some s) (x : Subtrie) (shapes : Sure k (λ p. IsShaped p m s.number x))
       (first last : ℕ) (from : affected_first d s.at x ≡ first) (upto : affected_count d s.at x + first ≡ last + 1) where
     apart : AgreeBelow d key leaf_key × (bit key d ≢ bit leaf_key d)
     apart = subst (IsMismatch key leaf_key) differs w.found_at.2
@@ -344,10 +344,10 @@ module _ (layout : Layout) (k : Known) (m : ℕ) (key : Key) (way : List Step) (
     step_is h = some_injective (sym (step level h).1 ∙ there)
 
     shape_is : (h : level < length way) → (stage level h).shape ≡ x
-    shape_is h = same_shape layout k m s.number (stage level h).shape x possible w.since (subst (λ (z : Step). Sure k (λ p. IsShaped p m z.number (stage level h).shape)) (step_is h) (node level h).2.shaped) shapes
+    shape_is h = same_shape layout k m s.number (stage level h).shape x possible w.since (subst (λ (z : PathNode). Sure k (λ p. IsShaped p m z.number (stage level h).shape)) (step_is h) (node level h).2.shaped) shapes
 
     spot_is : (h : level < length way) → s.at ≡ spot key x
-    spot_is h = ap (λ (z : Step). z.at) (sym (step_is h)) ∙ (place_is level h ∙ ap (spot key) (shape_is h))
+    spot_is h = ap (λ (z : PathNode). z.at) (sym (step_is h)) ∙ (place_is level h ∙ ap (spot key) (shape_is h))
 
     low_is : (h : level < length way) → affected_from d key (stage level h).shape ≡ first
     low_is h = ap (affected_from d key) (shape_is h) ∙ (sym (key_first d key x) ∙ (ap (λ i. affected_first d i x) (sym (spot_is h)) ∙ from))
@@ -365,9 +365,9 @@ module _ (layout : Layout) (k : Known) (m : ℕ) (key : Key) (way : List Step) (
     alone h le = stands_alone d apart.0 apart.1 level h (let n = count_is h in let p = size_pos (subtrie_affected d key (stage level h).shape) in omega (arith, n, p, le))
 
     abbrev Starts : Bool → ℕ → ℕ → ℕ → Type 0
-    Starts u i low high = (top t : Step) → slice_get way i ≡ Some t → top ≡ record t { at = if u then high + 1 else low } → IsParting k m key way number (record { level = i; top = top; leaf = (if u then false else nat_eq low high) })
+    Starts u i low high = (top t : PathNode) → slice_get way i ≡ Some t → top ≡ record t { at = if u then high + 1 else low } → IsParting k m key way number (record { level = i; top = top; leaf = (if u then false else nat_eq low high) })
 
-    leaf_is : {i : ℕ} {top : Step} {a b : Bool} → a ≡ b → IsParting k m key way number (record { level = i; top = top; leaf = a }) → IsParting k m key way number (record { level = i; top = top; leaf = b })
+    leaf_is : {i : ℕ} {top : PathNode} {a b : Bool} → a ≡ b → IsParting k m key way number (record { level = i; top = top; leaf = a }) → IsParting k m key way number (record { level = i; top = top; leaf = b })
     leaf_is {i} {top} e = subst (λ z. IsParting k m key way number (record { level = i; top = top; leaf = z })) e
 
     no_leaf : (u : Bool) (low high : ℕ) → low < high → false ≡ (if u then false else nat_eq low high)
@@ -379,9 +379,9 @@ module _ (layout : Layout) (k : Known) (m : ℕ) (key : Key) (way : List Step) (
     several u b h lt top t at top_is =
         let n = count_is h in let f = low_is h in
         leaf_is (no_leaf u first last lt)
-        (starts_among d apart.0 apart.1 level h (omega (arith, n, lt)) (are_above level h (λ o. subst (λ z. z < d) (ap (λ (z : Step). z.first_position) (sym (step_is h)) ∙ (node level h).2.first) (is.low o s there)))
-        top (top_is ∙ (ap (λ (z : Step). let y : Step = record z { at = if u then last + 1 else first } in y) (some_injective (sym at ∙ (step level h).1)) ∙
-        ap (λ z. let y : Step = record (step level h).0 { at = z } in y) (place_now u b f n))))
+        (starts_among d apart.0 apart.1 level h (omega (arith, n, lt)) (are_above level h (λ o. subst (λ z. z < d) (ap (λ (z : PathNode). z.first_position) (sym (step_is h)) ∙ (node level h).2.first) (is.low o s there)))
+        top (top_is ∙ (ap (λ (z : PathNode). let y : PathNode = record z { at = if u then last + 1 else first } in y) (some_injective (sym at ∙ (step level h).1)) ∙
+        ap (λ z. let y : PathNode = record (step level h).0 { at = z } in y) (place_now u b f n))))
       where
         place_now : (u : Bool) → bit key d ≡ u → affected_from d key (stage level h).shape ≡ first → size (subtrie_affected d key (stage level h).shape) + first ≡ last + 1 →
             (if u then last + 1 else first) ≡ start_place d key (stage level h).shape
@@ -398,8 +398,8 @@ module _ (layout : Layout) (k : Known) (m : ℕ) (key : Key) (way : List Step) (
         let whole = whole_from d key forks two high in
         leaf_is (no_leaf u 0 (count - 1) (omega (arith, two, count_eq)))
         (starts_among d apart.0 apart.1 (suc level) o (subst (λ y. 2 ≤ size y) (sym whole.1) two) (at_above level (down o) (alone (down o) le)) top
-        (top_is ∙ (ap (λ (z : Step). let y : Step = record z { at = if u then count - 1 + 1 else 0 } in y) (some_injective (sym at ∙ (step (suc level) o).1)) ∙
-        ap (λ z. let y : Step = record (step (suc level) o).0 { at = z } in y) (place_now u b whole.0 (ap size whole.1) two))))
+        (top_is ∙ (ap (λ (z : PathNode). let y : PathNode = record z { at = if u then count - 1 + 1 else 0 } in y) (some_injective (sym at ∙ (step (suc level) o).1)) ∙
+        ap (λ z. let y : PathNode = record (step (suc level) o).0 { at = z } in y) (place_now u b whole.0 (ap size whole.1) two))))
       where
         place_now : (u : Bool) → bit key d ≡ u → affected_from d key (stage (suc level) o).shape ≡ 0 → size (subtrie_affected d key (stage (suc level) o).shape) ≡ size (stage (suc level) o).shape →
             2 ≤ size (stage (suc level) o).shape → (if u then count - 1 + 1 else 0) ≡ start_place d key (stage (suc level) o).shape
@@ -412,27 +412,27 @@ module _ (layout : Layout) (k : Known) (m : ℕ) (key : Key) (way : List Step) (
       where
         around : (first ≤ s.at) × (s.at ≤ first) × (first ≡ last)
         around =
-            let a = part_around d key (stage level h).shape in let f = low_is h in let n = count_is h in let p = place_is level h in let e = ap (λ (z : Step). z.at) (step_is h) in
+            let a = part_around d key (stage level h).shape in let f = low_is h in let n = count_is h in let p = place_is level h in let e = ap (λ (z : PathNode). z.at) (step_is h) in
             (omega (arith, a.0, f, p, e), omega (arith, a.1, f, n, p, e, le), let q = size_pos (subtrie_affected d key (stage level h).shape) in omega (arith, n, le, q))
 
         is_step : t ≡ (step level h).0
         is_step = some_injective (sym at ∙ (step level h).1)
 
         at_is : (step level h).0.at ≡ first
-        at_is = let e = ap (λ (z : Step). z.at) (step_is h) in let a = around.0 in let b = around.1 in omega (arith, e, a, b)
+        at_is = let e = ap (λ (z : PathNode). z.at) (step_is h) in let a = around.0 in let b = around.1 in omega (arith, e, a, b)
 
         other : (u : Bool) → bit key d ≡ u → (o : Bool) → bit leaf_key d ≡ o → u ≢ o
         other u e o f same = apart.1 (e ∙ (same ∙ sym f))
 
         go : (u : Bool) → bit key d ≡ u → top ≡ record t { at = if u then last + 1 else first } → IsParting k m key way number (record { level = level; top = top; leaf = (if u then false else nat_eq first last) })
         go true b e = starts_behind_leaf level h end (alone h le) (d, ((λ q lt. sym (apart.0 q lt)), is_false (bit leaf_key d) refl, b)) top
-            (e ∙ (ap (λ (z : Step). let y : Step = record z { at = last + 1 } in y) is_step ∙ ap (λ z. let y : Step = record (step level h).0 { at = z } in y) (let g = at_is in let f = around.2 in omega (arith, g, f))))
+            (e ∙ (ap (λ (z : PathNode). let y : PathNode = record z { at = last + 1 } in y) is_step ∙ ap (λ z. let y : PathNode = record (step level h).0 { at = z } in y) (let g = at_is in let f = around.2 in omega (arith, g, f))))
           where
             is_false : (o : Bool) → bit leaf_key d ≡ o → bit leaf_key d ≡ false
             is_false false f = f
             is_false true f = absurd (other true b true f refl)
         go false b e = leaf_is (sym (eq-eqb first last around.2)) (starts_at_leaf level h end (alone h le) (inr (d, (apart.0, b, is_true (bit leaf_key d) refl))) top
-            (e ∙ (ap (λ (z : Step). let y : Step = record z { at = first } in y) is_step ∙ ap (λ z. let y : Step = record (step level h).0 { at = z } in y) (sym at_is))))
+            (e ∙ (ap (λ (z : PathNode). let y : PathNode = record z { at = first } in y) is_step ∙ ap (λ z. let y : PathNode = record (step level h).0 { at = z } in y) (sym at_is))))
           where
             is_true : (o : Bool) → bit leaf_key d ≡ o → bit leaf_key d ≡ true
             is_true true f = f
@@ -467,8 +467,8 @@ module _ (layout : Layout) (k : Known) (m : ℕ) (key : Key) (way : List Step) (
         by within low e = subst (λ (z : Choice). (z.level < length way) × (z.last ≤ 31)) (sym e) (within, low)
 
 -- ---- with the forks of the node at the level, which were read once more
-module _ (layout : Layout) (k j : Known) (m : ℕ) (key : Key) (way : List Step) (number value : ℕ) (differ : Option ℕ) (w : IsWayOf layout k m key way (Leaf number value differ)) (possible : IsPossible layout j)
-    (later : IsLater k j) (d : ℕ) (differs : differ ≡ Some d) (level : ℕ) (is : IsLevel way d level) (s : Step) (there : slice_get way level ≡ Some s) (forks : Subtrie)
+module _ (layout : Layout) (k j : Known) (m : ℕ) (key : Key) (way : List PathNode) (number value : ℕ) (differ : Option ℕ) (w : IsWayOf layout k m key way (Leaf number value differ)) (possible : IsPossible layout j)
+    (later : IsLater k j) (d : ℕ) (differs : differ ≡ Some d) (level : ℕ) (is : IsLevel way d level) (s : PathNode) (there : slice_get way level ≡ Some s) (forks : Subtrie)
     (shapes : Sure j (λ p. IsShaped p m s.number forks)) (first last : ℕ)
     (from : affected_first d s.at forks ≡ first) (upto : affected_count d s.at forks + first ≡ last + 1) (c : Choice) (chosen : IsChosen way level first last c) where
   then_found : IsWayOf layout j m key way (Leaf number value differ)
@@ -484,14 +484,14 @@ module _ (layout : Layout) (k j : Known) (m : ℕ) (key : Key) (way : List Step)
       (let low = affected_low d s.at first last forks from upto in let r = room in omega (arith, low, r))
 
   abbrev StartsThere : Type 0
-  StartsThere = (u : Bool) → bit_of key d ≡ u → (t : Step) → slice_get way c.level ≡ Some t → (place : ℕ) → place ≡ (if u then c.last + 1 else c.first) → (comes : Bool) →
+  StartsThere = (u : Bool) → bit_of key d ≡ u → (t : PathNode) → slice_get way c.level ≡ Some t → (place : ℕ) → place ≡ (if u then c.last + 1 else c.first) → (comes : Bool) →
       comes ≡ (if u then false else nat_eq c.first c.last) → IsParting j m key way number (record { level = c.level; top = record t { at = place }; leaf = comes })
 
   started : StartsThere
   started u b t at place place_eq comes comes_eq =
       subst (λ z. IsParting j m key way number (record { level = c.level; top = record t { at = place }; leaf = z })) (sym comes_eq)
       (starts_apart layout j m key way number value differ then_found possible d differs level is s there forks shapes first last from upto u b c chosen (record t { at = place }) t at
-      (ap (λ z. let y : Step = record t { at = z } in y) place_eq))
+      (ap (λ z. let y : PathNode = record t { at = z } in y) place_eq))
 
   -- the choice is of a place in a node of the way, and there the scan starts
   pub chosen_starts : (c.level < length way) × (c.last ≤ 31) × StartsThere
@@ -507,7 +507,7 @@ not_below true a e = absurd (false≢true (sym e))
 
 -- ---- other ends of the search
 -- It found an empty root.
-pub nothing_blank : (layout : Layout) (k : Known) (m : ℕ) (key : Key) (way : List Step) → IsWayOf layout k m key way Nothing → Sure k (λ s. IsBlank s m)
+pub nothing_blank : (layout : Layout) (k : Known) (m : ℕ) (key : Key) (way : List PathNode) → IsWayOf layout k m key way Nothing → Sure k (λ s. IsBlank s m)
 nothing_blank layout k m key [] w = w.root
 nothing_blank layout k m key (s ∷ ss) w =
     let at = some_at (s ∷ ss) (length ss) (omega arith) in
@@ -516,7 +516,7 @@ nothing_blank layout k m key (s ∷ ss) w =
     absurd (let z : None ≡ Some node.0 = sym (named_end (s ∷ ss) Nothing (length (s ∷ ss)) (le_refl (length (s ∷ ss)))) ∙ (ap (named (s ∷ ss) Nothing) (sym last) ∙ node.1) in cc)
 
 -- It found a leaf at the root.
-pub leaf_rooted : (layout : Layout) (k : Known) (key : Key) (way : List Step) (number value : ℕ) (differ : Option ℕ) → way ≡ [] → IsWayOf layout k (since k) key way (Leaf number value differ) → IsAtRoot k (LeafEntry number)
+pub leaf_rooted : (layout : Layout) (k : Known) (key : Key) (way : List PathNode) (number value : ℕ) (differ : Option ℕ) → way ≡ [] → IsWayOf layout k (since k) key way (Leaf number value differ) → IsAtRoot k (LeafEntry number)
 leaf_rooted layout k key way number value differ none w = (w.since, subst (λ z. RootWas k (since k) (named z (Leaf number value differ) 0)) none w.root)
 
 -- Two reads of one leaf find one key.
@@ -524,7 +524,7 @@ pub read_same : (s : Past) (m : ℕ) → IsSteady s m → (n : ℕ) (a b : Key) 
 read_same s m steady n a b v u (o, lo, hi, st) (p, lo2, hi2, su) = (steady.same (a_leaf n) o p (leaf n a v) (leaf n b u) lo hi lo2 hi2 st su).0
 
 -- The leaf that was found does not come before the first key.
-first_reached : {d : Direction} (layout : Layout) {k : Known} (m : ℕ) (key : Key) (number : ℕ) {top : Step} {frames : List Step} → IsFirst d k m key number top frames → IsPinnedSince k m → IsReached d layout k m key number
+first_reached : {d : Direction} (layout : Layout) {k : Known} (m : ℕ) (key : Key) (number : ℕ) {top : PathNode} {frames : List PathNode} → IsFirst d k m key number top frames → IsPinnedSince k m → IsReached d layout k m key number
 first_reached {d} layout {k} m key number f pinned j l possible other value read =
     let c = possible.core in let known = recalls c j possible.knows in
     let steady = seen_steady possible.lawful known (since_later l pinned) in
@@ -532,7 +532,7 @@ first_reached {d} layout {k} m key number f pinned j l possible other value read
     subst (IsNoLater d key) (read_same (seen c j) m steady number f.found other f.value value (old c possible.lawful known) (read c possible.lawful known)) f.reached
 
 -- ---- where a scan begins, with no pairs yet
-pub record HasBegun (d : Direction) (layout : Layout) (k : Known) (m : ℕ) (g : Range) (number : ℕ) (start : Start) (frames : List Step) (pairs : List (Key × ℕ)) : Type 0 where
+pub record HasBegun (d : Direction) (layout : Layout) (k : Known) (m : ℕ) (g : Range) (number : ℕ) (start : Start) (frames : List PathNode) (pairs : List (Key × ℕ)) : Type 0 where
   -- the leaf of the search may come first,
   pub entry : start.leaf ≡ true → IsAtEntry d k m g start.top frames pairs (LeafEntry number)
   pub reached : start.leaf ≡ true → IsReached d layout k m (first_key d g) number
@@ -542,7 +542,7 @@ pub record HasBegun (d : Direction) (layout : Layout) (k : Known) (m : ℕ) (g :
   pub bound : start.leaf ≡ false → IsBound d k m (first_key d g) start.top frames
 
 -- From a start on the search's way, of which the nodes above the start are left.
-pub begun : {d : Direction} {layout : Layout} {j k : Known} {m : ℕ} {key : Key} {way steps frames : List Step} {number value : ℕ} {differ : Option ℕ} {start : Start} {pairs : List (Key × ℕ)} (g : Range) →
+pub begun : {d : Direction} {layout : Layout} {j k : Known} {m : ℕ} {key : Key} {way steps frames : List PathNode} {number value : ℕ} {differ : Option ℕ} {start : Start} {pairs : List (Key × ℕ)} (g : Range) →
     key ≡ first_key d g → IsWayOf layout j m (first_key d g) way (Leaf number value differ) → steps ≡ way →
     ((n v : ℕ) → IsWayOf layout j n key steps (Leaf number v differ) → IsStart d k n key steps number start) → frames ≡ take start.level way → pairs ≡ [] →
     HasBegun d layout k m g number start frames pairs
@@ -560,7 +560,7 @@ begun {d} {layout} {j} {k} {m} {key} {way} {steps} {frames} {number} {value} {di
     above_are : take start.level steps ≡ frames
     above_are = ap (take start.level) same ∙ sym left
 
-    there : (top : Step) → IsWalk d k m g top frames [] → IsWalk d k m g top frames pairs
+    there : (top : PathNode) → IsWalk d k m g top frames [] → IsWalk d k m g top frames pairs
     there top = subst (λ z. IsWalk d k m g top frames z) (sym none)
 
     begins : {b : Bool} → start.leaf ≡ b → IsBegun b d k m key number start.top frames

@@ -3,7 +3,7 @@ use Rattle.std.proofs.Common.{◌≡◌, ◌≢◌, inl, inr, ⊎_elim, ℕ, suc
 use Rattle.std.specs.Prelude.{slice_get}
 use Rattle.std.proofs.lemmas.Bool.{false≢true}
 use Rattle.insert_cases.proofs.Choosing.{some_injective}
-use Rattle.insert_cases.specs.declared.choice.Step.{Step}
+use Rattle.insert_cases.specs.declared.choice.PathNode.{PathNode}
 use Rattle.compound_node.specs.declared.entries.Entry.{Entry}
 use Rattle.compound_node.specs.declared.entries.Entry.TheVariants.{Leaf}
 use Rattle.versions.specs.State.{IsSteady}
@@ -40,24 +40,24 @@ above_earlier {k} m key (f ∷ fs) pinned over c lawful known =
     (o.1 c lawful known (seen c k) (same_past (seen c k)) (seen_steady lawful known pinned), above_earlier m key fs pinned o.0 c lawful known)
 
 -- the walk downwards at a place from which on all is above the key
-walk_at : {k : Known} {m : ℕ} {key : Key} {top : Step} {frames : List Step} → IsWalkFrom Upwards k m key top frames → (place : ℕ) → place ≤ top.count → IsBound Upwards k m key (record top { at = place }) frames →
+walk_at : {k : Known} {m : ℕ} {key : Key} {top : PathNode} {frames : List PathNode} → IsWalkFrom Upwards k m key top frames → (place : ℕ) → place ≤ top.count → IsBound Upwards k m key (record top { at = place }) frames →
     IsWalkFrom Downwards k m key (record top { at = place }) frames
 walk_at {k} {m} {key} {top} {frames} walks place fits bound g is = record {
   lowest = record w.lowest { place = place };
   others = w.others;
   taken = [];
-  top_is = ap (λ (z : Step). let x : Step = record z { at = place } in x) w.top_is;
+  top_is = ap (λ (z : PathNode). let x : PathNode = record z { at = place } in x) w.top_is;
   frames_are = w.frames_are;
   pairs_are = refl;
   room = w.room;
-  fits = subst (λ (z : Step). place ≤ z.count) w.top_is fits;
+  fits = subst (λ (z : PathNode). place ≤ z.count) w.top_is fits;
   inside = w.inside;
   pinned = w.pinned;
   scan = λ c lawful known.
       let stack = stack_place (seen c k) m w.lowest place w.others (w.scan c lawful known).stack in
       scan_started Downwards (seen c k) m (seen_steady lawful known w.pinned) g (record w.lowest { place = place }) w.others stack
       (subst (λ z. IsWayEarlier Downwards (seen c k) m z w.others) (sym is) (above_earlier m key w.others w.pinned (subst (ArePastKey Upwards k m key) w.frames_are bound.above) c lawful known))
-      (subst (λ z. IsPastKey Upwards (seen c k) m z w.lowest.number place) (sym is) (subst (λ (z : Step). IsPastKey Upwards (seen c k) m key z.number place) w.top_is (bound.there c lawful known))
+      (subst (λ z. IsPastKey Upwards (seen c k) m z w.lowest.number place) (sym is) (subst (λ (z : PathNode). IsPastKey Upwards (seen c k) m key z.number place) w.top_is (bound.there c lawful known))
       (seen c k) (same_past (seen c k)) (seen_steady lawful known w.pinned));
 }
   where
@@ -65,8 +65,8 @@ walk_at {k} {m} {key} {top} {frames} walks place fits bound g is = record {
     w = walks (record { from = key; upto = key; limit = 0 }) refl
 
 -- From the way of the search and the start of a scan upwards.
-module _ (layout : Layout) (k j : Known) (m : ℕ) (key : Key) (way : List Step) (number value : ℕ) (differ : Option ℕ) (w : IsWayOf layout k m key way (FoundLeaf number value differ)) (l : IsLater k j)
-    (possible : IsPossible layout j) (start : Start) (s : IsParting j m key way number start) (lowest : Step) (there : slice_get way (length way - 1) ≡ Some lowest) where
+module _ (layout : Layout) (k j : Known) (m : ℕ) (key : Key) (way : List PathNode) (number value : ℕ) (differ : Option ℕ) (w : IsWayOf layout k m key way (FoundLeaf number value differ)) (l : IsLater k j)
+    (possible : IsPossible layout j) (start : Start) (s : IsParting j m key way number start) (lowest : PathNode) (there : slice_get way (length way - 1) ≡ Some lowest) where
   pinned : IsPinnedSince j m
   pinned = since_later l w.since
 
@@ -79,7 +79,7 @@ module _ (layout : Layout) (k j : Known) (m : ℕ) (key : Key) (way : List Step)
 
   beneath_there : start.leaf ≡ false → (start.level + 1 ≡ length way → lowest.at + 1 ≡ start.top.at → ⊥) → Sure j (λ p. IsPastKey Downwards p m key start.top.number start.top.at)
   beneath_there apart not_behind = ⊎_elim (λ low. low)
-      (λ b. absurd (not_behind b.last (let e = b.behind ∙ ap (λ (z : Step). suc z.at) (some_injective (sym b.there ∙ at_level b.last)) in omega (arith, e)))) s.side
+      (λ b. absurd (not_behind b.last (let e = b.behind ∙ ap (λ (z : PathNode). suc z.at) (some_injective (sym b.there ∙ at_level b.last)) in omega (arith, e)))) s.side
 
   beneath_first : start.leaf ≡ true → Sure j (λ p. IsPastKey Downwards p m key start.top.number start.top.at)
   beneath_first is = ⊎_elim (λ low. low) (λ b. absurd (false≢true (sym b.apart ∙ is))) s.side
@@ -144,12 +144,12 @@ module _ (layout : Layout) (k j : Known) (m : ℕ) (key : Key) (way : List Step)
         pinned = n.pinned;
         scan = λ c lawful known.
             scan_skipped (seen c j) m g (seen_steady lawful known pinned) n.stage n.others n.taken number f.found f.value
-            (subst (λ (z : Step). IsPlaced (seen c j) m z.number z.at (Leaf number)) n.at_is (f.placed c lawful known)) (f.read c lawful known) Downwards (n.scan c lawful known)
+            (subst (λ (z : PathNode). IsPlaced (seen c j) m z.number z.at (Leaf number)) n.at_is (f.placed c lawful known)) (f.read c lawful known) Downwards (n.scan c lawful known)
             (subst (λ z. IsBefore z f.found) (sym upto) (high c lawful known));
       }
 
   -- The leaf stands just left of where the scan upwards starts: it comes first.
-  pub turns_behind : start.leaf ≡ false → start.level + 1 ≡ length way → lowest.at + 1 ≡ start.top.at → (top : Step) → top ≡ record start.top { at = lowest.at } → (comes : Bool) → comes ≡ true →
+  pub turns_behind : start.leaf ≡ false → start.level + 1 ≡ length way → lowest.at + 1 ≡ start.top.at → (top : PathNode) → top ≡ record start.top { at = lowest.at } → (comes : Bool) → comes ≡ true →
       IsStart Downwards j m key way number (record { level = start.level; top = top; leaf = comes })
   turns_behind is last next_to top top_is comes first_is = record {
     within = s.upwards.within;
@@ -168,7 +168,7 @@ module _ (layout : Layout) (k j : Known) (m : ℕ) (key : Key) (way : List Step)
   }
     where
       number_is : start.top.number ≡ lowest.number
-      number_is = ap (λ (z : Step). z.number) (s.of_way lowest (at_level last))
+      number_is = ap (λ (z : PathNode). z.number) (s.of_way lowest (at_level last))
 
       place_is : start.top.at ≡ suc lowest.at
       place_is = omega (arith, next_to)
@@ -195,7 +195,7 @@ module _ (layout : Layout) (k j : Known) (m : ℕ) (key : Key) (way : List Step)
       below_place : Sure j (λ p. IsPastKey Downwards p m key start.top.number lowest.at)
       below_place = ⊎_elim
           (λ low c lawful known. beyond_further Downwards (seen c j) m start.top.number start.top.at lowest.at key (λ i lt. omega (arith, next_to, lt)) (low c lawful known))
-          (λ b. subst (λ n. Sure j (λ p. IsPastKey Downwards p m key n lowest.at)) (sym number_is) (subst (λ (z : Step). Sure j (λ p. IsPastKey Downwards p m key z.number z.at)) (some_injective (sym b.there ∙ at_level last)) b.beneath))
+          (λ b. subst (λ n. Sure j (λ p. IsPastKey Downwards p m key n lowest.at)) (sym number_is) (subst (λ (z : PathNode). Sure j (λ p. IsPastKey Downwards p m key z.number z.at)) (some_injective (sym b.there ∙ at_level last)) b.beneath))
           s.side
 
       now : Recalls possible.core j

@@ -28,7 +28,7 @@ use Rattle.rowex_core.specs.Knowing.{Recalls, IsPinnedSince}
 use Rattle.rowex_core.proofs.Owning.{recalls}
 use Rattle.record_words.specs.declared.TheConstants.{HEAD_WORDS, LEAF_FIELDS}
 use Rattle.record_words.specs.declared.layout.Layout.{Layout}
-use Rattle.insert_cases.specs.declared.choice.Step.{Step}
+use Rattle.insert_cases.specs.declared.choice.PathNode.{PathNode}
 use Rattle.rowex_walks.proofs.Starts.{beyond_at_place, beyond_behind, beyond_in_child, beyond_grown}
 use Rattle.rowex_walks.specs.Scan.{Pair, Range, IsRooted, IsPlaced, IsRead, IsBlank, IsShaped, IsStack, in_order_taken, Frame as Stage}
 use Rattle.rowex_walks.proofs.Scans.{leaf_may_stand, shaped_several}
@@ -57,21 +57,21 @@ use Rattle.rowex_scanning.specs.declared.scanning.Verdict.TheVariants.{Further, 
 use Rattle.rowex_scanning.proofs.Directed.{before_fits, behind_fits, come_after, come_behind, come_first, come_most, first_fits, gap_before_place, place_inside, out_first, out_last}
 
 -- What a walk has still to do, at most: its measure.
-abbrev pub rest_of_frames : Direction → List Step → ℕ
+abbrev pub rest_of_frames : Direction → List PathNode → ℕ
 rest_of_frames d [] = 0
 rest_of_frames d (x ∷ xs) = to_come d x.count (gap_behind d x.at) * 34 ^ x.height + 1 + rest_of_frames d xs
 
-abbrev pub rest_of : Direction → Step → List Step → ℕ
+abbrev pub rest_of : Direction → PathNode → List PathNode → ℕ
 rest_of d top frames = to_come d top.count top.at * 34 ^ top.height + 1 + rest_of_frames d frames
 
 -- How many entries of the nodes on a way have yet to be passed until each has passed two.
-abbrev pub entries_until_two : Direction → List Step → ℕ
+abbrev pub entries_until_two : Direction → List PathNode → ℕ
 entries_until_two d [] = 0
 entries_until_two d (x ∷ xs) = (2 - (x.count - to_come d x.count (gap_before d x.at))) + entries_until_two d xs
 
 -- So many loads, of which so many are of entries, are paid for: 26 for each entry, and 8 for each of so many pairs; and there are two
 -- entries for each pair, and one for each node of the way beyond what it has yet to pass, over those of the longest way.
-abbrev pub IsPaid : Direction → ℕ → ℕ → ℕ → Step → List Step → Type 0
+abbrev pub IsPaid : Direction → ℕ → ℕ → ℕ → PathNode → List PathNode → Type 0
 IsPaid d loads entries pairs top frames =
     (loads ≤ 26 * entries + 8 * pairs) × (entries + suc (length frames) ≤ 9 * MAX_BYTES + 2 * pairs + ((2 - (top.count - to_come d top.count top.at)) + entries_until_two d frames))
 
@@ -153,7 +153,7 @@ length_frames (f ∷ fs) = let e = length-append (frames_of fs) (frame f ∷ [])
 
 -- The measure
 
-rest_append : (d : Direction) (xs : List Step) (x : Step) → rest_of_frames d (xs ++ x ∷ []) ≡ to_come d x.count (gap_behind d x.at) * 34 ^ x.height + 1 + rest_of_frames d xs
+rest_append : (d : Direction) (xs : List PathNode) (x : PathNode) → rest_of_frames d (xs ++ x ∷ []) ≡ to_come d x.count (gap_behind d x.at) * 34 ^ x.height + 1 + rest_of_frames d xs
 rest_append d [] x = omega arith
 rest_append d (y ∷ xs) x = let e = rest_append d xs x in omega (arith, e)
 
@@ -167,7 +167,7 @@ suc_times : (n x : ℕ) → suc n * x ≡ x + n * x
 suc_times n x = omega arith
 
 -- A node that is entered has 32 entries at most, and is lower.
-pub push_less : (d : Direction) (at : Step) (frames : List Step) (into : Step) (more : List Step) → at.at < at.count → into.height < at.height → into.count ≤ 32 → into.at ≡ first_gap d into.count → more ≡ frames ++ at ∷ [] →
+pub push_less : (d : Direction) (at : PathNode) (frames : List PathNode) (into : PathNode) (more : List PathNode) → at.at < at.count → into.height < at.height → into.count ≤ 32 → into.at ≡ first_gap d into.count → more ≡ frames ++ at ∷ [] →
     rest_of d into more < rest_of d (record at { at = gap_before d at.at }) frames
 push_less d at frames into more inside low few first e =
     let whole : to_come d into.count into.at ≡ into.count = ap (to_come d into.count) first ∙ come_first d into.count in
@@ -185,7 +185,7 @@ push_less d at frames into more inside low few first e =
         omega (arith, product, same, most, wide, one, e)
 
 -- So many entries further is less by as many at least.
-pub after_less : (d : Direction) (top : Step) (frames : List Step) (count : ℕ) → count ≤ to_come d top.count top.at → rest_of d (record top { at = gap_after d top.at count }) frames + count ≤ rest_of d top frames
+pub after_less : (d : Direction) (top : PathNode) (frames : List PathNode) (count : ℕ) → count ≤ to_come d top.count top.at → rest_of d (record top { at = gap_after d top.at count }) frames + count ≤ rest_of d top frames
 after_less d top frames count come = less (34 ^ top.height) (to_come d top.count top.at) (to_come d top.count (gap_after d top.at count)) (rest_of_frames d frames) (one_power top.height) (come_after d top.count top.at count) come
   where
     less : (y t p rest : ℕ) → 1 ≤ y → p ≡ t - count → count ≤ t → p * y + 1 + rest + count ≤ t * y + 1 + rest
@@ -193,32 +193,32 @@ after_less d top frames count come = less (34 ^ top.height) (to_come d top.count
         let parts : t * y ≡ p * y + count * y = ap (λ z. z * y) (let e : t ≡ p + count = omega (arith, f, within) in e) ∙ add-mul p count y in
         let most : 1 * count ≤ y * count = mul-le-mul_right count one in omega (arith, parts, most)
 
-pub pop_less : (d : Direction) (top : Step) (frames : List Step) (lower : Step) (rest : List Step) → frames ≡ rest ++ lower ∷ [] → rest_of d (record lower { at = gap_behind d lower.at }) rest < rest_of d top frames
+pub pop_less : (d : Direction) (top : PathNode) (frames : List PathNode) (lower : PathNode) (rest : List PathNode) → frames ≡ rest ++ lower ∷ [] → rest_of d (record lower { at = gap_behind d lower.at }) rest < rest_of d top frames
 pop_less d top frames lower rest e = let after = ap (rest_of_frames d) e ∙ rest_append d rest lower in omega (arith, after)
 
 -- The walk
 
 -- what the pass knows of its topmost node
-module _ {d : Direction} {k : Known} {m : ℕ} {g : Range} {top : Step} {frames : List Step} {pairs : List (Key × ℕ)} (w : IsWalk d k m g top frames pairs) where
+module _ {d : Direction} {k : Known} {m : ℕ} {g : Range} {top : PathNode} {frames : List PathNode} {pairs : List (Key × ℕ)} (w : IsWalk d k m g top frames pairs) where
   walk_stack : Sure k (λ s. IsStack s m (w.lowest ∷ w.others))
   walk_stack c lawful recalls = (w.scan c lawful recalls).stack
 
   walk_shape : HasShape k m top.number top.height w.lowest.shape
-  walk_shape = subst (λ (z : Step). HasShape k m z.number z.height w.lowest.shape) (sym w.top_is) (
+  walk_shape = subst (λ (z : PathNode). HasShape k m z.number z.height w.lowest.shape) (sym w.top_is) (
     (w.pinned, λ c lawful known. stack_seen (seen c k) m w.lowest w.others (walk_stack c lawful known)),
     λ c lawful known. stack_shape (seen c k) m w.lowest w.others (walk_stack c lawful known),
   )
 
   pub walk_fits : top.at ≤ top.count
-  walk_fits = subst (λ (z : Step). z.at ≤ z.count) (sym w.top_is) w.fits
+  walk_fits = subst (λ (z : PathNode). z.at ≤ z.count) (sym w.top_is) w.fits
 
   -- there are entries at the places that come next
   pub walk_places : (count : ℕ) → count ≤ to_come d top.count top.at → HasPlaces d k m top count
   walk_places count come i low =
-      shape_place walk_shape (subst (λ z. place_ahead d top.at i < z) (ap (λ (z : Step). z.count) w.top_is) (place_inside d top.count top.at i walk_fits (omega (arith, low, come))))
+      shape_place walk_shape (subst (λ z. place_ahead d top.at i < z) (ap (λ (z : PathNode). z.count) w.top_is) (place_inside d top.count top.at i walk_fits (omega (arith, low, come))))
 
 -- after more loads
-pub walk_later : {d : Direction} {k j : Known} {m : ℕ} {g : Range} {top : Step} {frames : List Step} {pairs : List (Key × ℕ)} → IsLater k j → IsWalk d k m g top frames pairs → IsWalk d j m g top frames pairs
+pub walk_later : {d : Direction} {k j : Known} {m : ℕ} {g : Range} {top : PathNode} {frames : List PathNode} {pairs : List (Key × ℕ)} → IsLater k j → IsWalk d k m g top frames pairs → IsWalk d j m g top frames pairs
 walk_later {d} {k} {j} {m} {g} l w = record {
   lowest = w.lowest;
   others = w.others;
@@ -234,11 +234,11 @@ walk_later {d} {k} {j} {m} {g} l w = record {
 }
 
 -- from the last load of the root on
-pub walk_since : {d : Direction} {k : Known} {m : ℕ} {g : Range} {top : Step} {frames : List Step} {pairs : List (Key × ℕ)} → since k ≡ m → IsWalk d k m g top frames pairs → IsWalk d k (since k) g top frames pairs
+pub walk_since : {d : Direction} {k : Known} {m : ℕ} {g : Range} {top : PathNode} {frames : List PathNode} {pairs : List (Key × ℕ)} → since k ≡ m → IsWalk d k m g top frames pairs → IsWalk d k (since k) g top frames pairs
 walk_since {d = d} {k = k} {g = g} {top = top} {frames = frames} {pairs = pairs} e = subst (λ z. IsWalk d k z g top frames pairs) (sym e)
 
 -- The walk is before the entry at this place.
-pub record IsBeforeEntry (d : Direction) (k : Known) (m : ℕ) (g : Range) (at : Step) (frames : List Step) (pairs : List (Key × ℕ)) : Type 0 where
+pub record IsBeforeEntry (d : Direction) (k : Known) (m : ℕ) (g : Range) (at : PathNode) (frames : List PathNode) (pairs : List (Key × ℕ)) : Type 0 where
   pub stage : Stage
   pub others : List Stage
   pub taken : List Pair
@@ -251,51 +251,51 @@ pub record IsBeforeEntry (d : Direction) (k : Known) (m : ℕ) (g : Range) (at :
   pub pinned : IsPinnedSince k m
   pub scan : Sure k (λ s. IsScanBy d s m g (before d stage ∷ others) taken)
 
-pub walk_before : {d : Direction} {k : Known} {m : ℕ} {g : Range} {frames : List Step} {pairs : List (Key × ℕ)} (at : Step) {top : Step} → IsWalk d k m g top frames pairs → at.at < at.count → top ≡ record at { at = gap_before d at.at } →
+pub walk_before : {d : Direction} {k : Known} {m : ℕ} {g : Range} {frames : List PathNode} {pairs : List (Key × ℕ)} (at : PathNode) {top : PathNode} → IsWalk d k m g top frames pairs → at.at < at.count → top ≡ record at { at = gap_before d at.at } →
     IsBeforeEntry d k m g at frames pairs
 walk_before {d} {k} {m} {g} at w inside is = record {
   stage = record w.lowest { place = at.at };
   others = w.others;
   taken = w.taken;
-  at_is = ap (λ (z : Step). let x : Step = record z { at = at.at } in x) (sym is ∙ w.top_is);
+  at_is = ap (λ (z : PathNode). let x : PathNode = record z { at = at.at } in x) (sym is ∙ w.top_is);
   frames_are = w.frames_are;
   pairs_are = w.pairs_are;
   room = w.room;
-  low = subst (λ z. at.at < z) (ap (λ (z : Step). z.count) (sym is ∙ w.top_is)) inside;
+  low = subst (λ z. at.at < z) (ap (λ (z : PathNode). z.count) (sym is ∙ w.top_is)) inside;
   inside = w.inside;
   pinned = w.pinned;
   scan = λ c lawful known. subst (λ n. IsScanBy d (seen c k) m g (record w.lowest { place = n } ∷ w.others) w.taken) place_is (w.scan c lawful known);
 }
   where
     place_is : w.lowest.place ≡ gap_before d at.at
-    place_is = ap (λ (z : Step). z.at) (sym w.top_is ∙ is)
+    place_is = ap (λ (z : PathNode). z.at) (sym w.top_is ∙ is)
 
 -- Before the entry that comes behind so many others.
-pub walk_at_place : {d : Direction} {k : Known} {m : ℕ} {g : Range} {top : Step} {frames : List Step} {pairs : List (Key × ℕ)} (i : ℕ) → top.at ≤ top.count → i < to_come d top.count top.at →
+pub walk_at_place : {d : Direction} {k : Known} {m : ℕ} {g : Range} {top : PathNode} {frames : List PathNode} {pairs : List (Key × ℕ)} (i : ℕ) → top.at ≤ top.count → i < to_come d top.count top.at →
     IsWalk d k m g (record top { at = gap_after d top.at i }) frames pairs → IsBeforeEntry d k m g (record top { at = place_ahead d top.at i }) frames pairs
 walk_at_place {d} {top = top} i fits come w =
-    walk_before (record top { at = place_ahead d top.at i }) w (place_inside d top.count top.at i fits come) (ap (λ z. let x : Step = record top { at = z } in x) (gap_before_place d top.count top.at i come))
+    walk_before (record top { at = place_ahead d top.at i }) w (place_inside d top.count top.at i fits come) (ap (λ z. let x : PathNode = record top { at = z } in x) (gap_before_place d top.count top.at i come))
 
 -- what the pass knows of the node
-module _ {d : Direction} {k : Known} {m : ℕ} {g : Range} {at : Step} {frames : List Step} {pairs : List (Key × ℕ)} (w : IsBeforeEntry d k m g at frames pairs) where
+module _ {d : Direction} {k : Known} {m : ℕ} {g : Range} {at : PathNode} {frames : List PathNode} {pairs : List (Key × ℕ)} (w : IsBeforeEntry d k m g at frames pairs) where
   pub entry_inside : at.at < at.count
-  entry_inside = subst (λ (z : Step). z.at < z.count) (sym w.at_is) w.low
+  entry_inside = subst (λ (z : PathNode). z.at < z.count) (sym w.at_is) w.low
 
   pub entry_low : at.at < 32
-  entry_low = subst (λ (z : Step). z.at < 32) (sym w.at_is) (let low = w.low in let room = w.room in omega (arith, low, room))
+  entry_low = subst (λ (z : PathNode). z.at < 32) (sym w.at_is) (let low = w.low in let room = w.room in omega (arith, low, room))
 
 -- Where a walk is, and the entry that the pass knows at its place.
-pub record IsAtEntry (d : Direction) (k : Known) (m : ℕ) (g : Range) (at : Step) (frames : List Step) (pairs : List (Key × ℕ)) (e : Entry) : Type 0 where
+pub record IsAtEntry (d : Direction) (k : Known) (m : ℕ) (g : Range) (at : PathNode) (frames : List PathNode) (pairs : List (Key × ℕ)) (e : Entry) : Type 0 where
   pub walk : IsBeforeEntry d k m g at frames pairs
   pub placed : Sure k (λ s. IsPlaced s m at.number at.at e)
 
 -- the scan's invariant after more loads
-entry_scan : {d : Direction} {k j : Known} {m : ℕ} {g : Range} {at : Step} {frames : List Step} {pairs : List (Key × ℕ)} → (w : IsBeforeEntry d k m g at frames pairs) → IsLater k j →
+entry_scan : {d : Direction} {k j : Known} {m : ℕ} {g : Range} {at : PathNode} {frames : List PathNode} {pairs : List (Key × ℕ)} → (w : IsBeforeEntry d k m g at frames pairs) → IsLater k j →
     Sure j (λ s. IsScanBy d s m g (before d w.stage ∷ w.others) w.taken)
 entry_scan {d} {k} {j} {m} {g} w l c lawful recalls = scan_grown (seen c k) m g d (seen c j) (before d w.stage ∷ w.others) w.taken (seen_grown c l) (w.scan c lawful (recalls_before l recalls))
 
 -- the same place, in another range
-pub before_with : {d : Direction} {k : Known} {m : ℕ} {g : Range} {at : Step} {frames : List Step} {pairs : List (Key × ℕ)} (w : IsBeforeEntry d k m g at frames pairs) (h : Range) →
+pub before_with : {d : Direction} {k : Known} {m : ℕ} {g : Range} {at : PathNode} {frames : List PathNode} {pairs : List (Key × ℕ)} (w : IsBeforeEntry d k m g at frames pairs) (h : Range) →
     Sure k (λ s. IsScanBy d s m h (before d w.stage ∷ w.others) w.taken) → IsBeforeEntry d k m h at frames pairs
 before_with w h scan = record {
   stage = w.stage;
@@ -311,7 +311,7 @@ before_with w h scan = record {
   scan = scan;
 }
 
-module _ {d : Direction} {k : Known} {m : ℕ} {g : Range} {at : Step} {frames : List Step} {pairs : List (Key × ℕ)} {e : Entry} (a : IsAtEntry d k m g at frames pairs e) where
+module _ {d : Direction} {k : Known} {m : ℕ} {g : Range} {at : PathNode} {frames : List PathNode} {pairs : List (Key × ℕ)} {e : Entry} (a : IsAtEntry d k m g at frames pairs e) where
   pub entry_led : IsLedTo k m e
   entry_led = placed_led at.number at.at e a.walk.pinned a.placed
 
@@ -321,11 +321,11 @@ module _ {d : Direction} {k : Known} {m : ℕ} {g : Range} {at : Step} {frames :
 
     -- the entry, by the frame
     there : Sure j (λ s. IsPlaced s m a.walk.stage.number a.walk.stage.place e)
-    there = sure_later (placed_stable m a.walk.stage.number a.walk.stage.place e) l (subst (λ (z : Step). Sure k (λ s. IsPlaced s m z.number z.at e)) a.walk.at_is a.placed)
+    there = sure_later (placed_stable m a.walk.stage.number a.walk.stage.place e) l (subst (λ (z : PathNode). Sure k (λ s. IsPlaced s m z.number z.at e)) a.walk.at_is a.placed)
 
 -- At a node, which was entered.
-module _ {d : Direction} {k j : Known} {m : ℕ} {g : Range} {at : Step} {frames : List Step} {pairs : List (Key × ℕ)} {number height : ℕ} (a : IsAtEntry d k m g at frames pairs (Node number height)) (l : IsLater k j) {into : Step}
-    (e : IsEntered d j m number height into) {more : List Step} (q : more ≡ frames ++ at ∷ []) where
+module _ {d : Direction} {k j : Known} {m : ℕ} {g : Range} {at : PathNode} {frames : List PathNode} {pairs : List (Key × ℕ)} {number height : ℕ} (a : IsAtEntry d k m g at frames pairs (Node number height)) (l : IsLater k j) {into : PathNode}
+    (e : IsEntered d j m number height into) {more : List PathNode} (q : more ≡ frames ++ at ∷ []) where
   pub walk_push : IsWalk d j m g into more pairs
   walk_push = record {
     lowest = record { number = number; height = height; shape = e.forks; place = first_gap d (size e.forks) };
@@ -345,11 +345,11 @@ module _ {d : Direction} {k j : Known} {m : ℕ} {g : Range} {at : Step} {frames
 
   pub walk_push_less : height < at.height → rest_of d into more < rest_of d (record at { at = gap_before d at.at }) frames
   walk_push_less falls =
-      push_less d at frames into more (entry_inside a.walk) (subst (λ z. z < at.height) (sym (ap (λ (z : Step). z.height) e.top_is)) falls) (subst (λ z. z ≤ 32) (sym (ap (λ (z : Step). z.count) e.top_is)) e.room)
-      (ap (λ (z : Step). z.at) e.top_is ∙ ap (first_gap d) (sym (ap (λ (z : Step). z.count) e.top_is))) q
+      push_less d at frames into more (entry_inside a.walk) (subst (λ z. z < at.height) (sym (ap (λ (z : PathNode). z.height) e.top_is)) falls) (subst (λ z. z ≤ 32) (sym (ap (λ (z : PathNode). z.count) e.top_is)) e.room)
+      (ap (λ (z : PathNode). z.at) e.top_is ∙ ap (first_gap d) (sym (ap (λ (z : PathNode). z.count) e.top_is))) q
 
 -- At a leaf, which was read.
-module _ {d : Direction} {k j : Known} {m : ℕ} {g : Range} {at : Step} {frames : List Step} {pairs : List (Key × ℕ)} {number : ℕ} (a : IsAtEntry d k m g at frames pairs (Leaf number)) (l : IsLater k j) {more : List (Key × ℕ)}
+module _ {d : Direction} {k j : Known} {m : ℕ} {g : Range} {at : PathNode} {frames : List PathNode} {pairs : List (Key × ℕ)} {number : ℕ} (a : IsAtEntry d k m g at frames pairs (Leaf number)) (l : IsLater k j) {more : List (Key × ℕ)}
     {verdict : Verdict} (t : IsLeafTaken d k j g number pairs more verdict) where
   read : Sure j (λ s. IsRead s m number t.key t.value)
   read = t.read m (entry_led a)
@@ -365,7 +365,7 @@ module _ {d : Direction} {k j : Known} {m : ℕ} {g : Range} {at : Step} {frames
     lowest = behind d a.walk.stage;
     others = a.walk.others;
     taken = record { key = t.key; value = t.value } ∷ a.walk.taken;
-    top_is = ap (λ (z : Step). let x : Step = record z { at = gap_behind d z.at } in x) a.walk.at_is;
+    top_is = ap (λ (z : PathNode). let x : PathNode = record z { at = gap_behind d z.at } in x) a.walk.at_is;
     frames_are = a.walk.frames_are;
     pairs_are = e ∙ ap (λ z. z ++ (t.key, t.value) ∷ []) a.walk.pairs_are;
     room = a.walk.room;
@@ -401,16 +401,16 @@ module _ {d : Direction} {k j : Known} {m : ℕ} {g : Range} {at : Step} {frames
         (entry_scan a.walk l c lawful recalls) within (sym taken_length ∙ full))
 
 -- The topmost node is done.
-module _ {d : Direction} {k : Known} {m : ℕ} {g : Range} {top : Step} {frames : List Step} {pairs : List (Key × ℕ)} (w : IsWalk d k m g top frames pairs) where
+module _ {d : Direction} {k : Known} {m : ℕ} {g : Range} {top : PathNode} {frames : List PathNode} {pairs : List (Key × ℕ)} (w : IsWalk d k m g top frames pairs) where
   -- the frame below
-  pub record IsBelow (below : Step) (rest : List Step) : Type 0 where
+  pub record IsBelow (below : PathNode) (rest : List PathNode) : Type 0 where
     pub stage : Stage
     pub stages : List Stage
     pub others : w.others ≡ stage ∷ stages
     pub below_is : below ≡ frame stage
     pub rest_are : rest ≡ frames_of stages
 
-  below : (lower : Step) (rest : List Step) → frames ≡ rest ++ lower ∷ [] → IsBelow lower rest
+  below : (lower : PathNode) (rest : List PathNode) → frames ≡ rest ++ lower ∷ [] → IsBelow lower rest
   below lower rest e = go w.others refl
     where
       go : (fs : List Stage) → w.others ≡ fs → IsBelow lower rest
@@ -419,17 +419,17 @@ module _ {d : Direction} {k : Known} {m : ℕ} {g : Range} {top : Step} {frames 
           let x = last_is rest (frames_of fs) lower (frame f) (sym e ∙ (w.frames_are ∙ ap frames_of q)) in
           record { stage = f; stages = fs; others = q; below_is = x.1; rest_are = x.0 }
 
-  pub walk_inside : (lower : Step) (rest : List Step) → frames ≡ rest ++ lower ∷ [] → (lower.at < lower.count) × (lower.at < 32)
+  pub walk_inside : (lower : PathNode) (rest : List PathNode) → frames ≡ rest ++ lower ∷ [] → (lower.at < lower.count) × (lower.at < 32)
   walk_inside lower rest e =
       let b = below lower rest e in
       let i : AreInside (b.stage ∷ b.stages) = subst AreInside b.others w.inside in
-      subst (λ (z : Step). (z.at < z.count) × (z.at < 32)) (sym b.below_is) (i.0, let x = i.0 in let y = i.1 in omega (arith, x, y))
+      subst (λ (z : PathNode). (z.at < z.count) × (z.at < 32)) (sym b.below_is) (i.0, let x = i.0 in let y = i.1 in omega (arith, x, y))
 
   module _ (done : to_come d top.count top.at ≡ 0) where
     place_done : to_come d (size w.lowest.shape) w.lowest.place ≡ 0
-    place_done = subst (λ (z : Step). to_come d z.count z.at ≡ 0) w.top_is done
+    place_done = subst (λ (z : PathNode). to_come d z.count z.at ≡ 0) w.top_is done
 
-    pub walk_pop : (lower : Step) (rest : List Step) → frames ≡ rest ++ lower ∷ [] → IsWalk d k m g (record lower { at = gap_behind d lower.at }) rest pairs
+    pub walk_pop : (lower : PathNode) (rest : List PathNode) → frames ≡ rest ++ lower ∷ [] → IsWalk d k m g (record lower { at = gap_behind d lower.at }) rest pairs
     walk_pop lower rest e =
         let b = below lower rest e in
         let i : AreInside (b.stage ∷ b.stages) = subst AreInside b.others w.inside in
@@ -437,7 +437,7 @@ module _ {d : Direction} {k : Known} {m : ℕ} {g : Range} {top : Step} {frames 
           lowest = behind d b.stage;
           others = b.stages;
           taken = w.taken;
-          top_is = ap (λ (z : Step). let x : Step = record z { at = gap_behind d z.at } in x) b.below_is;
+          top_is = ap (λ (z : PathNode). let x : PathNode = record z { at = gap_behind d z.at } in x) b.below_is;
           frames_are = b.rest_are;
           pairs_are = w.pairs_are;
           room = i.1;
@@ -464,7 +464,7 @@ module _ {d : Direction} {k : Known} {m : ℕ} {g : Range} {top : Step} {frames 
 
 -- What a walk comes to
 
-module _ {layout : Layout} {d : Direction} {k : Known} {m : ℕ} {g : Range} {top : Step} {frames : List Step} {pairs : List (Key × ℕ)} (w : IsWalk d k m g top frames pairs) (possible : IsPossible layout k) where
+module _ {layout : Layout} {d : Direction} {k : Known} {m : ℕ} {g : Range} {top : PathNode} {frames : List PathNode} {pairs : List (Key × ℕ)} (w : IsWalk d k m g top frames pairs) (possible : IsPossible layout k) where
   known : Recalls possible.core k
   known = recalls possible.core k possible.knows
 
@@ -476,7 +476,7 @@ module _ {layout : Layout} {d : Direction} {k : Known} {m : ℕ} {g : Range} {to
 
   -- each node has two entries or more
   pub walk_several : 2 ≤ top.count
-  walk_several = subst (λ (z : Step). 2 ≤ z.count) (sym w.top_is)
+  walk_several = subst (λ (z : PathNode). 2 ≤ z.count) (sym w.top_is)
       (shaped_several (seen possible.core k) m fixed_now w.lowest.number w.lowest.shape (stack_shape (seen possible.core k) m w.lowest w.others stack_now))
 
   -- the way has room for one node more: it is no longer than a tree can be high, and a node is higher than nothing
@@ -496,26 +496,26 @@ module _ {layout : Layout} {d : Direction} {k : Known} {m : ℕ} {g : Range} {to
 
 -- The loads of a walk
 
-spare_append : (d : Direction) (xs : List Step) (x : Step) → entries_until_two d (xs ++ x ∷ []) ≡ (2 - (x.count - to_come d x.count (gap_before d x.at))) + entries_until_two d xs
+spare_append : (d : Direction) (xs : List PathNode) (x : PathNode) → entries_until_two d (xs ++ x ∷ []) ≡ (2 - (x.count - to_come d x.count (gap_before d x.at))) + entries_until_two d xs
 spare_append d [] x = refl
 spare_append d (y ∷ xs) x = let e = spare_append d xs x in omega (arith, e)
 
-spare_most : (d : Direction) (xs : List Step) → entries_until_two d xs ≤ 2 * length xs
+spare_most : (d : Direction) (xs : List PathNode) → entries_until_two d xs ≤ 2 * length xs
 spare_most d [] = omega arith
 spare_most d (x ∷ xs) = let e = spare_most d xs in omega (arith, e)
 
-pub paid_first : (d : Direction) (pairs : ℕ) (top : Step) (frames : List Step) → length frames < 9 * MAX_BYTES → IsPaid d 0 0 pairs top frames
+pub paid_first : (d : Direction) (pairs : ℕ) (top : PathNode) (frames : List PathNode) → length frames < 9 * MAX_BYTES → IsPaid d 0 0 pairs top frames
 paid_first d pairs top frames short = (omega arith, omega (arith, short))
 
 -- at a node that stands at a place of the topmost one
-pub paid_push : (d : Direction) (loads entries head pairs : ℕ) (at : Step) (frames : List Step) (into : Step) (more : List Step) → IsPaid d loads entries pairs (record at { at = gap_before d at.at }) frames → head ≤ 26 →
+pub paid_push : (d : Direction) (loads entries head pairs : ℕ) (at : PathNode) (frames : List PathNode) (into : PathNode) (more : List PathNode) → IsPaid d loads entries pairs (record at { at = gap_before d at.at }) frames → head ≤ 26 →
     into.at ≡ first_gap d into.count → more ≡ frames ++ at ∷ [] → IsPaid d (loads + head) (entries + 1) pairs into more
 paid_push d loads entries head pairs at frames into more (low, paid) few first e =
     let n = ap length e ∙ length-append frames (at ∷ []) in let spare = ap (entries_until_two d) e ∙ spare_append d frames at in
     let whole : to_come d into.count into.at ≡ into.count = ap (to_come d into.count) first ∙ come_first d into.count in
     (omega (arith, low, few), omega (arith, paid, n, spare, whole))
 
-pub paid_pop : (d : Direction) (loads entries pairs : ℕ) (top : Step) (frames : List Step) (lower : Step) (rest : List Step) → IsPaid d loads entries pairs top frames → to_come d top.count top.at ≡ 0 → 2 ≤ top.count →
+pub paid_pop : (d : Direction) (loads entries pairs : ℕ) (top : PathNode) (frames : List PathNode) (lower : PathNode) (rest : List PathNode) → IsPaid d loads entries pairs top frames → to_come d top.count top.at ≡ 0 → 2 ≤ top.count →
     frames ≡ rest ++ lower ∷ [] → lower.at < lower.count → IsPaid d loads entries pairs (record lower { at = gap_behind d lower.at }) rest
 paid_pop d loads entries pairs top frames lower rest (low, paid) done several e inside =
     let n = ap length e ∙ length-append rest (lower ∷ []) in let spare = ap (entries_until_two d) e ∙ spare_append d rest lower in
@@ -523,13 +523,13 @@ paid_pop d loads entries pairs top frames lower rest (low, paid) done several e 
     (low, omega (arith, paid, done, several, n, spare, one, most))
 
 -- behind so many leaves, of which each takes a load of its entry, a touch and the loads of its words
-pub paid_leaves : (d : Direction) (loads entries leaves pairs more count : ℕ) (top : Step) (frames : List Step) → IsPaid d loads entries pairs top frames → leaves ≤ 34 * count → more ≡ pairs + count → top.at ≤ top.count →
+pub paid_leaves : (d : Direction) (loads entries leaves pairs more count : ℕ) (top : PathNode) (frames : List PathNode) → IsPaid d loads entries pairs top frames → leaves ≤ 34 * count → more ≡ pairs + count → top.at ≤ top.count →
     count ≤ to_come d top.count top.at → IsPaid d (loads + leaves) (entries + count) more (record top { at = gap_after d top.at count }) frames
 paid_leaves d loads entries leaves pairs more count top frames (low, paid) few is fits come =
     let after = come_after d top.count top.at count in let most = come_most d top.count top.at fits in (omega (arith, low, few, is), omega (arith, paid, is, after, most, come))
 
 -- where no node was looked at behind them,
-pub paid_ahead : (d : Direction) (loads entries pairs more looks leaves : ℕ) (top : Step) (frames : List Step) (ahead : Ahead) → IsPaid d loads entries pairs top frames → ahead.node ≡ None → looks ≤ entries_ahead ahead + ahead.count →
+pub paid_ahead : (d : Direction) (loads entries pairs more looks leaves : ℕ) (top : PathNode) (frames : List PathNode) (ahead : Ahead) → IsPaid d loads entries pairs top frames → ahead.node ≡ None → looks ≤ entries_ahead ahead + ahead.count →
     leaves ≤ LEAF_FIELDS * ahead.count → more ≡ pairs + ahead.count → top.at ≤ top.count → ahead.count ≤ to_come d top.count top.at →
     IsPaid d (loads + (looks + leaves)) (entries + (entries_ahead ahead + 0)) more (record top { at = gap_after d top.at ahead.count }) frames
 paid_ahead d loads entries pairs more looks leaves top frames ahead paid none few less is fits come =
@@ -537,24 +537,24 @@ paid_ahead d loads entries pairs more looks leaves top frames ahead paid none fe
     let (low, spare) = paid_leaves d loads entries (looks + leaves) pairs more ahead.count top frames paid (omega (arith, few, less, alone)) is fits come in (omega (arith, low, alone), omega (arith, spare, alone))
 
 -- and where the walk goes on to one
-pub paid_child : (d : Direction) (loads entries pairs more looks leaves head number : ℕ) (top : Step) (frames : List Step) (ahead : Ahead) (into : Step) (way : List Step) → IsPaid d loads entries pairs top frames →
+pub paid_child : (d : Direction) (loads entries pairs more looks leaves head number : ℕ) (top : PathNode) (frames : List PathNode) (ahead : Ahead) (into : PathNode) (way : List PathNode) → IsPaid d loads entries pairs top frames →
     ahead.node ≡ Some number → looks ≤ entries_ahead ahead + ahead.count → leaves ≤ LEAF_FIELDS * ahead.count → head ≤ HEAD_WORDS → more ≡ pairs + ahead.count → top.at ≤ top.count → ahead.count < to_come d top.count top.at →
     into.at ≡ first_gap d into.count → way ≡ frames ++ record top { at = place_ahead d top.at ahead.count } ∷ [] → IsPaid d (loads + (looks + (leaves + head))) (entries + (entries_ahead ahead + 0)) more into way
 paid_child d loads entries pairs more looks leaves head number top frames ahead into way paid some few less small is fits come first e =
     let one : length (option_to_list ahead.node) ≡ 1 = ap (λ z. length (option_to_list z)) some in
     let behind = paid_leaves d loads entries (34 * ahead.count) pairs more ahead.count top frames paid (omega arith) is fits (omega (arith, come)) in
-    let at_node = subst (λ z. IsPaid d (loads + 34 * ahead.count) (entries + ahead.count) more (let x : Step = record top { at = z } in x) frames) (gap_before_place d top.count top.at ahead.count come) behind in
+    let at_node = subst (λ z. IsPaid d (loads + 34 * ahead.count) (entries + ahead.count) more (let x : PathNode = record top { at = z } in x) frames) (gap_before_place d top.count top.at ahead.count come) behind in
     let (low, spare) = paid_push d (loads + 34 * ahead.count) (entries + ahead.count) 26 more (record top { at = place_ahead d top.at ahead.count }) frames into way at_node (omega arith) first e in
     (omega (arith, low, few, less, small, one), omega (arith, spare, one))
 
 -- So many entries were loaded, and no more of leaves than the limit asks for and one; and some of these were touched and read. The walk
 -- ends there.
-paid_most : (d : Direction) (loads entries seen more pairs limit : ℕ) (top : Step) (frames : List Step) → IsPaid d loads entries pairs top frames → more ≤ 34 * seen → length frames < 9 * MAX_BYTES → pairs ≤ limit → pairs + seen ≤ limit + 1 →
+paid_most : (d : Direction) (loads entries seen more pairs limit : ℕ) (top : PathNode) (frames : List PathNode) → IsPaid d loads entries pairs top frames → more ≤ 34 * seen → length frames < 9 * MAX_BYTES → pairs ≤ limit → pairs + seen ≤ limit + 1 →
     AreWalkLoads 0 limit (entries + seen) (loads + more)
 paid_most d loads entries seen more pairs limit top frames (low, paid) few short within asked =
     let most = spare_most d frames in record { most = omega (arith, paid, short, within, asked, most); few = omega (arith, low, few, asked) }
 
-pub paid_last : {G : Type 0} {table : TableView} {becomes : G → Event → G → Type 0} {a b y z : SeatView × G} {d : Direction} {m : ℕ} {g : Range} {top : Step} {frames : List Step} {pairs : List (Key × ℕ)} →
+pub paid_last : {G : Type 0} {table : TableView} {becomes : G → Event → G → Type 0} {a b y z : SeatView × G} {d : Direction} {m : ℕ} {g : Range} {top : PathNode} {frames : List PathNode} {pairs : List (Key × ℕ)} →
     (loads entries : ℕ) × IsPaid d loads entries (length pairs) top frames × Reads table becomes entries loads a b → IsWalk d b.0.known m g top frames pairs → IsPossible table.layout b.0.known → (ahead : Ahead) →
     length pairs + entries_ahead ahead ≤ g.limit + 1 → (n : ℕ) × (n ≤ entries_ahead ahead + ahead.count) × Reads table becomes (entries_ahead ahead) n b y → (n : ℕ) × (n ≤ LEAF_FIELDS * ahead.count) × Reads table becomes 0 n y z →
     Walks table becomes 0 g.limit a z
@@ -566,7 +566,7 @@ paid_last {d = d} {g = g} {top = top} {frames = frames} {pairs = pairs} (loads, 
 )
 
 -- at the end of the way
-pub paid_end : (d : Direction) (loads entries pairs limit : ℕ) (top : Step) (frames : List Step) → IsPaid d loads entries pairs top frames → frames ≡ [] → pairs ≤ limit → AreWalkLoads 0 limit entries loads
+pub paid_end : (d : Direction) (loads entries pairs limit : ℕ) (top : PathNode) (frames : List PathNode) → IsPaid d loads entries pairs top frames → frames ≡ [] → pairs ≤ limit → AreWalkLoads 0 limit entries loads
 paid_end d loads entries pairs limit top frames (low, paid) none within =
     let n = ap length none in let spare = ap (entries_until_two d) none in record { most = omega (arith, paid, n, spare, within); few = omega (arith, low, within) }
 
@@ -601,37 +601,37 @@ module _ (d : Direction) (m : ℕ) (key : Key) where
   beyond_stable : (r gap : ℕ) → IsStable (λ s. IsPastKey d s m key r gap)
   beyond_stable r gap a b grown h = beyond_grown d a b grown m r gap key h
 
-  pub beyond_append : {k : Known} (xs : List Step) (x : Step) → ArePastKey d k m key xs → Sure k (λ s. IsPastKey d s m key x.number (gap_behind d x.at)) → ArePastKey d k m key (xs ++ x ∷ [])
+  pub beyond_append : {k : Known} (xs : List PathNode) (x : PathNode) → ArePastKey d k m key xs → Sure k (λ s. IsPastKey d s m key x.number (gap_behind d x.at)) → ArePastKey d k m key (xs ++ x ∷ [])
   beyond_append [] x beyond last = (last, tt)
   beyond_append (y ∷ xs) x (first, beyond) last = (first, beyond_append xs x beyond last)
 
-  pub beyond_parts : {k : Known} (xs : List Step) (x : Step) → ArePastKey d k m key (xs ++ x ∷ []) → ArePastKey d k m key xs × Sure k (λ s. IsPastKey d s m key x.number (gap_behind d x.at))
+  pub beyond_parts : {k : Known} (xs : List PathNode) (x : PathNode) → ArePastKey d k m key (xs ++ x ∷ []) → ArePastKey d k m key xs × Sure k (λ s. IsPastKey d s m key x.number (gap_behind d x.at))
   beyond_parts [] x (last, beyond) = (tt, last)
   beyond_parts (y ∷ xs) x (first, beyond) = let o = beyond_parts xs x beyond in ((first, o.0), o.1)
 
-  are_beyond_later : {k j : Known} → IsLater k j → (xs : List Step) → ArePastKey d k m key xs → ArePastKey d j m key xs
+  are_beyond_later : {k j : Known} → IsLater k j → (xs : List PathNode) → ArePastKey d k m key xs → ArePastKey d j m key xs
   are_beyond_later l [] beyond = tt
   are_beyond_later l (x ∷ xs) (first, beyond) =
       (sure_later {P = λ s. IsPastKey d s m key x.number (gap_behind d x.at)} (beyond_stable x.number (gap_behind d x.at)) l first, are_beyond_later l xs beyond)
 
-  pub bound_later : {k j : Known} {top : Step} {frames : List Step} → IsLater k j → IsBound d k m key top frames → IsBound d j m key top frames
+  pub bound_later : {k j : Known} {top : PathNode} {frames : List PathNode} → IsLater k j → IsBound d k m key top frames → IsBound d j m key top frames
   bound_later {top = top} {frames = frames} l f = record {
     there = sure_later {P = λ s. IsPastKey d s m key top.number top.at} (beyond_stable top.number top.at) l f.there;
     above = are_beyond_later l frames f.above;
   }
 
-  pub bound_since : {k : Known} {top : Step} {frames : List Step} → since k ≡ m → IsBound d k m key top frames → IsBound d k (since k) key top frames
+  pub bound_since : {k : Known} {top : PathNode} {frames : List PathNode} → since k ≡ m → IsBound d k m key top frames → IsBound d k (since k) key top frames
   bound_since {k} {top} {frames} e = subst (λ z. IsBound d k z key top frames) (sym e)
 
   -- before the entry at a place
-  module _ {k : Known} (at : Step) {frames : List Step} (f : IsBound d k m key (record at { at = gap_before d at.at }) frames) where
+  module _ {k : Known} (at : PathNode) {frames : List PathNode} (f : IsBound d k m key (record at { at = gap_before d at.at }) frames) where
     bound_behind : Sure k (λ s. IsPastKey d s m key at.number (gap_behind d at.at))
     bound_behind c lawful known = beyond_behind d (seen c k) m at.number at.at key (f.there c lawful known)
 
     pub bound_next : IsBound d k m key (record at { at = gap_behind d at.at }) frames
     bound_next = record { there = bound_behind; above = f.above }
 
-    pub bound_push : (number height : ℕ) → Sure k (λ s. IsPlaced s m at.number at.at (Node number height)) → (into : Step) → into.number ≡ number → into.at ≡ first_gap d into.count → (more : List Step) →
+    pub bound_push : (number height : ℕ) → Sure k (λ s. IsPlaced s m at.number at.at (Node number height)) → (into : PathNode) → into.number ≡ number → into.at ≡ first_gap d into.count → (more : List PathNode) →
         more ≡ frames ++ at ∷ [] → IsBound d k m key into more
     bound_push number height placed into same first more e = record {
       there = λ c lawful known. subst (λ n. IsPastKey d (seen c k) m key n into.at) (sym same) (subst (λ n. IsPastKey d (seen c k) m key number n) (sym first)
@@ -652,22 +652,22 @@ module _ (d : Direction) (m : ℕ) (key : Key) where
         no_later Upwards z low = inr low
         no_later Downwards z high = inr high
 
-  pub bound_pop : {k : Known} {top : Step} {frames : List Step} → IsBound d k m key top frames → (lower : Step) (rest : List Step) → frames ≡ rest ++ lower ∷ [] → IsBound d k m key (record lower { at = gap_behind d lower.at }) rest
+  pub bound_pop : {k : Known} {top : PathNode} {frames : List PathNode} → IsBound d k m key top frames → (lower : PathNode) (rest : List PathNode) → frames ≡ rest ++ lower ∷ [] → IsBound d k m key (record lower { at = gap_behind d lower.at }) rest
   bound_pop {k} f lower rest e = let o = beyond_parts rest lower (subst (ArePastKey d k m key) e f.above) in record { there = o.1; above = o.0 }
 
 -- What a step of a walk leaves
 
-pub entered_first : {d : Direction} {k : Known} {m n h : ℕ} {top : Step} → IsEntered d k m n h top → top.at ≡ first_gap d top.count
-entered_first {d} e = subst (λ (z : Step). z.at ≡ first_gap d z.count) (sym e.top_is) refl
+pub entered_first : {d : Direction} {k : Known} {m n h : ℕ} {top : PathNode} → IsEntered d k m n h top → top.at ≡ first_gap d top.count
+entered_first {d} e = subst (λ (z : PathNode). z.at ≡ first_gap d z.count) (sym e.top_is) refl
 
-pub entered_number : {d : Direction} {k : Known} {m n h : ℕ} {top : Step} → IsEntered d k m n h top → top.number ≡ n
-entered_number e = ap (λ (z : Step). z.number) e.top_is
+pub entered_number : {d : Direction} {k : Known} {m n h : ℕ} {top : PathNode} → IsEntered d k m n h top → top.number ≡ n
+entered_number e = ap (λ (z : PathNode). z.number) e.top_is
 
-pub popped_is : {frames : List Step} {popped : Option Step} {lower : Step} (rest : List Step) → frames ≡ rest ++ option_to_list popped → popped ≡ Some lower → frames ≡ rest ++ lower ∷ []
+pub popped_is : {frames : List PathNode} {popped : Option PathNode} {lower : PathNode} (rest : List PathNode) → frames ≡ rest ++ option_to_list popped → popped ≡ Some lower → frames ≡ rest ++ lower ∷ []
 popped_is rest e is = e ∙ ap (λ z. rest ++ option_to_list z) is
 
-pub none_popped : {frames : List Step} {popped : Option Step} → IsSome popped ↔ (0 < length frames) → popped ≡ None → frames ≡ []
-none_popped {frames} some is = empty_is frames (⊎_elim (λ lt. absurd (let z : IsSome {T = Step} None = subst IsSome is (some.1 lt) in cc)) (λ le. omega (arith, le)) (cases_lt 0 (length frames)))
+pub none_popped : {frames : List PathNode} {popped : Option PathNode} → IsSome popped ↔ (0 < length frames) → popped ≡ None → frames ≡ []
+none_popped {frames} some is = empty_is frames (⊎_elim (λ lt. absurd (let z : IsSome {T = PathNode} None = subst IsSome is (some.1 lt) in cc)) (λ le. omega (arith, le)) (cases_lt 0 (length frames)))
 
 -- Scans without a walk
 
@@ -730,11 +730,11 @@ module _ (head : HeadView) (lawful : IsLawfulNode (node_of head (leaves (length 
   pub head_room : (1 ≤ length head.rows) × (length head.rows ≤ 32)
   head_room = let a = lawful.several in let b = lawful.room in let e = length_leaves in (omega arith, omega arith)
 
-  pub entered : {d : Direction} {k : Known} (m number h : ℕ) (top : Step) → head.height ≡ h → top ≡ step_at head number (first_gap d (length head.rows)) → Sure k (λ s. IsShaped s m number (shape_of head)) → IsEntered d k m number h top
+  pub entered : {d : Direction} {k : Known} (m number h : ℕ) (top : PathNode) → head.height ≡ h → top ≡ step_at head number (first_gap d (length head.rows)) → Sure k (λ s. IsShaped s m number (shape_of head)) → IsEntered d k m number h top
   entered {d} {k} m number h top high is shaped = record {
     forks = shape_of head;
-    top_is = is ∙ (ap (λ z. let x : Step = record (step_at head number (first_gap d (length head.rows))) { height = z } in x) high ∙
-        ap (λ n. let x : Step = record (step_at head number (first_gap d n)) { height = h } in x) (sym head_size));
+    top_is = is ∙ (ap (λ z. let x : PathNode = record (step_at head number (first_gap d (length head.rows))) { height = z } in x) high ∙
+        ap (λ n. let x : PathNode = record (step_at head number (first_gap d n)) { height = h } in x) (sym head_size));
     room = subst (λ z. z ≤ 32) (sym head_size) head_room.1;
     shaped = shaped;
   }

@@ -1,7 +1,7 @@
 -- What a scan knows on its way, and of what it answers.
 use Rattle.std.specs.Prelude.{◌≡◌, ◌≢◌, ℕ, ◌<◌, ◌≤◌, List, [], ◌∷◌, ◌++◌, length, Bool, true}
 use Rattle.compound_node.specs.declared.entries.Entry.TheVariants.{Leaf}
-use Rattle.insert_cases.specs.declared.choice.Step.{Step}
+use Rattle.insert_cases.specs.declared.choice.PathNode.{PathNode}
 use Rattle.pieces.specs.Piece.{size}
 use Rattle.tries.specs.Keys.{Key}
 use Rattle.tries.specs.Tree.{Subtrie, first_position}
@@ -66,16 +66,16 @@ IsReached d layout k m first number =
     (j : Known) → IsLater k j → IsPossible layout j → (key : Key) (value : ℕ) → Sure j (λ s. IsRead s m number key value) → IsNoLater d first key
 
 -- a node on the way of a walk, without its forks
-abbrev pub frame : Stage → Step
+abbrev pub frame : Stage → PathNode
 frame f = record { number = f.number; height = f.height; first_position = first_position f.shape; count = size f.shape; at = f.place }
 
 -- the way, from the root on
-abbrev pub frames_of : List Stage → List Step
+abbrev pub frames_of : List Stage → List PathNode
 frames_of [] = []
 frames_of (f ∷ fs) = frames_of fs ++ frame f ∷ []
 
 -- The pass went to a node of this height: it has read its forks, and all of its entries are to come.
-pub record IsEntered (d : Direction) (k : Known) (m : ℕ) (n h : ℕ) (top : Step) : Type 0 where
+pub record IsEntered (d : Direction) (k : Known) (m : ℕ) (n h : ℕ) (top : PathNode) : Type 0 where
   pub forks : Subtrie
   pub top_is : top ≡ frame (record { number = n; height = h; shape = forks; place = first_gap d (size forks) })
   pub room : size forks ≤ 32
@@ -87,7 +87,7 @@ AreInside [] = Unit {0}
 AreInside (f ∷ fs) = (f.place < size f.shape) × (size f.shape ≤ 32) × AreInside fs
 
 -- Where a scan is: at a gap of the topmost of the frames, with these pairs so far.
-pub record IsWalk (d : Direction) (k : Known) (m : ℕ) (g : Range) (top : Step) (frames : List Step) (pairs : List (Key × ℕ)) : Type 0 where
+pub record IsWalk (d : Direction) (k : Known) (m : ℕ) (g : Range) (top : PathNode) (frames : List PathNode) (pairs : List (Key × ℕ)) : Type 0 where
   pub lowest : Stage
   pub others : List Stage
   pub taken : List Pair
@@ -101,11 +101,11 @@ pub record IsWalk (d : Direction) (k : Known) (m : ℕ) (g : Range) (top : Step)
   pub scan : Sure k (λ s. IsScanBy d s m g (lowest ∷ others) taken)
 
 -- The pass is sure that all keys that stand behind the places of these frames come later than this one,
-abbrev pub ArePastKey : Direction → Known → ℕ → Key → List Step → Type 0
+abbrev pub ArePastKey : Direction → Known → ℕ → Key → List PathNode → Type 0
 ArePastKey d k m key [] = Unit {0}
 ArePastKey d k m key (f ∷ fs) = Sure k (λ s. IsPastKey d s m key f.number (gap_behind d f.at)) × ArePastKey d k m key fs
 
 -- and those behind the gap of the topmost frame.
-pub record IsBound (d : Direction) (k : Known) (m : ℕ) (key : Key) (top : Step) (frames : List Step) : Type 0 where
+pub record IsBound (d : Direction) (k : Known) (m : ℕ) (key : Key) (top : PathNode) (frames : List PathNode) : Type 0 where
   pub there : Sure k (λ s. IsPastKey d s m key top.number top.at)
   pub above : ArePastKey d k m key frames

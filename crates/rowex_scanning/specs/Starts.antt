@@ -1,7 +1,7 @@
 -- Where a scan starts.
 use Rattle.std.specs.Prelude.{◌≡◌, ◌⊎◌, ℕ, suc, ◌+◌, ◌<◌, List, [], length, take, slice_get, Some, Bool, false, true}
 use Rattle.compound_node.specs.declared.entries.Entry.TheVariants.{Leaf}
-use Rattle.insert_cases.specs.declared.choice.Step.{Step}
+use Rattle.insert_cases.specs.declared.choice.PathNode.{PathNode}
 use Rattle.tries.specs.Keys.{Key, IsBefore}
 use Rattle.rowex_core.specs.declared.known.Known.{Known}
 use Rattle.rowex_walks.specs.Scan.{Range, IsPlaced, IsRead}
@@ -14,7 +14,7 @@ use Rattle.rowex_scanning.specs.declared.start.Start.{Start}
 
 -- The leaf at which the search has ended stands at the place, with a key that does not come before this one; all that is behind it comes
 -- later.
-pub record IsFirst (d : Direction) (k : Known) (m : ℕ) (key : Key) (number : ℕ) (top : Step) (frames : List Step) : Type 0 where
+pub record IsFirst (d : Direction) (k : Known) (m : ℕ) (key : Key) (number : ℕ) (top : PathNode) (frames : List PathNode) : Type 0 where
   pub found : Key
   pub value : ℕ
   pub inside : top.at < top.count
@@ -24,24 +24,24 @@ pub record IsFirst (d : Direction) (k : Known) (m : ℕ) (key : Key) (number : �
   pub bound : IsBound d k m key (record top { at = gap_behind d top.at }) frames
 
 -- the walk of any scan that starts at the key, with no pairs so far
-abbrev pub IsWalkFrom : Direction → Known → ℕ → Key → Step → List Step → Type 0
+abbrev pub IsWalkFrom : Direction → Known → ℕ → Key → PathNode → List PathNode → Type 0
 IsWalkFrom d k m key top frames = (g : Range) → first_key d g ≡ key → IsWalk d k m g top frames []
 
 -- The scan starts before the leaf at which the search has ended, or at a gap.
-abbrev pub IsBegun : Bool → Direction → Known → ℕ → Key → ℕ → Step → List Step → Type 0
+abbrev pub IsBegun : Bool → Direction → Known → ℕ → Key → ℕ → PathNode → List PathNode → Type 0
 IsBegun true d k m key number top frames = IsFirst d k m key number top frames × IsWalkFrom d k m key (record top { at = gap_before d top.at }) frames
 IsBegun false d k m key number top frames = IsBound d k m key top frames × IsWalkFrom d k m key top frames
 
 -- Where a scan from the key starts on the way of the key's search, which has ended at this leaf.
-pub record IsStart (d : Direction) (k : Known) (m : ℕ) (key : Key) (way : List Step) (number : ℕ) (start : Start) : Type 0 where
+pub record IsStart (d : Direction) (k : Known) (m : ℕ) (key : Key) (way : List PathNode) (number : ℕ) (start : Start) : Type 0 where
   pub within : start.level < length way
   pub begun : IsBegun start.leaf d k m key number start.top (take start.level way)
 
 -- The scan starts behind the leaf, at which the search has ended: its key is below this one, and so is all that stands left of it.
-pub record IsBehindLeaf (k : Known) (m : ℕ) (key : Key) (way : List Step) (number : ℕ) (start : Start) : Type 0 where
+pub record IsBehindLeaf (k : Known) (m : ℕ) (key : Key) (way : List PathNode) (number : ℕ) (start : Start) : Type 0 where
   pub apart : start.leaf ≡ false
   pub last : start.level + 1 ≡ length way
-  pub step : Step
+  pub step : PathNode
   pub there : slice_get way start.level ≡ Some step
   pub behind : start.top.at ≡ suc step.at
   pub found : Key
@@ -51,8 +51,8 @@ pub record IsBehindLeaf (k : Known) (m : ℕ) (key : Key) (way : List Step) (num
   pub beneath : Sure k (λ s. IsPastKey Downwards s m key step.number step.at)
 
 -- Where a scan upwards starts, and what stands left of there: all of it is below the key, or the leaf is between.
-pub record IsParting (k : Known) (m : ℕ) (key : Key) (way : List Step) (number : ℕ) (start : Start) : Type 0 where
+pub record IsParting (k : Known) (m : ℕ) (key : Key) (way : List PathNode) (number : ℕ) (start : Start) : Type 0 where
   pub upwards : IsStart Upwards k m key way number start
-  pub of_way : (s : Step) → slice_get way start.level ≡ Some s → start.top ≡ record s { at = start.top.at }
+  pub of_way : (s : PathNode) → slice_get way start.level ≡ Some s → start.top ≡ record s { at = start.top.at }
   pub left : ArePastKey Downwards k m key (take start.level way)
   pub side : Sure k (λ s. IsPastKey Downwards s m key start.top.number start.top.at) ⊎ IsBehindLeaf k m key way number start

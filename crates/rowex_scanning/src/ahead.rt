@@ -10,7 +10,7 @@ ghost use Rattle.rowex_walks.specs.Directions.{to_come};
 
 use crate::direction::place_ahead;
 use compound_node::Entry;
-use insert_cases::Step;
+use insert_cases::PathNode;
 use packed_pairs::Pairs;
 use record_words::Origins;
 use rowex_core::{Gate, Rec};
@@ -71,7 +71,7 @@ pub(crate) fn look_ahead<G: Gate>(
     seat: &mut TableSeat,
     gate: &mut G,
     direction: Direction,
-    top: &Step,
+    top: &PathNode,
     count: u8,
     pairs: &Pairs,
     leaves: &mut [u32; MOST_AHEAD as usize],

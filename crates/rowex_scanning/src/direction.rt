@@ -6,12 +6,12 @@ ghost use Rattle.tries.specs.Keys.{IsAtMost, IsBefore};
 ghost use Rattle.rowex_walks.specs.Directions.{IsEarlier, IsNoLater, gap_behind};
 ghost use Rattle.rowex_walks.specs.Directions.{first_gap as first_gap_of, gap_after as gap_after_of, place_ahead as place_ahead_of, to_come as to_come_of};
 
-use insert_cases::Step;
+use insert_cases::PathNode;
 use rowex_walks::Direction;
 
 /// How many entries are to come at the gap where a walk stands in this node.
 #[inline(always)]
-pub(crate) fn to_come(direction: Direction, top: &Step) -> u8
+pub(crate) fn to_come(direction: Direction, top: &PathNode) -> u8
     requires { top.now.at ≤ top.now.count }
     ensures { result ≡ to_come_of direction top.now.count top.now.at }
 {
@@ -23,7 +23,7 @@ pub(crate) fn to_come(direction: Direction, top: &Step) -> u8
 
 /// The gap behind so many entries that come next.
 #[inline(always)]
-pub(crate) fn gap_after(direction: Direction, top: Step, entries: u8) -> u8
+pub(crate) fn gap_after(direction: Direction, top: PathNode, entries: u8) -> u8
     requires fits { top.at ≤ top.count }
     requires come { entries ≤ to_come_of direction top.count top.at }
     ensures { result ≡ gap_after_of direction top.at entries }
@@ -36,7 +36,7 @@ pub(crate) fn gap_after(direction: Direction, top: Step, entries: u8) -> u8
 
 /// The place of the entry that comes behind so many others.
 #[inline(always)]
-pub(crate) fn place_ahead(direction: Direction, top: Step, entries: u8) -> u8
+pub(crate) fn place_ahead(direction: Direction, top: PathNode, entries: u8) -> u8
     requires fits { top.at ≤ top.count }
     requires come { entries < to_come_of direction top.count top.at }
     ensures { result ≡ place_ahead_of direction top.at entries }

@@ -21,7 +21,7 @@ use crate::ahead::{MOST_AHEAD, look_ahead, most_together};
 use crate::direction::{behind, first_gap, gap_after, is_before, is_earlier, place_ahead, to_come};
 use crate::start::start_from;
 use arrayvec::ArrayVec;
-use insert_cases::Step;
+use insert_cases::PathNode;
 use key_bits::{Key, MAX_BYTES};
 use packed_pairs::Pairs;
 use record_words::{Origins, key_word_at};
@@ -66,7 +66,7 @@ pub fn scan_root<G: Gate>(
     table: &HotTable,
     seat: &mut TableSeat,
     gate: &mut G,
-    way: &mut ArrayVec<Step, MOST_NODES>,
+    way: &mut ArrayVec<PathNode, MOST_NODES>,
     range: &Range,
     pairs: &mut Pairs,
 ) -> Result<bool, AllocError>
@@ -148,7 +148,7 @@ fn scan_node<G: Gate>(
     table: &HotTable,
     seat: &mut TableSeat,
     gate: &mut G,
-    way: &mut ArrayVec<Step, MOST_NODES>,
+    way: &mut ArrayVec<PathNode, MOST_NODES>,
     range: &Range,
     number: u32,
     mismatch: Option<u16>,
@@ -178,7 +178,7 @@ fn scan_node<G: Gate>(
     let origins = table.origins();
     let places = &mut [0; MAX_BYTES];
     if start.leaf {
-        match take_leaf(table, &origins, seat, gate, range, number, places, pairs)? {
+        match read_leaf(table, &origins, seat, gate, range, number, places, pairs)? {
             Verdict::Further => top.at = behind(direction, top.at),
             Verdict::Past => return Ok(false),
             Verdict::Full => return Ok(true),
@@ -195,9 +195,9 @@ fn walk<G: Gate>(
     origins: &Origins,
     seat: &mut TableSeat,
     gate: &mut G,
-    way: &mut ArrayVec<Step, MOST_NODES>,
+    way: &mut ArrayVec<PathNode, MOST_NODES>,
     range: &Range,
-    lowest: Step,
+    lowest: PathNode,
     places: &mut [u8; MAX_BYTES],
     pairs: &mut Pairs,
 ) -> Result<bool, AllocError>
@@ -258,9 +258,9 @@ fn take_leaves<G: Gate>(
     origins: &Origins,
     seat: &mut TableSeat,
     gate: &mut G,
-    _way: &ArrayVec<Step, MOST_NODES>,
+    _way: &ArrayVec<PathNode, MOST_NODES>,
     range: &Range,
-    top: &mut Step,
+    top: &mut PathNode,
     leaves: &[u32; MOST_AHEAD as usize],
     count: u8,
     places: &mut [u8; MAX_BYTES],
@@ -279,7 +279,7 @@ fn take_leaves<G: Gate>(
 {
     for index in 0..count {
         let number = leaves[index as usize];
-        match take_leaf(table, origins, seat, gate, range, number, places, pairs)? {
+        match read_leaf(table, origins, seat, gate, range, number, places, pairs)? {
             Verdict::Further => (),
             Verdict::Past => return Ok(Verdict::Past),
             Verdict::Full => return Ok(Verdict::Full),
@@ -296,7 +296,7 @@ fn enter<G: Gate>(
     gate: &mut G,
     direction: Direction,
     number: u32,
-) -> Step
+) -> PathNode
     requires reader { IsReader table.now seat.old }
     requires led { (m h : ℕ) × IsLedTo seat.old.known m (NodeEntry number h) }
     ensures reads { (n : ℕ) × (n ≤ HEAD_WORDS) × Reads table.now G.becomes 0 n (seat.old, gate.old) (seat.new, gate.new) }
@@ -309,7 +309,7 @@ fn enter<G: Gate>(
 
 /// Loads a leaf whose key does not come before the range, to these places, and takes its pair. Inline, as the two that it calls are.
 #[inline(always)]
-fn take_leaf<G: Gate>(
+fn read_leaf<G: Gate>(
     table: &HotTable,
     origins: &Origins,
     seat: &mut TableSeat,

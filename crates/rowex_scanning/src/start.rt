@@ -7,7 +7,7 @@ ghost use Rattle.rowex_reading.specs.Ways.{IsWayOf};
 ghost use Rattle.rowex_reading.specs.declared.descent.Found.TheVariants.{Leaf as FoundLeaf};
 ghost use Rattle.rowex_scanning.specs.Starts.{IsParting, IsStart};
 
-use insert_cases::{Step, choose, level_below};
+use insert_cases::{PathNode, choose, level_below};
 use key_bits::Key;
 use rowex_core::Gate;
 use rowex_reading::find_affected;
@@ -20,7 +20,7 @@ pub(crate) struct Start {
     /// The level of the node in which it starts.
     pub level: usize,
     /// That node, with the place at which the scan starts.
-    pub top: Step,
+    pub top: PathNode,
     /// Whether the leaf at which the search ended comes first. It stands at the place, and is not looked for there again: by
     /// now there may be another entry, with keys out of the range.
     pub leaf: bool,
@@ -32,7 +32,7 @@ pub(crate) fn start_from<G: Gate>(
     table: &HotTable,
     seat: &mut TableSeat,
     gate: &mut G,
-    way: &[Step],
+    way: &[PathNode],
     direction: Direction,
     key: &Key,
     number: u32,
@@ -68,7 +68,7 @@ fn start_at<G: Gate>(
     table: &HotTable,
     seat: &mut TableSeat,
     gate: &mut G,
-    way: &[Step],
+    way: &[PathNode],
     key: &Key,
     _number: u32,
     mismatch: Option<u16>,

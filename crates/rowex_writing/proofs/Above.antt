@@ -4,7 +4,7 @@ use Rattle.std.specs.Prelude.{slice_get}
 use Rattle.compound_node.specs.Nodes.{height_of}
 use Rattle.compound_node.specs.declared.entries.Entry.{Entry}
 use Rattle.compound_node.specs.declared.entries.Entry.TheVariants.{Leaf as LeafEntry, Node}
-use Rattle.insert_cases.specs.declared.choice.Step.{Step}
+use Rattle.insert_cases.specs.declared.choice.PathNode.{PathNode}
 use Rattle.insert_cases.proofs.Choosing.{some_injective}
 use Rattle.pieces.specs.Piece.{Place}
 use Rattle.record_words.specs.declared.layout.Layout.{Layout}
@@ -31,7 +31,7 @@ use Rattle.rowex_writing.specs.Putting.{IsSpotAbove}
 use Rattle.rowex_writing.specs.declared.plan.Span.{Span}
 use Rattle.rowex_writing.proofs.Shapes.{IsStepOf, way_node_locked}
 
-in_range : (xs : List Step) (b n i : ℕ) (s : Step) → slice_get xs i ≡ Some s → b ≤ i → i < b + n → IsOneOf s (take n (drop b xs))
+in_range : (xs : List PathNode) (b n i : ℕ) (s : PathNode) → slice_get xs i ≡ Some s → b ≤ i → i < b + n → IsOneOf s (take n (drop b xs))
 in_range [] b n i s at low high = absurd (let z : None ≡ Some s = at in cc)
 in_range (x ∷ xs) zero zero i s at low high = absurd (omega arith)
 in_range (x ∷ xs) zero (suc n) zero s at low high = inl (sym (some_injective at))
@@ -40,20 +40,20 @@ in_range (x ∷ xs) (suc b) n zero s at low high = absurd (omega arith)
 in_range (x ∷ xs) (suc b) n (suc i) s at low high = in_range xs b n i s at (omega arith) (omega arith)
 
 -- each node of the span is locked, and the one above it
-pub locked_at : (k : Known) (way : List Step) (span : Span) → HasLockedSpan k way span → (i : ℕ) (s : Step) → span.end ≤ i + 1 → i < span.len → slice_get way i ≡ Some s → (words : List ℕ) × HasLocked k s.number words
+pub locked_at : (k : Known) (way : List PathNode) (span : Span) → HasLockedSpan k way span → (i : ℕ) (s : PathNode) → span.end ≤ i + 1 → i < span.len → slice_get way i ≡ Some s → (words : List ℕ) × HasLocked k s.number words
 locked_at k way span locked i s low high at =
     let there = in_range way (span.end - 1) (span.len - (span.end - 1)) i s at (omega arith) (omega arith) in
-    let (lock, is, same) = locked.nodes.0.each s.number (map_of (λ (z : Step). z.number) s (take (span.len - (span.end - 1)) (drop (span.end - 1) way)) there) in
+    let (lock, is, same) = locked.nodes.0.each s.number (map_of (λ (z : PathNode). z.number) s (take (span.len - (span.end - 1)) (drop (span.end - 1) way)) there) in
     (lock.words, subst (λ n. IsOneOf (record { node = n; words = lock.words }) k.locks) same is)
 
 pub lower_entry : (h : ℕ) (e : Entry) → height_of e < h → IsLowerSubtrie h (Place e)
 lower_entry h (LeafEntry n) l = l
 lower_entry h (Node n g) l = l
 
-module _ (layout : Layout) (k : Known) (m : ℕ) (key : Key) (way : List Step) (found : Found) (span : Span) (possible : IsPossible layout k) (w : IsWayOf layout k m key way found) (locked : HasLockedSpan k way span)
+module _ (layout : Layout) (k : Known) (m : ℕ) (key : Key) (way : List PathNode) (found : Found) (span : Span) (possible : IsPossible layout k) (w : IsWayOf layout k m key way found) (locked : HasLockedSpan k way span)
     (checked : IsChecked k key way found span) (within : span.end ≤ span.len) (d : Entry) (names : named way found span.end ≡ Some d) where
   -- The node above the span, with the words under its lock; the entry that it names is lower.
-  pub record IsAbove (s : Step) : Type 0 where
+  pub record IsAbove (s : PathNode) : Type 0 where
     pub low : 0 < span.end
     pub at : slice_get way (span.end - 1) ≡ Some s
     pub words : List ℕ
@@ -62,7 +62,7 @@ module _ (layout : Layout) (k : Known) (m : ℕ) (key : Key) (way : List Step) (
     pub node : IsWayNode layout k m key s d
     pub shows : IsStepOf key s node.forks (node_words_of words)
 
-  above_at : (s : Step) → 0 < span.end → slice_get way (span.end - 1) ≡ Some s → IsAbove s
+  above_at : (s : PathNode) → 0 < span.end → slice_get way (span.end - 1) ≡ Some s → IsAbove s
   above_at s low at =
       let next : span.end - 1 + 1 ≡ span.end = omega arith in
       let named_is : named way found (span.end - 1 + 1) ≡ Some d = ap (named way found) next ∙ names in
@@ -83,8 +83,8 @@ module _ (layout : Layout) (k : Known) (m : ℕ) (key : Key) (way : List Step) (
   -- than the node.
   pub record HoldsAbove (j : Known) (held : List Locked) (spot : Spot) : Type 0 where
     pub holds : HoldsAt j held key d spot
-    pub fits : (e : Entry) → ((s : Step) → IsAbove s → height_of e < s.height) → FitsAt holds e
-    pub alone : (p : ℕ) → ((s : Step) (above : IsAbove s) → (r : Subtrie) × IsSubtrieBelow held d r × AffectsOne p key (node_words_of above.words).subtrie r) → AffectsSpotAlone holds p
+    pub fits : (e : Entry) → ((s : PathNode) → IsAbove s → height_of e < s.height) → FitsAt holds e
+    pub alone : (p : ℕ) → ((s : PathNode) (above : IsAbove s) → (r : Subtrie) × IsSubtrieBelow held d r × AffectsOne p key (node_words_of above.words).subtrie r) → AffectsSpotAlone holds p
 
   pub holds_above : (j : Known) (held : List Locked) → held ≡ k.locks → j.anchor ≡ k.anchor → (spot : Spot) → IsSpotAbove way span.end spot → HoldsAbove j held spot
   holds_above j held locks anchor Root top = record {

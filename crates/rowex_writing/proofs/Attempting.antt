@@ -15,7 +15,7 @@ use Rattle.finite_map.specs.Maps.{Map, key_of, step_if, with_value, without, wra
 use Rattle.finite_map.proofs.Growth.{others_on}
 use Rattle.insert_cases.specs.declared.choice.Case.{Case}
 use Rattle.insert_cases.specs.declared.choice.Case.TheVariants.{LeafPushdown, NormalInsert, Overflow}
-use Rattle.insert_cases.specs.declared.choice.Step.{Step}
+use Rattle.insert_cases.specs.declared.choice.PathNode.{PathNode}
 use Rattle.tries.specs.Keys.{Key}
 use Rattle.versions.specs.State.{IsHeldSince, WasAbsentSince}
 use Rattle.record_words.specs.declared.layout.Layout.{Layout}
@@ -44,7 +44,7 @@ use Rattle.rowex_reading.specs.Ways.{IsWayOf, value_of}
 use Rattle.rowex_writing.specs.declared.plan.Aim.{Aim}
 use Rattle.rowex_writing.specs.declared.plan.Aim.TheVariants.{Insert as ToInsert, Upsert as ToUpsert, Remove as ToRemove}
 use Rattle.rowex_writing.specs.declared.plan.Deed.{Deed}
-use Rattle.rowex_writing.specs.declared.plan.Deed.TheVariants.{Put, Pair, Grow, Take}
+use Rattle.rowex_writing.specs.declared.plan.Deed.TheVariants.{Put, PushDown, Grow, Take}
 use Rattle.rowex_writing.specs.declared.attempts.TryFault.{TryFault}
 use Rattle.rowex_writing.specs.declared.attempts.TryFault.TheVariants.{Busy, FullLeaves}
 use Rattle.rowex_reading.specs.declared.descent.Found.{Found}
@@ -65,19 +65,19 @@ found_later k j key None later same sure =
 found_later k j key (Some value) later same sure =
     subst (λ m. Sure j (λ s. IsHeldSince s m key value)) (sym same) (sure_later {P = λ s. IsHeldSince s (since k) key value} (held_stable (since k) key value) later sure)
 
-affected_later : (k j : Known) (m : ℕ) (key : Key) (way : List Step) (found : Found) (first last : ℕ) → IsLater k j → AreAffected k m key way found first last →
+affected_later : (k j : Known) (m : ℕ) (key : Key) (way : List PathNode) (found : Found) (first last : ℕ) → IsLater k j → AreAffected k m key way found first last →
     AreAffected j m key way found first last
 affected_later k j m key way Nothing first last later a = tt
 affected_later k j m key way (Leaf n v None) first last later a = tt
 affected_later k j m key way (Leaf n v (Some p)) first last later a = λ level s is at.
     let (forks, shaped, affects) = a level s is at in (forks, sure_later {P = λ past. IsShaped past m s.number forks} (shaped_stable m s.number forks) later shaped, affects)
 
-pub planned_later : (k j : Known) (m : ℕ) (key : Key) (way : List Step) (aim : Aim) (found : Found) (plan : Plan) → IsLater k j → IsPlanned k m key way aim found plan →
+pub planned_later : (k j : Known) (m : ℕ) (key : Key) (way : List PathNode) (aim : Aim) (found : Found) (plan : Plan) → IsLater k j → IsPlanned k m key way aim found plan →
     IsPlanned j m key way aim found plan
 planned_later k j m key way aim found plan later (first, last, is, affected) = (first, last, is, affected_later k j m key way found first last later affected)
 
 -- the plan of a call, by a search on the way
-pub plan_made : (layout : Layout) (k j : Known) (m : ℕ) (key : Key) (way shown : List Step) (found : Found) (aim : Aim) (plan : Plan) → shown ≡ way → IsWayOf layout k m key way found →
+pub plan_made : (layout : Layout) (k j : Known) (m : ℕ) (key : Key) (way shown : List PathNode) (found : Found) (aim : Aim) (plan : Plan) → shown ≡ way → IsWayOf layout k m key way found →
     ((m : ℕ) (key : Key) → IsWayOf layout k m key shown found → IsPlanned j m key shown aim found plan) → IsPlanned j m key shown aim found plan
 plan_made layout k j m key way shown found aim plan same w each = each m key (subst (λ z. IsWayOf layout k m key z found) (sym same) w)
 
@@ -93,7 +93,7 @@ is_answer (a_change span deed) = false
 no_answer : {A : Type 0} (reply : Reply) (span : Span) (deed : Deed) → Answer reply ≡ a_change span deed → A
 no_answer reply span deed e = absurd (let z : true ≡ false = ap is_answer e in cc)
 
-new_answer : {A : Type 0} (way : List Step) (p first last : ℕ) (reply : Reply) → IsNewLeafPlan way p first last (Answer reply) → A
+new_answer : {A : Type 0} (way : List PathNode) (p first last : ℕ) (reply : Reply) → IsNewLeafPlan way p first last (Answer reply) → A
 new_answer [] p first last reply e = no_answer reply _ _ e
 new_answer {A} (s ∷ way) p first last reply (level, at, (chosen, choice, case)) = go chosen.case case
   where
@@ -113,7 +113,7 @@ abbrev reply_in : Plan → Reply
 reply_in (Answer reply) = reply
 reply_in (a_change span deed) = Absent
 
-plan_answers : (k : Known) (m : ℕ) (key : Key) (way : List Step) (aim : Aim) (found : Found) (reply : Reply) → IsPlanned k m key way aim found (Answer reply) → Answers aim (value_of found) reply
+plan_answers : (k : Known) (m : ℕ) (key : Key) (way : List PathNode) (aim : Aim) (found : Found) (reply : Reply) → IsPlanned k m key way aim found (Answer reply) → Answers aim (value_of found) reply
 plan_answers k m key way ToInsert Nothing reply (first, last, is, affected) = no_answer reply _ _ is
 plan_answers k m key way ToUpsert Nothing reply (first, last, is, affected) = no_answer reply _ _ is
 plan_answers k m key way ToInsert (Leaf n v (Some p)) reply (first, last, is, affected) = new_answer way p first last reply is
@@ -177,7 +177,7 @@ answers_looked j (Remove key) (Some held) aim reply e answers found = absurd (su
 answers_looked j (RemoveIf key expected) None aim reply e answers found = absurd (cc)
 answers_looked j (RemoveIf key expected) (Some held) aim reply e answers found = absurd (aim_met (λ a. Answers a (Some held) reply) expected (Some held) ToRemove aim e answers)
 
-pub looked : (k j : Known) (m : ℕ) (key : Key) (way : List Step) (call : Call) (held : Option ℕ) (aim : Aim) (found : Found) (reply : Reply) → key ≡ key_of call → held ≡ value_of found →
+pub looked : (k j : Known) (m : ℕ) (key : Key) (way : List PathNode) (call : Call) (held : Option ℕ) (aim : Aim) (found : Found) (reply : Reply) → key ≡ key_of call → held ≡ value_of found →
     aim_of call held ≡ Some aim → IsPlanned k m key way aim found (Answer reply) → HasFound j key (value_of found) → HasLooked j call reply
 looked k j m key way call held aim found reply same is e planned sure =
     answers_looked j call held aim reply e (subst (λ h. Answers aim h reply) (sym is) (plan_answers k m key way aim found reply planned)) (found_for j key (key_of call) held (value_of found) same is sure)
@@ -202,18 +202,18 @@ module _ (i j : Known) (key : Key) (value : ℕ) (found : Found) where
   done_by : (span : Span) (deed other : Deed) (len end : ℕ) → a_change span deed ≡ change len end other → HasDone i j deed key value found → HasDone i j other key value found
   done_by span deed other len end e done = subst (λ d. HasDone i j d key value found) (ap deed_in e) done
 
-  new_done : (way : List Step) (p first last : ℕ) (span : Span) (deed : Deed) → IsNewLeafPlan way p first last (a_change span deed) → HasDone i j deed key value found →
+  new_done : (way : List PathNode) (p first last : ℕ) (span : Span) (deed : Deed) → IsNewLeafPlan way p first last (a_change span deed) → HasDone i j deed key value found →
       HasDone i j Put key value found
-  new_done [] p first last span deed e done = done_by span deed (Pair p) 0 0 e done
+  new_done [] p first last span deed e done = done_by span deed (PushDown p) 0 0 e done
   new_done (s ∷ way) p first last span deed (level, at, (chosen, choice, case)) done = go chosen.case case
     where
       go : (case : Case) → IsCase (s ∷ way) p chosen case (a_change span deed) → HasDone i j Put key value found
-      go LeafPushdown e = done_by span deed (Pair p) _ _ e done
+      go LeafPushdown e = done_by span deed (PushDown p) _ _ e done
       go NormalInsert e = done_by span deed (Grow p) _ _ e done
       go Overflow (end, upto, e) = done_by span deed (Grow p) _ _ e done
 
 -- the change is the one that was aimed at
-plan_does : (i j k : Known) (m : ℕ) (key : Key) (value : ℕ) (way : List Step) (aim : Aim) (found : Found) (span : Span) (deed : Deed) →
+plan_does : (i j k : Known) (m : ℕ) (key : Key) (value : ℕ) (way : List PathNode) (aim : Aim) (found : Found) (span : Span) (deed : Deed) →
     IsPlanned k m key way aim found (a_change span deed) → HasDone i j deed key value found → HasMadeAim i j key value aim (value_of found)
 plan_does i j k m key value way ToInsert Nothing span deed (first, last, is, affected) done = done_by i j key value Nothing span deed Put 0 0 is done
 plan_does i j k m key value way ToUpsert Nothing span deed (first, last, is, affected) done = done_by i j key value Nothing span deed Put 0 0 is done
@@ -262,13 +262,13 @@ module _ (q : ℕ) (x : Change) (was : Option ℕ) where
       let (x_is, was_is) = aim_met (λ a. IsMade q key 0 a (Some held) x was) expected (Some held) ToRemove aim e made in
       is_change_of (RemoveIf key expected) (Some held) TakenAway held (expected_effect (effect_of (RemoveIf key expected)) (nat_eq held expected) ToRemove aim held _ e) x_is was_is
 
-takes : (k : Known) (m : ℕ) (key : Key) (way : List Step) (found : Found) (span : Span) (deed : Deed) → IsPlanned k m key way ToRemove found (a_change span deed) → deed ≡ Take
+takes : (k : Known) (m : ℕ) (key : Key) (way : List PathNode) (found : Found) (span : Span) (deed : Deed) → IsPlanned k m key way ToRemove found (a_change span deed) → deed ≡ Take
 takes k m key way Nothing span deed (first, last, is, affected) = no_answer _ span deed (sym is)
 takes k m key way (Leaf n v (Some p)) span deed (first, last, is, affected) = no_answer _ span deed (sym is)
 takes k m key way (Leaf n v None) span deed (first, last, is, affected) = ap deed_in is
 
 -- a removal that changes the map takes a leaf away
-pub removal_takes : (k : Known) (m : ℕ) (key : Key) (way : List Step) (aim : Aim) (found : Found) (plan : Plan) (span : Span) (deed : Deed) → aim ≡ ToRemove →
+pub removal_takes : (k : Known) (m : ℕ) (key : Key) (way : List PathNode) (aim : Aim) (found : Found) (plan : Plan) (span : Span) (deed : Deed) → aim ≡ ToRemove →
     plan ≡ a_change span deed → IsPlanned k m key way aim found plan → deed ≡ Take
 removal_takes k m key way aim found plan span deed e is planned =
     takes k m key way found span deed (subst (λ a. IsPlanned k m key way a found (a_change span deed)) e (subst (IsPlanned k m key way aim found) is planned))
@@ -385,7 +385,7 @@ leaves_refused Leaves e = refl
 pub answered_look : (k j : Known) (call : Call) (reply : Reply) → IsLater k j → HasLooked j call reply → HasAnswered k j call reply
 answered_look k j call reply later looked = inl (looked, later.front)
 
-pub answered_change : (k p i j : Known) (m : ℕ) (key : Key) (value : ℕ) (way : List Step) (call : Call) (held : Option ℕ) (aim : Aim) (found : Found) (span : Span) (deed : Deed) → IsLater k i →
+pub answered_change : (k p i j : Known) (m : ℕ) (key : Key) (value : ℕ) (way : List PathNode) (call : Call) (held : Option ℕ) (aim : Aim) (found : Found) (span : Span) (deed : Deed) → IsLater k i →
     key ≡ key_of call → value ≡ value_in call held → held ≡ value_of found → aim_of call held ≡ Some aim → IsPlanned p m key way aim found (a_change span deed) → HasDone i j deed key value found →
     HasAnswered k j call (reply_to call held)
 answered_change k p i j m key value way call held aim found span deed later key_is value_is held_is e planned done =

@@ -10,7 +10,7 @@ use Rattle.insert_cases.specs.Ways.{case_of}
 use Rattle.insert_cases.specs.declared.choice.Case.{Case}
 use Rattle.insert_cases.specs.declared.choice.Case.TheVariants.{LeafPushdown, NormalInsert, Overflow}
 use Rattle.insert_cases.specs.declared.choice.Choice.{Choice}
-use Rattle.insert_cases.specs.declared.choice.Step.{Step}
+use Rattle.insert_cases.specs.declared.choice.PathNode.{PathNode}
 use Rattle.insert_cases.proofs.Affecting.{key_part}
 use Rattle.insert_cases.proofs.Choosing.{some_injective, some_at}
 use Rattle.versions.specs.Heap.{NodeWords}
@@ -57,7 +57,7 @@ use Rattle.rowex_reading.specs.Ways.{IsWayNode, IsWayOf, end_of, named}
 use Rattle.rowex_reading.proofs.Ways.{named_at, named_end}
 use Rattle.rowex_writing.specs.declared.plan.Aim.{Aim}
 use Rattle.rowex_writing.specs.declared.plan.Aim.TheVariants.{Insert, Upsert, Remove}
-use Rattle.rowex_writing.specs.declared.plan.Deed.TheVariants.{Grow, Pair, Put, Take}
+use Rattle.rowex_writing.specs.declared.plan.Deed.TheVariants.{Grow, PushDown, Put, Take}
 use Rattle.rowex_reading.specs.declared.descent.Found.{Found}
 use Rattle.rowex_reading.specs.declared.descent.Found.TheVariants.{Nothing, Leaf}
 use Rattle.rowex_writing.specs.declared.plan.Plan.{Plan}
@@ -72,7 +72,7 @@ use Rattle.tries.specs.Place.{spot}
 
 -- ---- the plan
 -- a plan by which a node gets the new leaf
-pub record IsGrowPlan (k : Known) (m : ℕ) (key : Key) (way : List Step) (found : Found) (len end position : ℕ) : Type 0 where
+pub record IsGrowPlan (k : Known) (m : ℕ) (key : Key) (way : List PathNode) (found : Found) (len end position : ℕ) : Type 0 where
   pub number : ℕ
   pub value : ℕ
   pub level : ℕ
@@ -87,21 +87,21 @@ pub record IsGrowPlan (k : Known) (m : ℕ) (key : Key) (way : List Step) (found
   pub affected : AreAffected k m key way (Leaf number value (Some position)) low high
 
 -- what the choice is, and why
-abbrev IsSeveral : List Step → (level first last : ℕ) → Choice → Type 0
-IsSeveral way level first last c = (first < last) × (s : Step) × (slice_get way level ≡ Some s) × (c ≡ record { level = level; first = first; last = last; case = case_of s.height s.count false })
+abbrev IsSeveral : List PathNode → (level first last : ℕ) → Choice → Type 0
+IsSeveral way level first last c = (first < last) × (s : PathNode) × (slice_get way level ≡ Some s) × (c ≡ record { level = level; first = first; last = last; case = case_of s.height s.count false })
 
-abbrev IsNext : List Step → (level first last : ℕ) → Choice → Type 0
+abbrev IsNext : List PathNode → (level first last : ℕ) → Choice → Type 0
 IsNext way level first last c =
-    (last ≤ first) × (s : Step) × (slice_get way (level + 1) ≡ Some s) × (c ≡ record { level = level + 1; first = 0; last = s.count - 1; case = case_of s.height s.count false })
+    (last ≤ first) × (s : PathNode) × (slice_get way (level + 1) ≡ Some s) × (c ≡ record { level = level + 1; first = 0; last = s.count - 1; case = case_of s.height s.count false })
 
-abbrev IsOnLeaf : List Step → (level first last : ℕ) → Choice → Type 0
+abbrev IsOnLeaf : List PathNode → (level first last : ℕ) → Choice → Type 0
 IsOnLeaf way level first last c =
-    (last ≤ first) × (length way ≤ level + 1) × (s : Step) × (slice_get way level ≡ Some s) × (c ≡ record { level = level; first = first; last = last; case = case_of s.height s.count true })
+    (last ≤ first) × (length way ≤ level + 1) × (s : PathNode) × (slice_get way level ≡ Some s) × (c ≡ record { level = level; first = first; last = last; case = case_of s.height s.count true })
 
-chosen_is : (way : List Step) (level first last : ℕ) (c : Choice) → level < length way → IsChosen way level first last c → IsSeveral way level first last c ⊎ (IsNext way level first last c ⊎ IsOnLeaf way level first last c)
+chosen_is : (way : List PathNode) (level first last : ℕ) (c : Choice) → level < length way → IsChosen way level first last c → IsSeveral way level first last c ⊎ (IsNext way level first last c ⊎ IsOnLeaf way level first last c)
 chosen_is way level first last c h is = ⊎_elim several (λ o. ⊎_elim (next o) (leaf o) (cases_lt (level + 1) (length way))) (cases_lt first last)
   where
-    here : (s : Step) × (slice_get way level ≡ Some s)
+    here : (s : PathNode) × (slice_get way level ≡ Some s)
     here = some_at way level h
 
     several : first < last → IsSeveral way level first last c ⊎ (IsNext way level first last c ⊎ IsOnLeaf way level first last c)
@@ -114,7 +114,7 @@ chosen_is way level first last c h is = ⊎_elim several (λ o. ⊎_elim (next o
     leaf o m = inr (inr (o, m, here.0, here.1, is.leaf o m here.0 here.1))
 
 -- it goes by the count of the chosen node
-case_there : (way : List Step) (level first last : ℕ) (c : Choice) → level < length way → IsChosen way level first last c → (s : Step) → slice_get way c.level ≡ Some s → (b : Bool) × (c.case ≡ case_of s.height s.count b)
+case_there : (way : List PathNode) (level first last : ℕ) (c : Choice) → level < length way → IsChosen way level first last c → (s : PathNode) → slice_get way c.level ≡ Some s → (b : Bool) × (c.case ≡ case_of s.height s.count b)
 case_there way level first last c h is s at = elim (chosen_is way level first last c h is) [
   | inl (o, u, e, c_is) ↦ (false, by u level false e (ap (λ (z : Choice). z.level) c_is) (ap (λ (z : Choice). z.case) c_is))
   | inr o ↦ elim o [
@@ -123,8 +123,8 @@ case_there way level first last c h is s at = elim (chosen_is way level first la
   ]
 ]
   where
-    by : (u : Step) (l : ℕ) (b : Bool) → slice_get way l ≡ Some u → c.level ≡ l → c.case ≡ case_of u.height u.count b → c.case ≡ case_of s.height s.count b
-    by u l b e level_is case = let same : u ≡ s = some_injective (sym e ∙ (ap (slice_get way) (sym level_is) ∙ at)) in case ∙ ap (λ (z : Step). case_of z.height z.count b) same
+    by : (u : PathNode) (l : ℕ) (b : Bool) → slice_get way l ≡ Some u → c.level ≡ l → c.case ≡ case_of u.height u.count b → c.case ≡ case_of s.height s.count b
+    by u l b e level_is case = let same : u ≡ s = some_injective (sym e ∙ (ap (slice_get way) (sym level_is) ∙ at)) in case ∙ ap (λ (z : PathNode). case_of z.height z.count b) same
 
 case_room : (h n : ℕ) (b : Bool) → case_of h n b ≡ NormalInsert → n < 32
 case_room h n b is = ltb-true n 32 (go (b && nat_lt 1 h) (nat_lt n 32) is)
@@ -135,7 +135,7 @@ case_room h n b is = ltb-true n 32 (go (b && nat_lt 1 h) (nat_lt n 32) is)
     go false false e = absurd cc
 
 -- a node with room is the end of its chain
-one_chain : (way : List Step) (level first last : ℕ) (c : Choice) → level < length way → IsChosen way level first last c → c.case ≡ NormalInsert → IsChainEnd way c.level c.level
+one_chain : (way : List PathNode) (level first last : ℕ) (c : Choice) → level < length way → IsChosen way level first last c → c.case ≡ NormalInsert → IsChainEnd way c.level c.level
 one_chain way level first last c h is case = record {
   upto = omega arith;
   pulls = λ l s u le lt e f. absurd (omega arith);
@@ -154,10 +154,10 @@ abbrev IsGrowOf : (position : ℕ) → Plan → Type 0
 IsGrowOf position (Answer reply) = ⊥
 IsGrowOf position (Change span (Grow p)) = p ≡ position
 IsGrowOf position (Change span (Put)) = ⊥
-IsGrowOf position (Change span (Pair p)) = ⊥
+IsGrowOf position (Change span (PushDown p)) = ⊥
 IsGrowOf position (Change span (Take)) = ⊥
 
-module _ (k : Known) (m : ℕ) (key : Key) (way : List Step) (len end position : ℕ) where
+module _ (k : Known) (m : ℕ) (key : Key) (way : List PathNode) (len end position : ℕ) where
   abbrev plan : Plan
   plan = change len end (Grow position)
 
@@ -192,7 +192,7 @@ module _ (k : Known) (m : ℕ) (key : Key) (way : List Step) (len end position :
   new_leaf : (number value p low high : ℕ) → IsNewLeafPlan way p low high plan → AreAffected k m key way (Leaf number value (Some p)) low high → IsGrowPlan k m key way (Leaf number value (Some p)) len end position
   new_leaf number value p low high is affected = go way refl is
     where
-      go : (w : List Step) → w ≡ way → IsNewLeafPlan w p low high plan → IsGrowPlan k m key way (Leaf number value (Some p)) len end position
+      go : (w : List PathNode) → w ≡ way → IsNewLeafPlan w p low high plan → IsGrowPlan k m key way (Leaf number value (Some p)) len end position
       go [] e same = absurd (no_other _ same (λ z. z))
       go (s ∷ ss) e (level, at, (c, chosen, case)) =
           by_case number value p level low high c c.case refl (subst (λ w. IsLevel w p level) e at) (subst (λ w. IsChosen w level low high c) e chosen) affected (subst (λ w. IsCase w p c c.case plan) e case)
@@ -259,10 +259,10 @@ module _ (layout : Layout) (k : Known) (m : ℕ) (key : Key) (number value p : �
   abbrev found : Found
   found = Leaf number value (Some p)
 
-  abbrev AreWay : List Step → Type 0
-  AreWay way = (i : ℕ) (s : Step) → slice_get way i ≡ Some s → (e : Entry) × (named way found (i + 1) ≡ Some e) × IsWayNode layout k m key s e
+  abbrev AreWay : List PathNode → Type 0
+  AreWay way = (i : ℕ) (s : PathNode) → slice_get way i ≡ Some s → (e : Entry) × (named way found (i + 1) ≡ Some e) × IsWayNode layout k m key s e
 
-  rest_of : (s : Step) (way : List Step) → AreWay (s ∷ way) → AreWay way
+  rest_of : (s : PathNode) (way : List PathNode) → AreWay (s ∷ way) → AreWay way
   rest_of s way nodes i u at =
       let later : suc i + 1 ≡ suc (i + 1) = omega arith in subst (λ z. (e : Entry) × (named (s ∷ way) found z ≡ Some e) × IsWayNode layout k m key u e) later (nodes (suc i) u at)
 
@@ -270,7 +270,7 @@ module _ (layout : Layout) (k : Known) (m : ℕ) (key : Key) (number value p : �
   sure_read = seen_is_sure k (λ s. IsRead s m number l value) (λ a b g. read_grown a b g m number l value) read
 
   -- from a node of the way down to the leaf
-  goes_down : (r a : ℕ) (way : List Step) → AreWay way → (e : Entry) → named way found 0 ≡ Some e → IsSure k (λ s. IsOnWay s m r a e) → IsSure k (λ s. IsOnWay s m r a (LeafEntry number))
+  goes_down : (r a : ℕ) (way : List PathNode) → AreWay way → (e : Entry) → named way found 0 ≡ Some e → IsSure k (λ s. IsOnWay s m r a e) → IsSure k (λ s. IsOnWay s m r a (LeafEntry number))
   goes_down r a [] nodes e is on = subst (λ z. IsSure k (λ s. IsOnWay s m r a z)) (sym (some_injective is)) on
   goes_down r a (s ∷ way) nodes e is on =
       let (next, named_is, node) = nodes 0 s refl in
@@ -279,7 +279,7 @@ module _ (layout : Layout) (k : Known) (m : ℕ) (key : Key) (number value p : �
       (descent_goes_on k m r a s.number s.height s.at next since (subst (λ z. IsSure k (λ s. IsOnWay s m r a z)) (sym (some_injective is)) on) placed)
 
   -- from what the way names at a level
-  pub way_from : (way : List Step) → AreWay way → (i : ℕ) (e : Entry) → named way found i ≡ Some e → IsSure k (λ s. IsWayFrom s m l e)
+  pub way_from : (way : List PathNode) → AreWay way → (i : ℕ) (e : Entry) → named way found i ≡ Some e → IsSure k (λ s. IsWayFrom s m l e)
   way_from [] nodes i e is = subst (λ z. IsSure k (λ s. IsWayFrom s m l z)) (some_injective is) (λ c law recalls. way_of_leaf c.past m number l value (sure_read c law recalls))
   way_from (s ∷ way) nodes zero e is =
       let (next, named_is, node) = nodes 0 s refl in
@@ -292,14 +292,14 @@ module _ (layout : Layout) (k : Known) (m : ℕ) (key : Key) (number value p : �
   way_from (s ∷ way) nodes (suc i) e is = way_from way (rest_of s way nodes) i e is
 
 -- ---- the locked nodes of a span
-module _ (layout : Layout) (k : Known) (m : ℕ) (key : Key) (way : List Step) (found : Found) (span : Span) (possible : IsPossible layout k) (own : k.own ≡ []) (w : IsWayOf layout k m key way found) (locked : HasLockedSpan k way span)
+module _ (layout : Layout) (k : Known) (m : ℕ) (key : Key) (way : List PathNode) (found : Found) (span : Span) (possible : IsPossible layout k) (own : k.own ≡ []) (w : IsWayOf layout k m key way found) (locked : HasLockedSpan k way span)
     (checked : IsChecked k key way found span) where
   -- each is locked
-  pub held_at : (i : ℕ) (s : Step) → span.end ≤ i + 1 → i < span.len → slice_get way i ≡ Some s → (words : List ℕ) × HasLocked k s.number words
+  pub held_at : (i : ℕ) (s : PathNode) → span.end ≤ i + 1 → i < span.len → slice_get way i ≡ Some s → (words : List ℕ) × HasLocked k s.number words
   held_at i s low high at = locked_at k way span locked i s low high at
 
   -- what its words show
-  step_at : (i : ℕ) (s : Step) (at : slice_get way i ≡ Some s) (words : List ℕ) → HasLocked k s.number words → IsStepOf key s (w.nodes i s at).2.forks (node_words_of words)
+  step_at : (i : ℕ) (s : PathNode) (at : slice_get way i ≡ Some s) (words : List ℕ) → HasLocked k s.number words → IsStepOf key s (w.nodes i s at).2.forks (node_words_of words)
   step_at i s at words h = let n = w.nodes i s at in way_node_locked layout k m key s n.0 words possible w.since n.2 h
 
   forked : (n : ℕ) (words : List ℕ) → HasLocked k n words → IsForked (node_words_of words).subtrie
@@ -312,7 +312,7 @@ module _ (layout : Layout) (k : Known) (m : ℕ) (key : Key) (way : List Step) (
       forked_big (node_words_of words).subtrie (let e = ap size subtrie_is ∙ size-piece view has.lawful in let l = has.lawful.several in omega (arith, e))
 
   -- the locked node above names the one below, which is lower
-  over : (p i : ℕ) (s u : Step) (ws wu : List ℕ) → span.end ≤ i + 1 → i < span.len → slice_get way i ≡ Some s → slice_get way (i + 1) ≡ Some u → HasLocked k s.number ws → HasLocked k u.number wu →
+  over : (p i : ℕ) (s u : PathNode) (ws wu : List ℕ) → span.end ≤ i + 1 → i < span.len → slice_get way i ≡ Some s → slice_get way (i + 1) ≡ Some u → HasLocked k s.number ws → HasLocked k u.number wu →
       FirstForkIsBefore p (node_words_of wu).subtrie ⊎ IsTipSubtrie (subtrie_affected p key (node_words_of ws).subtrie) → IsLockedAbove k.locks key p s.number u.number
   over p i s u ws wu low high at next hs hu path = record {
     upper = ws;
@@ -324,7 +324,7 @@ module _ (layout : Layout) (k : Known) (m : ℕ) (key : Key) (way : List Step) (
     path = path;
   }
 
-  falls : (i : ℕ) (s u : Step) (ws wu : List ℕ) → slice_get way i ≡ Some s → slice_get way (i + 1) ≡ Some u → HasLocked k s.number ws → HasLocked k u.number wu → (node_words_of wu).fixed.height < (node_words_of ws).fixed.height
+  falls : (i : ℕ) (s u : PathNode) (ws wu : List ℕ) → slice_get way i ≡ Some s → slice_get way (i + 1) ≡ Some u → HasLocked k s.number ws → HasLocked k u.number wu → (node_words_of wu).fixed.height < (node_words_of ws).fixed.height
   falls i s u ws wu at next hs hu =
       let n = w.nodes i s at in
       let same : n.0 ≡ Node u.number u.height = some_injective (sym n.1 ∙ named_at way found (i + 1) u next) in
@@ -332,7 +332,7 @@ module _ (layout : Layout) (k : Known) (m : ℕ) (key : Key) (way : List Step) (
       omega (arith, n.2.below, high, (step_at i s at ws hs).height, (step_at (i + 1) u next wu hu).height)
 
 -- ---- where a new leaf goes
-module _ (layout : Layout) (k : Known) (m : ℕ) (key : Key) (way : List Step) (found : Found) (span : Span) (possible : IsPossible layout k) (own : k.own ≡ []) (w : IsWayOf layout k m key way found) (locked : HasLockedSpan k way span)
+module _ (layout : Layout) (k : Known) (m : ℕ) (key : Key) (way : List PathNode) (found : Found) (span : Span) (possible : IsPossible layout k) (own : k.own ≡ []) (w : IsWayOf layout k m key way found) (locked : HasLockedSpan k way span)
     (checked : IsChecked k key way found span) (position : ℕ) (plan : IsGrowPlan k m key way found span.len span.end position) where
   abbrev top : ℕ
   top = plan.chosen.level
@@ -345,7 +345,7 @@ module _ (layout : Layout) (k : Known) (m : ℕ) (key : Key) (way : List Step) (
   top_below = sym plan.len_is
 
   -- at the level the insertion affects these entries
-  affected_at : (s : Step) → slice_get way plan.level ≡ Some s → (words : List ℕ) → HasLocked k s.number words → AffectsJust key position plan.low plan.high (node_words_of words).subtrie
+  affected_at : (s : PathNode) → slice_get way plan.level ≡ Some s → (words : List ℕ) → HasLocked k s.number words → AffectsJust key position plan.low plan.high (node_words_of words).subtrie
   affected_at s at words h =
       let (forks, shaped, affects) = plan.affected plan.level s plan.is_level at in
       let n = w.nodes plan.level s at in
@@ -353,11 +353,11 @@ module _ (layout : Layout) (k : Known) (m : ℕ) (key : Key) (way : List Step) (
       shape_affects key position plan.low plan.high (node_words_of words).subtrie forks same affects
 
   -- one entry is affected there
-  tip_at : plan.high ≤ plan.low → (s : Step) → slice_get way plan.level ≡ Some s → (words : List ℕ) → HasLocked k s.number words → IsTipSubtrie (subtrie_affected position key (node_words_of words).subtrie)
+  tip_at : plan.high ≤ plan.low → (s : PathNode) → slice_get way plan.level ≡ Some s → (words : List ℕ) → HasLocked k s.number words → IsTipSubtrie (subtrie_affected position key (node_words_of words).subtrie)
   tip_at few s at words h = let count = size_affected key position plan.low plan.high (node_words_of words).subtrie (affected_at s at words h) in tip_of_one_place (subtrie_affected position key (node_words_of words).subtrie) (omega (arith, count))
 
   -- the chosen node's affected part
-  pub part_at : (s : Step) → slice_get way top ≡ Some s → (words : List ℕ) → HasLocked k s.number words → IsPartSubtrie (subtrie_affected position key (node_words_of words).subtrie)
+  pub part_at : (s : PathNode) → slice_get way top ≡ Some s → (words : List ℕ) → HasLocked k s.number words → IsPartSubtrie (subtrie_affected position key (node_words_of words).subtrie)
   part_at s at words h = elim (chosen_is way plan.level plan.low plan.high plan.chosen plan.is_level.within plan.is_chosen) [
     | inl (several, u, there, is) ↦
         let here : slice_get way plan.level ≡ Some s = ap (slice_get way) (sym (ap (λ (c : Choice). c.level) is)) ∙ at in
@@ -381,11 +381,11 @@ module _ (layout : Layout) (k : Known) (m : ℕ) (key : Key) (way : List Step) (
   ]
 
   -- where the key's search leads in the chosen node, as it did before
-  pub leads_at : (s : Step) → slice_get way top ≡ Some s → (words : List ℕ) → HasLocked k s.number words → spot key (node_words_of words).subtrie ≡ s.at
+  pub leads_at : (s : PathNode) → slice_get way top ≡ Some s → (words : List ℕ) → HasLocked k s.number words → spot key (node_words_of words).subtrie ≡ s.at
   leads_at s at words h = let (e, is, node) = w.nodes top s at in (way_node_locked layout k m key s e words possible w.since node h).at
 
   -- above the chosen node the insertion affects no more than the place on the way
-  last_path : (i : ℕ) (s u : Step) (ws wu : List ℕ) → i + 1 ≡ top → slice_get way i ≡ Some s → slice_get way (i + 1) ≡ Some u → HasLocked k s.number ws → HasLocked k u.number wu →
+  last_path : (i : ℕ) (s u : PathNode) (ws wu : List ℕ) → i + 1 ≡ top → slice_get way i ≡ Some s → slice_get way (i + 1) ≡ Some u → HasLocked k s.number ws → HasLocked k u.number wu →
       FirstForkIsBefore position (node_words_of wu).subtrie ⊎ IsTipSubtrie (subtrie_affected position key (node_words_of ws).subtrie)
   last_path i s u ws wu next at below hs hu = elim (chosen_is way plan.level plan.low plan.high plan.chosen plan.is_level.within plan.is_chosen) [
     | inl (several, v, there, is) ↦ inl (under (ap (λ (c : Choice). c.level) is))
@@ -406,7 +406,7 @@ module _ (layout : Layout) (k : Known) (m : ℕ) (key : Key) (way : List Step) (
           let of_step = step_at layout k m key way found span possible own w locked checked plan.level u here wu hu in
           below_first position (node_words_of wu).subtrie (forked layout k m key way found span possible own w locked checked u.number wu hu) (omega (arith, low, of_step.first))
 
-  path : (d i : ℕ) (s u : Step) (ws wu : List ℕ) → i + 1 + d ≡ top → span.end ≤ i + 1 → slice_get way i ≡ Some s → slice_get way (i + 1) ≡ Some u → HasLocked k s.number ws → HasLocked k u.number wu →
+  path : (d i : ℕ) (s u : PathNode) (ws wu : List ℕ) → i + 1 + d ≡ top → span.end ≤ i + 1 → slice_get way i ≡ Some s → slice_get way (i + 1) ≡ Some u → HasLocked k s.number ws → HasLocked k u.number wu →
       FirstForkIsBefore position (node_words_of wu).subtrie ⊎ IsTipSubtrie (subtrie_affected position key (node_words_of ws).subtrie)
   unfolding over
   path zero i s u ws wu far low at below hs hu = last_path i s u ws wu (omega arith) at below hs hu
@@ -417,15 +417,15 @@ module _ (layout : Layout) (k : Known) (m : ℕ) (key : Key) (way : List Step) (
       let (c, stage) = stage_of_held layout k [] possible (own, tt) tt in
       inl (above_goes_on layout k k.locks [] c stage key position u.number v.number above)
 
-  pub over_at : (i : ℕ) (s u : Step) (ws wu : List ℕ) → span.end ≤ i + 1 → i < top → slice_get way i ≡ Some s → slice_get way (i + 1) ≡ Some u → HasLocked k s.number ws → HasLocked k u.number wu → IsLockedAbove k.locks key position s.number u.number
+  pub over_at : (i : ℕ) (s u : PathNode) (ws wu : List ℕ) → span.end ≤ i + 1 → i < top → slice_get way i ≡ Some s → slice_get way (i + 1) ≡ Some u → HasLocked k s.number ws → HasLocked k u.number wu → IsLockedAbove k.locks key position s.number u.number
   over_at i s u ws wu low high at below hs hu =
       over layout k m key way found span possible own w locked checked position i s u ws wu low (omega (arith, top_below)) at below hs hu (path (top - (i + 1)) i s u ws wu (omega arith) low at below hs hu)
 
   -- a full node, where its step says so
-  full_at : (i : ℕ) (s : Step) → slice_get way i ≡ Some s → s.count ≡ 32 → (words : List ℕ) → HasLocked k s.number words → size (node_words_of words).subtrie ≡ 32
+  full_at : (i : ℕ) (s : PathNode) → slice_get way i ≡ Some s → s.count ≡ 32 → (words : List ℕ) → HasLocked k s.number words → size (node_words_of words).subtrie ≡ 32
   full_at i s at full words h = (step_at layout k m key way found span possible own w locked checked i s at words h).count ∙ full
 
-  pub pulled_full : (i : ℕ) (s : Step) → span.end < i → i ≤ top → slice_get way i ≡ Some s → (words : List ℕ) → HasLocked k s.number words → size (node_words_of words).subtrie ≡ 32
+  pub pulled_full : (i : ℕ) (s : PathNode) → span.end < i → i ≤ top → slice_get way i ≡ Some s → (words : List ℕ) → HasLocked k s.number words → size (node_words_of words).subtrie ≡ 32
   pulled_full i s low high at words h =
       let next : i - 1 + 1 ≡ i = omega arith in
       let (u, above) = some_at way (i - 1) (omega (arith, top_within)) in
@@ -444,7 +444,7 @@ module _ (layout : Layout) (k : Known) (m : ℕ) (key : Key) (way : List Step) (
 
   -- ---- the spot above the topmost node
   -- an entry that fits above may stand there
-  pub spot_of : (u : Step) (wu : List ℕ) (e : Entry) → slice_get way span.end ≡ Some u → HasLocked k u.number wu → FitsAbove wu e → (spot : Spot) → IsSpotAbove way span.end spot → IsSpotOf k k.locks key position u.number e spot
+  pub spot_of : (u : PathNode) (wu : List ℕ) (e : Entry) → slice_get way span.end ≡ Some u → HasLocked k u.number wu → FitsAbove wu e → (spot : Spot) → IsSpotAbove way span.end spot → IsSpotOf k k.locks key position u.number e spot
   unfolding over_at held_at over
   spot_of u wu e below hu fits spot is =
       let h = holds_above layout k m key way found span possible w locked checked (omega (arith, top_below, plan.chain.upto)) (Node u.number u.height) (named_at way found span.end u below) k k.locks refl refl spot is in
@@ -467,8 +467,8 @@ module _ (layout : Layout) (k : Known) (m : ℕ) (key : Key) (way : List Step) (
       strictly e l h fits low apart = ⊎_elim (λ o. omega arith) (λ o. absurd (apart (omega arith))) (cases_lt (l + 1) h)
 
 -- ---- below the chosen node
-pub found_below : (layout : Layout) (k : Known) (m : ℕ) (key : Key) (way : List Step) (number value p : ℕ) (span : Span) → IsWayOf layout k m key way (Leaf number value (Some p)) → IsChecked k key way (Leaf number value (Some p)) span →
-    (x : ℕ) (given : ℕ) → HasLeafWords (key, given) → (i : ℕ) (s : Step) (words : List ℕ) → span.end ≤ i + 1 → i < span.len → slice_get way i ≡ Some s → HasLocked k s.number words →
+pub found_below : (layout : Layout) (k : Known) (m : ℕ) (key : Key) (way : List PathNode) (number value p : ℕ) (span : Span) → IsWayOf layout k m key way (Leaf number value (Some p)) → IsChecked k key way (Leaf number value (Some p)) span →
+    (x : ℕ) (given : ℕ) → HasLeafWords (key, given) → (i : ℕ) (s : PathNode) (words : List ℕ) → span.end ≤ i + 1 → i < span.len → slice_get way i ≡ Some s → HasLocked k s.number words →
     (l : Key) × HasFoundBelow k k.locks m (item x key given) p l s.number words
 found_below layout k m key way number value p span w checked x given spelled i s words low high at h =
     let (l, read, apart) = w.found_at in

@@ -4,7 +4,7 @@ use Rattle.std.specs.Prelude.{All, slice_get, slice_range}
 use Rattle.std.proofs.lemmas.Bool.{cases_lt}
 use Rattle.compound_node.specs.declared.entries.Entry.{Entry}
 use Rattle.compound_node.specs.declared.entries.Entry.TheVariants.{Node}
-use Rattle.insert_cases.specs.declared.choice.Step.{Step}
+use Rattle.insert_cases.specs.declared.choice.PathNode.{PathNode}
 use Rattle.pieces.specs.Piece.{Place, size}
 use Rattle.record_words.specs.declared.layout.Layout.{Layout}
 use Rattle.record_words.specs.Entry.{HasEntryWord, entry_word}
@@ -194,14 +194,14 @@ module _ {layout : Layout} {k j : Known} (p : Pin) (pinned : k.pin ≡ Some p) (
 -- ---- the nodes of a span
 
 -- each node above the index stands as the search found it
-abbrev pub StandBelow : Layout → Known → List Step → Found → Span → ℕ → Type 0
+abbrev pub StandBelow : Layout → Known → List PathNode → Found → Span → ℕ → Type 0
 StandBelow layout k way found span index = (m : ℕ) (key : Key) → IsWayOf layout k m key way found → EntriesStand k key way found (record { len = index; end = span.end })
 
-pub none_stand : (layout : Layout) (k : Known) (way : List Step) (found : Found) (span : Span) (index : ℕ) → index ≡ span.end - 1 → StandBelow layout k way found span index
+pub none_stand : (layout : Layout) (k : Known) (way : List PathNode) (found : Found) (span : Span) (index : ℕ) → index ≡ span.end - 1 → StandBelow layout k way found span index
 none_stand layout k way found span index is m key w i s low high at words h = absurd (omega arith)
 
-pub more_stand : (layout : Layout) (k : Known) (way : List Step) (found : Found) (span : Span) (index : ℕ) → IsPossible layout k → StandBelow layout k way found span index →
-    ((s : Step) → slice_get way index ≡ Some s → (words : List ℕ) → HasLocked k s.number words → named way found (index + 1) ≡ Some (entry_at (node_words_of words).subtrie s.at)) →
+pub more_stand : (layout : Layout) (k : Known) (way : List PathNode) (found : Found) (span : Span) (index : ℕ) → IsPossible layout k → StandBelow layout k way found span index →
+    ((s : PathNode) → slice_get way index ≡ Some s → (words : List ℕ) → HasLocked k s.number words → named way found (index + 1) ≡ Some (entry_at (node_words_of words).subtrie s.at)) →
     StandBelow layout k way found span (index + 1)
 more_stand layout k way found span index possible above here m key w i s low high at words h = go (cases_lt i index)
   where
@@ -215,7 +215,7 @@ more_stand layout k way found span index possible above here m key w i s low hig
         ap Some (ap (entry_at (node_words_of words).subtrie) (sym step.at) ∙ sym (seek_spot key (node_words_of words).subtrie)))
 
 -- ---- a step of the way, some loads later
-module _ (layout : Layout) (k j : Known) (m : ℕ) (key : Key) (way : List Step) (found : Found) (later : IsLater k j) (w : IsWayOf layout k m key way found) (i : ℕ) (s : Step)
+module _ (layout : Layout) (k j : Known) (m : ℕ) (key : Key) (way : List PathNode) (found : Found) (later : IsLater k j) (w : IsWayOf layout k m key way found) (i : ℕ) (s : PathNode)
     (at : slice_get way i ≡ Some s) where
   pub step_place : HasPlace j m s.number s.height s.at
   step_place =
@@ -241,14 +241,14 @@ take_has (y ∷ xs) (suc n) zero x low at = inl (let e : x ≡ y = cc in e)
 take_has (y ∷ xs) (suc n) (suc i) x low at = inr (take_has xs n i x (omega arith) at)
 
 -- each node of the span is locked
-pub span_locked : (k j : Known) (way : List Step) (span : Span) → j.locks ≡ k.locks → HasLockedSpan k way span → (i : ℕ) (s : Step) → span.end ≤ i + 1 → i < span.len → slice_get way i ≡ Some s →
+pub span_locked : (k j : Known) (way : List PathNode) (span : Span) → j.locks ≡ k.locks → HasLockedSpan k way span → (i : ℕ) (s : PathNode) → span.end ≤ i + 1 → i < span.len → slice_get way i ≡ Some s →
     IsLockedBy j s.number
 span_locked k j way span same locked i s low high at =
     let inside = take_has (drop (span.end - 1) way) (span.len - (span.end - 1)) (i - (span.end - 1)) s (omega arith) (drop_has way (span.end - 1) i s (omega arith) at) in
-    let (l, there, is) = locked.nodes.0.each s.number (map_of (λ (z : Step). z.number) s (slice_range way (span.end - 1) span.len) inside) in
+    let (l, there, is) = locked.nodes.0.each s.number (map_of (λ (z : PathNode). z.number) s (slice_range way (span.end - 1) span.len) inside) in
     (l.words, subst (λ locks. IsOneOf (record { node = s.number; words = l.words }) locks) (sym same) (subst (λ n. IsOneOf (record { node = n; words = l.words }) k.locks) is there))
 
-pub span_later : (k j : Known) (way : List Step) (span : Span) → StaysLocked k j → HasLockedSpan k way span → HasLockedSpan j way span
+pub span_later : (k j : Known) (way : List PathNode) (span : Span) → StaysLocked k j → HasLockedSpan k way span → HasLockedSpan j way span
 span_later k j way span (later, locks, anchor) locked = record {
   nodes = locked_same k j (span_numbers way span) locks locked.nodes;
   top = λ z. subst (λ a. IsSome a) (sym anchor) (locked.top z);

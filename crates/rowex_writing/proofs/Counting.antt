@@ -2,7 +2,7 @@
 use Rattle.std.proofs.Common.{◌≡◌, ℕ, zero, suc, ◌+◌, ◌-◌, ◌*◌, ◌<◌, ◌≤◌, List, [], ◌∷◌, length, take, drop, ap, ◌∙◌, arith}
 use Rattle.std.specs.Prelude.{slice_range}
 use Rattle.std.proofs.lemmas.List.{length-drop, length-map, length-take-le}
-use Rattle.insert_cases.specs.declared.choice.Step.{Step}
+use Rattle.insert_cases.specs.declared.choice.PathNode.{PathNode}
 use Rattle.versions.specs.declared.Rec.{Rec}
 use Rattle.rowex_core.specs.declared.event.Act.TheVariants.{Claim, LoadState}
 use Rattle.rowex_core.specs.declared.event.Event.{Event}
@@ -29,8 +29,8 @@ slice_few xs i j = take_few (j - i) (drop i xs)
 slice_just : {X : Type 0} (xs : List X) (i j : ℕ) → i ≤ j → j ≤ length xs → length (slice_range xs i j) ≡ j - i
 slice_just xs i j low high = length-take-le (j - i) (drop i xs) (omega (arith, length-drop i xs, low, high))
 
-pub numbers_few : (way : List Step) (i j : ℕ) → i ≤ j → j ≤ length way → length (numbers_of (slice_range way i j)) ≡ j - i
-numbers_few way i j low high = length-map (slice_range way i j) (λ (s : Step). s.number) ∙ slice_just way i j low high
+pub numbers_few : (way : List PathNode) (i j : ℕ) → i ≤ j → j ≤ length way → length (numbers_of (slice_range way i j)) ≡ j - i
+numbers_few way i j low high = length-map (slice_range way i j) (λ (s : PathNode). s.number) ∙ slice_just way i j low high
 
 -- one record is made, and at most one leaf was found
 pub made_one : {table : TableView} {a : SeatView} {made : List Rec} {m : Made} → IsBuilding table a made (m ∷ []) → length made ≡ 1

@@ -8,7 +8,7 @@ use Rattle.std.proofs.lemmas.Option.{slice_get-get_or}
 use Rattle.compound_node.specs.Nodes.{IsEntry}
 use Rattle.compound_node.specs.declared.entries.Entry.{Entry}
 use Rattle.compound_node.specs.declared.entries.Entry.TheVariants.{Leaf as LeafEntry, Node}
-use Rattle.insert_cases.specs.declared.choice.Step.{Step}
+use Rattle.insert_cases.specs.declared.choice.PathNode.{PathNode}
 use Rattle.versions.specs.Trades.{IsOneOf, AreApart}
 use Rattle.versions.specs.declared.Rec.{Rec}
 use Rattle.versions.specs.declared.Rec.TheVariants.{Node as a_node}
@@ -72,17 +72,17 @@ use Rattle.rowex_writing.proofs.Works.{works_later}
 use Rattle.rowex_writing.proofs.Staging.{risen_subtrie}
 
 -- ---- what goes
-gone_list : (way : List Step) (end low : ℕ) → end ≤ low → gone_with_way way end low [] ≡ map (λ (s : Step). a_node s.number) (slice_range way end low)
+gone_list : (way : List PathNode) (end low : ℕ) → end ≤ low → gone_with_way way end low [] ≡ map (λ (s : PathNode). a_node s.number) (slice_range way end low)
 gone_list way end low h =
     let there : end + (low - end) ≡ low = omega arith in
-    append-nil (map (λ (s : Step). a_node s.number) (drop end (take low way))) ∙ ap (map (λ (s : Step). a_node s.number)) (ap (λ n. drop end (take n way)) (sym there) ∙ drop-take end (low - end) way)
+    append-nil (map (λ (s : PathNode). a_node s.number) (drop end (take low way))) ∙ ap (map (λ (s : PathNode). a_node s.number)) (ap (λ n. drop end (take n way)) (sym there) ∙ drop-take end (low - end) way)
 
 -- the nodes of the span, without the lowest where that stays
-pub gone_is : (way : List Step) (end top len low : ℕ) (stays : Bool) (s : Step) → end ≤ top → top + 1 ≡ len → low ≡ (if stays then top else len) → slice_get way top ≡ Some s →
-    gone_with_way way end top (gone_unless_whole stays s.number) ≡ map (λ (s : Step). a_node s.number) (slice_range way end low)
-gone_is way end top len low true s h next low_is at = gone_list way end top h ∙ ap (λ n. map (λ (s : Step). a_node s.number) (slice_range way end n)) (sym low_is)
+pub gone_is : (way : List PathNode) (end top len low : ℕ) (stays : Bool) (s : PathNode) → end ≤ top → top + 1 ≡ len → low ≡ (if stays then top else len) → slice_get way top ≡ Some s →
+    gone_with_way way end top (gone_unless_whole stays s.number) ≡ map (λ (s : PathNode). a_node s.number) (slice_range way end low)
+gone_is way end top len low true s h next low_is at = gone_list way end top h ∙ ap (λ n. map (λ (s : PathNode). a_node s.number) (slice_range way end n)) (sym low_is)
 gone_is way end top len low false s h next low_is at =
-    gone_more way end top len [] s next h at ∙ (gone_list way end len (omega arith) ∙ ap (λ n. map (λ (s : Step). a_node s.number) (slice_range way end n)) (sym low_is))
+    gone_more way end top len [] s next h at ∙ (gone_list way end len (omega arith) ∙ ap (λ n. map (λ (s : PathNode). a_node s.number) (slice_range way end n)) (sym low_is))
 
 -- ---- what is kept
 apart_right : {X : Type 0} (xs ys : List X) → AreApart (xs ++ ys) → AreApart ys
@@ -101,7 +101,7 @@ apart_without (x ∷ xs) ys zs a = (
   apart_without xs ys zs a.1,
 )
 
-node_is_one : (n : ℕ) (steps : List Step) → IsOneOf (a_node n) (map (λ (s : Step). a_node s.number) steps) → IsOneOf n (numbers_of steps)
+node_is_one : (n : ℕ) (steps : List PathNode) → IsOneOf (a_node n) (map (λ (s : PathNode). a_node s.number) steps) → IsOneOf n (numbers_of steps)
 node_is_one n [] h = absurd h
 node_is_one n (s ∷ steps) (inl e) = inl (ap number_of e)
   where
@@ -110,13 +110,13 @@ node_is_one n (s ∷ steps) (inl e) = inl (ap number_of e)
     number_of r = 0
 node_is_one n (s ∷ steps) (inr h) = inr (node_is_one n steps h)
 
-one_is_node : (n : ℕ) (steps : List Step) → IsOneOf n (numbers_of steps) → IsOneOf (a_node n) (map (λ (s : Step). a_node s.number) steps)
+one_is_node : (n : ℕ) (steps : List PathNode) → IsOneOf n (numbers_of steps) → IsOneOf (a_node n) (map (λ (s : PathNode). a_node s.number) steps)
 one_is_node n [] h = absurd h
 one_is_node n (s ∷ steps) (inl e) = inl (ap a_node e)
 one_is_node n (s ∷ steps) (inr h) = inr (one_is_node n steps h)
 
-kept_parts : (locks : List Locked) (us gs cs : List Step) → LocksJust locks (numbers_of us ++ (numbers_of gs ++ numbers_of cs)) → AreApart (numbers_of us ++ (numbers_of gs ++ numbers_of cs)) →
-    AreKept (nodes_of locks) (map (λ (s : Step). a_node s.number) gs) (numbers_of us ++ numbers_of cs) × AreApart (numbers_of us ++ numbers_of cs)
+kept_parts : (locks : List Locked) (us gs cs : List PathNode) → LocksJust locks (numbers_of us ++ (numbers_of gs ++ numbers_of cs)) → AreApart (numbers_of us ++ (numbers_of gs ++ numbers_of cs)) →
+    AreKept (nodes_of locks) (map (λ (s : PathNode). a_node s.number) gs) (numbers_of us ++ numbers_of cs) × AreApart (numbers_of us ++ numbers_of cs)
 kept_parts locks us gs cs just apart = (
   record {
     only = λ n h. (let (l, there, is) = of_map (λ (l : Locked). l.node) n locks h in sort n (subst (λ z. IsOneOf z (numbers_of us ++ (numbers_of gs ++ numbers_of cs))) (sym is) (just.only l there)));
@@ -125,7 +125,7 @@ kept_parts locks us gs cs just apart = (
   apart_without (numbers_of us) (numbers_of gs) (numbers_of cs) apart,
 )
   where
-    sort : (n : ℕ) → IsOneOf n (numbers_of us ++ (numbers_of gs ++ numbers_of cs)) → IsOneOf n (numbers_of us ++ numbers_of cs) ⊎ IsOneOf (a_node n) (map (λ (s : Step). a_node s.number) gs)
+    sort : (n : ℕ) → IsOneOf n (numbers_of us ++ (numbers_of gs ++ numbers_of cs)) → IsOneOf n (numbers_of us ++ numbers_of cs) ⊎ IsOneOf (a_node n) (map (λ (s : PathNode). a_node s.number) gs)
     sort n h = elim (of_append n (numbers_of us) (numbers_of gs ++ numbers_of cs) h) [
       | inl i ↦ inl (of_left n (numbers_of us) (numbers_of cs) i)
       | inr i ↦ elim (of_append n (numbers_of gs) (numbers_of cs) i) [ inl j ↦ inr (one_is_node n gs j) | inr j ↦ inl (of_right n (numbers_of us) (numbers_of cs) j) ]
@@ -146,32 +146,32 @@ kept_parts locks us gs cs just apart = (
       | inr i ↦ apart_from n (numbers_of gs) (numbers_of cs) (apart_right (numbers_of us) (numbers_of gs ++ numbers_of cs) apart) g i
     ]
 
-pub kept_span : (locks : List Locked) (way : List Step) (end low len : ℕ) → end ≤ low → low ≤ len → LocksJust locks (numbers_of (slice_range way (end - 1) len)) → AreApart (numbers_of (slice_range way (end - 1) len)) →
-    AreKept (nodes_of locks) (map (λ (s : Step). a_node s.number) (slice_range way end low)) (numbers_of (slice_range way (end - 1) end ++ slice_range way low len)) × AreApart (numbers_of (slice_range way (end - 1) end ++ slice_range way low len))
+pub kept_span : (locks : List Locked) (way : List PathNode) (end low len : ℕ) → end ≤ low → low ≤ len → LocksJust locks (numbers_of (slice_range way (end - 1) len)) → AreApart (numbers_of (slice_range way (end - 1) len)) →
+    AreKept (nodes_of locks) (map (λ (s : PathNode). a_node s.number) (slice_range way end low)) (numbers_of (slice_range way (end - 1) end ++ slice_range way low len)) × AreApart (numbers_of (slice_range way (end - 1) end ++ slice_range way low len))
 kept_span locks way end low len h l just apart =
     let us = slice_range way (end - 1) end in
     let gs = slice_range way end low in
     let cs = slice_range way low len in
-    let f : Step → ℕ = λ (s : Step). s.number in
+    let f : PathNode → ℕ = λ (s : PathNode). s.number in
     let parts : numbers_of (slice_range way (end - 1) len) ≡ numbers_of us ++ (numbers_of gs ++ numbers_of cs) =
     ap numbers_of (range_split way (end - 1) end len (omega arith) (omega arith) ∙ ap (λ ys. us ++ ys) (range_split way end low len h l)) ∙ (map-append f us (gs ++ cs) ∙ ap (λ ys. numbers_of us ++ ys) (map-append f gs cs)) in
-    subst (λ ys. AreKept (nodes_of locks) (map (λ (s : Step). a_node s.number) gs) ys × AreApart ys) (sym (map-append f us cs))
+    subst (λ ys. AreKept (nodes_of locks) (map (λ (s : PathNode). a_node s.number) gs) ys × AreApart ys) (sym (map-append f us cs))
     (kept_parts locks us gs cs (subst (LocksJust locks) parts just) (subst AreApart parts apart))
 
 -- ---- nodes of the table
-pub range_nodes : (layout : Layout) (way : List Step) (b d : ℕ) → AreNodes layout way → AreNodes layout (slice_range way b d)
-range_nodes layout way b d nodes = All-take (λ (s : Step). s.number < layout.nodes) (d - b) (drop b way) (All-drop (λ (s : Step). s.number < layout.nodes) b way nodes)
+pub range_nodes : (layout : Layout) (way : List PathNode) (b d : ℕ) → AreNodes layout way → AreNodes layout (slice_range way b d)
+range_nodes layout way b d nodes = All-take (λ (s : PathNode). s.number < layout.nodes) (d - b) (drop b way) (All-drop (λ (s : PathNode). s.number < layout.nodes) b way nodes)
 
-pub two_nodes : (layout : Layout) (way : List Step) (b e l d : ℕ) → AreNodes layout way → AreNodes layout (slice_range way b e ++ slice_range way l d)
-two_nodes layout way b e l d nodes = All-append (λ (s : Step). s.number < layout.nodes) (slice_range way b e) (slice_range way l d) (range_nodes layout way b e nodes) (range_nodes layout way l d nodes)
+pub two_nodes : (layout : Layout) (way : List PathNode) (b e l d : ℕ) → AreNodes layout way → AreNodes layout (slice_range way b e ++ slice_range way l d)
+two_nodes layout way b e l d nodes = All-append (λ (s : PathNode). s.number < layout.nodes) (slice_range way b e) (slice_range way l d) (range_nodes layout way b e nodes) (range_nodes layout way l d nodes)
 
-node_records : (layout : Layout) (steps : List Step) → AreNodes layout steps → AreInTable layout (map (λ (s : Step). a_node s.number) steps)
+node_records : (layout : Layout) (steps : List PathNode) → AreNodes layout steps → AreInTable layout (map (λ (s : PathNode). a_node s.number) steps)
 node_records layout [] nodes = λ i d low. absurd (omega arith)
 node_records layout (s ∷ steps) nodes =
-    All-cons (HasRecord layout) (a_node s.number) (map (λ (s : Step). a_node s.number) steps) (All-head (λ (s : Step). s.number < layout.nodes) s steps nodes)
-    (node_records layout steps (All-tail (λ (s : Step). s.number < layout.nodes) s steps nodes))
+    All-cons (HasRecord layout) (a_node s.number) (map (λ (s : PathNode). a_node s.number) steps) (All-head (λ (s : PathNode). s.number < layout.nodes) s steps nodes)
+    (node_records layout steps (All-tail (λ (s : PathNode). s.number < layout.nodes) s steps nodes))
 
-pub range_records : (layout : Layout) (way : List Step) (b d : ℕ) → AreNodes layout way → AreInTable layout (map (λ (s : Step). a_node s.number) (slice_range way b d))
+pub range_records : (layout : Layout) (way : List PathNode) (b d : ℕ) → AreNodes layout way → AreInTable layout (map (λ (s : PathNode). a_node s.number) (slice_range way b d))
 range_records layout way b d nodes = node_records layout (slice_range way b d) (range_nodes layout way b d nodes)
 
 -- ---- none was free
@@ -197,8 +197,8 @@ full_since layout key a b c Nodes count (own, few, missed) = (own, few, λ q low
 full_since layout key a b c Leaves count missed = λ q low room. (let (step, late, miss) = missed q low room in (step, le_trans count late, miss))
 
 -- ---- the leaf's record is made
-pub may_grow : (table : TableView) (a b : SeatView) (made : List Rec) (m : ℕ) (key : Key) (value : ℕ) (way : List Step) (found : Found) (span : Span) (aim : Aim) (position took leaf : ℕ) → HasTakenSpan table a m key way found span →
-    IsPlanned a.known m key way aim found (change span.len span.end (Grow position)) → ((s : Step) → slice_get way (span.len - 1) ≡ Some s → s.at ≡ took) → StaysLocked a.known b.known → HasLeafMade table b made (item leaf key value) →
+pub may_grow : (table : TableView) (a b : SeatView) (made : List Rec) (m : ℕ) (key : Key) (value : ℕ) (way : List PathNode) (found : Found) (span : Span) (aim : Aim) (position took leaf : ℕ) → HasTakenSpan table a m key way found span →
+    IsPlanned a.known m key way aim found (change span.len span.end (Grow position)) → ((s : PathNode) → slice_get way (span.len - 1) ≡ Some s → s.at ≡ took) → StaysLocked a.known b.known → HasLeafMade table b made (item leaf key value) →
     MayGrow table b made way key value span position took leaf
 may_grow table a b made m key value way found span aim position took leaf t planned is_took stays made_leaf = record {
   within = (omega (arith, upto, len_is), omega (arith, len_is, within));
@@ -258,7 +258,7 @@ may_grow table a b made m key value way found span aim position took leaf t plan
     within : plan.chosen.level < length way
     within = top_within table.layout a.known m key way found span t.possible t.own w t.locked t.checked position plan
 
-    s : Step
+    s : PathNode
     s = (some_at way plan.chosen.level within).0
 
     at : slice_get way plan.chosen.level ≡ Some s
@@ -282,12 +282,12 @@ may_grow table a b made m key value way found span aim position took leaf t plan
         let small = spot_below key node.forks in
         (omega (arith, n_is, node.range), omega (arith, i_is, node.at, small, node.room))
 
-    place : (u : Step) (us : List ℕ) (e : Entry) → slice_get way span.end ≡ Some u → HasLocked a.known u.number us → FitsAbove us e → (spot : Spot) → IsSpotAbove way span.end spot →
+    place : (u : PathNode) (us : List ℕ) (e : Entry) → slice_get way span.end ≡ Some u → HasLocked a.known u.number us → FitsAbove us e → (spot : Spot) → IsSpotAbove way span.end spot →
         IsSpotOf a.known a.known.locks key position u.number e spot × HasSpot table.layout spot
     place u us e there locked fits spot is = (spot_of table.layout a.known m key way found span t.possible t.own w t.locked t.checked position plan u us e there locked fits spot is, in_table spot is)
 
 -- the change is that of a key which was absent
-pub grown_stored : (k : Known) (m : ℕ) (key : Key) (value : ℕ) (way : List Step) (found : Found) (span : Span) (aim : Aim) (position leaf : ℕ) →
+pub grown_stored : (k : Known) (m : ℕ) (key : Key) (value : ℕ) (way : List PathNode) (found : Found) (span : Span) (aim : Aim) (position leaf : ℕ) →
     IsPlanned k m key way aim found (change span.len span.end (Grow position)) → IsPutChange k.pass key value found (added_change k.pass (item leaf key value)) None
 grown_stored k m key value way found span aim position leaf planned =
     let plan = grow_plan k m key way span.len span.end position aim found planned in
@@ -302,10 +302,10 @@ entry_has : (e : Entry) → HasNumber e → IsEntry e → HasEntryWord (Some e)
 entry_has (LeafEntry n) low is = omega (arith, low)
 entry_has (Node n h) low is = (omega (arith, low), omega (arith, is.0), omega (arith, is.1))
 
-module _ (table : TableView) (a b : SeatView) (made after : List Rec) (way : List Step) (key : Key) (value : ℕ) (span : Span) (position took leaf : ℕ)
+module _ (table : TableView) (a b : SeatView) (made after : List Rec) (way : List PathNode) (key : Key) (value : ℕ) (span : Span) (position took leaf : ℕ)
     (may : MayGrow table a made way key value span position took leaf) (later : IsLater a.known b.known) (locks : b.known.locks ≡ a.known.locks) (anchor : b.known.anchor ≡ a.known.anchor) (e : Entry) (number : HasNumber e) (stays : Bool)
     (risen : HasRisenTo table b after way may.growing.lowest.since may.growing.lowest.item position may.growing.lowest.like span.end (gone_with_way way span.end (span.len - 1) (gone_unless_whole stays may.growing.step.number)) e)
-    (low : (s : Step) (words : List ℕ) → slice_get way span.end ≡ Some s → HasLocked a.known s.number words → FitsAbove words e) where
+    (low : (s : PathNode) (words : List ℕ) → slice_get way span.end ≡ Some s → HasLocked a.known s.number words → FitsAbove words e) where
   -- the words of the topmost node
   top_words : (words : List ℕ) × HasLocked a.known risen.1.number words
   top_words = locked_at a.known way span may.locked span.end risen.1 (omega arith) may.within.0 risen.2

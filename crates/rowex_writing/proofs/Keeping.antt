@@ -6,7 +6,7 @@ use Rattle.std.proofs.lemmas.List.Elements.{All-cons, All-head, All-nil, All-pus
 use Rattle.std.proofs.lemmas.Option.{slice_get-get_or}
 use Rattle.finite_map.specs.declared.Change.{Change}
 use Rattle.finite_map.specs.Fronts.{OthersGoOn}
-use Rattle.insert_cases.specs.declared.choice.Step.{Step}
+use Rattle.insert_cases.specs.declared.choice.PathNode.{PathNode}
 use Rattle.record_words.specs.declared.layout.Layout.{Layout}
 use Rattle.tries.specs.Keys.{Key}
 use Rattle.versions.specs.declared.Rec.{Rec}
@@ -166,7 +166,7 @@ module _ (table : TableView) (a : SeatView) (made : List Rec) (news : List Made)
       (λ r h. (let (m, at, is) = of_map (λ (m : Made). m.rec) r news h in subst (HasRecord table.layout) (sym is) (made_record m at)))))
 
 -- ---- what is locked
-pub step_nodes : (layout : Layout) (k : Known) (m : ℕ) (key : Key) (way : List Step) (found : Found) → IsWayOf layout k m key way found → AreNodes layout way
+pub step_nodes : (layout : Layout) (k : Known) (m : ℕ) (key : Key) (way : List PathNode) (found : Found) → IsWayOf layout k m key way found → AreNodes layout way
 step_nodes layout k m key way found w = λ n d low. (w.nodes n (get_or way n d) (slice_get-get_or way n d low)).2.range
 
 -- ---- what is seen since an earlier version

@@ -17,7 +17,7 @@ use Rattle.insert_cases.specs.declared.raising.Risen.{Risen}
 use Rattle.insert_cases.specs.declared.raising.Risen.TheVariants.{Whole, Split}
 use Rattle.pieces.specs.Changes.{AtRootFork}
 use Rattle.pieces.specs.Piece.{Place, Fork, size}
-use Rattle.insert_cases.specs.declared.choice.Step.{Step}
+use Rattle.insert_cases.specs.declared.choice.PathNode.{PathNode}
 use Rattle.tries.proofs.Building.{size-piece}
 use Rattle.tries.specs.Affected.{subtrie_grown}
 use Rattle.tries.specs.Content.{Item}
@@ -360,8 +360,8 @@ risen_as table a made n m risen then same is here = record {
       (subst (λ k. IsRaising table a made here.news here.gone here.since here.item here.mismatch here.like entry k (subtrie_of risen)) same here.raising);
 }
 
-module _ (table : TableView) (a : SeatView) (made : List Rec) (way : List Step) (key : Key) (end level : ℕ) (risen : Risen) (up : IsRisingOn table a made way key end level risen) (above : ℕ) (next : above + 1 ≡ level)
-    (upto : end ≤ above) (s : Step) (at : slice_get way above ≡ Some s) where
+module _ (table : TableView) (a : SeatView) (made : List Rec) (way : List PathNode) (key : Key) (end level : ℕ) (risen : Risen) (up : IsRisingOn table a made way key end level risen) (above : ℕ) (next : above + 1 ≡ level)
+    (upto : end ≤ above) (s : PathNode) (at : slice_get way above ≡ Some s) where
   abbrev pub up_over : (over : IsLockedAbove a.known.locks up.here.item.key up.here.mismatch s.number up.step.number) × ((node_words_of over.lower).fixed.height < (node_words_of over.upper).fixed.height)
   up_over = up.chain.above above s up.step upto (omega arith) at (ap (slice_get way) next ∙ up.at)
 
@@ -413,26 +413,26 @@ module _ (table : TableView) (a : SeatView) (made : List Rec) (way : List Step) 
       }
 
 -- the nodes that go, one more
-pub gone_more : (way : List Step) (end above level : ℕ) (gone : List Rec) (s : Step) → above + 1 ≡ level → end ≤ above → slice_get way above ≡ Some s → gone_with_way way end above (a_node s.number ∷ gone) ≡ gone_with_way way end level gone
+pub gone_more : (way : List PathNode) (end above level : ℕ) (gone : List Rec) (s : PathNode) → above + 1 ≡ level → end ≤ above → slice_get way above ≡ Some s → gone_with_way way end above (a_node s.number ∷ gone) ≡ gone_with_way way end level gone
 gone_more way end above level gone s next upto at =
     let within : above < length way = slice_get_within way above s at in
-    let f : Step → Rec = λ (z : Step). a_node z.number in
+    let f : PathNode → Rec = λ (z : PathNode). a_node z.number in
     let all : take level way ≡ take above way ++ s ∷ [] = ap (λ n. take n way) (sym next) ∙ (take_more way above s within ∙ ap (λ z. take above way ++ z ∷ []) (get_or_from_slice_get way above s s at)) in
     let long : end ≤ length (take above way) = let e = length-take-le above way (omega arith) in omega arith in
     let parts : drop end (take level way) ≡ drop end (take above way) ++ s ∷ [] = ap (drop end) all ∙ drop-append-le end (take above way) (s ∷ []) long in
     sym (ap (λ z. map f z ++ gone) parts ∙ (ap (λ z. z ++ gone) (map-append f (drop end (take above way)) (s ∷ [])) ∙ append_assoc (map f (drop end (take above way))) (a_node s.number ∷ []) gone))
 
-pub gone_with_no_node : (way : List Step) (end : ℕ) (gone : List Rec) → gone_with_way way end end gone ≡ gone
+pub gone_with_no_node : (way : List PathNode) (end : ℕ) (gone : List Rec) → gone_with_way way end end gone ≡ gone
 gone_with_no_node way end gone =
     let zero : end + 0 ≡ end = omega arith in
-    ap (λ z. map (λ (s : Step). a_node s.number) z ++ gone) (ap (λ n. drop end (take n way)) (sym zero) ∙ drop-take end 0 way)
+    ap (λ z. map (λ (s : PathNode). a_node s.number) z ++ gone) (ap (λ n. drop end (take n way)) (sym zero) ∙ drop-take end 0 way)
 
 -- the end of the way up, and one level of it
-abbrev pub rising_on_at_end : (table : TableView) (a : SeatView) (made : List Rec) (way : List Step) (key : Key) (end level number : ℕ) (risen : Risen) → (up : IsRisingOn table a made way key end level risen) → number ≡ up.step.number →
+abbrev pub rising_on_at_end : (table : TableView) (a : SeatView) (made : List Rec) (way : List PathNode) (key : Key) (end level number : ℕ) (risen : Risen) → (up : IsRisingOn table a made way key end level risen) → number ≡ up.step.number →
     IsRisenAt table a made number risen
 rising_on_at_end table a made way key end level number risen up is = risen_as table a made up.step.number number risen risen (sym is) refl up.here
 
-pub up_done : {G : Type 0} (table : TableView) (becomes : G → Event → G → Type 0) (a m c : SeatView × G) (made : List Rec) (way : List Step) (since : ℕ) (x : Item) (p : ℕ) (l : Key) (end above level : ℕ) (gone : List Rec) (s : Step) →
+pub up_done : {G : Type 0} (table : TableView) (becomes : G → Event → G → Type 0) (a m c : SeatView × G) (made : List Rec) (way : List PathNode) (since : ℕ) (x : Item) (p : ℕ) (l : Key) (end above level : ℕ) (gone : List Rec) (s : PathNode) →
     above + 1 ≡ level → end ≤ above → slice_get way above ≡ Some s → WorksOn table becomes a m → (answer : Option Entry) →
     MatchOption answer (HasNotMade table c.0 made) (HasRisenTo table c.0 made way since x p l end (gone_with_way way end above (a_node s.number ∷ gone))) →
     MatchOption answer (HasNotMade table c.0 made) (HasRisenTo table c.0 made way since x p l end (gone_with_way way end level gone))
@@ -440,7 +440,7 @@ up_done table becomes a m c made way since x p l end above level gone s next upt
 up_done table becomes a m c made way since x p l end above level gone s next upto at goes (Some e) answer =
     subst (λ g. HasRisenTo table c.0 made way since x p l end g e) (gone_more way end above level gone s next upto at) answer
 
-pub settled_at_end : (table : TableView) (a c : SeatView) (made after_made : List Rec) (way : List Step) (key : Key) (end level number : ℕ) (risen : Risen) (same : level ≡ end) (up : IsRisingOn table a made way key end level risen) (is : number ≡ up.step.number) → (answer : Option Entry) →
+pub settled_at_end : (table : TableView) (a c : SeatView) (made after_made : List Rec) (way : List PathNode) (key : Key) (end level number : ℕ) (risen : Risen) (same : level ≡ end) (up : IsRisingOn table a made way key end level risen) (is : number ≡ up.step.number) → (answer : Option Entry) →
     MatchOption answer (HasNotMade table c after_made) (λ e. (after : List Made) × IsRaising table c after_made after up.here.gone up.here.since up.here.item up.here.mismatch up.here.like entry number (Place e)) →
     MatchOption answer (HasNotMade table c after_made) (HasRisenTo table c after_made way up.here.since up.here.item up.here.mismatch up.here.like end (gone_with_way way end level up.here.gone))
 settled_at_end table a c made after_made way key end level number risen same up is None answer = answer
@@ -454,7 +454,7 @@ settled_at_end table a c made after_made way key end level number risen same up 
     )
 
 -- ---- all of a span
-module _ (table : TableView) (a : SeatView) (made : List Rec) (way : List Step) (key : Key) (end top position took leaf : ℕ) (b : IsGrowing table a made way key end top position took leaf) (number : ℕ) (is : number ≡ b.step.number) where
+module _ (table : TableView) (a : SeatView) (made : List Rec) (way : List PathNode) (key : Key) (end top position took leaf : ℕ) (b : IsGrowing table a made way key end top position took leaf) (number : ℕ) (is : number ≡ b.step.number) where
   abbrev pub low_at : IsLowest table a made key number position took leaf
   low_at = record {
     since = b.lowest.since;

@@ -9,7 +9,7 @@ use Rattle.compound_node.specs.Nodes.{NodeView, IsBuiltFrom, IsEntry, StandsBelo
 use Rattle.compound_node.specs.declared.entries.Entry.{Entry}
 use Rattle.compound_node.specs.declared.entries.Entry.TheVariants.{Leaf as LeafEntry, Node}
 use Rattle.finite_map.specs.declared.Change.{Change}
-use Rattle.insert_cases.specs.declared.choice.Step.{Step}
+use Rattle.insert_cases.specs.declared.choice.PathNode.{PathNode}
 use Rattle.insert_cases.proofs.Choosing.{some_injective}
 use Rattle.pieces.specs.Changes.{beside, collapsed, without}
 use Rattle.pieces.specs.Piece.{Place, RisesFrom, places, size}
@@ -123,7 +123,7 @@ node_number n m e = ap number_of e
     number_of (a_leaf i) = i
 
 -- what was locked first is locked still, with the node beside
-held_above : (held : List Locked) (key : Key) (way : List Step) (found : Found) (end : ℕ) (j : Known) (l : Locked) → LocksAbove held key way found end j → IsOneOf l held → IsOneOf l j.locks
+held_above : (held : List Locked) (key : Key) (way : List PathNode) (found : Found) (end : ℕ) (j : Known) (l : Locked) → LocksAbove held key way found end j → IsOneOf l held → IsOneOf l j.locks
 held_above held key way found end j l (by_anchor top locks anchor) i = subst (IsOneOf l) (sym locks) i
 held_above held key way found end j l (by_node s low at ((words, is), new) free names) i = subst (IsOneOf l) (sym is) (inr i)
 
@@ -140,7 +140,7 @@ wide_on table becomes a b job number goes w = record {
   above = still w.above;
 }
   where
-    still : {held : List Locked} {key : Key} {way : List Step} {found : Found} {end : ℕ} → LocksAbove held key way found end a.0.known → LocksAbove held key way found end b.0.known
+    still : {held : List Locked} {key : Key} {way : List PathNode} {found : Found} {end : ℕ} → LocksAbove held key way found end a.0.known → LocksAbove held key way found end b.0.known
     still (by_anchor top locks anchor) = by_anchor top (goes.stays.1 ∙ locks) (goes.stays.2 ∙ anchor)
     still (by_node s low at ((words, is), new) free names) =
         by_node s low at ((words, goes.stays.1 ∙ is), new) (goes.stays.2 ∙ free) (λ ws h. names ws (locked_on b.0.known a.0.known s.number ws (sym goes.stays.1) h))
@@ -203,7 +203,7 @@ module _ (table : TableView) (b : SeatView) (job : Job) (number : ℕ) (w : IsWi
       ap (λ z. lower job ∷ z) (ap (λ i. slice_range job.way.now i job.span.len) e ∙ slice_none job.way.now job.span.len)))
 
   span_goes : (leaf n : ℕ) → IsOneOf n (span_numbers job.way.now job.span) → IsOneOf (a_node n) (merged_gone job number leaf)
-  span_goes leaf n i = go (subst (λ (z : List Step). IsOneOf n (numbers_of z)) span_two i)
+  span_goes leaf n i = go (subst (λ (z : List PathNode). IsOneOf n (numbers_of z)) span_two i)
     where
       go : IsOneOf n (numbers_of (upper job ∷ lower job ∷ [])) → IsOneOf (a_node n) (merged_gone job number leaf)
       go (inl e) = inl (ap (λ z. a_node z) e)
@@ -211,8 +211,8 @@ module _ (table : TableView) (b : SeatView) (job : Job) (number : ℕ) (w : IsWi
       go (inr (inr z)) = absurd z
 
   goes_span : (leaf n : ℕ) → IsOneOf (a_node n) (merged_gone job number leaf) → IsOneOf n (span_numbers job.way.now job.span) ⊎ (n ≡ number)
-  goes_span leaf n (inl e) = inl (subst (λ (z : List Step). IsOneOf n (numbers_of z)) (sym span_two) (inl (node_number n (upper job).number e)))
-  goes_span leaf n (inr (inl e)) = inl (subst (λ (z : List Step). IsOneOf n (numbers_of z)) (sym span_two) (inr (inl (node_number n (lower job).number e))))
+  goes_span leaf n (inl e) = inl (subst (λ (z : List PathNode). IsOneOf n (numbers_of z)) (sym span_two) (inl (node_number n (upper job).number e)))
+  goes_span leaf n (inr (inl e)) = inl (subst (λ (z : List PathNode). IsOneOf n (numbers_of z)) (sym span_two) (inr (inl (node_number n (lower job).number e))))
   goes_span leaf n (inr (inr (inl e))) = inr (node_number n number e)
   goes_span leaf n (inr (inr (inr (inl e)))) = cc
   goes_span leaf n (inr (inr (inr (inr z)))) = absurd z
@@ -241,7 +241,7 @@ module _ (table : TableView) (b : SeatView) (job : Job) (number : ℕ) (w : IsWi
       go (by_anchor top locks anchor) =
           let first : job.span.end - 1 - 1 ≡ job.span.end - 1 = omega (arith, top) in
           let none : slice_range job.way.now (job.span.end - 1 - 1) (job.span.end - 1) ≡ [] = ap (λ i. slice_range job.way.now i (job.span.end - 1)) first ∙ slice_none job.way.now (job.span.end - 1) in
-          subst (λ (z : List Step). AreKept (nodes_of b.known.locks) (merged_gone job number leaf) (numbers_of z) × AreApart (numbers_of z)) (sym none)
+          subst (λ (z : List PathNode). AreKept (nodes_of b.known.locks) (merged_gone job number leaf) (numbers_of z) × AreApart (numbers_of z)) (sym none)
           (record { only = λ n i. inr (all_go n (subst (λ z. IsOneOf n (nodes_of z)) locks i)); each = λ n i. absurd i }, tt)
       go (by_node s low at ((words, is), new) free names) =
           let e = t.below.last in
@@ -251,7 +251,7 @@ module _ (table : TableView) (b : SeatView) (job : Job) (number : ℕ) (w : IsWi
           slice_more job.way.now (job.span.end - 1 - 1) (job.span.end - 1) s (omega (arith, low)) (omega (arith, e, n)) ∙
           (ap (λ z. z ∷ slice_range job.way.now (job.span.end - 1 - 1 + 1) (job.span.end - 1)) (get_or_from_slice_get job.way.now (job.span.end - 1 - 1) s s at) ∙
           ap (λ z. s ∷ z) (ap (λ i. slice_range job.way.now i (job.span.end - 1)) next ∙ slice_none job.way.now (job.span.end - 1))) in
-          subst (λ (z : List Step). AreKept (nodes_of b.known.locks) (merged_gone job number leaf) (numbers_of z) × AreApart (numbers_of z)) (sym one) (
+          subst (λ (z : List PathNode). AreKept (nodes_of b.known.locks) (merged_gone job number leaf) (numbers_of z) × AreApart (numbers_of z)) (sym one) (
             record {
               only = λ i there. over i (subst (λ z. IsOneOf i (nodes_of z)) is there);
               each = λ i there. elim there [
@@ -312,8 +312,8 @@ module _ (table : TableView) (b : SeatView) (job : Job) (number : ℕ) (w : IsWi
           let entry_is : e ≡ Node (upper job).number (upper job).height = some_injective (sym e_is ∙ (ap (named job.way.now found) next ∙ named_at job.way.now found (job.span.end - 1) (upper job) (upper_at table job t))) in
           let under : (upper job).height < s.height = subst (λ x. height_of x < s.height) entry_is node.below in
           record {
-            holds = in_node o i words (subst (λ n. IsOneOf (record { node = n; words = words }) b.known.locks) (sym (number_is ∙ ap (λ (x : Step). x.number) (sym same))) has) (some_injective (sym (names words has) ∙ names_upper))
-                (shows.at ∙ (ap (λ (x : Step). x.at) same ∙ sym place));
+            holds = in_node o i words (subst (λ n. IsOneOf (record { node = n; words = words }) b.known.locks) (sym (number_is ∙ ap (λ (x : PathNode). x.number) (sym same))) has) (some_injective (sym (names words has) ∙ names_upper))
+                (shows.at ∙ (ap (λ (x : PathNode). x.at) same ∙ sym place));
             fits = λ e low. lower_entry (node_words_of words).fixed.height e (let g = shows.height in omega (arith, low, under, g));
           }
 
@@ -444,7 +444,7 @@ lower_within table b job number w node node_is =
     omega (arith, below, size-piece node own.has.lawful)
 
 -- ---- what is left of the upper node
-module _ (k : Known) (s : Step) (key : Key) (place : ℕ) (e : Entry) (closes : ClosesFork k s key place e) (words : List ℕ) (h : HasLocked k s.number words) (view : NodeView) (is : IsNodeOf words view) where
+module _ (k : Known) (s : PathNode) (key : Key) (place : ℕ) (e : Entry) (closes : ClosesFork k s key place e) (words : List ℕ) (h : HasLocked k s.number words) (view : NodeView) (is : IsNodeOf words view) where
   sub_is : (node_words_of words).subtrie ≡ piece view
   sub_is = ap (λ (z : NodeWords). z.subtrie) is.shows
 
@@ -605,7 +605,7 @@ pub building_now : (table : TableView) (b : SeatView) (made : List Rec) (job : J
 building_now table b made job t raised x was may =
     let m = may.ends (Slot (upper job).number (upper job).at) (upper job, t.some, upper_at table job t, refl, refl) in (m.news, m.building)
 
-pub replace_later : (table : TableView) (a b : SeatView) (made after : List Rec) (way : List Step) (span : Span) (raised : Raised) (x : Change) (was : Option ℕ) → IsSeatOf table b → IsPossible table.layout b.known → IsLater a.known b.known → HasTheSame a.known b.known →
+pub replace_later : (table : TableView) (a b : SeatView) (made after : List Rec) (way : List PathNode) (span : Span) (raised : Raised) (x : Change) (was : Option ℕ) → IsSeatOf table b → IsPossible table.layout b.known → IsLater a.known b.known → HasTheSame a.known b.known →
     after ≡ made → MayReplace table a made way span raised x was → MayReplace table b after way span raised x was
 replace_later table a b made after way span raised x was seat possible later (locks, anchor, own) same may = subst (λ z. MayReplace table b z way span raised x was) (sym same) (record {
   from = may.from;

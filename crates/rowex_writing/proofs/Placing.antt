@@ -11,7 +11,7 @@ use Rattle.compound_node.specs.declared.entries.Entry.TheVariants.{Leaf as LeafE
 use Rattle.insert_cases.specs.declared.choice.Case.{Case}
 use Rattle.insert_cases.specs.declared.choice.Case.TheVariants.{LeafPushdown, NormalInsert, Overflow}
 use Rattle.insert_cases.specs.declared.choice.Choice.{Choice}
-use Rattle.insert_cases.specs.declared.choice.Step.{Step}
+use Rattle.insert_cases.specs.declared.choice.PathNode.{PathNode}
 use Rattle.insert_cases.specs.Levels.{IsLevel, IsChosen}
 use Rattle.insert_cases.specs.Ways.{case_of}
 use Rattle.insert_cases.proofs.Affecting.{key_part}
@@ -62,7 +62,7 @@ use Rattle.rowex_reading.proofs.Ways.{named_end}
 use Rattle.rowex_writing.specs.declared.plan.Aim.{Aim}
 use Rattle.rowex_writing.specs.declared.plan.Aim.TheVariants.{Insert, Upsert, Remove}
 use Rattle.rowex_writing.specs.declared.plan.Deed.{Deed}
-use Rattle.rowex_writing.specs.declared.plan.Deed.TheVariants.{Put, Pair}
+use Rattle.rowex_writing.specs.declared.plan.Deed.TheVariants.{Put, PushDown}
 use Rattle.rowex_reading.specs.declared.descent.Found.{Found}
 use Rattle.rowex_reading.specs.declared.descent.Found.TheVariants.{Nothing, Leaf}
 use Rattle.rowex_writing.specs.declared.plan.Plan.{Plan}
@@ -78,7 +78,7 @@ span_of (Answer reply) = record { len = 0; end = 0 }
 span_of (ChangePlan span deed) = span
 
 abbrev position_in : Deed → ℕ
-position_in (Pair p) = p
+position_in (PushDown p) = p
 position_in deed = 0
 
 abbrev position_of : Plan → ℕ
@@ -89,21 +89,21 @@ same_span : (len end l e : ℕ) (d f : Deed) → change len end d ≡ change l e
 same_span len end l e d f is = (ap (λ (z : Plan). (span_of z).len) is, ap (λ (z : Plan). (span_of z).end) is)
 
 -- ---- where a leaf is put
-abbrev pub IsPutAt : List Step → Found → (len end : ℕ) → Type 0
+abbrev pub IsPutAt : List PathNode → Found → (len end : ℕ) → Type 0
 IsPutAt way Nothing len end = (len ≡ 0) × (end ≡ 0)
 IsPutAt way (Leaf number value None) len end = (len ≡ length way) × (end ≡ length way)
 IsPutAt way (Leaf number value (Some p)) len end = ⊥
 
-no_put_case : (way : List Step) (p : ℕ) (chosen : Choice) (case : Case) (len end : ℕ) → IsCase way p chosen case (change len end Put) → ⊥
+no_put_case : (way : List PathNode) (p : ℕ) (chosen : Choice) (case : Case) (len end : ℕ) → IsCase way p chosen case (change len end Put) → ⊥
 no_put_case way p chosen LeafPushdown len end e = cc
 no_put_case way p chosen NormalInsert len end e = cc
 no_put_case way p chosen Overflow len end (top, chain, e) = cc
 
-no_put : (way : List Step) (p first last len end : ℕ) → IsNewLeafPlan way p first last (change len end Put) → ⊥
+no_put : (way : List PathNode) (p first last len end : ℕ) → IsNewLeafPlan way p first last (change len end Put) → ⊥
 no_put [] p first last len end e = cc
 no_put (s ∷ way) p first last len end (level, at, (chosen, is, case)) = no_put_case (s ∷ way) p chosen chosen.case len end case
 
-pub put_at : (way : List Step) (first last : ℕ) (aim : Aim) (found : Found) (len end : ℕ) → IsPlan way first last aim found (change len end Put) → IsPutAt way found len end
+pub put_at : (way : List PathNode) (first last : ℕ) (aim : Aim) (found : Found) (len end : ℕ) → IsPlan way first last aim found (change len end Put) → IsPutAt way found len end
 put_at way first last Insert Nothing len end e = same_span len end 0 0 Put Put e
 put_at way first last Upsert Nothing len end e = same_span len end 0 0 Put Put e
 put_at way first last Remove Nothing len end e = absurd cc
@@ -123,28 +123,28 @@ abbrev pub put_was : Found → Option ℕ
 put_was (Leaf number held None) = Some held
 put_was found = None
 
-pub put_stored : (q number : ℕ) (key : Key) (value : ℕ) (way : List Step) (found : Found) (len end : ℕ) → IsPutAt way found len end →
+pub put_stored : (q number : ℕ) (key : Key) (value : ℕ) (way : List PathNode) (found : Found) (len end : ℕ) → IsPutAt way found len end →
     IsPutChange q key value found (put_change q (item number key value) found) (put_was found)
 put_stored q number key value way Nothing len end at = (refl, refl)
 put_stored q number key value way (Leaf n held None) len end at = (refl, refl)
 put_stored q number key value way (Leaf n held (Some p)) len end at = absurd at
 
 -- the node above is the last one of the way, if there is one
-pub put_spans : (way : List Step) (found : Found) (len end : ℕ) → IsPutAt way found len end → (len ≡ end) × (end ≤ length way)
+pub put_spans : (way : List PathNode) (found : Found) (len end : ℕ) → IsPutAt way found len end → (len ≡ end) × (end ≤ length way)
 put_spans way Nothing len end (a, b) = (a ∙ sym b, omega arith)
 put_spans way (Leaf number value None) len end (a, b) = (a ∙ sym b, omega arith)
 put_spans way (Leaf number value (Some p)) len end h = absurd h
 
 -- ---- where a pair is put
 -- the last node of the way is the one of the level; the position affects one entry there, and it is higher than 1
-pub record IsLastLevel (way : List Step) (p first last : ℕ) : Type 0 where
+pub record IsLastLevel (way : List PathNode) (p first last : ℕ) : Type 0 where
   pub level : ℕ
   pub is_last : level + 1 ≡ length way
   pub is_level : IsLevel way p level
   pub single : last ≤ first
-  pub high : (s : Step) → slice_get way level ≡ Some s → 1 < s.height
+  pub high : (s : PathNode) → slice_get way level ≡ Some s → 1 < s.height
 
-abbrev pub IsPairAt : List Step → (p first last len end q : ℕ) → Type 0
+abbrev pub IsPairAt : List PathNode → (p first last len end q : ℕ) → Type 0
 IsPairAt [] p first last len end q = (len ≡ 0) × (end ≡ 0) × (q ≡ p)
 IsPairAt (s ∷ way) p first last len end q = (len ≡ length (s ∷ way)) × (end ≡ length (s ∷ way)) × (q ≡ p) × IsLastLevel (s ∷ way) p first last
 
@@ -159,10 +159,10 @@ pushed_high height count e = go (nat_lt 1 height) refl e
     go true is e = ltb-true 1 height is
     go false is e = absurd (no_pushdown (nat_lt count 32) e)
 
-last_level : (way : List Step) (p level first last : ℕ) (c : Choice) → IsLevel way p level → IsChosen way level first last c → c.case ≡ LeafPushdown → (c.level ≡ level) × (level + 1 ≡ length way) × IsLastLevel way p first last
+last_level : (way : List PathNode) (p level first last : ℕ) (c : Choice) → IsLevel way p level → IsChosen way level first last c → c.case ≡ LeafPushdown → (c.level ≡ level) × (level + 1 ≡ length way) × IsLastLevel way p first last
 last_level way p level first last c is chosen down = ⊎_elim (λ several. absurd (by_several several)) (λ single. ⊎_elim (λ more. absurd (by_next single more)) (λ none. by_leaf single none) (cases_lt (level + 1) (length way))) (cases_lt first last)
   where
-    d : Step
+    d : PathNode
     d = record { number = 0; height = 0; first_position = 0; count = 0; at = 0 }
 
     by_several : first < last → ⊥
@@ -191,25 +191,25 @@ last_level way p level first last c is chosen down = ⊎_elim (λ several. absur
           },
         )
 
-pair_case : (way : List Step) (p : ℕ) (chosen : Choice) (case : Case) (len end q : ℕ) → IsCase way p chosen case (change len end (Pair q)) →
+pair_case : (way : List PathNode) (p : ℕ) (chosen : Choice) (case : Case) (len end q : ℕ) → IsCase way p chosen case (change len end (PushDown q)) →
     (case ≡ LeafPushdown) × (len ≡ chosen.level + 1) × (end ≡ chosen.level + 1) × (q ≡ p)
-pair_case way p chosen LeafPushdown len end q e = let (a, b) = same_span len end (chosen.level + 1) (chosen.level + 1) (Pair q) (Pair p) e in (refl, a, b, ap position_of e)
+pair_case way p chosen LeafPushdown len end q e = let (a, b) = same_span len end (chosen.level + 1) (chosen.level + 1) (PushDown q) (PushDown p) e in (refl, a, b, ap position_of e)
 pair_case way p chosen NormalInsert len end q e = absurd cc
 pair_case way p chosen Overflow len end q (top, chain, e) = absurd cc
 
-pair_new : (way : List Step) (p first last len end q : ℕ) → IsNewLeafPlan way p first last (change len end (Pair q)) → IsPairAt way p first last len end q
-pair_new [] p first last len end q e = let (a, b) = same_span len end 0 0 (Pair q) (Pair p) e in (a, b, ap position_of e)
+pair_new : (way : List PathNode) (p first last len end q : ℕ) → IsNewLeafPlan way p first last (change len end (PushDown q)) → IsPairAt way p first last len end q
+pair_new [] p first last len end q e = let (a, b) = same_span len end 0 0 (PushDown q) (PushDown p) e in (a, b, ap position_of e)
 pair_new (s ∷ way) p first last len end q (level, at, (chosen, is, case)) =
     let (down, a, b, same) = pair_case (s ∷ way) p chosen chosen.case len end q case in
     let (here, end_is, lowest) = last_level (s ∷ way) p level first last chosen at is down in
     let top : chosen.level + 1 ≡ length (s ∷ way) = ap (λ n. n + 1) here ∙ end_is in
     (a ∙ top, b ∙ top, same, lowest)
 
-abbrev pub IsPairOf : List Step → Found → (first last len end q : ℕ) → Type 0
+abbrev pub IsPairOf : List PathNode → Found → (first last len end q : ℕ) → Type 0
 IsPairOf way (Leaf number value (Some p)) first last len end q = IsPairAt way p first last len end q
 IsPairOf way found first last len end q = ⊥
 
-pub pair_at : (way : List Step) (first last : ℕ) (aim : Aim) (found : Found) (len end q : ℕ) → IsPlan way first last aim found (change len end (Pair q)) → IsPairOf way found first last len end q
+pub pair_at : (way : List PathNode) (first last : ℕ) (aim : Aim) (found : Found) (len end q : ℕ) → IsPlan way first last aim found (change len end (PushDown q)) → IsPairOf way found first last len end q
 pair_at way first last Insert Nothing len end q e = cc
 pair_at way first last Upsert Nothing len end q e = cc
 pair_at way first last Remove Nothing len end q e = cc
@@ -220,13 +220,13 @@ pair_at way first last Insert (Leaf number value None) len end q e = cc
 pair_at way first last Upsert (Leaf number value None) len end q e = cc
 pair_at way first last Remove (Leaf number value None) len end q e = cc
 
-pair_spans_at : (way : List Step) (p first last len end q : ℕ) → IsPairAt way p first last len end q → (len ≡ end) × (end ≡ length way)
+pair_spans_at : (way : List PathNode) (p first last len end q : ℕ) → IsPairAt way p first last len end q → (len ≡ end) × (end ≡ length way)
 pair_spans_at [] p first last len end q (a, b, c) = (a ∙ sym b, b)
 pair_spans_at (s ∷ way) p first last len end q (a, b, c, d) = (a ∙ sym b, b)
 
 -- ---- what a way names at its end
-none_named : (way : List Step) (Is : (i : ℕ) → Step → Entry → Type 0) →
-    ((i : ℕ) (s : Step) → slice_get way i ≡ Some s → (e : Entry) × (named way Nothing (i + 1) ≡ Some e) × Is i s e) → named way Nothing 0 ≡ None
+none_named : (way : List PathNode) (Is : (i : ℕ) → PathNode → Entry → Type 0) →
+    ((i : ℕ) (s : PathNode) → slice_get way i ≡ Some s → (e : Entry) × (named way Nothing (i + 1) ≡ Some e) × Is i s e) → named way Nothing 0 ≡ None
 none_named [] Is each = refl
 none_named (s ∷ way) Is each =
     let last : length way + 1 ≡ length (s ∷ way) = omega arith in
@@ -276,16 +276,16 @@ module _ (table : TableView) (a : SeatView) (made : List Rec) (news : List Made)
       ((omega arith, omega arith, omega arith), refl)
 
 -- ---- a plan of a pair
-pair_last : (way : List Step) (p first last len end q : ℕ) → IsPairAt way p first last len end q → 0 < end → IsLastLevel way p first last
+pair_last : (way : List PathNode) (p first last len end q : ℕ) → IsPairAt way p first last len end q → 0 < end → IsLastLevel way p first last
 pair_last [] p first last len end q (a, b, c) low = absurd (omega arith)
 pair_last (s ∷ way) p first last len end q (a, b, c, d) low = d
 
-pair_position : (way : List Step) (p first last len end q : ℕ) → IsPairAt way p first last len end q → q ≡ p
+pair_position : (way : List PathNode) (p first last len end q : ℕ) → IsPairAt way p first last len end q → q ≡ p
 pair_position [] p first last len end q (a, b, c) = c
 pair_position (s ∷ way) p first last len end q (a, b, c, d) = c
 
 -- the leaf that was found, from which the key differs first at q, and what the position affects
-pub record IsPairHere (k : Known) (m : ℕ) (key : Key) (way : List Step) (found : Found) (span : Span) (n q : ℕ) : Type 0 where
+pub record IsPairHere (k : Known) (m : ℕ) (key : Key) (way : List PathNode) (found : Found) (span : Span) (n q : ℕ) : Type 0 where
   pub value : ℕ
   pub first : ℕ
   pub last : ℕ
@@ -295,11 +295,11 @@ pub record IsPairHere (k : Known) (m : ℕ) (key : Key) (way : List Step) (found
   pub len : span.len ≡ span.end
   pub upto : span.end ≡ length way
 
-pub pair_here : (k : Known) (m : ℕ) (key : Key) (way : List Step) (aim : Aim) (found : Found) (span : Span) (q : ℕ) → IsPlanned k m key way aim found (change span.len span.end (Pair q)) → (n v : ℕ) (mismatch : Option ℕ) →
+pub pair_here : (k : Known) (m : ℕ) (key : Key) (way : List PathNode) (aim : Aim) (found : Found) (span : Span) (q : ℕ) → IsPlanned k m key way aim found (change span.len span.end (PushDown q)) → (n v : ℕ) (mismatch : Option ℕ) →
     found ≡ Leaf n v mismatch → IsPairHere k m key way found span n q
-pair_here k m key way aim found span q (first, last, plan, affected) n v None is = absurd (pair_at way first last aim (Leaf n v None) span.len span.end q (subst (λ f. IsPlan way first last aim f (change span.len span.end (Pair q))) is plan))
+pair_here k m key way aim found span q (first, last, plan, affected) n v None is = absurd (pair_at way first last aim (Leaf n v None) span.len span.end q (subst (λ f. IsPlan way first last aim f (change span.len span.end (PushDown q))) is plan))
 pair_here k m key way aim found span q (first, last, plan, affected) n v (Some p) is =
-    let at : IsPairAt way p first last span.len span.end q = pair_at way first last aim (Leaf n v (Some p)) span.len span.end q (subst (λ f. IsPlan way first last aim f (change span.len span.end (Pair q))) is plan) in
+    let at : IsPairAt way p first last span.len span.end q = pair_at way first last aim (Leaf n v (Some p)) span.len span.end q (subst (λ f. IsPlan way first last aim f (change span.len span.end (PushDown q))) is plan) in
     let same = pair_position way p first last span.len span.end q at in
     let spans = pair_spans_at way p first last span.len span.end q at in
     record {
@@ -313,14 +313,14 @@ pair_here k m key way aim found span q (first, last, plan, affected) n v (Some p
       upto = spans.1;
     }
 
-pub put_len : (k : Known) (m : ℕ) (key : Key) (way : List Step) (aim : Aim) (found : Found) (span : Span) → IsPlanned k m key way aim found (change span.len span.end Put) →
+pub put_len : (k : Known) (m : ℕ) (key : Key) (way : List PathNode) (aim : Aim) (found : Found) (span : Span) → IsPlanned k m key way aim found (change span.len span.end Put) →
     IsPutAt way found span.len span.end × (span.len ≡ span.end) × (span.end ≤ length way)
 put_len k m key way aim found span (first, last, plan, affected) =
     let at = put_at way first last aim found span.len span.end plan in
     let (a, b) = put_spans way found span.len span.end at in (at, a, b)
 
 -- ---- under the locks of the span
-module _ (table : TableView) (a : SeatView) (m : ℕ) (key : Key) (way : List Step) (found : Found) (span : Span) (t : HasTakenSpan table a m key way found span) where
+module _ (table : TableView) (a : SeatView) (m : ℕ) (key : Key) (way : List PathNode) (found : Found) (span : Span) (t : HasTakenSpan table a m key way found span) where
   -- ---- what was found
   module _ (n v : ℕ) (mismatch : Option ℕ) (is_found : found ≡ Leaf n v mismatch) where
     pub leaf_at : (l : Key) × Sure a.known (λ past. IsRead past m n l v) × IsMismatch key l mismatch
@@ -428,10 +428,10 @@ module _ (table : TableView) (a : SeatView) (m : ℕ) (key : Key) (way : List St
         lowest : 0 < span.end → IsLastLevel way p here.first here.last
         lowest low = pair_last way p here.first here.last span.len span.end p here.at low
 
-        level_at : (s : Step) (low : 0 < span.end) → slice_get way (span.end - 1) ≡ Some s → slice_get way (lowest low).level ≡ Some s
+        level_at : (s : PathNode) (low : 0 < span.end) → slice_get way (span.end - 1) ≡ Some s → slice_get way (lowest low).level ≡ Some s
         level_at s low at = (let e : span.end - 1 ≡ (lowest low).level = (let is = (lowest low).is_last in omega (arith, is, here.upto)) in subst (λ z. slice_get way z ≡ Some s) e at)
 
-        alone_at : (s : Step) (words : List ℕ) (low : 0 < span.end) → slice_get way (span.end - 1) ≡ Some s → HasLocked a.known s.number words → IsTipSubtrie (subtrie_affected p key (node_words_of words).subtrie)
+        alone_at : (s : PathNode) (words : List ℕ) (low : 0 < span.end) → slice_get way (span.end - 1) ≡ Some s → HasLocked a.known s.number words → IsTipSubtrie (subtrie_affected p key (node_words_of words).subtrie)
         alone_at s words low at has =
             let (forks, shaped, just) = (subst (λ f. AreAffected a.known m key way f here.first here.last) here.is_found here.affected) (lowest low).level s (lowest low).is_level (level_at s low at) in
             let node = (t.way_of.nodes (span.end - 1) s at).2 in

@@ -6,7 +6,7 @@ use Rattle.std.specs.Prelude.{slice_get}
 use Rattle.insert_cases.specs.declared.choice.Case.{Case}
 use Rattle.insert_cases.specs.declared.choice.Case.TheVariants.{LeafPushdown, NormalInsert, Overflow}
 use Rattle.insert_cases.specs.declared.choice.Choice.{Choice}
-use Rattle.insert_cases.specs.declared.choice.Step.{Step}
+use Rattle.insert_cases.specs.declared.choice.PathNode.{PathNode}
 use Rattle.insert_cases.specs.Levels.{IsChainEnd, IsChosen, IsLevel}
 use Rattle.insert_cases.specs.Ways.{case_of}
 use Rattle.insert_cases.proofs.Choosing.{some_at, some_injective}
@@ -21,10 +21,10 @@ use Rattle.rowex_writing.specs.declared.plan.Plan.{Plan}
 use Rattle.rowex_writing.specs.declared.plan.Plan.TheVariants.{Answer}
 
 -- the chosen node is one of the way
-pub chosen_within : (way : List Step) (level first last : ℕ) (c : Choice) → level < length way → IsChosen way level first last c → c.level < length way
+pub chosen_within : (way : List PathNode) (level first last : ℕ) (c : Choice) → level < length way → IsChosen way level first last c → c.level < length way
 chosen_within way level first last c h is = ⊎_elim several (λ o. ⊎_elim (next o) (leaf o) (cases_lt (level + 1) (length way))) (cases_lt first last)
   where
-    here : (s : Step) × (slice_get way level ≡ Some s)
+    here : (s : PathNode) × (slice_get way level ≡ Some s)
     here = some_at way level h
 
     several : first < last → c.level < length way
@@ -36,25 +36,25 @@ chosen_within way level first last c h is = ⊎_elim several (λ o. ⊎_elim (ne
     leaf : last ≤ first → length way ≤ level + 1 → c.level < length way
     leaf o m = let e = ap (λ (z : Choice). z.level) (is.leaf o m here.0 here.1) in omega arith
 
-changed : (way : List Step) (len end : ℕ) (deed : Deed) (plan : Plan) → end ≤ len → len ≤ length way → plan ≡ change len end deed → LiesOnWay way plan
+changed : (way : List PathNode) (len end : ℕ) (deed : Deed) (plan : Plan) → end ≤ len → len ≤ length way → plan ≡ change len end deed → LiesOnWay way plan
 changed way len end deed plan h l is = subst (LiesOnWay way) (sym is) (h, l)
 
-answered : (way : List Step) (plan : Plan) {reply : _} → plan ≡ Answer reply → LiesOnWay way plan
+answered : (way : List PathNode) (plan : Plan) {reply : _} → plan ≡ Answer reply → LiesOnWay way plan
 answered way plan is = subst (LiesOnWay way) (sym is) tt
 
-case_within : (way : List Step) (position : ℕ) (c : Choice) (case : Case) (plan : Plan) → c.level < length way → IsCase way position c case plan → LiesOnWay way plan
+case_within : (way : List PathNode) (position : ℕ) (c : Choice) (case : Case) (plan : Plan) → c.level < length way → IsCase way position c case plan → LiesOnWay way plan
 case_within way position c LeafPushdown plan h is = changed way _ _ _ plan (omega arith) (omega arith) is
 case_within way position c NormalInsert plan h is = changed way _ _ _ plan (omega arith) (omega arith) is
 case_within way position c Overflow plan h is = let u = is.1.upto in changed way _ _ _ plan (omega arith) (omega arith) is.2
 
-pub beside_within : (way : List Step) (position level first last : ℕ) (plan : Plan) → level < length way → IsBeside way position level first last plan → LiesOnWay way plan
+pub beside_within : (way : List PathNode) (position level first last : ℕ) (plan : Plan) → level < length way → IsBeside way position level first last plan → LiesOnWay way plan
 beside_within way position level first last plan h is = case_within way position is.0 is.0.case plan (chosen_within way level first last is.0 h is.1) is.2
 
-new_within : (way : List Step) (position first last : ℕ) (plan : Plan) → IsNewLeafPlan way position first last plan → LiesOnWay way plan
+new_within : (way : List PathNode) (position first last : ℕ) (plan : Plan) → IsNewLeafPlan way position first last plan → LiesOnWay way plan
 new_within [] position first last plan is = changed [] _ _ _ plan (omega arith) (omega arith) is
 new_within (s ∷ ss) position first last plan is = beside_within (s ∷ ss) position is.0 first last plan is.1.within is.2
 
-pub plan_within : (way : List Step) (first last : ℕ) (aim : Aim) (found : Found) (plan : Plan) → IsPlan way first last aim found plan → LiesOnWay way plan
+pub plan_within : (way : List PathNode) (first last : ℕ) (aim : Aim) (found : Found) (plan : Plan) → IsPlan way first last aim found plan → LiesOnWay way plan
 plan_within way first last Insert Nothing plan is = changed way _ _ _ plan (omega arith) (omega arith) is
 plan_within way first last Upsert Nothing plan is = changed way _ _ _ plan (omega arith) (omega arith) is
 plan_within way first last Insert (Leaf n v (Some p)) plan is = new_within way p first last plan is
@@ -66,7 +66,7 @@ plan_within way first last Remove (Leaf n v (Some p)) plan is = answered way pla
 plan_within way first last Remove (Leaf n v None) plan is = changed way _ _ _ plan (omega arith) (omega arith) is
 
 -- Where the last node of the way has leaves alone, the leaf goes into it, whichever entries are affected.
-module _ (way : List Step) (position level : ℕ) (s : Step) (plan : Plan) (last : level + 1 ≡ length way) (at : slice_get way level ≡ Some s) (low : s.height ≤ 1) (first upto : ℕ) where
+module _ (way : List PathNode) (position level : ℕ) (s : PathNode) (plan : Plan) (last : level + 1 ≡ length way) (at : slice_get way level ≡ Some s) (low : s.height ≤ 1) (first upto : ℕ) where
   abbrev low_choice : Choice
   low_choice = record { level = level; first = first; last = upto; case = case_of s.height s.count false }
 
@@ -74,14 +74,14 @@ module _ (way : List Step) (position level : ℕ) (s : Step) (plan : Plan) (last
   low_case true = let e : nat_lt 1 s.height ≡ false = le-ltb 1 s.height low in rw e refl
   low_case false = refl
 
-  same : (t : Step) → slice_get way level ≡ Some t → s ≡ t
+  same : (t : PathNode) → slice_get way level ≡ Some t → s ≡ t
   same t there = some_injective (sym at ∙ there)
 
   low_chosen : IsChosen way level first upto low_choice
   low_chosen = record {
-    several = λ more t there. subst (λ (z : Step). low_choice ≡ record { level = level; first = first; last = upto; case = case_of z.height z.count false }) (same t there) refl;
+    several = λ more t there. subst (λ (z : PathNode). low_choice ≡ record { level = level; first = first; last = upto; case = case_of z.height z.count false }) (same t there) refl;
     next = λ few t there. absurd (let within = slice_get_within way (level + 1) t there in omega (arith, within, last));
-    leaf = λ few past t there. subst (λ (z : Step). low_choice ≡ record { level = level; first = first; last = upto; case = case_of z.height z.count true }) (same t there)
+    leaf = λ few past t there. subst (λ (z : PathNode). low_choice ≡ record { level = level; first = first; last = upto; case = case_of z.height z.count true }) (same t there)
         (ap (λ case. record { level = level; first = first; last = upto; case = case }) (low_case true));
   }
 
@@ -98,6 +98,6 @@ module _ (way : List Step) (position level : ℕ) (s : Step) (plan : Plan) (last
       case_full full = let e : nat_lt s.count 32 ≡ false = le-ltb s.count 32 full in rw e refl
 
 -- a plan at the level is that of the new leaf
-pub new_leaf_at : (way : List Step) (position level first upto : ℕ) (plan : Plan) → IsLevel way position level → IsBeside way position level first upto plan → IsNewLeafPlan way position first upto plan
+pub new_leaf_at : (way : List PathNode) (position level first upto : ℕ) (plan : Plan) → IsLevel way position level → IsBeside way position level first upto plan → IsNewLeafPlan way position first upto plan
 new_leaf_at [] position level first upto plan is beside = absurd (let within = is.within in omega (arith, within))
 new_leaf_at (s ∷ ss) position level first upto plan is beside = (level, is, beside)

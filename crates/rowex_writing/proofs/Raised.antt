@@ -4,7 +4,7 @@ use Rattle.std.proofs.Common.{◌≡◌, ◌≢◌, inl, inr, ℕ, suc, zero, �
 use Rattle.std.proofs.lemmas.Bool.{eqb-true}
 use Rattle.std.proofs.lemmas.List.{length-append, length-map}
 use Rattle.std.proofs.lemmas.List.Elements.{All-append}
-use Rattle.insert_cases.specs.declared.choice.Step.{Step}
+use Rattle.insert_cases.specs.declared.choice.PathNode.{PathNode}
 use Rattle.versions.specs.Trades.{IsOneOf, AreApart}
 use Rattle.versions.specs.declared.Rec.{Rec}
 use Rattle.versions.specs.declared.Rec.TheVariants.{Node as a_node}
@@ -59,20 +59,20 @@ pub none_in_table : (layout : Layout) → AreInTable layout []
 none_in_table layout = λ i d low. absurd (omega arith)
 
 -- where no node goes
-pub just_leaf_gone : (way : List Step) (end low : ℕ) (leaf : Option ℕ) → low ≡ end → map (λ (s : Step). a_node s.number) (slice_range way end low) ++ leaf_gone leaf ≡ leaf_gone leaf
-just_leaf_gone way end low leaf same = ap (λ (steps : List Step). map (λ (s : Step). a_node s.number) steps ++ leaf_gone leaf) (ap (slice_range way end) same ∙ slice_none way end)
+pub just_leaf_gone : (way : List PathNode) (end low : ℕ) (leaf : Option ℕ) → low ≡ end → map (λ (s : PathNode). a_node s.number) (slice_range way end low) ++ leaf_gone leaf ≡ leaf_gone leaf
+just_leaf_gone way end low leaf same = ap (λ (steps : List PathNode). map (λ (s : PathNode). a_node s.number) steps ++ leaf_gone leaf) (ap (slice_range way end) same ∙ slice_none way end)
 
-module _ (way : List Step) (span : Span) (raised : Raised) where
+module _ (way : List PathNode) (span : Span) (raised : Raised) where
   pub gone_few : length (gone_of_span way span raised) ≤ raised.low - span.end + length (leaf_gone raised.leaf)
   gone_few =
-      let nodes = map (λ (s : Step). a_node s.number) (slice_range way span.end raised.low) in
-      omega (arith, length-append nodes (leaf_gone raised.leaf), length-map (slice_range way span.end raised.low) (λ (s : Step). a_node s.number), slice_few way span.end raised.low)
+      let nodes = map (λ (s : PathNode). a_node s.number) (slice_range way span.end raised.low) in
+      omega (arith, length-append nodes (leaf_gone raised.leaf), length-map (slice_range way span.end raised.low) (λ (s : PathNode). a_node s.number), slice_few way span.end raised.low)
 
   pub kept_few : length (kept_of_span way span raised) ≤ span.end - (span.end - 1) + (span.len - raised.low)
   kept_few = omega (arith, length-append (slice_range way (span.end - 1) span.end) (slice_range way raised.low span.len), slice_few way (span.end - 1) span.end, slice_few way raised.low span.len)
 
   pub gone_records : (layout : Layout) → AreNodes layout way → AreInTable layout (leaf_gone raised.leaf) → AreInTable layout (gone_of_span way span raised)
-  gone_records layout nodes leaf = All-append (HasRecord layout) (map (λ (s : Step). a_node s.number) (slice_range way span.end raised.low)) (leaf_gone raised.leaf) (range_records layout way span.end raised.low nodes) leaf
+  gone_records layout nodes leaf = All-append (HasRecord layout) (map (λ (s : PathNode). a_node s.number) (slice_range way span.end raised.low)) (leaf_gone raised.leaf) (range_records layout way span.end raised.low nodes) leaf
 
   pub kept_nodes : (layout : Layout) → AreNodes layout way → AreNodes layout (kept_of_span way span raised)
   kept_nodes layout nodes = two_nodes layout way (span.end - 1) span.end raised.low span.len nodes
@@ -81,21 +81,21 @@ module _ (way : List Step) (span : Span) (raised : Raised) where
       AreKept (nodes_of k.locks) (gone_of_span way span raised) (numbers_of (kept_of_span way span raised)) × AreApart (numbers_of (kept_of_span way span raised))
   kept_raised k locked from upto =
       let (kept, apart) = kept_span k.locks way span.end raised.low span.len from upto locked.nodes.0 locked.nodes.1 in
-      (with_leaf (nodes_of k.locks) (map (λ (s : Step). a_node s.number) (slice_range way span.end raised.low)) (numbers_of (kept_of_span way span raised)) raised.leaf kept, apart)
+      (with_leaf (nodes_of k.locks) (map (λ (s : PathNode). a_node s.number) (slice_range way span.end raised.low)) (numbers_of (kept_of_span way span raised)) raised.leaf kept, apart)
 
 -- ---- where it is stored
 above_zero : (n : ℕ) → nat_eq n 0 ≡ false → 0 < n
 above_zero zero e = absurd cc
 above_zero (suc n) e = omega arith
 
-pub span_anchor : (k : Known) (way : List Step) (span : Span) → HasLockedSpan k way span → IsAnchored (nat_eq span.end 0) k
+pub span_anchor : (k : Known) (way : List PathNode) (span : Span) → HasLockedSpan k way span → IsAnchored (nat_eq span.end 0) k
 span_anchor k way span locked = go (nat_eq span.end 0) refl
   where
     go : (is : Bool) → nat_eq span.end 0 ≡ is → IsAnchored is k
     go true e = locked.top (eqb-true span.end 0 e)
     go false e = locked.below (above_zero span.end e)
 
-pub spot_there : (layout : Layout) (k : Known) (m : ℕ) (key : Key) (way : List Step) (found : Found) → IsWayOf layout k m key way found → (end : ℕ) (spot : Spot) → IsSpotAbove way end spot → HasSpot layout spot
+pub spot_there : (layout : Layout) (k : Known) (m : ℕ) (key : Key) (way : List PathNode) (found : Found) → IsWayOf layout k m key way found → (end : ℕ) (spot : Spot) → IsSpotAbove way end spot → HasSpot layout spot
 spot_there layout k m key way found w end Root is = tt
 spot_there layout k m key way found w end (Slot n i) (s, low, at, number, place) =
     let node = (w.nodes (end - 1) s at).2 in

@@ -7,7 +7,7 @@ use Rattle.compound_node.specs.Nodes.{NodeView, IsEntry, height_of, piece}
 use Rattle.compound_node.specs.declared.entries.Entry.{Entry}
 use Rattle.compound_node.specs.declared.entries.Entry.TheVariants.{Leaf as LeafEntry, Node}
 use Rattle.finite_map.specs.declared.Change.{Change as MapChange}
-use Rattle.insert_cases.specs.declared.choice.Step.{Step}
+use Rattle.insert_cases.specs.declared.choice.PathNode.{PathNode}
 use Rattle.insert_cases.proofs.Choosing.{some_injective}
 use Rattle.pieces.specs.Piece.{Place, Fork, places}
 use Rattle.record_words.specs.declared.layout.Layout.{Layout}
@@ -50,7 +50,7 @@ use Rattle.rowex_writing.specs.Changes.{HasTakenSpan, IsPlanned, MayPublishOnceR
 use Rattle.rowex_writing.specs.Plans.{change, IsCase, IsNewLeafPlan, IsPlan}
 use Rattle.rowex_writing.specs.declared.plan.Aim.{Aim}
 use Rattle.rowex_writing.specs.declared.plan.Aim.TheVariants.{Insert, Upsert, Remove}
-use Rattle.rowex_writing.specs.declared.plan.Deed.TheVariants.{Grow, Pair, Put, Take}
+use Rattle.rowex_writing.specs.declared.plan.Deed.TheVariants.{Grow, PushDown, Put, Take}
 use Rattle.rowex_writing.specs.declared.plan.Plan.{Plan}
 use Rattle.rowex_writing.specs.declared.plan.Plan.TheVariants.{Answer, Change}
 use Rattle.insert_cases.specs.declared.choice.Case.{Case}
@@ -85,7 +85,7 @@ leaf_record layout k number key value possible (m, pinned, read) =
 
 -- ---- the root's only leaf
 module _ (table : TableView) (a : SeatView) (number : ℕ) (key : Key) (value : ℕ) (o : HasOnlyLeaf table a number key value) where
-  pub may_empty : (way : List Step) (end : ℕ) → end ≡ 0 → (spot : Spot) → IsSpotAbove way end spot → MayPublishOnceReady table a [] spot 0 (removed_change a.known.pass (item number key value)) (Some value) (a_leaf number ∷ [])
+  pub may_empty : (way : List PathNode) (end : ℕ) → end ≡ 0 → (spot : Spot) → IsSpotAbove way end spot → MayPublishOnceReady table a [] spot 0 (removed_change a.known.pass (item number key value)) (Some value) (a_leaf number ∷ [])
   may_empty way end top (Slot n i) (s, low, there, number_is, place) = absurd (omega (arith, top, low))
   may_empty way end top Root over = record {
     news = [];
@@ -99,11 +99,11 @@ module _ (table : TableView) (a : SeatView) (number : ℕ) (key : Key) (value : 
 
 -- ---- the way
 -- what stands past its end
-abbrev pub no_step : Step
+abbrev pub no_step : PathNode
 no_step = record { number = 0; height = 0; first_position = 0; count = 0; at = 0 }
 
 -- the last node of the way that a leaf below it leaves
-pub low_step : (table : TableView) (a : SeatView) (m : ℕ) (key : Key) (way : List Step) (number value : ℕ) (span : Span) → HasLeafBelow table a m key way number value span → slice_get way span.end ≡ Some (get_or way span.end no_step)
+pub low_step : (table : TableView) (a : SeatView) (m : ℕ) (key : Key) (way : List PathNode) (number value : ℕ) (span : Span) → HasLeafBelow table a m key way number value span → slice_get way span.end ≡ Some (get_or way span.end no_step)
 low_step table a m key way number value span b = slice_get-get_or way span.end no_step (let e = b.last in let n = b.len in omega (arith, e, n))
 
 -- ---- the plan
@@ -111,12 +111,12 @@ low_step table a m key way number value span b = slice_get-get_or way span.end n
 abbrev IsTakePlan : Plan → Type 0
 IsTakePlan (Answer reply) = ⊥
 IsTakePlan (Change span (Put)) = ⊥
-IsTakePlan (Change span (Pair p)) = ⊥
+IsTakePlan (Change span (PushDown p)) = ⊥
 IsTakePlan (Change span (Grow p)) = ⊥
 IsTakePlan (Change span (Take)) = Unit {0}
 
 -- the span of such a plan is the last node of the way, and the found leaf has the key
-pub record IsTakeOf (way : List Step) (found : Found) (len end : ℕ) : Type 0 where
+pub record IsTakeOf (way : List PathNode) (found : Found) (len end : ℕ) : Type 0 where
   pub number : ℕ
   pub value : ℕ
   pub found_is : found ≡ Leaf number value None
@@ -126,12 +126,12 @@ pub record IsTakeOf (way : List Step) (found : Found) (len end : ℕ) : Type 0 w
 no_take : (plan other : Plan) → plan ≡ other → IsTakePlan plan → (IsTakePlan other → ⊥) → ⊥
 no_take plan other is takes never = never (subst IsTakePlan is takes)
 
-case_takes : (way : List Step) (p : ℕ) (c : Choice) (case : Case) (plan : Plan) → IsCase way p c case plan → IsTakePlan plan → ⊥
+case_takes : (way : List PathNode) (p : ℕ) (c : Choice) (case : Case) (plan : Plan) → IsCase way p c case plan → IsTakePlan plan → ⊥
 case_takes way p c LeafPushdown plan is take = no_take plan _ is take (λ z. z)
 case_takes way p c NormalInsert plan is take = no_take plan _ is take (λ z. z)
 case_takes way p c Overflow plan is take = no_take plan _ is.2 take (λ z. z)
 
-new_takes : (way : List Step) (p first last : ℕ) (plan : Plan) → IsNewLeafPlan way p first last plan → IsTakePlan plan → ⊥
+new_takes : (way : List PathNode) (p first last : ℕ) (plan : Plan) → IsNewLeafPlan way p first last plan → IsTakePlan plan → ⊥
 new_takes [] p first last plan is take = no_take plan _ is take (λ z. z)
 new_takes (s ∷ way) p first last plan is take = let beside = is.2 in case_takes (s ∷ way) p beside.0 beside.0.case plan beside.2 take
 
@@ -143,7 +143,7 @@ abbrev plan_end : Plan → ℕ
 plan_end (Answer reply) = 0
 plan_end (Change span deed) = span.end
 
-plan_takes : (way : List Step) (first last : ℕ) (aim : Aim) (found : Found) (len end : ℕ) → IsPlan way first last aim found (change len end Take) → IsTakeOf way found len end
+plan_takes : (way : List PathNode) (first last : ℕ) (aim : Aim) (found : Found) (len end : ℕ) → IsPlan way first last aim found (change len end Take) → IsTakeOf way found len end
 plan_takes way first last Insert Nothing len end is = absurd (no_take (change len end Take) _ is tt (λ z. z))
 plan_takes way first last Upsert Nothing len end is = absurd (no_take (change len end Take) _ is tt (λ z. z))
 plan_takes way first last Insert (Leaf n v (Some p)) len end is = absurd (new_takes way p first last (change len end Take) is tt)
@@ -154,7 +154,7 @@ plan_takes way first last Remove Nothing len end is = absurd (no_take (change le
 plan_takes way first last Remove (Leaf n v (Some p)) len end is = absurd (no_take (change len end Take) _ is tt (λ z. z))
 plan_takes way first last Remove (Leaf n v None) len end is = record { number = n; value = v; found_is = refl; len_is = ap len_of is; end_is = ap plan_end is }
 
-module _ (table : TableView) (a : SeatView) (m : ℕ) (key : Key) (way : List Step) (aim : Aim) (found : Found) (span : Span) (taken : HasTakenSpan table a m key way found span)
+module _ (table : TableView) (a : SeatView) (m : ℕ) (key : Key) (way : List PathNode) (aim : Aim) (found : Found) (span : Span) (taken : HasTakenSpan table a m key way found span)
     (planned : IsPlanned a.known m key way aim found (change span.len span.end Take)) (number value : ℕ) (mismatch : Option ℕ) (is_leaf : found ≡ Leaf number value mismatch) where
   the_plan : IsTakeOf way found span.len span.end
   the_plan = let (first, last, is, affected) = planned in plan_takes way first last aim found span.len span.end is
@@ -200,7 +200,7 @@ module _ (table : TableView) (a : SeatView) (m : ℕ) (key : Key) (way : List St
       )
 
 -- so on a way with a node, whatever the search found
-pub taken_below : (table : TableView) (a : SeatView) (m : ℕ) (key : Key) (way : List Step) (aim : Aim) (found : Found) (span : Span) → HasTakenSpan table a m key way found span → IsPlanned a.known m key way aim found (change span.len span.end Take) → 0 < span.len →
+pub taken_below : (table : TableView) (a : SeatView) (m : ℕ) (key : Key) (way : List PathNode) (aim : Aim) (found : Found) (span : Span) → HasTakenSpan table a m key way found span → IsPlanned a.known m key way aim found (change span.len span.end Take) → 0 < span.len →
     (number : ℕ) × (value : ℕ) × (found ≡ Leaf number value None) × HasLeafBelow table a m key way number value span
 taken_below table a m key way aim found span taken planned some =
     let (first, last, is, affected) = planned in
@@ -254,7 +254,7 @@ left_raised layout k n words key e news possible h side =
     side_raised key view e news all (subst (λ (z : Subtrie). IsSide (subtrie_without key z) e news) subtrie_is side)
 
 -- ---- the node that names the leaf
-module _ (table : TableView) (a : SeatView) (m : ℕ) (key : Key) (way : List Step) (number value : ℕ) (span : Span) (b : HasLeafBelow table a m key way number value span) (s : Step) (at : slice_get way span.end ≡ Some s) where
+module _ (table : TableView) (a : SeatView) (m : ℕ) (key : Key) (way : List PathNode) (number value : ℕ) (span : Span) (b : HasLeafBelow table a m key way number value span) (s : PathNode) (at : slice_get way span.end ≡ Some s) where
   abbrev found : Found
   found = Leaf number value None
 

@@ -2,7 +2,7 @@
 use Rattle.std.proofs.Common.{◌≡◌, ℕ, ◌+◌, ◌-◌, ◌≤◌, List, refl, ap, sym, ◌∙◌, subst, le_refl, le_trans}
 use Rattle.compound_node.specs.declared.entries.Entry.{Entry}
 use Rattle.compound_node.specs.declared.entries.Entry.TheVariants.{Node}
-use Rattle.insert_cases.specs.declared.choice.Step.{Step}
+use Rattle.insert_cases.specs.declared.choice.PathNode.{PathNode}
 use Rattle.pieces.specs.Piece.{Place, Fork, size}
 use Rattle.pieces.specs.Growth.{affected_first, affected_count}
 use Rattle.record_words.specs.declared.layout.Layout.{Layout}
@@ -95,7 +95,7 @@ shape_affects key p first last x forks e a = record {
 -- ---- a locked node of a way
 
 -- What the words under the lock of a way's node show: the forks that were read, and so what its step says.
-pub record IsStepOf (key : Key) (s : Step) (forks : Subtrie) (w : NodeWords) : Type 0 where
+pub record IsStepOf (key : Key) (s : PathNode) (forks : Subtrie) (w : NodeWords) : Type 0 where
   pub forks_are : shape w.subtrie ≡ forks
   pub height : w.fixed.height ≡ s.height
   pub count : size w.subtrie ≡ s.count
@@ -103,7 +103,7 @@ pub record IsStepOf (key : Key) (s : Step) (forks : Subtrie) (w : NodeWords) : T
   pub at : spot key w.subtrie ≡ s.at
   pub room : size w.subtrie ≤ 32
 
-pub way_node_locked : (layout : Layout) (k : Known) (m : ℕ) (key : Key) (s : Step) (e : Entry) (words : List ℕ) → IsPossible layout k → IsPinnedSince k m →
+pub way_node_locked : (layout : Layout) (k : Known) (m : ℕ) (key : Key) (s : PathNode) (e : Entry) (words : List ℕ) → IsPossible layout k → IsPinnedSince k m →
     (is : IsWayNode layout k m key s e) → HasLocked k s.number words → IsStepOf key s is.forks (node_words_of words)
 way_node_locked layout k m key s e words possible since is locked =
     let (same, high) = locked_shape layout k m s.number s.height is.forks words possible since is.seen is.shaped locked in

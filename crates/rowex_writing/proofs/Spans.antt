@@ -4,7 +4,7 @@ use Rattle.std.specs.Prelude.{Contains, slice_range}
 use Rattle.std.proofs.lemmas.List.{drop_more, drop_all}
 use Rattle.std.proofs.lemmas.List.Elements.{All-drop, All-take, All-weaker}
 use Rattle.record_words.specs.declared.layout.Layout.{Layout}
-use Rattle.insert_cases.specs.declared.choice.Step.{Step}
+use Rattle.insert_cases.specs.declared.choice.PathNode.{PathNode}
 use Rattle.compound_node.specs.declared.entries.Entry.TheVariants.{Node}
 use Rattle.rowex_walks.specs.Scan.{EntryStoodSince}
 use Rattle.versions.specs.Trades.{IsOneOf}
@@ -49,25 +49,25 @@ pub locked_same : (k j : Known) (ns : List ℕ) → j.locks ≡ k.locks → HasJ
 locked_same k j ns e (just, apart) = (subst (λ z. LocksJust z ns) (sym e) just, apart)
 
 -- the first of those that are left
-pub first_locked : (k : Known) (steps : List Step) (i : ℕ) (d : Step) → i < length steps → HasJustLocked k (numbers_of (drop i steps)) →
+pub first_locked : (k : Known) (steps : List PathNode) (i : ℕ) (d : PathNode) → i < length steps → HasJustLocked k (numbers_of (drop i steps)) →
     HasJustLocked k ((get_or steps i d).number ∷ numbers_of (drop (i + 1) steps))
-first_locked k steps i d low h = subst (λ (z : List Step). HasJustLocked k (numbers_of z)) (drop_more steps i d low) h
+first_locked k steps i d low h = subst (λ (z : List PathNode). HasJustLocked k (numbers_of z)) (drop_more steps i d low) h
 
 -- none is left
-pub none_locked : (k : Known) (steps : List Step) (i : ℕ) → length steps ≤ i → HasJustLocked k (numbers_of (drop i steps)) → k.locks ≡ []
-none_locked k steps i past (just, apart) = none_of k.locks (λ l there. subst (λ (z : List Step). IsOneOf l.node (numbers_of z)) (drop_all i steps past) (just.only l there))
+pub none_locked : (k : Known) (steps : List PathNode) (i : ℕ) → length steps ≤ i → HasJustLocked k (numbers_of (drop i steps)) → k.locks ≡ []
+none_locked k steps i past (just, apart) = none_of k.locks (λ l there. subst (λ (z : List PathNode). IsOneOf l.node (numbers_of z)) (drop_all i steps past) (just.only l there))
 
 -- ---- nodes to which the pass was led
-pub led_step_later : (layout : Layout) (k j : Known) (s : Step) → IsLater k j → IsLedStep layout k s → IsLedStep layout j s
+pub led_step_later : (layout : Layout) (k j : Known) (s : PathNode) → IsLater k j → IsLedStep layout k s → IsLedStep layout j s
 led_step_later layout k j s later (low, (m, h, (pin, pinned, early), sure)) = (low, (m, h, (pin, later.pin ∙ pinned, early), sure_stays k j (λ past. EntryStoodSince past m (Node s.number h)) later sure))
 
-pub led_at : (layout : Layout) (k j : Known) (way : List Step) (i : ℕ) (d : Step) → i < length way → IsLater k j → AreLed layout k way → IsLedStep layout j (get_or way i d)
+pub led_at : (layout : Layout) (k j : Known) (way : List PathNode) (i : ℕ) (d : PathNode) → i < length way → IsLater k j → AreLed layout k way → IsLedStep layout j (get_or way i d)
 led_at layout k j way i d low later led = led_step_later layout k j (get_or way i d) later (led i d low)
 
-pub led_nodes : (layout : Layout) (k : Known) (way : List Step) (i j : ℕ) → AreLed layout k way → AreNodes layout (slice_range way i j)
+pub led_nodes : (layout : Layout) (k : Known) (way : List PathNode) (i j : ℕ) → AreLed layout k way → AreNodes layout (slice_range way i j)
 led_nodes layout k way i j led =
-    All-take (λ (s : Step). s.number < layout.nodes) (j - i) (drop i way) (All-drop (λ (s : Step). s.number < layout.nodes) i way
-    (All-weaker (IsLedStep layout k) (λ (s : Step). s.number < layout.nodes) (λ s h. h.0) way led))
+    All-take (λ (s : PathNode). s.number < layout.nodes) (j - i) (drop i way) (All-drop (λ (s : PathNode). s.number < layout.nodes) i way
+    (All-weaker (IsLedStep layout k) (λ (s : PathNode). s.number < layout.nodes) (λ s h. h.0) way led))
 
 -- a node that is none of those is not locked
 pub not_locked : (k : Known) (n : ℕ) (ns : List ℕ) → HasJustLocked k ns → ¬ (IsOneOf n ns) → ¬ (IsOneOf n (nodes_of k.locks))

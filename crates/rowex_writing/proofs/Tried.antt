@@ -3,7 +3,7 @@ use Rattle.std.proofs.Common.{◌≡◌, inl, inr, ℕ, zero, suc, ◌+◌, ◌-
 use Rattle.std.specs.Prelude.{All, slice_range}
 use Rattle.std.proofs.lemmas.List.{append-nil, length-append}
 use Rattle.std.proofs.lemmas.List.Elements.{All-append, All-cons, All-head, All-nil, All-tail}
-use Rattle.insert_cases.specs.declared.choice.Step.{Step}
+use Rattle.insert_cases.specs.declared.choice.PathNode.{PathNode}
 use Rattle.versions.specs.Trades.{AreApart, IsOneOf}
 use Rattle.versions.proofs.Members.{of_append, of_map}
 use Rattle.rowex_core.specs.declared.event.Act.{Act}
@@ -45,24 +45,24 @@ apart_end x (y ∷ xs) apart new = (
   apart_end x xs apart.1 (λ i. new (inr i)),
 )
 
-of_take : (n number : ℕ) (way : List Step) → IsOneOf number (numbers_of (take n way)) → IsOneOf number (numbers_of way)
+of_take : (n number : ℕ) (way : List PathNode) → IsOneOf number (numbers_of (take n way)) → IsOneOf number (numbers_of way)
 of_take zero number way i = absurd i
 of_take (suc n) number [] i = i
 of_take (suc n) number (s ∷ way) (inl e) = inl e
 of_take (suc n) number (s ∷ way) (inr i) = inr (of_take n number way i)
 
-apart_take : (n : ℕ) (way : List Step) → AreApart (numbers_of way) → AreApart (numbers_of (take n way))
+apart_take : (n : ℕ) (way : List PathNode) → AreApart (numbers_of way) → AreApart (numbers_of (take n way))
 apart_take zero way apart = tt
 apart_take (suc n) [] apart = tt
 apart_take (suc n) (s ∷ way) apart = (λ i. apart.0 (of_take n s.number way i), apart_take n way apart.1)
 
-apart_drop : (n : ℕ) (way : List Step) → AreApart (numbers_of way) → AreApart (numbers_of (drop n way))
+apart_drop : (n : ℕ) (way : List PathNode) → AreApart (numbers_of way) → AreApart (numbers_of (drop n way))
 apart_drop zero way apart = apart
 apart_drop (suc n) [] apart = tt
 apart_drop (suc n) (s ∷ way) apart = apart_drop n way apart.1
 
 -- a node of a way is none of those that follow
-pub number_new : (way : List Step) (i j : ℕ) (d : Step) → i < j → j ≤ length way → AreApart (numbers_of way) → IsOneOf (get_or way i d).number (numbers_of (slice_range way (i + 1) j)) → ⊥
+pub number_new : (way : List PathNode) (i j : ℕ) (d : PathNode) → i < j → j ≤ length way → AreApart (numbers_of way) → IsOneOf (get_or way i d).number (numbers_of (slice_range way (i + 1) j)) → ⊥
 number_new way i j d low high apart =
     (subst (λ z. AreApart (numbers_of z)) (slice_more way i j d low high) (apart_take (j - i) (drop i way) (apart_drop i way apart))).0
 

@@ -2,7 +2,7 @@
 use Rattle.std.proofs.Common.{◌≡◌, ◌≢◌, inl, inr, ℕ, zero, suc, ◌+◌, ◌-◌, ◌*◌, ◌<◌, ◌≤◌, Bool, true, false, List, [], ◌∷◌, length, get_or, take, drop, Option, Some, None, refl, sym, ap, subst, ◌∙◌, arith, nat_eq, eq-eqb, ne_eqb}
 use Rattle.std.specs.Prelude.{slice_get, slice_range}
 use Rattle.std.proofs.lemmas.Option.{get_or_from_slice_get}
-use Rattle.insert_cases.specs.declared.choice.Step.{Step}
+use Rattle.insert_cases.specs.declared.choice.PathNode.{PathNode}
 use Rattle.record_words.specs.declared.layout.Layout.{Layout}
 use Rattle.tries.specs.Keys.{Key}
 use Rattle.tries.specs.Place.{entry_at}
@@ -66,29 +66,29 @@ pub last_locked : (n : ℕ) (held : List Locked) (k : Known) → LocksLast n hel
 last_locked n held k ((words, is), new) = (words, subst (IsOneOf (record { node = n; words = words })) (sym is) (inl refl))
 
 -- ---- nodes of a part of a way
-of_taken : (way : List Step) (count n : ℕ) → IsOneOf n (numbers_of (take count way)) → (i : ℕ) × (s : Step) × (slice_get way i ≡ Some s) × (i < count) × (n ≡ s.number)
+of_taken : (way : List PathNode) (count n : ℕ) → IsOneOf n (numbers_of (take count way)) → (i : ℕ) × (s : PathNode) × (slice_get way i ≡ Some s) × (i < count) × (n ≡ s.number)
 of_taken way zero n i = absurd i
 of_taken [] (suc count) n i = absurd i
 of_taken (s ∷ way) (suc count) n (inl e) = (0, s, refl, omega arith, e)
 of_taken (s ∷ way) (suc count) n (inr i) = let (j, t, at, low, is) = of_taken way count n i in (suc j, t, at, omega (arith, low), is)
 
-of_dropped : (way : List Step) (from i : ℕ) (s : Step) → slice_get (drop from way) i ≡ Some s → slice_get way (from + i) ≡ Some s
+of_dropped : (way : List PathNode) (from i : ℕ) (s : PathNode) → slice_get (drop from way) i ≡ Some s → slice_get way (from + i) ≡ Some s
 of_dropped way zero i s at = let e : 0 + i ≡ i = omega arith in ap (slice_get way) e ∙ at
 of_dropped [] (suc from) i s at = absurd (let z : None ≡ Some s = at in cc)
 of_dropped (x ∷ way) (suc from) i s at = let e : suc from + i ≡ suc (from + i) = omega arith in ap (slice_get (x ∷ way)) e ∙ of_dropped way from i s at
 
-pub of_range : (way : List Step) (from upto n : ℕ) → IsOneOf n (numbers_of (slice_range way from upto)) → (i : ℕ) × (s : Step) × (slice_get way i ≡ Some s) × (from ≤ i) × (i < upto) × (n ≡ s.number)
+pub of_range : (way : List PathNode) (from upto n : ℕ) → IsOneOf n (numbers_of (slice_range way from upto)) → (i : ℕ) × (s : PathNode) × (slice_get way i ≡ Some s) × (from ≤ i) × (i < upto) × (n ≡ s.number)
 of_range way from upto n there =
     let (i, s, at, low, is) = of_taken (drop from way) (upto - from) n there in (from + i, s, of_dropped way from i s at, omega arith, omega (arith, low), is)
 
 -- a number that none of the nodes from the one above a span on has
-abbrev pub IsFar : List Step → Span → ℕ → Type 0
-IsFar way span n = (s : Step) (i : ℕ) → slice_get way i ≡ Some s → span.end ≤ i + 2 → i < span.len → n ≢ s.number
+abbrev pub IsFar : List PathNode → Span → ℕ → Type 0
+IsFar way span n = (s : PathNode) (i : ℕ) → slice_get way i ≡ Some s → span.end ≤ i + 2 → i < span.len → n ≢ s.number
 
-pub far_none : (way : List Step) (span : Span) (n : ℕ) → IsFar way span n → ¬ (IsOneOf n (span_numbers way span))
+pub far_none : (way : List PathNode) (span : Span) (n : ℕ) → IsFar way span n → ¬ (IsOneOf n (span_numbers way span))
 far_none way span n far there = let (i, s, at, from, upto, is) = of_range way (span.end - 1) span.len n there in far s i at (omega (arith, from)) upto is
 
-pub above_none : (way : List Step) (span : Span) (n : ℕ) → AreApart (numbers_of way) → span.end ≤ span.len → span.len ≤ length way → IsFar way span n → (s : Step) → 0 < span.end - 1 → slice_get way (span.end - 1 - 1) ≡ Some s →
+pub above_none : (way : List PathNode) (span : Span) (n : ℕ) → AreApart (numbers_of way) → span.end ≤ span.len → span.len ≤ length way → IsFar way span n → (s : PathNode) → 0 < span.end - 1 → slice_get way (span.end - 1 - 1) ≡ Some s →
     ¬ (IsOneOf s.number (n ∷ span_numbers way span))
 above_none way span n apart within upto far s low at (inl e) = far s (span.end - 1 - 1) at (omega (arith, low)) (omega (arith, low, within)) (sym e)
 above_none way span n apart within upto far s low at (inr there) =
@@ -96,7 +96,7 @@ above_none way span n apart within upto far s low at (inr there) =
     let next : span.end - 1 ≡ i + 1 = omega (arith, low) in
     let is : get_or way i s ≡ s = get_or_from_slice_get way i s s at in
     number_new way i span.len s (omega (arith, low, within)) upto apart
-    (subst (λ (x : Step). IsOneOf x.number (numbers_of (slice_range way (i + 1) span.len))) (sym is) (subst (λ b. IsOneOf s.number (numbers_of (slice_range way b span.len))) next there))
+    (subst (λ (x : PathNode). IsOneOf x.number (numbers_of (slice_range way (i + 1) span.len))) (sym is) (subst (λ b. IsOneOf s.number (numbers_of (slice_range way b span.len))) next there))
 
 -- ---- locks that are tried
 module _ {G : Type 0} (table : TableView) (becomes : G → Event → G → Type 0) where
@@ -111,8 +111,8 @@ module _ {G : Type 0} (table : TableView) (becomes : G → Event → G → Type 
       (length (n ∷ nodes), nodes_once table becomes (n ∷ nodes) a c (nodes_then table becomes (n ∷ nodes) a m c one run), omega arith, omega arith, λ e. absurd (let z : false ≡ true = e in cc))
 
   -- and that of what names it
-  pub more_two : (nodes : List ℕ) (n : ℕ) (way : List Step) (end : ℕ) (both : Bool) (b m c d : SeatView × G) → ¬ (IsOneOf n nodes) → HasTried table becomes (NodeTarget n ∷ []) b m →
-      (target : Target) → HasTried table becomes (target ∷ []) m c → IsTargetAbove way end target → ((s : Step) → 0 < end → slice_get way (end - 1) ≡ Some s → ¬ (IsOneOf s.number (n ∷ nodes))) →
+  pub more_two : (nodes : List ℕ) (n : ℕ) (way : List PathNode) (end : ℕ) (both : Bool) (b m c d : SeatView × G) → ¬ (IsOneOf n nodes) → HasTried table becomes (NodeTarget n ∷ []) b m →
+      (target : Target) → HasTried table becomes (target ∷ []) m c → IsTargetAbove way end target → ((s : PathNode) → 0 < end → slice_get way (end - 1) ≡ Some s → ¬ (IsOneOf s.number (n ∷ nodes))) →
       HasTried table becomes [] c d → TriesMore table becomes nodes both b d
   more_two nodes n way end both b m c d new lock Anchor above top others run a h =
       let one = nodes_more table becomes n nodes a b m new h lock in
@@ -154,11 +154,11 @@ pub place_later : (k j : Known) (m n h i : ℕ) → IsLater k j → HasPlace k m
 place_later k j m n h i later has = ((since_later later has.0.0, sure_later (seen_stable m (Node n h)) later has.0.1), sure_later (room_stable m n i) later has.1)
 
 -- ---- what names the upper node
-pub root_above : (held : List Locked) (key : Key) (way : List Step) (found : Found) (end : ℕ) (j : Known) (root : Option Entry) → end ≡ 0 → root ≡ named way found end → (j.locks ≡ held) × (j.anchor ≡ Some root) →
+pub root_above : (held : List Locked) (key : Key) (way : List PathNode) (found : Found) (end : ℕ) (j : Known) (root : Option Entry) → end ≡ 0 → root ≡ named way found end → (j.locks ≡ held) × (j.anchor ≡ Some root) →
     LocksAbove held key way found end j
 root_above held key way found end j root top is (locks, anchor) = by_anchor top locks (anchor ∙ ap Some (is ∙ ap (named way found) top))
 
-pub step_above : (layout : Layout) (held : List Locked) (key : Key) (way : List Step) (found : Found) (end : ℕ) (j : Known) (m : ℕ) (entry : Option Entry) (s : Step) → IsPossible layout j → IsWayOf layout j m key way found →
+pub step_above : (layout : Layout) (held : List Locked) (key : Key) (way : List PathNode) (found : Found) (end : ℕ) (j : Known) (m : ℕ) (entry : Option Entry) (s : PathNode) → IsPossible layout j → IsWayOf layout j m key way found →
     0 < end → slice_get way (end - 1) ≡ Some s → entry ≡ named way found end → LocksLast s.number held j → j.anchor ≡ None →
     ((words : List ℕ) → HasLocked j s.number words → entry ≡ Some (entry_at (node_words_of words).subtrie s.at)) → LocksAbove held key way found end j
 step_above layout held key way found end j m entry s possible w low at is last free names = by_node s low at last free (λ words h.
@@ -166,18 +166,18 @@ step_above layout held key way found end j m entry s possible w low at is last f
     let shows = way_node_locked layout j m key s e words possible w.since node h in
     sym is ∙ (names words h ∙ ap Some (ap (entry_at (node_words_of words).subtrie) (sym shows.at) ∙ sym (seek_spot key (node_words_of words).subtrie))))
 
-pub no_root : (held : List Locked) (key : Key) (way : List Step) (found : Found) (end : ℕ) (j : Known) → LocksAbove held key way found end j → end ≡ 0 → (j.locks ≡ held) × (j.anchor ≡ Some (named way found 0))
+pub no_root : (held : List Locked) (key : Key) (way : List PathNode) (found : Found) (end : ℕ) (j : Known) → LocksAbove held key way found end j → end ≡ 0 → (j.locks ≡ held) × (j.anchor ≡ Some (named way found 0))
 no_root held key way found end j (by_anchor top locks anchor) z = (locks, anchor)
 no_root held key way found end j (by_node s low at last free names) z = absurd (omega (arith, low, z))
 
 -- The node above is locked.
-pub record IsOver (held : List Locked) (key : Key) (way : List Step) (found : Found) (end : ℕ) (j : Known) : Type 0 where
-  pub step : Step
+pub record IsOver (held : List Locked) (key : Key) (way : List PathNode) (found : Found) (end : ℕ) (j : Known) : Type 0 where
+  pub step : PathNode
   pub at : slice_get way (end - 1) ≡ Some step
   pub last : LocksLast step.number held j
   pub free : j.anchor ≡ None
   pub names : (words : List ℕ) → HasLocked j step.number words → named way found end ≡ Some (seek key (node_words_of words).subtrie)
 
-pub is_over : (held : List Locked) (key : Key) (way : List Step) (found : Found) (end : ℕ) (j : Known) → LocksAbove held key way found end j → 0 < end → IsOver held key way found end j
+pub is_over : (held : List Locked) (key : Key) (way : List PathNode) (found : Found) (end : ℕ) (j : Known) → LocksAbove held key way found end j → 0 < end → IsOver held key way found end j
 is_over held key way found end j (by_anchor top locks anchor) some = absurd (omega (arith, top, some))
 is_over held key way found end j (by_node s low at last free names) some = record { step = s; at = at; last = last; free = free; names = names }

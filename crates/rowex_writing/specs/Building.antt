@@ -13,7 +13,7 @@ use Rattle.insert_cases.specs.declared.raising.Risen.{Risen}
 use Rattle.insert_cases.specs.declared.raising.Risen.TheVariants.{Whole, Split}
 use Rattle.pieces.specs.Changes.{AtRootFork}
 use Rattle.pieces.specs.Piece.{Place, size}
-use Rattle.insert_cases.specs.declared.choice.Step.{Step}
+use Rattle.insert_cases.specs.declared.choice.PathNode.{PathNode}
 use Rattle.versions.specs.Trades.{IsOneOf}
 use Rattle.rowex_core.specs.declared.known.Locked.{Locked}
 use Rattle.record_words.specs.declared.layout.Layout.{Layout}
@@ -183,16 +183,16 @@ gone_unless_whole stays n = if stays then [] else a_node n ∷ []
 -- ---- a span
 -- Of the locked nodes of the way from `end` to `level` each is named by the one above it, which is higher, and an insertion at p
 -- affects no more than that place; those between the two are full.
-pub record IsChain (nodes : ℕ) (held : List Locked) (way : List Step) (key : Key) (p end level : ℕ) : Type 0 where
-  pub there : (i : ℕ) (s : Step) → i < level → slice_get way i ≡ Some s → s.number < nodes
-  pub above : (i : ℕ) (s u : Step) → end ≤ i → i < level → slice_get way i ≡ Some s → slice_get way (i + 1) ≡ Some u →
+pub record IsChain (nodes : ℕ) (held : List Locked) (way : List PathNode) (key : Key) (p end level : ℕ) : Type 0 where
+  pub there : (i : ℕ) (s : PathNode) → i < level → slice_get way i ≡ Some s → s.number < nodes
+  pub above : (i : ℕ) (s u : PathNode) → end ≤ i → i < level → slice_get way i ≡ Some s → slice_get way (i + 1) ≡ Some u →
       (over : IsLockedAbove held key p s.number u.number) × ((node_words_of over.lower).fixed.height < (node_words_of over.upper).fixed.height)
-  pub full : (i : ℕ) (s : Step) → end < i → i < level → slice_get way i ≡ Some s →
+  pub full : (i : ℕ) (s : PathNode) → end < i → i < level → slice_get way i ≡ Some s →
       (words : List ℕ) → IsOneOf (record { node = s.number; words = words }) held → size (node_words_of words).subtrie ≡ 32
 
 -- What has risen comes in the place of the entry of the node at this level, and it is to rise on to `end`.
-pub record IsRisingOn (table : TableView) (a : SeatView) (made : List Rec) (way : List Step) (key : Key) (end level : ℕ) (risen : Risen) : Type 0 where
-  pub step : Step
+pub record IsRisingOn (table : TableView) (a : SeatView) (made : List Rec) (way : List PathNode) (key : Key) (end level : ℕ) (risen : Risen) : Type 0 where
+  pub step : PathNode
   pub at : slice_get way level ≡ Some step
   pub upto : end ≤ level
   pub here : IsRisenAt table a made step.number risen
@@ -203,18 +203,18 @@ pub record IsRisingOn (table : TableView) (a : SeatView) (made : List Rec) (way 
   pub chain : IsChain table.layout.nodes a.known.locks way here.item.key here.mismatch end level
 
 -- the nodes of the way from `end` on, before `level`, go too
-abbrev pub gone_with_way : List Step → (end level : ℕ) → List Rec → List Rec
-gone_with_way way end level gone = map (λ (s : Step). a_node s.number) (drop end (take level way)) ++ gone
+abbrev pub gone_with_way : List PathNode → (end level : ℕ) → List Rec → List Rec
+gone_with_way way end level gone = map (λ (s : PathNode). a_node s.number) (drop end (take level way)) ++ gone
 
 -- one entry has risen to the place of the entry of the node at `end`
-abbrev pub HasRisenTo : (table : TableView) (a : SeatView) (made : List Rec) (way : List Step) (since : ℕ) (x : Item) (p : ℕ) (l : Key) →
+abbrev pub HasRisenTo : (table : TableView) (a : SeatView) (made : List Rec) (way : List PathNode) (since : ℕ) (x : Item) (p : ℕ) (l : Key) →
     (end : ℕ) (gone : List Rec) (e : Entry) → Type 0
 HasRisenTo table a made way since x p l end gone e =
-    (news : List Made) × (top : Step) × (slice_get way end ≡ Some top) × IsRaising table a made news gone since x p l entry top.number (Place e)
+    (news : List Made) × (top : PathNode) × (slice_get way end ≡ Some top) × IsRaising table a made news gone since x p l entry top.number (Place e)
 
 -- The lowest node of the span gets the new leaf, and what comes of it rises to `end`.
-pub record IsGrowing (table : TableView) (a : SeatView) (made : List Rec) (way : List Step) (key : Key) (end top position took leaf : ℕ) : Type 0 where
-  pub step : Step
+pub record IsGrowing (table : TableView) (a : SeatView) (made : List Rec) (way : List PathNode) (key : Key) (end top position took leaf : ℕ) : Type 0 where
+  pub step : PathNode
   pub at : slice_get way top ≡ Some step
   pub upto : end ≤ top
   pub low : step.number < table.layout.nodes
@@ -223,12 +223,12 @@ pub record IsGrowing (table : TableView) (a : SeatView) (made : List Rec) (way :
   pub chain : IsChain table.layout.nodes a.known.locks way lowest.item.key position end top
 
 -- so for a new leaf
-abbrev pub IsGrowingBy : TableView → SeatView → List Rec → List Step → Span → NewLeaf → Type 0
+abbrev pub IsGrowingBy : TableView → SeatView → List Rec → List PathNode → Span → NewLeaf → Type 0
 IsGrowingBy table a made way span new = IsGrowing table a made way new.key.now span.end (span.len - 1) new.position new.at new.number
 
 -- so for a fork, and for what rises
 abbrev pub GetsFork : TableView → SeatView → List Rec → ℕ → Fork → Type 0
 GetsFork table a made above fork = IsBelow table a made fork.key.now above fork.position fork.zero fork.one
 
-abbrev pub Rises : TableView → SeatView → List Rec → List Step → Rise → Type 0
+abbrev pub Rises : TableView → SeatView → List Rec → List PathNode → Rise → Type 0
 Rises table a made way rise = IsRisingOn table a made way rise.key.now rise.end rise.level rise.risen

@@ -4,7 +4,7 @@ use Rattle.finite_map.specs.declared.Change.{Change}
 use Rattle.finite_map.specs.declared.Kind.TheVariants.{Added, Replaced, Removed}
 use Rattle.finite_map.specs.Fronts.{BeginsWith, OthersGoOn, map_of, Fits}
 use Rattle.finite_map.specs.Maps.{value_at}
-use Rattle.insert_cases.specs.declared.choice.Step.{Step}
+use Rattle.insert_cases.specs.declared.choice.PathNode.{PathNode}
 use Rattle.insert_cases.specs.Levels.{IsLevel}
 use Rattle.record_words.specs.declared.layout.Layout.{Layout}
 use Rattle.tries.specs.Keys.{Key}
@@ -63,13 +63,13 @@ HasTriedOnce table becomes locks a b = TriesOnceBy LeavesPin table becomes locks
 
 -- ---- the plan
 -- where a new leaf goes into a node of the way, these are the entries that its position affects there, by the forks that were read
-abbrev pub AreAffected : Known → ℕ → Key → List Step → Found → (first last : ℕ) → Type 0
-AreAffected k m key way (Leaf number value (Some p)) first last = (level : ℕ) (s : Step) → IsLevel way p level → slice_get way level ≡ Some s →
+abbrev pub AreAffected : Known → ℕ → Key → List PathNode → Found → (first last : ℕ) → Type 0
+AreAffected k m key way (Leaf number value (Some p)) first last = (level : ℕ) (s : PathNode) → IsLevel way p level → slice_get way level ≡ Some s →
     (forks : Subtrie) × Sure k (λ past. IsShaped past m s.number forks) × AffectsJust key p first last forks
 AreAffected k m key way found first last = Unit {0}
 
 -- what the call does, by its way
-abbrev pub IsPlanned : Known → ℕ → Key → List Step → Aim → Found → Plan → Type 0
+abbrev pub IsPlanned : Known → ℕ → Key → List PathNode → Aim → Found → Plan → Type 0
 IsPlanned k m key way aim found plan = (first : ℕ) × (last : ℕ) × IsPlan way first last aim found plan × AreAffected k m key way found first last
 
 -- so for a job and a deed, by a search since a version
@@ -79,13 +79,13 @@ HasPlanned layout k job deed =
 
 -- ---- under the locks
 -- Each node that is locked for the span, and the root under the anchor's lock, names on the key's way what the search has found.
-pub record IsChecked (k : Known) (key : Key) (way : List Step) (found : Found) (span : Span) : Type 0 where
+pub record IsChecked (k : Known) (key : Key) (way : List PathNode) (found : Found) (span : Span) : Type 0 where
   pub root : span.end ≡ 0 → k.anchor ≡ Some (named way found 0)
-  pub entries : (i : ℕ) (s : Step) → span.end ≤ i + 1 → i < span.len → slice_get way i ≡ Some s →
+  pub entries : (i : ℕ) (s : PathNode) → span.end ≤ i + 1 → i < span.len → slice_get way i ≡ Some s →
       (words : List ℕ) → HasLocked k s.number words → named way found (i + 1) ≡ Some (seek key (node_words_of words).subtrie)
 
 -- The pass holds the locks of a span of its way, and has nothing else; and what it has found still stands.
-pub record HasTakenSpan (table : TableView) (a : SeatView) (m : ℕ) (key : Key) (way : List Step) (found : Found) (span : Span) : Type 0 where
+pub record HasTakenSpan (table : TableView) (a : SeatView) (m : ℕ) (key : Key) (way : List PathNode) (found : Found) (span : Span) : Type 0 where
   pub seat : IsSeatOf table a
   pub possible : IsPossible table.layout a.known
   pub own : a.known.own ≡ []

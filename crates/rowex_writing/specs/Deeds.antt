@@ -1,7 +1,7 @@
 -- What a deed has made, before any of it is linked, and what may come of it.
 use Rattle.std.specs.Prelude.{ℕ, ◌+◌, ◌-◌, ◌*◌, ◌≤◌, List, [], ◌∷◌, ◌++◌, map, length, slice_range, Option, Some, None, Result, IfOk, IfErr}
 use Rattle.finite_map.specs.declared.Change.{Change}
-use Rattle.insert_cases.specs.declared.choice.Step.{Step}
+use Rattle.insert_cases.specs.declared.choice.PathNode.{PathNode}
 use Rattle.versions.specs.declared.Rec.{Rec}
 use Rattle.versions.specs.declared.Rec.TheVariants.{Node as a_node, Leaf as a_leaf}
 use Rattle.record_words.specs.Entry.{entry_word}
@@ -28,16 +28,16 @@ leaf_gone None = []
 leaf_gone (Some number) = a_leaf number ∷ []
 
 -- the records that go: the nodes of the span before `low`, and the leaf
-abbrev pub gone_of_span : List Step → Span → Raised → List Rec
-gone_of_span way span raised = map (λ (s : Step). a_node s.number) (slice_range way span.end raised.low) ++ leaf_gone raised.leaf
+abbrev pub gone_of_span : List PathNode → Span → Raised → List Rec
+gone_of_span way span raised = map (λ (s : PathNode). a_node s.number) (slice_range way span.end raised.low) ++ leaf_gone raised.leaf
 
 -- the locked nodes that stay: the one above the span, and those of the span from `low` on
-abbrev pub kept_of_span : List Step → Span → Raised → List Step
+abbrev pub kept_of_span : List PathNode → Span → Raised → List PathNode
 kept_of_span way span raised = slice_range way (span.end - 1) span.end ++ slice_range way raised.low span.len
 
 -- All nodes of the span go, or all but the lowest. Once the records that the pass has made are ready, it may make this change by a
 -- store of what is raised above the span.
-pub record MayReplace (table : TableView) (a : SeatView) (made : List Rec) (way : List Step) (span : Span) (raised : Raised) (x : Change) (was : Option ℕ) : Type 0 where
+pub record MayReplace (table : TableView) (a : SeatView) (made : List Rec) (way : List PathNode) (span : Span) (raised : Raised) (x : Change) (was : Option ℕ) : Type 0 where
   pub from : span.end ≤ raised.low
   pub upto : raised.low ≤ span.len
   pub most : span.len ≤ raised.low + 1

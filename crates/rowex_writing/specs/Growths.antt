@@ -2,7 +2,7 @@
 use Rattle.std.specs.Prelude.{◌≡◌, ℕ, ◌-◌, ◌*◌, ◌<◌, ◌≤◌, List, length, slice_get, Some}
 use Rattle.compound_node.specs.declared.entries.Entry.{Entry}
 use Rattle.compound_node.specs.declared.entries.Entry.TheVariants.{Leaf, Node}
-use Rattle.insert_cases.specs.declared.choice.Step.{Step}
+use Rattle.insert_cases.specs.declared.choice.PathNode.{PathNode}
 use Rattle.key_bits.specs.declared.TheConstants.{MAX_BYTES}
 use Rattle.versions.specs.declared.Rec.{Rec}
 use Rattle.tries.specs.Keys.{Key}
@@ -26,7 +26,7 @@ HasNumber (Node n h) = n < 4294967296
 
 -- The new leaf's record is made and no other, under the locks of a span of the way. The leaf may rise from the lowest node of the
 -- span, and what has risen may stand at the spot above the topmost one.
-pub record MayGrow (table : TableView) (a : SeatView) (made : List Rec) (way : List Step) (key : Key) (value : ℕ)
+pub record MayGrow (table : TableView) (a : SeatView) (made : List Rec) (way : List PathNode) (key : Key) (value : ℕ)
     (span : Span) (position took leaf : ℕ) : Type 0 where
   pub within : (span.end < span.len) × (span.len ≤ length way)
   pub depth : length way ≤ 9 * MAX_BYTES
@@ -34,7 +34,7 @@ pub record MayGrow (table : TableView) (a : SeatView) (made : List Rec) (way : L
   pub locked : HasLockedSpan a.known way span
   pub growing : IsGrowing table a made way key span.end (span.len - 1) position took leaf
   pub item_is : growing.lowest.item ≡ item leaf key value
-  pub place : (s : Step) (words : List ℕ) (e : Entry) (spot : Spot) → slice_get way span.end ≡ Some s →
+  pub place : (s : PathNode) (words : List ℕ) (e : Entry) (spot : Spot) → slice_get way span.end ≡ Some s →
       HasLocked a.known s.number words → FitsAbove words e → IsSpotAbove way span.end spot →
       IsSpotOf a.known a.known.locks key position s.number e spot × HasSpot table.layout spot
 

@@ -1,7 +1,7 @@
 -- The locks of a writer, and what it was refused them by.
 use Rattle.std.specs.Prelude.{◌≡◌, ◌≢◌, ◌⊎◌, ℕ, ◌+◌, ◌-◌, ◌<◌, ◌≤◌, List, [], ◌∷◌, length, get_or, map, All, Contains, IsSome, Some, None, slice_range}
 use Rattle.finite_map.specs.declared.Change.{Change}
-use Rattle.insert_cases.specs.declared.choice.Step.{Step}
+use Rattle.insert_cases.specs.declared.choice.PathNode.{PathNode}
 use Rattle.compound_node.specs.declared.entries.Entry.TheVariants.{Node}
 use Rattle.record_words.specs.declared.layout.Layout.{Layout}
 use Rattle.record_words.specs.declared.state.Tag.TheVariants.{Locked as LockedTag, Obsolete}
@@ -86,22 +86,22 @@ HasNoLock k = (k.locks ≡ []) × (k.anchor ≡ None)
 abbrev pub HasJustLocked : Known → List ℕ → Type 0
 HasJustLocked k nodes = LocksJust k.locks nodes × AreApart nodes
 
-abbrev pub numbers_of : List Step → List ℕ
-numbers_of steps = map (λ (s : Step). s.number) steps
+abbrev pub numbers_of : List PathNode → List ℕ
+numbers_of steps = map (λ (s : PathNode). s.number) steps
 
 -- the nodes of the steps are the table's
-abbrev pub AreNodes : Layout → List Step → Type 0
-AreNodes layout steps = All (λ (s : Step). s.number < layout.nodes) steps
+abbrev pub AreNodes : Layout → List PathNode → Type 0
+AreNodes layout steps = All (λ (s : PathNode). s.number < layout.nodes) steps
 
 -- the pass was led to the node of the step, which is one of the table's; and so to each of a way
-abbrev pub IsLedStep : Layout → Known → Step → Type 0
+abbrev pub IsLedStep : Layout → Known → PathNode → Type 0
 IsLedStep layout k s = (s.number < layout.nodes) × ((m : ℕ) × (h : ℕ) × IsPinnedSince k m × IsSure k (λ past. EntryStoodSince past m (Node s.number h)))
 
-abbrev pub AreLed : Layout → Known → List Step → Type 0
+abbrev pub AreLed : Layout → Known → List PathNode → Type 0
 AreLed layout k steps = All (IsLedStep layout k) steps
 
 -- the nodes that are locked for a span of the way: those that are remade, and the one above them
-abbrev pub span_numbers : List Step → Span → List ℕ
+abbrev pub span_numbers : List PathNode → Span → List ℕ
 span_numbers way span = numbers_of (slice_range way (span.end - 1) span.len)
 
 -- how many locks these are, with the anchor's where they go up to the root
@@ -109,7 +109,7 @@ abbrev pub locks_of : Span → ℕ
 locks_of span = span.len - span.end + 1
 
 -- Just those are locked by the pass, and the anchor where the span goes up to the root.
-pub record HasLockedSpan (k : Known) (way : List Step) (span : Span) : Type 0 where
+pub record HasLockedSpan (k : Known) (way : List PathNode) (span : Span) : Type 0 where
   pub nodes : HasJustLocked k (span_numbers way span)
   pub top : span.end ≡ 0 → IsSome k.anchor
   pub below : 0 < span.end → k.anchor ≡ None

@@ -4,7 +4,7 @@ use Rattle.compound_node.specs.Nodes.{StandsBelow}
 use Rattle.compound_node.specs.declared.entries.Entry.{Entry}
 use Rattle.compound_node.specs.declared.entries.Entry.TheVariants.{Leaf as LeafEntry, Node}
 use Rattle.finite_map.specs.declared.Change.{Change}
-use Rattle.insert_cases.specs.declared.choice.Step.{Step}
+use Rattle.insert_cases.specs.declared.choice.PathNode.{PathNode}
 use Rattle.pieces.specs.Piece.{Place}
 use Rattle.pieces.specs.Changes.{beside}
 use Rattle.record_words.specs.Entry.{entry_word}
@@ -39,14 +39,14 @@ use Rattle.rowex_writing.specs.declared.deeds.Job.{Job}
 use Rattle.rowex_writing.specs.declared.merging.Beside.{Beside}
 
 -- what stands past the end of a way
-abbrev pub no_step : Step
+abbrev pub no_step : PathNode
 no_step = record { number = 0; height = 0; first_position = 0; count = 0; at = 0 }
 
 -- the last node of a job's way, which loses the leaf, and the one above it
-abbrev pub lower : Job → Step
+abbrev pub lower : Job → PathNode
 lower job = get_or job.way.now job.span.end no_step
 
-abbrev pub upper : Job → Step
+abbrev pub upper : Job → PathNode
 upper job = get_or job.way.now (job.span.end - 1) no_step
 
 -- ---- before the change
@@ -73,7 +73,7 @@ pub record IsNeighbour (k : Known) (job : Job) (b : Beside) : Type 0 where
   pub sibling : subtrie_sibling job.key.now (node_words_of words).subtrie ≡ Some (b.position, Place (Node b.number height))
 
 -- In the locked node of this step, by its words, the place alone is beside the one that the key's search takes; and the entry can stand in it.
-abbrev pub ClosesFork : Known → Step → Key → ℕ → Entry → Type 0
+abbrev pub ClosesFork : Known → PathNode → Key → ℕ → Entry → Type 0
 ClosesFork k s key place e = (words : List ℕ) → HasLocked k s.number words → (spot key (node_words_of words).subtrie ≡ s.at) ×
     ((position : ℕ) × (beside s.at (node_words_of words).subtrie ≡ Some (place, position))) × StandsBelow (node_words_of words).fixed.height e
 
@@ -84,14 +84,14 @@ HasHeight (Node n h) = (1 ≤ h) × (h < 65536)
 
 -- ---- wider locks
 -- the lock of what names the first of the nodes from `end` on
-abbrev pub IsTargetAbove : List Step → ℕ → Target → Type 0
+abbrev pub IsTargetAbove : List PathNode → ℕ → Target → Type 0
 IsTargetAbove way end Anchor = end ≡ 0
-IsTargetAbove way end (NodeTarget n) = (s : Step) × (0 < end) × (slice_get way (end - 1) ≡ Some s) × (n ≡ s.number)
+IsTargetAbove way end (NodeTarget n) = (s : PathNode) × (0 < end) × (slice_get way (end - 1) ≡ Some s) × (n ≡ s.number)
 
 -- Beside these locks the pass has that one, and no other; and what the lock's target names is what the search found there.
-pub data LocksAbove (held : List Locked) (key : Key) (way : List Step) (found : Found) (end : ℕ) (j : Known) : Type 0 where
+pub data LocksAbove (held : List Locked) (key : Key) (way : List PathNode) (found : Found) (end : ℕ) (j : Known) : Type 0 where
   by_anchor : end ≡ 0 → j.locks ≡ held → j.anchor ≡ Some (named way found 0) → LocksAbove held key way found end j
-  by_node : (s : Step) → 0 < end → slice_get way (end - 1) ≡ Some s → LocksLast s.number held j → j.anchor ≡ None →
+  by_node : (s : PathNode) → 0 < end → slice_get way (end - 1) ≡ Some s → LocksLast s.number held j → j.anchor ≡ None →
       ((words : List ℕ) → HasLocked j s.number words → named way found end ≡ Some (seek key (node_words_of words).subtrie)) → LocksAbove held key way found end j
 
 -- Beside the locks of its span the pass has locked the node beside the lower one, and what names the upper one.

@@ -4,12 +4,12 @@ use Rattle.finite_map.specs.declared.Reply.TheVariants.{Exists, Absent}
 use Rattle.insert_cases.specs.declared.choice.Case.{Case}
 use Rattle.insert_cases.specs.declared.choice.Case.TheVariants.{LeafPushdown, NormalInsert, Overflow}
 use Rattle.insert_cases.specs.declared.choice.Choice.{Choice}
-use Rattle.insert_cases.specs.declared.choice.Step.{Step}
+use Rattle.insert_cases.specs.declared.choice.PathNode.{PathNode}
 use Rattle.insert_cases.specs.Levels.{IsLevel, IsChosen, IsChainEnd}
 use Rattle.rowex_writing.specs.declared.plan.Aim.{Aim}
 use Rattle.rowex_writing.specs.declared.plan.Aim.TheVariants.{Insert, Upsert, Remove}
 use Rattle.rowex_writing.specs.declared.plan.Deed.{Deed}
-use Rattle.rowex_writing.specs.declared.plan.Deed.TheVariants.{Put, Pair, Grow, Take}
+use Rattle.rowex_writing.specs.declared.plan.Deed.TheVariants.{Put, PushDown, Grow, Take}
 use Rattle.rowex_reading.specs.declared.descent.Found.{Found}
 use Rattle.rowex_reading.specs.declared.descent.Found.TheVariants.{Nothing, Leaf}
 use Rattle.rowex_writing.specs.declared.plan.Outline.{Outline}
@@ -23,23 +23,23 @@ change len end deed = Change (record { len = len; end = end }) deed
 
 -- ---- a new leaf beside affected entries
 -- what is done at the chosen node
-abbrev pub IsCase : List Step → ℕ → Choice → Case → Plan → Type 0
-IsCase way position chosen LeafPushdown plan = plan ≡ change (chosen.level + 1) (chosen.level + 1) (Pair position)
+abbrev pub IsCase : List PathNode → ℕ → Choice → Case → Plan → Type 0
+IsCase way position chosen LeafPushdown plan = plan ≡ change (chosen.level + 1) (chosen.level + 1) (PushDown position)
 IsCase way position chosen NormalInsert plan = plan ≡ change (chosen.level + 1) chosen.level (Grow position)
 IsCase way position chosen Overflow plan = (end : ℕ) × IsChainEnd way chosen.level end × (plan ≡ change (chosen.level + 1) end (Grow position))
 
 -- where the position affects the entries from first to last at this level
-abbrev pub IsBeside : List Step → (position level first last : ℕ) → Plan → Type 0
+abbrev pub IsBeside : List PathNode → (position level first last : ℕ) → Plan → Type 0
 IsBeside way position level first last plan = (chosen : Choice) × IsChosen way level first last chosen × IsCase way position chosen chosen.case plan
 
 -- on a way of no node, the found leaf is at the root
-abbrev pub IsNewLeafPlan : List Step → (position first last : ℕ) → Plan → Type 0
-IsNewLeafPlan [] position first last plan = plan ≡ change 0 0 (Pair position)
+abbrev pub IsNewLeafPlan : List PathNode → (position first last : ℕ) → Plan → Type 0
+IsNewLeafPlan [] position first last plan = plan ≡ change 0 0 (PushDown position)
 IsNewLeafPlan (step ∷ way) position first last plan = (level : ℕ) × IsLevel (step ∷ way) position level × IsBeside (step ∷ way) position level first last plan
 
 -- ---- all calls
 -- Of a call on this way, where a new leaf affects the entries from first to last at its level.
-abbrev pub IsPlan : List Step → (first last : ℕ) → Aim → Found → Plan → Type 0
+abbrev pub IsPlan : List PathNode → (first last : ℕ) → Aim → Found → Plan → Type 0
 -- the first key
 IsPlan way first last Insert Nothing plan = plan ≡ change 0 0 Put
 IsPlan way first last Upsert Nothing plan = plan ≡ change 0 0 Put
@@ -56,7 +56,7 @@ IsPlan way first last Remove (Leaf number value None) plan = plan ≡ change (le
 
 -- ---- before the affected entries are known
 -- a new leaf's plan needs them where the way has nodes
-abbrev pub IsBesideFound : List Step → ℕ → Outline → Type 0
+abbrev pub IsBesideFound : List PathNode → ℕ → Outline → Type 0
 IsBesideFound way position (Known plan) = (first last : ℕ) → IsNewLeafPlan way position first last plan
 IsBesideFound way position (Beside at level) = (at ≡ position) × IsLevel way position level ×
     ((first last : ℕ) (plan : Plan) → IsBeside way position level first last plan → IsNewLeafPlan way position first last plan)
@@ -66,12 +66,12 @@ abbrev pub DiffersAt : Found → ℕ → Type 0
 DiffersAt found position = (number : ℕ) × (value : ℕ) × (found ≡ Leaf number value (Some position))
 
 -- the plan, whichever they are; or the level at which they tell it, for a position at which the found leaf's key differs
-abbrev pub IsOutline : List Step → Aim → Found → Outline → Type 0
+abbrev pub IsOutline : List PathNode → Aim → Found → Outline → Type 0
 IsOutline way aim found (Known plan) = (first last : ℕ) → IsPlan way first last aim found plan
 IsOutline way aim found (Beside position level) = DiffersAt found position × IsLevel way position level ×
     ((first last : ℕ) (plan : Plan) → IsBeside way position level first last plan → IsPlan way first last aim found plan)
 
 -- the nodes of a plan's span are those of a part of the way
-abbrev pub LiesOnWay : List Step → Plan → Type 0
+abbrev pub LiesOnWay : List PathNode → Plan → Type 0
 LiesOnWay way (Answer reply) = Unit {0}
 LiesOnWay way (Change span deed) = (span.end ≤ span.len) × (span.len ≤ length way)

@@ -1,7 +1,7 @@
 -- What a pass knows of the leaf that it takes away.
 use Rattle.std.specs.Prelude.{◌≡◌, ℕ, ◌+◌, List, [], length, Some, None}
 use Rattle.compound_node.specs.declared.entries.Entry.TheVariants.{Leaf as LeafEntry}
-use Rattle.insert_cases.specs.declared.choice.Step.{Step}
+use Rattle.insert_cases.specs.declared.choice.PathNode.{PathNode}
 use Rattle.tries.specs.Keys.{Key}
 use Rattle.rowex_core.specs.declared.known.Known.{Known}
 use Rattle.rowex_core.specs.Knowing.{IsPinnedSince}
@@ -27,7 +27,7 @@ pub record HasOnlyLeaf (table : TableView) (a : SeatView) (number : ℕ) (key : 
   pub read : HasReadLeaf a.known number key value
 
 -- The pass has locked the last node of the way, which names the leaf, and what names that node.
-pub record HasLeafBelow (table : TableView) (a : SeatView) (m : ℕ) (key : Key) (way : List Step) (number value : ℕ) (span : Span) : Type 0 where
+pub record HasLeafBelow (table : TableView) (a : SeatView) (m : ℕ) (key : Key) (way : List PathNode) (number value : ℕ) (span : Span) : Type 0 where
   pub taken : HasTakenSpan table a m key way (Leaf number value None) span
   pub len : span.len ≡ length way
   pub last : span.end + 1 ≡ span.len

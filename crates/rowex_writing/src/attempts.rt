@@ -29,9 +29,9 @@ use crate::locks::lock_span;
 use crate::merging::try_merge;
 use crate::plan::{find_plan, Deed, Full, Plan};
 use crate::publishing::publish_change;
-use crate::taking::take_leaf;
+use crate::taking::remove_leaf;
 use finite_map::{Call, Reply};
-use insert_cases::Step;
+use insert_cases::PathNode;
 use rowex_core::Gate;
 use rowex_reading::{Found, MOST_NODES, search_way};
 use rowex_table::{HotTable, TableSeat};
@@ -60,7 +60,7 @@ pub fn attempt<G: Gate>(
     table: &HotTable,
     seat: &mut TableSeat,
     gate: &mut G,
-    way: &mut ArrayVec<Step, MOST_NODES>,
+    way: &mut ArrayVec<PathNode, MOST_NODES>,
     build: &mut Build,
     call: &Call,
 ) -> Result<Reply, TryFault>
@@ -93,7 +93,7 @@ pub fn attempt<G: Gate>(
                 found,
                 span,
             };
-            match try_change(table, seat, gate, build, &job, deed) {
+            match try_plan(table, seat, gate, build, &job, deed) {
                 Ok(()) => Ok(reply_to(call, held)),
                 Err(fault) => Err(fault),
             }
@@ -102,7 +102,7 @@ pub fn attempt<G: Gate>(
 }
 
 /// Makes the change of a plan, unless another pass is at work where it is to be made, or no record is free.
-fn try_change<G: Gate>(
+fn try_plan<G: Gate>(
     table: &HotTable,
     seat: &mut TableSeat,
     gate: &mut G,
@@ -190,7 +190,7 @@ fn make_removal<G: Gate>(
     ensures full { IfErr result (λ full. HasNoRoom table.now.layout job.now.key.now seat.old.known seat.new.known full) }
     ensures leafless { result ≢ Err Full.Leaves }
 {
-    match take_leaf(table, seat, gate, build, job) {
+    match remove_leaf(table, seat, gate, build, job) {
         Ok(raised) => {
             end_removal(table, seat, gate, build, job, raised);
             Ok(())

@@ -1,7 +1,7 @@
 //! Records for what takes a node's place.
 
 ghost use Rattle.std.specs.Prelude.{◌≡◌, ◌≢◌, ◌<◌, ◌≤◌, ◌+◌, ◌-◌, ◌*◌, ◌++◌, ◌∷◌, [], List, ℕ, length, slice_get, IfSome, MatchOption, None, Some};
-ghost use Rattle.insert_cases.specs.declared.choice.Step.{Step as StepView};
+ghost use Rattle.insert_cases.specs.declared.choice.PathNode.{PathNode as PathNodeView};
 ghost use Rattle.record_words.specs.Node.{CanTakeLeaf, HasNodeWords, node_words};
 ghost use Rattle.record_words.specs.Reading.{IsSpelling};
 ghost use Rattle.rowex_table.specs.Made.{Made};
@@ -28,7 +28,7 @@ use crate::claims::{Supply, claim_node};
 use crate::deeds::Job;
 use crate::locked::{load_words, read_locked};
 use crate::remaking::{Fork, NewLeaf, add_fork, add_leaf, full_with_fork, full_with_leaf};
-use insert_cases::{Grown, Risen, Step};
+use insert_cases::{Grown, Risen, PathNode};
 use key_bits::Key;
 use record_words::{HEAD_WORDS, LEAF_CLASSES, NODE_FIELDS, affected_in, can_take_leaf, drop_entry, pack_node, read_node};
 use rowex_core::{Gate, Rec};
@@ -402,7 +402,7 @@ fn raise_on<G: Gate>(
     seat: &mut TableSeat,
     gate: &mut G,
     build: &mut Build,
-    way: &[Step],
+    way: &[PathNode],
     rise: Rise<'_>,
 ) -> Option<Entry>
     requires up { Rises table.now seat.old build.old.made.items way.now rise }
@@ -412,7 +412,7 @@ fn raise_on<G: Gate>(
         (HasNotMade table.now seat.new build.new.made.items)
         (HasRisenTo table.now seat.new build.new.made.items way.now b.here.since b.here.item b.here.mismatch b.here.like rise.entry.end
         (gone_with_way way.now rise.entry.end rise.entry.level b.here.gone)) }
-    ensures low { (s : StepView) (words : List ℕ) → slice_get way.now rise.entry.end ≡ Some s → HasLocked seat.old.known s.number words → IfSome result (FitsAbove words) }
+    ensures low { (s : PathNodeView) (words : List ℕ) → slice_get way.now rise.entry.end ≡ Some s → HasLocked seat.old.known s.number words → IfSome result (FitsAbove words) }
     ensures more { length build.new.made.items ≤ length build.old.made.items + 2 * (rise.entry.level - rise.entry.end) + 1 }
     ensures walk { WalksOn table.now.layout seat.old.known build.old seat.new.known build.new result }
     ensures few { Spends ((rise.entry.level - rise.entry.end + 1) * level_steps) seat.old.known build.old seat.new.known build.new result }
@@ -431,7 +431,7 @@ fn raise_above<G: Gate>(
     seat: &mut TableSeat,
     gate: &mut G,
     build: &mut Build,
-    way: &[Step],
+    way: &[PathNode],
     rise: Rise<'_>,
 ) -> Option<Entry>
     requires up { Rises table.now seat.old build.old.made.items way.now rise }
@@ -442,7 +442,7 @@ fn raise_above<G: Gate>(
         (HasNotMade table.now seat.new build.new.made.items)
         (HasRisenTo table.now seat.new build.new.made.items way.now b.here.since b.here.item b.here.mismatch b.here.like rise.entry.end
         (gone_with_way way.now rise.entry.end rise.entry.level b.here.gone)) }
-    ensures low { (s : StepView) (words : List ℕ) → slice_get way.now rise.entry.end ≡ Some s → HasLocked seat.old.known s.number words → IfSome result (FitsAbove words) }
+    ensures low { (s : PathNodeView) (words : List ℕ) → slice_get way.now rise.entry.end ≡ Some s → HasLocked seat.old.known s.number words → IfSome result (FitsAbove words) }
     ensures more { length build.new.made.items ≤ length build.old.made.items + 2 * (rise.entry.level - rise.entry.end) + 1 }
     ensures walk { WalksOn table.now.layout seat.old.known build.old seat.new.known build.new result }
     ensures few { Spends ((rise.entry.level - rise.entry.end + 1) * level_steps) seat.old.known build.old seat.new.known build.new result }
@@ -492,7 +492,7 @@ pub(crate) fn raise_grown<G: Gate>(
         (HasNotMade table.now seat.new build.new.made.items)
         (λ r. HasRisenTo table.now seat.new build.new.made.items job.now.way.now b.lowest.since b.lowest.item new.now.position b.lowest.like job.now.span.end
         (gone_with_way job.now.way.now job.now.span.end (job.now.span.len - 1) (gone_unless_whole r.1 b.step.number)) r.0) }
-    ensures low { (s : StepView) (words : List ℕ) → slice_get job.now.way.now job.now.span.end ≡ Some s → HasLocked seat.old.known s.number words →
+    ensures low { (s : PathNodeView) (words : List ℕ) → slice_get job.now.way.now job.now.span.end ≡ Some s → HasLocked seat.old.known s.number words →
         IfSome result (λ r. FitsAbove words r.0) }
     ensures more { length build.new.made.items ≤ length build.old.made.items + 2 * (job.now.span.len - 1 - job.now.span.end) + 3 }
     ensures walk { WalksOn table.now.layout seat.old.known build.old seat.new.known build.new result }

@@ -18,7 +18,7 @@ ghost use Rattle.rowex_reading.specs.Ways.{RootWas, named};
 
 use crate::deeds::Job;
 use compound_node::Entry;
-use insert_cases::Step;
+use insert_cases::PathNode;
 use record_words::pack_entry;
 use rowex_core::{Gate, Spot};
 use rowex_reading::{Found, load_root};
@@ -50,7 +50,7 @@ pub(crate) fn check_span<G: Gate>(
 }
 
 /// What names the node at this index of the way; after the last one, what the search ended at.
-pub(crate) fn named_at(way: &[Step], found: Found, index: usize) -> Option<Entry>
+pub(crate) fn named_at(way: &[PathNode], found: Found, index: usize) -> Option<Entry>
     ensures { result ≡ named way.now found index }
 {
     if index < way.len() {
@@ -115,7 +115,7 @@ pub(crate) fn entry_stands<G: Gate>(
     table: &HotTable,
     seat: &mut TableSeat,
     gate: &mut G,
-    step: Step,
+    step: PathNode,
     entry: Option<Entry>,
 ) -> bool
     requires own { IsSeatOf table.now seat.old }

@@ -4,7 +4,7 @@ ghost use Rattle.std.specs.Prelude.{◌≡◌, ◌≢◌, Err};
 ghost use Rattle.rowex_writing.specs.Changes.{HasTakenPlan};
 ghost use Rattle.rowex_writing.specs.Deeds.{CarriesOut, leaf_gone};
 ghost use Rattle.rowex_writing.specs.Putting.{leaf_found};
-ghost use Rattle.rowex_writing.specs.declared.plan.Deed.TheVariants.{Put, Pair};
+ghost use Rattle.rowex_writing.specs.declared.plan.Deed.TheVariants.{Put, PushDown};
 
 use compound_node::Entry;
 use crate::building::{Build, make_node};
@@ -12,8 +12,8 @@ use crate::growing::grow_node;
 use crate::plan::{Deed, Full, Span};
 use crate::publishing::make_leaf;
 use crate::remaking::pair_with_leaf;
-use crate::taking::take_leaf;
-use insert_cases::Step;
+use crate::taking::remove_leaf;
+use insert_cases::PathNode;
 use key_bits::Key;
 use rowex_core::Gate;
 use rowex_reading::Found;
@@ -23,7 +23,7 @@ use rowex_table::{HotTable, TableSeat};
 /// place.
 #[derive(Drop)]
 pub(crate) struct Job<'a> {
-    pub way: &'a [Step],
+    pub way: &'a [PathNode],
     pub key: &'a Key,
     pub value: u64,
     pub found: Found,
@@ -57,9 +57,9 @@ pub(crate) fn carry_out<G: Gate>(
 {
     match deed {
         Deed::Put => put_leaf(table, seat, gate, build, job),
-        Deed::Pair { position } => pair_leaf(table, seat, gate, build, job, position),
+        Deed::PushDown { position } => push_down(table, seat, gate, build, job, position),
         Deed::Grow { position } => grow_node(table, seat, gate, build, job, position),
-        Deed::Take => take_leaf(table, seat, gate, build, job),
+        Deed::Take => remove_leaf(table, seat, gate, build, job),
     }
 }
 
@@ -95,7 +95,7 @@ fn found_leaf(found: Found) -> Option<u32>
 }
 
 /// A new node of the found leaf and the new one, with a fork at the position, takes the found leaf's place.
-pub(crate) fn pair_leaf<G: Gate>(
+pub(crate) fn push_down<G: Gate>(
     table: &HotTable,
     seat: &mut TableSeat,
     gate: &mut G,
@@ -103,8 +103,8 @@ pub(crate) fn pair_leaf<G: Gate>(
     job: &Job<'_>,
     position: u16,
 ) -> Result<Raised, Full>
-    requires taken { HasTakenPlan table.now seat.old job.now (Pair position) }
-    ensures done { CarriesOut table.now G.becomes (seat.old, gate.old) (seat.new, gate.new) build.new.made.items job.now (Pair position) result }
+    requires taken { HasTakenPlan table.now seat.old job.now (PushDown position) }
+    ensures done { CarriesOut table.now G.becomes (seat.old, gate.old) (seat.new, gate.new) build.new.made.items job.now (PushDown position) result }
 {
     let Found::Leaf { number: old, .. } = job.found else {
         unreachable!()

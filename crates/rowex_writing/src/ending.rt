@@ -10,7 +10,7 @@ ghost use Rattle.rowex_writing.specs.Retiring.{AreInTable, HasJustPublished, Has
 
 use crate::locks::unlock_nodes;
 use crate::plan::Span;
-use insert_cases::Step;
+use insert_cases::PathNode;
 use rowex_core::{Gate, Rec, Target};
 use rowex_records::give_up_all;
 use rowex_table::{HotTable, TableSeat};
@@ -22,7 +22,7 @@ pub(crate) fn retire<G: Gate>(
     seat: &mut TableSeat,
     gate: &mut G,
     gone: &[Rec],
-    kept: &[Step],
+    kept: &[PathNode],
     anchor: bool,
 )
     requires own { IsSeatOf table.now seat.old }
@@ -50,7 +50,7 @@ pub(crate) fn undo<G: Gate>(
     seat: &mut TableSeat,
     gate: &mut G,
     held: &[Rec],
-    way: &[Step],
+    way: &[PathNode],
     span: Span,
 )
     requires own { IsSeatOf table.now seat.old }

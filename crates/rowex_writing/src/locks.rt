@@ -7,7 +7,7 @@ ghost use Rattle.rowex_table.specs.Rights.{MayLock};
 ghost use Rattle.rowex_writing.specs.Locks.{AreLed, AreNodes, HasJustLocked, HasLockedSpan, HasMadeNoChange, HasMetLock, HasNoLock, HasNotLocked, HasTheSame, IsRefusedLock, KnowsSameButLocks, LocksAnchor, LocksOne, Tries, TriesNodes, TriesOnce, Works, locks_of, numbers_of, span_numbers};
 
 use crate::plan::Span;
-use insert_cases::Step;
+use insert_cases::PathNode;
 use record_words::{Tag, pack_state};
 use rowex_core::{Gate, Target};
 use rowex_table::{HotTable, TableSeat};
@@ -19,7 +19,7 @@ pub(crate) fn lock_span<G: Gate>(
     table: &HotTable,
     seat: &mut TableSeat,
     gate: &mut G,
-    way: &[Step],
+    way: &[PathNode],
     span: Span,
 ) -> bool
     requires own { IsSeatOf table.now seat.old }
@@ -95,7 +95,7 @@ pub(crate) fn unlock_nodes<G: Gate>(
     table: &HotTable,
     seat: &mut TableSeat,
     gate: &mut G,
-    steps: &[Step],
+    steps: &[PathNode],
 )
     requires own { IsSeatOf table.now seat.old }
     requires nodes { AreNodes table.now.layout steps.now }

@@ -29,7 +29,7 @@ use crate::locked::{load_beside, load_place, load_position, load_words, read_loc
 use crate::publishing::{ready_all, spot_above, stored_word};
 use crate::widening::{narrow, widen};
 use compound_node::{Entry, Half, Node};
-use insert_cases::Step;
+use insert_cases::PathNode;
 use record_words::{NODE_FIELDS, close_fork, pack_node};
 use rowex_core::{Gate, Rec};
 use rowex_reading::Found;
@@ -238,7 +238,7 @@ fn raise_closed<G: Gate>(
     seat: &mut TableSeat,
     gate: &mut G,
     build: &mut Build,
-    above: Step,
+    above: PathNode,
     place: u8,
     merged: Entry,
 ) -> Option<Entry>

@@ -2,7 +2,7 @@
 
 ghost use Rattle.std.specs.Prelude.{◌≡◌, ◌+◌, ◌-◌, ◌<◌, ◌≤◌, ℕ, Some, length, slice_get};
 ghost use Rattle.insert_cases.specs.Levels.{IsLevel};
-ghost use Rattle.insert_cases.specs.declared.choice.Step.{Step as StepView};
+ghost use Rattle.insert_cases.specs.declared.choice.PathNode.{PathNode as PathNodeView};
 ghost use Rattle.rowex_writing.specs.Plans.{change as a_change, IsOutline, IsBeside, IsBesideFound, LiesOnWay};
 ghost use Rattle.rowex_reading.specs.Possible.{IsPossible};
 ghost use Rattle.rowex_reading.specs.Reads.{ReadsSome};
@@ -13,7 +13,7 @@ ghost use Rattle.rowex_reading.specs.Ways.{IsWayOf};
 ghost use Rattle.record_words.specs.declared.TheConstants.{HEAD_WORDS};
 
 use finite_map::Reply;
-use insert_cases::{Case, Step, chain_end, choose, level_below};
+use insert_cases::{Case, PathNode, chain_end, choose, level_below};
 use rowex_core::Gate;
 use rowex_reading::{Found, find_affected};
 use rowex_table::{HotTable, TableSeat};
@@ -53,7 +53,7 @@ pub(crate) enum Deed {
     /// The new leaf takes the place of what stands there.
     Put,
     /// A node of the leaf that stands there and the new one, with a fork at the position.
-    Pair { position: u16 },
+    PushDown { position: u16 },
     /// The lowest node gets the new leaf, beside the entries that the position affects.
     Grow { position: u16 },
     /// The lowest node loses the leaf, or the root its only one.
@@ -91,7 +91,7 @@ pub(crate) enum Outline {
 }
 
 /// What a call does that found this at the end of its way, as far as that tells it.
-pub(crate) fn plan_call(way: &[Step], aim: Aim, found: Found) -> Outline
+pub(crate) fn plan_call(way: &[PathNode], aim: Aim, found: Found) -> Outline
     ensures { IsOutline way.now aim found result }
 {
     match found {
@@ -122,11 +122,11 @@ pub(crate) fn plan_call(way: &[Step], aim: Aim, found: Found) -> Outline
 }
 
 /// A new leaf whose key differs from that found first at a position.
-fn beside(way: &[Step], position: u16) -> Outline
+fn beside(way: &[PathNode], position: u16) -> Outline
     ensures { IsBesideFound way.now position result }
 {
     if way.is_empty() {
-        return Outline::Known(change(0, 0, Deed::Pair { position }));
+        return Outline::Known(change(0, 0, Deed::PushDown { position }));
     }
     let level = level_below(way, position);
     if level + 1 == way.len() && way[level].height <= 1 {
@@ -136,9 +136,9 @@ fn beside(way: &[Step], position: u16) -> Outline
 }
 
 /// What a call does whose new leaf goes into the last node of the way, which has leaves alone: whichever of these the position affects.
-fn plan_low(way: &[Step], position: u16, level: usize) -> Plan
+fn plan_low(way: &[PathNode], position: u16, level: usize) -> Plan
     requires last { level + 1 ≡ length way.now }
-    requires low { (s : StepView) → slice_get way.now level ≡ Some s → s.height ≤ 1 }
+    requires low { (s : PathNodeView) → slice_get way.now level ≡ Some s → s.height ≤ 1 }
     ensures { (first last : ℕ) → IsBeside way.now position level first last result }
 {
     let deed = Deed::Grow { position };
@@ -151,7 +151,7 @@ fn plan_low(way: &[Step], position: u16, level: usize) -> Plan
 
 /// What a call does whose new leaf goes beside the entries from `first` to `last` of the node at this level: those that
 /// the position affects.
-pub(crate) fn plan_beside(way: &[Step], position: u16, level: usize, first: u8, last: u8) -> Plan
+pub(crate) fn plan_beside(way: &[PathNode], position: u16, level: usize, first: u8, last: u8) -> Plan
     requires { level < length way.now }
     ensures { IsBeside way.now position level first last result }
 {
@@ -159,7 +159,7 @@ pub(crate) fn plan_beside(way: &[Step], position: u16, level: usize, first: u8, 
     let deed = Deed::Grow { position };
     let len = choice.level + 1;
     match choice.case {
-        Case::LeafPushdown => change(len, len, Deed::Pair { position }),
+        Case::LeafPushdown => change(len, len, Deed::PushDown { position }),
         Case::NormalInsert => change(len, choice.level, deed),
         Case::Overflow => change(len, chain_end(way, choice.level), deed),
     }
@@ -181,7 +181,7 @@ pub(crate) fn find_plan<G: Gate>(
     table: &HotTable,
     seat: &mut TableSeat,
     gate: &mut G,
-    way: &[Step],
+    way: &[PathNode],
     aim: Aim,
     found: Found,
 ) -> Plan

@@ -2,7 +2,7 @@
 
 ghost use Rattle.std.specs.Prelude.{◌≡◌, ℕ, List, [], ◌∷◌, ◌++◌, Option, MatchOption, ◌<◌, ◌≤◌, ◌+◌, ◌-◌, ◌*◌, length, map, slice_range};
 ghost use Rattle.finite_map.specs.declared.Change.{Change};
-ghost use Rattle.insert_cases.specs.declared.choice.Step.{Step as StepView};
+ghost use Rattle.insert_cases.specs.declared.choice.PathNode.{PathNode as PathNodeView};
 ghost use Rattle.key_bits.specs.Key.{IsKey};
 ghost use Rattle.record_words.specs.Entry.{HasEntryWord, entry_word};
 ghost use Rattle.record_words.specs.Leaf.{words_for};
@@ -29,7 +29,7 @@ use crate::ending::retire;
 use crate::plan::Span;
 use arrayvec::ArrayVec;
 use compound_node::Entry;
-use insert_cases::Step;
+use insert_cases::PathNode;
 use key_bits::Key;
 use record_words::{pack_entry, words_for};
 use rowex_core::{Gate, Rec, Spot};
@@ -129,9 +129,9 @@ pub(crate) fn publish_change<G: Gate>(
 }
 
 /// The change unlinks the nodes of these steps, and this leaf.
-fn name_gone(build: &mut Build, steps: &[Step], leaf: Option<u32>)
+fn name_gone(build: &mut Build, steps: &[PathNode], leaf: Option<u32>)
     requires { length steps.now ≤ 2160 }
-    ensures gone { build.new.gone.items ≡ map (λ (s : StepView). a_node s.number) steps.now ++ leaf_gone leaf }
+    ensures gone { build.new.gone.items ≡ map (λ (s : PathNodeView). a_node s.number) steps.now ++ leaf_gone leaf }
     ensures made { build.new.made.items ≡ build.old.made.items }
 {
     build.gone.clear();
@@ -144,7 +144,7 @@ fn name_gone(build: &mut Build, steps: &[Step], leaf: Option<u32>)
 }
 
 /// What a span keeps of its locked nodes: the one above it, if there is one, and the lowest, where that is at `low` and not below.
-fn kept_steps(way: &[Step], span: Span, low: usize) -> ArrayVec<Step, 2>
+fn kept_steps(way: &[PathNode], span: Span, low: usize) -> ArrayVec<PathNode, 2>
     requires { (span.end ≤ low) × (low ≤ span.len) × (span.len ≤ low + 1) × (span.len ≤ length way.now) }
     ensures { result.items ≡ slice_range way.now (span.end - 1) span.end ++ slice_range way.now low span.len }
 {
@@ -159,7 +159,7 @@ fn kept_steps(way: &[Step], span: Span, low: usize) -> ArrayVec<Step, 2>
 }
 
 /// The spot that names what comes in the place of the nodes of the way from `end` on: in the node above them, or the root.
-pub(crate) fn spot_above(way: &[Step], end: usize) -> Spot
+pub(crate) fn spot_above(way: &[PathNode], end: usize) -> Spot
     requires { end ≤ length way.now }
     ensures { IsSpotAbove way.now end result }
 {

@@ -19,7 +19,7 @@ use rowex_reading::Found;
 use rowex_table::{HotTable, TableSeat};
 
 /// The leaf that has the key goes: what is left of its node takes the node's place, and a root that was the leaf is empty.
-pub(crate) fn take_leaf<G: Gate>(
+pub(crate) fn remove_leaf<G: Gate>(
     table: &HotTable,
     seat: &mut TableSeat,
     gate: &mut G,

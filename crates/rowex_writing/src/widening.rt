@@ -1,7 +1,7 @@
 //! Locks beyond those of a span: of the node beside its lower one, and of what names its upper one.
 
 ghost use Rattle.std.specs.Prelude.{◌≡◌, ◌≢◌, ◌<◌, ◌≤◌, ◌+◌, ◌-◌, ◌∷◌, [], ℕ, List, true, false, None, Some, IsSome, length, slice_get};
-ghost use Rattle.insert_cases.specs.declared.choice.Step.{Step as StepView};
+ghost use Rattle.insert_cases.specs.declared.choice.PathNode.{PathNode as PathNodeView};
 ghost use Rattle.tries.specs.Place.{entry_at};
 ghost use Rattle.rowex_core.specs.Reading.{node_words_of};
 ghost use Rattle.rowex_core.specs.declared.known.Locked.{Locked};
@@ -24,7 +24,7 @@ use crate::deeds::Job;
 use crate::locks::{lock_anchor, lock_node};
 use crate::merging::Beside;
 use compound_node::Entry;
-use insert_cases::Step;
+use insert_cases::PathNode;
 use rowex_core::{Gate, Target};
 use rowex_table::{HotTable, TableSeat};
 
@@ -62,7 +62,7 @@ pub(crate) fn widen<G: Gate>(
 /// Whether this is the number of a node of the span, or of the one above it.
 fn is_near(job: &Job<'_>, number: u32) -> bool
     requires within { (job.now.span.end ≤ job.now.span.len) × (job.now.span.len ≤ length job.now.way.now) }
-    ensures none { result ≡ false → (step : StepView) (i : ℕ) → slice_get job.now.way.now i ≡ Some step → job.now.span.end ≤ i + 2 → i < job.now.span.len → number ≢ step.number }
+    ensures none { result ≡ false → (step : PathNodeView) (i : ℕ) → slice_get job.now.way.now i ≡ Some step → job.now.span.end ≤ i + 2 → i < job.now.span.len → number ≢ step.number }
 {
     for index in job.span.end.saturating_sub(2)..job.span.len {
         if job.way[index].number == number {
@@ -125,7 +125,7 @@ fn lock_step<G: Gate>(
     table: &HotTable,
     seat: &mut TableSeat,
     gate: &mut G,
-    step: Step,
+    step: PathNode,
     entry: Option<Entry>,
 ) -> bool
     requires own { IsSeatOf table.now seat.old }
@@ -167,7 +167,7 @@ fn unlock_above<G: Gate>(
     table: &HotTable,
     seat: &mut TableSeat,
     gate: &mut G,
-    way: &[Step],
+    way: &[PathNode],
     end: usize,
 )
     requires own { IsSeatOf table.now seat.old }

@@ -2,7 +2,7 @@
 
 use arrayvec::ArrayVec;
 use epochs::Limbo;
-use insert_cases::Step;
+use insert_cases::PathNode;
 use record_words::{LEAF_CLASSES, Layout, LeafClass};
 use rowex_core::Rec;
 use rowex_reading::MOST_NODES;
@@ -14,7 +14,7 @@ use std::alloc::{AllocError, Global};
 #[derive(Drop)]
 pub struct Room {
     /// The nodes on the way of the last search or scan.
-    pub way: ArrayVec<Step, MOST_NODES>,
+    pub way: ArrayVec<PathNode, MOST_NODES>,
     /// What the last change has built, and where the next claims begin.
     pub build: Build,
     /// What the pass has retired and not given back yet.

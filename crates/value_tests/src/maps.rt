@@ -3,7 +3,7 @@
 use crate::nodes::key;
 use compound_node::{Entry, Node};
 use finite_map::{Call, Change, Kind, Note, Reply, Scan};
-use insert_cases::{Case, Step, chain_end, choose, level_below};
+use insert_cases::{Case, PathNode, chain_end, choose, level_below};
 use key_bits::Key;
 use plain_index::{PlainIndex, are_legal};
 use plain_trie::{Place, PlainTrie, place};
@@ -420,7 +420,7 @@ const CHOSEN: [Chosen; 4] = [
 #[test]
 fn insertions_have_their_cases(rt: HostRuntime) {
     for (passed, position, level, entry, want, end) in CHOSEN {
-        let mut steps = [Step::default(); 2];
+        let mut steps = [PathNode::default(); 2];
         for (step, (height, first_position, count, at)) in steps.iter_mut().zip(passed.iter()) {
             step.height = *height;
             step.first_position = *first_position;

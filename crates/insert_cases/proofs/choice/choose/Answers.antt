@@ -1,11 +1,11 @@
 -- The choice by steps is the choice of the affected node.
 use Rattle.std.proofs.Common.{◌+◌, get_or}
 use Rattle.std.proofs.lemmas.Option.{slice_get-get_or}
-use Rattle.insert_cases.specs.declared.choice.Step.{Step}
+use Rattle.insert_cases.specs.declared.choice.PathNode.{PathNode}
 use Rattle.insert_cases.proofs.Choosing.{chosen, chosen_several, chosen_next, chosen_leaf}
 use Rattle.insert_cases.proofs.choice.choose.Goals as goal
 
-no_step : Step
+no_step : PathNode
 no_step = record { number = 0; height = 0; first_position = 0; count = 0; at = 0 }
 
 pub returns-then-first-last-clause-affected : goal.returns-then-first-last-clause-affected

@@ -53,10 +53,10 @@ read_entry-read_cut-requires t c = (
 
 pub read_entry-returns-in-Leaf-clause-read : goal.read_entry-returns-in-Leaf-clause-read
 read_entry-returns-in-Leaf-clause-read t c =
-    IfOk-weaker c.take_leaf.result _ _
-    (λ good taken words are. subst (λ e. IsPartRead c.args.records.nodes.now c.args.records.leaves.now words c.args.least (Place e) good c.args.linked.now c.take_leaf.new.linked) (sym c.in-Leaf.is)
-    (leaf_read c.args.records.nodes.now c.args.records.leaves.now words are c.args.least c.in-Leaf.number good c.args.linked.now c.take_leaf.new.linked c.requires taken))
-    c.take_leaf.ensures
+    IfOk-weaker c.read_leaf.result _ _
+    (λ good taken words are. subst (λ e. IsPartRead c.args.records.nodes.now c.args.records.leaves.now words c.args.least (Place e) good c.args.linked.now c.read_leaf.new.linked) (sym c.in-Leaf.is)
+    (leaf_read c.args.records.nodes.now c.args.records.leaves.now words are c.args.least c.in-Leaf.number good c.args.linked.now c.read_leaf.new.linked c.requires taken))
+    c.read_leaf.ensures
 
 pub read_entry-returns-else-from-clause-read : goal.read_entry-returns-else-from-clause-read
 read_entry-returns-else-from-clause-read t c =

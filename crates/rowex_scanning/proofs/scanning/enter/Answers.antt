@@ -1,6 +1,6 @@
 -- The step at the head that was loaded, and the gap before its first entry.
 use Rattle.std.proofs.Common.{◌∙◌, ap}
-use Rattle.insert_cases.specs.declared.choice.Step.{Step}
+use Rattle.insert_cases.specs.declared.choice.PathNode.{PathNode}
 use Rattle.rowex_reading.specs.Ways.{step_at}
 use Rattle.rowex_walks.specs.Directions.{first_gap}
 use Rattle.rowex_scanning.proofs.Walking.{entered, head_size}
@@ -9,5 +9,5 @@ use Rattle.rowex_scanning.proofs.scanning.enter.Goals as goal
 pub returns-clause-entered : goal.returns-clause-entered
 returns-clause-entered g c = λ m h led.
     let (head, high, lawful, shaped, is) = c.enter_node-step.ensures.step m h led in
-    let gap = c.first_gap.ensures ∙ ap (first_gap c.args.direction) (ap (λ (s : Step). s.count) is ∙ head_size head lawful) in
-    entered head lawful m c.args.number h _ high (ap (λ (s : Step). let x : Step = record s { at = c.first_gap.result } in x) is ∙ ap (step_at head c.args.number) gap) shaped
+    let gap = c.first_gap.ensures ∙ ap (first_gap c.args.direction) (ap (λ (s : PathNode). s.count) is ∙ head_size head lawful) in
+    entered head lawful m c.args.number h _ high (ap (λ (s : PathNode). let x : PathNode = record s { at = c.first_gap.result } in x) is ∙ ap (step_at head c.args.number) gap) shaped

@@ -3,7 +3,7 @@ use Rattle.std.proofs.Common.{◌≡◌, ℕ, ◌+◌, ◌<◌, ◌≤◌, ◌�
 use Rattle.std.specs.Prelude.{IfSome, option_to_list}
 use Rattle.std.proofs.lemmas.Result.{err_from_is_err_and}
 use Rattle.compound_node.specs.declared.entries.Entry.TheVariants.{Node}
-use Rattle.insert_cases.specs.declared.choice.Step.{Step}
+use Rattle.insert_cases.specs.declared.choice.PathNode.{PathNode}
 use Rattle.rowex_reading.specs.Seen.{since}
 use Rattle.rowex_reading.proofs.Led.{reader_then, reads_later, reads_none, reads_trans, same_since}
 use Rattle.rowex_reading.proofs.Seeing.{placed_stable, sure_later}
@@ -152,10 +152,10 @@ inside : (g : given.Over) (c : In-Some g) → entries_ahead c.look_ahead-ahead.r
 inside g c come = let one : length (option_to_list c.look_ahead-ahead.result.node) ≡ 1 = ap (λ z. length (option_to_list z)) c.in-Some.is in omega (arith, one, come)
 
 -- which is pushed.
-pushed : (d : Direction) (top moved : Step) (count place : ℕ) → moved ≡ record top { at = gap_after d top.at count } → place ≡ place_ahead d moved.at 0 →
-    (let x : Step = record moved { at = place } in x) ≡ record top { at = place_ahead d top.at count }
+pushed : (d : Direction) (top moved : PathNode) (count place : ℕ) → moved ≡ record top { at = gap_after d top.at count } → place ≡ place_ahead d moved.at 0 →
+    (let x : PathNode = record moved { at = place } in x) ≡ record top { at = place_ahead d top.at count }
 pushed d top moved count place is at =
-    ap (λ z. let x : Step = record moved { at = z } in x) at ∙ (ap (λ (z : Step). let x : Step = record z { at = place_ahead d z.at 0 } in x) is ∙ ap (λ z. let x : Step = record top { at = z } in x) (place_at_gap d top.at count))
+    ap (λ z. let x : PathNode = record moved { at = z } in x) at ∙ (ap (λ (z : PathNode). let x : PathNode = record z { at = place_ahead d z.at 0 } in x) is ∙ ap (λ z. let x : PathNode = record top { at = z } in x) (place_at_gap d top.at count))
 
 push_is : (g : given.Over) (c : After-push g) → c.take_leaves.new.top ≡ record c.loop-seat.top { at = gap_after c.args.range.now.direction c.loop-seat.top.at c.look_ahead-ahead.result.count } →
     c.push.new.self.items ≡ c.loop-seat.way.items ++ (record c.loop-seat.top { at = place_ahead c.args.range.now.direction c.loop-seat.top.at c.look_ahead-ahead.result.count }) ∷ []
@@ -211,7 +211,7 @@ loop-seat-smaller-in_default g c =
     let none : length (option_to_list c.look_ahead-ahead.result.node) ≡ 0 = ap (λ z. length (option_to_list z)) c.in_default.is in
     let some = c.look_ahead-ahead.ensures.some in
     let less = after_less d top c.loop-seat.way.items count (omega (arith, within)) in
-    subst (λ (z : Step). rest_of d z c.loop-seat.way.items < rest_of d top c.loop-seat.way.items) (sym moved) (omega (arith, less, some, none))
+    subst (λ (z : PathNode). rest_of d z c.loop-seat.way.items < rest_of d top c.loop-seat.way.items) (sym moved) (omega (arith, less, some, none))
 
 pub loop-seat-preserved-in_default : goal.loop-seat-preserved-in_default
 loop-seat-preserved-in_default g c =
@@ -223,13 +223,13 @@ loop-seat-preserved-in_default g c =
       reads = (
         i.reads.0 + (look.0 + take.0),
         i.reads.1 + (entries_ahead c.look_ahead-ahead.result + 0),
-        subst (λ (z : Step). IsPaid d (i.reads.0 + (look.0 + take.0)) (i.reads.1 + (entries_ahead c.look_ahead-ahead.result + 0)) (length c.take_leaves.new.pairs) z c.loop-seat.way.items) (sym moved)
+        subst (λ (z : PathNode). IsPaid d (i.reads.0 + (look.0 + take.0)) (i.reads.1 + (entries_ahead c.look_ahead-ahead.result + 0)) (length c.take_leaves.new.pairs) z c.loop-seat.way.items) (sym moved)
             (paid_ahead d i.reads.0 i.reads.1 (length c.loop-seat.pairs) (length c.take_leaves.new.pairs) look.0 take.0 top c.loop-seat.way.items c.look_ahead-ahead.result i.reads.2 c.in_default.is look.1 take.1 p.more (walk_fits i.walk)
             (omega (arith, within))),
         reads_trans i.reads.3 (reads_trans look.2 take.2),
       );
-      walk = subst (λ (z : Step). IsWalk d c.take_leaves.new.seat.known m (asked_range c.args.range.now) z c.loop-seat.way.items c.take_leaves.new.pairs) (sym moved) p.walk;
-      bound = subst (λ (z : Step). IsBound d c.take_leaves.new.seat.known m key z c.loop-seat.way.items) (sym moved) p.bound;
+      walk = subst (λ (z : PathNode). IsWalk d c.take_leaves.new.seat.known m (asked_range c.args.range.now) z c.loop-seat.way.items c.take_leaves.new.pairs) (sym moved) p.walk;
+      bound = subst (λ (z : PathNode). IsBound d c.take_leaves.new.seat.known m key z c.loop-seat.way.items) (sym moved) p.bound;
     }
 
 pub behind-requires : goal.behind-requires

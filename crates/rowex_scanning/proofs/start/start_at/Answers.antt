@@ -4,7 +4,7 @@ use Rattle.std.specs.Prelude.{slice_get}
 use Rattle.std.proofs.lemmas.Option.{slice_get-get_or}
 use Rattle.rowex_reading.proofs.Led.{reader_then, reads_later}
 use Rattle.rowex_reading.proofs.Ways.{way_place}
-use Rattle.insert_cases.specs.declared.choice.Step.{Step}
+use Rattle.insert_cases.specs.declared.choice.PathNode.{PathNode}
 use Rattle.key_bits.specs.Bits.{bit_of}
 use Rattle.rowex_reading.specs.Ways.{IsWayOf}
 use Rattle.rowex_reading.specs.declared.descent.Found.TheVariants.{Leaf}
@@ -17,7 +17,7 @@ use Rattle.rowex_scanning.proofs.start.start_at.Goals.{After-choose-part, then-b
 -- The part that was chosen is a place in a node of the way, and there the scan starts.
 part : (g : given.Over) (c : After-choose-part g) (m v : ℕ) →
     IsWayOf c.args.table.now.layout c.args.seat.now.known m c.args.key.now c.args.way.now (Leaf c.args._number v c.args.mismatch) →
-    (c.choose-part.result.level < length c.args.way.now) × (c.choose-part.result.last ≤ 31) × ((below : Bool) → bit_of c.args.key.now c.in-Some.position ≡ below → (t : Step) →
+    (c.choose-part.result.level < length c.args.way.now) × (c.choose-part.result.last ≤ 31) × ((below : Bool) → bit_of c.args.key.now c.in-Some.position ≡ below → (t : PathNode) →
     slice_get c.args.way.now c.choose-part.result.level ≡ Some t → (place : ℕ) → place ≡ (if below then c.choose-part.result.last + 1 else c.choose-part.result.first) → (comes : Bool) →
     comes ≡ (if below then false else nat_eq c.choose-part.result.first c.choose-part.result.last) →
     IsParting c.find_affected-first.new.seat.known m c.args.key.now c.args.way.now c.args._number (record { level = c.choose-part.result.level; top = record t { at = place }; leaf = comes }))

@@ -54,15 +54,15 @@ returns-in-Answer-clause-few g c =
     attempted_few c.args.table.now g.G.Gate.becomes (c.args.seat.now, c.args.gate.now) (c.search_way-found.new.seat, c.search_way-found.new.gate) (c.find_plan.new.seat, c.find_plan.new.gate) c.search_way-found.ensures.searched none (omega arith) (omega (arith, c.find_plan.ensures.few))
 
 -- ---- the change
-pub try_change-requires-clause-own : goal.try_change-requires-clause-own
-try_change-requires-clause-own g c = (begun_on c.args.table.now g.G.Gate.becomes c.find_plan.ensures.reads.0 c.find_plan.ensures.reads.1 (c.args.seat.now, c.args.gate.now) (c.search_way-found.new.seat, c.search_way-found.new.gate) (c.find_plan.new.seat, c.find_plan.new.gate)
+pub try_plan-requires-clause-own : goal.try_plan-requires-clause-own
+try_plan-requires-clause-own g c = (begun_on c.args.table.now g.G.Gate.becomes c.find_plan.ensures.reads.0 c.find_plan.ensures.reads.1 (c.args.seat.now, c.args.gate.now) (c.search_way-found.new.seat, c.search_way-found.new.gate) (c.find_plan.new.seat, c.find_plan.new.gate)
     (searched c.args.table.now g.G.Gate.becomes (c.args.seat.now, c.args.gate.now) (c.search_way-found.new.seat, c.search_way-found.new.gate) c.search_way-found.ensures.searched c.search_way-found.ensures.possible c.requires.own c.requires.rest) c.find_plan.ensures.reads.2).seat
 
-pub try_change-requires-clause-within : goal.try_change-requires-clause-within
-try_change-requires-clause-within g c = subst (LiesOnWay c.as_slice-way.result.now) c.in-Change.is c.find_plan.ensures.within
+pub try_plan-requires-clause-within : goal.try_plan-requires-clause-within
+try_plan-requires-clause-within g c = subst (LiesOnWay c.as_slice-way.result.now) c.in-Change.is c.find_plan.ensures.within
 
-pub try_change-requires-clause-planned : goal.try_change-requires-clause-planned
-try_change-requires-clause-planned g c =
+pub try_plan-requires-clause-planned : goal.try_plan-requires-clause-planned
+try_plan-requires-clause-planned g c =
     let m = since c.search_way-found.new.seat.known in
     let way = subst (λ way. IsWayOf c.args.table.now.layout c.search_way-found.new.seat.known m c.key_of-key.result.now way c.search_way-found.result) (sym c.as_slice-way.ensures.value) c.search_way-found.ensures.way in (
       m,
@@ -71,25 +71,25 @@ try_change-requires-clause-planned g c =
       subst (IsPlanned _ _ _ _ _ _) c.in-Change.is (c.find_plan.ensures.planned m c.key_of-key.result.now way),
     )
 
-pub try_change-requires-clause-rest : goal.try_change-requires-clause-rest
-try_change-requires-clause-rest g c = (begun_on c.args.table.now g.G.Gate.becomes c.find_plan.ensures.reads.0 c.find_plan.ensures.reads.1 (c.args.seat.now, c.args.gate.now) (c.search_way-found.new.seat, c.search_way-found.new.gate) (c.find_plan.new.seat, c.find_plan.new.gate)
+pub try_plan-requires-clause-rest : goal.try_plan-requires-clause-rest
+try_plan-requires-clause-rest g c = (begun_on c.args.table.now g.G.Gate.becomes c.find_plan.ensures.reads.0 c.find_plan.ensures.reads.1 (c.args.seat.now, c.args.gate.now) (c.search_way-found.new.seat, c.search_way-found.new.gate) (c.find_plan.new.seat, c.find_plan.new.gate)
     (searched c.args.table.now g.G.Gate.becomes (c.args.seat.now, c.args.gate.now) (c.search_way-found.new.seat, c.search_way-found.new.gate) c.search_way-found.ensures.searched c.search_way-found.ensures.possible c.requires.own c.requires.rest) c.find_plan.ensures.reads.2).rest
 
-pub try_change-requires-clause-quiet : goal.try_change-requires-clause-quiet
-try_change-requires-clause-quiet g c =
+pub try_plan-requires-clause-quiet : goal.try_plan-requires-clause-quiet
+try_plan-requires-clause-quiet g c =
     let b = begun_on c.args.table.now g.G.Gate.becomes c.find_plan.ensures.reads.0 c.find_plan.ensures.reads.1 (c.args.seat.now, c.args.gate.now) (c.search_way-found.new.seat, c.search_way-found.new.gate) (c.find_plan.new.seat, c.find_plan.new.gate)
     (searched c.args.table.now g.G.Gate.becomes (c.args.seat.now, c.args.gate.now) (c.search_way-found.new.seat, c.search_way-found.new.gate) c.search_way-found.ensures.searched c.search_way-found.ensures.possible c.requires.own c.requires.rest) c.find_plan.ensures.reads.2 in
     no_change_made_later c.args.seat.now.known c.find_plan.new.seat.known b.later c.requires.quiet
 
 pub returns-in-Err-clause-run : goal.returns-in-Err-clause-run
 returns-in-Err-clause-run g c =
-    (tried_after c.args.table.now g.G.Gate.becomes c.find_plan.ensures.reads.0 c.find_plan.ensures.reads.1 (c.args.seat.now, c.args.gate.now) (c.search_way-found.new.seat, c.search_way-found.new.gate) (c.find_plan.new.seat, c.find_plan.new.gate) (c.try_change.new.seat, c.try_change.new.gate) c.search_way-found.ensures.searched c.find_plan.ensures.reads.2 c.find_plan.ensures.few c.try_change.ensures.run).0
+    (tried_after c.args.table.now g.G.Gate.becomes c.find_plan.ensures.reads.0 c.find_plan.ensures.reads.1 (c.args.seat.now, c.args.gate.now) (c.search_way-found.new.seat, c.search_way-found.new.gate) (c.find_plan.new.seat, c.find_plan.new.gate) (c.try_plan.new.seat, c.try_plan.new.gate) c.search_way-found.ensures.searched c.find_plan.ensures.reads.2 c.find_plan.ensures.few c.try_plan.ensures.run).0
 
 pub returns-in-Err-clause-loaded : goal.returns-in-Err-clause-loaded
 returns-in-Err-clause-loaded g c =
     let b = begun_on c.args.table.now g.G.Gate.becomes c.find_plan.ensures.reads.0 c.find_plan.ensures.reads.1 (c.args.seat.now, c.args.gate.now) (c.search_way-found.new.seat, c.search_way-found.new.gate) (c.find_plan.new.seat, c.find_plan.new.gate)
     (searched c.args.table.now g.G.Gate.becomes (c.args.seat.now, c.args.gate.now) (c.search_way-found.new.seat, c.search_way-found.new.gate) c.search_way-found.ensures.searched c.search_way-found.ensures.possible c.requires.own c.requires.rest) c.find_plan.ensures.reads.2 in
-    run_loaded c.args.table.now g.G.Gate.becomes c.args.seat.now.known (c.find_plan.new.seat, c.find_plan.new.gate) (c.try_change.new.seat, c.try_change.new.gate) b.loaded c.try_change.ensures.run.1.1
+    run_loaded c.args.table.now g.G.Gate.becomes c.args.seat.now.known (c.find_plan.new.seat, c.find_plan.new.gate) (c.try_plan.new.seat, c.try_plan.new.gate) b.loaded c.try_plan.ensures.run.1.1
 
 pub returns-in-Err-clause-refused : goal.returns-in-Err-clause-refused
 returns-in-Err-clause-refused g c =
@@ -102,7 +102,7 @@ returns-in-Err-clause-leafless g c =
     let m = since c.search_way-found.new.seat.known in
     let planned = plan_made c.args.table.now.layout _ _ m c.key_of-key.result.now _ _ _ _ _ c.as_slice-way.ensures.value c.search_way-found.ensures.way c.find_plan.ensures.planned in
     leafless c.args.call.now c.value_of-held.result c.in-Some.aim c.in-Err.fault (sym c.aim_of.ensures ∙ c.in-Some.is)
-    (λ removes is. c.try_change.ensures.leafless (removal_takes c.find_plan.new.seat.known m c.key_of-key.result.now c.as_slice-way.result.now c.in-Some.aim c.search_way-found.result c.find_plan.result c.in-Change.span c.in-Change.deed removes c.in-Change.is planned) (c.in-Err.is ∙ ap Err is))
+    (λ removes is. c.try_plan.ensures.leafless (removal_takes c.find_plan.new.seat.known m c.key_of-key.result.now c.as_slice-way.result.now c.in-Some.aim c.search_way-found.result c.find_plan.result c.in-Change.span c.in-Change.deed removes c.in-Change.is planned) (c.in-Err.is ∙ ap Err is))
 
 pub returns-in-Ok-clause-leafless : goal.returns-in-Ok-clause-leafless
 returns-in-Ok-clause-leafless g c = answered_leafless c.args.call.now _
@@ -112,17 +112,17 @@ returns-in-Answer-clause-leafless g c = answered_leafless c.args.call.now _
 
 pub returns-in-Err-clause-few : goal.returns-in-Err-clause-few
 returns-in-Err-clause-few g c =
-    (tried_after c.args.table.now g.G.Gate.becomes c.find_plan.ensures.reads.0 c.find_plan.ensures.reads.1 (c.args.seat.now, c.args.gate.now) (c.search_way-found.new.seat, c.search_way-found.new.gate) (c.find_plan.new.seat, c.find_plan.new.gate) (c.try_change.new.seat, c.try_change.new.gate) c.search_way-found.ensures.searched c.find_plan.ensures.reads.2 c.find_plan.ensures.few c.try_change.ensures.run).1
+    (tried_after c.args.table.now g.G.Gate.becomes c.find_plan.ensures.reads.0 c.find_plan.ensures.reads.1 (c.args.seat.now, c.args.gate.now) (c.search_way-found.new.seat, c.search_way-found.new.gate) (c.find_plan.new.seat, c.find_plan.new.gate) (c.try_plan.new.seat, c.try_plan.new.gate) c.search_way-found.ensures.searched c.find_plan.ensures.reads.2 c.find_plan.ensures.few c.try_plan.ensures.run).1
 
 pub returns-in-Ok-clause-run : goal.returns-in-Ok-clause-run
 returns-in-Ok-clause-run g c =
-    (tried_after c.args.table.now g.G.Gate.becomes c.find_plan.ensures.reads.0 c.find_plan.ensures.reads.1 (c.args.seat.now, c.args.gate.now) (c.search_way-found.new.seat, c.search_way-found.new.gate) (c.find_plan.new.seat, c.find_plan.new.gate) (c.try_change.new.seat, c.try_change.new.gate) c.search_way-found.ensures.searched c.find_plan.ensures.reads.2 c.find_plan.ensures.few c.try_change.ensures.run).0
+    (tried_after c.args.table.now g.G.Gate.becomes c.find_plan.ensures.reads.0 c.find_plan.ensures.reads.1 (c.args.seat.now, c.args.gate.now) (c.search_way-found.new.seat, c.search_way-found.new.gate) (c.find_plan.new.seat, c.find_plan.new.gate) (c.try_plan.new.seat, c.try_plan.new.gate) c.search_way-found.ensures.searched c.find_plan.ensures.reads.2 c.find_plan.ensures.few c.try_plan.ensures.run).0
 
 pub returns-in-Ok-clause-loaded : goal.returns-in-Ok-clause-loaded
 returns-in-Ok-clause-loaded g c =
     let b = begun_on c.args.table.now g.G.Gate.becomes c.find_plan.ensures.reads.0 c.find_plan.ensures.reads.1 (c.args.seat.now, c.args.gate.now) (c.search_way-found.new.seat, c.search_way-found.new.gate) (c.find_plan.new.seat, c.find_plan.new.gate)
     (searched c.args.table.now g.G.Gate.becomes (c.args.seat.now, c.args.gate.now) (c.search_way-found.new.seat, c.search_way-found.new.gate) c.search_way-found.ensures.searched c.search_way-found.ensures.possible c.requires.own c.requires.rest) c.find_plan.ensures.reads.2 in
-    run_loaded c.args.table.now g.G.Gate.becomes c.args.seat.now.known (c.find_plan.new.seat, c.find_plan.new.gate) (c.try_change.new.seat, c.try_change.new.gate) b.loaded c.try_change.ensures.run.1.1
+    run_loaded c.args.table.now g.G.Gate.becomes c.args.seat.now.known (c.find_plan.new.seat, c.find_plan.new.gate) (c.try_plan.new.seat, c.try_plan.new.gate) b.loaded c.try_plan.ensures.run.1.1
 
 pub returns-in-Ok-clause-answered : goal.returns-in-Ok-clause-answered
 returns-in-Ok-clause-answered g c =
@@ -131,11 +131,11 @@ returns-in-Ok-clause-answered g c =
     let m = since c.search_way-found.new.seat.known in
     let planned = plan_made c.args.table.now.layout _ _ m c.key_of-key.result.now _ _ _ _ _ c.as_slice-way.ensures.value c.search_way-found.ensures.way c.find_plan.ensures.planned in
     rw c.reply_to-in-Ok.ensures (answered_change c.args.seat.now.known _ _ _ _ _ _ _ c.args.call.now _ _ _ _ _ b.later c.key_of-key.ensures c.value_in.ensures c.value_of-held.ensures (sym c.aim_of.ensures ∙ c.in-Some.is)
-    (subst (IsPlanned _ _ _ _ _ _) c.in-Change.is planned) (c.try_change.ensures.done c.in-Ok.is))
+    (subst (IsPlanned _ _ _ _ _ _) c.in-Change.is planned) (c.try_plan.ensures.done c.in-Ok.is))
 
 pub returns-in-Ok-clause-few : goal.returns-in-Ok-clause-few
 returns-in-Ok-clause-few g c =
-    (tried_after c.args.table.now g.G.Gate.becomes c.find_plan.ensures.reads.0 c.find_plan.ensures.reads.1 (c.args.seat.now, c.args.gate.now) (c.search_way-found.new.seat, c.search_way-found.new.gate) (c.find_plan.new.seat, c.find_plan.new.gate) (c.try_change.new.seat, c.try_change.new.gate) c.search_way-found.ensures.searched c.find_plan.ensures.reads.2 c.find_plan.ensures.few c.try_change.ensures.run).1
+    (tried_after c.args.table.now g.G.Gate.becomes c.find_plan.ensures.reads.0 c.find_plan.ensures.reads.1 (c.args.seat.now, c.args.gate.now) (c.search_way-found.new.seat, c.search_way-found.new.gate) (c.find_plan.new.seat, c.find_plan.new.gate) (c.try_plan.new.seat, c.try_plan.new.gate) c.search_way-found.ensures.searched c.find_plan.ensures.reads.2 c.find_plan.ensures.few c.try_plan.ensures.run).1
 
 -- ---- answered at once
 pub returns-in_default-clause-run : goal.returns-in_default-clause-run

@@ -26,19 +26,19 @@ err_only x e is = absurd cc
 pub end_removal-requires-clause-takes : goal.end_removal-requires-clause-takes
 end_removal-requires-clause-takes g c =
     let (t, same) = is_taking c.args.table.now c.args.seat.now c.args.job.now c.requires.taken c.requires.some in
-    let goes = c.take_leaf.ensures.done.goes in
+    let goes = c.remove_leaf.ensures.done.goes in
     let taken = c.requires.taken.2 in (
       t,
-      seat_of c.args.table.now g.G.Gate.becomes (c.args.seat.now, c.args.gate.now) (c.take_leaf.new.seat, c.take_leaf.new.gate) goes taken.seat,
-      goes_possible c.args.table.now g.G.Gate.becomes (c.args.seat.now, c.args.gate.now) (c.take_leaf.new.seat, c.take_leaf.new.gate) goes taken.possible,
-      subst (λ b. StaysLocked b.known c.take_leaf.new.seat.known) (sym same) goes.stays,
+      seat_of c.args.table.now g.G.Gate.becomes (c.args.seat.now, c.args.gate.now) (c.remove_leaf.new.seat, c.remove_leaf.new.gate) goes taken.seat,
+      goes_possible c.args.table.now g.G.Gate.becomes (c.args.seat.now, c.args.gate.now) (c.remove_leaf.new.seat, c.remove_leaf.new.gate) goes taken.possible,
+      subst (λ b. StaysLocked b.known c.remove_leaf.new.seat.known) (sym same) goes.stays,
     )
 
 pub end_removal-requires-clause-may : goal.end_removal-requires-clause-may
 end_removal-requires-clause-may g c =
     let job = c.args.job.now in
     let (x, was, is, may) = c.in-Ok.ensures.done.raised in
-    (x, was, subst (λ q. IsTakeChange q job.key.now job.found x was) (sym c.take_leaf.ensures.done.goes.stays.0.pass) is, may)
+    (x, was, subst (λ q. IsTakeChange q job.key.now job.found x was) (sym c.remove_leaf.ensures.done.goes.stays.0.pass) is, may)
 
 pub returns-in-Ok-clause-run : goal.returns-in-Ok-clause-run
 returns-in-Ok-clause-run g c = λ a h.
@@ -46,16 +46,16 @@ returns-in-Ok-clause-run g c = λ a h.
     let numbers = span_numbers c.args.job.now.way.now c.args.job.now.span in
     let (t, same) = is_taking table c.args.seat.now c.args.job.now c.requires.taken c.requires.some in
     let (locks, tried, least, most, few) = c.end_removal.ensures.tries a
-    (nodes_then table g.G.Gate.becomes numbers a (c.args.seat.now, c.args.gate.now) (c.take_leaf.new.seat, c.take_leaf.new.gate) h (goes_run table g.G.Gate.becomes (c.args.seat.now, c.args.gate.now) (c.take_leaf.new.seat, c.take_leaf.new.gate) c.take_leaf.ensures.done.goes)) in
+    (nodes_then table g.G.Gate.becomes numbers a (c.args.seat.now, c.args.gate.now) (c.remove_leaf.new.seat, c.remove_leaf.new.gate) h (goes_run table g.G.Gate.becomes (c.args.seat.now, c.args.gate.now) (c.remove_leaf.new.seat, c.remove_leaf.new.gate) c.remove_leaf.ensures.done.goes)) in
     let count = numbers_few c.args.job.now.way.now (c.args.job.now.span.end - 1) c.args.job.now.span.len (let w = t.below.taken.within.0 in omega (arith, w)) t.below.taken.within.1 in
-    (locks, tried, least, most, omega (arith, few, c.take_leaf.ensures.walk (omega (arith, t.below.last)), count, t.below.last, c.requires.some, least))
+    (locks, tried, least, most, omega (arith, few, c.remove_leaf.ensures.walk (omega (arith, t.below.last)), count, t.below.last, c.requires.some, least))
 
 pub returns-in-Ok-clause-done : goal.returns-in-Ok-clause-done
 returns-in-Ok-clause-done g c = λ ok.
     let job = c.args.job.now in
     let (x, was, is, changed) = c.end_removal.ensures.done in
-    let later = c.take_leaf.ensures.done.goes.stays.0 in
-    (x, was, subst (λ q. IsTakeChange q job.key.now job.found x was) later.pass is, changed_since c.args.seat.now.known c.take_leaf.new.seat.known c.end_removal.new.seat.known x was later changed)
+    let later = c.remove_leaf.ensures.done.goes.stays.0 in
+    (x, was, subst (λ q. IsTakeChange q job.key.now job.found x was) later.pass is, changed_since c.args.seat.now.known c.remove_leaf.new.seat.known c.end_removal.new.seat.known x was later changed)
 
 pub returns-in-Ok-clause-full : goal.returns-in-Ok-clause-full
 returns-in-Ok-clause-full g c = tt
@@ -64,12 +64,12 @@ pub returns-in-Ok-clause-leafless : goal.returns-in-Ok-clause-leafless
 returns-in-Ok-clause-leafless g c = λ is. err_only _ _ is
 
 pub undo-requires-clause-own : goal.undo-requires-clause-own
-undo-requires-clause-own g c = seat_of c.args.table.now g.G.Gate.becomes (c.args.seat.now, c.args.gate.now) (c.take_leaf.new.seat, c.take_leaf.new.gate) c.take_leaf.ensures.done.goes c.requires.taken.2.seat
+undo-requires-clause-own g c = seat_of c.args.table.now g.G.Gate.becomes (c.args.seat.now, c.args.gate.now) (c.remove_leaf.new.seat, c.remove_leaf.new.gate) c.remove_leaf.ensures.done.goes c.requires.taken.2.seat
 
 pub undo-requires-clause-records : goal.undo-requires-clause-records
 undo-requires-clause-records g c =
     let none = c.in-Err.ensures.done.full.not_made in
-    subst (AreInTable c.args.table.now.layout) (sym c.as_slice.ensures.value) (made_records c.args.table.now c.take_leaf.new.seat c.take_leaf.new.build.made.items none.news none.building)
+    subst (AreInTable c.args.table.now.layout) (sym c.as_slice.ensures.value) (made_records c.args.table.now c.remove_leaf.new.seat c.remove_leaf.new.build.made.items none.news none.building)
 
 pub undo-requires-clause-within : goal.undo-requires-clause-within
 undo-requires-clause-within g c = c.requires.taken.2.within
@@ -83,19 +83,19 @@ undo-requires-clause-nodes g c =
 pub undo-requires-clause-held : goal.undo-requires-clause-held
 undo-requires-clause-held g c =
     let none = c.in-Err.ensures.done.full.not_made in
-    subst (HoldsJust c.take_leaf.new.seat.known) (sym c.as_slice.ensures.value) (made_held c.args.table.now c.take_leaf.new.seat c.take_leaf.new.build.made.items none.news none.building)
+    subst (HoldsJust c.remove_leaf.new.seat.known) (sym c.as_slice.ensures.value) (made_held c.args.table.now c.remove_leaf.new.seat c.remove_leaf.new.build.made.items none.news none.building)
 
 pub undo-requires-clause-locked : goal.undo-requires-clause-locked
-undo-requires-clause-locked g c = span_later _ _ c.args.job.now.way.now c.args.job.now.span c.take_leaf.ensures.done.goes.stays c.requires.taken.2.locked
+undo-requires-clause-locked g c = span_later _ _ c.args.job.now.way.now c.args.job.now.span c.remove_leaf.ensures.done.goes.stays c.requires.taken.2.locked
 
 pub returns-in-Err-clause-run : goal.returns-in-Err-clause-run
 returns-in-Err-clause-run g c = λ a h.
     let table = c.args.table.now in
     let numbers = span_numbers c.args.job.now.way.now c.args.job.now.span in
     let (t, same) = is_taking table c.args.seat.now c.args.job.now c.requires.taken c.requires.some in
-    let run = runs_trans table g.G.Gate.becomes (c.args.seat.now, c.args.gate.now) (c.take_leaf.new.seat, c.take_leaf.new.gate) (c.undo.new.seat, c.undo.new.gate)
-    (goes_run table g.G.Gate.becomes (c.args.seat.now, c.args.gate.now) (c.take_leaf.new.seat, c.take_leaf.new.gate) c.take_leaf.ensures.done.goes)
-    (works_run table g.G.Gate.becomes (c.take_leaf.new.seat, c.take_leaf.new.gate) (c.undo.new.seat, c.undo.new.gate) c.undo.ensures.works) in
+    let run = runs_trans table g.G.Gate.becomes (c.args.seat.now, c.args.gate.now) (c.remove_leaf.new.seat, c.remove_leaf.new.gate) (c.undo.new.seat, c.undo.new.gate)
+    (goes_run table g.G.Gate.becomes (c.args.seat.now, c.args.gate.now) (c.remove_leaf.new.seat, c.remove_leaf.new.gate) c.remove_leaf.ensures.done.goes)
+    (works_run table g.G.Gate.becomes (c.remove_leaf.new.seat, c.remove_leaf.new.gate) (c.undo.new.seat, c.undo.new.gate) c.undo.ensures.works) in
     let count = numbers_few c.args.job.now.way.now (c.args.job.now.span.end - 1) c.args.job.now.span.len (let w = t.below.taken.within.0 in omega (arith, w)) t.below.taken.within.1 in (
       length numbers,
       nodes_once table g.G.Gate.becomes numbers a (c.undo.new.seat, c.undo.new.gate) (nodes_then table g.G.Gate.becomes numbers a (c.args.seat.now, c.args.gate.now) (c.undo.new.seat, c.undo.new.gate) h run),
@@ -109,5 +109,5 @@ returns-in-Err-clause-done g c = λ is. ok_only _ _ is
 
 pub returns-in-Err-clause-full : goal.returns-in-Err-clause-full
 returns-in-Err-clause-full g c =
-    no_room c.args.table.now g.G.Gate.becomes c.args.job.now.key.now (c.args.seat.now, c.args.gate.now) (c.take_leaf.new.seat, c.take_leaf.new.gate) (c.undo.new.seat, c.undo.new.gate) c.in-Err.full
-    c.take_leaf.ensures.done.goes c.undo.ensures.works c.undo.ensures.rest c.in-Err.ensures.done.full.full_of
+    no_room c.args.table.now g.G.Gate.becomes c.args.job.now.key.now (c.args.seat.now, c.args.gate.now) (c.remove_leaf.new.seat, c.remove_leaf.new.gate) (c.undo.new.seat, c.undo.new.gate) c.in-Err.full
+    c.remove_leaf.ensures.done.goes c.undo.ensures.works c.undo.ensures.rest c.in-Err.ensures.done.full.full_of

@@ -2,7 +2,7 @@
 use Rattle.std.proofs.Common.{◌≡◌, ◌≢◌, ℕ, ◌+◌, ◌-◌, ◌*◌, ◌<◌, ◌≤◌, List, length, get_or, ap, sym, subst, ◌∙◌, arith, rules, Some}
 use Rattle.std.specs.Prelude.{slice_get}
 use Rattle.std.proofs.lemmas.Option.{slice_get-get_or, slice_get_within, get_or_from_slice_get}
-use Rattle.insert_cases.specs.declared.choice.Step.{Step}
+use Rattle.insert_cases.specs.declared.choice.PathNode.{PathNode}
 use Rattle.insert_cases.proofs.Choosing.{some_injective}
 use Rattle.versions.specs.Trades.{IsOneOf}
 use Rattle.rowex_core.specs.Reading.{node_words_of}
@@ -13,17 +13,17 @@ use Rattle.rowex_writing.proofs.Lifting.{fits_above, up_there, up_below, up_next
 use Rattle.rowex_writing.proofs.Counting.{entry_few, entry_more, level_few, level_more, levels_few, levels_more}
 use Rattle.rowex_writing.proofs.building.+raising.Goals as goal
 
-abbrev no_step : Step
+abbrev no_step : PathNode
 no_step = record { number = 0; height = 0; first_position = 0; count = 0; at = 0 }
 
-abbrev step_at : List Step → ℕ → Step
+abbrev step_at : List PathNode → ℕ → PathNode
 step_at way i = get_or way i no_step
 
 -- a step above another one
-within : (way : List Step) (level end : ℕ) (s : Step) → slice_get way level ≡ Some s → level - 1 < length way
+within : (way : List PathNode) (level end : ℕ) (s : PathNode) → slice_get way level ≡ Some s → level - 1 < length way
 within way level end s at = let h = slice_get_within way level s at in omega arith
 
-there : (way : List Step) (level end : ℕ) (s : Step) → slice_get way level ≡ Some s → slice_get way (level - 1) ≡ Some (step_at way (level - 1))
+there : (way : List PathNode) (level end : ℕ) (s : PathNode) → slice_get way level ≡ Some s → slice_get way (level - 1) ≡ Some (step_at way (level - 1))
 there way level end s at = slice_get-get_or way (level - 1) no_step (within way level end s at)
 
 next : (level end : ℕ) → level ≢ end → end ≤ level → level - 1 + 1 ≡ level
@@ -46,14 +46,14 @@ pub raise_on-settle-requires-clause-risen : goal.raise_on-settle-requires-clause
 raise_on-settle-requires-clause-risen g t c =
     let up = c.requires.up in
     rising_on_at_end c.args.table.now c.args.seat.now c.args.build.now.made.items c.args.way.now c.args.rise.key.now c.args.rise.end c.args.rise.level _ c.args.rise.risen up
-    (ap (λ (z : Step). z.number) (get_or_from_slice_get c.args.way.now c.args.rise.level up.step no_step up.at))
+    (ap (λ (z : PathNode). z.number) (get_or_from_slice_get c.args.way.now c.args.rise.level up.step no_step up.at))
 
 pub raise_on-returns-then-level-rise-clause-made : goal.raise_on-returns-then-level-rise-clause-made
 raise_on-returns-then-level-rise-clause-made g t c = λ b.
     settled_at_end c.args.table.now c.args.seat.now c.settle.new.seat c.args.build.now.made.items c.settle.new.build.made.items c.args.way.now c.args.rise.key.now c.args.rise.end c.args.rise.level _ c.args.rise.risen c.if-level-rise.true b
-    (ap (λ (z : Step). z.number) (get_or_from_slice_get c.args.way.now c.args.rise.level b.step no_step b.at)) c.settle.result
+    (ap (λ (z : PathNode). z.number) (get_or_from_slice_get c.args.way.now c.args.rise.level b.step no_step b.at)) c.settle.result
     (c.settle.ensures.made (rising_on_at_end c.args.table.now c.args.seat.now c.args.build.now.made.items c.args.way.now c.args.rise.key.now c.args.rise.end c.args.rise.level _ c.args.rise.risen b
-    (ap (λ (z : Step). z.number) (get_or_from_slice_get c.args.way.now c.args.rise.level b.step no_step b.at))))
+    (ap (λ (z : PathNode). z.number) (get_or_from_slice_get c.args.way.now c.args.rise.level b.step no_step b.at))))
 
 pub raise_on-raise_above-requires : goal.raise_on-raise_above-requires
 raise_on-raise_above-requires g t c = λ κs le. (omega (arith, c.decreases), (le, (c.requires.up, (c.if-level-rise.false, c.requires.room))))
@@ -117,7 +117,7 @@ pub raise_on-returns-then-level-rise-clause-low : goal.raise_on-returns-then-lev
 raise_on-returns-then-level-rise-clause-low g t c = λ s words at h.
     let b = c.requires.up in
     let same : s ≡ b.step = some_injective (sym at ∙ (ap (slice_get c.args.way.now) (sym c.if-level-rise.true) ∙ b.at)) in
-    let here = subst (λ (z : Step). HasLocked c.args.seat.now.known z.number words) same h in
+    let here = subst (λ (z : PathNode). HasLocked c.args.seat.now.known z.number words) same h in
     fits_above words c.args.rise.risen c.settle.result (b.single words here) (c.settle.ensures.low (node_words_of words).fixed.height (b.low words here))
 
 pub raise_above-returns-clause-low : goal.raise_above-returns-clause-low

@@ -2,7 +2,7 @@
 use Rattle.std.proofs.Common.{◌≡◌, ◌-◌, ℕ, ◌+◌, ◌*◌, ◌<◌, ◌≤◌, List, get_or, ap, sym, subst, arith, rules, Some}
 use Rattle.std.specs.Prelude.{slice_get}
 use Rattle.std.proofs.lemmas.Option.{get_or_from_slice_get, slice_get_within}
-use Rattle.insert_cases.specs.declared.choice.Step.{Step}
+use Rattle.insert_cases.specs.declared.choice.PathNode.{PathNode}
 use Rattle.versions.specs.Trades.{IsOneOf}
 use Rattle.rowex_writing.specs.Building.{HasRisenTo, gone_unless_whole, gone_with_way}
 use Rattle.rowex_writing.proofs.Locking.{goes_more}
@@ -10,14 +10,14 @@ use Rattle.rowex_writing.proofs.Lifting.{low_at, up_first}
 use Rattle.rowex_writing.proofs.Counting.{all_more, level_few, levels_few, lowest_more}
 use Rattle.rowex_writing.proofs.building.raise_grown.Goals as goal
 
-abbrev no_step : Step
+abbrev no_step : PathNode
 no_step = record { number = 0; height = 0; first_position = 0; count = 0; at = 0 }
 
-abbrev step_at : List Step → ℕ → Step
+abbrev step_at : List PathNode → ℕ → PathNode
 step_at way i = get_or way i no_step
 
-number_is : (way : List Step) (i : ℕ) (s : Step) → slice_get way i ≡ Some s → (step_at way i).number ≡ s.number
-number_is way i s at = ap (λ (z : Step). z.number) (get_or_from_slice_get way i s no_step at)
+number_is : (way : List PathNode) (i : ℕ) (s : PathNode) → slice_get way i ≡ Some s → (step_at way i).number ≡ s.number
+number_is way i s at = ap (λ (z : PathNode). z.number) (get_or_from_slice_get way i s no_step at)
 
 -- room for the lowest node's records, and then for those of the way up
 room_lowest : (made others most : ℕ) → made + 2 * others + 2 < most → made + 1 < most

@@ -3,7 +3,7 @@ use Rattle.std.proofs.Common.{◌≡◌, ◌<◌, ◌≤◌, ◌∙◌, ℕ, Lis
 use Rattle.std.specs.Prelude.{slice_get}
 use Rattle.std.proofs.lemmas.Option.{slice_get-get_or, get_or_from_slice_get}
 use Rattle.std.proofs.lemmas.Bool.{false≢true}
-use Rattle.insert_cases.specs.declared.choice.Step.{Step}
+use Rattle.insert_cases.specs.declared.choice.PathNode.{PathNode}
 use Rattle.tries.specs.Place.{entry_at}
 use Rattle.rowex_core.specs.Reading.{node_words_of}
 use Rattle.rowex_writing.specs.Going.{HasLocked}
@@ -11,10 +11,10 @@ use Rattle.rowex_writing.proofs.Confirming.{none_stand, more_stand, step_place, 
 use Rattle.rowex_writing.proofs.Locking.{locked_on, reads_none, reads_more, seat_of}
 use Rattle.rowex_writing.proofs.checking.entries_stand.Goals as goal
 
-abbrev no_step : Step
+abbrev no_step : PathNode
 no_step = record { number = 0; height = 0; first_position = 0; count = 0; at = 0 }
 
-there : (way : List Step) (i len : ℕ) (d : Step) → i < len → len ≤ length way → slice_get way i ≡ Some (get_or way i d)
+there : (way : List PathNode) (i len : ℕ) (d : PathNode) → i < len → len ≤ length way → slice_get way i ≡ Some (get_or way i d)
 there way i len d low high = slice_get-get_or way i d (omega arith)
 
 pub loop-index-init : goal.loop-index-init
@@ -78,7 +78,7 @@ loop-index-preserved g c =
           (λ s at words h.
           let same : get_or c.args.job.now.way.now c.loop-index.index no_step ≡ s = get_or_from_slice_get c.args.job.now.way.now c.loop-index.index s no_step at in
           let locked = locked_on c.args.seat.now.known c.loop-index.seat.known s.number words i.reads.goes.stays.1 h in
-          sym c.named_at-entry.ensures ∙ subst (λ (z : Step). HasLocked c.loop-index.seat.known z.number words → c.named_at-entry.result ≡ Some (entry_at (node_words_of words).subtrie z.at)) same
+          sym c.named_at-entry.ensures ∙ subst (λ (z : PathNode). HasLocked c.loop-index.seat.known z.number words → c.named_at-entry.result ≡ Some (entry_at (node_words_of words).subtrie z.at)) same
           (e.same c.if-not-entry_stands.false words) locked);
     }
 

@@ -1,17 +1,17 @@
 -- What names a node, by the way's list.
 use Rattle.std.proofs.Common.{◌≡◌, ◌<◌, ◌≤◌, ℕ, zero, suc, List, length, Some, [], ◌∷◌, get_or, refl, arith, sym, ap, ◌∙◌}
 use Rattle.compound_node.specs.declared.entries.Entry.TheVariants.{Node}
-use Rattle.insert_cases.specs.declared.choice.Step.{Step}
+use Rattle.insert_cases.specs.declared.choice.PathNode.{PathNode}
 use Rattle.rowex_reading.specs.Ways.{named, end_of}
 use Rattle.rowex_reading.specs.declared.descent.Found.{Found}
 use Rattle.rowex_writing.proofs.checking.named_at.Goals as goal
 
-within : (way : List Step) (found : Found) (i : ℕ) (d : Step) → i < length way → Some (Node (get_or way i d).number (get_or way i d).height) ≡ named way found i
+within : (way : List PathNode) (found : Found) (i : ℕ) (d : PathNode) → i < length way → Some (Node (get_or way i d).number (get_or way i d).height) ≡ named way found i
 within [] found i d low = absurd (omega arith)
 within (s ∷ way) found zero d low = refl
 within (s ∷ way) found (suc i) d low = within way found i d (omega arith)
 
-past : (way : List Step) (found : Found) (i : ℕ) → length way ≤ i → end_of found ≡ named way found i
+past : (way : List PathNode) (found : Found) (i : ℕ) → length way ≤ i → end_of found ≡ named way found i
 past [] found i high = refl
 past (s ∷ way) found zero high = absurd (omega arith)
 past (s ∷ way) found (suc i) high = past way found i (omega arith)

@@ -2,14 +2,14 @@
 use Rattle.std.proofs.Common.{◌≡◌, ◌∙◌, ℕ, sym, subst}
 use Rattle.rowex_writing.specs.Changes.{HasTakenPlan}
 use Rattle.rowex_writing.specs.Deeds.{CarriesOut}
-use Rattle.rowex_writing.specs.declared.plan.Deed.TheVariants.{Grow, Pair, Put, Take}
+use Rattle.rowex_writing.specs.declared.plan.Deed.TheVariants.{Grow, PushDown, Put, Take}
 use Rattle.rowex_writing.proofs.deeds.carry_out.Goals as goal
 
 -- ---- only a taking takes a leaf
 put_adds : Put ≡ Take → ⊥
 put_adds is = cc
 
-pair_adds : (position : ℕ) → Pair position ≡ Take → ⊥
+pair_adds : (position : ℕ) → PushDown position ≡ Take → ⊥
 pair_adds position is = cc
 
 grow_adds : (position : ℕ) → Grow position ≡ Take → ⊥
@@ -24,14 +24,14 @@ returns-in-Put-clause-done g c = subst (λ d. CarriesOut c.args.table.now g.G.Ga
 pub returns-in-Put-clause-leafless : goal.returns-in-Put-clause-leafless
 returns-in-Put-clause-leafless g c = λ take is. put_adds (sym c.in-Put.is ∙ take)
 
-pub pair_leaf-requires : goal.pair_leaf-requires
-pair_leaf-requires g c = record { taken = subst (HasTakenPlan c.args.table.now c.args.seat.now c.args.job.now) c.in-Pair.is c.requires.taken }
+pub push_down-requires : goal.push_down-requires
+push_down-requires g c = record { taken = subst (HasTakenPlan c.args.table.now c.args.seat.now c.args.job.now) c.in-PushDown.is c.requires.taken }
 
-pub returns-in-Pair-clause-done : goal.returns-in-Pair-clause-done
-returns-in-Pair-clause-done g c = subst (λ d. CarriesOut c.args.table.now g.G.Gate.becomes (c.args.seat.now, c.args.gate.now) (c.pair_leaf.new.seat, c.pair_leaf.new.gate) c.pair_leaf.new.build.made.items c.args.job.now d c.pair_leaf.result) (sym c.in-Pair.is) c.pair_leaf.ensures.done
+pub returns-in-PushDown-clause-done : goal.returns-in-PushDown-clause-done
+returns-in-PushDown-clause-done g c = subst (λ d. CarriesOut c.args.table.now g.G.Gate.becomes (c.args.seat.now, c.args.gate.now) (c.push_down.new.seat, c.push_down.new.gate) c.push_down.new.build.made.items c.args.job.now d c.push_down.result) (sym c.in-PushDown.is) c.push_down.ensures.done
 
-pub returns-in-Pair-clause-leafless : goal.returns-in-Pair-clause-leafless
-returns-in-Pair-clause-leafless g c = λ take is. pair_adds c.in-Pair.position (sym c.in-Pair.is ∙ take)
+pub returns-in-PushDown-clause-leafless : goal.returns-in-PushDown-clause-leafless
+returns-in-PushDown-clause-leafless g c = λ take is. pair_adds c.in-PushDown.position (sym c.in-PushDown.is ∙ take)
 
 pub grow_node-requires : goal.grow_node-requires
 grow_node-requires g c = record { taken = subst (HasTakenPlan c.args.table.now c.args.seat.now c.args.job.now) c.in-Grow.is c.requires.taken }
@@ -42,11 +42,11 @@ returns-in-Grow-clause-done g c = subst (λ d. CarriesOut c.args.table.now g.G.G
 pub returns-in-Grow-clause-leafless : goal.returns-in-Grow-clause-leafless
 returns-in-Grow-clause-leafless g c = λ take is. grow_adds c.in-Grow.position (sym c.in-Grow.is ∙ take)
 
-pub take_leaf-requires : goal.take_leaf-requires
-take_leaf-requires g c = record { taken = subst (HasTakenPlan c.args.table.now c.args.seat.now c.args.job.now) c.in-Take.is c.requires.taken }
+pub remove_leaf-requires : goal.remove_leaf-requires
+remove_leaf-requires g c = record { taken = subst (HasTakenPlan c.args.table.now c.args.seat.now c.args.job.now) c.in-Take.is c.requires.taken }
 
 pub returns-in-Take-clause-done : goal.returns-in-Take-clause-done
-returns-in-Take-clause-done g c = subst (λ d. CarriesOut c.args.table.now g.G.Gate.becomes (c.args.seat.now, c.args.gate.now) (c.take_leaf.new.seat, c.take_leaf.new.gate) c.take_leaf.new.build.made.items c.args.job.now d c.take_leaf.result) (sym c.in-Take.is) c.take_leaf.ensures.done
+returns-in-Take-clause-done g c = subst (λ d. CarriesOut c.args.table.now g.G.Gate.becomes (c.args.seat.now, c.args.gate.now) (c.remove_leaf.new.seat, c.remove_leaf.new.gate) c.remove_leaf.new.build.made.items c.args.job.now d c.remove_leaf.result) (sym c.in-Take.is) c.remove_leaf.ensures.done
 
 pub returns-in-Take-clause-leafless : goal.returns-in-Take-clause-leafless
-returns-in-Take-clause-leafless g c = λ take. c.take_leaf.ensures.leafless
+returns-in-Take-clause-leafless g c = λ take. c.remove_leaf.ensures.leafless

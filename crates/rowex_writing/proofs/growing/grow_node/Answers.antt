@@ -1,14 +1,14 @@
 -- The leaf's record, and the rest.
 use Rattle.std.proofs.Common.{◌-◌, ap, arith, get_or, sym}
 use Rattle.std.proofs.lemmas.Option.{get_or_from_slice_get}
-use Rattle.insert_cases.specs.declared.choice.Step.{Step}
+use Rattle.insert_cases.specs.declared.choice.PathNode.{PathNode}
 use Rattle.rowex_writing.proofs.Raised.{grown_raised, no_leaf_free, none_free_since}
 use Rattle.rowex_writing.proofs.Growths.{grown_stored, may_grow}
 use Rattle.rowex_writing.proofs.Locking.{goes_more}
 use Rattle.rowex_writing.proofs.Runs.{goes_run, run_count}
 use Rattle.rowex_writing.proofs.growing.grow_node.Goals as goal
 
-abbrev no_step : Step
+abbrev no_step : PathNode
 no_step = record { number = 0; height = 0; first_position = 0; count = 0; at = 0 }
 
 pub returns-in_default : goal.returns-in_default
@@ -27,7 +27,7 @@ grow_with-requires g c =
     let (m, aim, t, planned) = c.requires.taken in
     record {
       may = may_grow c.args.table.now c.args.seat.now c.make_leaf.new.seat c.make_leaf.new.build.made.items m job.key.now job.value job.way.now job.found job.span aim c.args.position (get_or job.way.now (job.span.len - 1) no_step).at c.in-Some.number t planned
-          (λ s there. ap (λ (z : Step). z.at) (sym (get_or_from_slice_get job.way.now (job.span.len - 1) s no_step there)))
+          (λ s there. ap (λ (z : PathNode). z.at) (sym (get_or_from_slice_get job.way.now (job.span.len - 1) s no_step there)))
           c.in-Some.ensures.goes.stays c.in-Some.ensures.made;
     }
 

@@ -2,7 +2,7 @@
 use Rattle.std.proofs.Common.{◌≡◌, ◌≤◌, ◌-◌, ◌*◌, ◌+◌, if◌then◌else◌, length, map, ap, sym, ◌∙◌, arith}
 use Rattle.std.specs.Prelude.{slice_range}
 use Rattle.std.proofs.lemmas.List.{append-nil}
-use Rattle.insert_cases.specs.declared.choice.Step.{Step}
+use Rattle.insert_cases.specs.declared.choice.PathNode.{PathNode}
 use Rattle.record_words.specs.declared.layout.Layout.{Layout}
 use Rattle.versions.specs.declared.Rec.TheVariants.{Node as a_node}
 use Rattle.rowex_writing.specs.Counts.{level_steps}
@@ -45,7 +45,7 @@ returns-clause-raised g c =
       | then-stays w ↦ (omega (arith, w.low-is, may.within.0), omega (arith, w.low-is, may.within.0), omega (arith, w.low-is, may.within.0))
       | else-stays w ↦ (omega (arith, w.low-is, may.within.0), omega (arith, w.low-is, may.within.0), omega (arith, w.low-is, may.within.0))
     ] in
-    let gone = append-nil (map (λ (s : Step). a_node s.number) (slice_range job.way.now job.span.end c.if-stays.low)) ∙
+    let gone = append-nil (map (λ (s : PathNode). a_node s.number) (slice_range job.way.now job.span.end c.if-stays.low)) ∙
     sym (gone_is job.way.now job.span.end (job.span.len - 1) job.span.len c.if-stays.low c.in-Some.stays may.growing.step may.growing.upto (let w = may.within.0 in omega (arith, w)) low_is may.growing.at) in
     record {
       from = low.0;

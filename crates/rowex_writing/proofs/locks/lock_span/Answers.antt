@@ -1,7 +1,7 @@
 -- One node more; one that is refused, and the anchor.
 use Rattle.std.proofs.Common.{ℕ, ◌≡◌, ◌∷◌, ◌+◌, ◌-◌, ◌<◌, ◌≤◌, le_trans, length, rules, true, false, refl, sym, ap, subst, ◌∙◌, arith, get_or}
 use Rattle.std.specs.Prelude.{slice_range}
-use Rattle.insert_cases.specs.declared.choice.Step.{Step}
+use Rattle.insert_cases.specs.declared.choice.PathNode.{PathNode}
 use Rattle.rowex_rights.proofs.Acting.{led_may_lock}
 use Rattle.rowex_writing.specs.Locks.{HasJustLocked, HasNotLocked, TriesNodes, numbers_of}
 use Rattle.versions.specs.Trades.{IsOneOf}
@@ -41,7 +41,7 @@ loop-index-init g c = record {
 }
 
 -- the node of the way at an index, to which the pass was led
-abbrev no_step : Step
+abbrev no_step : PathNode
 no_step = record { number = 0; height = 0; first_position = 0; count = 0; at = 0 }
 
 pub lock_node-requires-clause-range : goal.lock_node-requires-clause-range
@@ -119,7 +119,7 @@ loop-index-preserved g c =
     let i = c.loop-index.invariant in
     let l = c.lock_node.ensures.locked c.if-not-lock_node.false in
     let at = sym (again c.loop-index-test.true) in
-    let d : Step = no_step in
+    let d : PathNode = no_step in
     let part = slice_more c.args.way.now (c.loop-index.index - 1) c.args.span.len d (below c.loop-index-test.true i.range.1) c.requires.span.1 ∙
     ap (λ n. get_or c.args.way.now (c.loop-index.index - 1) d ∷ slice_range c.args.way.now n c.args.span.len) at in
     let fresh = number_new c.args.way.now (c.loop-index.index - 1) c.args.span.len d (below c.loop-index-test.true i.range.1) c.requires.span.1 c.requires.apart in

@@ -2,14 +2,14 @@
 use Rattle.std.proofs.Common.{◌≡◌, ◌+◌, ℕ, List, arith, get_or, length, Some}
 use Rattle.std.proofs.lemmas.Option.{slice_get-get_or}
 use Rattle.std.specs.Prelude.{slice_get}
-use Rattle.insert_cases.specs.declared.choice.Step.{Step}
+use Rattle.insert_cases.specs.declared.choice.PathNode.{PathNode}
 use Rattle.rowex_writing.proofs.Planning.{low_full, low_room}
 use Rattle.rowex_writing.proofs.plan.plan_low.Goals as goal
 
-no_step : Step
+no_step : PathNode
 no_step = record { number = 0; height = 0; first_position = 0; count = 0; at = 0 }
 
-here : (way : List Step) (level : ℕ) → level + 1 ≡ length way → slice_get way level ≡ Some (get_or way level no_step)
+here : (way : List PathNode) (level : ℕ) → level + 1 ≡ length way → slice_get way level ≡ Some (get_or way level no_step)
 here way level last = slice_get-get_or way level no_step (omega arith)
 
 pub returns-then-way-level-lt32 : goal.returns-then-way-level-lt32

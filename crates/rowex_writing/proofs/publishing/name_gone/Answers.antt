@@ -1,21 +1,21 @@
 -- Each node of the steps, and then the leaf.
 use Rattle.std.proofs.Common.{◌≡◌, ◌∙◌, ◌++◌, ◌∷◌, [], ◌+◌, ◌<◌, ◌≤◌, ℕ, List, ap, get_or, length, map, sym, take}
 use Rattle.std.proofs.lemmas.List.{append-nil, map_more, take_all}
-use Rattle.insert_cases.specs.declared.choice.Step.{Step}
+use Rattle.insert_cases.specs.declared.choice.PathNode.{PathNode}
 use Rattle.versions.specs.declared.Rec.{Rec}
 use Rattle.versions.specs.declared.Rec.TheVariants.{Node as a_node, Leaf as a_leaf}
 use Rattle.rowex_writing.specs.Deeds.{leaf_gone}
 use Rattle.rowex_writing.proofs.publishing.name_gone.Goals as goal
 
-abbrev nodes : List Step → List Rec
-nodes steps = map (λ (s : Step). a_node s.number) steps
+abbrev nodes : List PathNode → List Rec
+nodes steps = map (λ (s : PathNode). a_node s.number) steps
 
-one_more : (steps : List Step) (i : ℕ) (d : Step) (gone more : List Rec) → i < length steps → gone ≡ nodes (take i steps) → more ≡ gone ++ a_node (get_or steps i d).number ∷ [] →
+one_more : (steps : List PathNode) (i : ℕ) (d : PathNode) (gone more : List Rec) → i < length steps → gone ≡ nodes (take i steps) → more ≡ gone ++ a_node (get_or steps i d).number ∷ [] →
     more ≡ nodes (take (i + 1) steps)
 one_more steps i d gone more low listed pushed =
-    pushed ∙ (ap (λ (l : List Rec). l ++ a_node (get_or steps i d).number ∷ []) listed ∙ sym (map_more (λ (s : Step). a_node s.number) steps i d low))
+    pushed ∙ (ap (λ (l : List Rec). l ++ a_node (get_or steps i d).number ∷ []) listed ∙ sym (map_more (λ (s : PathNode). a_node s.number) steps i d low))
 
-all_of : (steps : List Step) (i : ℕ) (gone : List Rec) → length steps ≤ i → gone ≡ nodes (take i steps) → gone ≡ nodes steps
+all_of : (steps : List PathNode) (i : ℕ) (gone : List Rec) → length steps ≤ i → gone ≡ nodes (take i steps) → gone ≡ nodes steps
 all_of steps i gone high listed = listed ∙ ap nodes (take_all i steps high)
 
 pub loop-index-preserved : goal.loop-index-preserved

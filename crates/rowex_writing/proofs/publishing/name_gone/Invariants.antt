@@ -1,11 +1,11 @@
 -- Those before the index are listed.
 use Rattle.std.proofs.Common.{◌≡◌, map, take}
-use Rattle.insert_cases.specs.declared.choice.Step.{Step}
+use Rattle.insert_cases.specs.declared.choice.PathNode.{PathNode}
 use Rattle.versions.specs.declared.Rec.TheVariants.{Node as a_node}
 use Rattle.rowex_writing.proofs.publishing.name_gone.Given as goal
 
 abbrev pub invariant-loop-index : goal.invariant-loop-index
 invariant-loop-index l = record {
-  listed : l.build.gone.items ≡ map (λ (s : Step). a_node s.number) (take l.index l.steps);
+  listed : l.build.gone.items ≡ map (λ (s : PathNode). a_node s.number) (take l.index l.steps);
   made : l.build.made.items ≡ l.fn.build.made.items;
 }

@@ -1,7 +1,7 @@
 -- What is left of the last node takes its place.
 use Rattle.std.proofs.Common.{rules, ◌≡◌, ◌≤◌, ◌+◌, ◌*◌, [], ◌∷◌, ◌++◌, List, get_or, length, map, ap, sym, subst, Some, refl, arith}
 use Rattle.std.proofs.lemmas.Option.{slice_get_within}
-use Rattle.insert_cases.specs.declared.choice.Step.{Step}
+use Rattle.insert_cases.specs.declared.choice.PathNode.{PathNode}
 use Rattle.record_words.specs.Entry.{HasEntryWord, entry_word}
 use Rattle.record_words.specs.declared.layout.Layout.{Layout}
 use Rattle.versions.specs.declared.Rec.TheVariants.{Node as a_node, Leaf as a_leaf}
@@ -63,7 +63,7 @@ returns-clause-raised g c = λ m value b.
     let (news, side, building) = c.in-Some.ensures.made job.key.now words (lowest_leads table c.args.seat.now m job.key.now job.way.now c.args.number value job.span b _ at) h in
     let low : IsRaised c.in-Some.entry = left_raised table.layout c.args.seat.now.known _ words job.key.now c.in-Some.entry news b.taken.possible h side in
     let word : HasEntryWord (Some c.in-Some.entry) = search (rules, low) in
-    let gone = ap (λ (steps : List Step). map (λ (s : Step). a_node s.number) steps ++ a_leaf c.args.number ∷ []) (last_one table c.args.seat.now m job.key.now job.way.now c.args.number value job.span b _ at) in
+    let gone = ap (λ (steps : List PathNode). map (λ (s : PathNode). a_node s.number) steps ++ a_leaf c.args.number ∷ []) (last_one table c.args.seat.now m job.key.now job.way.now c.args.number value job.span b _ at) in
     let now = ap (λ q. removed_change q (item c.args.number job.key.now value)) c.raise_without.ensures.goes.stays.0.pass in
     record {
       from = omega (arith, b.last);

@@ -2,7 +2,7 @@
 use Rattle.std.proofs.Common.{◌≡◌, ◌<◌, ◌≤◌, ⊎_elim, arith, sym, ap, ◌∙◌, get_or}
 use Rattle.std.proofs.lemmas.Bool.{cases_lt}
 use Rattle.std.proofs.lemmas.Option.{get_or_from_slice_get}
-use Rattle.insert_cases.specs.declared.choice.Step.{Step}
+use Rattle.insert_cases.specs.declared.choice.PathNode.{PathNode}
 use Rattle.rowex_writing.specs.Merging.{no_step}
 use Rattle.rowex_writing.proofs.widening.is_near.Goals as goal
 
@@ -16,7 +16,7 @@ loop-index-preserved c = record {
       (λ (here : c.loop-index.index ≤ i).
       let same : i ≡ c.loop-index.index = omega (arith, low, here) in
       let is = get_or_from_slice_get c.args.job.now.way.now i step no_step at in
-      λ e. c.if-job-index.false (sym (e ∙ (ap (λ (s : Step). s.number) (sym is) ∙ ap (λ n. (get_or c.args.job.now.way.now n no_step).number) same))))
+      λ e. c.if-job-index.false (sym (e ∙ (ap (λ (s : PathNode). s.number) (sym is) ∙ ap (λ n. (get_or c.args.job.now.way.now n no_step).number) same))))
       (cases_lt i c.loop-index.index);
 }
 

@@ -2,7 +2,7 @@
 use Rattle.std.proofs.Common.{◌≡◌, ◌-◌, get_or, refl, sym, subst, ◌∙◌, arith}
 use Rattle.std.specs.Prelude.{IsSome}
 use Rattle.std.proofs.lemmas.Option.{get_or_from_slice_get}
-use Rattle.insert_cases.specs.declared.choice.Step.{Step}
+use Rattle.insert_cases.specs.declared.choice.PathNode.{PathNode}
 use Rattle.rowex_core.specs.declared.event.Act.TheVariants.{Unlock}
 use Rattle.rowex_core.specs.declared.event.Target.TheVariants.{Anchor}
 use Rattle.rowex_table.specs.Runs.{silent}
@@ -44,13 +44,13 @@ unlock_last-requires-clause-last g c =
     let (held, key, found, above) = c.requires.above in
     let over = is_over held key c.args.way.now found c.args.end c.args.seat.now.known above (omega (arith, c.if-end-eq0.false)) in
     let same : get_or c.args.way.now (c.args.end - 1) no_step ≡ over.step = get_or_from_slice_get c.args.way.now (c.args.end - 1) over.step no_step over.at in
-    (held, subst (λ (s : Step). LocksLast s.number held c.args.seat.now.known) (sym same) over.last)
+    (held, subst (λ (s : PathNode). LocksLast s.number held c.args.seat.now.known) (sym same) over.last)
 
 pub returns-else-end-eq0-clause-less : goal.returns-else-end-eq0-clause-less
 returns-else-end-eq0-clause-less g c = λ held key found above.
     let over = is_over held key c.args.way.now found c.args.end c.args.seat.now.known above (omega (arith, c.if-end-eq0.false)) in
     let same : get_or c.args.way.now (c.args.end - 1) no_step ≡ over.step = get_or_from_slice_get c.args.way.now (c.args.end - 1) over.step no_step over.at in
-    (c.unlock_last.ensures.less held (subst (λ (s : Step). LocksLast s.number held c.args.seat.now.known) (sym same) over.last), c.unlock_last.ensures.same.0 ∙ over.free)
+    (c.unlock_last.ensures.less held (subst (λ (s : PathNode). LocksLast s.number held c.args.seat.now.known) (sym same) over.last), c.unlock_last.ensures.same.0 ∙ over.free)
 
 pub returns-else-end-eq0-clause-own : goal.returns-else-end-eq0-clause-own
 returns-else-end-eq0-clause-own g c = c.unlock_last.ensures.same.1

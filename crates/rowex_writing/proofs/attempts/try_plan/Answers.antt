@@ -7,7 +7,7 @@ use Rattle.rowex_writing.proofs.Attempting.{leaves_refused, planned_later, refus
 use Rattle.rowex_writing.proofs.Keeping.{changed_since}
 use Rattle.rowex_writing.proofs.Runs.{run_loaded}
 use Rattle.rowex_writing.specs.declared.attempts.TryFault.TheVariants.{FullLeaves}
-use Rattle.rowex_writing.proofs.attempts.try_change.Goals as goal
+use Rattle.rowex_writing.proofs.attempts.try_plan.Goals as goal
 
 -- ---- other answers
 ok_only : {X E A : Type 0} (x : X) (e : E) → Err e ≡ Ok x → A

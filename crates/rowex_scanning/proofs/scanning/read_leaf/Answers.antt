@@ -5,7 +5,7 @@ use Rattle.rowex_reading.specs.Reads.{leaf_loads}
 use Rattle.rowex_reading.proofs.Led.{reader_then, reads_later}
 use Rattle.rowex_scanning.specs.Scanning.{asked_range, IsLeafRefused, IsLeafTaken, IsPairRefused, IsPairTaken}
 use Rattle.rowex_scanning.proofs.Begins.{leaf_begins}
-use Rattle.rowex_scanning.proofs.scanning.take_leaf.Goals as goal
+use Rattle.rowex_scanning.proofs.scanning.read_leaf.Goals as goal
 
 pub load_places_from-length-requires-clause-led : goal.load_places_from-length-requires-clause-led
 load_places_from-length-requires-clause-led g c = (c.requires.leaf.0, c.requires.leaf.1)
