@@ -78,19 +78,6 @@ impl Index {
         self.get_with(pass, key, &mut NoGate)
     }
 
-    /// `get`, which reports each of its steps to a gate.
-    pub fn get_with<G: Gate>(&self, pass: &mut Pass, key: &Key, gate: &mut G) -> Option<u64>
-        requires { Owns self.now pass.old }
-        ensures own { Owns self.now pass.new }
-        ensures call { IsNoted self.now.layout pass.old pass.new (Get key.now) (got result) }
-        ensures made { HasGot self.now G.becomes (pass.old, gate.old) (pass.new, gate.new) }
-    {
-        pin(&self.table, &mut pass.seat, gate);
-        let found = look_up(&self.table, &mut pass.seat, key, gate);
-        end_get(&self.table, &mut pass.seat, gate, key, found);
-        found
-    }
-
     /// Looks up many keys, in their order, and writes to `found`, at each key's place, what `get` would return. `found` must have as
     /// many places as there are keys.
     ///
@@ -109,25 +96,6 @@ impl Index {
         ensures made { HasGotMany self.now untold (length keys.now) (pass.old, tt) (pass.new, tt) }
     {
         self.get_many_with(pass, keys, found, &mut NoGate)
-    }
-
-    /// `get_many`, which reports each of its steps to a gate.
-    pub fn get_many_with<G: Gate>(
-        &self,
-        pass: &mut Pass,
-        keys: &[Key],
-        found: &mut [Option<u64>],
-        gate: &mut G,
-    )
-        requires own { Owns self.now pass.old }
-        requires room { length found.old ≡ length keys.now }
-        ensures own { Owns self.now pass.new }
-        ensures call { AreNoted self.now.layout pass.old pass.new (gets keys.now found.new) }
-        ensures made { HasGotMany self.now G.becomes (length keys.now) (pass.old, gate.old) (pass.new, gate.new) }
-    {
-        pin(&self.table, &mut pass.seat, gate);
-        look_up_each(&self.table, &mut pass.seat, gate, keys, found);
-        end_gets(&self.table, &mut pass.seat, gate, keys, found);
     }
 
     /// Inserts a key with a value: `Inserted`; or `Exists` with the value that the key has already, and keeps.
@@ -171,74 +139,6 @@ impl Index {
         ensures { IsTried (Remove key.now) result self.now pass.old pass.new }
     {
         self.try_remove_with(pass, key, &mut NoGate)
-    }
-
-    /// `try_remove`, which reports each of its steps to a gate.
-    pub fn try_remove_with<G: Gate>(
-        &self,
-        pass: &mut Pass,
-        key: &Key,
-        gate: &mut G,
-    ) -> Result<Reply, TryFault>
-        requires { Owns self.now pass.old }
-        ensures { IsTriedWith (Remove key.now) result self.now G.becomes (pass.old, gate.old) (pass.new, gate.new) }
-    {
-        self.try_change_with(pass, gate, &Call::Remove(key.copy()))
-    }
-
-    /// `try_insert`, which reports each of its steps to a gate.
-    pub fn try_insert_with<G: Gate>(
-        &self,
-        pass: &mut Pass,
-        key: &Key,
-        value: u64,
-        gate: &mut G,
-    ) -> Result<Reply, TryFault>
-        requires { Owns self.now pass.old }
-        ensures { IsTriedWith (Insert key.now value) result self.now G.becomes (pass.old, gate.old) (pass.new, gate.new) }
-    {
-        self.try_change_with(pass, gate, &Call::Insert(key.copy(), value))
-    }
-
-    /// `try_upsert`, which reports each of its steps to a gate.
-    pub fn try_upsert_with<G: Gate>(
-        &self,
-        pass: &mut Pass,
-        key: &Key,
-        value: u64,
-        gate: &mut G,
-    ) -> Result<Reply, TryFault>
-        requires { Owns self.now pass.old }
-        ensures { IsTriedWith (Upsert key.now value) result self.now G.becomes (pass.old, gate.old) (pass.new, gate.new) }
-    {
-        self.try_change_with(pass, gate, &Call::Upsert(key.copy(), value))
-    }
-
-    /// Tries to make a change.
-    pub(crate) fn try_change_with<G: Gate>(
-        &self,
-        pass: &mut Pass,
-        gate: &mut G,
-        call: &Call,
-    ) -> Result<Reply, TryFault>
-        requires { Owns self.now pass.old }
-        ensures { IsTriedWith call.now result self.now G.becomes (pass.old, gate.old) (pass.new, gate.new) }
-    {
-        try_change(&self.table, &mut pass.seat, gate, &mut pass.room, call)
-    }
-
-    /// Makes a change, and begins again as long as another pass is in its way.
-    pub(crate) fn change_with<R: Wait, G: Gate>(
-        &self,
-        rt: &R,
-        pass: &mut Pass,
-        gate: &mut G,
-        call: &Call,
-    ) -> Result<Reply, Full>
-        requires { Owns self.now pass.old }
-        ensures { IsAwaitedWith call.now result self.now G.becomes (pass.old, gate.old) (pass.new, gate.new) }
-    {
-        change(rt, &self.table, &mut pass.seat, gate, &mut pass.room, call)
     }
 
     /// Inserts a key with a value: `Inserted`; or `Exists` with the value that the key has already, and keeps.
@@ -331,17 +231,6 @@ impl Index {
         self.collect_with(pass, &mut NoGate)
     }
 
-    /// `collect`, which reports each of its steps to a gate.
-    pub fn collect_with<G: Gate>(&self, pass: &mut Pass, gate: &mut G) -> Given
-        requires { Owns self.now pass.old }
-        ensures own { Owns self.now pass.new }
-        ensures call { IsUnnoted self.now.layout pass.old pass.new }
-        ensures made { HasCollected self.now G.becomes (pass.old, gate.old) (pass.new, gate.new) result.nodes result.leaves }
-    {
-        let round = collect_round(&self.table, &mut pass.seat, gate);
-        round.given
-    }
-
     /// Counts how many node records, and leaf records of each class, are free, held, live and obsolete. Returns these counts with the
     /// bytes of the table. So a program can see why its index is full, and what the next one needs.
     ///
@@ -356,6 +245,90 @@ impl Index {
         self.census_with(pass, &mut NoGate)
     }
 
+    /// `get`, which reports each of its steps to a gate.
+    pub fn get_with<G: Gate>(&self, pass: &mut Pass, key: &Key, gate: &mut G) -> Option<u64>
+        requires { Owns self.now pass.old }
+        ensures own { Owns self.now pass.new }
+        ensures call { IsNoted self.now.layout pass.old pass.new (Get key.now) (got result) }
+        ensures made { HasGot self.now G.becomes (pass.old, gate.old) (pass.new, gate.new) }
+    {
+        pin(&self.table, &mut pass.seat, gate);
+        let found = look_up(&self.table, &mut pass.seat, key, gate);
+        end_get(&self.table, &mut pass.seat, gate, key, found);
+        found
+    }
+
+    /// `get_many`, which reports each of its steps to a gate.
+    pub fn get_many_with<G: Gate>(
+        &self,
+        pass: &mut Pass,
+        keys: &[Key],
+        found: &mut [Option<u64>],
+        gate: &mut G,
+    )
+        requires own { Owns self.now pass.old }
+        requires room { length found.old ≡ length keys.now }
+        ensures own { Owns self.now pass.new }
+        ensures call { AreNoted self.now.layout pass.old pass.new (gets keys.now found.new) }
+        ensures made { HasGotMany self.now G.becomes (length keys.now) (pass.old, gate.old) (pass.new, gate.new) }
+    {
+        pin(&self.table, &mut pass.seat, gate);
+        look_up_each(&self.table, &mut pass.seat, gate, keys, found);
+        end_gets(&self.table, &mut pass.seat, gate, keys, found);
+    }
+
+    /// `try_insert`, which reports each of its steps to a gate.
+    pub fn try_insert_with<G: Gate>(
+        &self,
+        pass: &mut Pass,
+        key: &Key,
+        value: u64,
+        gate: &mut G,
+    ) -> Result<Reply, TryFault>
+        requires { Owns self.now pass.old }
+        ensures { IsTriedWith (Insert key.now value) result self.now G.becomes (pass.old, gate.old) (pass.new, gate.new) }
+    {
+        self.try_change_with(pass, gate, &Call::Insert(key.copy(), value))
+    }
+
+    /// `try_upsert`, which reports each of its steps to a gate.
+    pub fn try_upsert_with<G: Gate>(
+        &self,
+        pass: &mut Pass,
+        key: &Key,
+        value: u64,
+        gate: &mut G,
+    ) -> Result<Reply, TryFault>
+        requires { Owns self.now pass.old }
+        ensures { IsTriedWith (Upsert key.now value) result self.now G.becomes (pass.old, gate.old) (pass.new, gate.new) }
+    {
+        self.try_change_with(pass, gate, &Call::Upsert(key.copy(), value))
+    }
+
+    /// `try_remove`, which reports each of its steps to a gate.
+    pub fn try_remove_with<G: Gate>(
+        &self,
+        pass: &mut Pass,
+        key: &Key,
+        gate: &mut G,
+    ) -> Result<Reply, TryFault>
+        requires { Owns self.now pass.old }
+        ensures { IsTriedWith (Remove key.now) result self.now G.becomes (pass.old, gate.old) (pass.new, gate.new) }
+    {
+        self.try_change_with(pass, gate, &Call::Remove(key.copy()))
+    }
+
+    /// `collect`, which reports each of its steps to a gate.
+    pub fn collect_with<G: Gate>(&self, pass: &mut Pass, gate: &mut G) -> Given
+        requires { Owns self.now pass.old }
+        ensures own { Owns self.now pass.new }
+        ensures call { IsUnnoted self.now.layout pass.old pass.new }
+        ensures made { HasCollected self.now G.becomes (pass.old, gate.old) (pass.new, gate.new) result.nodes result.leaves }
+    {
+        let round = collect_round(&self.table, &mut pass.seat, gate);
+        round.given
+    }
+
     /// `census`, which reports each of its steps to a gate.
     pub fn census_with<G: Gate>(&self, pass: &mut Pass, gate: &mut G) -> RecordCounts
         requires { Owns self.now pass.old }
@@ -364,6 +337,33 @@ impl Index {
         ensures made { HasCounted self.now G.becomes (pass.old, gate.old) (pass.new, gate.new) result }
     {
         count_records(&self.table, &mut pass.seat, gate)
+    }
+
+    /// Tries to make a change.
+    pub(crate) fn try_change_with<G: Gate>(
+        &self,
+        pass: &mut Pass,
+        gate: &mut G,
+        call: &Call,
+    ) -> Result<Reply, TryFault>
+        requires { Owns self.now pass.old }
+        ensures { IsTriedWith call.now result self.now G.becomes (pass.old, gate.old) (pass.new, gate.new) }
+    {
+        try_change(&self.table, &mut pass.seat, gate, &mut pass.room, call)
+    }
+
+    /// Makes a change, and begins again as long as another pass is in its way.
+    pub(crate) fn change_with<R: Wait, G: Gate>(
+        &self,
+        rt: &R,
+        pass: &mut Pass,
+        gate: &mut G,
+        call: &Call,
+    ) -> Result<Reply, Full>
+        requires { Owns self.now pass.old }
+        ensures { IsAwaitedWith call.now result self.now G.becomes (pass.old, gate.old) (pass.new, gate.new) }
+    {
+        change(rt, &self.table, &mut pass.seat, gate, &mut pass.room, call)
     }
 }
 
