@@ -19,7 +19,6 @@ ghost use Rattle.rowex_writing.specs.Locks.{HasMadeNoChange, HasMetLock, TriesNo
 ghost use Rattle.rowex_writing.specs.Counts.{change_steps, most_locks, most_steps, span_steps};
 ghost use Rattle.record_words.specs.declared.TheConstants.{HEAD_WORDS};
 
-use arrayvec::ArrayVec;
 use crate::asking::{aim_of, key_of, reply_to, value_in, value_of};
 use crate::building::Build;
 use crate::checking::check_span;
@@ -27,9 +26,10 @@ use crate::deeds::{Job, Raised, carry_out};
 use crate::ending::undo;
 use crate::locks::lock_span;
 use crate::merging::try_merge;
-use crate::plan::{find_plan, Deed, Full, Plan};
+use crate::plan::{Deed, Full, Plan, find_plan};
 use crate::publishing::publish_change;
 use crate::taking::remove_leaf;
+use arrayvec::ArrayVec;
 use finite_map::{Call, Reply};
 use insert_cases::PathNode;
 use rowex_core::Gate;

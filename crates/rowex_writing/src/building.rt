@@ -22,15 +22,18 @@ ghost use Rattle.rowex_walks.specs.Rise.{entry};
 ghost use Rattle.rowex_writing.specs.Counts.{level_steps, node_steps};
 ghost use Rattle.rowex_writing.specs.Walks.{Spends, WalksOn};
 
-use arrayvec::ArrayVec;
-use compound_node::{Entry, Half, Node};
 use crate::claims::{Supply, claim_node};
 use crate::deeds::Job;
 use crate::locked::{load_words, read_locked};
 use crate::remaking::{Fork, NewLeaf, add_fork, add_leaf, full_with_fork, full_with_leaf};
-use insert_cases::{Grown, Risen, PathNode};
+use arrayvec::ArrayVec;
+use compound_node::{Entry, Half, Node};
+use insert_cases::{Grown, PathNode, Risen};
 use key_bits::Key;
-use record_words::{HEAD_WORDS, LEAF_CLASSES, NODE_FIELDS, affected_in, can_take_leaf, drop_entry, pack_node, read_node};
+use record_words::{
+    HEAD_WORDS, LEAF_CLASSES, NODE_FIELDS, affected_in, can_take_leaf, drop_entry, pack_node,
+    read_node,
+};
 use rowex_core::{Gate, Rec};
 use rowex_records::fill_words;
 use rowex_table::{HotTable, TableSeat};

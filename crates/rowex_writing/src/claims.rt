@@ -13,8 +13,8 @@ ghost use Rattle.rowex_table.specs.Made.{Made};
 ghost use Rattle.rowex_writing.specs.Building.{IsBuilding};
 ghost use Rattle.rowex_writing.specs.Walks.{HasNoOther, HasWalked, IsClaimWalk, Spends};
 
-use arrayvec::ArrayVec;
 use crate::building::Build;
+use arrayvec::ArrayVec;
 use record_words::{LEAF_CLASSES, Layout};
 use rowex_core::{Gate, Rec};
 use rowex_records::{RecordKind, claim_numbered, claim_record, claim_within};

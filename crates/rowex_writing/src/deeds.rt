@@ -6,13 +6,13 @@ ghost use Rattle.rowex_writing.specs.Deeds.{CarriesOut, leaf_gone};
 ghost use Rattle.rowex_writing.specs.Putting.{leaf_found};
 ghost use Rattle.rowex_writing.specs.declared.plan.Deed.TheVariants.{Put, PushDown};
 
-use compound_node::Entry;
 use crate::building::{Build, make_node};
 use crate::growing::grow_node;
 use crate::plan::{Deed, Full, Span};
 use crate::publishing::make_leaf;
 use crate::remaking::pair_with_leaf;
 use crate::taking::remove_leaf;
+use compound_node::Entry;
 use insert_cases::PathNode;
 use key_bits::Key;
 use rowex_core::Gate;

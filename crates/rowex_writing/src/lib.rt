@@ -56,5 +56,5 @@ mod widening;
 
 pub use attempts::{TryFault, attempt};
 pub use building::Build;
-pub use plan::Full;
 pub use claims::Supply;
+pub use plan::Full;

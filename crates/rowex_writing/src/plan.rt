@@ -151,7 +151,13 @@ fn plan_low(way: &[PathNode], position: u16, level: usize) -> Plan
 
 /// What a call does whose new leaf goes beside the entries from `first` to `last` of the node at this level: those that
 /// the position affects.
-pub(crate) fn plan_beside(way: &[PathNode], position: u16, level: usize, first: u8, last: u8) -> Plan
+pub(crate) fn plan_beside(
+    way: &[PathNode],
+    position: u16,
+    level: usize,
+    first: u8,
+    last: u8,
+) -> Plan
     requires { level < length way.now }
     ensures { IsBeside way.now position level first last result }
 {
