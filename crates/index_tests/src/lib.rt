@@ -1,10 +1,15 @@
-//! Tests of the index, and of the maps for one thread, by what no contract says: that memory which was refused is asked for again, and
-//! that threads which really run at once tell each other by stamps what they have seen.
+//! Tests of the index, and of the maps for one thread, by what no contract says: that memory which was refused is asked for again, that
+//! threads which really run at once find each other's keys, and tell each other by stamps what they have seen. And of steps of the table
+//! that no other code makes by a record's number.
 #![tactic(auto)]
 
+#[cfg(test)]
+mod claims;
 #[cfg(test)]
 mod made;
 #[cfg(test)]
 mod refused;
 #[cfg(test)]
 mod stamps;
+#[cfg(test)]
+mod waiting;

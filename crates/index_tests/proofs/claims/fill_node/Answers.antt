@@ -1,0 +1,11 @@
+-- The seat has claimed the record, and may fill it.
+use Rattle.std.proofs.Common.{rules, ◌≡◌, true, arith}
+use Rattle.versions.specs.declared.Rec.TheVariants.{Node as a_node}
+use Rattle.rowex_table.proofs.Rights.{fills}
+use Rattle.index_tests.proofs.claims.fill_node.Goals as goal
+
+pub fill-requires-clause-may : goal.fill-requires-clause-may
+fill-requires-clause-may g c =
+    let has : c.take.result ≡ true = search rules in
+    let claimed = c.take.ensures.taken has in
+    fills _ _ (a_node 0) 1 7 claimed.0 c.requires.range (omega arith, omega arith) (omega arith) (omega arith) claimed.2

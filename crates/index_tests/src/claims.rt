@@ -1,0 +1,132 @@
+//! Records of a table, by their numbers: a free one is claimed by one seat, filled and released, and a round gives back none that is free.
+
+ghost use Rattle.std.specs.Prelude.{◌≡◌, ◌<◌, true};
+ghost use Rattle.rowex_core.specs.Cores.{HasRecord};
+ghost use Rattle.rowex_table.specs.Rights.{IsClaimed};
+ghost use Rattle.rowex_table.specs.Seats.{IsSeatOf};
+
+use record_words::Layout;
+use rowex_core::{NoGate, Rec};
+use rowex_table::{HotTable, TableSeat};
+use std::alloc::Global;
+use std::process::Abort;
+use std::test::*;
+use std::thread::{Threads, join};
+
+/// A table of two seats and eight leaf records, and its seats.
+fn table_of(rt: &impl Abort, alloc: Global) -> (HotTable, TableSeat, TableSeat)
+    ensures layout { (result.0.layout.passes ≡ 2) × (result.0.layout.nodes ≡ 8) × (result.0.layout.leaves ≡ 8) }
+    ensures own { IsSeatOf result.0 result.1 × IsSeatOf result.0 result.2 }
+{
+    let Ok(layout) = Layout::of(2, 8, 8) else {
+        panic!(rt; "no layout")
+    };
+    let Ok((table, mut seats)) = HotTable::new(alloc, layout) else {
+        panic!(rt; "no memory")
+    };
+    match (seats.pop(), seats.pop()) {
+        (Some(second), Some(first)) => (table, first, second),
+        _ => panic!(rt; "no seats"),
+    }
+}
+
+/// Loads the state of a record and claims it, if it finds it free; tells whether the seat has it now.
+fn take(table: &HotTable, seat: &mut TableSeat, rec: Rec) -> bool
+    requires own { IsSeatOf table.now seat.old }
+    requires range { HasRecord table.now.layout rec }
+    ensures own { IsSeatOf table.now seat.new }
+    ensures taken { result ≡ true → IsClaimed seat.new.known rec }
+{
+    let mut gate = NoGate;
+    if table.load_state(seat, &mut gate, rec) != 0 {
+        return false;
+    }
+    table.claim(seat, &mut gate, rec) == 0
+}
+
+/// A seat takes a record, which another can't claim then, and releases it; then the other can.
+fn hand_over(
+    rt: &impl Abort,
+    table: &HotTable,
+    first: &mut TableSeat,
+    second: &mut TableSeat,
+    rec: Rec,
+)
+    requires first { IsSeatOf table.now first.old }
+    requires second { IsSeatOf table.now second.old }
+    requires range { HasRecord table.now.layout rec }
+    ensures first { IsSeatOf table.now first.new }
+    ensures second { IsSeatOf table.now second.new }
+{
+    assert!(rt; take(table, first, rec));
+    assert!(rt; table.claim(second, &mut NoGate, rec) == 1);
+    table.release(first, &mut NoGate, rec);
+    assert!(rt; table.claim(second, &mut NoGate, rec) == 0);
+}
+
+/// A word that a seat fills into a record of its own stands there.
+fn fill_node(rt: &impl Abort, table: &HotTable, seat: &mut TableSeat)
+    requires own { IsSeatOf table.now seat.old }
+    requires range { 0 < table.now.layout.nodes }
+    ensures own { IsSeatOf table.now seat.new }
+{
+    let node = Rec::Node(0);
+    assert!(rt; take(table, seat, node));
+    table.fill(seat, &mut NoGate, node, 1, 7);
+    assert!(rt; table.load_fixed(seat, &mut NoGate, node, 1) == 7);
+}
+
+/// Makes the epoch the next one, loads it and both pins, which are clear, and tries to give a free record back: it stays.
+fn give_none(rt: &impl Abort, table: &HotTable, seat: &mut TableSeat)
+    requires own { IsSeatOf table.now seat.old }
+    requires range { (0 < table.now.layout.leaves) × (table.now.layout.passes ≡ 2) }
+    ensures own { IsSeatOf table.now seat.new }
+{
+    assert!(rt; table.load_epoch(seat, &mut NoGate) == 1);
+    assert!(rt; table.advance(seat, &mut NoGate, 1) == 1);
+    let epoch = table.load_epoch(seat, &mut NoGate);
+    let first = table.load_pin(seat, &mut NoGate, 0);
+    let second = table.load_pin(seat, &mut NoGate, 1);
+    assert!(rt; epoch == 2 && first == 0 && second == 0);
+    assert!(rt; table.give_back(seat, &mut NoGate, Rec::Leaf(0), 1) == 0);
+}
+
+/// Claims each leaf record that is free; a bit for each of these.
+fn claim_each(table: &HotTable, seat: &mut TableSeat) -> u64
+    requires own { IsSeatOf table.now seat.old }
+{
+    let mut claimed = 0;
+    for number in 0..table.layout().leaves {
+        if table.claim(seat, &mut NoGate, Rec::Leaf(number)) == 0 {
+            claimed |= 1 << (number & 63);
+        }
+    }
+    claimed
+}
+
+/// Two threads claim each leaf record that is free: together all but the first, each once.
+fn claim_all(rt: &(impl Abort + Threads + Sync), table: &HotTable, seats: (TableSeat, TableSeat))
+    requires first { IsSeatOf table.now seats.0 }
+    requires second { IsSeatOf table.now seats.1 }
+{
+    let (mut first, mut second) = seats;
+    let (ours, theirs) = join(
+        rt,
+        || -> u64
+            requires { IsSeatOf table.now first }
+        { claim_each(table, &mut first) },
+        || -> u64
+            requires { IsSeatOf table.now second }
+        { claim_each(table, &mut second) },
+    );
+    assert!(rt; ours & theirs == 0 && ours | theirs == 0xfe);
+}
+
+#[test]
+fn a_record_has_one_seat(rt: HostRuntime) {
+    let (table, mut first, mut second) = table_of(&rt, rt.alloc());
+    give_none(&rt, &table, &mut first);
+    fill_node(&rt, &table, &mut first);
+    hand_over(&rt, &table, &mut first, &mut second, Rec::Leaf(0));
+    claim_all(&rt, &table, (first, second));
+}

@@ -1,0 +1,81 @@
+//! Threads that each wait until they find what the other one does.
+
+ghost use Rattle.std.specs.Prelude.{◌≡◌};
+
+use crate::made::*;
+use hot_index::{Handle, Index, Key, Reply};
+use std::process::Abort;
+use std::sync::Wait;
+use std::test::*;
+use std::thread;
+use std::thread::{Threads, join};
+
+/// How often a thread looks for a key before it gives up.
+const MAX_LOOKS: u32 = 1_000_000;
+
+/// Looks for a key until it is found.
+fn find(guest: &mut Handle<&Index>, key: &Key) -> bool
+    ensures { guest.new.index ≡ guest.old.index }
+{
+    for _ in 0..MAX_LOOKS {
+        if guest.get(key).is_some() {
+            return true;
+        }
+        thread::yield_now();
+    }
+    false
+}
+
+/// Inserts a key, and then looks for another until it is found. Gives the handle back.
+fn insert_and_find<'a, R: Wait>(
+    rt: &R,
+    mut guest: Handle<&'a Index>,
+    own: &Key,
+    other: &Key,
+) -> (bool, Handle<&'a Index>)
+    ensures { result.1.index ≡ guest.entry.index }
+{
+    let told = guest.insert(rt, own, 1);
+    (
+        find(&mut guest, other) && told == Ok(Reply::Inserted),
+        guest,
+    )
+}
+
+/// Two threads each insert a key and wait for the other's. Their passes meet then, and each finds both keys.
+fn wait_for_each_other<R: Abort + Threads + Wait + Sync>(
+    rt: &R,
+    first: Handle<&Index>,
+    second: Handle<&Index>,
+    keys: &(Key, Key),
+)
+    requires { second.index ≡ first.index }
+{
+    let (ours, theirs) = join(
+        rt,
+        || -> (bool, Handle<&Index>)
+            ensures { result.1.index ≡ first.entry.index }
+        { insert_and_find(rt, first, &keys.0, &keys.1) },
+        || -> (bool, Handle<&Index>)
+            ensures { result.1.index ≡ second.entry.index }
+        { insert_and_find(rt, second, &keys.1, &keys.0) },
+    );
+    assert!(rt; ours.0 && theirs.0);
+    let (mut first, mut second) = ours.1.meet(theirs.1);
+    find_both(rt, &mut first, keys);
+    find_both(rt, &mut second, keys);
+}
+
+/// A pass finds both keys.
+fn find_both(rt: &impl Abort, guest: &mut Handle<&Index>, keys: &(Key, Key)) {
+    assert!(rt; guest.get(&keys.0) == Some(1) && guest.get(&keys.1) == Some(1));
+}
+
+#[test]
+fn threads_find_each_others_keys(rt: HostRuntime) {
+    let (index, mut passes) = index_of(&rt, rt.alloc(), 2);
+    let first = Handle::new(&index, next_pass(&rt, &index, &mut passes));
+    let second = Handle::new(&index, next_pass(&rt, &index, &mut passes));
+    let keys = (key(&rt, &[0]), key(&rt, &[1]));
+    wait_for_each_other(&rt, first, second, &keys);
+}
