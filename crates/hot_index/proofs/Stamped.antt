@@ -10,7 +10,7 @@ use Rattle.finite_map.proofs.Legal.{place_after-within}
 use Rattle.record_words.specs.declared.layout.Layout.{Layout}
 use Rattle.rowex_core.specs.declared.known.Known.{Known}
 use Rattle.rowex_table.specs.Rule.{HasFollowed, with_front}
-use Rattle.rowex_table.specs.Seats.{IsOneSeat, IsShown, SeatView}
+use Rattle.rowex_table.specs.Seats.{IsOneSeat, IsShownAll, SeatView}
 use Rattle.seat_calls.specs.Passes.{IsSettled, pass_of}
 use Rattle.hot_index.specs.Stamps.{HasCaughtUp}
 use Rattle.hot_index.specs.Statements.{ReturnedBeforeBegun}
@@ -22,7 +22,7 @@ pub followed_settled : (layout : Layout) (stamp : List Change) (k j : Known) →
 followed_settled layout stamp k j (front, is, legal, others, told, makers) s = subst IsSettled (sym is) (goes_on k front s legal others)
 
 -- and has seen the stamp's changes
-pub caught_up : (layout : Layout) (stamp : List Change) (s t : SeatView) → IsOneSeat s t → IsShown layout s t → HasFollowed layout stamp s.known t.known → IsSettled s.known → HasCaughtUp layout stamp (pass_of s) (pass_of t)
+pub caught_up : (layout : Layout) (stamp : List Change) (s t : SeatView) → IsOneSeat s t → IsShownAll layout s t → HasFollowed layout stamp s.known t.known → IsSettled s.known → HasCaughtUp layout stamp (pass_of s) (pass_of t)
 caught_up layout stamp s t same shown (front, is, legal, others, told, makers) settled = record {
   unnoted = unnoted layout s t front is settled legal others makers;
   told = subst (λ (z : Known). BeginsWith z.front stamp) (sym is) told;

@@ -4,7 +4,7 @@ use Rattle.finite_map.specs.declared.Change.{Change}
 use Rattle.finite_map.specs.Fronts.{BeginsWith}
 use Rattle.record_words.specs.declared.layout.Layout.{Layout}
 use Rattle.rowex_table.specs.Rule.{with_front}
-use Rattle.rowex_table.specs.Seats.{IsShown, StampView, TableView}
+use Rattle.rowex_table.specs.Seats.{IsShownAll, StampView, TableView}
 use Rattle.seat_calls.specs.Answers.{IsUnnoted}
 use Rattle.seat_calls.specs.Passes.{PassView, pass_of}
 
@@ -21,5 +21,5 @@ HasStamped k j = j ≡ record k { seat = record k.seat { asides = suc k.seat.asi
 pub record HasCaughtUp (layout : Layout) (stamp : List Change) (k j : PassView) : Type 0 where
   pub unnoted : IsUnnoted layout k j
   pub told : BeginsWith j.front stamp
-  pub shown : IsShown layout k.seat j.seat
+  pub shown : IsShownAll layout k.seat j.seat
   pub rest : j ≡ pass_of (record k.seat { known = with_front j.front k.seat.known; trace = j.seat.trace; asides = suc k.seat.asides })

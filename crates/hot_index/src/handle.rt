@@ -3,7 +3,7 @@
 ghost use Rattle.std.specs.Prelude.{◌≡◌, ◌≢◌, [], All, Err, IfOk, length, map};
 ghost use Rattle.finite_map.specs.declared.Call.TheVariants.{Add, Exchange, Get, Insert, Remove, RemoveIf, Upsert};
 ghost use Rattle.finite_map.specs.Reverse.{IsLawfulReverseScan};
-ghost use Rattle.rowex_table.specs.Seats.{IsShown};
+ghost use Rattle.rowex_table.specs.Seats.{IsShownAll};
 ghost use Rattle.seat_calls.specs.Answers.{HaveMet, IsNoted, IsUnnoted, got};
 ghost use Rattle.seat_calls.specs.Calls.{IsAwaited, IsCallTried, IsListRead, IsListReadBy, IsRangeRead, IsScanRead, IsScanReadBy, IsTried};
 ghost use Rattle.seat_calls.specs.Census.{HasCounted};
@@ -335,7 +335,7 @@ impl<I: ShowsIndex> Handle<I> {
         ensures met { HaveMet self.index.layout self.pass other.pass result.0.pass result.1.pass }
         ensures steps { (result.0.pass.steps ≡ self.pass.steps) × (result.1.pass.steps ≡ other.pass.steps) }
         ensures traces { result.0.pass.seat.trace ≡ result.1.pass.seat.trace }
-        ensures shown { IsShown self.index.layout self.pass.seat result.0.pass.seat × IsShown self.index.layout other.pass.seat result.1.pass.seat }
+        ensures shown { IsShownAll self.index.layout self.pass.seat result.0.pass.seat × IsShownAll self.index.layout other.pass.seat result.1.pass.seat }
     {
         let Handle { index, pass } = self;
         let (pass, met) = index.show().meet(pass, other.pass);

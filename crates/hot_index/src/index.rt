@@ -2,7 +2,7 @@
 
 ghost use Rattle.std.specs.Prelude.{◌≡◌, length};
 ghost use Rattle.finite_map.specs.declared.Call.TheVariants.{Get, Insert, Remove, Upsert};
-ghost use Rattle.rowex_table.specs.Seats.{IsShown};
+ghost use Rattle.rowex_table.specs.Seats.{IsShownAll};
 ghost use Rattle.seat_calls.specs.Passes.{Owns};
 ghost use Rattle.seat_calls.specs.Answers.{IsNoted, IsUnnoted, HaveMet, got};
 ghost use Rattle.seat_calls.specs.Calls.{IsAwaited, IsAwaitedWith, IsTried, IsTriedWith};
@@ -200,7 +200,7 @@ impl Index {
         ensures met { HaveMet self.now.layout first second result.0 result.1 }
         ensures steps { (result.0.steps ≡ first.steps) × (result.1.steps ≡ second.steps) }
         ensures traces { result.0.seat.trace ≡ result.1.seat.trace }
-        ensures shown { IsShown self.now.layout first.seat result.0.seat × IsShown self.now.layout second.seat result.1.seat }
+        ensures shown { IsShownAll self.now.layout first.seat result.0.seat × IsShownAll self.now.layout second.seat result.1.seat }
     {
         let (one, other) = (first.room, second.room);
         let (first, second) = self.table.meet_seats(first.seat, second.seat);

@@ -23,7 +23,7 @@ use Rattle.hot_run.specs.declared.together.Done.{Done}
 use Rattle.hot_scripts.specs.Meaning.{line}
 use Rattle.hot_run.specs.Progress.{AllThree, HasAnsweredLast, HasRunCommands, IsDone, IsNewPassOf, MeetInTurn}
 use Rattle.hot_run.specs.Scripts.{AllFrom, AllTwoFrom, AreAllAnswered, IsLegalRun, LawfulScripts, Ran, by_pass, commands_in, notes_in, sections, text_in}
-use Rattle.hot_run.specs.Told.{IsOfSize, WasTold}
+use Rattle.hot_run.specs.Told.{IsOfSize, WasToldAnew}
 use Rattle.hot_run.proofs.Numbered.{AllFrom-append, first_with, seat_at, zip_at}
 use Rattle.hot_run.proofs.Progressing.{AreTold-untold, stand_lower, told_stood}
 
@@ -122,7 +122,7 @@ module _ (index : TableView) where
     pub number : j.number ≡ q
     pub notes : j.notes ≡ notes_in ran
     pub run : IsLegalRun q 0 ran
-    pub told : WasTold index becomes q gate [] ran.answers ran.front
+    pub told : WasToldAnew index becomes q gate ran.answers ran.front
 
   new_legal : (q : ℕ) (p : PassView) → IsNewPass q p → LegalCalls p.front p.number p.notes
   new_legal q p new = rw (new.1, new.2) (legal_at_first p.number)
@@ -152,14 +152,17 @@ module _ (index : TableView) where
           stand = stand_lower index becomes j.front 0 (length p.front) run.answers (omega arith) stood.stand;
         };
         told = record {
-          first = p;
-          last = j;
-          gate_then = b.1;
-          own = first.0;
-          number = new.0;
-          begins = new.1;
-          ends = refl;
-          told = run.told;
+          told = record {
+            first = p;
+            last = j;
+            gate_then = b.1;
+            own = first.0;
+            number = new.0;
+            begins = new.1;
+            ends = refl;
+            told = run.told;
+          };
+          new = new;
         };
       }
 
@@ -172,7 +175,7 @@ module _ (index : TableView) where
     pub each : AllFrom q (λ q ran. IsLegalRun q 0 ran) rans
     pub begins : All (λ ran. BeginsWith met ran.front) rans
     pub shared : AllFrom q (λ q ran. LegalCalls last q (notes_in ran)) rans
-    pub told : AllTwoFrom q (λ q gate ran. WasTold index becomes q gate [] ran.answers ran.front) gates rans
+    pub told : AllTwoFrom q (λ q gate ran. WasToldAnew index becomes q gate ran.answers ran.front) gates rans
 
   pub files_have_run : {G : Type 0} (becomes : G → Event → G → Type 0) (last : List Change) (q : ℕ) (seats : List (PassView × G)) (scripts : List (List Command)) (done met again : List Done) (k j k' j' : PassView)
       → AllFrom q (λ q a. IsNewPassOf index q a.0) seats → AllThree (IsDone becomes) (map (seat_at index) seats) scripts done
@@ -260,29 +263,34 @@ module _ (index : TableView) where
         };
         index = index;
         sized = sized;
-        files_told = subst (λ gates. AllTwoFrom 0 (λ q gate ran. WasTold index becomes q gate [] ran.answers ran.front) gates files.rans) (seconds-zip passes gates many_gates) files.told;
+        files_told = subst (λ gates. AllTwoFrom 0 (λ q gate ran. WasToldAnew index becomes q gate ran.answers ran.front) gates files.rans) (seconds-zip passes gates many_gates) files.told;
         last_told = record { first = k; last = j; gate_then = tt; own = answered.own; number = began; begins = refl; ends = refl; told = ran.told };
       }
 
 -- Nobody need be told
 
 WasTold-untold : {G : Type 0} (index : TableView) (becomes : G → Event → G → Type 0) (q : ℕ) (gate : G) (ran : Ran)
-    → WasTold index becomes q gate [] ran.answers ran.front → WasTold index untold q tt [] ran.answers ran.front
-WasTold-untold index becomes q gate ran was = record {
-  first = was.first;
-  last = was.last;
-  gate_then = tt;
-  own = was.own;
-  number = was.number;
-  begins = was.begins;
-  ends = was.ends;
-  told = AreTold-untold index becomes _ _ ran.answers was.told;
-}
+    → WasToldAnew index becomes q gate ran.answers ran.front → WasToldAnew index untold q tt ran.answers ran.front
+WasTold-untold index becomes q gate ran anew =
+    let was = anew.told in
+    record {
+      told = record {
+        first = was.first;
+        last = was.last;
+        gate_then = tt;
+        own = was.own;
+        number = was.number;
+        begins = was.begins;
+        ends = was.ends;
+        told = AreTold-untold index becomes _ _ ran.answers was.told;
+      };
+      new = anew.new;
+    }
 
 files_untold : {G A : Type 0} (index : TableView) (becomes : G → Event → G → Type 0) (first : ℕ) (gates : List G) (files : List A) (rans : List Ran)
     → length gates ≡ length files
-    → AllTwoFrom first (λ q gate ran. WasTold index becomes q gate [] ran.answers ran.front) gates rans
-    → AllTwoFrom first (λ q gate ran. WasTold index untold q gate [] ran.answers ran.front) (map (λ f. tt) files) rans
+    → AllTwoFrom first (λ q gate ran. WasToldAnew index becomes q gate ran.answers ran.front) gates rans
+    → AllTwoFrom first (λ q gate ran. WasToldAnew index untold q gate ran.answers ran.front) (map (λ f. tt) files) rans
 files_untold index becomes first [] [] [] long told = tt
 files_untold index becomes first [] [] (ran ∷ rans) long told = absurd told
 files_untold index becomes first [] (file ∷ files) rans long told = absurd (omega (arith, long))

@@ -11,7 +11,7 @@ use Rattle.hot_scripts.specs.Grammar.{commands_of, most_bytes}
 use Rattle.hot_scripts.specs.Meaning.{line, reply_text, scan_text, script_meaning}
 use Rattle.hot_scripts.specs.Streams.{IsReadFault, TakesAll}
 use Rattle.hot_run.specs.Answers.{Answered, called, refused, listed, IsGranted, answered_command, full_text}
-use Rattle.hot_run.specs.Told.{IsSizedFor, WasTold}
+use Rattle.hot_run.specs.Told.{IsSizedFor, WasToldAnew}
 
 -- The answers to commands, on the map as each finds it: a refusal leaves it as it was, so that the others are answered as if the
 -- refused commands weren't there.
@@ -21,14 +21,15 @@ text_told m (called note ∷ answers) = line (reply_text (reply_of m note.call))
 text_told m (refused call full ∷ answers) = line (full_text full) ++ text_told m answers
 text_told m (listed range scan before after ∷ answers) = scan_text m range ++ text_told m answers
 
--- The text has the answers to the commands on a new index of so many records, which has one pass: each answer is that of the map that
--- the earlier ones left, and a command was refused only where that call found no record of the kind free (`IsCommandTold`).
+-- The text has the answers to the commands on a new index of so many records, which has one pass, a new one: each answer is that of the map
+-- that the earlier ones left, and a command was refused only where that call found no record of the kind free (`IsCommandTold`). All steps of
+-- its calls stand in one run from the new table on.
 pub record AreAnswered (nodes leaves : ℕ) (commands : List Command) (text : List ℕ) : Type 0 where
   pub index : TableView
   pub sized : IsSizedFor commands 1 nodes leaves index
   pub answers : List Answered
   pub front : List Change
-  pub told : WasTold index untold 0 tt [] answers front
+  pub told : WasToldAnew index untold 0 tt answers front
   pub commands_are : map answered_command answers ≡ commands
   pub text_is : text ≡ text_told [] answers
 

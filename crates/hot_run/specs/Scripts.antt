@@ -18,7 +18,7 @@ use Rattle.hot_scripts.specs.InFiles.{commands_of_files}
 use Rattle.hot_scripts.specs.Meaning.{line, with_number}
 use Rattle.hot_run.specs.Answers.{Answered, called, refused, listed, answered_command, lines_of_answer, note_of}
 use Rattle.hot_run.specs.Runs.{MayEndBy}
-use Rattle.hot_run.specs.Told.{IsOfSize, WasTold}
+use Rattle.hot_run.specs.Told.{IsOfSize, WasTold, WasToldAnew}
 
 -- A script that was run: its commands with their answers, in their order, and the changes that its pass had seen at the end.
 pub record Ran : Type 0 where
@@ -91,14 +91,14 @@ pub record LawfulAnswers (scripts : List (List Command)) (last : List Command) (
   pub makers : All (λ c. c.pass ≤ length scripts) last_ran.front
   pub text_is : text ≡ sections 1 (map text_in files_ran) ++ line (codes "last") ++ text_in last_ran
 
--- And these answers were given on one index of so many records: the calls of each file's pass went to its gate, step by step, and a
+-- And these answers were given on one index of so many records: the calls of each file's pass, a new one, went to its gate, step by step, and a
 -- command was refused only where that call found no record of the kind free (`IsCommandTold`).
 pub record AreAllAnswered {G : Type 0} (nodes leaves : ℕ) (becomes : G → Event → G → Type 0) (gates : List G)
     (scripts : List (List Command)) (last : List Command) (text : List ℕ) : Type 0 where
   pub lawful : LawfulAnswers scripts last text
   pub index : TableView
   pub sized : IsOfSize (length scripts + 1) nodes leaves index
-  pub files_told : AllTwoFrom 0 (λ q gate ran. WasTold index becomes q gate [] ran.answers ran.front) gates lawful.files_ran
+  pub files_told : AllTwoFrom 0 (λ q gate ran. WasToldAnew index becomes q gate ran.answers ran.front) gates lawful.files_ran
   pub last_told : WasTold index untold (length scripts) tt lawful.met lawful.last_ran.answers lawful.last_ran.front
 
 -- Several scripts, after Herlihy and Wing: these files and the last script have commands, and the text answers them lawfully, on an

@@ -10,7 +10,7 @@ use Rattle.record_words.specs.Leaf.{words_for}
 use Rattle.rowex_core.specs.declared.event.Event.{Event}
 use Rattle.rowex_table.specs.Seats.{TableView}
 use Rattle.seat_calls.specs.Answers.{IsRefused, IsScanned, MayLack, fault_of}
-use Rattle.seat_calls.specs.Passes.{PassView, AreByPasses, Owns}
+use Rattle.seat_calls.specs.Passes.{PassView, AreByPasses, IsNewPass, Owns}
 use Rattle.seat_calls.specs.Traces.{HasTold}
 use Rattle.hot_scripts.specs.declared.command.Command.{Command}
 use Rattle.hot_scripts.specs.Grammar.{called_key}
@@ -70,3 +70,8 @@ pub record WasTold {G : Type 0} (index : TableView) (becomes : G → Event → G
   pub begins : first.front ≡ before
   pub ends : last.front ≡ after
   pub told : AreTold index becomes (first, gate) answers (last, gate_then)
+
+-- The same of a new pass: it knew of no step of any pass, so the steps of its calls stand in one run from the new table on.
+pub record WasToldAnew {G : Type 0} (index : TableView) (becomes : G → Event → G → Type 0) (q : ℕ) (gate : G) (answers : List Answered) (after : List Change) : Type 0 where
+  pub told : WasTold index becomes q gate [] answers after
+  pub new : IsNewPass q told.first

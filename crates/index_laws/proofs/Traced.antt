@@ -32,18 +32,18 @@ use Rattle.seat_calls.specs.Traces.{untold}
 use Rattle.seat_calls.proofs.Noting.{longer}
 use Rattle.real_time.specs.Moments.{Happening, IsCallTurn, IsMomentStep, IsNewIndex, IsShowing, Pending, invokes, refuses, responds, shows, steps}
 use Rattle.index_laws.specs.Executions.{LeadsOn}
-use Rattle.index_laws.specs.Traced.{CallsMakeNoAsides, ContractsLeadOn, EndedBeforeLoaded, EndedOrLoadedBefore, Instant, IsSeatShowing, IsSeatStep, IsSeatTurn, LoadsSeeAll, TracedAreExecutions, core_of, moment_of}
+use Rattle.index_laws.specs.Traced.{CallsMakeNoAsides, ContractsLeadOn, EndedBeforeLoaded, EndedOrLoadedBefore, Instant, IsSeatShowing, IsSeatStep, IsSeatTurn, LoadsSeeAll, TracedAreExecutions, core_led_to, moment_of}
 use Rattle.index_laws.proofs.Timed.{opening_is_new}
 
 -- The core to which steps lead
 
-core_is : (c : Core) (xs : List Event) (d : Core) → EventsLead c xs d → d ≡ core_of c xs
+core_is : (c : Core) (xs : List Event) (d : Core) → EventsLead c xs d → d ≡ core_led_to c xs
 core_is c [] d e = e
 core_is c (x ∷ xs) d e = core_is (after c x.pass x.act) xs d e.1
 
-core_of-more : (c : Core) (xs : List Event) (x : Event) → core_of c (xs ++ x ∷ []) ≡ after (core_of c xs) x.pass x.act
-core_of-more c [] x = refl
-core_of-more c (y ∷ xs) x = core_of-more (after c y.pass y.act) xs x
+core_led_to-more : (c : Core) (xs : List Event) (x : Event) → core_led_to c (xs ++ x ∷ []) ≡ after (core_led_to c xs) x.pass x.act
+core_led_to-more c [] x = refl
+core_led_to-more c (y ∷ xs) x = core_led_to-more (after c y.pass y.act) xs x
 
 -- From moment to moment
 
@@ -61,10 +61,10 @@ module _ (table : TableView) (at : ℕ → Instant) (t : ℕ) where
   step_leads q act notes x =
       let k : Known = (a.seat q).known in
       let event = x.step.event in
-      let core : event.core ≡ core_of (opening layout) a.run = core_is (opening layout) a.run event.core (subst (λ l. EventsLead (opening layout) l event.core) x.behind x.step.next.led) in
+      let core : event.core ≡ core_led_to (opening layout) a.run = core_is (opening layout) a.run event.core (subst (λ l. EventsLead (opening layout) l event.core) x.behind x.step.next.led) in
       record {
         legal = subst (λ z. Legal z q act) core (subst (λ p. Legal event.core p act) x.pass event.legal);
-        core = ap (core_of (opening layout)) x.run ∙ core_of-more (opening layout) a.run (record { pass = q; act = act });
+        core = ap (core_led_to (opening layout)) x.run ∙ core_led_to-more (opening layout) a.run (record { pass = q; act = act });
         own = event.learned_is ∙ (ap (λ (l : List Note). let j : Known = record (learned event.core act k) { notes = k.notes ++ l } in j) (sym x.notes_are) ∙
             ap (λ (z : Core). let j : Known = record (learned z act k) { notes = k.notes ++ notes } in j) core);
         others = λ o ne. ap (λ (z : SeatView). z.known) (x.others o ne);
@@ -76,10 +76,10 @@ module _ (table : TableView) (at : ℕ → Instant) (t : ℕ) where
   showing_leads : (q : ℕ) (front : List Change) → IsSeatShowing table a b q front → IsShowing (moment_of layout a) (moment_of layout b) q front
   showing_leads q front x =
       let run = x.shown.run in
-      let core : run.core ≡ core_of (opening layout) a.run = core_is (opening layout) a.run run.core (subst (λ l. EventsLead (opening layout) l run.core) x.whole run.led) in
-      let all : (core_of (opening layout) a.run).changes ≡ front = sym (ap (λ (z : Core). z.changes) core) ∙ (run.changes ∙ ap (λ (z : Known). z.front) x.known) in
+      let core : run.core ≡ core_led_to (opening layout) a.run = core_is (opening layout) a.run run.core (subst (λ l. EventsLead (opening layout) l run.core) x.whole run.led) in
+      let all : (core_led_to (opening layout) a.run).changes ≡ front = sym (ap (λ (z : Core). z.changes) core) ∙ (run.changes ∙ ap (λ (z : Known). z.front) x.known) in
       record {
-        core = ap (core_of (opening layout)) x.run;
+        core = ap (core_led_to (opening layout)) x.run;
         more = x.more;
         made = subst (λ l. BeginsWith l front) (sym all) (begins_itself front);
         own = x.known;
@@ -90,7 +90,7 @@ module _ (table : TableView) (at : ℕ → Instant) (t : ℕ) where
   turn_leads : (q : ℕ) (call : Option Pending) → IsSeatTurn layout a b q call → IsCallTurn layout (moment_of layout a) (moment_of layout b) q call
   turn_leads q call x = record {
     pass = x.pass;
-    core = ap (core_of (opening layout)) x.run;
+    core = ap (core_led_to (opening layout)) x.run;
     known = λ i q. (x.seats i q).known;
     own = x.own;
     others = x.others;
@@ -105,7 +105,7 @@ module _ (table : TableView) (at : ℕ → Instant) (t : ℕ) where
 
 pub traced_are_executions : TracedAreExecutions
 traced_are_executions table last at happens x = record {
-  new = subst (IsNewIndex table.layout) (λ i. record { core = core_of (opening table.layout) (sym x.run i); known = λ q. sym (x.seats q).1 i; pending = λ q. sym (x.pending q) i }) (opening_is_new table.layout);
+  new = subst (IsNewIndex table.layout) (λ i. record { core = core_led_to (opening table.layout) (sym x.run i); known = λ q. sym (x.seats q).1 i; pending = λ q. sym (x.pending q) i }) (opening_is_new table.layout);
   next = λ t low. contracts_lead table at t (happens t) (x.next t low);
 }
 

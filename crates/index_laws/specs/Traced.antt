@@ -19,7 +19,7 @@ use Rattle.rowex_core.specs.Knowing.{learned}
 use Rattle.rowex_core.specs.Opening.{opening}
 use Rattle.rowex_table.specs.Rule.{with_front}
 use Rattle.rowex_table.specs.Runs.{Ends, SeesAllOfRun, StepsWith}
-use Rattle.rowex_table.specs.Seats.{IsNewSeatOf, IsShown, SeatView, TableView}
+use Rattle.rowex_table.specs.Seats.{IsNewSeatOf, IsShownAll, SeatView, TableView}
 use Rattle.rowex_table.specs.Traces.{RunBeginsWith}
 use Rattle.seat_calls.specs.Answers.{IsNoted}
 use Rattle.seat_calls.specs.Passes.{pass_of}
@@ -49,7 +49,7 @@ pub record IsSeatStep (table : TableView) (a b : Instant) (q : ℕ) (act : Act) 
 
 -- Pass q is shown all steps so far, and the changes that they have made, as the contracts of stamps and meetings say.
 pub record IsSeatShowing (table : TableView) (a b : Instant) (q : ℕ) (front : List Change) : Type 0 where
-  pub shown : IsShown table.layout (a.seat q) (b.seat q)
+  pub shown : IsShownAll table.layout (a.seat q) (b.seat q)
   pub known : (b.seat q).known ≡ with_front front (a.seat q).known
   pub more : BeginsWith front (a.seat q).known.front
   pub whole : (b.seat q).trace ≡ a.run
@@ -66,13 +66,13 @@ pub record IsSeatTurn (layout : Layout) (a b : Instant) (q : ℕ) (call : Option
   pub others : (o : ℕ) → o ≢ q → b.pending o ≡ a.pending o
 
 -- the core to which steps lead
-abbrev pub core_of : Core → List Event → Core
-core_of c [] = c
-core_of c (x ∷ xs) = core_of (after c x.pass x.act) xs
+abbrev pub core_led_to : Core → List Event → Core
+core_led_to c [] = c
+core_led_to c (x ∷ xs) = core_led_to (after c x.pass x.act) xs
 
 -- The moment of an execution: its core is the one to which the run has led from the new table.
 abbrev pub moment_of : Layout → Instant → Moment
-moment_of layout a = record { core = core_of (opening layout) a.run; known = λ q. (a.seat q).known; pending = a.pending }
+moment_of layout a = record { core = core_led_to (opening layout) a.run; known = λ q. (a.seat q).known; pending = a.pending }
 
 -- what happens at moment t leads to the next one, by the contracts of steps, of stamps and meetings, and of calls that end
 abbrev pub ContractsLeadOn : TableView → (ℕ → Instant) → ℕ → Happening → Type 0

@@ -15,8 +15,8 @@ use Rattle.rowex_core.specs.Opening.{opening}
 use Rattle.rowex_core.specs.Runs.{EventsLead}
 use Rattle.rowex_table.specs.Runs.{StepsWith, silent}
 use Rattle.rowex_table.specs.Seats.{SeatView, TableView}
-use Rattle.rowex_table.specs.Statements.{EndsAreLinked, IsLinked, RunsAreLinked, with_notes}
-use Rattle.rowex_table.specs.Traces.{IsRun, own_acts, taught}
+use Rattle.rowex_table.specs.Statements.{EndsAreLinked, IsInOneRun, RunsAreLinked, with_notes}
+use Rattle.rowex_table.specs.Traces.{IsTableRun, own_acts, taught}
 use Rattle.rowex_table.proofs.ActsLeave.{learned_notes}
 use Rattle.rowex_table.proofs.Onward.{led_more}
 
@@ -66,16 +66,16 @@ silent_same k = ap (λ (z : List Note). let j : Known = record k { notes = z } i
 
 -- Runs of one pass
 
-pub linked_none : (layout : Layout) (s t : SeatView) → t ≡ s → IsLinked layout [] silent s t
+pub linked_none : (layout : Layout) (s t : SeatView) → t ≡ s → IsInOneRun layout [] silent s t
 linked_none layout s t is = record {
   steps = [];
   trace = ap (λ (z : SeatView). z.trace) is ∙ sym (append-nil s.trace);
   own = refl;
   led = λ c e. (c, refl, ap (λ (z : SeatView). z.known) is ∙ sym (silent_same s.known));
-  run = ⊎_elim (λ h. subst (λ (z : SeatView). IsRun layout z.trace) (sym is) h) (λ ne. absurd (ne refl));
+  run = ⊎_elim (λ h. subst (λ (z : SeatView). IsTableRun layout z.trace) (sym is) h) (λ ne. absurd (ne refl));
 }
 
-pub linked_one : {G : Type 0} (table : TableView) (becomes : G → Event → G → Type 0) (act : Act) (said : Known → List Note) (a b : SeatView × G) → StepsWith table becomes act said a b → IsLinked table.layout (act ∷ []) said a.0 b.0
+pub linked_one : {G : Type 0} (table : TableView) (becomes : G → Event → G → Type 0) (act : Act) (said : Known → List Note) (a b : SeatView × G) → StepsWith table becomes act said a b → IsInOneRun table.layout (act ∷ []) said a.0 b.0
 linked_one table becomes act said a b step =
     let s : SeatView = a.0 in
     let k : Known = s.known in
@@ -100,8 +100,8 @@ linked_one table becomes act said a b step =
       run = λ h. (after c q act, subst (λ l. EventsLead (opening table.layout) l (after c q act)) (sym step.next.next_is) (led_more (opening table.layout) before c q act step.next.led step.event.legal));
     }
 
-pub linked_trans : (layout : Layout) (acts more : List Act) (said : Known → List Note) (s m t : SeatView) → m.known.pass ≡ s.known.pass → acts ≢ [] → IsLinked layout acts silent s m → IsLinked layout more said m t →
-    IsLinked layout (acts ++ more) said s t
+pub linked_trans : (layout : Layout) (acts more : List Act) (said : Known → List Note) (s m t : SeatView) → m.known.pass ≡ s.known.pass → acts ≢ [] → IsInOneRun layout acts silent s m → IsInOneRun layout more said m t →
+    IsInOneRun layout (acts ++ more) said s t
 linked_trans layout acts more said s m t same some first second =
     let q : ℕ = s.known.pass in
     record {
@@ -128,7 +128,7 @@ runs_are_linked becomes table [] a b run = linked_none table.layout a.0 b.0 (ap 
 runs_are_linked becomes table (act ∷ acts) a b run = linked_trans table.layout (act ∷ []) acts silent a.0 run.0.0 b.0 run.1.seat.2 (some_acts act []) (linked_one table becomes act silent a run.0 run.1) (runs_are_linked becomes table acts run.0 b run.2)
 
 pub ends_are_linked : {G : Type 0} (becomes : G → Event → G → Type 0) → EndsAreLinked becomes
-ends_are_linked {G = G} becomes table [] act said a b ends = subst (λ (z : SeatView × G). IsLinked table.layout (act ∷ []) said z.0 b.0) ends.1 (linked_one table becomes act said ends.0 b ends.2)
+ends_are_linked {G = G} becomes table [] act said a b ends = subst (λ (z : SeatView × G). IsInOneRun table.layout (act ∷ []) said z.0 b.0) ends.1 (linked_one table becomes act said ends.0 b ends.2)
 ends_are_linked becomes table (x ∷ acts) act said a b ends =
     linked_trans table.layout (x ∷ []) (acts ++ act ∷ []) said a.0 ends.1.0.0 b.0 ends.1.1.seat.2 (some_acts x []) (linked_one table becomes x silent a ends.1.0 ends.1.1)
     (ends_are_linked becomes table acts act said ends.1.0 b (ends.0, ends.1.2, ends.2))

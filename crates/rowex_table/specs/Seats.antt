@@ -49,7 +49,7 @@ abbrev pub IsSame : SeatView → SeatView → Type 0
 IsSame s t = (t.table ≡ s.table) × (t.id ≡ s.id) × (t.known.pass ≡ s.known.pass) × (t.asides ≡ s.asides)
 
 -- The pass is shown all steps so far, and the changes that they have made, as where it follows a stamp or meets another pass.
-pub record IsShown (layout : Layout) (s t : SeatView) : Type 0 where
+pub record IsShownAll (layout : Layout) (s t : SeatView) : Type 0 where
   pub pass : t.known.pass ≡ s.known.pass
   pub run : IsShownRun layout s.known.pass s.trace t.trace t.known.front
   pub asides : t.asides ≡ suc s.asides

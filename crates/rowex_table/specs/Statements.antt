@@ -10,7 +10,7 @@ use Rattle.rowex_core.specs.Opening.{opening}
 use Rattle.rowex_core.specs.Runs.{EventsLead}
 use Rattle.rowex_table.specs.Seats.{TableView, SeatView}
 use Rattle.rowex_table.specs.Runs.{Ends, IsTold, Runs, events_of, silent}
-use Rattle.rowex_table.specs.Traces.{IsRun, own_acts, taught}
+use Rattle.rowex_table.specs.Traces.{IsTableRun, own_acts, taught}
 
 -- the gate of a run is told the event of each of its steps, in order, and nothing else
 abbrev pub RunsAreTold : {G : Type 0} → (G → Event → G → Type 0) → Type 0
@@ -24,19 +24,19 @@ with_notes said k = record k { notes = k.notes ++ said k }
 -- From the one view of a seat to the other its pass has made these acts, all in one run of the table. `steps` are the steps of all passes
 -- behind those of which it knew: its own among them are exactly these acts, in order. They lead on from the core to which the run had led by
 -- then; and what the pass knows in the end is what they have taught it, and with it these notes.
-pub record IsLinked (layout : Layout) (acts : List Act) (said : Known → List Note) (s t : SeatView) : Type 0 where
+pub record IsInOneRun (layout : Layout) (acts : List Act) (said : Known → List Note) (s t : SeatView) : Type 0 where
   pub steps : List Event
   pub trace : t.trace ≡ s.trace ++ steps
   pub own : own_acts s.known.pass steps ≡ acts
   pub led : (c : Core) → EventsLead (opening layout) s.trace c → (d : Core) × EventsLead c steps d × (t.known ≡ with_notes said (taught s.known.pass c steps s.known))
-  pub run : IsRun layout s.trace ⊎ (acts ≢ []) → IsRun layout t.trace
+  pub run : IsTableRun layout s.trace ⊎ (acts ≢ []) → IsTableRun layout t.trace
 
 -- So it is with steps of one pass, one after the other,
 abbrev pub RunsAreLinked : {G : Type 0} → (G → Event → G → Type 0) → Type 0
 RunsAreLinked {G = G} becomes = (table : TableView) (acts : List Act) (a b : SeatView × G) → Runs table becomes acts a b →
-    IsLinked table.layout acts silent a.0 b.0
+    IsInOneRun table.layout acts silent a.0 b.0
 
 -- and with the steps of a call, whose notes come with the last.
 abbrev pub EndsAreLinked : {G : Type 0} → (G → Event → G → Type 0) → Type 0
 EndsAreLinked {G = G} becomes = (table : TableView) (acts : List Act) (act : Act) (said : Known → List Note) (a b : SeatView × G) →
-    Ends table becomes acts act said a b → IsLinked table.layout (acts ++ act ∷ []) said a.0 b.0
+    Ends table becomes acts act said a b → IsInOneRun table.layout (acts ++ act ∷ []) said a.0 b.0

@@ -27,8 +27,8 @@ abbrev pub OthersStepOn : ℕ → List Event → List Event → Type 0
 OthersStepOn q earlier later = (more : List Event) × (later ≡ earlier ++ more) × All (λ x. x.pass ≢ q) more
 
 -- from a new table on the steps are legal, one after the other
-abbrev pub IsRun : Layout → List Event → Type 0
-IsRun layout run = (c : Core) × EventsLead (opening layout) run c
+abbrev pub IsTableRun : Layout → List Event → Type 0
+IsTableRun layout run = (c : Core) × EventsLead (opening layout) run c
 
 -- of these steps, those of pass q
 abbrev pub own_acts : ℕ → List Event → List Act

@@ -4,7 +4,7 @@ ghost use Rattle.std.specs.Prelude.{◌≡◌, ℕ, IfOk, Some, All, length};
 ghost use mathlib.Core.Option.{some};
 ghost use lib.ListN.{get_elem?};
 ghost use Rattle.rowex_table.specs.Rule.{SeatsHaveMet};
-ghost use Rattle.rowex_table.specs.Seats.{SeatView, IsNewSeatOf, IsNewSeat, IsSeatOf, IsShown};
+ghost use Rattle.rowex_table.specs.Seats.{SeatView, IsNewSeatOf, IsNewSeat, IsSeatOf, IsShownAll};
 
 use crate::plays::{Deal, Meets, Part, Step};
 use crate::table::{HotTable, TableSeat};
@@ -44,7 +44,7 @@ impl HotTable {
         ensures passes { (result.0.known.pass ≡ first.known.pass) × (result.1.known.pass ≡ second.known.pass) }
         ensures met { SeatsHaveMet self.now.layout first.known second.known result.0.known result.1.known }
         ensures traces { result.0.trace ≡ result.1.trace }
-        ensures shown { IsShown self.now.layout first result.0 × IsShown self.now.layout second result.1 }
+        ensures shown { IsShownAll self.now.layout first result.0 × IsShownAll self.now.layout second result.1 }
     {
         self.meet_as::<Brand>(first, second)
     }
@@ -57,7 +57,7 @@ impl HotTable {
         ensures passes { (result.0.known.pass ≡ first.known.pass) × (result.1.known.pass ≡ second.known.pass) }
         ensures met { SeatsHaveMet self.now.layout first.known second.known result.0.known result.1.known }
         ensures traces { result.0.trace ≡ result.1.trace }
-        ensures shown { IsShown self.now.layout first result.0 × IsShown self.now.layout second result.1 }
+        ensures shown { IsShownAll self.now.layout first result.0 × IsShownAll self.now.layout second result.1 }
     {
         let TableSeat { mut seat, pass } = first;
         let TableSeat {

@@ -2,7 +2,7 @@
 
 ghost use Rattle.std.specs.Prelude.{◌≡◌, suc, Some};
 ghost use Rattle.rowex_table.specs.Rule.{HasFollowed};
-ghost use Rattle.rowex_table.specs.Seats.{IsOneSeat, IsSeatOf, IsShown, IsStampOf};
+ghost use Rattle.rowex_table.specs.Seats.{IsOneSeat, IsSeatOf, IsShownAll, IsStampOf};
 ghost use Rattle.rowex_table.specs.Traces.{RunBeginsWith};
 
 use crate::plays::{Follows, Stamping, Step};
@@ -46,7 +46,7 @@ impl HotTable {
     pub fn follow_stamp(&self, seat: &mut TableSeat, stamp: TableStamp)
         requires { IsSeatOf self.now seat.old × IsStampOf self.now stamp }
         ensures same { IsOneSeat seat.old seat.new }
-        ensures shown { IsShown self.now.layout seat.old seat.new }
+        ensures shown { IsShownAll self.now.layout seat.old seat.new }
         ensures followed { HasFollowed self.now.layout stamp.front seat.old.known seat.new.known }
         ensures traced { RunBeginsWith seat.new.trace stamp.trace }
     {
@@ -58,7 +58,7 @@ impl HotTable {
         requires own { IsSeatOf self.now seat.old × IsStampOf self.now stamp }
         requires layout { Q.layout ≡ Some self.now.layout }
         ensures same { IsOneSeat seat.old seat.new }
-        ensures shown { IsShown self.now.layout seat.old seat.new }
+        ensures shown { IsShownAll self.now.layout seat.old seat.new }
         ensures followed { HasFollowed self.now.layout stamp.front seat.old.known seat.new.known }
         ensures traced { RunBeginsWith seat.new.trace stamp.trace }
     {

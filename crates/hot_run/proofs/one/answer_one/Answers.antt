@@ -19,14 +19,17 @@ returns c =
       answers = ran.answers;
       front = after.front;
       told = record {
-        first = pass;
-        last = after;
-        gate_then = tt;
-        own = made.pass.0;
-        number = made.pass.1.0;
-        begins = made.pass.1.1;
-        ends = refl;
-        told = ran.told;
+        told = record {
+          first = pass;
+          last = after;
+          gate_then = tt;
+          own = made.pass.0;
+          number = made.pass.1.0;
+          begins = made.pass.1.1;
+          ends = refl;
+          told = ran.told;
+        };
+        new = made.pass.1;
       };
       commands_are = ran.commands_are;
       text_is = ran.text_is ∙ told_alone index _ _ _ alone ran.answers ran.told ∙ ap (λ f. text_told (map_of f) ran.answers) made.pass.1.1;

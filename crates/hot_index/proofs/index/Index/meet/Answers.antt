@@ -1,7 +1,7 @@
 -- What the seats have seen, the passes have.
 use Rattle.std.proofs.Common.{subst, ap, ◌∙◌}
 use Rattle.rowex_core.specs.declared.known.Known.{Known}
-use Rattle.rowex_table.specs.Seats.{IsShown, TableView}
+use Rattle.rowex_table.specs.Seats.{IsShownAll, TableView}
 use Rattle.seat_calls.specs.Answers.{HaveMet}
 use Rattle.seat_calls.specs.Passes.{PassView, pass_of}
 use Rattle.hot_index.proofs.Meets.{first_settled, second_settled, passes_met}
@@ -32,7 +32,7 @@ returns-clause-shown c =
     let one = c.meet_seats-first.result.0 in
     let other = c.meet_seats-first.result.1 in
     let shown = c.meet_seats-first.ensures.shown in
-    subst (λ (x : TableView). IsShown x.layout c.args.first.seat one × IsShown x.layout c.args.second.seat other) c.self.view_is (
-      subst (λ (z : PassView). IsShown c.self.inside.table.layout z.seat one) c.first.view_is shown.0,
-      subst (λ (z : PassView). IsShown c.self.inside.table.layout z.seat other) c.second.view_is shown.1,
+    subst (λ (x : TableView). IsShownAll x.layout c.args.first.seat one × IsShownAll x.layout c.args.second.seat other) c.self.view_is (
+      subst (λ (z : PassView). IsShownAll c.self.inside.table.layout z.seat one) c.first.view_is shown.0,
+      subst (λ (z : PassView). IsShownAll c.self.inside.table.layout z.seat other) c.second.view_is shown.1,
     )
