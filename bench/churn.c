@@ -1,10 +1,11 @@
 /* Keys come and go while their number stays: how many keys there are for each node then, how many calls were refused as full, and how
  * long look-ups take beside those of a fresh index with the same keys. The index has the records that hot_stock_for_keys gives. Then an
- * index that shrinks, and one that grows and shrinks in turn. `bench/run churn` builds and runs it. */
+ * index that shrinks, and one that grows and shrinks in turn. `bench/run churn` builds and runs it, and
+ * bench/churn.py reads its lines, whose parts stand between tabs. */
 #include "keys.h"
 #include <pthread.h>
 
-enum { LOOK_UPS = 400000, MOST_THREADS = 16 };
+enum { LOOK_UPS = 400000, MOST_THREADS = 16, MOST_TIMES = 100 };
 
 /* What keys are like, how long they are at most, and whether the oldest go first: else they go by chance. */
 static const struct form {
@@ -155,23 +156,25 @@ static uint64_t close_all(struct part *parts, int threads)
     return refused;
 }
 
-/* The keys for each node of a fresh index with the keys of the first part, and the time of look-ups there. */
-static double fresh_time(const struct part *part, double *keys_a_node)
+/* The nodes of a fresh index with the keys of a part, and the time of look-ups there, if that is asked for. */
+static uint32_t fresh_nodes(const struct part *part, double *time)
 {
     struct part fresh = *part;
     hot_stock stock;
     uint64_t place;
-    double time;
+    uint32_t nodes;
     fresh.handle = (hot_handle)HOT_HANDLE;
     hot_stock_for_keys((uint32_t)part->count, part->form->longest, &stock);
     must(hot_create_with(&stock, &fresh.handle, 1), HOT_DONE);
     for (place = 0; place < part->count; place++) {
         insert(&fresh, part->numbers[place]);
     }
-    *keys_a_node = (double)part->count / live_nodes(&fresh.handle);
-    time = look_up_time(&fresh.handle, part);
+    nodes = live_nodes(&fresh.handle);
+    if (time) {
+        *time = look_up_time(&fresh.handle, part);
+    }
     must(hot_destroy(&fresh.handle), HOT_DONE);
-    return time;
+    return nodes;
 }
 
 static void measure(const struct form *form, uint64_t keys, int turns, int threads)
@@ -189,10 +192,12 @@ static void measure(const struct form *form, uint64_t keys, int turns, int threa
         most = nodes > most ? nodes : most;
     }
     time = look_up_time(&parts[0].handle, &parts[0]);
-    fresh = fresh_time(&parts[0], &fresh_keys);
-    printf("%-44s%7.1f%7.1f%8.3f", form->name, (double)keys * turns / sum, (double)keys / most, (double)most / (double)keys);
-    printf("%8.1f%9.2f", fresh_keys, threads == 1 ? time / fresh : 0.0);
-    printf("%9llu\n", (unsigned long long)close_all(parts, threads));
+    fresh_keys = (double)parts[0].count / fresh_nodes(&parts[0], &fresh);
+    printf("churn\t%s\t%d\t%.1f\t%.1f\t%.1f\t", form->name, turns, fresh_keys, (double)keys * turns / sum, (double)keys / most);
+    if (threads == 1) {
+        printf("%.2f", time / fresh);
+    }
+    printf("\t%llu\n", (unsigned long long)close_all(parts, threads));
     fflush(stdout);
 }
 
@@ -217,26 +222,24 @@ static void grow(struct part *part, uint64_t keys)
     }
 }
 
-/* Down to a hundredth, and then up and down between a tenth and all keys: the most nodes at the top, beside those of the fresh index. */
+/* Down to a hundredth, and then up and down between a tenth and all keys: the most nodes at the top, beside those of a fresh index with
+ * the same keys. */
 static void measure_shrinking(const struct form *form, uint64_t keys, int times)
 {
     struct part part;
-    uint32_t fresh, most = 0;
-    double low;
+    double low, most = 0;
     int at;
     open_all(form, &part, keys, 1);
-    fresh = live_nodes(&part.handle);
     shrink(&part, keys / 100);
     low = (double)part.count / live_nodes(&part.handle);
     for (at = 0; at < times; at++) {
-        uint32_t nodes;
+        double ratio;
         grow(&part, keys);
-        nodes = live_nodes(&part.handle);
-        most = nodes > most ? nodes : most;
+        ratio = (double)live_nodes(&part.handle) / fresh_nodes(&part, NULL);
+        most = ratio > most ? ratio : most;
         shrink(&part, keys / 10);
     }
-    printf("%-44s%7.1f keys a node, one left of a hundred; %.2f of a fresh index's nodes, after %d times up and down; refused %llu\n",
-           form->name, low, times > 0 ? (double)most / fresh : 0.0, times, (unsigned long long)close_all(&part, 1));
+    printf("shrinks\t%.1f\t%d\t%.2f\t%llu\n", low, times, most, (unsigned long long)close_all(&part, 1));
     fflush(stdout);
 }
 
@@ -249,13 +252,12 @@ int main(int words, char **word)
         fprintf(stderr, "usage: churn [KEYS [TURNS [THREADS]]]    1,000 to 10,000,000 keys, and 1 to %d threads\n", MOST_THREADS);
         return 2;
     }
-    printf("%llu keys, %d turns in which a fifth goes and comes, %d threads\n", (unsigned long long)keys, turns, threads);
-    printf("%-44s%7s%7s%8s%8s%9s%9s\n", "keys a node:", "mean", "least", "nodes/key", "fresh", "look-ups", "refused");
+    printf("keys\t%llu\t%d\n", (unsigned long long)(keys - keys % (uint64_t)threads), threads);
     for (form = 0; form < sizeof forms / sizeof forms[0]; form++) {
         measure(&forms[form], keys - keys % (uint64_t)threads, turns, threads);
-    }
-    for (form = 0; threads == 1 && form < 4; form++) {
-        measure_shrinking(&forms[form], keys, turns / 10);
+        if (threads == 1 && !forms[form].oldest_first && turns >= 10) {
+            measure_shrinking(&forms[form], keys, turns / 10 < MOST_TIMES ? turns / 10 : MOST_TIMES);
+        }
     }
     return 0;
 }
