@@ -1,5 +1,5 @@
 //! Tests of the index, and of the maps for one thread, by what no contract says: that memory which was refused is asked for again, and
-//! that threads which really run at once tell each other by stamps what they have seen.
+//! that threads which really run at once tell each other by stamps what they have seen, and lose nothing that they add.
 #![tactic(auto)]
 
 #[cfg(test)]
@@ -8,3 +8,5 @@ mod made;
 mod refused;
 #[cfg(test)]
 mod stamps;
+#[cfg(test)]
+mod sums;
