@@ -1,6 +1,6 @@
 //! Tests of the index, and of the maps for one thread, by what no contract says: that memory which was refused is asked for again, that
-//! threads which really run at once find each other's keys, and tell each other by stamps what they have seen. And of steps of the table
-//! that no other code makes by a record's number.
+//! threads which really run at once find each other's keys, tell each other by stamps what they have seen, and lose nothing that they
+//! add. And of steps of the table that no other code makes by a record's number.
 #![tactic(auto)]
 
 #[cfg(test)]
@@ -11,5 +11,7 @@ mod made;
 mod refused;
 #[cfg(test)]
 mod stamps;
+#[cfg(test)]
+mod sums;
 #[cfg(test)]
 mod waiting;

@@ -109,6 +109,7 @@ fn call_of(name: &str, key: Key, value: u64) -> io::Result<Call> {
         "insert" => Ok(Call::Insert(key, value)),
         "upsert" => Ok(Call::Upsert(key, value)),
         "exchange" => Ok(Call::Exchange(key, value, value.wrapping_add(1))),
+        "add" => Ok(Call::Add(key, value)),
         "remove" => Ok(Call::Remove(key)),
         "remove_if" => Ok(Call::RemoveIf(key, value)),
         "get" => Ok(Call::Get(key)),

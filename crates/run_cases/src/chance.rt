@@ -35,7 +35,8 @@ impl Chance {
         };
         match kind {
             0..=4 => Deed::Make(Call::Insert(key, value)),
-            5..=8 => Deed::Make(Call::Upsert(key, value)),
+            5..=7 => Deed::Make(Call::Upsert(key, value)),
+            8 => Deed::Make(Call::Add(key, value)),
             9..=12 => Deed::Make(Call::Remove(key)),
             13 => Deed::Make(Call::Get(key)),
             14 => Deed::List(4),

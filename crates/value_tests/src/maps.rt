@@ -17,6 +17,7 @@ fn call(rt: &impl Abort, letter: u8, byte: u8, value: u64) -> Call {
         b'i' => Call::Insert(key, value),
         b'u' => Call::Upsert(key, value),
         b'x' => Call::Exchange(key, value, value.wrapping_add(1)),
+        b'p' => Call::Add(key, value),
         b'd' => Call::RemoveIf(key, value),
         b'g' => Call::Get(key),
         _ => Call::Remove(key),
@@ -34,6 +35,10 @@ fn calls_answer_as_a_map(rt: HostRuntime) {
         (b'g', b'b', 0, Reply::Value(18_446_744_073_709_551_615)),
         (b'x', b'a', 6, Reply::Differs(5)),
         (b'x', b'a', 5, Reply::Exchanged),
+        (b'p', b'b', 2, Reply::Was(18_446_744_073_709_551_615)),
+        (b'p', b'b', 3, Reply::Was(1)),
+        (b'g', b'b', 0, Reply::Value(4)),
+        (b'p', b'c', 1, Reply::Absent),
         (b'd', b'a', 5, Reply::Differs(6)),
         (b'g', b'a', 0, Reply::Value(6)),
         (b'd', b'a', 6, Reply::Removed(6)),
@@ -100,8 +105,9 @@ const FRONT: [(u16, u64, Kind); 3] = [
     (1, 6, Kind::Removed),
 ];
 
-// The first three are legal. What is wrong with the others: a reply of another map, a place that falls, one past the front, a change
-// without its note, a note without its change, a change noted twice, one of another pass, and a removal of an absent key.
+// The first four are legal. What is wrong with the others: a reply of another map, a place that falls, one past the front, a change
+// without its note, a note without its change, a change noted twice, one of another pass, an addition of another number, and a removal
+// of an absent key.
 #[test]
 fn histories_are_told_legal_or_not(rt: HostRuntime) {
     let (before, held) = (
@@ -119,10 +125,15 @@ fn histories_are_told_legal_or_not(rt: HostRuntime) {
     let other = (1, b'g', b'a', 0, Reply::Value(6));
     let past = (4, b'g', b'a', 0, Reply::Absent);
     let without = (3, b'i', b'b', 7, Reply::Inserted);
-    let cases: [(usize, u16, &[Row], bool); 11] = [
+    let (more, much) = (
+        (1, b'p', b'a', 1, Reply::Was(5)),
+        (1, b'p', b'a', 2, Reply::Was(5)),
+    );
+    let cases: [(usize, u16, &[Row], bool); 13] = [
         (0, 1, &[before, FIRST, held, LAST, after], true),
         (0, 2, &[own, none], true),
         (0, 3, &[held, later], true),
+        (0, 2, &[more, none], true),
         (0, 1, &[FIRST, other, LAST], false),
         (0, 3, &[later, held], false),
         (0, 3, &[past], false),
@@ -130,6 +141,7 @@ fn histories_are_told_legal_or_not(rt: HostRuntime) {
         (0, 3, &[without], false),
         (0, 1, &[FIRST, FIRST, LAST], false),
         (0, 3, &[FIRST, LAST], false),
+        (0, 2, &[much, none], false),
         (2, 3, &[], false),
     ];
     for (i, (from, pass, rows, legal)) in cases.iter().enumerate() {

@@ -1,0 +1,75 @@
+//! Two threads that add to one value.
+
+ghost use Rattle.seat_calls.specs.Passes.{Owns};
+
+use crate::made::*;
+use hot_index::{Handle, Index, Key, Pass, Reply};
+use std::process::Abort;
+use std::sync::Wait;
+use std::test::*;
+use std::thread::{Threads, join};
+
+/// How often each thread adds.
+const TIMES: u64 = 1000;
+
+/// Adds one to the value of a key, so often. Answers how often it was there.
+fn add_often<R: Wait>(rt: &R, index: &Index, pass: Pass, key: &Key) -> u64
+    requires { Owns index.now pass }
+{
+    let mut guest = Handle::new(index, pass);
+    let mut added: u64 = 0;
+    for _ in 0..TIMES {
+        if matches!(guest.add(rt, key, 1), Ok(Reply::Was(_))) {
+            added = added.wrapping_add(1);
+        }
+    }
+    added
+}
+
+/// Two passes add to the value of a key at the same time, each in a thread.
+fn add_both<R: Threads + Wait + Sync>(
+    rt: &R,
+    index: &Index,
+    passes: (Pass, Pass),
+    key: &Key,
+) -> (u64, u64)
+    requires first { Owns index.now passes.0 }
+    requires second { Owns index.now passes.1 }
+{
+    let (first, second) = passes;
+    join(
+        rt,
+        || -> u64
+            requires { Owns index.now first }
+        { add_often(rt, index, first, key) },
+        || -> u64
+            requires { Owns index.now second }
+        { add_often(rt, index, second, key) },
+    )
+}
+
+/// An absent key stays absent; one that is there gets each sum, beyond the greatest number from 0 on.
+fn add_alone(rt: &(impl Abort + Wait), index: &Index, pass: &mut Pass, key: &Key)
+    requires { Owns index.now pass.old }
+    ensures { Owns index.now pass.new }
+{
+    assert!(rt; index.add(rt, pass, key, 1) == Ok(Reply::Absent));
+    assert!(rt; index.try_add(pass, key, 1) == Ok(Reply::Absent));
+    assert!(rt; index.insert(rt, pass, key, u64::MAX) == Ok(Reply::Inserted));
+    assert!(rt; index.try_add(pass, key, 2) == Ok(Reply::Was(u64::MAX)));
+    assert!(rt; index.add(rt, pass, key, u64::MAX) == Ok(Reply::Was(1)));
+    assert!(rt; index.get(pass, key) == Some(0));
+}
+
+#[test]
+fn what_two_threads_add_is_the_sum(rt: HostRuntime) {
+    let (index, mut passes) = index_of(&rt, rt.alloc(), 3);
+    let first = next_pass(&rt, &index, &mut passes);
+    let second = next_pass(&rt, &index, &mut passes);
+    let mut last = next_pass(&rt, &index, &mut passes);
+    let one = key(&rt, &[1]);
+    add_alone(&rt, &index, &mut last, &one);
+    let added = add_both(&rt, &index, (first, second), &one);
+    assert!(rt; added == (TIMES, TIMES));
+    assert!(rt; index.get(&mut last, &one) == Some(2 * TIMES));
+}
