@@ -67,25 +67,9 @@ module _ (size : ℕ) (call : Call) (outcome : Result Reply TryFault) (status be
   told_reply new reply is h told left =
       let it = with_outcome new (Ok reply) is h in (Ok reply, record { index = it.index; pass = ((it.pass.call, it.pass.made), told) }, left, tt)
 
-  pub told_busy : (new : HandleView) → outcome ≡ Err Busy → Stays (IsCallTried call outcome) old new → status ≡ BUSY → after ≡ before → Told size call status old new before after
-  told_busy new is h told left =
-      let it = with_outcome new (Err Busy) is h in (Err Busy, record { index = it.index; pass = ((it.pass.call, it.pass.made), told) }, left, it.pass.may)
-
   module _ (mid new : HandleView) (counts : RecordCounts) (seen : Stays (λ index k j. IsUnnoted index.layout k j × HasCounted index untold (k, tt) (j, tt) counts) mid new) where
     seen_there : mid.index ≡ old.index → HasSeenRecords counts old.index mid.pass new.pass
     seen_there same = subst (λ (x : TableView). HasSeenRecords counts x mid.pass new.pass) same seen.pass
-
-    pub told_nodes : outcome ≡ Err FullNodes → Stays (IsCallTried call outcome) old mid → TellsOfNodes counts status → after ≡ before → Told size call status old new before after
-    told_nodes is h told left =
-        let it = with_outcome mid (Err FullNodes) is h in (
-          Err FullNodes,
-          record {
-            index = seen.index ∙ it.index;
-            pass = record { between = mid.pass; refused = (it.pass.call, it.pass.made); counts = counts; seen = seen_there it.index; tells = told };
-          },
-          left,
-          it.pass.may,
-        )
 
     pub told_leaves : outcome ≡ Err FullLeaves → Stays (IsCallTried call outcome) old mid → TellsOfLeaves size counts status → after ≡ before → Told size call status old new before after
     told_leaves is h told left =

@@ -4,7 +4,7 @@ use Rattle.std.proofs.lemmas.List.Sums.{sum_by-append}
 use Rattle.std.proofs.lemmas.List.Elements.{filter_map-append}
 use Rattle.std.proofs.Math.Nat.{mod-add-div}
 use Rattle.finite_map.specs.declared.Call.{Call}
-use Rattle.finite_map.specs.declared.Call.TheVariants.{Insert, Upsert, Exchange, Get, Remove, RemoveIf}
+use Rattle.finite_map.specs.declared.Call.TheVariants.{Insert, Upsert, Exchange, Add, Get, Remove, RemoveIf}
 use Rattle.finite_map.specs.declared.Reply.{Reply}
 use Rattle.finite_map.specs.declared.Reply.TheVariants.{Exchanged, Removed}
 use Rattle.finite_map.specs.declared.Change.{Change}
@@ -43,6 +43,8 @@ module _ (q place : ℕ) where
           IsNet (changes_by q place (Exchange key expected value) r) (net_of r)
       by_test true = (0, 0, refl)
       by_test false = (0, 0, refl)
+  where_held m (Add key delta) None = (0, 0, refl)
+  where_held m (Add key delta) (Some held) = (0, 0, refl)
   where_held m (Get key) None = (0, 0, refl)
   where_held m (Get key) (Some held) = (0, 0, refl)
   where_held m (Remove key) None = (0, 0, refl)

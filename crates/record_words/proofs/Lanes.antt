@@ -75,10 +75,6 @@ module _ (xs : List ℕ) (long : length xs ≡ 8) (fits : Each1 (Fits w64) xs) w
       power : (r : ℕ) → r < 2 → (2 ^ 32) ^ r ≡ 2 ^ (32 * r)
       power = below_more (λ r. (2 ^ 32) ^ r ≡ 2 ^ (32 * r)) 1 (below_more (λ r. (2 ^ 32) ^ r ≡ 2 ^ (32 * r)) 0 (below_none (λ r. (2 ^ 32) ^ r ≡ 2 ^ (32 * r))) refl) refl
 
-pub length-digits : (q n x : ℕ) → length (digits_l q n x) ≡ n
-length-digits q zero x = refl
-length-digits q (suc n) x = ap suc (length-digits q n (x / q))
-
 -- the positions of a node, and the unused lanes
 pub place_lanes_read : (node : NodeView) → IsLawfulNode node → (words lanes : List ℕ) → head_words (head_of node) ≡ words → length lanes ≡ 32 →
     ((i : ℕ) → i < 32 → get_or lanes i 0 ≡ get_or words (1 + i / 4) 0 / 2 ^ (16 * (i % 4)) % 2 ^ 16) → lanes ≡ node.columns ++ replicate (32 - length node.columns) 65535

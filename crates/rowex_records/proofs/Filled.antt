@@ -79,10 +79,6 @@ stored_all words old size =
     let long = all.0 in
     sym (take_all (length words) (stored words (length words) old) (omega arith)) ∙ (all.1 ∙ take_all (length words) words (omega arith))
 
-stored_past : (words : List ℕ) (i j : ℕ) (old : List ℕ) → i ≤ j → get_or (stored words i old) j 0 ≡ get_or old j 0
-stored_past words zero j old past = refl
-stored_past words (suc i) j old past = get_or-set_other (stored words i old) i j (get_or words i 0) 0 (λ e. omega (arith, e, past)) ∙ stored_past words i j old (omega arith)
-
 stored_word : (words : List ℕ) (i j : ℕ) (old : List ℕ) → length old ≡ length words → i ≤ length words → j < i → get_or (stored words i old) j 0 ≡ get_or words j 0
 stored_word words i j old size low before =
     sym (get_or-take i (stored words i old) j 0 before) ∙ (ap (λ l. get_or l j 0) (stored_first words i old size low).1 ∙ get_or-take i words j 0 before)

@@ -212,22 +212,6 @@ module _ (layout : Layout) (k : Known) (c : Core) (law : IsLawful c) (layout_is 
         let same = ap (λ x. greatest_height (places x)) merged_shown in
         omega (arith, low, same)
 
-    -- The three are different nodes.
-    pub beside_differ : (n ≢ m) × (o ≢ n) × (o ≢ m)
-    beside_differ =
-        let trie = trie_within both_within (trie_now (bare c) law.core.state stands.tree stands.now) in
-        let shown = shown_within (bare c).heap both_within (shown_now (bare c) law.core.state stands.tree stands.now) in
-        let first = first_within (bit key b.position) b.position (node n beside_stands.fixed beside_stands.lower) (node m beside_stands.fixed_too beside_stands.other) in
-        let second = second_within (bit key b.position) b.position (node n beside_stands.fixed beside_stands.lower) (node m beside_stands.fixed_too beside_stands.other) in (
-          two_differ (bare c).heap (bit key b.position) b.position n m beside_stands.fixed beside_stands.fixed_too beside_stands.lower beside_stands.other trie shown,
-          (λ e. above (links_of (subst (λ n. Within (node n beside_stands.fixed beside_stands.lower) stands.body) (sym e) (within_trans first beside_stands.last.place)))),
-          (λ e. above (links_of (subst (λ m. Within (node m beside_stands.fixed_too beside_stands.other) stands.body) (sym e) (within_trans second beside_stands.last.place)))),
-        )
-      where
-        above : Links stands.body (a_node o) → ⊥
-        above = not_above (bare c).heap o (node_words_of b.upper).fixed stands.body (built_within stands.place (built_now (bare c) law.core.state stands.tree stands.now))
-            (shown_within (bare c).heap stands.place (shown_now (bare c) law.core.state stands.tree stands.now))
-
 -- The pass may lock it.
 pub beside_may_lock : BesideMayLock
 beside_may_lock layout k key o m q h words has sibling c law layout_is known live = beside_linked layout k c law layout_is known o words has key m q h sibling

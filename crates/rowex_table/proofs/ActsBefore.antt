@@ -144,18 +144,6 @@ module _ (layout : Layout) (said : Known → List Note) (k j : Known) where
 
   -- New records
 
-  -- one more in front, which none of the others is
-  pub claim_gives_one : (r : Rec) (found : ℕ) → IsEvent layout (Claim r found) said k j → found ≡ 0 →
-      (words : List ℕ) × (length words ≡ word_count_of r) × (j.own ≡ record { rec = r; holding = Held; words = words } ∷ k.own) × ((o : Owned) → IsOneOf o k.own → o.rec ≡ r → ⊥)
-  claim_gives_one r found e none =
-      let c = e.core in
-      let free : c.fate r ≡ Free = free_tag (lock_of c r) (c.fate r) (sym e.legal.1.1 ∙ none) in (
-        c.words r,
-        (e.lawful.records.sized r).0,
-        ap (λ (z : Known). z.own) e.learned_is ∙ ap (λ f. (claim_learned c r found f k).own) free,
-        λ o i is. not_free k.pass o.holding (sym free ∙ (ap c.fate (sym is) ∙ (all_of (IsOwned k.pass c) o k.own (knows_all c k e.knows).own i).0)),
-      )
-
   claim_still : (c : Core) (r : Rec) (found : ℕ) (f : Fate) → ((claim_learned c r found f k).locks ≡ k.locks) × ((claim_learned c r found f k).anchor ≡ k.anchor)
   claim_still c r found Free = (refl, refl)
   claim_still c r found (HeldBy q) = (refl, refl)
@@ -169,15 +157,6 @@ module _ (layout : Layout) (said : Known → List Note) (k j : Known) where
       let still = claim_still e.core r found (e.core.fate r) in
       (ap (λ (z : Known). z.locks) e.learned_is ∙ still.0, ap (λ (z : Known). z.anchor) e.learned_is ∙ still.1)
 
-  -- the first one has the word
-  pub fill_gives_first : (r : Rec) (offset w : ℕ) (words : List ℕ) (news : List Made) → IsEvent layout (Fill r offset w) said k j →
-      k.own ≡ record { rec = r; holding = Held; words = words } ∷ map (held_as Held) news → (IsOneOf r (recs_of news) → ⊥) →
-      j.own ≡ record { rec = r; holding = Held; words = set words (offset - 1) w } ∷ map (held_as Held) news
-  fill_gives_first r offset w words news e own not_it =
-      let o : Owned = record { rec = r; holding = Held; words = words } in
-      let first : with_filled_word r offset w o ≡ record { rec = r; holding = Held; words = set words (offset - 1) w } = rw (same_rec_refl r) refl in
-      ap (λ (z : Known). z.own) e.learned_is ∙ (ap (map (with_filled_word r offset w)) own ∙ ap₂ (λ y ys. y ∷ ys) first (fill_others offset w Held news r not_it))
-
   -- the next one is ready
   pub ready_gives_next : (m : Made) (done todo : List Made) → IsEvent layout (Ready m.rec) said k j → k.own ≡ map (held_as IsReady) done ++ (held_as Held m ∷ map (held_as Held) todo) →
       (IsOneOf m.rec (recs_of done) → ⊥) → (IsOneOf m.rec (recs_of todo) → ⊥) → j.own ≡ map (held_as IsReady) (done ++ m ∷ []) ++ map (held_as Held) todo
@@ -188,12 +167,6 @@ module _ (layout : Layout) (said : Known → List Note) (k j : Known) where
       (ap₂ (λ y ys. y ++ ys) (hold_others IsReady IsReady done m.rec before) (ap₂ (λ y ys. y ∷ ys) next (hold_others IsReady Held todo m.rec behind)) ∙
       (sym (append_assoc (map (held_as IsReady) done) (held_as IsReady m ∷ []) (map (held_as Held) todo)) ∙
       ap (λ z. z ++ map (held_as Held) todo) (sym (map-append (held_as IsReady) done (m ∷ [])))))))
-
-  -- the first one is given up
-  pub release_gives_rest : (m : Made) (news : List Made) → IsEvent layout (Release m.rec) said k j → k.own ≡ map (held_as Held) (m ∷ news) → (IsOneOf m.rec (recs_of news) → ⊥) → j.own ≡ map (held_as Held) news
-  release_gives_rest m news e own not_it =
-      let first : without_record m.rec (held_as Held m ∷ map (held_as Held) news) ≡ without_record m.rec (map (held_as Held) news) = rw (same_rec_refl m.rec) refl in
-      ap (λ (z : Known). z.own) e.learned_is ∙ (ap (without_record m.rec) own ∙ (first ∙ keep_others (map (held_as Held) news) m.rec (unlike Held news m.rec not_it)))
 
   -- What the pass recalls
 
@@ -289,12 +262,3 @@ module _ (layout : Layout) (k j : Known) where
   claim_held c r found (InTree s) e ne = refl
   claim_held c r found (UnlinkedBy s l q) e ne = refl
   claim_held c r found (Marked s l epoch) e ne = refl
-
-  pub claim_fails : (r : Rec) (found : ℕ) (e : IsEvent layout (Claim r found) silent k j) → (found ≡ 0 → ⊥) →
-      j ≡ record (failed_with k (a_claim (holder_of (e.core.fate r))) (word_of r 0) found) { steps = k.steps + 1 }
-  claim_fails r found e ne = failed_step e.core (Claim r found) (a_claim (holder_of (e.core.fate r))) (word_of r 0) found e.learned_is (claim_held e.core r found (e.core.fate r) e.legal.1.1 ne)
-
--- The root, under the anchor's lock
-
-pub root_of_anchored : (layout : Layout) (k j : Known) (root : Option Entry) (w : ℕ) → k.anchor ≡ Some root → IsEvent layout (LoadRef Root w) silent k j → (w ≡ entry_word root) × (j.anchor ≡ k.anchor)
-root_of_anchored layout k j root w is e = (e.legal.1 ∙ ap entry_word ((knows_all e.core k e.knows).anchor root is).1, ap (λ (z : Known). z.anchor) e.learned_is)

@@ -146,11 +146,3 @@ module _ {G : Type 0} (table : TableView) (becomes : G → Event → G → Type 
       (λ (past : n ≤ o).
       i.rest o past ∙ sym (ap (λ ws. get_or ws o 0) (sym is.spells) ∙ no_entry_word view (length view.entries) o (omega arith) (omega (arith, past, upto)) (omega (arith, l, i.long))))
       (cases_lt o n))
-
--- the words of a head alone
-pub head_read : (loaded words : List ℕ) → length loaded ≡ 25 → AreThose loaded words 25 → loaded ≡ take 25 words
-head_read loaded words long those =
-    let (view, is) = those.spelled (omega arith) in
-    let all : length words ≡ 57 = ap (λ (ws : List ℕ). length ws) (sym is.spells) ∙ length-node_words view in
-    let part : length (take 25 words) ≡ 25 = omega (arith, length-take 25 words, all) in
-    ext_get_or 0 loaded (take 25 words) (long ∙ sym part) (λ o low. those.each o (omega (arith, low, long)) ∙ sym (get_or-take 25 words o 0 (omega (arith, low, long))))

@@ -154,16 +154,6 @@ order_high k p x (Fork r a b) j q one f h =
     let g : ltb u.0 (spot k y) ≡ bit k q = f u.0 u.1 in
     same_bools (ltb j (size x + spot k y)) (ltb u.0 (spot k y)) (λ l. lt-ltb _ _ (omega (arith, u.2, ltb-true j (size x + spot k y) l))) (λ l. lt-ltb _ _ (omega (arith, u.2, ltb-true u.0 (spot k y) l))) ∙ g
 
--- The one place on that side is before it exactly where the way takes the 1 side of the fork.
-pub beside_order : (k : Key) (x : Subtrie) (j q : ℕ) → beside (spot k x) x ≡ Some (j, q) → ltb j (spot k x) ≡ bit k q
-beside_order k (Place e) j q h = absurd cc
-beside_order k (Fork p x y) j q h = go (bit k p) refl (beside_order k x j q) (λ i. beside_order k y i q) h
-  where
-    go : (u : Bool) → bit k p ≡ u → (beside (spot k x) x ≡ found j q → ltb j (spot k x) ≡ bit k q) → ((i : ℕ) → beside (spot k y) y ≡ found i q → ltb i (spot k y) ≡ bit k q) →
-        beside (if u then size x + spot k y else spot k x) (Fork p x y) ≡ found j q → ltb j (if u then size x + spot k y else spot k x) ≡ bit k q
-    go true e f g h = order_high k p x y j q e g (sym (beside_high p x y (spot k y)) ∙ h)
-    go false e f g h = order_low k p x y j q e f (sym (beside_low p x y (spot k x) (spot_below k x)) ∙ h)
-
 -- The place: in the record's own subtrie, what a tree put there makes of the subtrie, and that it is below forks before `p`
 -- alone where it alone is affected.
 abbrev pub IsSpot : Key → Tree → Tree → Type 0
@@ -207,16 +197,3 @@ path_spot k (fork q a b) = go (bit k q) (path_spot k a) (path_spot k b)
 
 pub subtrie_spot : (k : Key) (b : Tree) → IsSpot k b (child k b)
 subtrie_spot k b = (path_spot k b).0
-
--- Where one entry is affected, the way to it is below forks before `p`.
-pub tip_affected : (p : ℕ) (k : Key) (b : Tree) → IsTip (affected p k b) → affected p k b ≡ child k b
-tip_affected p k (leaf n l v) i = refl
-tip_affected p k (node n x b) i = refl
-tip_affected p k (fork q a b) i = go (ltb q p) (bit k q) (tip_affected p k a) (tip_affected p k b) i
-  where
-    go : (u o : Bool) → (IsTip (affected p k a) → affected p k a ≡ child k a) → (IsTip (affected p k b) → affected p k b ≡ child k b) →
-        IsTip (if u then (if o then affected p k b else affected p k a) else fork q a b) →
-        (if u then (if o then affected p k b else affected p k a) else fork q a b) ≡ (if o then child k b else child k a)
-    go true true f g i = g i
-    go true false f g i = f i
-    go false o f g i = elim i [ ]
