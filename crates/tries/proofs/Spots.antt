@@ -1,10 +1,8 @@
 -- The place to which a key's search leads, in a tree and in a subtrie.
-use Rattle.std.proofs.Common.{◌≡◌, ℕ, ◌+◌, ◌-◌, ◌<◌, Bool, true, false, Option, None, Some, refl, ap, sym, ◌∙◌, subst, arith, if◌then◌else◌, ltb, cond, MatchBool}
+use Rattle.std.proofs.Common.{◌≡◌, ℕ, ◌+◌, ◌-◌, ◌<◌, Bool, true, false, Option, Some, refl, ap, sym, ◌∙◌, subst, arith, if◌then◌else◌, ltb, cond, MatchBool}
 use Rattle.std.proofs.lemmas.Bool.{cond-true, cond-false, lt-ltb, le-ltb, ltb-true}
-use Rattle.pieces.proofs.Tests.{same_bools}
 use Rattle.compound_node.specs.declared.entries.Entry.{Entry}
-use Rattle.pieces.proofs.Beside.{found, same_place, unmoved}
-use Rattle.pieces.specs.Changes.{beside, collapsed, is_place, moved_by, sibling, without}
+use Rattle.pieces.specs.Changes.{collapsed, is_place, sibling, without}
 use Rattle.pieces.specs.Grafts.{grafted, IsAbovePath}
 use Rattle.pieces.specs.Piece.{Place, Fork, size}
 use Rattle.tries.specs.Keys.{Key, bit}
@@ -128,31 +126,6 @@ collapsed_spot k f (Fork q x y) = go (bit k q) (collapsed_spot k f x) (collapsed
         collapsed (if u then size x + spot k y else spot k x) f (Fork q x y) ≡ fork_closed q u f x y (if u then subtrie_collapsed k f y else subtrie_collapsed k f x)
     go true g h = collapsed_high q f x y (spot k y) ∙ (ap (λ z. cond (is_place y) (Place f) (Fork q x z)) h ∙ closed_one q f x y (subtrie_collapsed k f y))
     go false g h = collapsed_low q f x y (spot k x) (spot_below k x) ∙ (ap (λ z. cond (is_place x) (Place f) (Fork q z y)) g ∙ closed_zero q f x y (subtrie_collapsed k f x))
-
-beside_low : (p : ℕ) (x y : Subtrie) (i : ℕ) → i < size x → beside i (Fork p x y) ≡ cond (is_place x) (cond (is_place y) (Some (1, p)) None) (beside i x)
-beside_low p x y i h = cond-true (ltb i (size x)) _ _ (lt-ltb i (size x) h)
-
-beside_high : (p : ℕ) (x y : Subtrie) (i : ℕ) → beside (size x + i) (Fork p x y) ≡ cond (is_place y) (cond (is_place x) (Some (0, p)) None) (moved_by (size x) (beside i y))
-beside_high p x y i =
-    let d : size x + i - size x ≡ i = omega arith in
-    cond-false (ltb (size x + i) (size x)) _ _ (le-ltb (size x + i) (size x) (omega arith))
-    ∙ ap (λ j. cond (is_place y) (cond (is_place x) (Some (0, p)) None) (moved_by (size x) (beside j y))) d
-
-order_low : (k : Key) (p : ℕ) (x y : Subtrie) (j q : ℕ) → bit k p ≡ false → (beside (spot k x) x ≡ found j q → ltb j (spot k x) ≡ bit k q) →
-    cond (is_place x) (cond (is_place y) (Some (1, p)) None) (beside (spot k x) x) ≡ found j q → ltb j (spot k x) ≡ bit k q
-order_low k p (Place d) (Place e) j q zero f h = let s : (1 ≡ j) × (p ≡ q) = same_place 1 j p q h in rw (← s.0, ← s.1) (sym zero)
-order_low k p (Place d) (Fork r a b) j q zero f h = absurd cc
-order_low k p (Fork o a b) y j q zero f h = f h
-
-order_high : (k : Key) (p : ℕ) (x y : Subtrie) (j q : ℕ) → bit k p ≡ true → ((i : ℕ) → beside (spot k y) y ≡ found i q → ltb i (spot k y) ≡ bit k q) →
-    cond (is_place y) (cond (is_place x) (Some (0, p)) None) (moved_by (size x) (beside (spot k y) y)) ≡ found j q → ltb j (size x + spot k y) ≡ bit k q
-order_high k p (Place d) (Place e) j q one f h = let s : (0 ≡ j) × (p ≡ q) = same_place 0 j p q h in rw (← s.0, ← s.1) (sym one)
-order_high k p (Fork o a b) (Place e) j q one f h = absurd cc
-order_high k p x (Fork r a b) j q one f h =
-    let y : Subtrie = Fork r a b in
-    let u : (i : ℕ) × (beside (spot k y) y ≡ found i q) × (size x + i ≡ j) = unmoved (size x) j q (beside (spot k y) y) h in
-    let g : ltb u.0 (spot k y) ≡ bit k q = f u.0 u.1 in
-    same_bools (ltb j (size x + spot k y)) (ltb u.0 (spot k y)) (λ l. lt-ltb _ _ (omega (arith, u.2, ltb-true j (size x + spot k y) l))) (λ l. lt-ltb _ _ (omega (arith, u.2, ltb-true u.0 (spot k y) l))) ∙ g
 
 -- The place: in the record's own subtrie, what a tree put there makes of the subtrie, and that it is below forks before `p`
 -- alone where it alone is affected.
