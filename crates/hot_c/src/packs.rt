@@ -32,8 +32,8 @@ pub extern "C" fn hot_scan_packed(
     list_packed(alloc, handle, order, from, upto, bytes, heads, count, more)
 }
 
-/// Lists the last pairs whose keys are from `from` to `upto`, both included, in falling key order, packed in the same way. `more`
-/// becomes 1 if the range has more below, else 0.
+/// Lists the last pairs whose keys are from `from` to `upto`, both included, in falling key order, packed as by `hot_scan_packed`.
+/// `count` becomes their number, and `more` 1 if the range has more below them, else 0. A status other than `DONE` leaves all as it was.
 #[unsafe(no_mangle)]
 pub extern "C" fn hot_scan_packed_reverse(
     alloc: Global,

@@ -2,7 +2,8 @@
 
 ghost use Rattle.hot_index.specs.Statements.{LacksAllLong, OnePassFullIsFull, OnePassIsNeverBusy, ReturnedBeforeBegun};
 
-/// If all leaf records are long, as in an index that `create` makes, a call that lacks one has found each of them taken.
+/// If all leaf records are long (`create` makes them so), a call refused for want of one has found each of them not free. None was its
+/// pass's own.
 pub fn lacks_all_long()
     ensures { LacksAllLong }
 {}

@@ -50,8 +50,8 @@ impl Index {
     /// `scan_reverse` into a list, whose earlier pairs are dropped. The pair with the greatest key comes first. Returns whether the
     /// range has more below.
     ///
-    /// Out of memory, the list holds the first of these pairs, fewer than the limit, and the range has more below. So it is what a
-    /// scan with their number as its limit lists.
+    /// Out of memory, it returns the error. The list then holds the first of these pairs, fewer than the limit: what a scan with their
+    /// number as its limit lists, where the range has more below.
     pub fn scan_reverse_into(
         &self,
         pass: &mut Pass,

@@ -32,6 +32,7 @@ where
     answer(rt, &Disk { rt }, &words, &mut reader, &mut writer)
 }
 
+/// The program. Its exit status is 0, or else that of the `Ending`, whose text goes to standard error.
 fn main(rt: HostRuntime) -> ExitCode {
     match run(&rt) {
         Ok(()) => ExitCode::SUCCESS,

@@ -45,7 +45,8 @@ impl<'a, G: Gate> Promise<Result<Done<'a>, AllocError>> for Order<'a, G> {
     ghost kept_by = { λ order result. IfOk result (HasKept G.becomes order) };
 }
 
-/// Answers the scripts of files, each in a thread of its own, and then the last one.
+/// Makes an index of so many records and runs scripts on it. Those of files run at the same time, each in a thread with its gate. `last`
+/// runs when they have ended. Returns all answers as texts that follow one another, each script's below its heading.
 pub fn answer_all<T: Threads + Wait + Sync, G: Gate + Send + Drop>(
     rt: &T,
     alloc: Global,

@@ -39,7 +39,7 @@ pub fn a_get_is_traced()
     ensures { AGetIsTraced }
 {}
 
-/// A load of the root shows all changes that any pass had seen by its last step before.
+/// A load of the root shows all changes that another pass, or the same, had seen by any of its steps before that load.
 pub fn loads_see_all()
     ensures { LoadsSeeAll }
 {}
