@@ -24,7 +24,7 @@ impl Pairs {
         }
     }
 
-    /// Takes out the last pairs, as many as it must for the keys of the others to have at most `room` bytes together.
+    /// Takes out pairs from the end until the keys of the others have at most `room` bytes together.
     pub fn fit(&mut self, room: usize)
         ensures { self.new ≡ fitting room self.old }
     {

@@ -174,7 +174,7 @@ fn rises_from(low: u128, notes: &[Note]) -> bool
     low <= place && rises_from(next, later)
 }
 
-/// Whether the front's changes of the pass are those of the notes, in order, each once.
+/// Whether the changes in the front by this pass are just those that the notes tell of, in the same order.
 fn owns(front: &[Change], pass: u16, notes: &[Note]) -> bool
     ensures { IsTrue result ↔ (own_changes pass front.now ≡ changes_of pass notes.now) }
 {

@@ -82,7 +82,8 @@ impl PlainIndex {
         }
     }
 
-    /// Adds to the value of a key that is there.
+    /// Adds `delta` to the value of a key that is there, modulo 2^64, and replies with the value that it had. An absent key stays absent.
+    /// It returns no error.
     fn add(&mut self, key: Key, delta: u64) -> Result<Reply, AllocError>
         ensures reply { IfOk result (λ reply. reply ≡ reply_of self.old (Add key delta)) }
         ensures map { OnOk result (self.new ≡ map_after self.old (Add key delta)) }
