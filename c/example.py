@@ -11,7 +11,7 @@ from ctypes import POINTER, byref, c_char_p, c_size_t, c_uint8, c_uint32, c_uint
 
 MAX_KEY, PAGE = 240, 64
 FOUND, WAS, REMOVED, EXCHANGED, DIFFERS = 1, 6, 7, 16, 17
-REFUSALS = (*range(8, 16), 18)
+REFUSALS = (*range(8, 16), 18, 21)
 
 
 class Handle(ctypes.Structure):

@@ -448,7 +448,7 @@ impl Handle {
         Ok(None)
     }
 
-    /// How many keys there are: exact while nobody changes the index. It visits each record.
+    /// How many keys there are: exact while nobody changes the index.
     pub fn len(&self) -> usize {
         self.lease.len()
     }

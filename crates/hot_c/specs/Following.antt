@@ -15,7 +15,7 @@ abbrev pub IsAsTold : PassView → PassView → Type 0
 IsAsTold k j = (j.number ≡ k.number) × (j.front ≡ k.front) × (j.fresh ≡ k.fresh) × (j.notes ≡ k.notes) × (j.steps ≡ k.steps) × (j.failed ≡ k.failed)
 
 -- A handle sees what its leader has seen: it has now seen all changes that the leader has seen, beside those that it had seen before,
--- and no call of it is noted. The leader is as it was. Where either is closed, that is told and nothing has changed.
+-- and no call of it is noted. All that calls tell of the leader is as it was. Where either is closed, that is told and nothing has changed.
 pub record SeesLeader (old new old_leader new_leader : Option Opened) (status : ℕ) : Type 0 where
   pub closed : (old ≡ None) ⊎ (old_leader ≡ None) → (status ≡ CLOSED) × (new ≡ old) × (new_leader ≡ old_leader)
   pub seen : (leader : Opened) → IsSome old → old_leader ≡ Some leader →

@@ -14,6 +14,9 @@ use Rattle.rowex_table.specs.Seats.{SeatView}
 use Rattle.seat_calls.specs.Passes.{AreByPasses, IsSettled, pass_of}
 use Rattle.seat_calls.specs.Answers.{HaveMet, IsUnnoted}
 
+pub seen_more : (front : List Change) (k j : Known) → j ≡ with_front front k → j ≡ with_front j.front k
+seen_more front k j is = is ∙ ap (λ (l : List Change). with_front l k) (sym (ap (λ (z : Known). z.front) is))
+
 -- a pass of which only the front goes on, by changes of others
 pub goes_on : (k : Known) (front : List Change) → IsSettled k → LegalFront front → OthersGoOn k.pass k.front front → IsSettled (with_front front k)
 goes_on k front s legal others = record {

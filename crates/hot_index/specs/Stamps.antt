@@ -16,8 +16,12 @@ IsStampFrom index stamp = stamp.table ≡ index.id
 abbrev pub HasStamped : PassView → PassView → Type 0
 HasStamped k j = j ≡ record k { seat = record k.seat { asides = suc k.seat.asides } }
 
--- The pass k is the pass j now: it has seen the stamp's changes, beside those that it had seen before, and knows of all steps so far. No call
--- of it is noted, and nothing else of its seat has changed but that this is counted; so it has made no step.
+-- the pass has seen more changes, and all else that it knows is as it was
+abbrev pub HasSeenMore : PassView → PassView → Type 0
+HasSeenMore k j = j.seat.known ≡ with_front j.front k.seat.known
+
+-- The pass k is the pass j now: it has seen the stamp's changes, beside those that it had seen before, and knows of the steps that made them.
+-- No call of it is noted, and nothing else of its seat has changed but that this is counted; so it has made no step.
 pub record HasCaughtUp (layout : Layout) (stamp : List Change) (k j : PassView) : Type 0 where
   pub unnoted : IsUnnoted layout k j
   pub told : BeginsWith j.front stamp

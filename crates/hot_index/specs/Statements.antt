@@ -33,7 +33,7 @@ abbrev pub IsNobodys : Rec → Option ℕ → Type 0
 IsNobodys r by = by ≡ None
 
 -- A call of a pass whose index has no other pass lacks a leaf record only if each that has room for its key was in the tree or retired, when
--- its turn came; and so for node records, but for a few that the call had claimed itself.
+-- its turn came; and so for node records, but for `most_made`, which the call may have claimed itself.
 abbrev pub OnePassFullIsFull : Type 0
 OnePassFullIsFull =
     (layout : Layout) (key : Key) (k j : PassView) → layout.passes ≡ 1 → j.number < layout.passes →

@@ -11,6 +11,7 @@ ghost use Rattle.hot_index.specs.Handles.{Stays, handle_at};
 ghost use Rattle.seat_calls.specs.Many.{AreNoted, HasGotMany, gets};
 ghost use Rattle.seat_calls.specs.Passes.{Owns};
 ghost use Rattle.hot_index.specs.Ranges.{IsFirstFound};
+ghost use Rattle.hot_index.specs.Stamps.{HasSeenMore};
 ghost use Rattle.seat_calls.specs.Reverse.{IsLastFound};
 ghost use Rattle.seat_calls.specs.Traces.{HasCollected, HasGot, untold};
 ghost use Rattle.key_ranges.specs.Ranges.{last_with};
@@ -336,6 +337,7 @@ impl<I: ShowsIndex> Handle<I> {
         ensures steps { (result.0.pass.steps ≡ self.pass.steps) × (result.1.pass.steps ≡ other.pass.steps) }
         ensures traces { result.0.pass.seat.trace ≡ result.1.pass.seat.trace }
         ensures shown { IsShownAll self.index.layout self.pass.seat result.0.pass.seat × IsShownAll self.index.layout other.pass.seat result.1.pass.seat }
+        ensures rest { HasSeenMore self.pass result.0.pass × HasSeenMore other.pass result.1.pass }
     {
         let Handle { index, pass } = self;
         let (pass, met) = index.show().meet(pass, other.pass);

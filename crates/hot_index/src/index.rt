@@ -9,6 +9,7 @@ ghost use Rattle.seat_calls.specs.Calls.{IsAwaited, IsAwaitedWith, IsTried, IsTr
 ghost use Rattle.seat_calls.specs.Census.{HasCounted};
 ghost use Rattle.seat_calls.specs.Many.{AreNoted, HasGotMany, gets};
 ghost use Rattle.seat_calls.specs.Traces.{HasCollected, HasGot, untold};
+ghost use Rattle.hot_index.specs.Stamps.{HasSeenMore};
 
 use epochs::{Given, collect_round, pin, unpin};
 use finite_map::{Call, Reply};
@@ -189,8 +190,8 @@ impl Index {
         self.change_with(rt, pass, &mut NoGate, &Call::Remove(key.copy()))
     }
 
-    /// Lets two passes meet, and returns them. Each has then seen what the other had seen, and all that was published before. Each knows
-    /// of all steps so far, and the meeting is counted among its `asides`.
+    /// Lets two passes meet, and returns them. Each has then seen what the other had seen, and all that was published before. Both know
+    /// of the same steps, and the meeting is counted among the `asides` of each. All else that they know is as it was.
     ///
     /// It loads one word three times and ignores what it finds. These loads count as no steps of either pass, and no gate hears of
     /// them.
@@ -201,6 +202,7 @@ impl Index {
         ensures steps { (result.0.steps ≡ first.steps) × (result.1.steps ≡ second.steps) }
         ensures traces { result.0.seat.trace ≡ result.1.seat.trace }
         ensures shown { IsShownAll self.now.layout first.seat result.0.seat × IsShownAll self.now.layout second.seat result.1.seat }
+        ensures rest { HasSeenMore first result.0 × HasSeenMore second result.1 }
     {
         let (one, other) = (first.room, second.room);
         let (first, second) = self.table.meet_seats(first.seat, second.seat);

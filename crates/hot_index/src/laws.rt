@@ -13,7 +13,8 @@ pub fn one_pass_is_never_busy()
     ensures { OnePassIsNeverBusy }
 {}
 
-/// In an index of one pass a call is full only if each record that would serve holds a leaf or a node, or is retired.
+/// In an index of one pass a call is full of leaves only if each leaf record that would serve holds a leaf, or is retired; and of nodes
+/// only if each node record does so, but for at most 4,322, which the call may have claimed itself.
 pub fn one_pass_full_is_full()
     ensures { OnePassFullIsFull }
 {}

@@ -1,5 +1,6 @@
 -- Executions by contracts alone, and the order of calls by traces.
-use Rattle.std.proofs.Common.{◌≡◌, ◌⊎◌, inl, inr, ⊎_elim, ℕ, suc, List, [], ◌∷◌, ◌++◌, Option, None, refl, sym, ap, subst, ◌∙◌, arith}
+use Rattle.std.proofs.Common.{◌≡◌, ◌⊎◌, ◌<◌, ◌≤◌, inl, inr, ⊎_elim, ℕ, zero, suc, List, [], ◌∷◌, ◌++◌, Option, None, refl, sym, ap, subst, ◌∙◌, arith}
+use Rattle.std.proofs.lemmas.Bool.{cases_lt}
 use Rattle.std.proofs.lemmas.List.Elements.{All-head, All-tail}
 use Rattle.std.specs.Prelude.{All}
 use Rattle.finite_map.specs.declared.Change.{Change}
@@ -21,6 +22,7 @@ use Rattle.rowex_core.specs.Opening.{opening}
 use Rattle.rowex_core.specs.Runs.{AreOthers, EventsLead}
 use Rattle.rowex_core.proofs.Learning.{learns}
 use Rattle.rowex_core.proofs.Runs.{runs_keep, runs_stay_lawful}
+use Rattle.rowex_table.specs.Rule.{with_front}
 use Rattle.rowex_table.specs.Runs.{StepsWith}
 use Rattle.rowex_table.specs.Seats.{SeatView, TableView}
 use Rattle.rowex_table.specs.Traces.{RunBeginsWith}
@@ -30,10 +32,11 @@ use Rattle.rowex_table.proofs.Onward.{led_more}
 use Rattle.rowex_table.proofs.Running.{runs_same}
 use Rattle.seat_calls.specs.Traces.{untold}
 use Rattle.seat_calls.proofs.Noting.{longer}
-use Rattle.real_time.specs.Moments.{Happening, IsCallTurn, IsMomentStep, IsNewIndex, IsShowing, Pending, invokes, refuses, responds, shows, steps}
-use Rattle.index_laws.specs.Executions.{LeadsOn}
-use Rattle.index_laws.specs.Traced.{CallsMakeNoAsides, ContractsLeadOn, EndedBeforeLoaded, EndedOrLoadedBefore, Instant, IsSeatShowing, IsSeatStep, IsSeatTurn, LoadsSeeAll, TracedAreExecutions, core_led_to, moment_of}
-use Rattle.index_laws.proofs.Timed.{opening_is_new}
+use Rattle.real_time.specs.Moments.{Happening, IsCallTurn, IsMomentStep, IsNewIndex, IsShowing, IsSoundMoment, Moment, Pending, invokes, refuses, responds, shows, steps}
+use Rattle.real_time.proofs.Growing.{runs_stay_sound}
+use Rattle.index_laws.specs.Executions.{IsExecution, LeadsOn}
+use Rattle.index_laws.specs.Traced.{CallsMakeNoAsides, ContractsLeadOn, EndedBeforeLoaded, EndedOrLoadedBefore, Instant, IsSeatShowing, IsSeatStep, IsSeatTurn, IsShownItself, IsShownSteps, IsTracedExecution, LoadsSeeAll, TracedAreExecutions, core_led_to, moment_of}
+use Rattle.index_laws.proofs.Timed.{executions_are_runs, opening_is_new}
 
 -- The core to which steps lead
 
@@ -44,6 +47,15 @@ core_is c (x ∷ xs) d e = core_is (after c x.pass x.act) xs d e.1
 core_led_to-more : (c : Core) (xs : List Event) (x : Event) → core_led_to c (xs ++ x ∷ []) ≡ after (core_led_to c xs) x.pass x.act
 core_led_to-more c [] x = refl
 core_led_to-more c (y ∷ xs) x = core_led_to-more (after c y.pass y.act) xs x
+
+-- the steps are legal, one after the other, from a new table on
+abbrev IsLed : Layout → List Event → Type 0
+IsLed layout run = EventsLead (opening layout) run (core_led_to (opening layout) run)
+
+-- steps leave what a witness says
+nobodys : (front : List Change) (xs : List Event) → AreOthers (Witness front) xs
+nobodys front [] = tt
+nobodys front (x ∷ xs) = ((λ h. h), nobodys front xs)
 
 -- From moment to moment
 
@@ -73,19 +85,44 @@ module _ (table : TableView) (at : ℕ → Instant) (t : ℕ) where
         pending = x.pending;
       }
 
-  showing_leads : (q : ℕ) (front : List Change) → IsSeatShowing table a b q front → IsShowing (moment_of layout a) (moment_of layout b) q front
-  showing_leads q front x =
+  abbrev now : Core
+  now = core_led_to (opening layout) a.run
+
+  -- what the shown steps have made has been made
+  shown_made : (s e : SeatView) (front : List Change) → IsLed layout a.run → IsShownSteps layout a.run s e front → BeginsWith now.changes front
+  shown_made s e front led x =
       let run = x.shown.run in
-      let core : run.core ≡ core_led_to (opening layout) a.run = core_is (opening layout) a.run run.core (subst (λ l. EventsLead (opening layout) l run.core) x.whole run.led) in
-      let all : (core_led_to (opening layout) a.run).changes ≡ front = sym (ap (λ (z : Core). z.changes) core) ∙ (run.changes ∙ ap (λ (z : Known). z.front) x.known) in
-      record {
+      let more : List Event = x.begins.0 in
+      let on : EventsLead run.core more now = lead_rest (opening layout) e.trace run.core more now (subst (λ l. EventsLead (opening layout) l now) x.begins.1 led) run.led in
+      let grows : BeginsWith now.changes run.core.changes =
+      runs_keep run.core more now (Witness run.core.changes) (runs_stay_lawful layout e.trace run.core run.led) on (nobodys run.core.changes more) (begins_itself run.core.changes) in
+      subst (BeginsWith now.changes) (run.changes ∙ ap (λ (z : Known). z.front) x.known) grows
+
+  -- and so has what the pass knows
+  itself_made : (q : ℕ) (s e : SeatView) (front : List Change) → IsSoundMoment layout (moment_of layout a) → s ≡ a.seat q → IsShownItself layout q s e front → BeginsWith now.changes front
+  itself_made q s e front sound is x =
+      let knows : Knows now (a.seat q).known = sound.knows q x.pass in
+      let seen : BeginsWith now.changes (a.seat q).known.front = others_begin (a.seat q).known.pass (a.seat q).known.front now.changes knows.seen.front in
+      subst (BeginsWith now.changes) (ap (λ (z : SeatView). z.known.front) (sym is) ∙ sym x.front_is) seen
+
+  showing_leads : (q : ℕ) (front : List Change) → IsLed layout a.run → IsSoundMoment layout (moment_of layout a) → IsSeatShowing table a b q front →
+      IsShowing (moment_of layout a) (moment_of layout b) q front
+  showing_leads q front led sound x = go x.seat
+    where
+      shows_so : BeginsWith front (a.seat q).known.front → BeginsWith now.changes front → (b.seat q).known ≡ with_front front (a.seat q).known → IsShowing (moment_of layout a) (moment_of layout b) q front
+      shows_so more made own = record {
         core = ap (core_led_to (opening layout)) x.run;
-        more = x.more;
-        made = subst (λ l. BeginsWith l front) (sym all) (begins_itself front);
-        own = x.known;
+        more = more;
+        made = made;
+        own = own;
         others = λ o ne. ap (λ (z : SeatView). z.known) (x.others o ne);
         pending = x.pending;
       }
+
+      go : IsShownSteps layout a.run (a.seat q) (b.seat q) front ⊎ IsShownItself layout q (a.seat q) (b.seat q) front → IsShowing (moment_of layout a) (moment_of layout b) q front
+      go (inl s) = shows_so s.more (shown_made (a.seat q) (b.seat q) front led s) s.known
+      go (inr s) = shows_so (subst (λ l. BeginsWith l (a.seat q).known.front) (sym s.front_is) (begins_itself (a.seat q).known.front))
+          (itself_made q (a.seat q) (b.seat q) front sound refl s) (s.known ∙ ap (λ (l : List Change). with_front l (a.seat q).known) (sym s.front_is))
 
   turn_leads : (q : ℕ) (call : Option Pending) → IsSeatTurn layout a b q call → IsCallTurn layout (moment_of layout a) (moment_of layout b) q call
   turn_leads q call x = record {
@@ -96,25 +133,52 @@ module _ (table : TableView) (at : ℕ → Instant) (t : ℕ) where
     others = x.others;
   }
 
-  contracts_lead : (h : Happening) → ContractsLeadOn table at t h → LeadsOn layout (λ i. moment_of layout (at i)) t h
-  contracts_lead (steps q act notes) x = step_leads q act notes x
-  contracts_lead (shows q front) x = showing_leads q front x
-  contracts_lead (invokes q calls) x = (x.0, turn_leads q _ x.1)
-  contracts_lead (responds q notes) x = (x.0, x.1, turn_leads q None x.2)
-  contracts_lead (refuses q) x = (x.0, x.1, turn_leads q None x.2)
+  contracts_lead : (h : Happening) → IsLed layout a.run → IsSoundMoment layout (moment_of layout a) → ContractsLeadOn table at t h → LeadsOn layout (λ i. moment_of layout (at i)) t h
+  contracts_lead (steps q act notes) led sound x = step_leads q act notes x
+  contracts_lead (shows q front) led sound x = showing_leads q front led sound x
+  contracts_lead (invokes q calls) led sound x = (x.0, turn_leads q _ x.1)
+  contracts_lead (responds q notes) led sound x = (x.0, x.1, turn_leads q None x.2)
+  contracts_lead (refuses q) led sound x = (x.0, x.1, turn_leads q None x.2)
+
+  -- the steps up to the next moment are legal, too
+  led_on : (h : Happening) → IsLed layout a.run → ContractsLeadOn table at t h → IsLed layout b.run
+  led_on (steps q act notes) led x =
+      let e : Event = record { pass = q; act = act } in
+      subst (IsLed layout) (sym x.run) (subst (EventsLead (opening layout) (a.run ++ e ∷ [])) (sym (core_led_to-more (opening layout) a.run e))
+      (led_more (opening layout) a.run now q act led (step_leads q act notes x).legal))
+  led_on (shows q front) led x = subst (IsLed layout) (sym x.run) led
+  led_on (invokes q calls) led x = subst (IsLed layout) (sym x.1.run) led
+  led_on (responds q notes) led x = subst (IsLed layout) (sym x.2.run) led
+  led_on (refuses q) led x = subst (IsLed layout) (sym x.2.run) led
+
+-- From the first moment on
+
+module _ (table : TableView) (last : ℕ) (at : ℕ → Instant) (happens : ℕ → Happening) (x : IsTracedExecution table last at happens) where
+  abbrev moments : ℕ → Moment
+  moments t = moment_of table.layout (at t)
+
+  led_to : (n : ℕ) → n ≤ last → IsLed table.layout (at n).run
+  led_to zero low = subst (IsLed table.layout) (sym x.run) refl
+  led_to (suc n) low = led_on table at n (happens n) (led_to n (omega (arith, low))) (x.next n (omega (arith, low)))
+
+  execution_to : (n : ℕ) → n ≤ last → IsExecution table.layout n moments happens
+  execution_to zero low = record {
+    new = subst (IsNewIndex table.layout) (λ i. record { core = core_led_to (opening table.layout) (sym x.run i); known = λ q. sym (x.seats q).1 i; pending = λ q. sym (x.pending q) i }) (opening_is_new table.layout);
+    next = λ t none. absurd (omega (arith, none));
+  }
+  execution_to (suc n) low =
+      let before : IsExecution table.layout n moments happens = execution_to n (omega (arith, low)) in
+      let sound : IsSoundMoment table.layout (moments n) = runs_stay_sound table.layout n moments happens (executions_are_runs table.layout n moments happens before) n (omega arith) in
+      let here : LeadsOn table.layout moments n (happens n) = contracts_lead table at n (happens n) (led_to n (omega (arith, low))) sound (x.next n (omega (arith, low))) in
+      record {
+        new = before.new;
+        next = λ t h. ⊎_elim (λ (less : t < n). before.next t less) (λ (more : n ≤ t). subst (λ m. LeadsOn table.layout moments m (happens m)) (let e : n ≡ t = omega (arith, h, more) in e) here) (cases_lt t n);
+      }
 
 pub traced_are_executions : TracedAreExecutions
-traced_are_executions table last at happens x = record {
-  new = subst (IsNewIndex table.layout) (λ i. record { core = core_led_to (opening table.layout) (sym x.run i); known = λ q. sym (x.seats q).1 i; pending = λ q. sym (x.pending q) i }) (opening_is_new table.layout);
-  next = λ t low. contracts_lead table at t (happens t) (x.next t low);
-}
+traced_are_executions table last at happens x = execution_to table last at happens x last (omega arith)
 
 -- The order of calls
-
--- steps leave what a witness says
-nobodys : (front : List Change) (xs : List Event) → AreOthers (Witness front) xs
-nobodys front [] = tt
-nobodys front (x ∷ xs) = ((λ h. h), nobodys front xs)
 
 -- what a pass has seen with its last step is in each later core of the run
 step_grows : (table : TableView) (act : Act) (said : Known → List Note) (s t : SeatView) → StepsWith table untold act said (s, tt) (t, tt) → (run : List Event) (e : Core) → EventsLead (opening table.layout) run e →

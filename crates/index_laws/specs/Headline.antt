@@ -84,7 +84,8 @@ ScansShow IsLawful IsReached =
     IsLawful (pass_of e).fresh.front (pass_of e).front from upto limit scan × IsScanInTime IsReached at call.since t from upto scan
 
 -- A refused call has changed nothing. One that is busy found that another pass stood in its way, and with one pass it is never busy. One that
--- is full found each record not free that would have served; and none of these was its own, but for a few node records.
+-- is full found each record not free that would have served; and none of these was its own, but for some node records, 4,322 at most: so of
+-- node records this says little where an index has no more.
 abbrev pub Refusals : Type 0
 Refusals =
     (layout : Layout) (call : Call) (k j : PassView) (fault : TryFault) → IsRefused layout call k j fault → LegalCalls k.front k.number k.notes →
@@ -116,7 +117,7 @@ pub record Headline : Type 0 where
   pub one_history : OneHistory
   -- and so do any number of passes that have seen the same: each call that they have lived through stands in it once
   pub one_history_of_all : OneHistoryOfAll
-  -- contracts of steps, of meetings and stamps and of calls, linked by what passes know of the table's steps, make an execution
+  -- contracts of steps, of meetings and stamps and of calls make an execution, if each step's trace is what came before it in one order
   pub traced : TracedAreExecutions
   -- the look-ups and changes of an execution are linearizable; and what contracts say of calls that have ended makes an execution a run
   pub linearizable : ExecutionsAreLinearizable
@@ -125,12 +126,12 @@ pub record Headline : Type 0 where
   pub freshness_of_many : FreshnessOfMany
   -- between passes that hear of each other by a stamp or a meeting, a call that had returned stands at no later place than one that then began
   pub order_in_time : ReturnedBeforeBegun
-  -- and between any passes, a call stands at no later place than one that loads the root after its last step
+  -- and between any passes, a call with one key stands at no later place than one that loads the root after its last step
   pub order_of_steps : EndedBeforeLoaded
   pub scans : ScansShow IsLawfulScan IsUpToLast
   pub reverse_scans : ScansShow IsLawfulReverseScan IsDownToLast
   pub refusals : Refusals
-  -- with one pass, each record that a full call lacked was in the tree or retired, but for a few node records that it had claimed
+  -- with one pass, each leaf record that a full call lacked was in the tree or retired; and each node record, but for 4,322 at most
   pub full_alone : OnePassFullIsFull
   pub never_refused : NeverRefused
   pub steps : BoundedSteps

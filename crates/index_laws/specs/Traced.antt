@@ -28,13 +28,14 @@ use Rattle.real_time.specs.Histories.{complete_calls}
 use Rattle.real_time.specs.Moments.{Happening, Moment, Pending, invokes, refuses, responds, shows, steps}
 use Rattle.index_laws.specs.Executions.{HasBeenRefused, HasReturned, IsExecution}
 
--- The index at a moment, as contracts see it: all steps so far, the seat of each pass, and the call of each pass that is pending, if one is.
+-- The index at a moment, as contracts see it: the steps so far, the seat of each pass, and the call of each pass that is pending, if one is.
 pub record Instant : Type 0 where
   pub run : List Event
   pub seat : ℕ → SeatView
   pub pending : ℕ → Option Pending
 
--- Pass q, which has a call pending, makes the step, as the contract of a step says, with these notes. It comes behind all steps so far.
+-- Pass q, which has a call pending, makes the step, as the contract of a step says, with these notes. It comes behind all steps so far: that
+-- the steps of all passes have one order is a premise here, which no contract gives.
 pub record IsSeatStep (table : TableView) (a b : Instant) (q : ℕ) (act : Act) (notes : List Note) : Type 0 where
   pub said : Known → List Note
   pub step : StepsWith table untold act said (a.seat q, tt) (b.seat q, tt)
@@ -47,12 +48,24 @@ pub record IsSeatStep (table : TableView) (a b : Instant) (q : ℕ) (act : Act) 
   pub called : a.pending q ≡ Some call
   pub pending : b.pending ≡ a.pending
 
--- Pass q is shown all steps so far, and the changes that they have made, as the contracts of stamps and meetings say.
+-- A pass is shown steps, with which the run begins, and the changes that they have made, as where it follows a stamp (`HasCaughtUp`) or meets
+-- another pass (`IsShownAll`, `HasSeenMore`).
+pub record IsShownSteps (layout : Layout) (run : List Event) (s t : SeatView) (front : List Change) : Type 0 where
+  pub shown : IsShownAll layout s t
+  pub known : t.known ≡ with_front front s.known
+  pub more : BeginsWith front s.known.front
+  pub begins : RunBeginsWith run t.trace
+
+-- A pass of the index makes a stamp (`HasStamped`): it is shown what it knows.
+pub record IsShownItself (layout : Layout) (q : ℕ) (s t : SeatView) (front : List Change) : Type 0 where
+  pub pass : q < layout.passes
+  pub known : t.known ≡ s.known
+  pub trace : t.trace ≡ s.trace
+  pub front_is : front ≡ s.known.front
+
+-- Pass q follows a stamp, meets another pass, or makes a stamp.
 pub record IsSeatShowing (table : TableView) (a b : Instant) (q : ℕ) (front : List Change) : Type 0 where
-  pub shown : IsShownAll table.layout (a.seat q) (b.seat q)
-  pub known : (b.seat q).known ≡ with_front front (a.seat q).known
-  pub more : BeginsWith front (a.seat q).known.front
-  pub whole : (b.seat q).trace ≡ a.run
+  pub seat : IsShownSteps table.layout a.run (a.seat q) (b.seat q) front ⊎ IsShownItself table.layout q (a.seat q) (b.seat q) front
   pub run : b.run ≡ a.run
   pub others : (o : ℕ) → o ≢ q → b.seat o ≡ a.seat o
   pub pending : b.pending ≡ a.pending
@@ -103,15 +116,16 @@ AGetIsTraced =
     (table : TableView) → 0 < table.layout.passes → (key : List ℕ) → (at : ℕ → Instant) × (happens : ℕ → Happening) ×
     IsTracedExecution table 6 at happens × (complete_calls happens 6 ≡ (5, record { place = 0; call = Get key; reply = Absent }) ∷ [])
 
--- A pass made steps; and a call of any pass loaded the root in a run of the table that begins with what the first one then knew of, so after
--- its last step. That load showed all changes that the first pass had seen.
+-- A pass made steps, as a call without a gate does; and a call of any pass loaded the root in a run that begins with what the first one then
+-- knew of, so after its last step. That load showed all changes that the first pass had seen.
 abbrev pub LoadsSeeAll : Type 0
 LoadsSeeAll =
     (index : TableView) (s t : SeatView) (acts : List Act) (last : Act) (said : Known → List Note) → Ends index untold acts last said (s, tt) (t, tt) →
     (u v : SeatView) (loads : SeesAllOfRun index.layout u v) → RunBeginsWith loads.run t.trace → BeginsWith v.known.fresh.front t.known.front
 
--- So if the first one's steps answered a call, the later call's place is no earlier than the first one's, and later than its change. No stamp
--- and no meeting need tell the later pass.
+-- So if the first one's steps answered a call with one key, the place of a later such call is no earlier than the first one's, and later than
+-- its change. Of the two runs this asks that they go on one from the other, which the run of a table does; a caller knows it by a stamp or a
+-- meeting.
 abbrev pub EndedBeforeLoaded : Type 0
 EndedBeforeLoaded =
     (index : TableView) (s t : SeatView) (call : Call) (reply : Reply) (first : IsNoted index.layout (pass_of s) (pass_of t) call reply) →
@@ -120,8 +134,8 @@ EndedBeforeLoaded =
     (loads : SeesAllOfRun index.layout u v) → RunBeginsWith loads.run t.trace →
     place_after (record { place = first.place; call = call; reply = reply }) ≤ second.place
 
--- So where both are parts of one run, as those of passes are that have met since, either the two calls stand so, or the later one had loaded
--- the root before the first one's last step.
+-- So where both are parts of one run, as those of passes are that have met since, either the two calls stand so, or the later one's load of the
+-- root came no later than the first one's last step.
 abbrev pub EndedOrLoadedBefore : Type 0
 EndedOrLoadedBefore =
     (index : TableView) (s t : SeatView) (call : Call) (reply : Reply) (first : IsNoted index.layout (pass_of s) (pass_of t) call reply) →
@@ -130,6 +144,6 @@ EndedOrLoadedBefore =
     (loads : SeesAllOfRun index.layout u v) (run : List Event) → RunBeginsWith run t.trace → RunBeginsWith run loads.run →
     (place_after (record { place = first.place; call = call; reply = reply }) ≤ second.place) ⊎ RunBeginsWith t.trace loads.run
 
--- A call makes no stamp, follows none and meets no other pass, whatever steps it makes.
+-- A call of steps that end in one, as those of one key and scans do, makes no stamp, follows none and meets no other pass.
 abbrev pub CallsMakeNoAsides : Type 0
 CallsMakeNoAsides = (index : TableView) (acts : List Act) (last : Act) (said : Known → List Note) (s t : SeatView) → Ends index untold acts last said (s, tt) (t, tt) → t.asides ≡ s.asides

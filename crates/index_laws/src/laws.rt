@@ -29,7 +29,8 @@ pub fn steps_are_moments()
     ensures { StepsAreMoments }
 {}
 
-/// Contracts of steps, of stamps and meetings and of calls, linked by traces alone, make an execution.
+/// Contracts of steps, of stamps and meetings and of calls make an execution, if the steps of all passes have one order, in which each
+/// step's trace is what came before it.
 pub fn traced_are_executions()
     ensures { TracedAreExecutions }
 {}
@@ -44,12 +45,12 @@ pub fn loads_see_all()
     ensures { LoadsSeeAll }
 {}
 
-/// A call comes before each call that loads the root after its last step, with no stamp and no meeting.
+/// An answered call with one key stands at no later place than one that loads the root after its last step.
 pub fn ended_before_loaded()
     ensures { EndedBeforeLoaded }
 {}
 
-/// Of two calls in one run of the table the one comes first, or the other had loaded the root before the one's last step.
+/// Of two such calls in one run of the table the one stands first, or the other's load of the root came no later than the one's last step.
 pub fn ended_or_loaded_before()
     ensures { EndedOrLoadedBefore }
 {}

@@ -68,8 +68,9 @@ AsksOneOrLooksUp calls = ((asked : Call) × (calls ≡ asked ∷ [])) ⊎ ((keys
 abbrev pub EndsWithin : (ℕ → Moment) → ℕ → ℕ → ℕ → Pending → Type 0
 EndsWithin at last later q call = (t : ℕ) × (last ≤ t) × (t ≤ later) × (((notes : List Note) × IsResponse at t q call notes) ⊎ IsRefusal at t q call)
 
--- Each call that is pending at the last moment ends by a later one; or else it has changed nothing since it was invoked, or has changed the
--- map as it asks. No contract tells of a call that never returns, so this is a premise of such calls alone.
+-- Each call that is pending at the last moment ends by a later one, and asks one call of the map, or looks up alone, or nothing; or else it has
+-- changed nothing since it was invoked, or has changed the map as it asks. No contract tells of a call that never returns, so this is a
+-- premise of such calls alone.
 abbrev pub PendingEndOrChangeAsAsked : Layout → ℕ → ℕ → (ℕ → Moment) → Type 0
 PendingEndOrChangeAsAsked layout last later at =
     (q : ℕ) → q < layout.passes → (call : Pending) → (at last).pending q ≡ Some call →
