@@ -1,7 +1,7 @@
 -- What a walk has seen at the places that come next, and what it comes to behind their leaves.
-use Rattle.std.proofs.Common.{◌≡◌, ℕ, ◌+◌, ◌<◌, ◌≤◌, List, length, get_or, set, ap, sym, subst, arith, ⊎_elim}
+use Rattle.std.proofs.Common.{◌≡◌, ℕ, ◌+◌, ◌<◌, ◌≤◌, List, length, get_or, set, take, ap, sym, subst, arith, ⊎_elim}
 use Rattle.std.proofs.lemmas.Bool.{cases_lt}
-use Rattle.std.proofs.lemmas.List.{get_or-set_other}
+use Rattle.std.proofs.lemmas.List.{get_or-set_other, get_or-take, length-take-le}
 use Rattle.std.proofs.lemmas.Grind.{get_or-set_at}
 use Rattle.compound_node.specs.Nodes.{height_of}
 use Rattle.compound_node.specs.declared.entries.Entry.{Entry}
@@ -47,6 +47,12 @@ module _ (d : Direction) (m : ℕ) (top : PathNode) where
       ((n h : ℕ) → HasPlace k n top.number h place → (height_of e < h) × Sure j (λ s. IsPlaced s n top.number place e)) → (height_of e < top.height) × Sure j (λ s. IsPlaced s m top.number (place_ahead d top.at i) e)
   loaded_at {k} {j} i place e is has loaded =
       subst (λ z. (height_of e < top.height) × Sure j (λ s. IsPlaced s m top.number z e)) is (loaded m top.height (subst (λ z. HasPlace k m top.number top.height z) (sym is) has))
+
+  -- as the first of them, with no others
+  pub ahead_first : {k : Known} (count : ℕ) (leaves : List ℕ) → count ≤ length leaves → AreAhead d k m top count leaves → AreAhead d k m top (length (take count leaves)) (take count leaves)
+  ahead_first {k} count leaves fits are i low =
+      let long = length-take-le count leaves fits in let less : i < count = omega (arith, long, low) in
+      subst (λ z. Sure k (λ s. IsPlaced s m top.number (place_ahead d top.at i) (Leaf z))) (sym (get_or-take count leaves i 0 less)) (are i less)
 
   -- one leaf more
   pub ahead_more : {k : Known} (i : ℕ) (leaves : List ℕ) (n : ℕ) → AreAhead d k m top i leaves → i < length leaves → Sure k (λ s. IsPlaced s m top.number (place_ahead d top.at i) (Leaf n)) → AreAhead d k m top (i + 1) (set leaves i n)

@@ -46,3 +46,16 @@ abbrev pub AreTaken : Direction → Known → ℕ → Range → PathNode → Pat
 AreTaken d k m g top after frames count xs ys Further = (after ≡ record top { at = gap_after d top.at count }) × HavePassed d k m g top frames count xs ys
 AreTaken d k m g top after frames count xs ys IsPast = HasScanned d k g ys false
 AreTaken d k m g top after frames count xs ys Full = HasScanned d k g ys true
+
+-- The walk is at a gap of this node on this way, with these pairs so far; and what stands behind it comes later than the range's first key.
+abbrev pub IsBoundWalk : Direction → Known → ℕ → Range → PathNode → List PathNode → List (Key × ℕ) → Type 0
+IsBoundWalk d k m g top frames xs = IsWalk d k m g top frames xs × IsBound d k m (first_key d g) top frames
+
+-- there is a way on which it is so
+abbrev pub IsOnSomeWay : Direction → Known → ℕ → Range → PathNode → List (Key × ℕ) → Type 0
+IsOnSomeWay d k m g top xs = (frames : List PathNode) × IsBoundWalk d k m g top frames xs
+
+-- What became of them, on each way on which it is so.
+abbrev pub AreTakenOnWays : Direction → Known → Known → ℕ → Range → PathNode → PathNode → ℕ → List (Key × ℕ) → List (Key × ℕ) → Verdict → Type 0
+AreTakenOnWays d k j m g top after count xs ys verdict =
+    (frames : List PathNode) → IsBoundWalk d k m g top frames xs → AreTaken d j m g top after frames count xs ys verdict

@@ -9,6 +9,7 @@ ghost use Rattle.rowex_scanning.specs.Ahead.{HasPlaces, HasSeenAhead, entries_ah
 ghost use Rattle.rowex_walks.specs.Directions.{to_come};
 
 use crate::direction::place_ahead;
+use crate::scanning::Scan;
 use compound_node::Entry;
 use insert_cases::PathNode;
 use packed_pairs::Pairs;
@@ -16,7 +17,6 @@ use record_words::Origins;
 use rowex_core::{Gate, Rec};
 use rowex_reading::load_entry_from;
 use rowex_table::{HotTable, TableSeat};
-use rowex_walks::Direction;
 
 /// How many places of a node a walk looks at together, at most.
 pub(crate) const MOST_AHEAD: u8 = 16;
@@ -66,33 +66,33 @@ pub(crate) fn most_together(limit: usize, pairs: &Pairs) -> u8
 /// numbers go to the first of these places. Where it looks at one place alone, its leaf is read at once, and isn't touched.
 #[inline(always)]
 pub(crate) fn look_ahead<G: Gate>(
-    table: &HotTable,
-    origins: &Origins,
+    scan: &Scan,
     seat: &mut TableSeat,
     gate: &mut G,
-    direction: Direction,
     top: &PathNode,
     count: u8,
     pairs: &Pairs,
     leaves: &mut [u32; MOST_AHEAD as usize],
 ) -> Ahead
-    requires reader { IsReader table.now seat.old }
-    requires origins { origins.now.layout ≡ table.now.layout }
+    requires reader { IsReader scan.now.table.now seat.old }
+    requires origins { scan.now.origins.now.layout ≡ scan.now.table.now.layout }
     requires fits { top.now.at ≤ top.now.count }
-    requires come { count ≤ to_come direction top.now.count top.now.at }
+    requires come { count ≤ to_come scan.now.range.now.direction top.now.count top.now.at }
     requires some { 0 < count }
     requires most { count ≤ MOST_AHEAD }
-    requires places { (m : ℕ) × HasPlaces direction seat.old.known m top.now count }
-    ensures reads { (n : ℕ) × (n ≤ entries_ahead result + result.count) × Reads table.now G.becomes (entries_ahead result) n (seat.old, gate.old) (seat.new, gate.new) }
+    requires places { (m : ℕ) × HasPlaces scan.now.range.now.direction seat.old.known m top.now count }
+    ensures reads { (n : ℕ) × (n ≤ entries_ahead result + result.count) ×
+        Reads scan.now.table.now G.becomes (entries_ahead result) n (seat.old, gate.old) (seat.new, gate.new) }
     ensures some { 0 < entries_ahead result }
     ensures few { entries_ahead result ≤ count }
-    ensures ahead { (m : ℕ) → HasPlaces direction seat.old.known m top.now count → HasSeenAhead direction seat.new.known m top.now leaves.new result }
+    ensures ahead { (m : ℕ) → HasPlaces scan.now.range.now.direction seat.old.known m top.now count →
+        HasSeenAhead scan.now.range.now.direction seat.new.known m top.now leaves.new result }
 {
-    let start = origins.node(top.number);
+    let start = scan.origins.node(top.number);
     let is_touching = touches(count, pairs);
     for index in 0..count {
-        let place = place_ahead(direction, *top, index);
-        match load_entry_from(table, seat, gate, top.number, start, place) {
+        let place = place_ahead(scan.range.direction, *top, index);
+        match load_entry_from(scan.table, seat, gate, top.number, start, place) {
             Entry::Node { number, .. } => {
                 return Ahead {
                     count: index,
@@ -101,7 +101,7 @@ pub(crate) fn look_ahead<G: Gate>(
             }
             Entry::Leaf(number) => {
                 if is_touching {
-                    touch(table, origins, seat, gate, number);
+                    touch(scan.table, scan.origins, seat, gate, number);
                 }
                 leaves[index as usize] = number;
             }

@@ -11,7 +11,7 @@ ghost use Rattle.rowex_reading.specs.Reads.{IsReader, Reads};
 ghost use Rattle.rowex_reading.specs.Seen.{IsAtRoot, IsLedTo, since};
 ghost use Rattle.rowex_reading.specs.Ways.{IsWayOf};
 ghost use Rattle.rowex_reading.specs.declared.descent.Found.TheVariants.{Leaf as FoundLeaf};
-ghost use Rattle.rowex_scanning.specs.Ahead.{AreAhead, AreTaken};
+ghost use Rattle.rowex_scanning.specs.Ahead.{AreAhead, AreTakenOnWays, IsOnSomeWay};
 ghost use Rattle.rowex_scanning.specs.Counts.{Scans, Walks, scan_loads};
 ghost use Rattle.rowex_walks.specs.Directions.{IsEarlier, IsNoLater, last_key};
 ghost use Rattle.rowex_walks.specs.Directions.{first_key as first_key_of, to_come as to_come_of};
@@ -19,7 +19,7 @@ ghost use Rattle.rowex_scanning.specs.Scanning.{HasScanned, HasScannedPart, IsBo
 
 use crate::ahead::{MOST_AHEAD, look_ahead, most_together};
 use crate::direction::{behind, first_gap, gap_after, is_before, is_earlier, place_ahead, to_come};
-use crate::start::start_from;
+use crate::start::{SearchEnd, start_from};
 use arrayvec::ArrayVec;
 use insert_cases::PathNode;
 use key_bits::{Key, MAX_BYTES};
@@ -44,6 +44,17 @@ pub struct Range<'a> {
     pub direction: Direction,
     /// How many pairs the scan gives at most.
     pub limit: usize,
+}
+
+/// What the walk of a scan reads, and what it asks for.
+#[derive(Drop)]
+pub(crate) struct Scan<'a> {
+    /// The table that it reads.
+    pub table: &'a HotTable,
+    /// Where the table's records begin.
+    pub origins: &'a Origins,
+    /// The range of keys.
+    pub range: &'a Range<'a>,
 }
 
 /// What becomes of a scan at a pair.
@@ -93,7 +104,8 @@ pub fn scan_root<G: Gate>(
             if way.len() == 0 {
                 scan_leaf(table, seat, gate, range, number, pairs)
             } else {
-                scan_node(table, seat, gate, way, range, number, mismatch, pairs)
+                let found = SearchEnd { number, mismatch };
+                scan_node(table, seat, gate, way, range, found, pairs)
             }
         }
     }
@@ -150,84 +162,71 @@ fn scan_node<G: Gate>(
     gate: &mut G,
     way: &mut ArrayVec<PathNode, MOST_NODES>,
     range: &Range,
-    number: u32,
-    mismatch: Option<u16>,
+    found: SearchEnd,
     pairs: &mut Pairs,
 ) -> Result<bool, AllocError>
     requires reader { IsReader table.now seat.old }
     requires nodes { 0 < length way.old.items }
-    requires way { (v : ℕ) × IsWayOf table.now.layout seat.old.known (since seat.old.known) (first_key_of range.now.direction (asked_range range.now)) way.old.items (FoundLeaf number v mismatch) }
+    requires way { (v : ℕ) × IsWayOf table.now.layout seat.old.known (since seat.old.known) (first_key_of range.now.direction (asked_range range.now)) way.old.items (FoundLeaf found.number v found.mismatch) }
     requires empty { pairs.old ≡ [] }
     ensures reads { Walks table.now G.becomes (HEAD_WORDS + LEAF_FIELDS) range.now.limit (seat.old, gate.old) (seat.new, gate.new) }
     ensures scanned { IfOk result (HasScanned range.now.direction seat.new.known (asked_range range.now) pairs.new) }
     ensures part { OnErr result (HasScannedPart range.now.direction seat.new.known (asked_range range.now) pairs.new) }
 {
     let direction = range.direction;
-    let start = start_from(
-        table,
-        seat,
-        gate,
-        way,
-        direction,
-        first_key(range),
-        number,
-        mismatch,
-    );
+    let start = start_from(table, seat, gate, way, direction, first_key(range), found);
     let mut top = start.top;
     way.truncate(start.level);
     let origins = table.origins();
+    let scan = Scan {
+        table,
+        origins: &origins,
+        range,
+    };
     let places = &mut [0; MAX_BYTES];
     if start.leaf {
-        match read_leaf(table, &origins, seat, gate, range, number, places, pairs)? {
+        match read_leaf(&scan, seat, gate, found.number, places, pairs)? {
             Verdict::Further => top.at = behind(direction, top.at),
             Verdict::Past => return Ok(false),
             Verdict::Full => return Ok(true),
         }
     }
-    walk(table, &origins, seat, gate, way, range, top, places, pairs)
+    walk(&scan, seat, gate, way, top, places, pairs)
 }
 
 /// The walk over the places of the nodes on the way, in the scan's direction, from a gap of the lowest of them on. It looks at several
 /// places together, so that it doesn't wait for each leaf alone. The bytes of each key go to the same places, whatever stands there.
 #[inline(always)]
 fn walk<G: Gate>(
-    table: &HotTable,
-    origins: &Origins,
+    scan: &Scan,
     seat: &mut TableSeat,
     gate: &mut G,
     way: &mut ArrayVec<PathNode, MOST_NODES>,
-    range: &Range,
     lowest: PathNode,
     places: &mut [u8; MAX_BYTES],
     pairs: &mut Pairs,
 ) -> Result<bool, AllocError>
-    requires reader { IsReader table.now seat.old }
-    requires origins { origins.now.layout ≡ table.now.layout }
-    requires walk { IsWalk range.now.direction seat.old.known (since seat.old.known) (asked_range range.now) lowest way.old.items pairs.old }
-    requires bound { IsBound range.now.direction seat.old.known (since seat.old.known) (first_key_of range.now.direction (asked_range range.now)) lowest way.old.items }
-    ensures reads { Walks table.now G.becomes 0 range.now.limit (seat.old, gate.old) (seat.new, gate.new) }
-    ensures scanned { IfOk result (HasScanned range.now.direction seat.new.known (asked_range range.now) pairs.new) }
-    ensures part { OnErr result (HasScannedPart range.now.direction seat.new.known (asked_range range.now) pairs.new) }
+    requires reader { IsReader scan.now.table.now seat.old }
+    requires origins { scan.now.origins.now.layout ≡ scan.now.table.now.layout }
+    requires walk { IsWalk scan.now.range.now.direction seat.old.known (since seat.old.known) (asked_range scan.now.range.now) lowest way.old.items pairs.old }
+    requires bound { IsBound scan.now.range.now.direction seat.old.known (since seat.old.known) (first_key_of scan.now.range.now.direction (asked_range scan.now.range.now)) lowest way.old.items }
+    ensures reads { Walks scan.now.table.now G.becomes 0 scan.now.range.now.limit (seat.old, gate.old) (seat.new, gate.new) }
+    ensures scanned { IfOk result (HasScanned scan.now.range.now.direction seat.new.known (asked_range scan.now.range.now) pairs.new) }
+    ensures part { OnErr result (HasScannedPart scan.now.range.now.direction seat.new.known (asked_range scan.now.range.now) pairs.new) }
 {
-    let direction = range.direction;
+    let direction = scan.range.direction;
     let mut top = lowest;
-    let leaves = &mut [0; MOST_AHEAD as usize];
+    let mut leaves = [0; MOST_AHEAD as usize];
     loop {
-        let count = to_come(direction, &top).min(most_together(range.limit, pairs));
+        let count = to_come(direction, &top).min(most_together(scan.range.limit, pairs));
         if count > 0 {
-            let ahead = look_ahead(
-                table, origins, seat, gate, direction, &top, count, pairs, leaves,
-            );
+            let ahead = look_ahead(scan, seat, gate, &top, count, pairs, &mut leaves);
             match take_leaves(
-                table,
-                origins,
+                scan,
                 seat,
                 gate,
-                way,
-                range,
                 &mut top,
-                leaves,
-                ahead.count,
+                &leaves[..ahead.count as usize],
                 places,
                 pairs,
             )? {
@@ -238,7 +237,7 @@ fn walk<G: Gate>(
             if let Some(number) = ahead.node {
                 top.at = place_ahead(direction, top, 0);
                 way.push(top);
-                top = enter(table, seat, gate, direction, number);
+                top = enter(scan.table, seat, gate, direction, number);
             }
         } else {
             let Some(above) = way.pop() else {
@@ -250,42 +249,38 @@ fn walk<G: Gate>(
     }
 }
 
-/// Takes the pairs of so many leaves that come next, up to one whose pair doesn't belong to the range or has no room; and goes behind them,
+/// Takes the pairs of the leaves that come next, up to one whose pair doesn't belong to the range or has no room; and goes behind them,
 /// where it has taken all.
 #[inline(always)]
 fn take_leaves<G: Gate>(
-    table: &HotTable,
-    origins: &Origins,
+    scan: &Scan,
     seat: &mut TableSeat,
     gate: &mut G,
-    _way: &ArrayVec<PathNode, MOST_NODES>,
-    range: &Range,
     top: &mut PathNode,
-    leaves: &[u32; MOST_AHEAD as usize],
-    count: u8,
+    leaves: &[u32],
     places: &mut [u8; MAX_BYTES],
     pairs: &mut Pairs,
 ) -> Result<Verdict, AllocError>
-    requires reader { IsReader table.now seat.old }
-    requires origins { origins.now.layout ≡ table.now.layout }
-    requires walk { IsWalk range.now.direction seat.old.known (since seat.old.known) (asked_range range.now) top.old _way.now.items pairs.old }
-    requires bound { IsBound range.now.direction seat.old.known (since seat.old.known) (first_key_of range.now.direction (asked_range range.now)) top.old _way.now.items }
-    requires ahead { AreAhead range.now.direction seat.old.known (since seat.old.known) top.old count leaves.now }
-    requires come { count ≤ to_come_of range.now.direction top.old.count top.old.at }
-    requires most { count ≤ MOST_AHEAD }
-    ensures reads { (n : ℕ) × (n ≤ LEAF_FIELDS * count) × Reads table.now G.becomes 0 n (seat.old, gate.old) (seat.new, gate.new) }
-    ensures taken { IfOk result (AreTaken range.now.direction seat.new.known (since seat.old.known) (asked_range range.now) top.old top.new _way.now.items count pairs.old pairs.new) }
-    ensures part { OnErr result (HasScannedPart range.now.direction seat.new.known (asked_range range.now) pairs.new) }
+    requires reader { IsReader scan.now.table.now seat.old }
+    requires origins { scan.now.origins.now.layout ≡ scan.now.table.now.layout }
+    requires walk { IsOnSomeWay scan.now.range.now.direction seat.old.known (since seat.old.known) (asked_range scan.now.range.now) top.old pairs.old }
+    requires ahead { AreAhead scan.now.range.now.direction seat.old.known (since seat.old.known) top.old (length leaves.now) leaves.now }
+    requires come { length leaves.now ≤ to_come_of scan.now.range.now.direction top.old.count top.old.at }
+    requires most { length leaves.now ≤ MOST_AHEAD }
+    ensures reads { (n : ℕ) × (n ≤ LEAF_FIELDS * length leaves.now) × Reads scan.now.table.now G.becomes 0 n (seat.old, gate.old) (seat.new, gate.new) }
+    ensures taken { IfOk result (AreTakenOnWays scan.now.range.now.direction seat.old.known seat.new.known (since seat.old.known) (asked_range scan.now.range.now)
+        top.old top.new (length leaves.now) pairs.old pairs.new) }
+    ensures part { OnErr result (HasScannedPart scan.now.range.now.direction seat.new.known (asked_range scan.now.range.now) pairs.new) }
 {
-    for index in 0..count {
-        let number = leaves[index as usize];
-        match read_leaf(table, origins, seat, gate, range, number, places, pairs)? {
+    for index in 0..leaves.len() {
+        let number = leaves[index];
+        match read_leaf(scan, seat, gate, number, places, pairs)? {
             Verdict::Further => (),
             Verdict::Past => return Ok(Verdict::Past),
             Verdict::Full => return Ok(Verdict::Full),
         }
     }
-    top.at = gap_after(range.direction, *top, count);
+    top.at = gap_after(scan.range.direction, *top, leaves.len() as u8);
     Ok(Verdict::Further)
 }
 
@@ -310,25 +305,24 @@ fn enter<G: Gate>(
 /// Loads a leaf whose key does not come before the range, to these places, and takes its pair. Inline, as the two that it calls are.
 #[inline(always)]
 fn read_leaf<G: Gate>(
-    table: &HotTable,
-    origins: &Origins,
+    scan: &Scan,
     seat: &mut TableSeat,
     gate: &mut G,
-    range: &Range,
     number: u32,
     places: &mut [u8; MAX_BYTES],
     pairs: &mut Pairs,
 ) -> Result<Verdict, AllocError>
-    requires reader { IsReader table.now seat.old }
-    requires origins { origins.now.layout ≡ table.now.layout }
-    requires leaf { (m : ℕ) × IsLedTo seat.old.known m (LeafEntry number) × IsReached range.now.direction table.now.layout seat.old.known m (first_key_of range.now.direction (asked_range range.now)) number }
-    ensures reads { (n : ℕ) × (n ≤ LEAF_FIELDS) × Reads table.now G.becomes 0 n (seat.old, gate.old) (seat.new, gate.new) }
-    ensures taken { IfOk result (IsLeafTaken range.now.direction seat.old.known seat.new.known (asked_range range.now) number pairs.old pairs.new) }
-    ensures refused { OnErr result (IsLeafRefused seat.old.known seat.new.known (asked_range range.now) number pairs.old pairs.new) }
+    requires reader { IsReader scan.now.table.now seat.old }
+    requires origins { scan.now.origins.now.layout ≡ scan.now.table.now.layout }
+    requires leaf { (m : ℕ) × IsLedTo seat.old.known m (LeafEntry number) ×
+        IsReached scan.now.range.now.direction scan.now.table.now.layout seat.old.known m (first_key_of scan.now.range.now.direction (asked_range scan.now.range.now)) number }
+    ensures reads { (n : ℕ) × (n ≤ LEAF_FIELDS) × Reads scan.now.table.now G.becomes 0 n (seat.old, gate.old) (seat.new, gate.new) }
+    ensures taken { IfOk result (IsLeafTaken scan.now.range.now.direction seat.old.known seat.new.known (asked_range scan.now.range.now) number pairs.old pairs.new) }
+    ensures refused { OnErr result (IsLeafRefused seat.old.known seat.new.known (asked_range scan.now.range.now) number pairs.old pairs.new) }
 {
-    let start = origins.leaf(number);
-    let (length, value) = load_places_from(table, seat, gate, number, start, places);
-    take_pair(pairs, range, places, length, value)
+    let start = scan.origins.leaf(number);
+    let (length, value) = load_places_from(scan.table, seat, gate, number, start, places);
+    take_pair(pairs, scan.range, places, length, value)
 }
 
 /// Takes a pair whose key does not come before the range, if it belongs to the range and there is room for it: the key has the first of

@@ -26,6 +26,15 @@ pub(crate) struct Start {
     pub leaf: bool,
 }
 
+/// The leaf at which a search has ended.
+#[derive(Clone, Copy)]
+pub(crate) struct SearchEnd {
+    /// The number of its record.
+    pub number: u32,
+    /// The position at which its key differs first from the key that was searched for, if there is one.
+    pub mismatch: Option<u16>,
+}
+
 /// Where a scan from a key starts on the way of the key's search, which ended at this leaf. One downwards starts left of the place at
 /// which one upwards does; if the leaf stands there with a key that is not above, it comes first, and the scan goes on left of it.
 pub(crate) fn start_from<G: Gate>(
@@ -35,23 +44,22 @@ pub(crate) fn start_from<G: Gate>(
     way: &[PathNode],
     direction: Direction,
     key: &Key,
-    number: u32,
-    mismatch: Option<u16>,
+    found: SearchEnd,
 ) -> Start
     requires reader { IsReader table.now seat.old }
     requires nodes { 0 < length way.now }
-    requires way { (m v : ℕ) × IsWayOf table.now.layout seat.old.known m key.now way.now (FoundLeaf number v mismatch) }
+    requires way { (m v : ℕ) × IsWayOf table.now.layout seat.old.known m key.now way.now (FoundLeaf found.number v found.mismatch) }
     ensures reads { (n : ℕ) × (n ≤ HEAD_WORDS) × Reads table.now G.becomes 0 n (seat.old, gate.old) (seat.new, gate.new) }
-    ensures start { (m v : ℕ) → IsWayOf table.now.layout seat.old.known m key.now way.now (FoundLeaf number v mismatch) →
-        IsStart direction seat.new.known m key.now way.now number result }
+    ensures start { (m v : ℕ) → IsWayOf table.now.layout seat.old.known m key.now way.now (FoundLeaf found.number v found.mismatch) →
+        IsStart direction seat.new.known m key.now way.now found.number result }
 {
-    let mut start = start_at(table, seat, gate, way, key, number, mismatch);
+    let mut start = start_at(table, seat, gate, way, key, found.number, found.mismatch);
     match direction {
         Direction::Upwards => start,
         Direction::Downwards => {
             let lowest = way[way.len() - 1];
             if start.leaf {
-                start.leaf = mismatch.is_none();
+                start.leaf = found.mismatch.is_none();
             } else if start.level + 1 == way.len() && lowest.at + 1 == start.top.at {
                 start.top.at = lowest.at;
                 start.leaf = true;

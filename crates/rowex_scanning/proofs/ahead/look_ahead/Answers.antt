@@ -15,9 +15,9 @@ use Rattle.rowex_scanning.proofs.ahead.look_ahead.Goals as goal
 use Rattle.rowex_scanning.proofs.ahead.look_ahead.Goals.{After-place_ahead-place, then-is_touching, else-is_touching}
 
 -- the node has an entry at the place
-has_place : (g : given.Over) (c : After-place_ahead-place g) (m : ℕ) → HasPlaces c.args.direction c.args.seat.now.known m c.args.top.now c.args.count →
-    HasPlace c.loop-index.seat.known m c.args.top.now.number c.args.top.now.height (place_ahead c.args.direction c.args.top.now.at c.loop-index.index)
-has_place g c m has = places_later c.args.direction m c.args.top.now (reads_later c.loop-index.invariant.reads.2) c.args.count has c.loop-index.index c.loop-index-test.true
+has_place : (g : given.Over) (c : After-place_ahead-place g) (m : ℕ) → HasPlaces c.args.scan.now.range.now.direction c.args.seat.now.known m c.args.top.now c.args.count →
+    HasPlace c.loop-index.seat.known m c.args.top.now.number c.args.top.now.height (place_ahead c.args.scan.now.range.now.direction c.args.top.now.at c.loop-index.index)
+has_place g c m has = places_later c.args.scan.now.range.now.direction m c.args.top.now (reads_later c.loop-index.invariant.reads.2) c.args.count has c.loop-index.index c.loop-index-test.true
 
 pub loop-index-init : goal.loop-index-init
 loop-index-init g c = record {
@@ -34,7 +34,7 @@ load_entry_from-requires-clause-place g c =
 pub load_entry_from-requires-clause-start : goal.load_entry_from-requires-clause-start
 load_entry_from-requires-clause-start g c =
     let (m, has) = c.requires.places in let top = c.args.top.now in
-    node_begins c.args.table.now.layout c.args.origins.now.layout c.args.seat.now.known m top.number top.height (place_ahead c.args.direction top.at 0) c.node-start.result c.requires.reader.1 (has 0 c.requires.some) c.requires.origins
+    node_begins c.args.scan.now.table.now.layout c.args.scan.now.origins.now.layout c.args.seat.now.known m top.number top.height (place_ahead c.args.scan.now.range.now.direction top.at 0) c.node-start.result c.requires.reader.1 (has 0 c.requires.some) c.requires.origins
     c.node-start.ensures
 
 pub returns-in-Node-clause-reads : goal.returns-in-Node-clause-reads
@@ -42,7 +42,7 @@ returns-in-Node-clause-reads g c = let (n, few, reads) = c.loop-index.invariant.
 
 pub returns-in-Node-clause-ahead : goal.returns-in-Node-clause-ahead
 returns-in-Node-clause-ahead g c = λ m has.
-    let d = c.args.direction in let top = c.args.top.now in let later = reads_later c.load_entry_from.ensures.reads in
+    let d = c.args.scan.now.range.now.direction in let top = c.args.top.now in let later = reads_later c.load_entry_from.ensures.reads in
     let place = has_place g (goal.at.returns-in-Node-clause-ahead g c).After-place_ahead-place m has in
     let (lower, placed) = loaded_at d m top c.loop-index.index c.place_ahead-place.result (Node c.in-Node.number c.in-Node.height) c.place_ahead-place.ensures place c.in-Node.ensures.entry in
     record { first = ahead_later d m top later c.loop-index.index c.loop-index.leaves (c.loop-index.invariant.ahead m has); node = (c.in-Node.height, lower, placed) }
@@ -52,15 +52,15 @@ touch-requires-clause-reader g c = reader_then c.loop-index.invariant.reader c.l
 
 pub touch-requires-clause-led : goal.touch-requires-clause-led
 touch-requires-clause-led g c =
-    let d = c.args.direction in let top = c.args.top.now in let (m, has) = c.requires.places in
+    let d = c.args.scan.now.range.now.direction in let top = c.args.top.now in let (m, has) = c.requires.places in
     let place = has_place g (goal.at.touch-requires-clause-led g c).After-place_ahead-place m has in
     let placed = (loaded_at d m top c.loop-index.index c.place_ahead-place.result (Leaf c.in-Leaf.number) c.place_ahead-place.ensures place c.in-Leaf.ensures.entry).1 in
     (m, placed_led top.number (place_ahead d top.at c.loop-index.index) (Leaf c.in-Leaf.number) (since_later (reads_later c.load_entry_from.ensures.reads) place.0.0) placed)
 
 pub loop-index-preserved : goal.loop-index-preserved
 loop-index-preserved g c =
-    let i = c.loop-index.invariant in let (n, few, before) = i.reads in let d = c.args.direction in let top = c.args.top.now in let loaded = c.load_entry_from.ensures.reads in
-    let (t, once, touched) : (t : ℕ) × (t ≤ 1) × Reads c.args.table.now g.G.Gate.becomes 0 t (c.load_entry_from.new.seat, c.load_entry_from.new.gate) (c.if-is_touching.seat, c.if-is_touching.gate) = elim c.if-is_touching.branch [
+    let i = c.loop-index.invariant in let (n, few, before) = i.reads in let d = c.args.scan.now.range.now.direction in let top = c.args.top.now in let loaded = c.load_entry_from.ensures.reads in
+    let (t, once, touched) : (t : ℕ) × (t ≤ 1) × Reads c.args.scan.now.table.now g.G.Gate.becomes 0 t (c.load_entry_from.new.seat, c.load_entry_from.new.gate) (c.if-is_touching.seat, c.if-is_touching.gate) = elim c.if-is_touching.branch [
       | then-is_touching w ↦ rw (w.seat-is, w.gate-is) (1, omega arith, w.touch.ensures.reads)
       | else-is_touching w ↦ rw (w.seat-is, w.gate-is) (0, omega arith, reads_none (c.load_entry_from.new.seat, c.load_entry_from.new.gate))
     ] in

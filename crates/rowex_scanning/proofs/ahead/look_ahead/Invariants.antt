@@ -7,8 +7,8 @@ use Rattle.rowex_scanning.proofs.ahead.look_ahead.Given as goal
 
 abbrev pub invariant-loop-index : goal.invariant-loop-index
 invariant-loop-index g l = record {
-  reader : IsReader l.table l.seat;
-  reads : (n : ℕ) × (n ≤ 2 * l.index) × Reads l.table g.G.Gate.becomes l.index n (l.fn.seat, l.fn.gate) (l.seat, l.gate);
+  reader : IsReader l.scan.table.now l.seat;
+  reads : (n : ℕ) × (n ≤ 2 * l.index) × Reads l.scan.table.now g.G.Gate.becomes l.index n (l.fn.seat, l.fn.gate) (l.seat, l.gate);
   long : length l.leaves ≡ MOST_AHEAD;
-  ahead : (m : ℕ) → HasPlaces l.direction l.fn.seat.known m l.top l.count → AreAhead l.direction l.seat.known m l.top l.index l.leaves;
+  ahead : (m : ℕ) → HasPlaces l.scan.range.now.direction l.fn.seat.known m l.top l.count → AreAhead l.scan.range.now.direction l.seat.known m l.top l.index l.leaves;
 }

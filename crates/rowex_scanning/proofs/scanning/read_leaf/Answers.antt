@@ -12,7 +12,7 @@ load_places_from-length-requires-clause-led g c = (c.requires.leaf.0, c.requires
 
 pub load_places_from-length-requires-clause-start : goal.load_places_from-length-requires-clause-start
 load_places_from-length-requires-clause-start g c =
-    leaf_begins c.args.table.now.layout c.args.origins.now.layout c.args.seat.now.known c.requires.leaf.0 c.args.number c.leaf-start.result c.requires.reader.1 c.requires.leaf.1 c.requires.origins c.leaf-start.ensures
+    leaf_begins c.args.scan.now.table.now.layout c.args.scan.now.origins.now.layout c.args.seat.now.known c.requires.leaf.0 c.args.number c.leaf-start.result c.requires.reader.1 c.requires.leaf.1 c.requires.origins c.leaf-start.ensures
 
 pub take_pair-requires : goal.take_pair-requires
 take_pair-requires g c =
@@ -25,14 +25,14 @@ returns-clause-reads g c = let e = c.load_places_from-length.ensures in (leaf_lo
 pub returns-clause-taken : goal.returns-clause-taken
 returns-clause-taken g c =
     let key = take c.load_places_from-length.result.0 c.load_places_from-length.new.places in let value = c.load_places_from-length.result.1 in
-    IfOk-weaker c.take_pair.result (IsPairTaken c.args.range.now.direction (asked_range c.args.range.now) c.args.pairs.now key value c.take_pair.new.pairs)
-    (IsLeafTaken c.args.range.now.direction c.args.seat.now.known c.load_places_from-length.new.seat.known (asked_range c.args.range.now) c.args.number c.args.pairs.now c.take_pair.new.pairs)
+    IfOk-weaker c.take_pair.result (IsPairTaken c.args.scan.now.range.now.direction (asked_range c.args.scan.now.range.now) c.args.pairs.now key value c.take_pair.new.pairs)
+    (IsLeafTaken c.args.scan.now.range.now.direction c.args.seat.now.known c.load_places_from-length.new.seat.known (asked_range c.args.scan.now.range.now) c.args.number c.args.pairs.now c.take_pair.new.pairs)
     (λ verdict taken. record { key = key; value = value; read = c.load_places_from-length.ensures.leaf; taken = taken }) c.take_pair.ensures.taken
 
 pub returns-clause-refused : goal.returns-clause-refused
 returns-clause-refused g c =
     let key = take c.load_places_from-length.result.0 c.load_places_from-length.new.places in
-    let of_leaf : IsPairRefused (asked_range c.args.range.now) c.args.pairs.now key c.take_pair.new.pairs →
-    IsLeafRefused c.args.seat.now.known c.load_places_from-length.new.seat.known (asked_range c.args.range.now) c.args.number c.args.pairs.now c.take_pair.new.pairs =
+    let of_leaf : IsPairRefused (asked_range c.args.scan.now.range.now) c.args.pairs.now key c.take_pair.new.pairs →
+    IsLeafRefused c.args.seat.now.known c.load_places_from-length.new.seat.known (asked_range c.args.scan.now.range.now) c.args.number c.args.pairs.now c.take_pair.new.pairs =
     λ refused. record { key = key; value = c.load_places_from-length.result.1; read = c.load_places_from-length.ensures.leaf; refused = refused } in
     on_err_weaker c.take_pair.result of_leaf c.take_pair.ensures.refused

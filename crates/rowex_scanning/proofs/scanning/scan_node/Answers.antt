@@ -16,12 +16,12 @@ use Rattle.rowex_scanning.proofs.scanning.scan_node.Goals.{After-read_leaf, Afte
 
 -- where the scan begins
 begins : (g : given.Over) (c : After-truncate g) →
-    HasBegun c.args.range.now.direction c.args.table.now.layout c.start_from-start.new.seat.known (since c.args.seat.now.known) (asked_range c.args.range.now) c.args.number c.start_from-start.result c.truncate.new.self.items c.args.pairs.now
+    HasBegun c.args.range.now.direction c.args.table.now.layout c.start_from-start.new.seat.known (since c.args.seat.now.known) (asked_range c.args.range.now) c.args.found.number c.start_from-start.result c.truncate.new.self.items c.args.pairs.now
 begins g c = begun (asked_range c.args.range.now) c.first_key.ensures c.requires.way.1 c.deref.ensures.0 c.start_from-start.ensures.start c.truncate.ensures.items c.requires.empty
 
 -- the leaf that comes first; and since the search the root was not loaded
 first : (g : given.Over) (c : After-read_leaf g) →
-    IsAtEntry c.args.range.now.direction c.start_from-start.new.seat.known (since c.args.seat.now.known) (asked_range c.args.range.now) c.start_from-start.result.top c.truncate.new.self.items c.args.pairs.now (Leaf c.args.number) ×
+    IsAtEntry c.args.range.now.direction c.start_from-start.new.seat.known (since c.args.seat.now.known) (asked_range c.args.range.now) c.start_from-start.result.top c.truncate.new.self.items c.args.pairs.now (Leaf c.args.found.number) ×
     (since c.read_leaf.new.seat.known ≡ since c.args.seat.now.known)
 first g c = (
   (begun (asked_range c.args.range.now) c.first_key.ensures c.requires.way.1 c.deref.ensures.0 c.start_from-start.ensures.start c.truncate.ensures.items c.requires.empty).entry c.if-start.true,

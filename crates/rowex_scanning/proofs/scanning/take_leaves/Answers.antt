@@ -1,5 +1,5 @@
 -- No leaf, and one more.
-use Rattle.std.proofs.Common.{◌≡◌, ℕ, ◌+◌, ◌*◌, ◌≤◌, ap, arith, get_or, subst}
+use Rattle.std.proofs.Common.{◌≡◌, ℕ, ◌+◌, ◌*◌, ◌≤◌, List, ap, arith, length, get_or, subst}
 use Rattle.std.proofs.lemmas.Result.{err_from_is_err_and}
 use Rattle.compound_node.specs.declared.entries.Entry.TheVariants.{Leaf}
 use Rattle.record_words.specs.declared.TheConstants.{LEAF_FIELDS}
@@ -7,7 +7,7 @@ use Rattle.insert_cases.specs.declared.choice.PathNode.{PathNode}
 use Rattle.rowex_reading.specs.Reads.{Reads}
 use Rattle.rowex_reading.specs.Seen.{since}
 use Rattle.rowex_reading.proofs.Led.{reader_then, reads_later, reads_none, reads_trans, same_since}
-use Rattle.rowex_scanning.specs.Ahead.{HavePassed}
+use Rattle.rowex_scanning.specs.Ahead.{IsBoundWalk, HavePassed}
 use Rattle.rowex_walks.specs.Directions.{place_ahead}
 use Rattle.rowex_scanning.specs.Scanning.{asked_range}
 use Rattle.rowex_scanning.proofs.Parts.{walk_part}
@@ -18,18 +18,20 @@ use Rattle.rowex_scanning.proofs.scanning.take_leaves.Goals as goal
 use Rattle.rowex_scanning.proofs.scanning.take_leaves.Goals.{After-read_leaf}
 
 -- The walk is at the leaf that was read.
-leaf : (g : given.Over) (c : After-read_leaf g) →
-    IsAtEntry c.args.range.now.direction c.loop-index.seat.known (since c.args.seat.now.known) (asked_range c.args.range.now) (record c.args.top.now { at = place_ahead c.args.range.now.direction c.args.top.now.at c.loop-index.index })
-    c.args._way.now.items c.loop-index.pairs (Leaf (get_or c.args.leaves.now c.loop-index.index 0))
-leaf g c =
-    let i = c.loop-index.invariant in leaf_at (walk_fits c.requires.walk) (let come = c.requires.come in omega (arith, come, c.loop-index-test.true)) i.passed (i.ahead c.loop-index.index c.loop-index-test.true)
+leaf : (g : given.Over) (c : After-read_leaf g) (frames : List PathNode) →
+    IsBoundWalk c.args.scan.now.range.now.direction c.args.seat.now.known (since c.args.seat.now.known) (asked_range c.args.scan.now.range.now) c.args.top.now frames c.args.pairs.now →
+    IsAtEntry c.args.scan.now.range.now.direction c.loop-index.seat.known (since c.args.seat.now.known) (asked_range c.args.scan.now.range.now)
+    (record c.args.top.now { at = place_ahead c.args.scan.now.range.now.direction c.args.top.now.at c.loop-index.index })
+    frames c.loop-index.pairs (Leaf (get_or c.args.leaves.now c.loop-index.index 0))
+leaf g c frames w =
+    let i = c.loop-index.invariant in leaf_at (walk_fits w.0) (let come = c.requires.come in omega (arith, come, c.loop-index-test.true)) (i.passed frames w) (i.ahead c.loop-index.index c.loop-index-test.true)
 
 -- So many loads were made; and the root has not been loaded again.
-loads : (g : given.Over) (c : After-read_leaf g) → (n : ℕ) × (n ≤ LEAF_FIELDS * (c.loop-index.index + 1)) × Reads c.args.table.now g.G.Gate.becomes 0 n (c.args.seat.now, c.args.gate.now) (c.read_leaf.new.seat, c.read_leaf.new.gate)
+loads : (g : given.Over) (c : After-read_leaf g) → (n : ℕ) × (n ≤ LEAF_FIELDS * (c.loop-index.index + 1)) × Reads c.args.scan.now.table.now g.G.Gate.becomes 0 n (c.args.seat.now, c.args.gate.now) (c.read_leaf.new.seat, c.read_leaf.new.gate)
 loads g c = let (n, few, before) = c.loop-index.invariant.reads in let (m, less, read) = c.read_leaf.ensures.reads in (n + m, omega (arith, few, less), reads_trans before read)
 
 -- which is no more than for all leaves
-ended : (g : given.Over) (c : After-read_leaf g) → (n : ℕ) × (n ≤ LEAF_FIELDS * c.args.count) × Reads c.args.table.now g.G.Gate.becomes 0 n (c.args.seat.now, c.args.gate.now) (c.read_leaf.new.seat, c.read_leaf.new.gate)
+ended : (g : given.Over) (c : After-read_leaf g) → (n : ℕ) × (n ≤ LEAF_FIELDS * length c.args.leaves.now) × Reads c.args.scan.now.table.now g.G.Gate.becomes 0 n (c.args.seat.now, c.args.gate.now) (c.read_leaf.new.seat, c.read_leaf.new.gate)
 ended g c = let (n, few, reads) = loads g c in (n, omega (arith, few, c.loop-index-test.true), reads)
 
 same : (g : given.Over) (c : After-read_leaf g) → since c.read_leaf.new.seat.known ≡ since c.args.seat.now.known
@@ -40,7 +42,7 @@ loop-index-init g c = record {
   reader = c.requires.reader;
   reads = (0, omega arith, reads_none (c.args.seat.now, c.args.gate.now));
   ahead = c.requires.ahead;
-  passed = passed_none c.requires.walk c.requires.bound;
+  passed = λ frames w. passed_none w.0 w.1;
 }
 
 pub read_leaf-requires-clause-reader : goal.read_leaf-requires-clause-reader
@@ -51,9 +53,9 @@ read_leaf-requires-clause-origins g c = c.requires.origins
 
 pub read_leaf-requires-clause-leaf : goal.read_leaf-requires-clause-leaf
 read_leaf-requires-clause-leaf g c =
-    let i = c.loop-index.invariant in
+    let i = c.loop-index.invariant in let (frames, w) = c.requires.walk in
     let (led, reached) =
-    leaf_reached (walk_fits c.requires.walk) (let come = c.requires.come in omega (arith, come, c.loop-index-test.true)) i.passed (i.ahead c.loop-index.index c.loop-index-test.true) c.args.table.now.layout in
+    leaf_reached (walk_fits w.0) (let come = c.requires.come in omega (arith, come, c.loop-index-test.true)) (i.passed frames w) (i.ahead c.loop-index.index c.loop-index-test.true) c.args.scan.now.table.now.layout in
     (since c.args.seat.now.known, led, reached)
 
 pub returns-in_err-read_leaf-clause-reads : goal.returns-in_err-read_leaf-clause-reads
@@ -64,9 +66,9 @@ returns-in_err-read_leaf-clause-taken g c = rw (err_from_is_err_and c.from_resid
 
 pub returns-in_err-read_leaf-clause-part : goal.returns-in_err-read_leaf-clause-part
 returns-in_err-read_leaf-clause-part g c =
-    let at = (goal.at.returns-in_err-read_leaf-clause-part g c).After-read_leaf in let i = c.loop-index.invariant in
+    let at = (goal.at.returns-in_err-read_leaf-clause-part g c).After-read_leaf in let i = c.loop-index.invariant in let (frames, w) = c.requires.walk in
     rw (err_from_is_err_and c.from_residual.result c.from_residual.ensures.1).1
-    (walk_part (reads_later c.read_leaf.ensures.reads.2) c.in_err-read_leaf.ensures.refused (walk_short i.passed.walk i.reader.1) (same g at) (leaf g at))
+    (walk_part (reads_later c.read_leaf.ensures.reads.2) c.in_err-read_leaf.ensures.refused (walk_short (i.passed frames w).walk i.reader.1) (same g at) (leaf g at frames w))
 
 pub returns-in-Past-clause-reads : goal.returns-in-Past-clause-reads
 returns-in-Past-clause-reads g c = ended g (goal.at.returns-in-Past-clause-reads g c).After-read_leaf
@@ -75,8 +77,8 @@ pub returns-in-Past-clause-part : goal.returns-in-Past-clause-part
 returns-in-Past-clause-part g c = tt
 
 pub returns-in-Past-clause-taken : goal.returns-in-Past-clause-taken
-returns-in-Past-clause-taken g c =
-    let at = (goal.at.returns-in-Past-clause-taken g c).After-read_leaf in walk_past (leaf g at) (reads_later c.read_leaf.ensures.reads.2) c.in_ok-read_leaf.ensures.taken (same g at) c.in-Past.is
+returns-in-Past-clause-taken g c = λ frames w.
+    let at = (goal.at.returns-in-Past-clause-taken g c).After-read_leaf in walk_past (leaf g at frames w) (reads_later c.read_leaf.ensures.reads.2) c.in_ok-read_leaf.ensures.taken (same g at) c.in-Past.is
 
 pub returns-in-Full-clause-reads : goal.returns-in-Full-clause-reads
 returns-in-Full-clause-reads g c = ended g (goal.at.returns-in-Full-clause-reads g c).After-read_leaf
@@ -85,23 +87,23 @@ pub returns-in-Full-clause-part : goal.returns-in-Full-clause-part
 returns-in-Full-clause-part g c = tt
 
 pub returns-in-Full-clause-taken : goal.returns-in-Full-clause-taken
-returns-in-Full-clause-taken g c =
-    let at = (goal.at.returns-in-Full-clause-taken g c).After-read_leaf in walk_full (leaf g at) (reads_later c.read_leaf.ensures.reads.2) c.in_ok-read_leaf.ensures.taken (same g at) c.in-Full.is
+returns-in-Full-clause-taken g c = λ frames w.
+    let at = (goal.at.returns-in-Full-clause-taken g c).After-read_leaf in walk_full (leaf g at frames w) (reads_later c.read_leaf.ensures.reads.2) c.in_ok-read_leaf.ensures.taken (same g at) c.in-Full.is
 
 pub loop-index-preserved : goal.loop-index-preserved
 loop-index-preserved g c =
-    let i = c.loop-index.invariant in let d = c.args.range.now.direction in let m = since c.args.seat.now.known in let read = c.read_leaf.ensures.reads.2 in
+    let i = c.loop-index.invariant in let d = c.args.scan.now.range.now.direction in let m = since c.args.seat.now.known in let read = c.read_leaf.ensures.reads.2 in
     record {
       reader = reader_then i.reader read;
       reads = loads g (goal.at.loop-index-preserved g c).After-read_leaf;
-      ahead = ahead_later d m c.args.top.now (reads_later read) c.args.count c.args.leaves.now i.ahead;
-      passed = passed_more (walk_fits c.requires.walk) (let come = c.requires.come in omega (arith, come, c.loop-index-test.true)) i.passed (i.ahead c.loop-index.index c.loop-index-test.true) (reads_later read)
+      ahead = ahead_later d m c.args.top.now (reads_later read) (length c.args.leaves.now) c.args.leaves.now i.ahead;
+      passed = λ frames w. passed_more (walk_fits w.0) (let come = c.requires.come in omega (arith, come, c.loop-index-test.true)) (i.passed frames w) (i.ahead c.loop-index.index c.loop-index-test.true) (reads_later read)
           c.in_ok-read_leaf.ensures.taken c.in-Further.is;
     }
 
 -- Behind the last one, it has passed all of them.
 pub gap_after-top-requires-clause-fits : goal.gap_after-top-requires-clause-fits
-gap_after-top-requires-clause-fits g c = walk_fits c.requires.walk
+gap_after-top-requires-clause-fits g c = walk_fits c.requires.walk.1.0
 
 pub gap_after-top-requires-clause-come : goal.gap_after-top-requires-clause-come
 gap_after-top-requires-clause-come g c = c.requires.come
@@ -110,10 +112,10 @@ pub returns-clause-reads : goal.returns-clause-reads
 returns-clause-reads g c = let (n, few, reads) = c.loop-index.invariant.reads in (n, omega (arith, few, c.loop-index.auto.index-end), reads)
 
 pub returns-clause-taken : goal.returns-clause-taken
-returns-clause-taken g c = (
+returns-clause-taken g c = λ frames w. (
   ap (λ z. let x : PathNode = record c.args.top.now { at = z } in x) c.gap_after-top.ensures,
-  subst (λ z. HavePassed c.args.range.now.direction c.loop-index.seat.known (since c.args.seat.now.known) (asked_range c.args.range.now) c.args.top.now c.args._way.now.items z c.args.pairs.now c.loop-index.pairs)
-      (omega (arith, c.loop-index-test.false, c.loop-index.auto.index-end)) c.loop-index.invariant.passed,
+  subst (λ z. HavePassed c.args.scan.now.range.now.direction c.loop-index.seat.known (since c.args.seat.now.known) (asked_range c.args.scan.now.range.now) c.args.top.now frames z c.args.pairs.now c.loop-index.pairs)
+      (omega (arith, c.loop-index-test.false, c.loop-index.auto.index-end)) (c.loop-index.invariant.passed frames w),
 )
 
 pub returns-clause-part : goal.returns-clause-part

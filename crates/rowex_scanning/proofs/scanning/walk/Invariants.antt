@@ -9,11 +9,11 @@ use Rattle.rowex_scanning.proofs.scanning.walk.Given as goal
 
 abbrev pub invariant-loop-seat : goal.invariant-loop-seat
 invariant-loop-seat g l = record {
-  reader : IsReader l.table l.seat;
-  reads : (loads entries : ℕ) × IsPaid l.range.direction loads entries (length l.pairs) l.top l.way.items × Reads l.table g.G.Gate.becomes entries loads (l.fn.seat, l.fn.gate) (l.seat, l.gate);
-  walk : IsWalk l.range.direction l.seat.known (since l.fn.seat.known) (asked_range l.range) l.top l.way.items l.pairs;
-  bound : IsBound l.range.direction l.seat.known (since l.fn.seat.known) (first_key l.range.direction (asked_range l.range)) l.top l.way.items;
+  reader : IsReader l.scan.table.now l.seat;
+  reads : (loads entries : ℕ) × IsPaid l.scan.range.now.direction loads entries (length l.pairs) l.top l.way.items × Reads l.scan.table.now g.G.Gate.becomes entries loads (l.fn.seat, l.fn.gate) (l.seat, l.gate);
+  walk : IsWalk l.scan.range.now.direction l.seat.known (since l.fn.seat.known) (asked_range l.scan.range.now) l.top l.way.items l.pairs;
+  bound : IsBound l.scan.range.now.direction l.seat.known (since l.fn.seat.known) (first_key l.scan.range.now.direction (asked_range l.scan.range.now)) l.top l.way.items;
 }
 
 abbrev pub decreases-loop-seat : goal.decreases-loop-seat
-decreases-loop-seat g l = rest_of l.range.direction l.top l.way.items
+decreases-loop-seat g l = rest_of l.scan.range.now.direction l.top l.way.items

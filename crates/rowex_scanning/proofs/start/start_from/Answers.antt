@@ -36,23 +36,23 @@ returns-then-start-clause-start g c = λ m v w. rw c.in-Downwards.is (
     let some = c.requires.nodes in let r = c.start_at-start.ensures.reads.2 in let s = c.start_at-start.ensures.start m v w in
     let there = slice_get-get_or c.args.way.now (length c.args.way.now - 1) (record { number = 0; height = 0; first_position = 0; count = 0; at = 0 }) (omega (arith, some)) in
     let possible = (reader_then c.requires.reader r).1 in
-    elim c.args.mismatch as (λ (z : Option ℕ). c.args.mismatch ≡ z → IsStart Downwards c.start_at-start.new.seat.known m c.args.key.now c.args.way.now c.args.number (record { level = c.start_at-start.result.level; top = c.start_at-start.result.top; leaf = c.is_none.result })) [
-      | None ↦ λ none. turns_same c.args.table.now.layout c.args.seat.now.known c.start_at-start.new.seat.known m c.args.key.now c.args.way.now c.args.number v c.args.mismatch w (reads_later r) possible c.start_at-start.result s _ there c.if-start.true none c.is_none.result (is_true c.is_none.result (subst (λ (z : Option ℕ). is_some z ≡ not c.is_none.result) none c.is_none.ensures))
-      | Some d ↦ λ is. turns_before c.args.table.now.layout c.args.seat.now.known c.start_at-start.new.seat.known m c.args.key.now c.args.way.now c.args.number v c.args.mismatch w (reads_later r) possible c.start_at-start.result s _ there c.if-start.true d is c.is_none.result (is_false c.is_none.result (subst (λ (z : Option ℕ). is_some z ≡ not c.is_none.result) is c.is_none.ensures))
+    elim c.args.found.mismatch as (λ (z : Option ℕ). c.args.found.mismatch ≡ z → IsStart Downwards c.start_at-start.new.seat.known m c.args.key.now c.args.way.now c.args.found.number (record { level = c.start_at-start.result.level; top = c.start_at-start.result.top; leaf = c.is_none.result })) [
+      | None ↦ λ none. turns_same c.args.table.now.layout c.args.seat.now.known c.start_at-start.new.seat.known m c.args.key.now c.args.way.now c.args.found.number v c.args.found.mismatch w (reads_later r) possible c.start_at-start.result s _ there c.if-start.true none c.is_none.result (is_true c.is_none.result (subst (λ (z : Option ℕ). is_some z ≡ not c.is_none.result) none c.is_none.ensures))
+      | Some d ↦ λ is. turns_before c.args.table.now.layout c.args.seat.now.known c.start_at-start.new.seat.known m c.args.key.now c.args.way.now c.args.found.number v c.args.found.mismatch w (reads_later r) possible c.start_at-start.result s _ there c.if-start.true d is c.is_none.result (is_false c.is_none.result (subst (λ (z : Option ℕ). is_some z ≡ not c.is_none.result) is c.is_none.ensures))
     ] refl)
 
 pub returns-then-lowest-start-clause-start : goal.returns-then-lowest-start-clause-start
 returns-then-lowest-start-clause-start g c = λ m v w. rw c.in-Downwards.is (
     let some = c.requires.nodes in let r = c.start_at-start.ensures.reads.2 in let s = c.start_at-start.ensures.start m v w in
     let there = slice_get-get_or c.args.way.now (length c.args.way.now - 1) _ (omega (arith, some)) in
-    turns_behind c.args.table.now.layout c.args.seat.now.known c.start_at-start.new.seat.known m c.args.key.now c.args.way.now c.args.number v c.args.mismatch w (reads_later r) (reader_then c.requires.reader r).1 c.start_at-start.result s _ there
+    turns_behind c.args.table.now.layout c.args.seat.now.known c.start_at-start.new.seat.known m c.args.key.now c.args.way.now c.args.found.number v c.args.found.mismatch w (reads_later r) (reader_then c.requires.reader r).1 c.start_at-start.result s _ there
     c.if-start.false c.if-start-way.true c.if-lowest-start.true _ refl true refl)
 
 pub returns-else-start-way-clause-start : goal.returns-else-start-way-clause-start
 returns-else-start-way-clause-start g c = λ m v w. rw c.in-Downwards.is (
     let some = c.requires.nodes in let r = c.start_at-start.ensures.reads.2 in let s = c.start_at-start.ensures.start m v w in
     let there = slice_get-get_or c.args.way.now (length c.args.way.now - 1) _ (omega (arith, some)) in
-    turns_there c.args.table.now.layout c.args.seat.now.known c.start_at-start.new.seat.known m c.args.key.now c.args.way.now c.args.number v c.args.mismatch w (reads_later r) (reader_then c.requires.reader r).1 c.start_at-start.result s _ there
+    turns_there c.args.table.now.layout c.args.seat.now.known c.start_at-start.new.seat.known m c.args.key.now c.args.way.now c.args.found.number v c.args.found.mismatch w (reads_later r) (reader_then c.requires.reader r).1 c.start_at-start.result s _ there
     c.if-start.false
     (elim c.else-start-way.branch [
       | else-start-way-via-then-start-way+else-lowest-start w ↦ λ last next. w.if-lowest-start.false next
