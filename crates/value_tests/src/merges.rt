@@ -1,7 +1,10 @@
-//! Nodes that become one, by value: the place beside one, and two nodes under a fork.
+//! Nodes that become one, by value: the place beside one, two nodes under a fork, and one entry in place of the fork.
+
+ghost use Rattle.std.specs.Prelude.{◌≡◌};
 
 use crate::nodes::{comb, expect_node, three};
 use compound_node::{Entry, Node};
+use record_words::{FIRST_ROWS, NODE_FIELDS, close_fork, pack_node, position_of, row_of};
 use std::process::Abort;
 
 /// A node of two entries below a third one at position 4: the two part at position 6, and the third is the last or the first.
@@ -18,7 +21,9 @@ fn upper(rt: &impl Abort, rows: [u32; 3]) -> Node {
 }
 
 /// An entry for a node of height 1.
-fn child(number: u32) -> Entry {
+fn child(number: u32) -> Entry
+    ensures { result ≡ Entry.Node number 1 }
+{
     Entry::Node { number, height: 1 }
 }
 
@@ -108,4 +113,59 @@ fn two_nodes_become_a_full_one(rt: HostRuntime) {
     ] {
         assert!(rt; node.sparse(at) == row, "{at}");
     }
+}
+
+/// The words of a node of height 2 in which child 20 has taken the place of the entry at `at` and of the one beside it; or that child, if
+/// the node has no others.
+fn closed(rt: &impl Abort, node: &Node, at: u8) -> (Option<Entry>, [u64; NODE_FIELDS]) {
+    let (count, height) = (node.count(), node.height());
+    if at >= count {
+        panic!(rt; "no entry");
+    }
+    if height != 2 {
+        panic!(rt; "of another height");
+    }
+    let Some((place, _)) = node.beside(at) else {
+        panic!(rt; "none beside");
+    };
+    let mut words = pack_node(node);
+    let left = close_fork(&mut words, at, place, child(20));
+    (left, words)
+}
+
+#[test]
+fn one_entry_takes_the_place_of_two(rt: HostRuntime) {
+    let last = upper(&rt, [0, 0x4000_0000, 0x8000_0000]);
+    let want = pack_node(&Node::pair(4, child(20), Entry::Leaf(12)));
+    assert!(rt; want[0] == 131_330 && want[1] == 0xffff_ffff_ffff_0004 && want[9] == 1 << 63);
+    for at in 0..2 {
+        let (left, words) = closed(&rt, &last, at);
+        assert!(rt; left.is_none() && words == want, "{at}");
+    }
+    let first = upper(&rt, [0, 0x8000_0000, 0xc000_0000]);
+    let want = pack_node(&Node::pair(4, child(10), child(20)));
+    for at in 1..3 {
+        let (left, words) = closed(&rt, &first, at);
+        assert!(rt; left.is_none() && words == want, "{at}");
+    }
+    let two = Node::pair(4, child(10), child(11));
+    for at in 0..2 {
+        let (left, _) = closed(&rt, &two, at);
+        assert!(rt; left == Some(child(20)), "{at}");
+    }
+}
+
+#[test]
+fn numbers_are_read_of_their_words(rt: HostRuntime) {
+    let words = pack_node(&comb(&rt, &POSITIONS));
+    for at in 0..32u8 {
+        let row = row_of(words[FIRST_ROWS + at as usize / 2], at);
+        assert!(rt; row == !(u32::MAX >> at), "{at}");
+    }
+    for column in 0..31u8 {
+        let position = position_of(words[1 + column as usize / 4], column);
+        assert!(rt; position == u16::from(column), "{column}");
+    }
+    assert!(rt; row_of(0xc000_0000_8000_0000, 7) == 0xc000_0000);
+    assert!(rt; position_of(0xffff_0008_0006_0004, 9) == 6);
 }
