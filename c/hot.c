@@ -590,7 +590,7 @@ hot_status hot_stamp(hot_handle *handle, hot_moment *moment) {
 
 hot_status hot_follow(hot_handle *handle, const hot_moment *moment) {
     hot_index *index = index_of(handle);
-    hot_status status = moment->index == NULL ? HOT_OTHER_INDEX : is_handle_of(moment->index, handle);
+    hot_status status = is_handle_of(moment->index, handle);
     if (status != HOT_DONE)
         return status;
     begin_telling(index);
