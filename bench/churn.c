@@ -5,7 +5,7 @@
 #include "keys.h"
 #include <pthread.h>
 
-enum { LOOK_UPS = 400000, MOST_THREADS = 16, MOST_TIMES = 100 };
+enum { LOOK_UPS = 400000, ROUNDS = 9, MOST_THREADS = 16, MOST_TIMES = 100 };
 
 /* What keys are like, how long they are at most, and whether the oldest go first: else they go by chance. */
 static const struct form {
@@ -156,32 +156,45 @@ static uint64_t close_all(struct part *parts, int threads)
     return refused;
 }
 
-/* The nodes of a fresh index with the keys of a part, and the time of look-ups there, if that is asked for. */
-static uint32_t fresh_nodes(const struct part *part, double *time)
+/* A fresh index with the keys of a part. */
+static struct part fresh_index(const struct part *part)
 {
     struct part fresh = *part;
     hot_stock stock;
     uint64_t place;
-    uint32_t nodes;
     fresh.handle = (hot_handle)HOT_HANDLE;
     hot_stock_for_keys((uint32_t)part->count, part->form->longest, &stock);
     must(hot_create_with(&stock, &fresh.handle, 1), HOT_DONE);
     for (place = 0; place < part->count; place++) {
         insert(&fresh, part->numbers[place]);
     }
-    nodes = live_nodes(&fresh.handle);
-    if (time) {
-        *time = look_up_time(&fresh.handle, part);
+    return fresh;
+}
+
+static int is_longer(const void *one, const void *other)
+{
+    double first = *(const double *)one, second = *(const double *)other;
+    return (first > second) - (first < second);
+}
+
+/* How many times as long look-ups take as in a fresh index with the same keys: the median of rounds in which both are timed by turns. */
+static double look_ups(struct part *part, struct part *fresh)
+{
+    double ratios[ROUNDS];
+    int round;
+    for (round = 0; round < ROUNDS; round++) {
+        double time = look_up_time(&part->handle, part);
+        ratios[round] = time / look_up_time(&fresh->handle, part);
     }
-    must(hot_destroy(&fresh.handle), HOT_DONE);
-    return nodes;
+    qsort(ratios, ROUNDS, sizeof *ratios, is_longer);
+    return ratios[ROUNDS / 2];
 }
 
 static void measure(const struct form *form, uint64_t keys, int turns, int threads)
 {
-    struct part parts[MOST_THREADS];
+    struct part parts[MOST_THREADS], fresh;
     uint32_t most = 0;
-    double sum = 0, fresh, time, fresh_keys;
+    double sum = 0;
     int at;
     open_all(form, parts, keys, threads);
     for (at = 0; at < turns; at++) {
@@ -191,12 +204,13 @@ static void measure(const struct form *form, uint64_t keys, int turns, int threa
         sum += nodes;
         most = nodes > most ? nodes : most;
     }
-    time = look_up_time(&parts[0].handle, &parts[0]);
-    fresh_keys = (double)parts[0].count / fresh_nodes(&parts[0], &fresh);
-    printf("churn\t%s\t%d\t%.1f\t%.1f\t%.1f\t", form->name, turns, fresh_keys, (double)keys * turns / sum, (double)keys / most);
+    fresh = fresh_index(&parts[0]);
+    printf("churn\t%s\t%d\t%.1f\t%.1f\t%.1f\t", form->name, turns, (double)fresh.count / live_nodes(&fresh.handle),
+           (double)keys * turns / sum, (double)keys / most);
     if (threads == 1) {
-        printf("%.2f", time / fresh);
+        printf("%.2f", look_ups(&parts[0], &fresh));
     }
+    must(hot_destroy(&fresh.handle), HOT_DONE);
     printf("\t%llu\n", (unsigned long long)close_all(parts, threads));
     fflush(stdout);
 }
@@ -233,9 +247,12 @@ static void measure_shrinking(const struct form *form, uint64_t keys, int times)
     shrink(&part, keys / 100);
     low = (double)part.count / live_nodes(&part.handle);
     for (at = 0; at < times; at++) {
+        struct part fresh;
         double ratio;
         grow(&part, keys);
-        ratio = (double)live_nodes(&part.handle) / fresh_nodes(&part, NULL);
+        fresh = fresh_index(&part);
+        ratio = (double)live_nodes(&part.handle) / live_nodes(&fresh.handle);
+        must(hot_destroy(&fresh.handle), HOT_DONE);
         most = ratio > most ? ratio : most;
         shrink(&part, keys / 10);
     }
