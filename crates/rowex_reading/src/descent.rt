@@ -34,7 +34,8 @@ pub enum Found {
     },
 }
 
-/// Searches for a key from the root down to a leaf; leaves the nodes of its way, the topmost first, and answers what it found.
+/// Searches for a key from the root down. Fills `way` with the nodes on the way, the topmost first, and returns what stands at its end.
+/// The key had the value that was found, or was absent, in a version since this load of the root.
 pub fn search_way<G: Gate>(
     table: &HotTable,
     seat: &mut TableSeat,
