@@ -51,7 +51,7 @@ pub struct Choice {
     pub case: Case,
 }
 
-/// The last node on the way whose first position is below `position`, or the topmost where there is none.
+/// The place on `way` of the last node whose first position is below `position`; 0 if there is none.
 pub fn level_below(way: &[PathNode], position: u16) -> usize
     requires { 0 < length way.now }
     ensures { IsLevel way.now position result }
@@ -65,9 +65,9 @@ pub fn level_below(way: &[PathNode], position: u16) -> usize
     level
 }
 
-/// The insertion case for a key that differs from the leaf that its search finds first at a position: `level` is what
-/// `level_below` gives for it, and the entries from `first` to `last` of that node are those that the position affects.
-/// Where one entry alone is affected and the way goes on below it, the whole next node is affected instead.
+/// The insertion case for a key that differs from the leaf that its search finds first at a position. `level` is what `level_below`
+/// returns for the position, and the entries from `first` to `last` of that node are those that it affects. If one entry alone is
+/// affected and the way goes on below it, the whole next node is affected instead.
 pub fn choose(way: &[PathNode], level: usize, first: u8, last: u8) -> Choice
     requires { level < length way.now }
     ensures chosen { IsChosen way.now level first last result }
@@ -102,7 +102,7 @@ pub fn choose(way: &[PathNode], level: usize, first: u8, last: u8) -> Choice
     }
 }
 
-/// What is done at a node, where one leaf alone is affected or not.
+/// What is done at the node `step`, where one leaf alone is affected or not, as `one_leaf` says.
 fn case_at(step: PathNode, one_leaf: bool) -> Case
     ensures { result ≡ case_of step.height step.count one_leaf }
 {
@@ -115,8 +115,8 @@ fn case_at(step: PathNode, one_leaf: bool) -> Case
     }
 }
 
-/// The uppermost node on the way that gets another one in its place, where the node at `level` overflows: the halves
-/// of a full node go into its parent where that is one higher, and a full parent overflows in turn.
+/// The place on `way` of the uppermost node that gets another one in its place, where the node at `level` overflows. The halves of a full
+/// node go into its parent where that is one higher, and a full parent overflows in turn.
 pub fn chain_end(way: &[PathNode], level: usize) -> usize
     requires { level < length way.now }
     ensures { IsChainEnd way.now level result }
@@ -128,7 +128,7 @@ pub fn chain_end(way: &[PathNode], level: usize) -> usize
     end
 }
 
-/// Whether what rises from a full node goes into its parent.
+/// Whether `child` is full, and what rises from it goes into `parent`.
 fn is_pulled_up(child: PathNode, parent: PathNode) -> bool
     ensures { IsTrue result ↔ ((child.count ≡ 32) × IsPullUp child.height parent.height) }
 {

@@ -45,8 +45,8 @@ impl RecordKind {
         }
     }
 
-    /// The records of this kind from `number` on that are as large as the first of them: the number behind the last, and the words of
-    /// each.
+    /// The records of this kind from `number` on that are as large as the first of them. Returns the number behind the last, and how many
+    /// words each has.
     fn row_at(self, layout: &Layout, number: u32) -> (u32, usize)
         requires kind { IsKindOf self layout.now }
         requires low { number < count_of self layout.now }

@@ -20,7 +20,7 @@ use record_words::{FIRST_ENTRY, FIRST_ROWS, HEAD_WORDS, NODE_FIELDS, key_word_at
 use rowex_core::{Gate, Rec};
 use rowex_table::{HotTable, TableSeat};
 
-/// Fills the claimed leaf record `number`, which has room for `key`: stores `value` and the words of `key` up to its end, in a step for
+/// Fills the claimed leaf record `number`, which has room for `key`. It stores `value`, and the words of `key` up to its end, in a step
 /// each. But the key's length is loaded first, and stored only if another stands there. What stands behind the key stays.
 pub fn fill_leaf<G: Gate>(
     table: &HotTable,

@@ -43,8 +43,8 @@ fn touches(count: u8, pairs: &Pairs) -> bool
     count > 1 && pairs.key_bytes() / 8 > pairs.len()
 }
 
-/// At how many places a walk that has listed `pairs` looks together: those of the pairs that `limit` leaves, and one more, but
-/// `MOST_AHEAD` at most. It is one place, if fewer than `LEAST_PAIRS` are left.
+/// At how many places a walk that has listed `pairs` looks together: those of the pairs that `limit` leaves, and one more. It is
+/// `MOST_AHEAD` at most, and one place, if fewer than `LEAST_PAIRS` are left.
 #[inline(always)]
 pub(crate) fn most_together(limit: usize, pairs: &Pairs) -> u8
     requires { length pairs.now ≤ limit }
