@@ -20,7 +20,8 @@ pub(crate) fn read_places(words: &[u64]) -> [u16; 31]
     places
 }
 
-/// The first word of a head: the number of entries in its lowest byte, that of columns in the next, and the stored height above these.
+/// The first word of a head. Its lowest byte has the number of entries, the next one that of columns, and the bits above the stored
+/// height.
 pub(crate) fn word_of_numbers(count: u8, columns: u8, height: u16) -> u64
     ensures { result ≡ meta_word count columns height }
 {

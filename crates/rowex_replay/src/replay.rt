@@ -39,7 +39,7 @@ impl Replay {
     ghost use Rattle.rowex_replay.specs.Runs.{core_of, new_run, with_event};
     ghost use Rattle.rowex_replay.specs.Replays.{MayWantMemory};
 
-    /// A replay of no event yet, of an index of this layout.
+    /// A replay of no event yet, of an index of this layout; an error if memory is refused.
     pub fn new(alloc: Global, layout: Layout) -> Result<Replay, AllocError>
         ensures { IfOk result (λ replay. replay ≡ new_run layout) }
     {
