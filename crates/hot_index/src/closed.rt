@@ -71,7 +71,7 @@ impl<I: ShowsIndex> Model for ClosedHandle<I> {
 }
 
 impl<I: ShowsIndex> ClosedHandle<I> {
-    /// A closed handle of this pass.
+    /// A closed handle of `pass` at `index`, or at the share of one.
     pub fn new(index: I, pass: ClosedPass) -> ClosedHandle<I>
         requires { Owns (I.shown index) pass }
         ensures { result ≡ handle_at (I.shown index) pass }

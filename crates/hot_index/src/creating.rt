@@ -85,7 +85,7 @@ pub fn create_closed(
     made_of(alloc, Layout::with_stock(passes, stock))
 }
 
-/// The index of a layout, and its passes, opened, if the numbers that were asked for have a layout.
+/// The index of the layout `found`, and its passes, opened. If `found` is a fault, that is returned; `Memory` if memory is refused.
 fn opened_of(
     alloc: Global,
     found: Result<Layout, LayoutFault>,
@@ -106,7 +106,7 @@ fn opened_of(
     }
 }
 
-/// The passes, opened for calls at this index, in their order.
+/// The passes `closed`, opened for calls at `index`, in their order; an error if memory is refused.
 fn open_each(alloc: Global, index: &Index, closed: Vec<ClosedPass>) -> Result<Vec<Pass>, AllocError>
     ensures { IfOk result (λ passes. passes.items ≡ closed.items) }
 {
@@ -117,7 +117,7 @@ fn open_each(alloc: Global, index: &Index, closed: Vec<ClosedPass>) -> Result<Ve
     Ok(passes)
 }
 
-/// The index of a layout, and its passes, if the numbers that were asked for have a layout.
+/// The index of the layout `found`, and its passes, closed. If `found` is a fault, that is returned; `Memory` if memory is refused.
 fn made_of(
     alloc: Global,
     found: Result<Layout, LayoutFault>,
@@ -134,7 +134,7 @@ fn made_of(
     }
 }
 
-/// The index of a layout, and its passes.
+/// The index of `layout`, and its passes, closed; an error if memory is refused.
 fn made(alloc: Global, layout: Layout) -> Result<(Index, Vec<ClosedPass>), AllocError>
     ensures layout { IfOk result (λ made. made.0.layout ≡ layout) }
     ensures count { IfOk result (λ made. length made.1.items ≡ layout.passes) }
@@ -145,7 +145,7 @@ fn made(alloc: Global, layout: Layout) -> Result<(Index, Vec<ClosedPass>), Alloc
     Ok((Index { table }, passes))
 }
 
-/// The passes of the new seats of this table, in their order.
+/// The closed passes of `seats`, the new seats of `table`, in their order; an error if memory is refused.
 fn passes_of(
     alloc: Global,
     table: &HotTable,

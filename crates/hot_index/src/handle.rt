@@ -77,7 +77,7 @@ impl<I: ShowsIndex> Model for Handle<I> {
 }
 
 impl<I: ShowsIndex> Handle<I> {
-    /// A handle of this pass.
+    /// A handle of `pass` at `index`, or at the share of one.
     pub fn new(index: I, pass: Pass) -> Handle<I>
         requires { Owns (I.shown index) pass }
         ensures { result ≡ handle_at (I.shown index) pass }
@@ -94,7 +94,7 @@ impl<I: ShowsIndex> Handle<I> {
         (self.index, self.pass)
     }
 
-    /// The number of its pass.
+    /// The number of the handle's pass.
     pub fn number(&self) -> u16
         ensures { result ≡ self.now.pass.number }
     {
@@ -345,7 +345,7 @@ impl<I: ShowsIndex> Handle<I> {
     }
 }
 
-/// Handles of these passes of an index, in their order.
+/// Handles of `passes` at `index`, in their order; an error if memory is refused.
 pub fn handles_of<'a>(
     alloc: Global,
     index: &'a Index,

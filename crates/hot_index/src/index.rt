@@ -341,7 +341,7 @@ impl Index {
         count_records(&self.table, &mut pass.seat, gate)
     }
 
-    /// Tries to make a change.
+    /// Tries to make the change `call`, at most twice, and reports each step to `gate`. Returns the reply, or why it was refused.
     pub(crate) fn try_change_with<G: Gate>(
         &self,
         pass: &mut Pass,
@@ -354,7 +354,8 @@ impl Index {
         try_change(&self.table, &mut pass.seat, gate, &mut pass.room, call)
     }
 
-    /// Makes a change, and begins again as long as another pass is in its way.
+    /// Makes the change `call`, and reports each step to `gate`. It begins again as long as another pass is in its way, or records may
+    /// come back. Returns the reply, or the kind of records of which none was free.
     pub(crate) fn change_with<R: Wait, G: Gate>(
         &self,
         rt: &R,
@@ -369,7 +370,7 @@ impl Index {
     }
 }
 
-/// The reply to a get that found this.
+/// The reply to a get that found `found`: `Value`, or `Absent` for `None`.
 pub(crate) fn reply_of(found: Option<u64>) -> Reply
     ensures { result ≡ got found }
 {
