@@ -51,7 +51,7 @@ pub extern "C" fn hot_scan_packed_reverse(
     list_packed(alloc, handle, order, from, upto, bytes, heads, count, more)
 }
 
-/// Lists pairs in the order in which a scan finds them, packed.
+/// Lists the pairs of a range in the order `order`, packed as by `hot_scan_packed`. A status other than `DONE` leaves all as it was.
 fn list_packed(
     alloc: Global,
     handle: &mut Handle,
@@ -79,7 +79,7 @@ fn list_packed(
     }
 }
 
-/// Writes the heads of a list and the bytes of its keys to the first places of two arrays.
+/// Writes the heads of `pairs` and the bytes of their keys to the first places of `heads` and `bytes`, which have room for them.
 fn write_packed(pairs: &Pairs, bytes: &mut [u8], heads: &mut [Head])
     requires bytes { length (keys_in pairs.now) ≤ length bytes.old }
     requires heads { length pairs.now ≤ length heads.old }

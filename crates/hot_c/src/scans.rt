@@ -70,7 +70,8 @@ pub extern "C" fn hot_scan_last(
     )
 }
 
-/// Lists pairs in this order.
+/// Lists pairs of a range in the order `order`: as many as `room` has places. `count` becomes their number, and `more` 1 if the range has
+/// more, else 0. A status other than `DONE` leaves all as it was.
 fn list(
     alloc: Global,
     handle: &mut Handle,
@@ -96,8 +97,8 @@ fn list(
     }
 }
 
-/// Scans a range into the handle's list, and tells how many pairs it found and whether there are more; or the status that says why
-/// it found none.
+/// Scans a range into the handle's list. Returns how many pairs it found and whether there are more; or the status that says why it found
+/// none.
 pub fn fill(
     alloc: Global,
     handle: &mut Handle,
