@@ -137,6 +137,7 @@ pub(crate) fn both(zero: &[Entry], one: &[Entry]) -> ArrayVec<Entry, 32>
     list
 }
 
+/// Adds `entries` to the end of `list`, which has room for them.
 fn append(list: &mut ArrayVec<Entry, 32>, entries: &[Entry])
     requires { array_vec_len list.old + length entries.now ≤ 32 }
     ensures { list.new.items ≡ list.old.items ++ entries.now }

@@ -131,7 +131,7 @@ impl Head {
         )
     }
 
-    /// The head of the height `height` with these columns and rows, which fit together.
+    /// The head of the height `height` with `columns` and `rows`, which fit together.
     pub(crate) fn over(height: u16, columns: Columns, rows: &[u32]) -> Head
         requires { IsLawfulNode (node_of (record { height = height; columns = columns; rows = rows.now }) (leaves (length rows.now))) }
         ensures { result ≡ record { height = height; columns = columns; rows = rows.now } }
@@ -191,6 +191,7 @@ impl Head {
         self.height = height;
     }
 
+    /// A copy of the head.
     pub(crate) fn copy(&self) -> Head
         ensures { result ≡ self.now }
     {
@@ -209,6 +210,7 @@ impl Head {
         &self.columns
     }
 
+    /// The sparse partial keys of the entries, in their order.
     pub(crate) fn rows(&self) -> &[u32]
         ensures { result.now ≡ self.now.rows }
     {
@@ -275,7 +277,7 @@ fn drop_unused(columns: &mut Columns, rows: &mut [u32; 32], count: usize)
     }
 }
 
-/// Whether a head of some height has `count` entries, these columns and these sparse partial keys.
+/// Whether a head of some height has `count` entries, the columns `columns` and the sparse partial keys `sparse`.
 fn fits(count: u8, columns: &[u16], sparse: &[u32; 32]) -> bool
     ensures { IsTrue result ↔ FitsWords count columns.now sparse.now }
 {

@@ -11,10 +11,9 @@ use key_bits::Key;
 use partial_keys::Columns;
 use std::marker::Model;
 
-/// A compound node of 2 to 32 entries, in the order of their keys. It shows a piece of a bit trie:
-/// its 1 to 31 columns are the positions of the piece's forks, and the sparse partial key of an
-/// entry has a 1 exactly where the entry's path takes the 1 side of a fork. The stored height is
-/// above that of each entry.
+/// A compound node of 2 to 32 entries, in the order of their keys. It shows a piece of a bit trie: its 1 to 31 columns are the positions
+/// of the piece's forks. The sparse partial key of an entry has a 1 exactly where the entry's path takes the 1 side of a fork. The stored
+/// height is above that of each entry.
 #[derive(Drop)]
 pub struct Node {
     head: Head,
@@ -235,7 +234,7 @@ impl Node {
         self.head.add(height, position, first, last, bit);
     }
 
-    /// The same node once more.
+    /// A copy of the node.
     pub fn copy(&self) -> Node
         ensures { result ≡ self.now }
     {

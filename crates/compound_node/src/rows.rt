@@ -77,6 +77,7 @@ pub(crate) fn joined(rows: &[u32]) -> u32
     all
 }
 
+/// Adds `rows` to the end of `out`, which has room for them.
 fn append(out: &mut ArrayVec<u32, 32>, rows: &[u32])
     requires { array_vec_len out.old + length rows.now ≤ 32 }
     ensures { out.new.items ≡ out.old.items ++ rows.now }

@@ -76,9 +76,9 @@ pub fn collect_round<G: Gate>(table: &HotTable, seat: &mut TableSeat, gate: &mut
     }
 }
 
-/// Makes a small round: makes the epoch the next one, and visits the oldest records of the pass's limbo list, at most
-/// `MOST_VISITED` and up to the first that has to wait. Each that was retired in an epoch below this one and below each pin that is
-/// set is given back, and stands in the list's `given` then.
+/// Makes a small round: makes the epoch the next one, and visits the oldest records of the pass's list `limbo`. It visits at most
+/// `MOST_VISITED`, up to the first that has to wait. A record that was retired in an epoch below this one and below each pin is given
+/// back, and stands in the list's `given` then.
 ///
 /// It costs by what the pass has retired, however many records the table has.
 pub fn collect_small<G: Gate>(

@@ -7,7 +7,7 @@ use rowex_core::Rec;
 /// How many records a limbo list keeps at most.
 const MOST_WAITING: usize = 4_096;
 
-/// When the pass has retired so many records since its last small round, the next one is due.
+/// How many records the pass retires between two small rounds: after so many the next one is due.
 const DUE: u32 = 32;
 
 /// How many records a small round visits at most.
@@ -15,8 +15,8 @@ pub const MOST_VISITED: usize = 128;
 
 /// The limbo list of a pass: the records that it has retired and not given back yet, the oldest first.
 ///
-/// These are plain numbers, which promise nothing: a record of the list may have been given back by a full round, of this pass or of
-/// another, and one that finds no place in the list is left to those.
+/// These are plain numbers, which promise nothing. A record of the list may have been given back by a full round, of this pass or of
+/// another. One that finds no place in the list is left to such rounds.
 #[derive(Drop)]
 pub struct Limbo {
     /// The ring of the records that wait.

@@ -251,8 +251,8 @@ pub extern "C" fn hot_try_exchange(
     make_call(handle, &mut call, key, had)
 }
 
-/// Adds a number to the value of a key, modulo 2 to the power of 64: `WAS` with the value that it had; or `ABSENT`, and then it changes
-/// nothing.
+/// Adds a number to the value of a key, modulo 2 to the power of 64: `WAS` with the value that it had. `ABSENT` if the key is absent, and
+/// then nothing changes.
 #[unsafe(no_mangle)]
 pub extern "C" fn hot_try_add(handle: &mut Handle, key: &[u8], delta: u64, had: &mut u64) -> u32
     ensures call { Answers key.now (Add key.now delta) handle.old.slot.opened handle.new.slot.opened had.old had.new result }

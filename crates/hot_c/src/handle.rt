@@ -49,6 +49,7 @@ impl Handle {
     }
 }
 
+/// Does nothing; its bound asks that the value's type may go to another thread.
 fn needs_send<T: Send>(_value: &T) {}
 
 /// This function is proved only if a handle may go to another thread.

@@ -12,9 +12,10 @@ use crate::status::DONE;
 use packed_pairs::{Head, Pairs};
 use std::alloc::Global;
 
-/// Lists the first pairs whose keys are from `from` to `upto`, both included, in key order, packed: the bytes of their keys one
-/// after another, and beside them a head for each. It lists as many as `heads` has places, and only those whose keys together have
-/// room in `bytes`. `more` becomes 1 if the range has more, else 0.
+/// Lists the first pairs whose keys are from `from` to `upto`, both included, in key order, packed. The bytes of their keys go to
+/// `bytes`, one after another, and a head for each to `heads`. It lists as many as `heads` has places, and only those whose keys together
+/// have room in `bytes`. `count` becomes their number, and `more` 1 if the range has more, else 0. A status other than `DONE` leaves all
+/// as it was.
 #[unsafe(no_mangle)]
 pub extern "C" fn hot_scan_packed(
     alloc: Global,

@@ -26,8 +26,9 @@ pub enum IndexFault {
     Memory,
 }
 
-/// Makes an empty index with this number of passes (1 to 64), node records (1 to 65,535) and leaf records (1 to 262,143). Returns
-/// it with its passes in the order of their numbers. It checks the three numbers first, in this order.
+/// Makes an empty index with this number of passes (1 to 64), node records (1 to 65,535) and leaf records (1 to 262,143). Returns it with
+/// its passes in the order of their numbers. It checks the three numbers first, in this order, and the fault names the first that is out
+/// of range; `Memory` if memory is refused.
 ///
 /// All leaf records are long. So a call that lacks one has found each of them taken (`laws::lacks_all_long`).
 pub fn create(
@@ -48,8 +49,9 @@ pub fn create(
     opened_of(alloc, Layout::of(passes, nodes, leaves))
 }
 
-/// Makes an empty index with this number of passes (1 to 1,024) and this stock of records. A stock has 1 to 4,294,967,295 node
-/// records, and 1 to 4,294,967,295 leaf records of all classes together. It checks the numbers first, in this order.
+/// Makes an empty index with this number of passes (1 to 1,024) and this stock of records. A stock has 1 to 4,294,967,295 node records,
+/// and 1 to 4,294,967,295 leaf records of all classes together. It checks the numbers first, in this order, and the fault names the first
+/// that is out of range; `Memory` if memory is refused.
 ///
 /// `Layout::bytes` returns the bytes of the table. Twice as many are in use while it is made.
 pub fn create_with(

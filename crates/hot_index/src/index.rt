@@ -101,17 +101,17 @@ impl Index {
 
     /// Inserts a key with a value: `Inserted`; or `Exists` with the value that the key has already, and keeps.
     ///
-    /// It never blocks. It makes at most two attempts, with a round of collection between them. An attempt that tries no lock makes
-    /// at most 61 atomic steps, and 26 for each entry of a node that its search loads; any other makes at most 127, 26 for each such
-    /// entry, 297 for each lock that it tries, 2 for each node record and 4 for each leaf record. So on the longest way the call
-    /// makes at most 1,396,470 steps, and 2 for each pass, 6 for each node record and 10 for each leaf record.
+    /// It never blocks. It makes at most two attempts, with a round of collection between them. An attempt that tries no lock makes at
+    /// most 61 atomic steps, and 26 for each entry of a node that its search loads. Any other makes at most 127, and 26 for each such
+    /// entry. To these come 297 for each lock that it tries, 2 for each node record and 4 for each leaf record. So on the longest way the
+    /// call makes at most 1,396,470 steps, and 2 for each pass, 6 for each node record and 10 for each leaf record.
     ///
-    /// It returns `Busy` only if another pass has locked or retired what it wants to lock, or has made a change since the pin under
-    /// which the call loaded the root last. So an index of one pass is never busy.
+    /// It returns `Busy` only if another pass has locked or retired what it wants to lock, or has made a change. That change came since
+    /// the pin under which the call loaded the root last. So an index of one pass is never busy.
     ///
-    /// It returns `FullNodes` or `FullLeaves` only if it found each node record, or each leaf record with room for the key, taken
-    /// when its turn came. It makes the round of collection first. Then it looks again, unless the index has one pass and the round
-    /// gave back none of the kind.
+    /// It returns `FullNodes` or `FullLeaves` only if it found each node record, or each leaf record with room for the key, taken when
+    /// its turn came. It makes the round of collection first. Then it looks again, unless the index has one pass and the round gave back
+    /// none of the kind.
     ///
     /// A refused call has changed nothing, and holds no lock and no record.
     pub fn try_insert(&self, pass: &mut Pass, key: &Key, value: u64) -> Result<Reply, TryFault>

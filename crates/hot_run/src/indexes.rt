@@ -18,7 +18,7 @@ use record_words::LeafClass;
 use std::alloc::{AllocError, Global};
 
 /// An empty index for `script`, and its only pass; an error if memory is refused. All leaf records are of the smallest class with room
-/// for the keys of the script's calls: a scan takes less time if the records are close together.
+/// for the keys of the script's calls: so they are close together, and a scan takes less time.
 pub fn index_for(
     alloc: Global,
     nodes: u32,

@@ -38,11 +38,12 @@ pub enum Case {
 
 /// The affected node of an insertion, by its place on the way, its affected entries, and what is done there.
 ///
-/// It says which nodes get another one in their place: none for `LeafPushdown`, which stores into the affected node's
-/// entry `first`; the affected node for `NormalInsert`; and the nodes from the affected one up to `chain_end` for
-/// `Overflow`, but for a full node that stays whole as one half. The last two store into the entry at `at` of the node
-/// above the uppermost of these, or at the root. A writer locks these nodes, also the one that stays whole, and the one that
-/// is stored into.
+/// It says which nodes get another one in their place. For `LeafPushdown` it is none, and entry `first` of the affected node is stored.
+/// For `NormalInsert` it is the affected node. For `Overflow` these are the nodes from the affected one up to `chain_end`, but for a full
+/// node that stays whole as one half.
+///
+/// The last two store into the entry at `at` of the node above the uppermost of these, or at the root. A writer locks these nodes, also
+/// the one that stays whole, and the one that is stored into.
 #[derive(Clone, Copy)]
 pub struct Choice {
     pub level: usize,

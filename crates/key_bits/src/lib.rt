@@ -13,8 +13,8 @@ use std::cmp::Ordering;
 use std::hash::{Hash, Hasher};
 use std::marker::Model;
 
-/// The most bytes that a key has. Every other bound on keys and their bits is computed from this one:
-/// a key's bits stand at positions below `9 * MAX_BYTES`, and so does the first difference of two keys.
+/// The most bytes that a key has. Every other bound on keys and their bits is computed from this one. The bits of a key stand at
+/// positions below `9 * MAX_BYTES`, and so does the first difference of two keys.
 pub const MAX_BYTES: usize = 240;
 
 /// Why bytes are no key.

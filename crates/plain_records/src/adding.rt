@@ -25,8 +25,8 @@ pub enum Addition {
     Held(u32),
     /// The key is absent, and there is no room for it.
     Refused,
-    /// The key has this new leaf, which belongs beside the entry or above it: it differs first at the position from the key
-    /// of the leaf where its search ended.
+    /// The key has this new leaf, which belongs beside the entry or above it. The key differs first at `position` from that of the leaf
+    /// where its search ended.
     Above { position: u16, leaf: u32 },
     /// The key has a new leaf below, and this took the entry's place.
     Below(Risen),

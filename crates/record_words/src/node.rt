@@ -39,8 +39,8 @@ pub fn pack_node(node: &Node) -> [u64; NODE_FIELDS]
     words
 }
 
-/// Makes the words of the head those of one with `count` entries, this height, and these columns and sparse partial keys. The words of
-/// the entries stay.
+/// Makes the words of the head those of a head with `count` entries, the height `height`, `columns` and `rows`. The words of the entries
+/// stay.
 fn put_head(
     words: &mut [u64; NODE_FIELDS],
     count: u8,

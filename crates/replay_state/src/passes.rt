@@ -7,8 +7,8 @@ use record_words::MAX_STOCK_PASSES;
 /// The most passes of an index, as a length.
 const PASSES: usize = MAX_STOCK_PASSES as usize;
 
-/// The pin of a pass, and its last load of the epoch: what it found, at which version, the least of it and of the pins
-/// loaded since, and whose they were.
+/// The pin of a pass, and its last load of the epoch: `epoch` is what it found, and `version` at which version. `bound` is the least of
+/// that and of the pins loaded since, and `seen` says whose these were.
 #[derive(Clone, Copy)]
 pub(crate) struct PassState {
     pub(crate) pin: Option<u64>,

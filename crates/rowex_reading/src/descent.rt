@@ -29,7 +29,7 @@ pub enum Found {
         number: u32,
         /// The leaf's value.
         value: u64,
-        /// Where the leaf's key first differs from the one that is looked for; none where it is that key.
+        /// Where the leaf's key first differs from the one that is looked for; `None` if it is that key.
         mismatch: Option<u16>,
     },
 }

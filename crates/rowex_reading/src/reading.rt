@@ -26,7 +26,7 @@ use record_words::{
 use rowex_core::{Gate, Rec, Spot};
 use rowex_table::{HotTable, TableSeat};
 
-/// Loads the root's entry: none where the tree is empty.
+/// Loads the root's entry; `None` if the tree is empty.
 pub fn load_root<G: Gate>(table: &HotTable, seat: &mut TableSeat, gate: &mut G) -> Option<Entry>
     requires own { IsSeatOf table.now seat.old }
     requires pinned { IsSome seat.old.known.pin }

@@ -403,7 +403,7 @@ fn is_past(range: &Range, key: &[u8]) -> bool
     }
 }
 
-/// The first eight bytes of `key`, which has so many, as a number, the first of them highest.
+/// The first eight bytes of `key` as a number, the first of them highest. The key has at least eight.
 #[inline(always)]
 fn first_word(key: &[u8]) -> u64
     requires { 8 ≤ length key.now }

@@ -24,9 +24,9 @@ use rowex_core::{Gate, Spot};
 use rowex_reading::{Found, load_root};
 use rowex_table::{HotTable, TableSeat};
 
-/// Whether each node that is locked for the span, and the root under the anchor's lock, still names what the search found there:
-/// one load each, from the top down. What the search read below the lowest of them needs no second look. Where one names something
-/// else, another pass has made a change since the search loaded the root.
+/// Whether each node that is locked for the span, and the root under the anchor's lock, still names what the search found there. Each is
+/// loaded once, from the top down. What the search read below the lowest of them needs no second look. Where one names something else,
+/// another pass has made a change since the search loaded the root.
 pub(crate) fn check_span<G: Gate>(
     table: &HotTable,
     seat: &mut TableSeat,

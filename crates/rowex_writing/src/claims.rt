@@ -114,7 +114,7 @@ pub(crate) fn claim_spare<G: Gate>(
 
 /// Claims a leaf record of at least `words` words and returns its number, or `None` if none was free.
 ///
-/// The classes of records with so many words are tried one after the other, the smallest first. But the smallest ones that are to be
+/// The classes of records that are large enough are tried one after the other, the smallest first. But the smallest ones that are to be
 /// passed by come after the others.
 pub(crate) fn claim_leaf<G: Gate>(
     table: &HotTable,

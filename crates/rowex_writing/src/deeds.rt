@@ -33,7 +33,7 @@ pub(crate) struct Job<'a> {
 /// What comes in the place of a span's nodes.
 #[derive(Clone, Copy)]
 pub(crate) struct Raised {
-    /// The entry, or none where the root is to be empty.
+    /// The entry; `None` if the root is to be empty.
     pub entry: Option<Entry>,
     /// The index on the way from which on nodes of the span stay: that of the lowest, or the span's `len` if none stays.
     pub low: usize,

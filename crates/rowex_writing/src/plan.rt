@@ -85,8 +85,8 @@ pub enum Full {
 pub(crate) enum Outline {
     /// All is told.
     Known(Plan),
-    /// The new leaf goes beside the entries that the position affects at this level of the way: `plan_beside` tells the
-    /// rest from them.
+    /// The new leaf goes beside the entries that `position` affects in the node at place `level` of the way: `plan_beside` tells the rest
+    /// from these.
     Beside { position: u16, level: usize },
 }
 

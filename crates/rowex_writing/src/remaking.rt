@@ -14,8 +14,8 @@ use compound_node::{Entry, Node};
 use insert_cases::{Grown, grow_full, pull_up, put_fork};
 use key_bits::Key;
 
-/// A new leaf for a node. It goes beside the entries that the position affects, at which its key first differs from theirs: one of them
-/// is the entry at `at`, to which the key's search leads.
+/// A new leaf for a node. It goes beside the entries that `position` affects, at which its key first differs from theirs. One of these is
+/// the entry at `at`, to which the search for its key leads.
 #[derive(Drop)]
 pub(crate) struct NewLeaf<'a> {
     pub key: &'a Key,

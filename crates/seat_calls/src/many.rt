@@ -48,8 +48,8 @@ pub fn look_up_each<G: Gate>(
     }
 }
 
-/// Clears the pin at the end of gets that looked for these keys and found this for each. The notes `said` come with this step. The
-/// caller's proof makes them of `_keys` and `_found`, which the code doesn't read.
+/// Clears the pin at the end of gets of several keys. The notes `said` come with this step. The caller's proof makes them of `_keys` and
+/// `_found`, which the code doesn't read.
 pub fn end_gets<G: Gate>(
     table: &HotTable,
     seat: &mut TableSeat,

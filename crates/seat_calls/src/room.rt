@@ -19,8 +19,8 @@ pub struct Room {
     pub build: Build,
     /// What the pass has retired and not given back yet.
     pub limbo: Limbo,
-    /// Whether records were moving at the last full round: it saw a retired one that a pass may still reach, or it gave back some of the
-    /// kind that was lacked, which other passes may have taken since.
+    /// Whether records were moving at the last full round. They were if it saw a retired one that a pass may still reach. They were too
+    /// if it gave back some of the kind that was lacked, which other passes may have taken since.
     pub is_moving: bool,
 }
 
