@@ -68,7 +68,7 @@ impl Head {
         }
     }
 
-    /// The head of these fields, which some node has.
+    /// The head of these fields, which some node has. It has `count` entries, and 4,294,967,295 at the unused places of `sparse`.
     pub fn of(count: u8, height: u16, columns: Columns, sparse: [u32; 32]) -> Head
         requires { IsHead count height columns sparse }
         ensures { result ≡ record { height = height; columns = columns; rows = take count sparse } }

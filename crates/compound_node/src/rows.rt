@@ -18,7 +18,7 @@ use arrayvec::ArrayVec;
 use partial_keys::take_out;
 use std::simd::prelude::*;
 
-/// The rows at the first of 32 places, and 4,294,967,295 at the unused ones.
+/// The rows `rows` at the first of 32 places, and 4,294,967,295 at the unused ones.
 pub(crate) fn padded(rows: &[u32]) -> [u32; 32]
     requires { length rows.now ≤ 32 }
     ensures { result ≡ with_unused rows.now }
@@ -66,7 +66,7 @@ fn is_ladder(rows: &[u32]) -> bool
     rows[0] == 0
 }
 
-/// All rows joined by or.
+/// All of `rows` joined by or.
 pub(crate) fn joined(rows: &[u32]) -> u32
     ensures { result ≡ or_all rows.now }
 {
@@ -229,7 +229,7 @@ pub(crate) fn listed_rows(rows: &[u32]) -> ArrayVec<u32, 32>
     list
 }
 
-/// The rows, each with its bit of the first column cleared.
+/// The list of `rows`, each with its bit of the first column cleared.
 pub(crate) fn cleared(rows: &[u32]) -> ArrayVec<u32, 32>
     requires { length rows.now ≤ 32 }
     ensures { result.items ≡ map (λ r. r % 2 ^ 31) rows.now }
@@ -276,7 +276,7 @@ pub(crate) fn squeeze_all(rows: &mut [u32], used: u32, columns: u8)
 
 // ---- a row less
 
-/// The lowest 1 of a row.
+/// The lowest 1 of `row`, as a mask.
 fn lowest_bit(row: u32) -> u32
     requires { 0 < row }
     ensures { result ≡ lowest row }
@@ -356,7 +356,8 @@ pub(crate) fn take_row(rows: &mut [u32; 32], count: usize, at: usize)
 
 // ---- the place beside one
 
-/// The column of the fork between a row and the one before, counted from 1. It is 0 for the first row, and for an unused place.
+/// The column of the fork between the place of `row` and the one before, counted from 1. It is 0 for the first row, and for an unused
+/// place.
 fn fork_column(row: u32) -> u8
     ensures { result ≡ column_before row }
 {

@@ -174,7 +174,8 @@ pub extern "C" fn hot_number(handle: &mut Handle, number: &mut u16) -> u32
     DONE
 }
 
-/// Looks up a key: `FOUND`, with its value, or `ABSENT`; `CLOSED` or `KEY_TOO_LONG` if it can't. It is never busy and never full.
+/// Looks up `key`: `FOUND`, with its value in `value`, or `ABSENT`; `CLOSED` or `KEY_TOO_LONG` if it can't. It is never busy and never
+/// full.
 #[unsafe(no_mangle)]
 pub extern "C" fn hot_get(handle: &mut Handle, key: &[u8], value: &mut u64) -> u32
     ensures call { Answers key.now (Get key.now) handle.old.slot.opened handle.new.slot.opened value.old value.new result }
@@ -217,7 +218,8 @@ pub extern "C" fn hot_get_many(
     DONE
 }
 
-/// Inserts a key with a value: `INSERTED`; or `EXISTS` with the value that the key has already, and keeps.
+/// Inserts `key` with `value`: `INSERTED`; or `EXISTS` with the value that the key has already, and keeps, in `had`. Another status says
+/// why nothing was changed.
 #[unsafe(no_mangle)]
 pub extern "C" fn hot_try_insert(handle: &mut Handle, key: &[u8], value: u64, had: &mut u64) -> u32
     ensures call { Answers key.now (Insert key.now value) handle.old.slot.opened handle.new.slot.opened had.old had.new result }
@@ -226,7 +228,8 @@ pub extern "C" fn hot_try_insert(handle: &mut Handle, key: &[u8], value: u64, ha
     make_call(handle, &mut call, key, had)
 }
 
-/// Gives a key a value, whether it has one or not: `NEW`, or `WAS` with the value that it had.
+/// Gives `key` the value `value`, whether it has one or not: `NEW`, or `WAS` with the value that it had in `had`. Another status says why
+/// nothing was changed.
 #[unsafe(no_mangle)]
 pub extern "C" fn hot_try_upsert(handle: &mut Handle, key: &[u8], value: u64, had: &mut u64) -> u32
     ensures call { Answers key.now (Upsert key.now value) handle.old.slot.opened handle.new.slot.opened had.old had.new result }
@@ -235,8 +238,8 @@ pub extern "C" fn hot_try_upsert(handle: &mut Handle, key: &[u8], value: u64, ha
     make_call(handle, &mut call, key, had)
 }
 
-/// Gives a key a new value if it has the expected one (`EXCHANGED`). Else it changes nothing: `DIFFERS` with the value that the key
-/// has, or `ABSENT`.
+/// Gives `key` the value `value` if it has the value `expected` (`EXCHANGED`). Else it changes nothing: `DIFFERS` with the value that the
+/// key has in `had`, or `ABSENT`. Another status says why nothing was changed.
 #[unsafe(no_mangle)]
 pub extern "C" fn hot_try_exchange(
     handle: &mut Handle,
@@ -251,8 +254,8 @@ pub extern "C" fn hot_try_exchange(
     make_call(handle, &mut call, key, had)
 }
 
-/// Adds a number to the value of a key, modulo 2 to the power of 64: `WAS` with the value that it had. `ABSENT` if the key is absent, and
-/// then nothing changes.
+/// Adds `delta` to the value of `key`, modulo 2 to the power of 64: `WAS` with the value that it had in `had`. `ABSENT` if the key is
+/// absent, and then nothing changes. Another status says why nothing was changed.
 #[unsafe(no_mangle)]
 pub extern "C" fn hot_try_add(handle: &mut Handle, key: &[u8], delta: u64, had: &mut u64) -> u32
     ensures call { Answers key.now (Add key.now delta) handle.old.slot.opened handle.new.slot.opened had.old had.new result }
@@ -261,7 +264,8 @@ pub extern "C" fn hot_try_add(handle: &mut Handle, key: &[u8], delta: u64, had: 
     make_call(handle, &mut call, key, had)
 }
 
-/// Removes a key: `REMOVED` with the value that it had, or `ABSENT`. It needs no leaf record, so it never returns `FULL_LEAVES`.
+/// Removes `key`: `REMOVED` with the value that it had in `had`, or `ABSENT`. It needs no leaf record, so it never returns `FULL_LEAVES`.
+/// Another status says why nothing was changed.
 #[unsafe(no_mangle)]
 pub extern "C" fn hot_try_remove(handle: &mut Handle, key: &[u8], had: &mut u64) -> u32
     ensures call { Answers key.now (Remove key.now) handle.old.slot.opened handle.new.slot.opened had.old had.new result }
@@ -271,8 +275,8 @@ pub extern "C" fn hot_try_remove(handle: &mut Handle, key: &[u8], had: &mut u64)
     make_call(handle, &mut call, key, had)
 }
 
-/// Removes a key if it has the expected value (`REMOVED` with that value). Else it changes nothing: `DIFFERS` with the value that the key
-/// has, or `ABSENT`. It never returns `FULL_LEAVES`.
+/// Removes `key` if it has the value `expected` (`REMOVED` with that value in `had`). Else it changes nothing: `DIFFERS` with the value
+/// that the key has in `had`, or `ABSENT`. It never returns `FULL_LEAVES`. Another status says why nothing was changed.
 #[unsafe(no_mangle)]
 pub extern "C" fn hot_try_remove_if(
     handle: &mut Handle,

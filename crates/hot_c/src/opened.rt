@@ -129,7 +129,7 @@ impl Opened {
     }
 }
 
-/// An open handle in a box, with an empty list, which keeps no other; or the handle again, where memory is refused.
+/// `handle` in a box, open, with an empty list, which keeps no other; or the handle again, if memory is refused.
 fn boxed(
     alloc: Global,
     handle: Handle<Arc<Index, Global>>,

@@ -28,7 +28,7 @@ impl Model for ClosedPass {
 }
 
 impl ClosedPass {
-    /// Opens the pass, for calls at this index, or gives it back where memory is refused.
+    /// Opens the pass, for calls at `index`, or gives it back where memory is refused.
     pub fn open(self, alloc: Global, index: &Index) -> Result<Pass, AllocFailed<ClosedPass>>
         ensures opened { IfOk result (λ pass. pass ≡ self) }
         ensures kept { IfErr result (λ refused. refused.value ≡ self) }

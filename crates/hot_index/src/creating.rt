@@ -70,7 +70,7 @@ pub fn create_with(
     opened_of(alloc, Layout::with_stock(passes, stock))
 }
 
-/// `create_with`, whose passes are closed: each takes two bytes until it is opened.
+/// Does what `create_with` does, but the passes are closed: each takes two bytes until it is opened.
 pub fn create_closed(
     alloc: Global,
     passes: u32,

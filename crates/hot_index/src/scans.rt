@@ -40,7 +40,7 @@ impl Index {
         self.scan_with(alloc, pass, from, upto, limit, &mut NoGate)
     }
 
-    /// `scan`, which reports each of its steps to a gate.
+    /// Does what `scan` does, and reports each of its steps to `gate`.
     pub fn scan_with<G: Gate>(
         &self,
         alloc: Global,
@@ -77,7 +77,7 @@ impl Index {
         self.scan_into_with(pass, from, upto, limit, pairs, &mut NoGate)
     }
 
-    /// `scan_into`, which reports each of its steps to a gate.
+    /// Does what `scan_into` does, and reports each of its steps to `gate`.
     pub fn scan_into_with<G: Gate>(
         &self,
         pass: &mut Pass,

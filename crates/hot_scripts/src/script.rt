@@ -142,7 +142,7 @@ fn key_bytes(command: &Option<Command>) -> usize
     }
 }
 
-/// The key of a call.
+/// The key of `call`.
 fn key_of(call: &Call) -> &Key
     ensures { result.now ≡ key_of call.now }
 {
@@ -152,7 +152,7 @@ fn key_of(call: &Call) -> &Key
     }
 }
 
-/// The larger of two numbers.
+/// The larger of `first` and `second`.
 fn larger(first: usize, second: usize) -> usize
     ensures bound { (first ≤ result) × (second ≤ result) }
     ensures few { first ≤ MAX_BYTES → second ≤ MAX_BYTES → result ≤ MAX_BYTES }

@@ -136,8 +136,8 @@ fn is_pulled_up(child: PathNode, parent: PathNode) -> bool
     child.count == 32 && is_pull_up(child.height, parent.height)
 }
 
-/// Whether what rises from a node goes into its parent, by their heights: the parent is one higher. Where it is higher
-/// still, a new node goes between them.
+/// Whether what rises from a node of the height `child_height` goes into its parent: the parent is one higher. If it is higher still, a
+/// new node goes between them.
 pub fn is_pull_up(child_height: u16, parent_height: u16) -> bool
     ensures { IsTrue result ↔ IsPullUp child_height parent_height }
 {

@@ -106,7 +106,7 @@ fn cut_grown(node: &Node, first: u8, last: u8, position: u16, bit: bool, entry: 
     }
 }
 
-/// How many entries a half of a cut has.
+/// How many entries `half`, a side of a cut, has.
 fn half_count(half: &Half) -> u8
     requires { HalfShows half.now (half_piece half.now) }
     ensures { result ≡ size (half_piece half.now) }

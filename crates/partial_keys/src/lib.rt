@@ -51,7 +51,7 @@ impl Columns {
     ghost use Rattle.partial_keys.specs.Rows.{dense_of};
     ghost use Rattle.partial_keys.specs.Squeezed.{used_bits};
 
-    /// The columns at these positions.
+    /// The columns at `positions`, which are 1 to 31 and rise.
     pub fn of(positions: &[u16]) -> Columns
         requires { IsColumns positions.now }
         ensures { result ≡ positions.now }

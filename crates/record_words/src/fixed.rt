@@ -20,8 +20,8 @@ pub(crate) fn read_places(words: &[u64]) -> [u16; 31]
     places
 }
 
-/// The first word of a head. Its lowest byte has the number of entries, the next one that of columns, and the bits above the stored
-/// height.
+/// The first word of a head. Its lowest byte has `count`, the number of entries, the next one `columns`, their number, and the bits above
+/// the stored height.
 pub(crate) fn word_of_numbers(count: u8, columns: u8, height: u16) -> u64
     ensures { result ≡ meta_word count columns height }
 {

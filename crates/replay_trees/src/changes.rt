@@ -52,7 +52,7 @@ fn made(pass: u16, item: &Item, kind: Kind, before: &[Item], after: &[Item]) -> 
     }
 }
 
-/// How many leaves the lists have in common before they differ.
+/// How many leaves `before` and `after` have in common before they differ.
 fn same_front(before: &[Item], after: &[Item]) -> usize
     ensures within { result ≤ length before.now }
     ensures within_both { result ≤ length after.now }

@@ -36,7 +36,7 @@ fn unpack_with(words: &[u64; LEAF_FIELDS], bytes: &[u8]) -> Result<(Key, u64), W
     }
 }
 
-/// Whether all bytes are 0.
+/// Whether all of `bytes` are 0.
 fn is_zero(bytes: &[u8]) -> bool
     ensures { IsTrue result ↔ EachIndex bytes.now (λ i. slice_index bytes.now i ≡ 0) }
 {

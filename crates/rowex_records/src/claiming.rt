@@ -62,7 +62,7 @@ impl RecordKind {
         }
     }
 
-    /// How many records of this kind a table has.
+    /// How many records of this kind a table of `layout` has.
     fn count(self, layout: Layout) -> u32
         ensures { result ≡ count_of self layout }
     {
@@ -278,7 +278,7 @@ fn first(from: u32, all: u32) -> u32
     if from < all { from } else { 0 }
 }
 
-/// Makes a record free again that the pass has claimed and not made ready.
+/// Makes `rec` free again, which the pass has claimed and not made ready.
 pub fn give_up<G: Gate>(table: &HotTable, seat: &mut TableSeat, gate: &mut G, rec: Rec)
     requires own { IsSeatOf table.now seat.old }
     requires range { HasRecord table.now.layout rec }

@@ -111,7 +111,7 @@ pub(crate) fn look_ahead<G: Gate>(
     Ahead { count, node: None }
 }
 
-/// Loads a word of a leaf's record, so that its line is at hand when the leaf is read.
+/// Loads a word of the record of leaf `number`, so that its line is at hand when the leaf is read. `origins` are those of the table.
 #[inline(always)]
 fn touch<G: Gate>(
     table: &HotTable,

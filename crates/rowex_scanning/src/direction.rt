@@ -10,7 +10,7 @@ ghost use Rattle.rowex_walks.specs.Directions.{first_gap as first_gap_of, gap_af
 use insert_cases::PathNode;
 use rowex_walks::Direction;
 
-/// How many entries are to come in the node `top`, for a walk that stands at its gap `top.at`.
+/// How many entries are to come in the node `top`, for a walk in the direction `direction` that stands at its gap `top.at`.
 #[inline(always)]
 pub(crate) fn to_come(direction: Direction, top: &PathNode) -> u8
     requires { top.now.at ≤ top.now.count }
@@ -22,7 +22,7 @@ pub(crate) fn to_come(direction: Direction, top: &PathNode) -> u8
     }
 }
 
-/// The gap at which a walk stands in the node `top` after the next `entries` entries.
+/// The gap at which a walk in the direction `direction` stands in the node `top` after the next `entries` entries.
 #[inline(always)]
 pub(crate) fn gap_after(direction: Direction, top: PathNode, entries: u8) -> u8
     requires fits { top.at ≤ top.count }
@@ -35,7 +35,7 @@ pub(crate) fn gap_after(direction: Direction, top: PathNode, entries: u8) -> u8
     }
 }
 
-/// The place in the node `top` of the entry that comes after the next `entries` ones.
+/// The place in the node `top` of the entry that comes after the next `entries` ones, for a walk in the direction `direction`.
 #[inline(always)]
 pub(crate) fn place_ahead(direction: Direction, top: PathNode, entries: u8) -> u8
     requires fits { top.at ≤ top.count }
@@ -48,7 +48,7 @@ pub(crate) fn place_ahead(direction: Direction, top: PathNode, entries: u8) -> u
     }
 }
 
-/// The gap at which a walk stands after the entry at `place`.
+/// The gap at which a walk in the direction `direction` stands after the entry at `place`.
 #[inline(always)]
 pub(crate) fn behind(direction: Direction, place: u8) -> u8
     requires { place < 32 }
@@ -60,7 +60,7 @@ pub(crate) fn behind(direction: Direction, place: u8) -> u8
     }
 }
 
-/// The gap at which a walk enters a node of `count` entries.
+/// The gap at which a walk in the direction `direction` enters a node of `count` entries.
 #[inline(always)]
 pub(crate) fn first_gap(direction: Direction, count: u8) -> u8
     ensures { result ≡ first_gap_of direction count }
@@ -71,7 +71,8 @@ pub(crate) fn first_gap(direction: Direction, count: u8) -> u8
     }
 }
 
-/// Whether a scan passes the key with the bytes `first` before that with the bytes `second`; `false` if they are one key.
+/// Whether a scan in the direction `direction` passes the key with the bytes `first` before that with the bytes `second`. `false` if they
+/// are one key.
 #[inline(always)]
 pub(crate) fn is_earlier(direction: Direction, first: &[u8], second: &[u8]) -> bool
     requires keys { IsKey first.now × IsKey second.now }

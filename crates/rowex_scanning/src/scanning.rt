@@ -113,7 +113,7 @@ pub fn scan_root<G: Gate>(
     }
 }
 
-/// The first key of the range in the scan's direction.
+/// The first key of `range` in its direction.
 #[inline(always)]
 fn first_key<'a>(range: &'a Range) -> &'a Key
     ensures { result.now ≡ first_key_of range.now.direction (asked_range range.now) }

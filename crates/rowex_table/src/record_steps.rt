@@ -84,7 +84,7 @@ impl HotTable {
         self.store_at::<Brand, G>(seat, gate, act, start + offset as usize, word);
     }
 
-    /// Makes a held record live.
+    /// Makes `rec`, which the pass holds, live.
     pub fn ready<G: Gate>(&self, seat: &mut TableSeat, gate: &mut G, rec: Rec)
         requires own { IsSeatOf self.now seat.old }
         requires range { HasRecord self.now.layout rec }
@@ -95,7 +95,7 @@ impl HotTable {
         self.store_as::<Brand, G>(seat, gate, act, state, pack_state(Tag::Live));
     }
 
-    /// Makes a held record free.
+    /// Makes `rec`, which the pass holds, free.
     pub fn release<G: Gate>(&self, seat: &mut TableSeat, gate: &mut G, rec: Rec)
         requires own { IsSeatOf self.now seat.old }
         requires range { HasRecord self.now.layout rec }
@@ -157,7 +157,7 @@ impl HotTable {
         );
     }
 
-    /// Loads the state of a record.
+    /// Loads the state word of `rec`.
     pub fn load_state<G: Gate>(&self, seat: &mut TableSeat, gate: &mut G, rec: Rec) -> u64
         requires own { IsSeatOf self.now seat.old }
         requires range { HasRecord self.now.layout rec }

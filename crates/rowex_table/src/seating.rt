@@ -51,7 +51,7 @@ impl HotTable {
         self.meet_as::<Brand>(first, second)
     }
 
-    /// `meet_seats`, at a table of the layout that `Q` names.
+    /// Does what `meet_seats` does, at a table of the layout that `Q` names.
     fn meet_as<Q: Step>(&self, first: TableSeat, second: TableSeat) -> (TableSeat, TableSeat)
         requires own { IsSeatOf self.now first × IsSeatOf self.now second }
         requires layout { Q.layout ≡ Some self.now.layout }

@@ -10,7 +10,7 @@ use finite_map::{Call, Reply};
 use key_bits::Key;
 use rowex_reading::Found;
 
-/// The key of a call.
+/// The key of `call`.
 pub(crate) fn key_of(call: &Call) -> &Key
     ensures { result.now ≡ the_key call.now }
 {
@@ -33,7 +33,7 @@ pub(crate) fn value_in(call: &Call, held: Option<u64>) -> u64
     }
 }
 
-/// The value that a search found for its key; `None` if it found nothing, or a leaf with another key.
+/// The value that a search that ended at `found` found for its key; `None` if it found nothing, or a leaf with another key.
 pub(crate) fn value_of(found: Found) -> Option<u64>
     ensures { result ≡ the_value found }
 {

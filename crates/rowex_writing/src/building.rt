@@ -342,7 +342,7 @@ fn raise_lowest<G: Gate>(
     make_grown(table, seat, gate, build, number, &mut words, new)
 }
 
-/// Whether one side of a cut is the node that was cut, as it was; `false` for one node.
+/// Whether one side of `grown` is the node that was cut, as it was; `false` if `grown` is one node.
 fn stays_whole(grown: &Grown) -> bool
     ensures { result ≡ keeps_node grown.now }
 {
@@ -352,7 +352,7 @@ fn stays_whole(grown: &Grown) -> bool
     }
 }
 
-/// Whether the half is the old node.
+/// Whether `half` is the node that was cut, as it was.
 fn is_same(half: &Half) -> bool
     ensures { result ≡ is_the_same half.now }
 {

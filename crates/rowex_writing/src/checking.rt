@@ -153,7 +153,7 @@ fn is_word_of(entry: Option<Entry>, word: u64) -> bool
     }
 }
 
-/// Whether two entries, or none, are the same.
+/// Whether `one` and `other` are the same entry, or both `None`.
 fn are_same(one: Option<Entry>, other: Option<Entry>) -> bool
     ensures same { result ≡ true → one ≡ other }
     ensures differ { result ≡ false → one ≢ other }

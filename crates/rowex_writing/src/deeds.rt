@@ -85,7 +85,7 @@ pub(crate) fn put_leaf<G: Gate>(
     })
 }
 
-/// The number of the leaf record that the search found; `None` if it found nothing.
+/// The number of the leaf record in `found`, which a search found; `None` if it found nothing.
 fn found_leaf(found: Found) -> Option<u32>
     ensures { leaf_gone result ≡ leaf_found found }
 {

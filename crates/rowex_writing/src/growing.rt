@@ -77,7 +77,7 @@ fn grow_with<G: Gate>(
     })
 }
 
-/// The number of an entry's record has 32 bits, as its type says. The function does nothing else than to tell it.
+/// The number of the record of `entry` has 32 bits, as its type says. The function does nothing else than to tell it.
 pub(crate) fn has_number(entry: Entry)
     ensures { HasNumber entry }
 {

@@ -90,7 +90,7 @@ pub(crate) enum Outline {
     Beside { position: u16, level: usize },
 }
 
-/// What a call with this aim does whose search went through `way` and found `found`, as far as these tell it.
+/// What a call with the aim `aim` does whose search went through `way` and found `found`, as far as these tell it.
 pub(crate) fn plan_call(way: &[PathNode], aim: Aim, found: Found) -> Outline
     ensures { IsOutline way.now aim found result }
 {
@@ -182,8 +182,8 @@ fn change(len: usize, end: usize, deed: Deed) -> Plan
     }
 }
 
-/// What a call with this aim does whose search went through `way` and found `found`. Where the entries that a new leaf affects matter,
-/// their node's head is loaded once more.
+/// What a call with the aim `aim` does whose search went through `way` and found `found`. Where the entries that a new leaf affects
+/// matter, their node's head is loaded once more.
 pub(crate) fn find_plan<G: Gate>(
     table: &HotTable,
     seat: &mut TableSeat,

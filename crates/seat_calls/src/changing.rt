@@ -21,7 +21,8 @@ use rowex_writing::{Full, TryFault, attempt};
 use std::sync::Wait;
 use std::thread;
 
-/// Tries to make a change, at most twice, after a small round if one is due. Returns the reply, or why the last attempt was refused.
+/// Tries to make the change `call`, at most twice, after a small round if one is due. Returns the reply, or why the last attempt was
+/// refused.
 pub fn try_change<G: Gate>(
     table: &HotTable,
     seat: &mut TableSeat,
@@ -48,9 +49,9 @@ fn tidy<G: Gate>(table: &HotTable, seat: &mut TableSeat, gate: &mut G, room: &mu
     }
 }
 
-/// Tries to make a change. If no record was free, it makes a round of collection and tries once more, and returns what the second attempt
-/// came to. If the round gave back no record of the kind, and no other pass could have, that attempt does nothing. It is refused as the
-/// first was.
+/// Tries to make the change `call`. If no record was free, it makes a round of collection and tries once more, and returns what the
+/// second attempt came to. If the round gave back no record of the kind, and no other pass could have, that attempt does nothing. It is
+/// refused as the first was.
 fn try_twice<G: Gate>(
     table: &HotTable,
     seat: &mut TableSeat,
@@ -77,7 +78,7 @@ fn try_twice<G: Gate>(
     first
 }
 
-/// The kind of records of which none was free, if the attempt was refused for that; else `None`.
+/// The kind of records of which none was free, if `answer` is a refusal for that; else `None`.
 fn lacked(answer: Result<Reply, TryFault>) -> Option<Full>
     ensures some { IfSome result (λ full. answer ≡ Err (fault_of full)) }
     ensures none { result ≡ None → is_full answer ≡ false }
@@ -117,8 +118,8 @@ fn refuse_again<G: Gate>(table: &HotTable, seat: &mut TableSeat, gate: &mut G)
     unpin(table, seat, gate);
 }
 
-/// Tries to make a change until it is made, or refused for want of records. It tries again as long as another pass is in its way, holds
-/// back records, or may have taken those given back. Returns the reply, or the kind of records of which none was free.
+/// Tries to make the change `call` until it is made, or refused for want of records. It tries again as long as another pass is in its
+/// way, holds back records, or may have taken those given back. Returns the reply, or the kind of records of which none was free.
 pub fn change<R: Wait, G: Gate>(
     rt: &R,
     table: &HotTable,
@@ -145,8 +146,8 @@ pub fn change<R: Wait, G: Gate>(
     unreachable!()
 }
 
-/// The refusal with which a call that waits ends: the kind of records of which none was free. `None` if it tries again, as another pass
-/// is in its way, or records are moving.
+/// The refusal with which a call that waits ends after the fault `fault`: the kind of records of which none was free. `None` if it tries
+/// again, as another pass is in its way, or records are moving.
 fn refusal(fault: TryFault, is_moving: bool) -> Option<Full>
     ensures { IfSome result (λ full. fault ≡ fault_of full) }
 {
@@ -157,7 +158,8 @@ fn refusal(fault: TryFault, is_moving: bool) -> Option<Full>
     }
 }
 
-/// Makes one attempt, with the pass pinned, and notes its reply if it has one. Returns the reply, or why the attempt was refused.
+/// Makes one attempt at `call`, with the pass pinned, and notes its reply if it has one. Returns the reply, or why the attempt was
+/// refused.
 fn try_once<G: Gate>(
     table: &HotTable,
     seat: &mut TableSeat,
