@@ -33,7 +33,7 @@ pub(crate) fn value_in(call: &Call, held: Option<u64>) -> u64
     }
 }
 
-/// The value that a search that ended at `found` found for its key; `None` if it found nothing, or a leaf with another key.
+/// The value of the key of a search that ended at `found`; `None` if it found nothing, or a leaf with another key.
 pub(crate) fn value_of(found: Found) -> Option<u64>
     ensures { result ≡ the_value found }
 {

@@ -61,8 +61,8 @@ impl Supply {
 
 /// Claims a record of `kind` and returns its number, or `None` if none was free.
 ///
-/// It tries the last spare number of `supply` first, which is spare no more. Then it tries each record once, from `supply.next` on, which
-/// becomes the number after the one claimed. Inline, so that no claim asks of which kind it is.
+/// It tries the last spare number of `supply` first, which is spare no more. Then it tries each record once, from `supply.next` on. That
+/// becomes the number after one claimed so. Inline, so that no claim asks of which kind it is.
 #[inline(always)]
 pub(crate) fn claim_next<G: Gate>(
     table: &HotTable,

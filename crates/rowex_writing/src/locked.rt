@@ -143,7 +143,7 @@ pub(crate) fn load_place<G: Gate>(
 }
 
 /// Loads eight words of the locked node `number`, whose record begins at `start`, into `words` from index `first` on. If `first` isn't
-/// before `end`, where the words of its entries end, none is loaded. Inline, so that it is known where each stands.
+/// before `end`, where the words of the node's entries end, none is loaded. Inline, so that it is known where each stands.
 #[inline(always)]
 fn load_eight<G: Gate>(
     table: &HotTable,

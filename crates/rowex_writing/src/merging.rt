@@ -50,8 +50,8 @@ pub(crate) struct Beside {
 /// Ends a removal by a merge: what is left of the leaf's node, in a record made for it, and the node beside become one. Returns whether
 /// it did.
 ///
-/// The two have at most 32 entries together, no other pass is at work there, and another record is free, if one is wanted. Else `false`
-/// is returned, and the pass has the records and locks that it had.
+/// It can where the two have at most 32 entries together, no other pass is at work there, and another record is free, if one is wanted.
+/// Else `false` is returned, and the pass has the records and locks that it had.
 pub(crate) fn try_merge<G: Gate>(
     table: &HotTable,
     seat: &mut TableSeat,
@@ -92,7 +92,7 @@ fn sole_node(made: &[Rec]) -> Option<u32>
 }
 
 /// The node beside the one that loses a leaf. `None` if the other side of the last fork is not one node, or both nodes have more than 33
-/// entries together.
+/// entries together, with the leaf.
 ///
 /// A full node has none, for what is left of it has too many.
 fn find_beside<G: Gate>(

@@ -63,8 +63,8 @@ pub(crate) fn make_leaf<G: Gate>(
     Some(number)
 }
 
-/// Makes the records `made` ready, which the pass has made for a change, the last one first: then they may be linked. `made` is empty
-/// then, one by one: to clear it would be a call for a record or two.
+/// Makes the records `made` ready, which the pass has made for a change, the last one first: then they may be linked. They are taken out
+/// of `made` one by one: to clear it would be a call for a record or two.
 pub(crate) fn ready_all<G: Gate>(
     table: &HotTable,
     seat: &mut TableSeat,
