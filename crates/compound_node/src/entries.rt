@@ -30,7 +30,7 @@ impl Entry {
     ghost use Rattle.std.specs.Prelude.{◌≡◌};
     ghost use Rattle.compound_node.specs.Nodes.{height_of};
 
-    /// The height of a child node. A leaf counts 0.
+    /// The height of a child node; 0 for a leaf.
     pub fn height(&self) -> u16
         ensures { result ≡ height_of self.now }
     {
@@ -41,7 +41,7 @@ impl Entry {
     }
 }
 
-/// The height of a new node over these entries.
+/// The height of a new node over `entries`: one above the highest of theirs.
 pub(crate) fn height_over(entries: &[Entry]) -> u16
     requires { All IsEntry entries.now }
     ensures { result ≡ 1 + greatest_height entries.now }
@@ -53,7 +53,7 @@ pub(crate) fn height_over(entries: &[Entry]) -> u16
     1 + greatest
 }
 
-/// The height of a new node over these entries, of which all but one stood in a node of this height.
+/// The height of a new node over `entries`. These are `entry` and others that stood in a node of the height `height`.
 pub(crate) fn height_with(entries: &[Entry], entry: Entry, height: u16) -> u16
     requires children { All IsEntry entries.now }
     requires leaves { height ≡ 1 → greatest_height entries.now ≡ height_of entry }
@@ -66,7 +66,7 @@ pub(crate) fn height_with(entries: &[Entry], entry: Entry, height: u16) -> u16
     }
 }
 
-/// Whether an entry can stand in a node of this height.
+/// Whether `entry` can stand in a node of the height `height`: it is a leaf, or a node of a lower height from 1 on.
 fn stands_below(entry: Entry, height: u16) -> bool
     ensures { IsTrue result ↔ StandsBelow height entry }
 {
@@ -76,7 +76,7 @@ fn stands_below(entry: Entry, height: u16) -> bool
     }
 }
 
-/// Whether all entries can stand in a node of this height.
+/// Whether all `entries` can stand in a node of the height `height`.
 pub(crate) fn all_stand_below(entries: &[Entry], height: u16) -> bool
     ensures { IsTrue result ↔ All (StandsBelow height) entries.now }
 {
@@ -88,7 +88,7 @@ pub(crate) fn all_stand_below(entries: &[Entry], height: u16) -> bool
     true
 }
 
-/// The list of these entries.
+/// The list of `entries`, 32 at most.
 pub(crate) fn listed(entries: &[Entry]) -> ArrayVec<Entry, 32>
     requires { length entries.now ≤ 32 }
     ensures { result.items ≡ entries.now }
@@ -98,7 +98,7 @@ pub(crate) fn listed(entries: &[Entry]) -> ArrayVec<Entry, 32>
     list
 }
 
-/// Puts a new entry in straight after `last` or straight before `first`.
+/// Puts `entry` into `entries`: with `bit` straight after place `last`, else straight before place `first`.
 pub(crate) fn insert_beside(
     entries: &mut ArrayVec<Entry, 32>,
     first: usize,
@@ -115,7 +115,7 @@ pub(crate) fn insert_beside(
     entries.insert(at, entry);
 }
 
-/// The entries without the one at a place.
+/// The list of `entries` without the one at place `at`.
 pub(crate) fn removed(entries: &[Entry], at: usize) -> ArrayVec<Entry, 32>
     requires room { length entries.now ≤ 32 }
     requires in_range { at < length entries.now }
@@ -127,7 +127,7 @@ pub(crate) fn removed(entries: &[Entry], at: usize) -> ArrayVec<Entry, 32>
     list
 }
 
-/// The entries of two nodes, in order.
+/// The list of the entries `zero` and behind them those of `one`, 32 at most.
 pub(crate) fn both(zero: &[Entry], one: &[Entry]) -> ArrayVec<Entry, 32>
     requires { length zero.now + length one.now ≤ 32 }
     ensures { result.items ≡ zero.now ++ one.now }
@@ -137,6 +137,7 @@ pub(crate) fn both(zero: &[Entry], one: &[Entry]) -> ArrayVec<Entry, 32>
     list
 }
 
+/// Adds `entries` to the end of `list`, which has room for them.
 fn append(list: &mut ArrayVec<Entry, 32>, entries: &[Entry])
     requires { array_vec_len list.old + length entries.now ≤ 32 }
     ensures { list.new.items ≡ list.old.items ++ entries.now }

@@ -33,7 +33,7 @@ pub struct Cut {
     pub one: Half,
 }
 
-/// What these rows show, without the columns that none of them uses.
+/// What the rows `rows` with their entries show, without the columns that none of them uses: one entry, or a node of many.
 fn half_of(columns: &Columns, rows: ArrayVec<u32, 32>, entries: ArrayVec<Entry, 32>) -> Half
     requires some { 0 < length entries.items }
     requires room { length entries.items ≤ 32 }
@@ -53,7 +53,7 @@ fn half_of(columns: &Columns, rows: ArrayVec<u32, 32>, entries: ArrayVec<Entry, 
     Half::Many(built(used_columns, rows.as_slice(), entries))
 }
 
-/// The two sides of the root fork.
+/// The root fork, with its two sides, of the node of `columns`, `rows` and `entries`.
 pub(crate) fn cut_of(columns: &Columns, rows: &[u32], entries: &[Entry]) -> Cut
     requires { FitTogether columns.now rows.now entries.now }
     ensures { CutShows result (piece_of (LeafEntry 0) columns.now rows.now entries.now) }
@@ -73,7 +73,7 @@ pub(crate) fn cut_of(columns: &Columns, rows: &[u32], entries: &[Entry]) -> Cut
     }
 }
 
-/// What is left without the entry at a place.
+/// What is left without the entry at place `at` of the node of `columns`, `rows` and `entries`.
 pub(crate) fn rest_of(columns: &Columns, rows: &[u32], entries: &[Entry], at: usize) -> Half
     requires fit { FitTogether columns.now rows.now entries.now }
     requires in_range { at < length entries.now }

@@ -50,8 +50,8 @@ impl Head {
     ghost use Rattle.pieces.specs.Growth.{IsAffected, affected_count, affected_first, grown};
     ghost use Rattle.pieces.specs.Piece.{leads_to};
 
-    /// The head of these fields, where some node has them: `count` entries, and 4,294,967,295 at
-    /// the unused sparse partial keys.
+    /// The head of these fields, if some node has it, else `None`. It has `count` entries, and 4,294,967,295 at the unused sparse partial
+    /// keys.
     pub fn from_parts(count: u8, height: u16, columns: &[u16], sparse: &[u32; 32]) -> Option<Head>
         ensures some { IsSome result ↔ IsHead count height columns.now sparse.now }
         ensures head { IfSome result (λ head. head ≡ record { height = height; columns = columns.now; rows = take count sparse.now }) }
@@ -68,7 +68,7 @@ impl Head {
         }
     }
 
-    /// The head of these fields, which some node has.
+    /// The head of these fields, which some node has. It has `count` entries, and 4,294,967,295 at the unused places of `sparse`.
     pub fn of(count: u8, height: u16, columns: Columns, sparse: [u32; 32]) -> Head
         requires { IsHead count height columns sparse }
         ensures { result ≡ record { height = height; columns = columns; rows = take count sparse } }
@@ -96,7 +96,7 @@ impl Head {
         self.height
     }
 
-    /// The place to which the forks lead, in each node that has this head.
+    /// The place to which the forks lead by the bits of `key`, in each node that has this head.
     pub fn search(&self, key: &Key) -> u8
         ensures leads { InEachNode self.now (λ node. result ≡ leads_to (bit_of key.now) (piece node)) }
         ensures in_range { result < length self.now.rows }
@@ -113,9 +113,8 @@ impl Head {
         self.columns.first()
     }
 
-    /// The first and the last of the entries that agree with entry `found` in all columns whose
-    /// position is below this one, in each node that has this head: those that a new fork at the
-    /// position concerns.
+    /// The places of the first and the last of the entries that agree with the one at `found` in all columns below `position`. A new fork
+    /// at `position` concerns these, in each node that has this head.
     pub fn affected(&self, found: u8, position: u16) -> (u8, u8)
         requires { found < length self.now.rows }
         ensures range { InEachNode self.now (λ node. (k : ℕ) → k < length node.entries → AgreeBefore node position found k ↔ ((result.0 ≤ k) × (k ≤ result.1))) }
@@ -132,7 +131,7 @@ impl Head {
         )
     }
 
-    /// The head over these rows.
+    /// The head of the height `height` with `columns` and `rows`, which fit together.
     pub(crate) fn over(height: u16, columns: Columns, rows: &[u32]) -> Head
         requires { IsLawfulNode (node_of (record { height = height; columns = columns; rows = rows.now }) (leaves (length rows.now))) }
         ensures { result ≡ record { height = height; columns = columns; rows = rows.now } }
@@ -145,7 +144,8 @@ impl Head {
         }
     }
 
-    /// Puts a new fork in over the entries from `first` to `last`; the height is this one then.
+    /// Puts a new fork at `position` in over the entries from `first` to `last`, for one more entry. With `bit` that stands straight
+    /// after them, else straight before. The height is `height` then.
     pub(crate) fn add(&mut self, height: u16, position: u16, first: usize, last: usize, bit: bool)
         requires room { length self.old.rows < 32 }
         requires range { first ≤ last }
@@ -162,8 +162,8 @@ impl Head {
         self.height = height;
     }
 
-    /// Puts a new fork in over the entries from `first` to `last`, as `Node::add` does, for a new leaf of a node that has
-    /// leaves alone.
+    /// Puts a new fork at `position` in over the entries from `first` to `last`, as `Node::add` does. It is for a new leaf of a node that
+    /// has leaves alone.
     pub fn add_leaf(&mut self, first: u8, last: u8, position: u16, bit: bool)
         requires room { length self.old.rows < 32 }
         requires low { self.old.height ≡ 1 }
@@ -176,7 +176,7 @@ impl Head {
         self.add(1, position, first as usize, last as usize, bit);
     }
 
-    /// Takes the entry at a place out, as `Node::without` does, of a node with more than two; the height is this one then.
+    /// Takes the entry at place `at` out, as `Node::without` does, of a node with more than two. The height is `height` then.
     pub fn take_out(&mut self, at: u8, height: u16)
         requires several { 2 < length self.old.rows }
         requires in_range { at < length self.old.rows }
@@ -191,6 +191,7 @@ impl Head {
         self.height = height;
     }
 
+    /// A copy of the head.
     pub(crate) fn copy(&self) -> Head
         ensures { result ≡ self.now }
     {
@@ -209,6 +210,7 @@ impl Head {
         &self.columns
     }
 
+    /// The sparse partial keys of the entries, in their order.
     pub(crate) fn rows(&self) -> &[u32]
         ensures { result.now ≡ self.now.rows }
     {
@@ -222,7 +224,7 @@ impl Head {
         &self.sparse
     }
 
-    /// The word at a place, used or unused.
+    /// The sparse partial key at place `at`, or 4,294,967,295 at an unused place.
     pub(crate) fn word(&self, at: u8) -> u32
         requires { at < 32 }
         ensures used { at < length self.now.rows → result ≡ slice_index self.now.rows at }
@@ -232,7 +234,8 @@ impl Head {
     }
 }
 
-/// Makes a position a column, where it is none: the first `count` rows have 0 in it. Answers how many columns are below it.
+/// Makes `position` a column, if it is none: the first `count` rows have 0 in it. Returns how many columns are below it. If it was one,
+/// all stays.
 pub(crate) fn make_column(
     columns: &mut Columns,
     rows: &mut [u32; 32],
@@ -256,7 +259,7 @@ pub(crate) fn make_column(
     below
 }
 
-/// Drops the columns in which each of the first `count` rows has 0.
+/// Drops the columns in which each of the first `count` rows has 0, and their bits of these rows. One column at least is left.
 fn drop_unused(columns: &mut Columns, rows: &mut [u32; 32], count: usize)
     requires columns { length columns.old ≤ 31 }
     requires few { count ≤ 32 }
@@ -274,7 +277,7 @@ fn drop_unused(columns: &mut Columns, rows: &mut [u32; 32], count: usize)
     }
 }
 
-/// Whether a head of some height has these fields.
+/// Whether a head of some height has `count` entries, the columns `columns` and the sparse partial keys `sparse`.
 fn fits(count: u8, columns: &[u16], sparse: &[u32; 32]) -> bool
     ensures { IsTrue result ↔ FitsWords count columns.now sparse.now }
 {
@@ -286,7 +289,7 @@ fn fits(count: u8, columns: &[u16], sparse: &[u32; 32]) -> bool
         && are_sparse_keys(&sparse[..used], columns.len())
 }
 
-/// Whether these are 1 to 31 positions that rise strictly, each below 65,535.
+/// Whether `positions` are 1 to 31 positions that rise strictly, each below 65,535.
 fn are_columns(positions: &[u16]) -> bool
     ensures { IsTrue result ↔ IsColumns positions.now }
 {

@@ -10,7 +10,8 @@ use arrayvec::ArrayVec;
 use partial_keys::Columns;
 use std::simd::prelude::*;
 
-/// Widens the rows: a position and those of other columns become columns, and each row has 0 in the new ones.
+/// Makes `position` and the columns `others` columns, where they are none, and each row has 0 in the new ones. There are 31 columns at
+/// most then.
 pub(crate) fn widen(columns: &mut Columns, rows: &mut [u32; 32], position: u16, others: &Columns)
     requires small { position < 65535 }
     requires room { length columns.old + length others.now < 31 }
@@ -23,7 +24,8 @@ pub(crate) fn widen(columns: &mut Columns, rows: &mut [u32; 32], position: u16, 
     *rows = lanes.to_array();
 }
 
-/// Makes a position a column, where it is none: the rows have 0 in it. Inline, so that they stay vectors from one column to the next.
+/// Makes `position` a column, if it is none, and returns the rows with 0 in it; else returns `rows`. Inline, so that they stay vectors
+/// from one column to the next.
 #[inline(always)]
 fn with_column(columns: &mut Columns, rows: u32x32, position: u16) -> u32x32
     requires columns { length columns.old ≤ 31 }
@@ -40,7 +42,7 @@ fn with_column(columns: &mut Columns, rows: u32x32, position: u16) -> u32x32
     spread_lanes(rows, below)
 }
 
-/// The rows of the 0 side, and behind them those of the 1 side, with this bit.
+/// The rows `zero`, and behind them the rows `one`, each joined with `bit`.
 pub(crate) fn both_rows(zero: &[u32], one: &[u32], bit: u32) -> ArrayVec<u32, 32>
     requires { length zero.now + length one.now ≤ 32 }
     ensures { result.items ≡ zero.now ++ map (λ row. bit_or row bit) one.now }

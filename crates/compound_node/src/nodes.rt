@@ -11,10 +11,9 @@ use key_bits::Key;
 use partial_keys::Columns;
 use std::marker::Model;
 
-/// A compound node of 2 to 32 entries, in the order of their keys. It shows a piece of a bit trie:
-/// its 1 to 31 columns are the positions of the piece's forks, and the sparse partial key of an
-/// entry has a 1 exactly where the entry's path takes the 1 side of a fork. The stored height is
-/// above that of each entry.
+/// A compound node of 2 to 32 entries, in the order of their keys. It shows a piece of a bit trie: its 1 to 31 columns are the positions
+/// of the piece's forks. The sparse partial key of an entry has a 1 exactly where the entry's path takes the 1 side of a fork. The stored
+/// height is above that of each entry.
 #[derive(Drop)]
 pub struct Node {
     head: Head,
@@ -42,9 +41,8 @@ impl Node {
     ghost use Rattle.pieces.specs.Growth.{IsAffected, affected_count, affected_first, grown};
     ghost use Rattle.pieces.specs.Piece.{Fork, Place, RisesFrom, leads_to};
 
-    /// The node of these fields, where they fit together: the columns are 1 to 31 positions that
-    /// rise strictly, the sparse partial keys show a piece over them, the unused ones are
-    /// 4,294,967,295, and the entries can stand in a node of this height.
+    /// The node of these fields, if they fit together, else `None`. The columns are 1 to 31 positions that rise strictly, and the sparse
+    /// partial keys show a piece over them. The unused ones are 4,294,967,295, and the entries can stand in a node of this height.
     pub fn from_parts(
         height: u16,
         columns: &[u16],
@@ -61,7 +59,7 @@ impl Node {
         Some(Node::of(head, listed(entries)))
     }
 
-    /// The node of a head and entries that it may have.
+    /// The node of `head` and `entries`, which fit together.
     pub fn of(head: Head, entries: ArrayVec<Entry, 32>) -> Node
         requires { IsLawfulNode (node_of head entries.items) }
         ensures { result ≡ node_of head entries.items }
@@ -69,7 +67,7 @@ impl Node {
         Node { head, entries }
     }
 
-    /// The node of two entries that part at a position. The height is one above theirs.
+    /// The node of two entries with a fork at `position`. The height is one above the higher of them.
     pub fn pair(position: u16, zero: Entry, one: Entry) -> Node
         requires below { position < 65535 }
         requires zero { IsEntry zero }
@@ -82,7 +80,7 @@ impl Node {
         built(Columns::of(&[position]), &[0, 1 << 31], entries)
     }
 
-    /// The node of all entries of two nodes, with a fork at a position above them. The height is built anew.
+    /// The node of all entries of `zero` and `one`, 32 at most, with a fork at `position` above them. The height is built anew.
     pub fn join(position: u16, zero: &Node, one: &Node) -> Node
         requires room { length zero.now.entries + length one.now.entries ≤ 32 }
         requires after { RisesFrom 0 (Fork position (piece zero.now) (piece one.now)) }
@@ -121,7 +119,7 @@ impl Node {
         self.head.columns()
     }
 
-    /// The sparse partial key of an entry, or 4,294,967,295 at an unused place.
+    /// The sparse partial key of entry `i`, or 4,294,967,295 at an unused place; `i` is below 32.
     pub fn sparse(&self, i: u8) -> u32
         requires { i < 32 }
         ensures used { i < length self.now.rows → result ≡ slice_index self.now.rows i }
@@ -137,7 +135,7 @@ impl Node {
         self.head.places()
     }
 
-    /// What the node has at a place.
+    /// The entry at place `i`.
     pub fn entry(&self, i: u8) -> Entry
         requires { i < length self.now.entries }
         ensures entry { slice_get self.now.entries i ≡ Some result }
@@ -161,7 +159,7 @@ impl Node {
         self.head.first_position()
     }
 
-    /// The place to which the forks lead.
+    /// The place to which the forks lead by the bits of `key`.
     pub fn search(&self, key: &Key) -> u8
         ensures leads { result ≡ leads_to (bit_of key.now) (piece self.now) }
         ensures in_range { result < length self.now.entries }
@@ -169,8 +167,8 @@ impl Node {
         self.head.search(key)
     }
 
-    /// The first and the last of the entries that agree with entry `found` in all columns whose
-    /// position is below this one: those that a new fork at the position concerns.
+    /// The places of the first and the last of the entries that agree with the one at `found` in all columns below `position`. A new fork
+    /// at `position` concerns these.
     pub fn affected(&self, found: u8, position: u16) -> (u8, u8)
         requires { found < length self.now.entries }
         ensures range { (k : ℕ) → k < length self.now.entries → AgreeBefore self.now position found k ↔ ((result.0 ≤ k) × (k ≤ result.1)) }
@@ -182,8 +180,8 @@ impl Node {
         self.head.affected(found, position)
     }
 
-    /// Where the other side of the last fork on the path to a place is one place: that place, and the fork's position. None where it
-    /// has several.
+    /// The place beside place `at`, and the position of the fork between the two. `None` if the other side of the last fork on the path
+    /// to `at` has several places.
     pub fn beside(&self, at: u8) -> Option<(u8, u16)>
         requires { at < length self.now.entries }
         ensures { result ≡ beside at (piece self.now) }
@@ -197,7 +195,7 @@ impl Node {
         }
     }
 
-    /// The sparse partial key at a place, or 4,294,967,295 past the last one.
+    /// The sparse partial key at place `at`, or 4,294,967,295 past the last one.
     fn row(&self, at: u8) -> u32
         ensures { result ≡ slice_index_or self.now.rows at 4294967295 }
     {
@@ -208,9 +206,8 @@ impl Node {
         }
     }
 
-    /// The node with a new fork over the entries from `first` to `last`, where they part from the
-    /// new entry. With bit 1 that stands straight after them, with bit 0 straight before. The
-    /// height is built anew.
+    /// The node with a new fork at `position` over the entries from `first` to `last`, where they part from `entry`. With `bit` that
+    /// stands straight after them, else straight before. The height is built anew.
     pub fn insert(&self, first: u8, last: u8, position: u16, bit: bool, entry: Entry) -> Node
         requires room { length self.now.entries < 32 }
         requires range { IsAffected (piece self.now) position first last }
@@ -223,7 +220,7 @@ impl Node {
         node
     }
 
-    /// Puts a new fork in over the entries from `first` to `last`, as `insert` does in a copy.
+    /// Puts a new fork at `position` and `entry` into the node, as `insert` does in a copy.
     pub fn add(&mut self, first: u8, last: u8, position: u16, bit: bool, entry: Entry)
         requires room { length self.old.entries < 32 }
         requires range { IsAffected (piece self.old) position first last }
@@ -237,7 +234,7 @@ impl Node {
         self.head.add(height, position, first, last, bit);
     }
 
-    /// The same node once more.
+    /// A copy of the node.
     pub fn copy(&self) -> Node
         ensures { result ≡ self.now }
     {
@@ -247,7 +244,7 @@ impl Node {
         }
     }
 
-    /// The node with another entry at a place. The stored height stays.
+    /// A copy of the node with this entry at place `i`. The stored height stays.
     pub fn replace(&self, i: u8, entry: Entry) -> Node
         requires in_range { i < length self.now.entries }
         requires stands { StandsBelow self.now.height entry }
@@ -260,7 +257,7 @@ impl Node {
         node
     }
 
-    /// Puts another entry at a place, as `replace` does in a copy.
+    /// Puts `entry` at place `i`, as `replace` does in a copy.
     pub fn set(&mut self, i: u8, entry: Entry)
         requires in_range { i < length self.old.entries }
         requires stands { StandsBelow self.old.height entry }
@@ -283,8 +280,8 @@ impl Node {
         )
     }
 
-    /// The node without an entry, and without the last fork on its path: the fork's other side
-    /// takes its place. It is never `Same`.
+    /// The node without the entry at place `i`, and without the last fork on the path to it: the fork's other side takes its place. It is
+    /// never `Same`.
     pub fn without(&self, i: u8) -> Half
         requires { i < length self.now.entries }
         ensures { HalfShows result (without i (piece self.now)) }

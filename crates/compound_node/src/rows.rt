@@ -18,7 +18,7 @@ use arrayvec::ArrayVec;
 use partial_keys::take_out;
 use std::simd::prelude::*;
 
-/// The rows, with the unused places filled.
+/// The rows `rows` at the first of 32 places, and 4,294,967,295 at the unused ones.
 pub(crate) fn padded(rows: &[u32]) -> [u32; 32]
     requires { length rows.now ≤ 32 }
     ensures { result ≡ with_unused rows.now }
@@ -30,7 +30,7 @@ pub(crate) fn padded(rows: &[u32]) -> [u32; 32]
     out
 }
 
-/// Whether the places from `count` on are unused.
+/// Whether each place from `count` on has 4,294,967,295, so that it is unused.
 pub(crate) fn is_padded(sparse: &[u32; 32], count: usize) -> bool
     requires { count ≤ 32 }
     ensures { IsTrue result ↔ (sparse.now ≡ with_unused (take count sparse.now)) }
@@ -43,7 +43,7 @@ pub(crate) fn is_padded(sparse: &[u32; 32], count: usize) -> bool
     true
 }
 
-/// Whether these are the rows of some piece over so many columns.
+/// Whether `rows` are those of some piece over `columns` columns.
 pub(crate) fn are_sparse_keys(rows: &[u32], columns: usize) -> bool
     requires some { 0 < length rows.now }
     requires few { columns ≤ 31 }
@@ -52,7 +52,7 @@ pub(crate) fn are_sparse_keys(rows: &[u32], columns: usize) -> bool
     is_ladder(rows) && joined(rows) == !(u32::MAX >> columns)
 }
 
-/// Whether each row comes next after the one before it, the first being 0.
+/// Whether each row can stand straight after the one before it in a piece, and the first is 0.
 fn is_ladder(rows: &[u32]) -> bool
     requires { 0 < length rows.now }
     ensures { IsTrue result ↔ IsLadder rows.now }
@@ -66,7 +66,7 @@ fn is_ladder(rows: &[u32]) -> bool
     rows[0] == 0
 }
 
-/// All rows joined.
+/// All of `rows` joined by or.
 pub(crate) fn joined(rows: &[u32]) -> u32
     ensures { result ≡ or_all rows.now }
 {
@@ -77,6 +77,7 @@ pub(crate) fn joined(rows: &[u32]) -> u32
     all
 }
 
+/// Adds `rows` to the end of `out`, which has room for them.
 fn append(out: &mut ArrayVec<u32, 32>, rows: &[u32])
     requires { array_vec_len out.old + length rows.now ≤ 32 }
     ensures { out.new.items ≡ out.old.items ++ rows.now }
@@ -86,7 +87,7 @@ fn append(out: &mut ArrayVec<u32, 32>, rows: &[u32])
 
 // ---- a new column and a new fork
 
-/// A row with a new column at place `j`, in which it has 0.
+/// `row` with a column of zeros put in at place `j`. The columns from there on move on by one, and the last one is lost.
 fn spread(row: u32, j: u8) -> u32
     requires { j ≤ 31 }
     ensures { result ≡ spread_row j row }
@@ -95,7 +96,7 @@ fn spread(row: u32, j: u8) -> u32
     row & !low | (row & low) >> 1
 }
 
-/// Puts a new column in at place `j` of the first `count` rows, which have 0 in it.
+/// Puts a column of zeros in at place `j` of the first `count` rows. The columns from there on move on by one, and the last one is lost.
 pub(crate) fn spread_all(rows: &mut [u32; 32], count: usize, j: u8)
     requires column { j ≤ 31 }
     requires room { count ≤ 32 }
@@ -106,7 +107,7 @@ pub(crate) fn spread_all(rows: &mut [u32; 32], count: usize, j: u8)
     }
 }
 
-/// Puts a new column in at place `j` of all rows, which have 0 in it.
+/// Puts a column of zeros in at place `j` of all rows. The columns from there on move on by one, and the last one is lost.
 #[inline(always)]
 pub(crate) fn spread_lanes(rows: u32x32, j: u8) -> u32x32
     requires { j ≤ 31 }
@@ -123,7 +124,7 @@ const PLACES: [u32; 32] = [
     26, 27, 28, 29, 30, 31,
 ];
 
-/// Puts a row in at a place: those from there on move up by one, over the last of all.
+/// Puts `row` in at place `at`: the rows from there on move up by one, and the last of the 32 is lost.
 #[inline(always)]
 fn with_row(rows: u32x32, at: u32, row: u32) -> u32x32
     requires { at < 32 }
@@ -135,8 +136,8 @@ fn with_row(rows: u32x32, at: u32, row: u32) -> u32x32
     places.simd_lt(at).select(rows, put)
 }
 
-/// Moves the rows from `first` on up by one, over the last of all, and joins bits to those that stand before `end` then. Row `first`
-/// stays in its place, too.
+/// Moves the rows from `first` on up by one, and joins `bits` to those that stand before `end` then. Row `first` stays in its place, too,
+/// and the last of the 32 is lost.
 #[inline(always)]
 fn with_joined(rows: u32x32, first: u32, end: u32, bits: u32) -> u32x32
     requires order { first + 1 < end }
@@ -149,7 +150,8 @@ fn with_joined(rows: u32x32, first: u32, end: u32, bits: u32) -> u32x32
     places.simd_lt(u32x32::splat(first + 1)).select(rows, moved)
 }
 
-/// Puts a new fork in over the rows from `first` to `last`, and with it one row more: those behind move up by one, over the last of all.
+/// Puts a new fork, whose column has the bit `weight`, in over the rows from `first` to `last`. With it comes one row more: with `bit`
+/// straight after them, else straight before. The rows behind move up by one, and the last of the 32 is lost.
 #[inline(always)]
 pub fn fork_rows(rows: u32x32, first: usize, last: usize, weight: u32, bit: bool) -> u32x32
     requires range { first ≤ last }
@@ -166,7 +168,7 @@ pub fn fork_rows(rows: u32x32, first: usize, last: usize, weight: u32, bit: bool
 
 // ---- the rows round one
 
-/// Whether two rows agree in the first columns, so many of them.
+/// Whether the rows `a` and `b` agree in their first `columns` columns.
 fn agree(a: u32, b: u32, columns: usize) -> bool
     requires { columns ≤ 31 }
     ensures { result ≡ agree_in columns a b }
@@ -174,7 +176,7 @@ fn agree(a: u32, b: u32, columns: usize) -> bool
     columns == 0 || a >> (32 - columns) == b >> (32 - columns)
 }
 
-/// The first of the rows round `found` that agree with it in the first columns.
+/// The first of the consecutive rows round row `found` that agree with it in their first `columns` columns.
 pub(crate) fn run_start(rows: &[u32], columns: usize, found: usize) -> usize
     requires few { columns ≤ 31 }
     requires in_range { found < length rows.now }
@@ -188,7 +190,7 @@ pub(crate) fn run_start(rows: &[u32], columns: usize, found: usize) -> usize
     0
 }
 
-/// The last of the rows round `found` that agree with it in the first columns.
+/// The last of the consecutive rows round row `found` that agree with it in their first `columns` columns.
 pub(crate) fn run_end(rows: &[u32], columns: usize, found: usize) -> usize
     requires few { columns ≤ 31 }
     requires in_range { found < length rows.now }
@@ -204,7 +206,7 @@ pub(crate) fn run_end(rows: &[u32], columns: usize, found: usize) -> usize
 
 // ---- the two sides of the first column
 
-/// How many rows have 0 in the first column.
+/// How many rows stand before the first one with a 1 in the first column.
 pub(crate) fn front_len(rows: &[u32]) -> usize
     ensures value { result ≡ front_below (2 ^ 31) rows.now }
     ensures within { result ≤ length rows.now }
@@ -217,7 +219,7 @@ pub(crate) fn front_len(rows: &[u32]) -> usize
     rows.len()
 }
 
-/// The list of these rows.
+/// The list of `rows`, 32 at most.
 pub(crate) fn listed_rows(rows: &[u32]) -> ArrayVec<u32, 32>
     requires { length rows.now ≤ 32 }
     ensures { result.items ≡ rows.now }
@@ -227,7 +229,7 @@ pub(crate) fn listed_rows(rows: &[u32]) -> ArrayVec<u32, 32>
     list
 }
 
-/// The rows, each with its bit of the first column cleared.
+/// The list of `rows`, each with its bit of the first column cleared.
 pub(crate) fn cleared(rows: &[u32]) -> ArrayVec<u32, 32>
     requires { length rows.now ≤ 32 }
     ensures { result.items ≡ map (λ r. r % 2 ^ 31) rows.now }
@@ -239,7 +241,7 @@ pub(crate) fn cleared(rows: &[u32]) -> ArrayVec<u32, 32>
     out
 }
 
-/// A row without column `j`: the later ones move up by one.
+/// `row` without column `j`: the columns behind it move forward by one.
 fn close(row: u32, j: u8) -> u32
     requires { j ≤ 31 }
     ensures { result ≡ closed_row j row }
@@ -258,7 +260,7 @@ fn close_all(rows: &mut [u32], j: u8)
     }
 }
 
-/// Leaves the rows the columns at which `used` has a 1, out of so many.
+/// Takes out of each row those of the first `columns` columns at which `used` has 0.
 pub(crate) fn squeeze_all(rows: &mut [u32], used: u32, columns: u8)
     requires few { columns ≤ 31 }
     requires used { IsRowOver columns used }
@@ -274,7 +276,7 @@ pub(crate) fn squeeze_all(rows: &mut [u32], used: u32, columns: u8)
 
 // ---- a row less
 
-/// The lowest 1 of a row.
+/// The lowest 1 of `row`, as a mask.
 fn lowest_bit(row: u32) -> u32
     requires { 0 < row }
     ensures { result ≡ lowest row }
@@ -282,7 +284,8 @@ fn lowest_bit(row: u32) -> u32
     row - (row & (row - 1))
 }
 
-/// The bit of the last fork on the path to place `at`, if the place is the fork's 0 side, else 0.
+/// The bit, as a mask, of the last fork on the path to place `at`, if the place is that fork's 0 side; else 0. When row `at` is taken
+/// out, the rows of the 1 side lose this bit.
 fn sibling_bit(rows: &[u32], at: usize) -> u32
     requires ladder { IsLadder rows.now }
     requires in_range { at < length rows.now }
@@ -299,7 +302,7 @@ fn sibling_bit(rows: &[u32], at: usize) -> u32
     }
 }
 
-/// Puts the rows behind, the front ones that have the bit without it.
+/// Adds `rows` to the end of `out`. Those that come before the first without `bit` are added without it.
 fn append_cleared(out: &mut ArrayVec<u32, 32>, rows: &[u32], bit: u32)
     requires { array_vec_len out.old + length rows.now ≤ 32 }
     ensures { out.new.items ≡ out.old.items ++ cleared_front bit rows.now }
@@ -311,7 +314,7 @@ fn append_cleared(out: &mut ArrayVec<u32, 32>, rows: &[u32], bit: u32)
     }
 }
 
-/// The rows without row `at`. Where its place is the 0 side of its last fork, the rows of the 1 side lose their 1 there.
+/// The rows without row `at`. If its place is the 0 side of its last fork, the rows of the 1 side lose the fork's bit.
 pub(crate) fn without_row(rows: &[u32], at: usize) -> ArrayVec<u32, 32>
     requires ladder { IsLadder rows.now }
     requires room { length rows.now ≤ 32 }
@@ -324,7 +327,7 @@ pub(crate) fn without_row(rows: &[u32], at: usize) -> ArrayVec<u32, 32>
     out
 }
 
-/// Takes a bit from the rows from `first` up to `end`, as far as they have it.
+/// Takes `bit` from the rows from `first` on and below `end`, up to the first that hasn't it.
 fn clear_front(rows: &mut [u32; 32], first: usize, end: usize, bit: u32)
     requires ordered { first ≤ end }
     requires in_range { end ≤ 32 }
@@ -339,7 +342,7 @@ fn clear_front(rows: &mut [u32; 32], first: usize, end: usize, bit: u32)
     }
 }
 
-/// Takes row `at` out of the first `count`, as `without_row` does.
+/// Takes row `at` out of the first `count`, as `without_row` does. 4,294,967,295 stands behind them then.
 pub(crate) fn take_row(rows: &mut [u32; 32], count: usize, at: usize)
     requires ladder { IsLadder (take count rows.old) }
     requires room { count ≤ 32 }
@@ -353,15 +356,19 @@ pub(crate) fn take_row(rows: &mut [u32; 32], count: usize, at: usize)
 
 // ---- the place beside one
 
-/// The column of the fork between a row and the one before, counted from 1: 0 of the first row, and of an unused place.
+/// The column of the fork between the place of `row` and the one before, counted from 1. It is 0 for the first row, and for an unused
+/// place.
 fn fork_column(row: u32) -> u8
     ensures { result ≡ column_before row }
 {
     ((32 - row.trailing_zeros()) % 32) as u8
 }
 
-/// The place beside one, and the column of the fork between the two, told by the rows at the places from `at - 1` to `at + 2`: in each
-/// node that has them there.
+/// The place beside place `at`, and the column of the fork between the two. `None` if the other side of the last fork on the path to `at`
+/// has several places.
+///
+/// It is told by the rows at the places from `at - 1` to `at + 2`: `before`, `own`, `after`, `second`. It is so in each node with these
+/// there.
 #[inline(always)]
 pub fn place_beside(at: u8, before: u32, own: u32, after: u32, second: u32) -> Option<(u8, u8)>
     requires { at < 32 }

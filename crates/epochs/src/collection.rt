@@ -54,8 +54,8 @@ const UNVISITED: Tally = Tally {
     held_back: false,
 };
 
-/// Makes the epoch the next one, and gives back each record that was retired in an epoch below this one and below each pin that is
-/// set.
+/// Makes the epoch the next one, and gives back the records that were retired in an epoch below this one and below each pin. Returns how
+/// many these were, and whether a retired one was held back.
 ///
 /// At the last epoch, 2^60 - 1, the epoch stays, and what is below it is still given back.
 pub fn collect_round<G: Gate>(table: &HotTable, seat: &mut TableSeat, gate: &mut G) -> Collected
@@ -76,9 +76,9 @@ pub fn collect_round<G: Gate>(table: &HotTable, seat: &mut TableSeat, gate: &mut
     }
 }
 
-/// Makes a small round: makes the epoch the next one, and visits the oldest records of the pass's limbo list, at most
-/// `MOST_VISITED` and up to the first that has to wait. Each that was retired in an epoch below this one and below each pin that is
-/// set is given back, and stands in the list's `given` then.
+/// Makes a small round: makes the epoch the next one, and visits the oldest records of the pass's list `limbo`. It visits at most
+/// `MOST_VISITED`, up to the first that has to wait. A record that was retired in an epoch below this one and below each pin is given
+/// back, and stands in the list's `given` then.
 ///
 /// It costs by what the pass has retired, however many records the table has.
 pub fn collect_small<G: Gate>(
@@ -97,7 +97,7 @@ pub fn collect_small<G: Gate>(
     visit_limbo(table, seat, gate, limbo, bound);
 }
 
-/// Makes the epoch the next one, and finds the bound of the round: the least of that epoch and of the pins that are set.
+/// Makes the epoch the next one, and returns the bound of the round: the least of that epoch and of the pins that are set.
 fn begin_round<G: Gate>(table: &HotTable, seat: &mut TableSeat, gate: &mut G) -> u64
     requires { IsSeatOf table.now seat.old }
     ensures pin { seat.new.known.pin ≡ seat.old.known.pin }
@@ -108,7 +108,7 @@ fn begin_round<G: Gate>(table: &HotTable, seat: &mut TableSeat, gate: &mut G) ->
     find_bound(table, seat, gate)
 }
 
-/// Loads the epoch and, unless it is the last, makes it the next one.
+/// Loads the epoch and, unless it is the last, makes it the next one, if no other pass has done so meanwhile.
 fn advance_epoch<G: Gate>(table: &HotTable, seat: &mut TableSeat, gate: &mut G)
     requires { IsSeatOf table.now seat.old }
     ensures pin { seat.new.known.pin ≡ seat.old.known.pin }
@@ -120,7 +120,7 @@ fn advance_epoch<G: Gate>(table: &HotTable, seat: &mut TableSeat, gate: &mut G)
     }
 }
 
-/// Loads the epoch and each pin; answers the least of that epoch and of the pins that are not 0.
+/// Loads the epoch and each pin; returns the least of that epoch and of the pins that are not 0.
 fn find_bound<G: Gate>(table: &HotTable, seat: &mut TableSeat, gate: &mut G) -> u64
     requires { IsSeatOf table.now seat.old }
     ensures pin { seat.new.known.pin ≡ seat.old.known.pin }
@@ -136,7 +136,7 @@ fn find_bound<G: Gate>(table: &HotTable, seat: &mut TableSeat, gate: &mut G) -> 
     bound
 }
 
-/// The lower of a bound and a pin's word, where 0 is no pin.
+/// The lower of `bound` and `word`, a pin's word; `bound` if `word` is 0, which is no pin.
 fn lowered(bound: u64, word: u64) -> u64
     ensures none { word ≡ 0 → result ≡ bound }
     ensures pinned { 1 ≤ word → result ≡ min bound word }
@@ -144,7 +144,8 @@ fn lowered(bound: u64, word: u64) -> u64
     if word == 0 { bound } else { bound.min(word) }
 }
 
-/// Visits each node record in rising number; answers how many it gave back.
+/// Visits each node record in rising number. Returns how many it gave back, and whether one has to wait. `bound` is the bound of the
+/// round.
 fn visit_nodes<G: Gate>(table: &HotTable, seat: &mut TableSeat, gate: &mut G, bound: u64) -> Tally
     requires own { IsSeatOf table.now seat.old }
     requires bound { HasBound table.now.layout.passes bound seat.old.known }
@@ -161,7 +162,8 @@ fn visit_nodes<G: Gate>(table: &HotTable, seat: &mut TableSeat, gate: &mut G, bo
     tally
 }
 
-/// Visits each leaf record in rising number; answers how many it gave back.
+/// Visits each leaf record in rising number. Returns how many it gave back, and whether one has to wait. `bound` is the bound of the
+/// round.
 fn visit_leaves<G: Gate>(table: &HotTable, seat: &mut TableSeat, gate: &mut G, bound: u64) -> Tally
     requires own { IsSeatOf table.now seat.old }
     requires bound { HasBound table.now.layout.passes bound seat.old.known }
@@ -179,8 +181,8 @@ fn visit_leaves<G: Gate>(table: &HotTable, seat: &mut TableSeat, gate: &mut G, b
     tally
 }
 
-/// Visits the leaf records from one number on and below another, all of one class, so each begins equally far behind the one
-/// before; answers the tally with those that were visited before.
+/// Visits the leaf records from number `first` on and below `end`, all of one class, so each begins equally far behind the one before.
+/// Returns the tally `before` with these visits.
 fn visit_class<G: Gate>(
     table: &HotTable,
     seat: &mut TableSeat,
@@ -211,7 +213,7 @@ fn visit_class<G: Gate>(
     tally
 }
 
-/// The tally after a visit more.
+/// `tally` with one more visit, which came to `seen`.
 fn counted(tally: Tally, seen: Visited) -> Tally
     requires { tally.given + 1 < 2 ^ 32 }
     ensures given { result.given ≡ tally.given + (if is_given seen then 1 else 0) }
@@ -229,7 +231,7 @@ fn counted(tally: Tally, seen: Visited) -> Tally
     }
 }
 
-/// Visits the oldest records of a limbo list, at most `MOST_VISITED` and up to the first that has to wait.
+/// Visits the oldest records of `limbo`, at most `MOST_VISITED` and up to the first that has to wait. Those before it leave the list.
 fn visit_limbo<G: Gate>(
     table: &HotTable,
     seat: &mut TableSeat,
@@ -252,8 +254,8 @@ fn visit_limbo<G: Gate>(
     limbo.leave(count);
 }
 
-/// Visits the record that waits at this place of a limbo list; answers whether it leaves the list. One that the table hasn't does so
-/// without a visit.
+/// Visits the record that waits at `place` in `limbo`, and returns whether it leaves the list: not if it has to wait. One that the table
+/// hasn't leaves the list without a visit.
 fn visit_waiting<G: Gate>(
     table: &HotTable,
     seat: &mut TableSeat,
@@ -275,7 +277,7 @@ fn visit_waiting<G: Gate>(
     limbo.settle(rec, seen)
 }
 
-/// The word at which a record begins, if the table has it.
+/// The word at which `rec` begins; `None` if the table has no such record.
 fn start_within(table: &HotTable, rec: Rec) -> Option<usize>
     ensures { IfSome result (λ start. IsStartOf table.now.layout rec start) }
 {
@@ -287,8 +289,8 @@ fn start_within(table: &HotTable, rec: Rec) -> Option<usize>
     }
 }
 
-/// Loads the state of a record, which begins at `start`, and, where it is obsolete in an epoch below the bound, tries to make it
-/// free; answers what that came to.
+/// Loads the state of `rec`, which begins at word `start`, and, where it is obsolete in an epoch below `bound`, tries to make it free.
+/// Returns what that came to.
 fn visit<G: Gate>(
     table: &HotTable,
     seat: &mut TableSeat,
@@ -311,7 +313,7 @@ fn visit<G: Gate>(
     given_if(found == word)
 }
 
-/// What a visit came to that gave back its record, or another pass did.
+/// What a visit came to that tried to give its record back: `Given` if it did, `Other` if another pass had done so.
 fn given_if(given: bool) -> Visited
     ensures { is_given result ≡ given }
 {
@@ -322,7 +324,7 @@ fn given_if(given: bool) -> Visited
     }
 }
 
-/// What a visit came to of a record of this state that was not to be given back.
+/// What a visit came to of a record with the state `word`, not to be given back: `Waits` if it is obsolete, else `Other`.
 fn unripe(word: u64) -> Visited
     ensures { is_given result ≡ false }
 {
@@ -332,7 +334,7 @@ fn unripe(word: u64) -> Visited
     }
 }
 
-/// The epoch in which a record of this state was retired, if it is below the bound.
+/// The epoch in which a record with the state `word` was retired, if it is below `bound`. `None` if it isn't, or the state is another.
 fn epoch_below(word: u64, bound: u64) -> Option<u64>
     ensures { MatchOption result ((epoch : ℕ) → 1 ≤ epoch → epoch < EPOCHS → epoch < bound → word ≢ state_word (Obsolete epoch))
         (λ epoch. (1 ≤ epoch) × (epoch < EPOCHS) × (epoch < bound) × (word ≡ state_word (Obsolete epoch))) }

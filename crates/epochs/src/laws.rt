@@ -9,7 +9,7 @@ pub fn reach_is_kept()
     ensures { ReachIsKept }
 {}
 
-/// And so before and after each step of a run.
+/// Before and after each step of a run, no record of a pinned pass's reach is free or held.
 pub fn runs_keep_reach<G: Gate>()
     ensures { RunsKeepReach G.becomes }
 {}

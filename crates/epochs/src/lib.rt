@@ -13,11 +13,11 @@
 //!
 //! # Why nothing in reach is given back
 //!
-//! Let a pass reach a record that was unlinked by a store. Then it loaded the epoch for its pin before that store, so its pin is
-//! at most the record's mark, which was loaded after the store. If the round loaded this pin, the bound is at most the mark, and
-//! the record stays. If the round loaded the pin before it was set, the pass had not yet read the root. Then either the store
-//! came first, and the pass can't reach the record; or the epoch that the round had loaded for its bound is at most the mark, and
-//! the record stays again. The laws [`laws::reach_is_kept`] and [`laws::given_is_out_of_reach`] say so of each step.
+//! Let a pass reach a record that was unlinked by a store. Then it loaded the epoch for its pin before that store, so its pin is at
+//! most the record's mark, which was loaded after the store. If the round loaded this pin, the bound is at most the mark, and the
+//! record stays. If the round loaded the pin before it was set, the pass had not yet read the root. Then either the store came first,
+//! and the pass can't reach the record. Or the epoch that the round had loaded for its bound is at most the mark, and the record stays
+//! again. The laws [`laws::reach_is_kept`] and [`laws::given_is_out_of_reach`] say so of each step.
 //!
 //! # Rounds
 //!

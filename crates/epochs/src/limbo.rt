@@ -7,7 +7,7 @@ use rowex_core::Rec;
 /// How many records a limbo list keeps at most.
 const MOST_WAITING: usize = 4_096;
 
-/// When the pass has retired so many records since its last small round, the next one is due.
+/// How many records the pass retires between two small rounds: after so many the next one is due.
 const DUE: u32 = 32;
 
 /// How many records a small round visits at most.
@@ -15,8 +15,8 @@ pub const MOST_VISITED: usize = 128;
 
 /// The limbo list of a pass: the records that it has retired and not given back yet, the oldest first.
 ///
-/// These are plain numbers, which promise nothing: a record of the list may have been given back by a full round, of this pass or of
-/// another, and one that finds no place in the list is left to those.
+/// These are plain numbers, which promise nothing. A record of the list may have been given back by a full round, of this pass or of
+/// another. One that finds no place in the list is left to such rounds.
 #[derive(Drop)]
 pub struct Limbo {
     /// The ring of the records that wait.
@@ -43,7 +43,8 @@ impl Limbo {
         }
     }
 
-    /// Puts a record that the pass has just retired at the end of the list, if there is a place for it.
+    /// Puts a record that the pass has just retired at the end of the list. If the list is full, the record is left to full rounds.
+    /// Either way it counts towards the next small round.
     pub fn push(&mut self, rec: Rec) {
         self.retired = self.retired.saturating_add(1);
         if self.count < MOST_WAITING {
@@ -52,12 +53,12 @@ impl Limbo {
         }
     }
 
-    /// Whether a small round is due.
+    /// Whether a small round is due: the pass has retired at least `DUE` records since its last one.
     pub fn is_due(&self) -> bool {
         self.retired >= DUE
     }
 
-    /// Begins a small round: nothing is given back yet.
+    /// Begins a small round: `given` is empty, and no record counts towards the next one yet.
     pub(crate) fn begin(&mut self) {
         self.retired = 0;
         self.given.clear();
@@ -68,12 +69,12 @@ impl Limbo {
         self.count
     }
 
-    /// The record that waits at this place, counted from the oldest on.
+    /// The record that waits at `place`, which is below `count` and counted from 0 at the oldest.
     pub(crate) fn waiting_at(&self, place: usize) -> Rec {
         self.waiting[self.first.wrapping_add(place) % MOST_WAITING]
     }
 
-    /// After a visit of a record: notes it if it was given back. Answers whether it leaves the list, as it does unless it has to wait.
+    /// Adds `rec` to `given`, if a visit gave it back. Returns whether the record leaves the list, as it does unless it has to wait.
     pub(crate) fn settle(&mut self, rec: Rec, seen: Visited) -> bool {
         match seen {
             Visited::Waits => return false,
@@ -83,7 +84,7 @@ impl Limbo {
         true
     }
 
-    /// The oldest so many records leave the list.
+    /// Takes the oldest `count` records out of the list.
     pub(crate) fn leave(&mut self, count: usize) {
         self.first = self.first.wrapping_add(count) % MOST_WAITING;
         self.count = self.count.saturating_sub(count);

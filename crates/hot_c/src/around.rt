@@ -12,7 +12,8 @@ pub struct KeyRoom {
     pub bytes: [u8; 240],
 }
 
-/// Writes the least key above a key, and its length; or `ABSENT`, if there is none.
+/// Writes the least key above `key` to `next`, and its length to `length`: `DONE`. `ABSENT` if there is none, `KEY_TOO_LONG` if `key` is
+/// too long; nothing is written then.
 #[unsafe(no_mangle)]
 pub extern "C" fn hot_after(key: &[u8], next: &mut KeyRoom, length: &mut usize) -> u32
     ensures { TellsAfter key.now next.old length.old next.new length.new result }
@@ -23,7 +24,8 @@ pub extern "C" fn hot_after(key: &[u8], next: &mut KeyRoom, length: &mut usize) 
     }
 }
 
-/// Writes the greatest key below a key, and its length; or `ABSENT`, if there is none.
+/// Writes the greatest key below `key` to `previous`, and its length to `length`: `DONE`. `ABSENT` if there is none, `KEY_TOO_LONG` if
+/// `key` is too long; nothing is written then.
 #[unsafe(no_mangle)]
 pub extern "C" fn hot_before(key: &[u8], previous: &mut KeyRoom, length: &mut usize) -> u32
     ensures { TellsBefore key.now previous.old length.old previous.new length.new result }
@@ -34,7 +36,7 @@ pub extern "C" fn hot_before(key: &[u8], previous: &mut KeyRoom, length: &mut us
     }
 }
 
-/// Writes a key and its length; or neither, if there is none.
+/// Writes the key `found` to `key`, and its length to `length`: `DONE`. `ABSENT` for `None`, and nothing is written.
 fn tell_key(found: Option<Key>, key: &mut KeyRoom, length: &mut usize) -> u32
     ensures { IsKeyTold found key.old length.old key.new length.new result }
 {

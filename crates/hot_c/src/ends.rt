@@ -8,7 +8,8 @@ use crate::scans::fill;
 use key_bits::MAX_BYTES;
 use std::alloc::Global;
 
-/// Writes the first pair whose key is `from` or above: `FOUND`, or `ABSENT` if there is none.
+/// Writes the first pair whose key is `from` or above to `pair`: `FOUND`, or `ABSENT` if there is none. `CLOSED`, `KEY_TOO_LONG` or
+/// `NO_MEMORY` says why there was no scan. Only `FOUND` writes.
 #[unsafe(no_mangle)]
 pub extern "C" fn hot_first(alloc: Global, handle: &mut Handle, from: &[u8], pair: &mut Pair) -> u32
     ensures call { FindsFirst from.now handle.old.slot.opened handle.new.slot.opened pair.old pair.new result }
@@ -23,7 +24,8 @@ pub extern "C" fn hot_first(alloc: Global, handle: &mut Handle, from: &[u8], pai
     )
 }
 
-/// Writes the last pair whose key is `upto` or below: `FOUND`, or `ABSENT` if there is none.
+/// Writes the last pair whose key is `upto` or below to `pair`: `FOUND`, or `ABSENT` if there is none. `CLOSED`, `KEY_TOO_LONG` or
+/// `NO_MEMORY` says why there was no scan. Only `FOUND` writes.
 #[unsafe(no_mangle)]
 pub extern "C" fn hot_last(alloc: Global, handle: &mut Handle, upto: &[u8], pair: &mut Pair) -> u32
     ensures call { FindsLast upto.now handle.old.slot.opened handle.new.slot.opened pair.old pair.new result }
@@ -31,7 +33,8 @@ pub extern "C" fn hot_last(alloc: Global, handle: &mut Handle, upto: &[u8], pair
     find(alloc, handle, Order::Falling, &[], upto, pair)
 }
 
-/// Writes the pair that a scan of the range for one pair finds.
+/// Writes the pair that a scan of the range for one pair finds to `pair`: `FOUND`, or `ABSENT` if it finds none. Another status says why
+/// there was no scan.
 fn find(
     alloc: Global,
     handle: &mut Handle,

@@ -25,8 +25,8 @@ use key_bits::{Key, KeyFault};
 use record_words::{Layout, Stock};
 use std::alloc::Global;
 
-/// Makes an empty index with this number of node and leaf records and a pass for each handle, and opens all handles, or none. All
-/// must be closed before.
+/// Makes an empty index with these numbers of node and leaf records and a pass for each of `handles`, and opens all of them: `DONE`. Else
+/// all stay as they were: `OUT_OF_RANGE`, `OPEN` if one is not closed before, or `NO_MEMORY`.
 #[unsafe(no_mangle)]
 pub extern "C" fn hot_create(alloc: Global, nodes: u32, leaves: u32, handles: &mut [Handle]) -> u32
     ensures range { ¬ IsSize (length handles.old) nodes leaves → (result ≡ OUT_OF_RANGE) × (handles.new ≡ handles.old) }
@@ -50,8 +50,8 @@ pub extern "C" fn hot_create(alloc: Global, nodes: u32, leaves: u32, handles: &m
     }
 }
 
-/// Makes an empty index with this stock of records and a pass for each handle, and opens all handles, or none. All must be closed
-/// before.
+/// Makes an empty index with the records of `stock` and a pass for each of `handles`, and opens all of them: `DONE`. Else all stay as
+/// they were: `OUT_OF_RANGE`, `OPEN` if one is not closed before, or `NO_MEMORY`.
 #[unsafe(no_mangle)]
 pub extern "C" fn hot_create_with(alloc: Global, stock: &HotStock, handles: &mut [Handle]) -> u32
     ensures range { ¬ IsStockSize (length handles.old) (stock_in stock.now) → (result ≡ OUT_OF_RANGE) × (handles.new ≡ handles.old) }
@@ -76,8 +76,8 @@ pub extern "C" fn hot_create_with(alloc: Global, stock: &HotStock, handles: &mut
     }
 }
 
-/// Makes an empty index with this stock of records and so many passes, and opens a handle, which must be closed before, with the last
-/// of the passes. It keeps the others for `hot_open_kept`.
+/// Makes an empty index with the records of `stock` and `passes` passes, and opens `handle` with the last of them: `DONE`. The handle
+/// keeps the others for `hot_open_kept`. Else it stays as it was: `OUT_OF_RANGE`, `OPEN` if it is not closed before, or `NO_MEMORY`.
 #[unsafe(no_mangle)]
 pub extern "C" fn hot_create_keeping(
     alloc: Global,
@@ -107,7 +107,8 @@ pub extern "C" fn hot_create_keeping(
     }
 }
 
-/// Opens a closed handle with the next of the passes that another one keeps, if it keeps any.
+/// Opens `handle`, which is closed, with the next of the passes that `keeper` keeps: `DONE`. Else both stay as they were: `CLOSED` if
+/// `keeper` is closed, `OPEN` if `handle` is not, `NO_HANDLE` if no pass is kept, or `NO_MEMORY`.
 #[unsafe(no_mangle)]
 pub extern "C" fn hot_open_kept(alloc: Global, keeper: &mut Handle, handle: &mut Handle) -> u32
     ensures closed { keeper.old.slot.opened ≡ None → (result ≡ CLOSED) × (keeper.new.slot.opened ≡ None) × (handle.new ≡ handle.old) }
@@ -131,7 +132,7 @@ pub extern "C" fn hot_open_kept(alloc: Global, keeper: &mut Handle, handle: &mut
     }
 }
 
-/// Writes the stock of `Stock::for_keys` for `count` keys of at most `longest` bytes each.
+/// Writes the stock of `Stock::for_keys` for `count` keys of at most `longest` bytes each to `stock`.
 #[unsafe(no_mangle)]
 pub extern "C" fn hot_stock_for_keys(count: u32, longest: usize, stock: &mut HotStock)
     ensures { stock_in stock.new ≡ stock_for count longest }
@@ -139,7 +140,8 @@ pub extern "C" fn hot_stock_for_keys(count: u32, longest: usize, stock: &mut Hot
     stock.set(Stock::for_keys(count, longest));
 }
 
-/// Writes how many bytes the table of an index with this stock and this number of handles takes.
+/// Writes how many bytes the table of an index with this stock and this number of handles takes to `bytes`: `DONE`. `OUT_OF_RANGE`, and
+/// nothing is written, if there is no such index.
 #[unsafe(no_mangle)]
 pub extern "C" fn hot_stock_bytes(stock: &HotStock, handles: usize, bytes: &mut usize) -> u32
     ensures range { ¬ IsStockSize handles (stock_in stock.now) → (result ≡ OUT_OF_RANGE) × (bytes.new ≡ bytes.old) }
@@ -157,7 +159,8 @@ pub extern "C" fn hot_stock_bytes(stock: &HotStock, handles: usize, bytes: &mut 
     }
 }
 
-/// Writes the number of a handle's pass, which is the handle's place among those that were opened with it.
+/// Writes the number of a handle's pass, which is the handle's place among those that were opened with it: `DONE`. `CLOSED` if the handle
+/// is closed, and nothing is written.
 #[unsafe(no_mangle)]
 pub extern "C" fn hot_number(handle: &mut Handle, number: &mut u16) -> u32
     ensures closed { handle.old.slot.opened ≡ None → (result ≡ CLOSED) × (number.new ≡ number.old) }
@@ -171,7 +174,8 @@ pub extern "C" fn hot_number(handle: &mut Handle, number: &mut u16) -> u32
     DONE
 }
 
-/// Looks up a key: `FOUND`, with its value, or `ABSENT`. It is never busy and never full.
+/// Looks up `key`: `FOUND`, with its value in `value`, or `ABSENT`; `CLOSED` or `KEY_TOO_LONG` if it can't. It is never busy and never
+/// full.
 #[unsafe(no_mangle)]
 pub extern "C" fn hot_get(handle: &mut Handle, key: &[u8], value: &mut u64) -> u32
     ensures call { Answers key.now (Get key.now) handle.old.slot.opened handle.new.slot.opened value.old value.new result }
@@ -187,7 +191,8 @@ pub extern "C" fn hot_get(handle: &mut Handle, key: &[u8], value: &mut u64) -> u
     }
 }
 
-/// Looks up many keys, in turn, and writes what it found for each: `FOUND`, with its value, or `ABSENT`.
+/// Looks up many keys, in turn, and writes what it found for each: `FOUND`, with its value, or `ABSENT`. It returns `DONE`; or `CLOSED`,
+/// `KEY_TOO_LONG` if one key is too long, or `NO_MEMORY`, and looks up none.
 #[unsafe(no_mangle)]
 pub extern "C" fn hot_get_many(
     alloc: Global,
@@ -213,7 +218,8 @@ pub extern "C" fn hot_get_many(
     DONE
 }
 
-/// Inserts a key with a value: `INSERTED`; or `EXISTS` with the value that the key has already, and keeps.
+/// Inserts `key` with `value`: `INSERTED`; or `EXISTS` with the value that the key has already, and keeps, in `had`. Another status says
+/// why nothing was changed.
 #[unsafe(no_mangle)]
 pub extern "C" fn hot_try_insert(handle: &mut Handle, key: &[u8], value: u64, had: &mut u64) -> u32
     ensures call { Answers key.now (Insert key.now value) handle.old.slot.opened handle.new.slot.opened had.old had.new result }
@@ -222,7 +228,8 @@ pub extern "C" fn hot_try_insert(handle: &mut Handle, key: &[u8], value: u64, ha
     make_call(handle, &mut call, key, had)
 }
 
-/// Gives a key a value, whether it has one or not: `NEW`, or `WAS` with the value that it had.
+/// Gives `key` the value `value`, whether it has one or not: `NEW`, or `WAS` with the value that it had in `had`. Another status says why
+/// nothing was changed.
 #[unsafe(no_mangle)]
 pub extern "C" fn hot_try_upsert(handle: &mut Handle, key: &[u8], value: u64, had: &mut u64) -> u32
     ensures call { Answers key.now (Upsert key.now value) handle.old.slot.opened handle.new.slot.opened had.old had.new result }
@@ -231,8 +238,8 @@ pub extern "C" fn hot_try_upsert(handle: &mut Handle, key: &[u8], value: u64, ha
     make_call(handle, &mut call, key, had)
 }
 
-/// Gives a key a new value if it has the expected one (`EXCHANGED`). Else it changes nothing: `DIFFERS` with the value that the key
-/// has, or `ABSENT`.
+/// Gives `key` the value `value` if it has the value `expected` (`EXCHANGED`). Else it changes nothing: `DIFFERS` with the value that the
+/// key has in `had`, or `ABSENT`. Another status says why nothing was changed.
 #[unsafe(no_mangle)]
 pub extern "C" fn hot_try_exchange(
     handle: &mut Handle,
@@ -247,8 +254,8 @@ pub extern "C" fn hot_try_exchange(
     make_call(handle, &mut call, key, had)
 }
 
-/// Adds a number to the value of a key, modulo 2 to the power of 64: `WAS` with the value that it had; or `ABSENT`, and then it changes
-/// nothing.
+/// Adds `delta` to the value of `key`, modulo 2 to the power of 64: `WAS` with the value that it had in `had`. `ABSENT` if the key is
+/// absent, and then nothing changes. Another status says why nothing was changed.
 #[unsafe(no_mangle)]
 pub extern "C" fn hot_try_add(handle: &mut Handle, key: &[u8], delta: u64, had: &mut u64) -> u32
     ensures call { Answers key.now (Add key.now delta) handle.old.slot.opened handle.new.slot.opened had.old had.new result }
@@ -257,7 +264,8 @@ pub extern "C" fn hot_try_add(handle: &mut Handle, key: &[u8], delta: u64, had: 
     make_call(handle, &mut call, key, had)
 }
 
-/// Removes a key: `REMOVED` with the value that it had, or `ABSENT`. It needs no leaf record, so it never answers `FULL_LEAVES`.
+/// Removes `key`: `REMOVED` with the value that it had in `had`, or `ABSENT`. It needs no leaf record, so it never returns `FULL_LEAVES`.
+/// Another status says why nothing was changed.
 #[unsafe(no_mangle)]
 pub extern "C" fn hot_try_remove(handle: &mut Handle, key: &[u8], had: &mut u64) -> u32
     ensures call { Answers key.now (Remove key.now) handle.old.slot.opened handle.new.slot.opened had.old had.new result }
@@ -267,8 +275,8 @@ pub extern "C" fn hot_try_remove(handle: &mut Handle, key: &[u8], had: &mut u64)
     make_call(handle, &mut call, key, had)
 }
 
-/// Removes a key if it has the expected value (`REMOVED` with that value). Else it changes nothing: `DIFFERS` with the value that
-/// the key has, or `ABSENT`. It never answers `FULL_LEAVES`.
+/// Removes `key` if it has the value `expected` (`REMOVED` with that value in `had`). Else it changes nothing: `DIFFERS` with the value
+/// that the key has in `had`, or `ABSENT`. It never returns `FULL_LEAVES`. Another status says why nothing was changed.
 #[unsafe(no_mangle)]
 pub extern "C" fn hot_try_remove_if(
     handle: &mut Handle,
@@ -283,8 +291,8 @@ pub extern "C" fn hot_try_remove_if(
     make_call(handle, &mut call, key, had)
 }
 
-/// Makes a call with this key in place of its own, if the handle is open and the key is not too long. Inline, so that the key's bytes
-/// are written once, where the call stands.
+/// Makes `call` with `key` in place of its own, and returns the status. `CLOSED` if the handle is closed, `KEY_TOO_LONG` if the key is
+/// too long. Inline, so that the key's bytes are written once, where the call stands.
 #[inline(always)]
 fn make_call(handle: &mut Handle, call: &mut Call, key: &[u8], had: &mut u64) -> u32
     ensures call { Answers key.now (for_key key.now call.old) handle.old.slot.opened handle.new.slot.opened had.old had.new result }
@@ -299,7 +307,7 @@ fn make_call(handle: &mut Handle, call: &mut Call, key: &[u8], had: &mut u64) ->
     }
 }
 
-/// Gives a call this key in place of its own, if it is not too long.
+/// Gives `call` the key `key` in place of its own; a fault if that is too long.
 #[inline(always)]
 fn set_key(call: &mut Call, key: &[u8]) -> Result<(), KeyFault>
     ensures fits { IsOk result ↔ FitsInKey key.now }
@@ -316,7 +324,8 @@ fn set_key(call: &mut Call, key: &[u8]) -> Result<(), KeyFault>
     }
 }
 
-/// Makes a call for a key of this length through an open handle.
+/// Makes `call`, for a key of `size` bytes, through an open handle, and returns the status. The reply's value, if it has one, goes to
+/// `had`.
 #[inline(never)]
 fn make_open(handle: &mut Handle, call: &Call, size: usize, had: &mut u64) -> u32
     requires { IsSome handle.old.slot.opened }
@@ -326,7 +335,8 @@ fn make_open(handle: &mut Handle, call: &Call, size: usize, had: &mut u64) -> u3
     handle.slot.lend().make(call, size, had)
 }
 
-/// Makes one round of collection, and writes how many node and leaf records it gave back.
+/// Makes one round of collection, and writes how many node and leaf records it gave back: `DONE`. `CLOSED` if the handle is closed, and
+/// nothing is written.
 #[unsafe(no_mangle)]
 pub extern "C" fn hot_collect(handle: &mut Handle, nodes: &mut u32, leaves: &mut u32) -> u32
     ensures closed { handle.old.slot.opened ≡ None → (result ≡ CLOSED) × (handle.new.slot.opened ≡ None) × (nodes.new ≡ nodes.old) × (leaves.new ≡ leaves.old) }
@@ -341,8 +351,8 @@ pub extern "C" fn hot_collect(handle: &mut Handle, nodes: &mut u32, leaves: &mut
     DONE
 }
 
-/// Counts how many node records, and leaf records of each size, are free, held, live and obsolete. The counts are of no single
-/// moment.
+/// Counts how many node records, and leaf records of each size, are free, held, live and obsolete: `DONE`. The counts are of no single
+/// moment. `CLOSED` if the handle is closed, and nothing is written.
 #[unsafe(no_mangle)]
 pub extern "C" fn hot_census(handle: &mut Handle, counts: &mut RecordCounts) -> u32
     ensures closed { handle.old.slot.opened ≡ None → (result ≡ CLOSED) × (handle.new.slot.opened ≡ None) × (counts.new ≡ counts.old) }
@@ -355,7 +365,7 @@ pub extern "C" fn hot_census(handle: &mut Handle, counts: &mut RecordCounts) -> 
     DONE
 }
 
-/// Closes a handle. When the last handle of an index is closed, the index is freed.
+/// Closes a handle: `DONE`, or `CLOSED` if it was closed. When the last handle of an index is closed, the index is freed.
 #[unsafe(no_mangle)]
 pub extern "C" fn hot_destroy(alloc: Global, handle: &mut Handle) -> u32
     ensures closed { handle.old.slot.opened ≡ None → result ≡ CLOSED }

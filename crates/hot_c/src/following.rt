@@ -5,7 +5,8 @@ ghost use Rattle.hot_c.specs.Following.{AreAtOneIndex, SeesLeader};
 use crate::handle::Handle;
 use crate::status::{CLOSED, DONE};
 
-/// Lets a handle see all changes that another handle at the same index, its leader, has seen. `c/hot.c` compares the indexes.
+/// Lets `handle` see all changes that `leader`, another handle at the same index, has seen: `DONE`. `CLOSED` if either is closed.
+/// `c/hot.c` compares the indexes.
 #[unsafe(no_mangle)]
 pub extern "C" fn hot_see(handle: &mut Handle, leader: &mut Handle) -> u32
     requires { AreAtOneIndex handle.old.slot.opened leader.old.slot.opened }

@@ -28,7 +28,7 @@ impl Handle {
         self.tag == TAG
     }
 
-    /// Closes an open handle, and gives what it held.
+    /// Closes the handle, which is open, and returns what it held.
     pub fn close(&mut self, alloc: Global) -> Box<Opened, Global>
         requires { IsSome self.old.slot.opened }
         ensures value { self.old.slot.opened ≡ Some result.value }
@@ -39,7 +39,7 @@ impl Handle {
         slot.into_box(alloc)
     }
 
-    /// Opens a closed handle.
+    /// Opens the handle, which is closed, with `opened`.
     pub fn open(&mut self, opened: Box<Opened, Global>)
         requires { self.old.slot.opened ≡ None }
         ensures { self.new.slot.opened ≡ Some opened.value }
@@ -49,6 +49,7 @@ impl Handle {
     }
 }
 
+/// Does nothing; its bound asks that the value's type may go to another thread.
 fn needs_send<T: Send>(_value: &T) {}
 
 /// This function is proved only if a handle may go to another thread.

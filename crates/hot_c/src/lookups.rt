@@ -18,14 +18,14 @@ pub struct Lookup<'a> {
     pub status: u32,
 }
 
-/// Whether no key is too long.
+/// Whether no key of `lookups` is too long.
 pub fn are_fit(lookups: &[Lookup<'_>]) -> bool
     ensures { IsTrue result ↔ All (λ l. FitsInKey (key_in l)) lookups.now }
 {
     lookups.iter().all(|lookup| lookup.key.len() <= MAX_BYTES)
 }
 
-/// The keys, in their order.
+/// The keys of `lookups`, none of which is too long, in their order; an error if memory is refused.
 pub fn keys_of(alloc: Global, lookups: &[Lookup<'_>]) -> Result<Vec<Key>, AllocError>
     requires { All (λ l. FitsInKey (key_in l)) lookups.now }
     ensures { IfOk result (λ keys. keys.items ≡ map key_in lookups.now) }
@@ -41,7 +41,7 @@ pub fn keys_of(alloc: Global, lookups: &[Lookup<'_>]) -> Result<Vec<Key>, AllocE
     Ok(keys)
 }
 
-/// Writes what was found for each key.
+/// Writes what was found for each key to its place in `lookups`.
 pub fn write_found(found: &[Option<u64>], lookups: &mut [Lookup<'_>])
     requires { length found.now ≡ length lookups.old }
     ensures { lookups.new ≡ are_answered lookups.old found.now }
@@ -51,7 +51,7 @@ pub fn write_found(found: &[Option<u64>], lookups: &mut [Lookup<'_>])
     }
 }
 
-/// Writes what was found for a key.
+/// Writes what was found for a key to `lookup`: `FOUND` with the value, or `ABSENT`.
 fn write_one(found: Option<u64>, lookup: &mut Lookup<'_>)
     ensures { lookup.new ≡ answer lookup.old found }
 {

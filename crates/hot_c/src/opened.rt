@@ -36,7 +36,8 @@ pub struct Opened {
 }
 
 impl Opened {
-    /// Opens the next of the closed handles that are kept, if there is one. Where memory is refused it is kept on.
+    /// Opens the next of the closed handles that are kept; `None` if none is kept. If memory is refused, it is an error, and the handle
+    /// is kept on.
     pub fn open_next(&mut self, alloc: Global) -> Result<Option<Box<Opened, Global>>, AllocError>
         ensures opened { IfOk result (λ next. MatchOption next (self.old.kept.items ≡ [] × KeepsAll self.old self.new) (λ b. HasOpenedNext self.old self.new b.value)) }
         ensures refused { IfErr result (λ _. KeepsAll self.old self.new) }
@@ -55,7 +56,7 @@ impl Opened {
         Err(AllocError)
     }
 
-    /// The value of a key, as a reply. No `Call` is made for it, which would be a copy of the key.
+    /// The value of `key`, as a reply. No `Call` is made for it, which would be a copy of the key.
     pub fn get(&mut self, key: &Key) -> Reply
         ensures { Stays (λ index k j. IsNoted index.layout k j (Get key.now) result × HasGot index untold (k, tt) (j, tt)) self.old.handle self.new.handle }
     {
@@ -65,8 +66,8 @@ impl Opened {
         }
     }
 
-    /// Tries to make a call for a key of this length. Where it finds no record free, it counts all records, and so tells whether
-    /// other calls hold some back.
+    /// Tries to make `call`, for a key of `size` bytes, and returns the status. The reply's value, if it has one, goes to `had`. Where it
+    /// finds no record free, it counts all records, and so tells whether other calls hold some back.
     pub fn make(&mut self, call: &Call, size: usize, had: &mut u64) -> u32
         ensures call { (outcome : Result ReplyView FaultView) × Stays (TellsOutcome size call.now result outcome) self.old.handle self.new.handle
             × (had.new ≡ value_after had.old outcome) × IfErr outcome (MayRefuse call.now) }
@@ -79,7 +80,8 @@ impl Opened {
         }
     }
 
-    /// Lists the pairs of a range in the list, in the order of the scan; and tells whether there are more.
+    /// Lists at most `limit` pairs of the range in the handle's list, in the order of the scan, and returns whether there are more. An
+    /// error if memory is refused.
     pub fn scan(
         &mut self,
         order: Order,
@@ -108,7 +110,7 @@ impl Opened {
         self.handle.index.show().stamp(&mut self.handle.pass)
     }
 
-    /// Lets the handle see all that was seen when the stamp was made.
+    /// Lets the handle see all that was seen when `stamp` was made.
     pub fn follow(&mut self, stamp: Stamp)
         requires { IsStampFrom self.old.handle.index stamp }
         ensures { Stays (λ index k j. HasCaughtUp index.layout stamp.front k j) self.old.handle self.new.handle }
@@ -127,7 +129,7 @@ impl Opened {
     }
 }
 
-/// An open handle in a box, with an empty list, which keeps no other; or the handle again, where memory is refused.
+/// `handle` in a box, open, with an empty list, which keeps no other; or the handle again, if memory is refused.
 fn boxed(
     alloc: Global,
     handle: Handle<Arc<Index, Global>>,

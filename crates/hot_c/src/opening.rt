@@ -16,14 +16,14 @@ use record_words::{MAX_LEAVES, MAX_NODES, MAX_PASSES, MAX_STOCK_PASSES, Stock};
 use std::alloc::{AllocError, Global};
 use std::sync::Arc;
 
-/// Whether all handles are closed.
+/// Whether all of `handles` are closed.
 pub fn are_closed(handles: &[Handle]) -> bool
     ensures { IsTrue result ↔ AreClosed handles.now }
 {
     handles.iter().all(|handle| !handle.is_open())
 }
 
-/// Whether an index can have so many passes, nodes and leaves.
+/// Whether an index can have these numbers of passes, node records and leaf records.
 pub fn is_size(passes: usize, nodes: u32, leaves: u32) -> bool
     ensures { IsTrue result ↔ IsSize passes nodes leaves }
 {
@@ -35,7 +35,7 @@ pub fn is_size(passes: usize, nodes: u32, leaves: u32) -> bool
         && leaves <= MAX_LEAVES
 }
 
-/// Whether an index can have so many passes and this stock.
+/// Whether an index can have this number of passes and the records of `stock`.
 pub fn is_stock_size(passes: usize, stock: &Stock) -> bool
     ensures { IsTrue result ↔ IsStockSize passes stock.now }
 {
@@ -48,7 +48,7 @@ pub fn is_stock_size(passes: usize, stock: &Stock) -> bool
         && leaves <= u32::MAX as u64
 }
 
-/// Opens closed handles, each with the pass of its place.
+/// Opens `handles`, which are closed, each with the pass of its place in `passes`.
 pub fn open_all(handles: &mut [Handle], passes: Vec<Box<Opened, Global>>)
     requires closed { AreClosed handles.old }
     requires count { length passes.items ≡ length handles.old }
@@ -61,7 +61,8 @@ pub fn open_all(handles: &mut [Handle], passes: Vec<Box<Opened, Global>>)
     }
 }
 
-/// The passes of a new index, each with its share.
+/// The passes of a new index with these numbers of records, each with its share of the index. `IndexFault::Memory` if memory is refused;
+/// another fault if a number is out of range.
 pub fn make_passes(
     alloc: Global,
     passes: u32,
@@ -76,7 +77,8 @@ pub fn make_passes(
     share(alloc, index, passes).map_err(|_| IndexFault::Memory)
 }
 
-/// The passes of a new index with this stock, each with its share.
+/// The passes of a new index with the records of `stock`, each with its share of the index. `IndexFault::Memory` if memory is refused;
+/// another fault if a number is out of range.
 pub fn make_stocked(
     alloc: Global,
     passes: u32,
@@ -90,8 +92,8 @@ pub fn make_stocked(
     share(alloc, index, passes).map_err(|_| IndexFault::Memory)
 }
 
-/// The last pass of a new index with this stock, opened, with its share. It keeps the others, and the first of them is the next to
-/// be opened.
+/// The last pass of a new index with the records of `stock`, opened, with its share of the index. It keeps the others, and the first of
+/// them is the next to be opened. `IndexFault::Memory` if memory is refused; another fault if a number is out of range.
 pub fn make_keeper(
     alloc: Global,
     passes: u32,
@@ -105,7 +107,8 @@ pub fn make_keeper(
     keep(alloc, index, passes).map_err(|_| IndexFault::Memory)
 }
 
-/// The last of these passes of an index, opened, with its share. It keeps the others, the first one last.
+/// The last of `passes`, which are those of `index`, opened, with its share. It keeps the others, the first one last. An error if memory
+/// is refused.
 fn keep(
     alloc: Global,
     index: Index,
@@ -125,7 +128,7 @@ fn keep(
     Ok(Box::new(alloc, Opened { handle, list, kept })?)
 }
 
-/// Closed handles of these passes, each with a share of the index.
+/// Closed handles of `passes`, each with a share of `index`; an error if memory is refused.
 fn closed_handles(
     alloc: Global,
     index: &Arc<Index, Global>,
@@ -141,7 +144,7 @@ fn closed_handles(
     Ok(handles)
 }
 
-/// The passes of an index, each with its share.
+/// The passes of `index`, each with its share; an error if memory is refused.
 fn share(
     alloc: Global,
     index: Index,

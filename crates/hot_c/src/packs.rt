@@ -12,9 +12,10 @@ use crate::status::DONE;
 use packed_pairs::{Head, Pairs};
 use std::alloc::Global;
 
-/// Lists the first pairs whose keys are from `from` to `upto`, both included, in key order, packed: the bytes of their keys one
-/// after another, and beside them a head for each. It lists as many as `heads` has places, and only those whose keys together have
-/// room in `bytes`. `more` becomes 1 if the range has more, else 0.
+/// Lists the first pairs whose keys are from `from` to `upto`, both included, in key order, packed. The bytes of their keys go to
+/// `bytes`, one after another, and a head for each to `heads`. It lists as many as `heads` has places, and only those whose keys together
+/// have room in `bytes`. `count` becomes their number, and `more` 1 if the range has more, else 0. A status other than `DONE` leaves all
+/// as it was.
 #[unsafe(no_mangle)]
 pub extern "C" fn hot_scan_packed(
     alloc: Global,
@@ -51,7 +52,7 @@ pub extern "C" fn hot_scan_packed_reverse(
     list_packed(alloc, handle, order, from, upto, bytes, heads, count, more)
 }
 
-/// Lists pairs in the order in which a scan finds them, packed.
+/// Lists the pairs of a range in the order `order`, packed as by `hot_scan_packed`. A status other than `DONE` leaves all as it was.
 fn list_packed(
     alloc: Global,
     handle: &mut Handle,
@@ -79,7 +80,7 @@ fn list_packed(
     }
 }
 
-/// Writes the heads of a list and the bytes of its keys to the first places of two arrays.
+/// Writes the heads of `pairs` and the bytes of their keys to the first places of `heads` and `bytes`, which have room for them.
 fn write_packed(pairs: &Pairs, bytes: &mut [u8], heads: &mut [Head])
     requires bytes { length (keys_in pairs.now) ≤ length bytes.old }
     requires heads { length pairs.now ≤ length heads.old }

@@ -27,7 +27,7 @@ pub enum Order {
     LastRising,
 }
 
-/// Writes the pairs of a list, as a scan left it, to the first places of an array in this order.
+/// Writes `pairs`, as a scan left them, to the first places of `room`, in the order `order`.
 pub fn write_in(order: Order, pairs: &Pairs, room: &mut [Pair])
     requires { length pairs.now ≤ length room.old }
     ensures written { AreSpelled (in_order order pairs.now) room.new }
@@ -39,7 +39,7 @@ pub fn write_in(order: Order, pairs: &Pairs, room: &mut [Pair])
     }
 }
 
-/// Writes the pairs of a list to the first places of an array.
+/// Writes `pairs` to the first places of `room`, the first one first.
 fn write_pairs(pairs: &Pairs, room: &mut [Pair])
     requires { length pairs.now ≤ length room.old }
     ensures written { AreSpelled pairs.now room.new }
@@ -50,7 +50,7 @@ fn write_pairs(pairs: &Pairs, room: &mut [Pair])
     }
 }
 
-/// Writes the pairs of a list to the first places of an array, the last one first.
+/// Writes `pairs` to the first places of `room`, the last one first.
 fn write_pairs_backwards(pairs: &Pairs, room: &mut [Pair])
     requires { length pairs.now ≤ length room.old }
     ensures written { AreSpelled (reverse pairs.now) room.new }
@@ -61,8 +61,8 @@ fn write_pairs_backwards(pairs: &Pairs, room: &mut [Pair])
     }
 }
 
-/// Writes a pair. Keys of eight bytes are common, and so are keys of 16 to 64 bytes, such as URLs. A copy of so many needs no call; nor,
-/// through an array, a test of whether the two places overlap.
+/// Writes `key` and `value` to `pair`. Keys of eight bytes are common, and so are keys of 16 to 64 bytes, such as URLs. A copy of so many
+/// needs no call; nor, through an array, a test of whether the two places overlap.
 fn write_pair(key: &[u8], value: u64, pair: &mut Pair)
     requires { IsKey key.now }
     ensures { Spells (key.now, value) pair.new }
@@ -81,8 +81,8 @@ fn write_pair(key: &[u8], value: u64, pair: &mut Pair)
     }
 }
 
-/// Writes a pair by two copies of N bytes, of the key's first and of its last, which may be partly the same ones. The array holds either
-/// part in turn: with two arrays they would go through memory.
+/// Writes `key` and `value` to `pair`. The key is written by two copies of N bytes, of its first and of its last, which may be partly the
+/// same ones. The array holds either part in turn: with two arrays they would go through memory.
 fn write_ends<const N: usize>(key: &[u8], value: u64, pair: &mut Pair)
     requires key { IsKey key.now }
     requires covered { (N ≤ length key.now) × (length key.now ≤ N + N) }
@@ -98,7 +98,7 @@ fn write_ends<const N: usize>(key: &[u8], value: u64, pair: &mut Pair)
     pair.value = value;
 }
 
-/// Writes a pair with a key of any length. Never inline: so a loop over pairs has little to keep at hand.
+/// Writes `key`, of any length, and `value` to `pair`. Never inline: so a loop over pairs has little to keep at hand.
 #[inline(never)]
 fn write_any(key: &[u8], value: u64, pair: &mut Pair)
     requires { IsKey key.now }
@@ -109,7 +109,7 @@ fn write_any(key: &[u8], value: u64, pair: &mut Pair)
     pair.value = value;
 }
 
-/// Writes the first pair of a list: `FOUND`, or `ABSENT` if it has none.
+/// Writes the first of `pairs` to `pair`: `FOUND`, or `ABSENT` if there is none.
 pub fn tell_first(pairs: &Pairs, pair: &mut Pair) -> u32
     ensures { IsPairTold (slice_get pairs.now 0) pair.old pair.new result }
 {

@@ -6,7 +6,7 @@ ghost use Rattle.hot_c.specs.Refusals.{AreInUse, AreNone, OfLeaves, TellsOfLeave
 use crate::status::{FULL_LEAVES, FULL_NODES, HELD_BACK, KEY_TOO_LONG};
 use hot_index::{RecordCounts, StateCounts};
 
-/// What a call says that found no node record free.
+/// The status of a call that found no node record free: `FULL_NODES` if all are in use by `counts`, else `HELD_BACK`.
 pub fn tell_nodes(counts: &RecordCounts) -> u32
     ensures { TellsOfNodes counts.now result }
 {
@@ -17,7 +17,8 @@ pub fn tell_nodes(counts: &RecordCounts) -> u32
     }
 }
 
-/// What a call says that found no leaf record free for a key of this length.
+/// The status of a call that found no leaf record free for a key of `size` bytes. `HELD_BACK` if not all with room for the key are in use
+/// by `counts`. Else `KEY_TOO_LONG` if there are none, and `FULL_LEAVES` if there are some.
 pub fn tell_leaves(size: usize, counts: &RecordCounts) -> u32
     ensures { TellsOfLeaves size counts.now result }
 {
@@ -30,21 +31,21 @@ pub fn tell_leaves(size: usize, counts: &RecordCounts) -> u32
     }
 }
 
-/// Whether the records of one kind and class are all in use.
+/// Whether the records of one kind and class are all in use, by `counts`.
 fn are_in_use(counts: &StateCounts) -> bool
     ensures { IsTrue result ↔ AreInUse counts.now }
 {
     counts.free == 0 && counts.held == 0 && counts.obsolete == 0
 }
 
-/// Whether there is no record of one kind and class.
+/// Whether there is no record of one kind and class, by `counts`.
 fn are_none(counts: &StateCounts) -> bool
     ensures { IsTrue result ↔ AreNone counts.now }
 {
     are_in_use(counts) && counts.live == 0
 }
 
-/// Whether all leaf records with room for a key of this length are in use.
+/// Whether all leaf records with room for a key of `size` bytes are in use, by `counts`.
 fn are_leaves_in_use(size: usize, counts: &RecordCounts) -> bool
     ensures { IsTrue result ↔ OfLeaves AreInUse size counts.now }
 {
@@ -55,7 +56,7 @@ fn are_leaves_in_use(size: usize, counts: &RecordCounts) -> bool
         && are_in_use(&counts.long)
 }
 
-/// Whether there is no leaf record with room for a key of this length.
+/// Whether there is no leaf record with room for a key of `size` bytes, by `counts`.
 fn are_no_leaves(size: usize, counts: &RecordCounts) -> bool
     ensures { IsTrue result ↔ OfLeaves AreNone size counts.now }
 {

@@ -10,8 +10,8 @@ use crate::status::{CLOSED, DONE, KEY_TOO_LONG, NO_MEMORY};
 use key_bits::Key;
 use std::alloc::Global;
 
-/// Lists the first pairs whose keys are from `from` to `upto`, both included, in key order: as many as `room` has places. `more`
-/// becomes 1 if the range has more, else 0.
+/// Lists the first pairs whose keys are from `from` to `upto`, both included, in key order: as many as `room` has places. `count` becomes
+/// their number, and `more` 1 if the range has more, else 0. A status other than `DONE` leaves all as it was.
 #[unsafe(no_mangle)]
 pub extern "C" fn hot_scan(
     alloc: Global,
@@ -27,8 +27,8 @@ pub extern "C" fn hot_scan(
     list(alloc, handle, Order::Rising, from, upto, room, count, more)
 }
 
-/// Lists the last pairs whose keys are from `from` to `upto`, both included, in falling key order: as many as `room` has places.
-/// `more` becomes 1 if the range has more below, else 0.
+/// Lists the last pairs whose keys are from `from` to `upto`, both included, in falling key order: as many as `room` has places. `count`
+/// becomes their number, and `more` 1 if the range has more below, else 0. A status other than `DONE` leaves all as it was.
 #[unsafe(no_mangle)]
 pub extern "C" fn hot_scan_reverse(
     alloc: Global,
@@ -44,8 +44,8 @@ pub extern "C" fn hot_scan_reverse(
     list(alloc, handle, Order::Falling, from, upto, room, count, more)
 }
 
-/// Lists the last pairs whose keys are from `from` to `upto`, both included, in rising key order: as many as `room` has places.
-/// `more` becomes 1 if the range has more below, else 0.
+/// Lists the last pairs whose keys are from `from` to `upto`, both included, in rising key order: as many as `room` has places. `count`
+/// becomes their number, and `more` 1 if the range has more below, else 0. A status other than `DONE` leaves all as it was.
 #[unsafe(no_mangle)]
 pub extern "C" fn hot_scan_last(
     alloc: Global,
@@ -70,7 +70,8 @@ pub extern "C" fn hot_scan_last(
     )
 }
 
-/// Lists pairs in this order.
+/// Lists pairs of a range in the order `order`: as many as `room` has places. `count` becomes their number, and `more` 1 if the range has
+/// more, else 0. A status other than `DONE` leaves all as it was.
 fn list(
     alloc: Global,
     handle: &mut Handle,
@@ -96,8 +97,8 @@ fn list(
     }
 }
 
-/// Scans a range into the handle's list, and tells how many pairs it found and whether there are more; or the status that says why
-/// it found none.
+/// Scans a range into the handle's list. Returns how many pairs it found and whether there are more; or the status that says why it found
+/// none.
 pub fn fill(
     alloc: Global,
     handle: &mut Handle,

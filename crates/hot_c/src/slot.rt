@@ -29,7 +29,7 @@ impl Slot {
         Slot { at: null_mut() }
     }
 
-    /// A slot that holds what a box held.
+    /// A slot that holds what `boxed` held.
     pub fn of(boxed: Box<Opened, Global>) -> Slot
         ensures { result.opened ≡ Some boxed.value }
     {
@@ -38,7 +38,7 @@ impl Slot {
         }
     }
 
-    /// A box of what a slot holds.
+    /// A box of what the slot holds; it is not empty.
     pub fn into_box(self, alloc: Global) -> Box<Opened, Global>
         requires { IsSome self.opened }
         ensures { self.opened ≡ Some result.value }

@@ -47,7 +47,7 @@ pub const HELD_BACK: u32 = 18;
 /// No handle is kept that could be opened.
 pub const NO_HANDLE: u32 = 19;
 
-/// The status of a reply. Where the reply has a value, it is written.
+/// The status of `reply`. If the reply has a value, it is written to `value`.
 pub fn tell_reply(reply: Reply, value: &mut u64) -> u32
     ensures status { result ≡ reply_status reply }
     ensures value { value.new ≡ value_after value.old (Ok reply) }

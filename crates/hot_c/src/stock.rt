@@ -32,7 +32,7 @@ impl HotStock {
         }
     }
 
-    /// Copies the numbers of a stock.
+    /// Copies the numbers of `stock`.
     pub fn set(&mut self, stock: Stock)
         ensures { stock_in self.new ≡ stock }
     {

@@ -12,7 +12,7 @@ use rowex_writing::{Full, TryFault};
 use std::sync::Wait;
 
 impl Index {
-    /// Adds a number to the value of a key, modulo 2 to the power of 64: `Was` with the value before. An absent key stays absent:
+    /// Adds `delta` to the value of `key`, modulo 2 to the power of 64: `Was` with the value before. An absent key stays absent:
     /// `Absent`.
     ///
     /// It searches once. It never blocks, makes no more steps than `try_insert` may, and is refused for the same reasons.
@@ -23,7 +23,7 @@ impl Index {
         self.try_add_with(pass, key, delta, &mut NoGate)
     }
 
-    /// `try_add`, which reports each of its steps to a gate.
+    /// Does what `try_add` does, and reports each of its steps to `gate`.
     pub fn try_add_with<G: Gate>(
         &self,
         pass: &mut Pass,
@@ -37,7 +37,7 @@ impl Index {
         self.try_change_with(pass, gate, &Call::Add(key.copy(), delta))
     }
 
-    /// Adds a number to the value of a key, modulo 2 to the power of 64: `Was` with the value before. An absent key stays absent:
+    /// Adds `delta` to the value of `key`, modulo 2 to the power of 64: `Was` with the value before. An absent key stays absent:
     /// `Absent`.
     ///
     /// It begins again where `try_add` would return `Busy`, and is refused for the same reasons as `insert`.

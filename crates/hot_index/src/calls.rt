@@ -15,7 +15,7 @@ use rowex_writing::{Full, TryFault};
 use std::sync::Wait;
 
 impl Index {
-    /// Makes any of the calls, as `get`, `try_insert`, `try_upsert`, `try_exchange`, `try_add`, `try_remove` or `try_remove_if` does.
+    /// Makes `call`, as `get`, `try_insert`, `try_upsert`, `try_exchange`, `try_add`, `try_remove` or `try_remove_if` does.
     ///
     /// It makes no more steps than `try_insert` may. A get is never refused. A removal is never refused as full of leaves.
     pub fn try_call(&self, pass: &mut Pass, call: &Call) -> Result<Reply, TryFault>
@@ -25,7 +25,7 @@ impl Index {
         self.try_call_with(pass, call, &mut NoGate)
     }
 
-    /// `try_call`, which reports each of its steps to a gate.
+    /// Does what `try_call` does, and reports each of its steps to `gate`.
     pub fn try_call_with<G: Gate>(
         &self,
         pass: &mut Pass,
@@ -47,8 +47,8 @@ impl Index {
         }
     }
 
-    /// Makes any of the calls, as `get`, `insert`, `upsert`, `exchange`, `add`, `remove` or `remove_if` does. It reports each of its
-    /// steps to a gate.
+    /// Makes `call`, as `get`, `insert`, `upsert`, `exchange`, `add`, `remove` or `remove_if` does. It reports each of its steps to
+    /// `gate`.
     ///
     /// A get is never refused. A removal never returns `Full::Leaves`.
     pub fn call_with<R: Wait, G: Gate>(

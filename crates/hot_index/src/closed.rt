@@ -28,7 +28,7 @@ impl Model for ClosedPass {
 }
 
 impl ClosedPass {
-    /// Opens the pass, for calls at this index, or gives it back where memory is refused.
+    /// Opens the pass, for calls at `index`, or gives it back where memory is refused.
     pub fn open(self, alloc: Global, index: &Index) -> Result<Pass, AllocFailed<ClosedPass>>
         ensures opened { IfOk result (λ pass. pass ≡ self) }
         ensures kept { IfErr result (λ refused. refused.value ≡ self) }
@@ -71,7 +71,7 @@ impl<I: ShowsIndex> Model for ClosedHandle<I> {
 }
 
 impl<I: ShowsIndex> ClosedHandle<I> {
-    /// A closed handle of this pass.
+    /// A closed handle of `pass` at `index`, or at the share of one.
     pub fn new(index: I, pass: ClosedPass) -> ClosedHandle<I>
         requires { Owns (I.shown index) pass }
         ensures { result ≡ handle_at (I.shown index) pass }

@@ -26,8 +26,9 @@ pub enum IndexFault {
     Memory,
 }
 
-/// Makes an empty index with this number of passes (1 to 64), node records (1 to 65,535) and leaf records (1 to 262,143). Returns
-/// it with its passes in the order of their numbers. It checks the three numbers first, in this order.
+/// Makes an empty index with this number of passes (1 to 64), node records (1 to 65,535) and leaf records (1 to 262,143). Returns it with
+/// its passes in the order of their numbers. It checks the three numbers first, in this order, and the fault names the first that is out
+/// of range; `Memory` if memory is refused.
 ///
 /// All leaf records are long. So a call that lacks one has found each of them taken (`laws::lacks_all_long`).
 pub fn create(
@@ -48,8 +49,9 @@ pub fn create(
     opened_of(alloc, Layout::of(passes, nodes, leaves))
 }
 
-/// Makes an empty index with this number of passes (1 to 1,024) and this stock of records. A stock has 1 to 4,294,967,295 node
-/// records, and 1 to 4,294,967,295 leaf records of all classes together. It checks the numbers first, in this order.
+/// Makes an empty index with this number of passes (1 to 1,024) and this stock of records. A stock has 1 to 4,294,967,295 node records,
+/// and 1 to 4,294,967,295 leaf records of all classes together. It checks the numbers first, in this order, and the fault names the first
+/// that is out of range; `Memory` if memory is refused.
 ///
 /// `Layout::bytes` returns the bytes of the table. Twice as many are in use while it is made.
 pub fn create_with(
@@ -68,7 +70,7 @@ pub fn create_with(
     opened_of(alloc, Layout::with_stock(passes, stock))
 }
 
-/// `create_with`, whose passes are closed: each takes two bytes until it is opened.
+/// Does what `create_with` does, but the passes are closed: each takes two bytes until it is opened.
 pub fn create_closed(
     alloc: Global,
     passes: u32,
@@ -85,7 +87,7 @@ pub fn create_closed(
     made_of(alloc, Layout::with_stock(passes, stock))
 }
 
-/// The index of a layout, and its passes, opened, if the numbers that were asked for have a layout.
+/// The index of the layout `found`, and its passes, opened. If `found` is a fault, that is returned; `Memory` if memory is refused.
 fn opened_of(
     alloc: Global,
     found: Result<Layout, LayoutFault>,
@@ -106,7 +108,7 @@ fn opened_of(
     }
 }
 
-/// The passes, opened for calls at this index, in their order.
+/// The passes `closed`, opened for calls at `index`, in their order; an error if memory is refused.
 fn open_each(alloc: Global, index: &Index, closed: Vec<ClosedPass>) -> Result<Vec<Pass>, AllocError>
     ensures { IfOk result (λ passes. passes.items ≡ closed.items) }
 {
@@ -117,7 +119,7 @@ fn open_each(alloc: Global, index: &Index, closed: Vec<ClosedPass>) -> Result<Ve
     Ok(passes)
 }
 
-/// The index of a layout, and its passes, if the numbers that were asked for have a layout.
+/// The index of the layout `found`, and its passes, closed. If `found` is a fault, that is returned; `Memory` if memory is refused.
 fn made_of(
     alloc: Global,
     found: Result<Layout, LayoutFault>,
@@ -134,7 +136,7 @@ fn made_of(
     }
 }
 
-/// The index of a layout, and its passes.
+/// The index of `layout`, and its passes, closed; an error if memory is refused.
 fn made(alloc: Global, layout: Layout) -> Result<(Index, Vec<ClosedPass>), AllocError>
     ensures layout { IfOk result (λ made. made.0.layout ≡ layout) }
     ensures count { IfOk result (λ made. length made.1.items ≡ layout.passes) }
@@ -145,7 +147,7 @@ fn made(alloc: Global, layout: Layout) -> Result<(Index, Vec<ClosedPass>), Alloc
     Ok((Index { table }, passes))
 }
 
-/// The passes of the new seats of this table, in their order.
+/// The closed passes of `seats`, the new seats of `table`, in their order; an error if memory is refused.
 fn passes_of(
     alloc: Global,
     table: &HotTable,

@@ -93,7 +93,8 @@ impl Cursor {
     }
 }
 
-/// What is left of these keys after a part with these pairs, by whether the range has more.
+/// What is left of the keys `rest` after a part with `pairs`. That is what comes above the last pair's key, or all of `rest` if there is
+/// no pair. `None` if the range has no more, as `more` says.
 fn left_of(rest: &Rest, pairs: &Pairs, more: bool) -> Option<Rest>
     ensures { IsLeft rest.now pairs.now more result }
 {

@@ -12,8 +12,8 @@ use rowex_writing::{Full, TryFault};
 use std::sync::Wait;
 
 impl Index {
-    /// Compare and exchange: gives a key a new value if it has the expected one (`Exchanged`). Else it changes nothing, and returns
-    /// `Differs` with the key's value, or `Absent`.
+    /// Compare and exchange: gives `key` the value `value` if it has the value `expected` (`Exchanged`). Else it changes nothing, and
+    /// returns `Differs` with the key's value, or `Absent`.
     ///
     /// It never blocks, makes no more steps than `try_insert` may, and is refused for the same reasons.
     pub fn try_exchange(
@@ -29,7 +29,7 @@ impl Index {
         self.try_exchange_with(pass, key, expected, value, &mut NoGate)
     }
 
-    /// `try_exchange`, which reports each of its steps to a gate.
+    /// Does what `try_exchange` does, and reports each of its steps to `gate`.
     pub fn try_exchange_with<G: Gate>(
         &self,
         pass: &mut Pass,
@@ -44,8 +44,8 @@ impl Index {
         self.try_change_with(pass, gate, &Call::Exchange(key.copy(), expected, value))
     }
 
-    /// Compare and exchange: gives a key a new value if it has the expected one (`Exchanged`). Else it changes nothing, and returns
-    /// `Differs` with the key's value, or `Absent`.
+    /// Compare and exchange: gives `key` the value `value` if it has the value `expected` (`Exchanged`). Else it changes nothing, and
+    /// returns `Differs` with the key's value, or `Absent`.
     ///
     /// It begins again where `try_exchange` would return `Busy`, and is refused for the same reasons as `insert`.
     pub fn exchange<R: Wait>(
@@ -67,8 +67,8 @@ impl Index {
         )
     }
 
-    /// Removes a key if it has the expected value (`Removed` with that value). Else it changes nothing, and returns `Differs` with
-    /// the key's value, or `Absent`.
+    /// Removes `key` if it has the value `expected` (`Removed` with that value). Else it changes nothing, and returns `Differs` with the
+    /// key's value, or `Absent`.
     ///
     /// It never blocks, makes no more steps than `try_insert` may, and is refused for the same reasons as `try_remove`.
     pub fn try_remove_if(
@@ -83,7 +83,7 @@ impl Index {
         self.try_remove_if_with(pass, key, expected, &mut NoGate)
     }
 
-    /// `try_remove_if`, which reports each of its steps to a gate.
+    /// Does what `try_remove_if` does, and reports each of its steps to `gate`.
     pub fn try_remove_if_with<G: Gate>(
         &self,
         pass: &mut Pass,
@@ -97,8 +97,8 @@ impl Index {
         self.try_change_with(pass, gate, &Call::RemoveIf(key.copy(), expected))
     }
 
-    /// Removes a key if it has the expected value (`Removed` with that value). Else it changes nothing, and returns `Differs` with
-    /// the key's value, or `Absent`.
+    /// Removes `key` if it has the value `expected` (`Removed` with that value). Else it changes nothing, and returns `Differs` with the
+    /// key's value, or `Absent`.
     ///
     /// It begins again where `try_remove_if` would return `Busy`, and is refused for the same reasons as `remove`.
     pub fn remove_if<R: Wait>(

@@ -77,7 +77,7 @@ impl<I: ShowsIndex> Model for Handle<I> {
 }
 
 impl<I: ShowsIndex> Handle<I> {
-    /// A handle of this pass.
+    /// A handle of `pass` at `index`, or at the share of one.
     pub fn new(index: I, pass: Pass) -> Handle<I>
         requires { Owns (I.shown index) pass }
         ensures { result ≡ handle_at (I.shown index) pass }
@@ -94,21 +94,21 @@ impl<I: ShowsIndex> Handle<I> {
         (self.index, self.pass)
     }
 
-    /// The number of its pass.
+    /// The number of the handle's pass.
     pub fn number(&self) -> u16
         ensures { result ≡ self.now.pass.number }
     {
         self.pass.number()
     }
 
-    /// As `Index::get`.
+    /// The value of `key`, or `None` if it is absent, as by `Index::get`.
     pub fn get(&mut self, key: &Key) -> Option<u64>
         ensures { Stays (λ index k j. IsNoted index.layout k j (Get key.now) (got result) × HasGot index untold (k, tt) (j, tt)) self.old self.new }
     {
         self.index.show().get(&mut self.pass, key)
     }
 
-    /// As `Index::get_many`.
+    /// Looks up `keys`, and writes to `found`, at each key's place, its value or `None`, as by `Index::get_many`.
     pub fn get_many(&mut self, keys: &[Key], found: &mut [Option<u64>])
         requires { length found.old ≡ length keys.now }
         ensures { Stays (λ index k j. AreNoted index.layout k j (gets keys.now found.new) × HasGotMany index untold (length keys.now) (k, tt) (j, tt))
@@ -117,21 +117,21 @@ impl<I: ShowsIndex> Handle<I> {
         self.index.show().get_many(&mut self.pass, keys, found)
     }
 
-    /// As `Index::insert`.
+    /// Inserts `key` with `value` if it is absent, and returns what `Index::insert` does.
     pub fn insert<R: Wait>(&mut self, rt: &R, key: &Key, value: u64) -> Result<Reply, Full>
         ensures { Stays (IsAwaited (Insert key.now value) result) self.old self.new }
     {
         self.index.show().insert(rt, &mut self.pass, key, value)
     }
 
-    /// As `Index::upsert`.
+    /// Gives `key` the value `value`, and returns what `Index::upsert` does.
     pub fn upsert<R: Wait>(&mut self, rt: &R, key: &Key, value: u64) -> Result<Reply, Full>
         ensures { Stays (IsAwaited (Upsert key.now value) result) self.old self.new }
     {
         self.index.show().upsert(rt, &mut self.pass, key, value)
     }
 
-    /// As `Index::exchange`.
+    /// Gives `key` the value `value` if it has the value `expected`, and returns what `Index::exchange` does.
     pub fn exchange<R: Wait>(
         &mut self,
         rt: &R,
@@ -146,14 +146,14 @@ impl<I: ShowsIndex> Handle<I> {
             .exchange(rt, &mut self.pass, key, expected, value)
     }
 
-    /// As `Index::add`.
+    /// Adds `delta` to the value of `key`, if it has one, and returns what `Index::add` does.
     pub fn add<R: Wait>(&mut self, rt: &R, key: &Key, delta: u64) -> Result<Reply, Full>
         ensures { Stays (IsAwaited (Add key.now delta) result) self.old self.new }
     {
         self.index.show().add(rt, &mut self.pass, key, delta)
     }
 
-    /// As `Index::remove`.
+    /// Removes `key`, and returns what `Index::remove` does.
     pub fn remove<R: Wait>(&mut self, rt: &R, key: &Key) -> Result<Reply, Full>
         ensures call { Stays (IsAwaited (Remove key.now) result) self.old self.new }
         ensures leafless { result ≢ Err Full.Leaves }
@@ -161,7 +161,7 @@ impl<I: ShowsIndex> Handle<I> {
         self.index.show().remove(rt, &mut self.pass, key)
     }
 
-    /// As `Index::remove_if`.
+    /// Removes `key` if it has the value `expected`, and returns what `Index::remove_if` does.
     pub fn remove_if<R: Wait>(&mut self, rt: &R, key: &Key, expected: u64) -> Result<Reply, Full>
         ensures call { Stays (IsAwaited (RemoveIf key.now expected) result) self.old self.new }
         ensures leafless { result ≢ Err Full.Leaves }
@@ -171,21 +171,21 @@ impl<I: ShowsIndex> Handle<I> {
             .remove_if(rt, &mut self.pass, key, expected)
     }
 
-    /// As `Index::try_insert`.
+    /// Tries to insert `key` with `value` if it is absent, and returns what `Index::try_insert` does.
     pub fn try_insert(&mut self, key: &Key, value: u64) -> Result<Reply, TryFault>
         ensures { Stays (IsTried (Insert key.now value) result) self.old self.new }
     {
         self.index.show().try_insert(&mut self.pass, key, value)
     }
 
-    /// As `Index::try_upsert`.
+    /// Tries to give `key` the value `value`, and returns what `Index::try_upsert` does.
     pub fn try_upsert(&mut self, key: &Key, value: u64) -> Result<Reply, TryFault>
         ensures { Stays (IsTried (Upsert key.now value) result) self.old self.new }
     {
         self.index.show().try_upsert(&mut self.pass, key, value)
     }
 
-    /// As `Index::try_exchange`.
+    /// Tries to give `key` the value `value` if it has the value `expected`, and returns what `Index::try_exchange` does.
     pub fn try_exchange(&mut self, key: &Key, expected: u64, value: u64) -> Result<Reply, TryFault>
         ensures { Stays (IsTried (Exchange key.now expected value) result) self.old self.new }
     {
@@ -194,14 +194,14 @@ impl<I: ShowsIndex> Handle<I> {
             .try_exchange(&mut self.pass, key, expected, value)
     }
 
-    /// As `Index::try_add`.
+    /// Tries to add `delta` to the value of `key`, if it has one, and returns what `Index::try_add` does.
     pub fn try_add(&mut self, key: &Key, delta: u64) -> Result<Reply, TryFault>
         ensures { Stays (IsTried (Add key.now delta) result) self.old self.new }
     {
         self.index.show().try_add(&mut self.pass, key, delta)
     }
 
-    /// As `Index::try_remove`.
+    /// Tries to remove `key`, and returns what `Index::try_remove` does.
     pub fn try_remove(&mut self, key: &Key) -> Result<Reply, TryFault>
         ensures call { Stays (IsTried (Remove key.now) result) self.old self.new }
         ensures leafless { result ≢ Err TryFault.FullLeaves }
@@ -209,7 +209,7 @@ impl<I: ShowsIndex> Handle<I> {
         self.index.show().try_remove(&mut self.pass, key)
     }
 
-    /// As `Index::try_remove_if`.
+    /// Tries to remove `key` if it has the value `expected`, and returns what `Index::try_remove_if` does.
     pub fn try_remove_if(&mut self, key: &Key, expected: u64) -> Result<Reply, TryFault>
         ensures call { Stays (IsTried (RemoveIf key.now expected) result) self.old self.new }
         ensures leafless { result ≢ Err TryFault.FullLeaves }
@@ -219,14 +219,14 @@ impl<I: ShowsIndex> Handle<I> {
             .try_remove_if(&mut self.pass, key, expected)
     }
 
-    /// As `Index::try_call`.
+    /// Tries to make `call`, and returns what `Index::try_call` does.
     pub fn try_call(&mut self, call: &Call) -> Result<Reply, TryFault>
         ensures { Stays (IsCallTried call.now result) self.old self.new }
     {
         self.index.show().try_call(&mut self.pass, call)
     }
 
-    /// As `Index::scan`.
+    /// The first `limit` pairs from `from` to `upto`, and whether there are more, as by `Index::scan`. An error if memory is refused.
     pub fn scan(
         &mut self,
         alloc: Global,
@@ -241,7 +241,8 @@ impl<I: ShowsIndex> Handle<I> {
             .scan(alloc, &mut self.pass, from, upto, limit)
     }
 
-    /// As `Index::scan_into`.
+    /// Lists the first `limit` pairs from `from` to `upto` in `pairs`, as `Index::scan_into` does, and returns whether there are more. An
+    /// error if memory is refused.
     pub fn scan_into(
         &mut self,
         from: &Key,
@@ -256,7 +257,8 @@ impl<I: ShowsIndex> Handle<I> {
             .scan_into(&mut self.pass, from, upto, limit, pairs)
     }
 
-    /// As `Index::prefix_into`.
+    /// Lists the first `limit` pairs whose keys begin with `prefix` in `pairs`, as `Index::prefix_into` does, and returns whether there
+    /// are more. An error if memory is refused.
     pub fn prefix_into(
         &mut self,
         prefix: &Key,
@@ -270,7 +272,8 @@ impl<I: ShowsIndex> Handle<I> {
             .prefix_into(&mut self.pass, prefix, limit, pairs)
     }
 
-    /// As `Index::scan_reverse_into`.
+    /// Lists the last `limit` pairs from `from` to `upto` in `pairs`, downwards, as `Index::scan_reverse_into` does, and returns whether
+    /// there are more. An error if memory is refused.
     pub fn scan_reverse_into(
         &mut self,
         from: &Key,
@@ -285,7 +288,8 @@ impl<I: ShowsIndex> Handle<I> {
             .scan_reverse_into(&mut self.pass, from, upto, limit, pairs)
     }
 
-    /// As `Index::scan_reverse`.
+    /// The last `limit` pairs from `from` to `upto`, downwards, and whether there are more, as by `Index::scan_reverse`. An error if
+    /// memory is refused.
     pub fn scan_reverse(
         &mut self,
         alloc: Global,
@@ -300,21 +304,21 @@ impl<I: ShowsIndex> Handle<I> {
             .scan_reverse(alloc, &mut self.pass, from, upto, limit)
     }
 
-    /// As `Index::first`.
+    /// The first pair whose key is `from` or above; `None` if there is none, as by `Index::first`. An error if memory is refused.
     pub fn first(&mut self, alloc: Global, from: &Key) -> Result<Option<(Key, u64)>, AllocError>
         ensures { Stays (IsRangeRead (λ layout k j. IsFirstFound layout k j from.now) from.now (last_with []) 1 result) self.old self.new }
     {
         self.index.show().first(alloc, &mut self.pass, from)
     }
 
-    /// As `Index::last`.
+    /// The last pair whose key is `upto` or below; `None` if there is none, as by `Index::last`. An error if memory is refused.
     pub fn last(&mut self, alloc: Global, upto: &Key) -> Result<Option<(Key, u64)>, AllocError>
         ensures { Stays (IsRangeRead (λ layout k j. IsLastFound layout k j upto.now) [] upto.now 1 result) self.old self.new }
     {
         self.index.show().last(alloc, &mut self.pass, upto)
     }
 
-    /// As `Index::collect`.
+    /// Makes one round of collection, and returns how many records it gave back, as `Index::collect` does.
     pub fn collect(&mut self) -> Given
         ensures { Stays (λ index k j. IsUnnoted index.layout k j × HasCollected index untold (k, tt) (j, tt) result.nodes result.leaves)
             self.old self.new }
@@ -322,14 +326,14 @@ impl<I: ShowsIndex> Handle<I> {
         self.index.show().collect(&mut self.pass)
     }
 
-    /// As `Index::census`.
+    /// How many records of each kind and class are in each state, as by `Index::census`.
     pub fn census(&mut self) -> RecordCounts
         ensures { Stays (λ index k j. IsUnnoted index.layout k j × HasCounted index untold (k, tt) (j, tt) result) self.old self.new }
     {
         self.index.show().census(&mut self.pass)
     }
 
-    /// As `Index::meet`, for the passes of two handles at one index.
+    /// Lets the pass meet that of `other`, a handle at the same index, as `Index::meet` does, and returns both handles.
     pub fn meet(self, other: Handle<I>) -> (Handle<I>, Handle<I>)
         requires { other.index ≡ self.index }
         ensures index { (result.0.index ≡ self.index) × (result.1.index ≡ self.index) }
@@ -345,7 +349,7 @@ impl<I: ShowsIndex> Handle<I> {
     }
 }
 
-/// Handles of these passes of an index, in their order.
+/// Handles of `passes` at `index`, in their order; an error if memory is refused.
 pub fn handles_of<'a>(
     alloc: Global,
     index: &'a Index,

@@ -66,10 +66,10 @@ impl Pass {
 }
 
 impl Index {
-    /// The value of the key, or `None` if it is absent.
+    /// The value of `key`, or `None` if it is absent.
     ///
-    /// It takes no lock and never blocks. It makes at most 36 atomic steps, and 26 for each node on the path to the key, whatever
-    /// others do. A path has at most 2,160 nodes.
+    /// It takes no lock and never blocks. It makes at most 36 atomic steps, and 26 for each node on the path to the key, whatever others
+    /// do. A path has at most 2,160 nodes.
     pub fn get(&self, pass: &mut Pass, key: &Key) -> Option<u64>
         requires { Owns self.now pass.old }
         ensures own { Owns self.now pass.new }
@@ -101,17 +101,17 @@ impl Index {
 
     /// Inserts a key with a value: `Inserted`; or `Exists` with the value that the key has already, and keeps.
     ///
-    /// It never blocks. It makes at most two attempts, with a round of collection between them. An attempt that tries no lock makes
-    /// at most 61 atomic steps, and 26 for each entry of a node that its search loads; any other makes at most 127, 26 for each such
-    /// entry, 297 for each lock that it tries, 2 for each node record and 4 for each leaf record. So on the longest way the call
-    /// makes at most 1,396,470 steps, and 2 for each pass, 6 for each node record and 10 for each leaf record.
+    /// It never blocks. It makes at most two attempts, with a round of collection between them. An attempt that tries no lock makes at
+    /// most 61 atomic steps, and 26 for each entry of a node that its search loads. Any other makes at most 127, and 26 for each such
+    /// entry. To these come 297 for each lock that it tries, 2 for each node record and 4 for each leaf record. So on the longest way the
+    /// call makes at most 1,396,470 steps, and 2 for each pass, 6 for each node record and 10 for each leaf record.
     ///
-    /// It returns `Busy` only if another pass has locked or retired what it wants to lock, or has made a change since the pin under
-    /// which the call loaded the root last. So an index of one pass is never busy.
+    /// It returns `Busy` only if another pass has locked or retired what it wants to lock, or has made a change. That change came since
+    /// the pin under which the call loaded the root last. So an index of one pass is never busy.
     ///
-    /// It returns `FullNodes` or `FullLeaves` only if it found each node record, or each leaf record with room for the key, taken
-    /// when its turn came. It makes the round of collection first. Then it looks again, unless the index has one pass and the round
-    /// gave back none of the kind.
+    /// It returns `FullNodes` or `FullLeaves` only if it found each node record, or each leaf record with room for the key, taken when
+    /// its turn came. It makes the round of collection first. Then it looks again, unless the index has one pass and the round gave back
+    /// none of the kind.
     ///
     /// A refused call has changed nothing, and holds no lock and no record.
     pub fn try_insert(&self, pass: &mut Pass, key: &Key, value: u64) -> Result<Reply, TryFault>
@@ -121,7 +121,7 @@ impl Index {
         self.try_insert_with(pass, key, value, &mut NoGate)
     }
 
-    /// Gives a key a value, whether it has one or not: `New`, or `Was` with the value that it had.
+    /// Gives `key` the value `value`, whether it has one or not: `New`, or `Was` with the value that it had.
     ///
     /// It never blocks, makes no more steps than `try_insert` may, and is refused for the same reasons.
     pub fn try_upsert(&self, pass: &mut Pass, key: &Key, value: u64) -> Result<Reply, TryFault>
@@ -131,10 +131,10 @@ impl Index {
         self.try_upsert_with(pass, key, value, &mut NoGate)
     }
 
-    /// Removes a key: `Removed` with the value that it had, or `Absent`.
+    /// Removes `key`: `Removed` with the value that it had, or `Absent`.
     ///
-    /// It never blocks, makes no more steps than `try_insert` may, and is refused for the same reasons. It needs no leaf record, so
-    /// it never returns `FullLeaves`.
+    /// It never blocks, makes no more steps than `try_insert` may, and is refused for the same reasons. It needs no leaf record, so it
+    /// never returns `FullLeaves`.
     pub fn try_remove(&self, pass: &mut Pass, key: &Key) -> Result<Reply, TryFault>
         requires { Owns self.now pass.old }
         ensures { IsTried (Remove key.now) result self.now pass.old pass.new }
@@ -163,7 +163,7 @@ impl Index {
         self.change_with(rt, pass, &mut NoGate, &Call::Insert(key.copy(), value))
     }
 
-    /// Gives a key a value, whether it has one or not: `New`, or `Was` with the value that it had.
+    /// Gives `key` the value `value`, whether it has one or not: `New`, or `Was` with the value that it had.
     ///
     /// It begins again where `try_upsert` would return `Busy`, and is refused for the same reasons as `insert`.
     pub fn upsert<R: Wait>(
@@ -179,10 +179,10 @@ impl Index {
         self.change_with(rt, pass, &mut NoGate, &Call::Upsert(key.copy(), value))
     }
 
-    /// Removes a key: `Removed` with the value that it had, or `Absent`.
+    /// Removes `key`: `Removed` with the value that it had, or `Absent`.
     ///
-    /// It begins again where `try_remove` would return `Busy`, and is refused for the same reasons as `insert`. It needs no leaf
-    /// record, so it never returns `Full::Leaves`.
+    /// It begins again where `try_remove` would return `Busy`, and is refused for the same reasons as `insert`. It needs no leaf record,
+    /// so it never returns `Full::Leaves`.
     pub fn remove<R: Wait>(&self, rt: &R, pass: &mut Pass, key: &Key) -> Result<Reply, Full>
         requires { Owns self.now pass.old }
         ensures { IsAwaited (Remove key.now) result self.now pass.old pass.new }
@@ -247,7 +247,7 @@ impl Index {
         self.census_with(pass, &mut NoGate)
     }
 
-    /// `get`, which reports each of its steps to a gate.
+    /// Does what `get` does, and reports each of its steps to `gate`.
     pub fn get_with<G: Gate>(&self, pass: &mut Pass, key: &Key, gate: &mut G) -> Option<u64>
         requires { Owns self.now pass.old }
         ensures own { Owns self.now pass.new }
@@ -260,7 +260,7 @@ impl Index {
         found
     }
 
-    /// `get_many`, which reports each of its steps to a gate.
+    /// Does what `get_many` does, and reports each of its steps to `gate`.
     pub fn get_many_with<G: Gate>(
         &self,
         pass: &mut Pass,
@@ -279,7 +279,7 @@ impl Index {
         end_gets(&self.table, &mut pass.seat, gate, keys, found);
     }
 
-    /// `try_insert`, which reports each of its steps to a gate.
+    /// Does what `try_insert` does, and reports each of its steps to `gate`.
     pub fn try_insert_with<G: Gate>(
         &self,
         pass: &mut Pass,
@@ -293,7 +293,7 @@ impl Index {
         self.try_change_with(pass, gate, &Call::Insert(key.copy(), value))
     }
 
-    /// `try_upsert`, which reports each of its steps to a gate.
+    /// Does what `try_upsert` does, and reports each of its steps to `gate`.
     pub fn try_upsert_with<G: Gate>(
         &self,
         pass: &mut Pass,
@@ -307,7 +307,7 @@ impl Index {
         self.try_change_with(pass, gate, &Call::Upsert(key.copy(), value))
     }
 
-    /// `try_remove`, which reports each of its steps to a gate.
+    /// Does what `try_remove` does, and reports each of its steps to `gate`.
     pub fn try_remove_with<G: Gate>(
         &self,
         pass: &mut Pass,
@@ -320,7 +320,7 @@ impl Index {
         self.try_change_with(pass, gate, &Call::Remove(key.copy()))
     }
 
-    /// `collect`, which reports each of its steps to a gate.
+    /// Does what `collect` does, and reports each of its steps to `gate`.
     pub fn collect_with<G: Gate>(&self, pass: &mut Pass, gate: &mut G) -> Given
         requires { Owns self.now pass.old }
         ensures own { Owns self.now pass.new }
@@ -331,7 +331,7 @@ impl Index {
         round.given
     }
 
-    /// `census`, which reports each of its steps to a gate.
+    /// Does what `census` does, and reports each of its steps to `gate`.
     pub fn census_with<G: Gate>(&self, pass: &mut Pass, gate: &mut G) -> RecordCounts
         requires { Owns self.now pass.old }
         ensures own { Owns self.now pass.new }
@@ -341,7 +341,7 @@ impl Index {
         count_records(&self.table, &mut pass.seat, gate)
     }
 
-    /// Tries to make a change.
+    /// Tries to make the change `call`, at most twice, and reports each step to `gate`. Returns the reply, or why it was refused.
     pub(crate) fn try_change_with<G: Gate>(
         &self,
         pass: &mut Pass,
@@ -354,7 +354,8 @@ impl Index {
         try_change(&self.table, &mut pass.seat, gate, &mut pass.room, call)
     }
 
-    /// Makes a change, and begins again as long as another pass is in its way.
+    /// Makes the change `call`, and reports each step to `gate`. It begins again as long as another pass is in its way, or records may
+    /// come back. Returns the reply, or the kind of records of which none was free.
     pub(crate) fn change_with<R: Wait, G: Gate>(
         &self,
         rt: &R,
@@ -369,7 +370,7 @@ impl Index {
     }
 }
 
-/// The reply to a get that found this.
+/// The reply to a get that found `found`: `Value`, or `Absent` for `None`.
 pub(crate) fn reply_of(found: Option<u64>) -> Reply
     ensures { result ≡ got found }
 {

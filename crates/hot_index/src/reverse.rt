@@ -84,7 +84,7 @@ impl Index {
         self.first_by(alloc, pass, Direction::Downwards, &empty, upto)
     }
 
-    /// `scan_reverse_into`, which reports each of its steps to a gate.
+    /// Does what `scan_reverse_into` does, and reports each of its steps to `gate`.
     pub fn scan_reverse_into_with<G: Gate>(
         &self,
         pass: &mut Pass,

@@ -40,7 +40,7 @@ impl Index {
         self.scan_with(alloc, pass, from, upto, limit, &mut NoGate)
     }
 
-    /// `scan`, which reports each of its steps to a gate.
+    /// Does what `scan` does, and reports each of its steps to `gate`.
     pub fn scan_with<G: Gate>(
         &self,
         alloc: Global,
@@ -77,7 +77,7 @@ impl Index {
         self.scan_into_with(pass, from, upto, limit, pairs, &mut NoGate)
     }
 
-    /// `scan_into`, which reports each of its steps to a gate.
+    /// Does what `scan_into` does, and reports each of its steps to `gate`.
     pub fn scan_into_with<G: Gate>(
         &self,
         pass: &mut Pass,
@@ -93,7 +93,8 @@ impl Index {
         self.list_by(pass, Direction::Upwards, from, upto, limit, pairs, gate)
     }
 
-    /// `scan_into_with` or `scan_reverse_into_with`. Inline, so that each has a walk of its own direction.
+    /// What `scan_into_with` does, or, in the other direction, `scan_reverse_into_with`. Inline, so that each has a walk of its own
+    /// direction.
     #[inline(always)]
     pub(crate) fn list_by<G: Gate>(
         &self,
@@ -127,7 +128,7 @@ impl Index {
         scan
     }
 
-    /// `scan_with`, or `scan_reverse` with a gate. Inline, as `list_by` is.
+    /// What `scan_with` does, or, in the other direction, `scan_reverse` with a gate. Inline, as `list_by` is.
     #[inline(always)]
     pub(crate) fn scan_by<G: Gate>(
         &self,
@@ -148,7 +149,7 @@ impl Index {
         Ok(Scan { pairs, more })
     }
 
-    /// The first pair of the range in this direction.
+    /// The first pair from `from` to `upto` in this direction; `None` if no pair was found. An error if memory is refused.
     #[inline(always)]
     pub(crate) fn first_by(
         &self,

@@ -39,7 +39,7 @@ impl Index {
         Stamp { stamp }
     }
 
-    /// Lets the pass see all that was seen when the stamp was made. So its later calls come after the calls that had returned by then
+    /// Lets the pass see all that was seen when `stamp` was made. So its later calls come after the calls that had returned by then
     /// (`laws::returned_before_begun`). Nothing else of the pass changes, but that this is counted among its `asides`. The call makes two
     /// loads, which count as no steps.
     pub fn follow(&self, pass: &mut Pass, stamp: Stamp)

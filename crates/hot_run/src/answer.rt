@@ -13,7 +13,7 @@ use hot_scripts::answer::{push_reply, push_section};
 use std::alloc::{AllocError, Global};
 use std::mem;
 
-/// The line of an answer to a call.
+/// Adds the line of `answer` to the end of `text`; an error if memory is refused.
 pub fn push_answer(text: &mut Vec<u8>, answer: Answer) -> Result<(), AllocError>
     ensures { OnOk result (text.new.items ≡ text.old.items ++ line (answer_text answer)) }
 {
@@ -24,8 +24,8 @@ pub fn push_answer(text: &mut Vec<u8>, answer: Answer) -> Result<(), AllocError>
     }
 }
 
-/// The answers to scripts of files, each below its heading, and then those to the last script: texts that follow one another. They
-/// are taken from the files.
+/// The answers to the scripts of `files`, each below its heading, and then `last`, those to the last script: texts that follow one
+/// another. They are taken from `files`. An error if memory is refused.
 pub fn sections(
     alloc: Global,
     files: &mut [Done<'_>],

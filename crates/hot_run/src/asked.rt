@@ -18,7 +18,8 @@ use std::io::{Read, Write};
 use std::sync::Wait;
 use std::thread::Threads;
 
-/// Makes the run that these words ask for: the reader's script alone, or after the scripts in the files that they name.
+/// Makes the run that `words` ask for: the reader's script alone, or after the scripts in the files that they name. It is an `Ending` if
+/// the usage is wrong, or the run has a fault.
 pub fn answer<T, S, R, W>(
     rt: &T,
     system: &S,
@@ -45,7 +46,7 @@ where
     Ok(())
 }
 
-/// Answers what was asked for.
+/// Makes the run that `request` asks for, and writes its answers. A fault says why there are none.
 fn answer_request<T: AllocGlobal + Wait + Threads + Sync, S: FileSystem, R: Read, W: Write>(
     rt: &T,
     system: &S,

@@ -25,7 +25,7 @@ pub enum Answer {
     Full(Full),
 }
 
-/// Makes a call.
+/// Makes `call`, with a gate that is told each of its steps, and returns what it is answered.
 fn make_call<C: Caller, G: Gate>(
     caller: &C,
     handle: &mut Handle<&Index>,
@@ -42,7 +42,8 @@ fn make_call<C: Caller, G: Gate>(
     }
 }
 
-/// Makes a scan into a list, and ends the text by its lines.
+/// Makes a scan of `range` into `pairs`, with a gate that is told each of its steps. Its lines go to the end of `text`. An error if
+/// memory is refused.
 fn answer_scan<G: Gate>(
     handle: &mut Handle<&Index>,
     range: &Range,
@@ -65,7 +66,8 @@ fn answer_scan<G: Gate>(
     push_scan(text, pairs, more)
 }
 
-/// Makes a command, and ends the text by the lines of its answer. A scan puts its pairs into the list.
+/// Makes `command`, with a gate that is told each of its steps. The lines of its answer go to the end of `text`, and the pairs of a scan
+/// into `pairs`. An error if memory is refused.
 fn answer_command<C: Caller, G: Gate>(
     caller: &C,
     handle: &mut Handle<&Index>,
@@ -88,7 +90,8 @@ fn answer_command<C: Caller, G: Gate>(
     }
 }
 
-/// Makes the commands of a script one after another, with a gate that is told each of their steps, and gives their answers.
+/// Makes the commands of `script` one after another, with a gate that is told each of their steps, and returns their answers. An error if
+/// memory is refused.
 pub fn run<C: Caller, G: Gate>(
     caller: &C,
     alloc: Global,

@@ -17,8 +17,8 @@ use hot_scripts::script::Script;
 use record_words::LeafClass;
 use std::alloc::{AllocError, Global};
 
-/// An empty index for a script, and its only pass. All leaf records are of the smallest class with room for the keys of the
-/// script's calls: a scan takes less time if the records are close together.
+/// An empty index for `script`, and its only pass; an error if memory is refused. All leaf records are of the smallest class with room
+/// for the keys of the script's calls: so they are close together, and a scan takes less time.
 pub fn index_for(
     alloc: Global,
     nodes: u32,
@@ -42,7 +42,7 @@ pub fn index_for(
     }
 }
 
-/// So many node records, and so many leaf records, all of the smallest class with room for keys of so many bytes.
+/// A stock of `nodes` node records and `leaves` leaf records, all of the smallest class with room for keys of `longest` bytes.
 fn stock_for(nodes: u32, leaves: u32, longest: usize) -> Stock
     ensures nodes { result.nodes ≡ nodes }
     ensures leaves { leaves_of result ≡ leaves }
@@ -52,7 +52,8 @@ fn stock_for(nodes: u32, leaves: u32, longest: usize) -> Stock
     Stock::of_class(nodes, LeafClass::for_key(longest), leaves)
 }
 
-/// An empty index, the passes for this number of files, in the order of their numbers from 0 on, and the pass of the last script.
+/// An empty index, the passes for `files` files, in the order of their numbers from 0 on, and the pass of the last script. An error if
+/// memory is refused.
 pub fn new_index(
     alloc: Global,
     files: u32,

@@ -20,8 +20,8 @@ use hot_scripts::streams::{read_script, write_answers};
 use std::alloc::{AllocError, Global};
 use std::io::{Read, Write};
 
-/// Runs one script on a new index with one pass and this number of node and leaf records. It waits for no other thread, and returns
-/// once its reads and writes have returned.
+/// Runs one script on a new index with one pass and these numbers of node and leaf records. It waits for no other thread, and returns
+/// once its reads and writes have returned. A fault says why it has no answers.
 pub fn run_one<R: Read, W: Write>(
     alloc: Global,
     nodes: u32,
@@ -51,7 +51,7 @@ pub fn run_one<R: Read, W: Write>(
     write_answers(writer, &text)
 }
 
-/// Answers one script on a new index.
+/// The answers to `script` on a new index with these numbers of records; an error if memory is refused.
 fn answer_one(
     alloc: Global,
     nodes: u32,
@@ -66,7 +66,7 @@ fn answer_one(
     answer_alone(alloc, &index, pass, script)
 }
 
-/// Answers one script on an index whose only pass is this one.
+/// The answers to `script` on `index`, whose only pass is `pass`; an error if memory is refused.
 fn answer_alone(
     alloc: Global,
     index: &Index,

@@ -67,7 +67,8 @@ pub fn answer_all<T: Threads + Wait + Sync, G: Gate + Send + Drop>(
     answer_by(rt, alloc, &index, passes, pass, scripts, gates, last)
 }
 
-/// Answers the scripts of files by these passes of the index, and then, when the last pass has met them, the last script by it.
+/// Answers `scripts`, those of files, by `passes`, and then, when `pass` has met them, `last` by that. Returns all answers as texts that
+/// follow one another; an error if memory is refused, or a thread can't be started.
 fn answer_by<T: Threads + Wait + Sync, G: Gate + Send + Drop>(
     rt: &T,
     alloc: Global,
@@ -92,7 +93,8 @@ fn answer_by<T: Threads + Wait + Sync, G: Gate + Send + Drop>(
     answer_last(rt, alloc, handle, done, last)
 }
 
-/// Answers the last script by its handle, whose pass has met those of the others and meets them again; gives the answers of all.
+/// Answers the last script by `handle`, whose pass has met those of the others and meets them again. Returns the answers of all as texts
+/// that follow one another; an error if memory is refused.
 fn answer_last<'a, T: Wait>(
     rt: &T,
     alloc: Global,
@@ -111,7 +113,8 @@ fn answer_last<'a, T: Wait>(
     sections(alloc, met, done.text)
 }
 
-/// Runs each script in a thread with its own pass of the index and its own gate, all at the same time, and joins them.
+/// Runs each of `scripts` in a thread with its own pass of `index` and its own gate, all at the same time, and joins them. An error if
+/// memory is refused, or a thread can't be started.
 fn run_files<'a, T: Threads + Wait + Sync, G: Gate + Send + Drop>(
     rt: &T,
     alloc: Global,
@@ -135,7 +138,7 @@ fn run_files<'a, T: Threads + Wait + Sync, G: Gate + Send + Drop>(
     )
 }
 
-/// `run_files`, by threads of this scope.
+/// Does what `run_files` does, by threads of the scope `threads`.
 fn run_within<'a: 's, 's, E, T: Threads + Wait + Sync + 's, G: Gate + Send + Drop + 's>(
     threads: &Scope<'s, E>,
     rt: &'s T,
@@ -151,7 +154,8 @@ fn run_within<'a: 's, 's, E, T: Threads + Wait + Sync + 's, G: Gate + Send + Dro
     join_all(rt, alloc, running)
 }
 
-/// Starts the thread of each script.
+/// Starts the thread of each of `scripts`, with the handle and the gate of its place. An error if memory is refused, or a thread can't be
+/// started.
 fn start_all<'a: 's, 's, E, T: Threads + Wait + Sync + 's, G: Gate + Send + Drop + 's>(
     threads: &Scope<'s, E>,
     rt: &'s T,
@@ -179,7 +183,7 @@ fn start_all<'a: 's, 's, E, T: Threads + Wait + Sync + 's, G: Gate + Send + Drop
     Ok(running)
 }
 
-/// Joins the threads, one after another.
+/// Joins the threads `running`, one after another, and returns what they ran. An error if memory was refused to one of them.
 fn join_all<'a, T: Threads + Wait, G: Gate + Drop>(
     rt: &T,
     alloc: Global,
@@ -194,7 +198,7 @@ fn join_all<'a, T: Threads + Wait, G: Gate + Drop>(
     Ok(done)
 }
 
-/// Starts the thread of a script, behind those that run.
+/// Starts the thread of `script`, and adds it to the end of `running`. An error if memory is refused, or the thread can't be started.
 fn start<'a: 's, 's, E, T: Threads + Wait + Sync + 's, G: Gate + Send + Drop + 's>(
     threads: &Scope<'s, E>,
     rt: &'s T,
@@ -222,7 +226,8 @@ fn start<'a: 's, 's, E, T: Threads + Wait + Sync + 's, G: Gate + Send + Drop + '
     Ok(())
 }
 
-/// What the thread of a script does.
+/// What the thread of a script does: runs `script` by `handle`, which `gate` is told of, and returns the handle with the answers. An
+/// error if memory is refused.
 fn run_file<'a, T: Wait, G: Gate + Drop>(
     rt: &T,
     alloc: Global,
@@ -240,7 +245,7 @@ fn run_file<'a, T: Wait, G: Gate + Drop>(
     }
 }
 
-/// The handle's pass meets those of the scripts that have run, one after another. Gives the handle back.
+/// The handle's pass meets those of the scripts that have run, `done`, one after another. Returns the handle.
 fn meet_all<'a>(handle: Handle<&'a Index>, done: &mut [Done<'a>]) -> Handle<&'a Index>
     requires { AreAt handle.index handle done.old }
     ensures index { AreAt handle.entry.index result done.new }
@@ -253,7 +258,7 @@ fn meet_all<'a>(handle: Handle<&'a Index>, done: &mut [Done<'a>]) -> Handle<&'a 
     last
 }
 
-/// The handle's pass meets that of a script that has run. Gives the handle back.
+/// The handle's pass meets that of `done`, a script that has run. Returns the handle.
 fn meet<'a>(handle: Handle<&'a Index>, done: &mut Done<'a>) -> Handle<&'a Index>
     requires { done.old.handle.index ≡ handle.index }
     ensures index { (result.index ≡ handle.entry.index) × (done.new.handle.index ≡ handle.entry.index) }

@@ -62,7 +62,7 @@ fn files_of(alloc: Global) -> Result<Vec<Vec<u8>>, AllocError>
     Ok(files)
 }
 
-/// The gates of two files.
+/// The gates of two files, each of which waits for the other's flag.
 fn gates_of<'a>(
     alloc: Global,
     first: &'a Flags,

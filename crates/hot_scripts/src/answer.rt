@@ -10,7 +10,7 @@ use key_bits::MAX_BYTES;
 use packed_pairs::Pairs;
 use std::alloc::{AllocError, Global};
 
-/// A line of a word and a number.
+/// Adds the line of `word`, which ends with a space, and `number` to the end of `text`. An error if memory is refused.
 fn push_number(text: &mut Vec<u8>, word: &[u8], number: u64) -> Result<(), AllocError>
     ensures { OnOk result (text.new.items ≡ text.old.items ++ line (with_number word.now number)) }
 {
@@ -20,7 +20,7 @@ fn push_number(text: &mut Vec<u8>, word: &[u8], number: u64) -> Result<(), Alloc
     text.extend_from_slice(b"\n")
 }
 
-/// The line of a reply to a call.
+/// Adds the line of `reply` to the end of `text`; an error if memory is refused.
 pub fn push_reply(text: &mut Vec<u8>, reply: Reply) -> Result<(), AllocError>
     ensures { OnOk result (text.new.items ≡ text.old.items ++ line (reply_text reply)) }
 {
@@ -37,7 +37,7 @@ pub fn push_reply(text: &mut Vec<u8>, reply: Reply) -> Result<(), AllocError>
     }
 }
 
-/// Puts the key in lower case digits, or a dash for the empty key.
+/// Puts `key` on the page in lower case digits, or a dash for the empty key.
 #[inline(always)]
 fn put_key(page: &mut Page, key: &[u8])
     requires key { length key.now ≤ MAX_BYTES }
@@ -51,7 +51,7 @@ fn put_key(page: &mut Page, key: &[u8])
     }
 }
 
-/// Puts the line of a pair.
+/// Puts the line of the pair of `key` and `value` on the page.
 #[inline(always)]
 fn put_pair(page: &mut Page, key: &[u8], value: u64)
     requires key { length key.now ≤ MAX_BYTES }
@@ -65,7 +65,7 @@ fn put_pair(page: &mut Page, key: &[u8], value: u64)
     page.put(b"\n");
 }
 
-/// Makes room for a line: the lines of a full page go to the end of the text.
+/// Makes room on the page for a line: if the page is full, its lines go to the end of `text`. An error if memory is refused.
 #[inline(always)]
 fn make_room(text: &mut Vec<u8>, page: &mut Page) -> Result<(), AllocError>
     ensures room { OnOk result (length page.new + MOST_BYTES ≤ ROOM) }
@@ -78,7 +78,8 @@ fn make_room(text: &mut Vec<u8>, page: &mut Page) -> Result<(), AllocError>
     Ok(())
 }
 
-/// The lines of a scan with these pairs, where `more` says whether there is a further key.
+/// Adds the lines of a scan with `pairs` to the end of `text`, where `more` says whether there is a further key. An error if memory is
+/// refused.
 pub fn push_scan(text: &mut Vec<u8>, pairs: &Pairs, more: bool) -> Result<(), AllocError>
     ensures lines { OnOk result (text.new.items ≡ text.old.items ++ scan_lines pairs.now more) }
     ensures short { length pairs.now < 2 ^ 63 }
@@ -97,7 +98,7 @@ pub fn push_scan(text: &mut Vec<u8>, pairs: &Pairs, more: bool) -> Result<(), Al
     }
 }
 
-/// The answers to the file of this number, below its heading, behind the texts that stand before.
+/// Adds the heading of file `number`, and `text`, the answers to it, to the end of `texts`. An error if memory is refused.
 pub fn push_section(
     alloc: Global,
     texts: &mut Vec<Vec<u8>>,

@@ -6,10 +6,10 @@ ghost use Rattle.hex.specs.Hex.{encode_lower, lower_digits};
 /// The lower case digits.
 const DIGITS: &[u8; 16] = b"0123456789abcdef";
 
-/// Writes each byte as two lower case digits.
+/// Writes each of `bytes` to `room` as two lower case digits.
 ///
-/// A compiler turns the first loop into steps over eight bytes at once, which it can't do where digits are looked up; so long keys
-/// take a third of the time. The few bytes that are left are cheaper to look up.
+/// A compiler turns the first loop into steps over eight bytes at once, which it can't do where digits are looked up. So long keys take a
+/// third of the time. The few bytes that are left are cheaper to look up.
 pub fn write_hex(bytes: &[u8], room: &mut [u8])
     requires { length room.old ≡ 2 * length bytes.now }
     ensures { room.new ≡ encode_lower bytes.now }
@@ -27,7 +27,7 @@ pub fn write_hex(bytes: &[u8], room: &mut [u8])
     }
 }
 
-/// The lower case digit of a number below 16.
+/// The lower case hexadecimal digit of `number`, which is below 16.
 #[inline(always)]
 fn digit(number: u8) -> u8
     requires { number < 16 }
@@ -37,7 +37,7 @@ fn digit(number: u8) -> u8
     b'0' + number + letter
 }
 
-/// How many decimal digits a number has.
+/// How many decimal digits `number` has; 1 for 0.
 #[inline(always)]
 pub fn count_digits(number: u64) -> usize
     ensures { result ≡ length (decimal number) }

@@ -10,14 +10,14 @@ use crate::fault::Reason;
 use crate::word;
 use finite_map::Call;
 
-/// The place of the first separator.
+/// The place of the first `separator` in `text`; `None` if there is none.
 fn first_index(separator: u8, text: &[u8]) -> Option<usize>
     ensures { result ≡ position (λ b. b == separator) text.now }
 {
     text.iter().position(|byte| *byte == separator)
 }
 
-/// The text up to the first separator, and what follows that.
+/// The part of `text` before the first `separator`, and what follows that; if there is none, all of `text`, and `None`.
 pub fn cut(separator: u8, text: &[u8]) -> (&[u8], Option<&[u8]>)
     ensures parts { slice_split (λ b. b == separator) text.now ≡ result.0.now ∷ parts_left separator result.1 }
     ensures left { text_len result.1 ≤ length text.now }
@@ -37,7 +37,7 @@ enum Words<'a> {
     Other,
 }
 
-/// Cuts a line into its words.
+/// The words of `line`, parted by single spaces: `Other` for one word, or more than four.
 fn words_in(line: &[u8]) -> Words<'_>
     ensures { AreWords result (line_words line.now) }
 {
@@ -60,7 +60,7 @@ fn words_in(line: &[u8]) -> Words<'_>
     }
 }
 
-/// A command that takes a key.
+/// The command `name` for a key alone, or what is wrong with its words.
 fn with_key(version: Version, name: &[u8], key: &[u8]) -> Result<Command, Reason>
     ensures { result ≡ command_of version (name.now ∷ key.now ∷ []) }
 {
@@ -75,7 +75,7 @@ fn with_key(version: Version, name: &[u8], key: &[u8]) -> Result<Command, Reason
     }
 }
 
-/// A command that takes a key and a value.
+/// The command `name` for a key and a value, or what is wrong with its words.
 fn with_value(version: Version, name: &[u8], key: &[u8], value: &[u8]) -> Result<Command, Reason>
     ensures { result ≡ command_of version (name.now ∷ key.now ∷ value.now ∷ []) }
 {
@@ -92,7 +92,7 @@ fn with_value(version: Version, name: &[u8], key: &[u8], value: &[u8]) -> Result
     }
 }
 
-/// A command that takes a range.
+/// The command `name` for a range and a limit, or what is wrong with its words.
 fn with_range(
     version: Version,
     name: &[u8],
@@ -112,7 +112,7 @@ fn with_range(
     }
 }
 
-/// The command of a line, or why it has none.
+/// The command of `line`, or what is wrong with its words.
 fn command(version: Version, line: &[u8]) -> Result<Command, Reason>
     ensures { result ≡ command_of version (line_words line.now) }
 {
@@ -124,7 +124,7 @@ fn command(version: Version, line: &[u8]) -> Result<Command, Reason>
     }
 }
 
-/// What a line asks for: nothing where it is empty or a comment.
+/// The command of `line`; `None` if the line is empty or a comment, and what is wrong with it if it is neither of these.
 pub fn reading(version: Version, line: &[u8]) -> Result<Option<Command>, Reason>
     ensures { result ≡ reading_of version line.now }
 {

@@ -38,7 +38,7 @@ impl Model for Page {
 }
 
 impl Page {
-    /// No bytes.
+    /// A page without bytes.
     pub fn new() -> Page
         ensures { result ≡ [] }
     {
@@ -55,7 +55,7 @@ impl Page {
         self.end = 0;
     }
 
-    /// The bytes.
+    /// The bytes of the page.
     pub fn as_bytes(&self) -> &[u8]
         ensures { result.now ≡ self.now }
     {
@@ -70,7 +70,7 @@ impl Page {
         self.end + MOST_BYTES > ROOM
     }
 
-    /// Puts a text.
+    /// Puts `text` on the page, behind what is there.
     #[inline(always)]
     pub fn put(&mut self, text: &[u8])
         requires { length self.old + length text.now ≤ ROOM }
@@ -81,7 +81,7 @@ impl Page {
         self.end = end;
     }
 
-    /// Puts a number in decimal digits, without leading zeros.
+    /// Puts `number` on the page in decimal digits, without leading zeros.
     #[inline(always)]
     pub fn put_number(&mut self, number: u64)
         requires { length self.old + NUMBER_DIGITS ≤ ROOM }
@@ -92,7 +92,7 @@ impl Page {
         self.end = end;
     }
 
-    /// Puts bytes, each as two lower case hexadecimal digits.
+    /// Puts `bytes` on the page, each as two lower case hexadecimal digits.
     #[inline(always)]
     pub fn put_hex(&mut self, bytes: &[u8])
         requires { length self.old + 2 * length bytes.now ≤ ROOM }

@@ -38,7 +38,7 @@ pub struct Commands<'a> {
 impl Script {
     ghost use Rattle.hot_scripts.specs.Parses.{Parses, script_commands, commands_left};
 
-    /// The script of this text, or its first bad line.
+    /// The script with the text `text`, or a fault with its first bad line.
     pub fn parse(text: Vec<u8>) -> Result<Script, RunFault>
         requires { vec_len text ≤ MAX_SCRIPT }
         ensures { Parses result (commands_of text.items) }
@@ -70,7 +70,7 @@ impl Script {
 impl<'a> Commands<'a> {
     ghost use Rattle.hot_scripts.specs.Parses.{Gives, IsOpening, commands_left, readings_left};
 
-    /// The next command, if there is one.
+    /// The next command; `None` if no line that is left has one. Lines up to it, and that one, are left no more.
     pub fn next_command(&mut self) -> Option<Command>
         ensures { Gives (commands_left self.old) result (commands_left self.new) }
     {
@@ -84,7 +84,8 @@ impl<'a> Commands<'a> {
         None
     }
 
-    /// The number of the first line that may have a command, and the commands from there on.
+    /// The number of the first line that may have a command, and the commands from there on. It is 2 if the first line is `hot 2`, which
+    /// makes the script one of the second version, else 1.
     fn opening(script: &'a [u8]) -> (u32, Commands<'a>)
         ensures { IsOpening script.now result.0 result.1 }
     {
@@ -105,8 +106,8 @@ impl<'a> Commands<'a> {
         }
     }
 
-    /// The most bytes that the key of a call in these lines has. If a line is bad, it gives the number of the first such line, where
-    /// the first line has the number `first`, and what is wrong with it.
+    /// The most bytes that the key of a call in these lines has. If a line is bad, it returns the number of the first such line, and what
+    /// is wrong with it. The first line has the number `first`.
     fn longest_key(self, first: u32) -> Result<usize, (u32, Reason)>
         requires { first + text_len self.left < 2 ^ 32 }
         ensures good { IfOk result (λ longest. first_bad first (readings_left self.entry) ≡ None) }
@@ -130,7 +131,7 @@ impl<'a> Commands<'a> {
     }
 }
 
-/// How many bytes the key of a call has; 0 if there is no call.
+/// How many bytes the key of the call `command` has; 0 if it is a scan or `None`.
 fn key_bytes(command: &Option<Command>) -> usize
     ensures key { IfSome command.now (HasKeyUpTo result) }
     ensures few { result ≤ MAX_BYTES }
@@ -141,7 +142,7 @@ fn key_bytes(command: &Option<Command>) -> usize
     }
 }
 
-/// The key of a call.
+/// The key of `call`.
 fn key_of(call: &Call) -> &Key
     ensures { result.now ≡ key_of call.now }
 {
@@ -151,7 +152,7 @@ fn key_of(call: &Call) -> &Key
     }
 }
 
-/// The larger of two numbers.
+/// The larger of `first` and `second`.
 fn larger(first: usize, second: usize) -> usize
     ensures bound { (first ≤ result) × (second ≤ result) }
     ensures few { first ≤ MAX_BYTES → second ≤ MAX_BYTES → result ≤ MAX_BYTES }

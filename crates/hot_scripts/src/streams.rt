@@ -12,7 +12,8 @@ use std::io::{ErrorKind, Read, Write};
 /// How many bytes one read asks for.
 const CHUNK: usize = 4096;
 
-/// The whole script. A read that was interrupted is made again.
+/// Reads the whole script, all that `reader` has left. A read that was interrupted is made again. `Read` if a read failed, `Large` if
+/// there are more than `MAX_SCRIPT` bytes, `Memory` if memory is refused.
 pub fn read_script<R: Read>(alloc: Global, reader: &mut R) -> Result<Vec<u8>, RunFault>
     ensures whole { IfOk result (λ script. TakesAll (R.remaining reader.old) (R.remaining reader.new) script.items) }
     ensures short { IfOk result (λ script. vec_len script ≤ MAX_SCRIPT) }
@@ -35,7 +36,7 @@ pub fn read_script<R: Read>(alloc: Global, reader: &mut R) -> Result<Vec<u8>, Ru
     Err(RunFault::Read)
 }
 
-/// Writes a text.
+/// Writes `text`; `RunFault::Write` if a write failed.
 fn write_text<W: Write>(writer: &mut W, text: &[u8]) -> Result<(), RunFault>
     ensures ok { OnOk result (Appends (W.contents writer.old) (W.contents writer.new) text.now) }
     ensures fault { IfErr result (λ fault. fault ≡ RunFault.Write) }
@@ -46,7 +47,7 @@ fn write_text<W: Write>(writer: &mut W, text: &[u8]) -> Result<(), RunFault>
     }
 }
 
-/// Sees that what was written has arrived.
+/// Sees that what was written has arrived; `RunFault::Write` if the flush failed.
 fn flush<W: Write>(writer: &mut W) -> Result<(), RunFault>
     ensures ok { OnOk result (Keeps (W.contents writer.old) (W.contents writer.new)) }
     ensures fault { IfErr result (λ fault. fault ≡ RunFault.Write) }
@@ -57,7 +58,7 @@ fn flush<W: Write>(writer: &mut W) -> Result<(), RunFault>
     }
 }
 
-/// Writes the answers.
+/// Writes `text`, and sees that it has arrived; `RunFault::Write` if that failed.
 pub fn write_answers<W: Write>(writer: &mut W, text: &[u8]) -> Result<(), RunFault>
     ensures ok { OnOk result (Appends (W.contents writer.old) (W.contents writer.new) text.now) }
     ensures fault { IfErr result (λ fault. fault ≡ RunFault.Write) }
@@ -66,7 +67,7 @@ pub fn write_answers<W: Write>(writer: &mut W, text: &[u8]) -> Result<(), RunFau
     flush(writer)
 }
 
-/// Writes texts, one after another.
+/// Writes `texts`, one after another, and sees that they have arrived; `RunFault::Write` if that failed.
 pub fn write_sections<W: Write>(writer: &mut W, texts: &[Vec<u8>]) -> Result<(), RunFault>
     ensures ok { OnOk result (Appends (W.contents writer.old) (W.contents writer.new) (flat_map (λ t. t.items) texts.now)) }
     ensures fault { IfErr result (λ fault. fault ≡ RunFault.Write) }

@@ -16,7 +16,8 @@ const MAX_DIGITS: usize = 20;
 /// The greatest number of pairs that a scan may ask for.
 const MAX_LIMIT: u64 = 1_000_000;
 
-/// The key that a word stands for, in hexadecimal digits.
+/// The key that `word` stands for: hexadecimal digits, or a dash for the empty key. `Reason::Key` if it is none, or has too many digits
+/// for `version`.
 pub fn key(version: Version, word: &[u8]) -> Result<Key, Reason>
     ensures { result ≡ parsed_key version word.now }
 {
@@ -34,7 +35,7 @@ pub fn key(version: Version, word: &[u8]) -> Result<Key, Reason>
     }
 }
 
-/// The key of these bytes.
+/// The key of `bytes`, `MAX_BYTES` at most.
 fn from_bytes(bytes: &[u8]) -> Result<Key, Reason>
     requires { length bytes.now ≤ MAX_BYTES }
     ensures { result ≡ Ok bytes.now }
@@ -45,21 +46,21 @@ fn from_bytes(bytes: &[u8]) -> Result<Key, Reason>
     }
 }
 
-/// Whether a word is a number of decimal digits.
+/// Whether `word` is 1 to `MAX_DIGITS` decimal digits.
 fn is_number(word: &[u8]) -> bool
     ensures { result ≡ is_number word.now }
 {
     !word.is_empty() && word.len() <= MAX_DIGITS && are_digits(word)
 }
 
-/// Whether each byte is a decimal digit.
+/// Whether each byte of `word` is a decimal digit.
 fn are_digits(word: &[u8]) -> bool
     ensures { result ≡ list_all is_ascii_digit word.now }
 {
     word.iter().all(|byte| byte.is_ascii_digit())
 }
 
-/// The number that a word stands for.
+/// The number that `word` stands for; `None` if it is no number, or one above 2^64 - 1.
 fn number(word: &[u8]) -> Option<u64>
     ensures { result ≡ number_of word.now }
 {
@@ -72,14 +73,14 @@ fn number(word: &[u8]) -> Option<u64>
     }
 }
 
-/// The value that a word stands for.
+/// The value that `word` stands for; `Reason::Value` if it is none.
 pub fn value(word: &[u8]) -> Result<u64, Reason>
     ensures { result ≡ parsed_value word.now }
 {
     number(word).ok_or(Reason::Value)
 }
 
-/// The limit that a word stands for.
+/// The limit that `word` stands for; `Reason::Limit` if it is no number from 1 to `MAX_LIMIT`.
 pub fn limit(word: &[u8]) -> Result<usize, Reason>
     ensures { result ≡ limit_of word.now }
 {

@@ -38,11 +38,12 @@ pub enum Case {
 
 /// The affected node of an insertion, by its place on the way, its affected entries, and what is done there.
 ///
-/// It says which nodes get another one in their place: none for `LeafPushdown`, which stores into the affected node's
-/// entry `first`; the affected node for `NormalInsert`; and the nodes from the affected one up to `chain_end` for
-/// `Overflow`, but for a full node that stays whole as one half. The last two store into the entry at `at` of the node
-/// above the uppermost of these, or at the root. A writer locks these nodes, also the one that stays whole, and the one that
-/// is stored into.
+/// It says which nodes get another one in their place. For `LeafPushdown` it is none, and entry `first` of the affected node is stored.
+/// For `NormalInsert` it is the affected node. For `Overflow` these are the nodes from the affected one up to `chain_end`, but for a full
+/// node that stays whole as one half.
+///
+/// The last two store into the entry at `at` of the node above the uppermost of these, or at the root. A writer locks these nodes, also
+/// the one that stays whole, and the one that is stored into.
 #[derive(Clone, Copy)]
 pub struct Choice {
     pub level: usize,
@@ -51,7 +52,7 @@ pub struct Choice {
     pub case: Case,
 }
 
-/// The last node on the way whose first position is below `position`, or the topmost where there is none.
+/// The place on `way` of the last node whose first position is below `position`; 0 if there is none.
 pub fn level_below(way: &[PathNode], position: u16) -> usize
     requires { 0 < length way.now }
     ensures { IsLevel way.now position result }
@@ -65,9 +66,9 @@ pub fn level_below(way: &[PathNode], position: u16) -> usize
     level
 }
 
-/// The insertion case for a key that differs from the leaf that its search finds first at a position: `level` is what
-/// `level_below` gives for it, and the entries from `first` to `last` of that node are those that the position affects.
-/// Where one entry alone is affected and the way goes on below it, the whole next node is affected instead.
+/// The insertion case for a key that differs from the leaf that its search finds first at a position. `level` is what `level_below`
+/// returns for the position, and the entries from `first` to `last` of that node are those that it affects. If one entry alone is
+/// affected and the way goes on below it, the whole next node is affected instead.
 pub fn choose(way: &[PathNode], level: usize, first: u8, last: u8) -> Choice
     requires { level < length way.now }
     ensures chosen { IsChosen way.now level first last result }
@@ -102,7 +103,7 @@ pub fn choose(way: &[PathNode], level: usize, first: u8, last: u8) -> Choice
     }
 }
 
-/// What is done at a node, where one leaf alone is affected or not.
+/// What is done at the node `step`, where one leaf alone is affected or not, as `one_leaf` says.
 fn case_at(step: PathNode, one_leaf: bool) -> Case
     ensures { result ≡ case_of step.height step.count one_leaf }
 {
@@ -115,8 +116,8 @@ fn case_at(step: PathNode, one_leaf: bool) -> Case
     }
 }
 
-/// The uppermost node on the way that gets another one in its place, where the node at `level` overflows: the halves
-/// of a full node go into its parent where that is one higher, and a full parent overflows in turn.
+/// The place on `way` of the uppermost node that gets another one in its place, where the node at `level` overflows. The halves of a full
+/// node go into its parent where that is one higher, and a full parent overflows in turn.
 pub fn chain_end(way: &[PathNode], level: usize) -> usize
     requires { level < length way.now }
     ensures { IsChainEnd way.now level result }
@@ -128,15 +129,15 @@ pub fn chain_end(way: &[PathNode], level: usize) -> usize
     end
 }
 
-/// Whether what rises from a full node goes into its parent.
+/// Whether `child` is full, and what rises from it goes into `parent`.
 fn is_pulled_up(child: PathNode, parent: PathNode) -> bool
     ensures { IsTrue result ↔ ((child.count ≡ 32) × IsPullUp child.height parent.height) }
 {
     child.count == 32 && is_pull_up(child.height, parent.height)
 }
 
-/// Whether what rises from a node goes into its parent, by their heights: the parent is one higher. Where it is higher
-/// still, a new node goes between them.
+/// Whether what rises from a node of the height `child_height` goes into its parent: the parent is one higher. If it is higher still, a
+/// new node goes between them.
 pub fn is_pull_up(child_height: u16, parent_height: u16) -> bool
     ensures { IsTrue result ↔ IsPullUp child_height parent_height }
 {

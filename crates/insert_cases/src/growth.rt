@@ -20,8 +20,8 @@ pub enum Grown {
     Two(Cut),
 }
 
-/// A node with a new entry beside the entries from `first` to `last`, which `Node::affected` gives for the position: one node where it
-/// has room, and else the cut that [`grow_full`] returns.
+/// The node with `entry` beside the entries from `first` to `last`, which `Node::affected` returns for `position`. It is one node if it
+/// has room, else the cut that [`grow_full`] returns.
 pub fn grow(node: &Node, first: u8, last: u8, position: u16, bit: bool, entry: Entry) -> Grown
     requires range { IsAffected (piece node.now) position first last }
     requires position { position < 65535 }
@@ -35,9 +35,8 @@ pub fn grow(node: &Node, first: u8, last: u8, position: u16, bit: bool, entry: E
     grow_full(node, first, last, position, bit, entry)
 }
 
-/// A full node with a new entry beside the entries from `first` to `last`, where `Node::add` would put it: the node is
-/// cut, and the entry goes into one of the halves; where the position is below the node's first one, the whole node is
-/// one side and the entry the other.
+/// A full node with `entry` beside the entries from `first` to `last`, where `Node::add` would put it. The node is cut, and the entry
+/// goes into one of the halves. If `position` is below the node's first one, the whole node is one side and the entry the other.
 pub fn grow_full(node: &Node, first: u8, last: u8, position: u16, bit: bool, entry: Entry) -> Grown
     requires full { length node.now.entries ≡ 32 }
     requires range { IsAffected (piece node.now) position first last }
@@ -54,7 +53,7 @@ pub fn grow_full(node: &Node, first: u8, last: u8, position: u16, bit: bool, ent
     Grown::Two(cut_grown(node, first, last, position, bit, entry))
 }
 
-/// The fork of a node that stays whole and a new entry.
+/// The fork at `position` of a node that stays whole and `entry`, which is the side of `bit`.
 fn beside(position: u16, bit: bool, entry: Entry) -> Cut
     ensures position { result.position ≡ position }
     ensures zero { result.zero ≡ (if bit then Half.Same else Half.One entry) }
@@ -75,7 +74,7 @@ fn beside(position: u16, bit: bool, entry: Entry) -> Cut
     }
 }
 
-/// A full node cut, with a new entry in the half that holds those from `first` to `last`.
+/// The full node `node` cut, with `entry` in the half that has the entries from `first` to `last`.
 fn cut_grown(node: &Node, first: u8, last: u8, position: u16, bit: bool, entry: Entry) -> Cut
     requires lawful { IsLawfulNode node.now }
     requires range { IsAffected (piece node.now) position first last }
@@ -107,7 +106,7 @@ fn cut_grown(node: &Node, first: u8, last: u8, position: u16, bit: bool, entry: 
     }
 }
 
-/// How many entries a half of a cut has.
+/// How many entries `half`, a side of a cut, has.
 fn half_count(half: &Half) -> u8
     requires { HalfShows half.now (half_piece half.now) }
     ensures { result ≡ size (half_piece half.now) }
@@ -119,7 +118,8 @@ fn half_count(half: &Half) -> u8
     }
 }
 
-/// A half of a cut with a new entry.
+/// The half of a cut with `entry` beside the entries from `first` to `last`, parted from these at `position`: with `bit` after them, else
+/// before.
 fn half_grown(half: Half, first: u8, last: u8, position: u16, bit: bool, entry: Entry) -> Node
     requires half { HalfShows half (half_piece half) }
     requires room { size (half_piece half) < 32 }
@@ -144,8 +144,8 @@ fn half_grown(half: Half, first: u8, last: u8, position: u16, bit: bool, entry: 
     }
 }
 
-/// The node with a fork of two entries in place of entry `at`. A full node is cut first, and the fork stands in one
-/// of its halves.
+/// The node with a fork of `zero` and `one` at `position` in place of entry `at`. A full node is cut first, and the fork stands in one of
+/// its halves.
 pub fn pull_up(node: &Node, at: u8, position: u16, zero: Entry, one: Entry) -> Grown
     requires place { at < length node.now.entries }
     requires path { IsAbovePath position at (piece node.now) }
@@ -182,7 +182,7 @@ pub fn pull_up(node: &Node, at: u8, position: u16, zero: Entry, one: Entry) -> G
     }
 }
 
-/// A half of a cut with a fork of two entries in place of entry `at`.
+/// The half of a cut with a fork of `zero` and `one` at `position` in place of entry `at`.
 fn half_forked(half: &Half, at: u8, position: u16, zero: Entry, one: Entry) -> Node
     requires half { HalfShows half.now (half_piece half.now) }
     requires room { size (half_piece half.now) < 32 }
@@ -200,7 +200,7 @@ fn half_forked(half: &Half, at: u8, position: u16, zero: Entry, one: Entry) -> N
     }
 }
 
-/// The node with a fork of two entries in place of entry `at`.
+/// A copy of `node`, which has room, with a fork of `zero` and `one` at `position` in place of entry `at`.
 fn forked(node: &Node, at: u8, position: u16, zero: Entry, one: Entry) -> Node
     requires room { length node.now.entries < 32 }
     requires place { at < length node.now.entries }
@@ -215,8 +215,10 @@ fn forked(node: &Node, at: u8, position: u16, zero: Entry, one: Entry) -> Node
     grown
 }
 
-/// Puts a fork of two entries in the place of entry `at` of a node with room. The height is built anew: a leaf stands there first, so
-/// that the old entry's height does not count; and the higher entry is added before the lower one takes the leaf's place.
+/// Puts a fork of `zero` and `one` at `position` in the place of entry `at` of a node with room. The height is built anew.
+///
+/// A leaf stands there first, so that the old entry's height does not count. The higher entry is added before the lower one takes the
+/// leaf's place.
 pub fn put_fork(node: &mut Node, at: u8, position: u16, zero: Entry, one: Entry)
     requires room { length node.old.entries < 32 }
     requires place { at < length node.old.entries }

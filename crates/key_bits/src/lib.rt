@@ -13,8 +13,8 @@ use std::cmp::Ordering;
 use std::hash::{Hash, Hasher};
 use std::marker::Model;
 
-/// The most bytes that a key has. Every other bound on keys and their bits is computed from this one:
-/// a key's bits stand at positions below `9 * MAX_BYTES`, and so does the first difference of two keys.
+/// The most bytes that a key has. Every other bound on keys and their bits is computed from this one. The bits of a key stand at
+/// positions below `9 * MAX_BYTES`, and so does the first difference of two keys.
 pub const MAX_BYTES: usize = 240;
 
 /// Why bytes are no key.
@@ -52,7 +52,7 @@ impl Model for Key {
 }
 
 impl Key {
-    /// The key of these bytes; `TooLong` exactly where there are more than `MAX_BYTES`.
+    /// The key of `bytes`; `TooLong` exactly if there are more than `MAX_BYTES`.
     pub fn from_bytes(bytes: &[u8]) -> Result<Key, KeyFault>
         ensures fits { IsOk result ↔ (length bytes.now ≤ MAX_BYTES) }
         ensures ok { IfOk result (λ key. key ≡ bytes.now) }
@@ -75,7 +75,7 @@ impl Key {
         }
     }
 
-    /// Makes it the key of these bytes; `TooLong` exactly where there are more than `MAX_BYTES`, and then it stays as it was.
+    /// Makes this the key of `bytes`; `TooLong` exactly if there are more than `MAX_BYTES`, and then the key stays as it was.
     ///
     /// A key that is made so where it is used isn't moved, as the one in the result of [`Key::from_bytes`] is.
     #[inline(always)]
@@ -93,7 +93,7 @@ impl Key {
         Ok(())
     }
 
-    /// The key of the first `count` of these bytes; all others are 0.
+    /// The key of the first `count` of `bytes`; all others are 0.
     pub fn of_places(bytes: [u8; MAX_BYTES], count: usize) -> Key
         requires { HoldsKey bytes count }
         ensures { result ≡ take count bytes }
@@ -128,8 +128,8 @@ impl Key {
         }
     }
 
-    /// The bit at a position: byte `i` gives nine bits at `9 * i` on, a 1 and then its own bits, the highest first.
-    /// Each bit past the last byte is 0.
+    /// The bit at `position`: byte `i` gives nine bits at `9 * i` on, a 1 and then its own bits, the highest first. Each bit past the
+    /// last byte is 0.
     pub fn bit(&self, position: u16) -> bool
         ensures { result ≡ bit_of self.now position }
     {
@@ -137,7 +137,7 @@ impl Key {
     }
 }
 
-/// Writes the bytes to the first of the places. Keys of eight bytes are common, and are written as one word.
+/// Writes `bytes` to the first of `places`; the others stay. Keys of eight bytes are common, and are written as one word.
 #[inline(always)]
 fn write_front(places: &mut [u8; MAX_BYTES], bytes: &[u8])
     requires { length bytes.now ≤ MAX_BYTES }
@@ -227,7 +227,7 @@ impl Hash for Key {
     }
 }
 
-/// The first position at which the keys differ, below `9 * MAX_BYTES`, and `None` exactly for equal keys.
+/// The first position at which `a` and `b` differ, below `9 * MAX_BYTES`; `None` exactly for equal keys.
 pub fn mismatch(a: &Key, b: &Key) -> Option<u16>
     ensures none { IsNone result ↔ (a.now ≡ b.now) }
     ensures first { IfSome result (IsFirstDifference a.now b.now) }
@@ -240,7 +240,7 @@ pub fn mismatch(a: &Key, b: &Key) -> Option<u16>
     mismatch_in(a.as_bytes(), b.as_bytes())
 }
 
-/// The same of the bytes of two keys.
+/// The first position at which the keys with the bytes `xs` and `ys` differ, below `9 * MAX_BYTES`; `None` exactly for equal keys.
 pub fn mismatch_in(xs: &[u8], ys: &[u8]) -> Option<u16>
     requires { IsKey xs.now × IsKey ys.now }
     ensures none { IsNone result ↔ (xs.now ≡ ys.now) }
@@ -262,7 +262,7 @@ pub fn mismatch_in(xs: &[u8], ys: &[u8]) -> Option<u16>
     }
 }
 
-/// How many eights of bytes, of so many, are the same before the first in which the two differ.
+/// How many of the first `count` eights of bytes of `xs` and `ys` are the same, before the first that differs.
 fn same_eights(xs: &[u8], ys: &[u8], count: usize) -> usize
     requires { (8 * count ≤ length xs.now) × (8 * count ≤ length ys.now) }
     ensures few { result ≤ count }
@@ -276,7 +276,7 @@ fn same_eights(xs: &[u8], ys: &[u8], count: usize) -> usize
     count
 }
 
-/// Eight bytes as a number, those of the j-th eight.
+/// The eight bytes from byte `8 * j` on as a number, the first of them highest.
 #[inline(always)]
 fn eight_at(bytes: &[u8], j: usize) -> u64
     requires { 8 * j + 8 ≤ length bytes.now }
@@ -287,7 +287,7 @@ fn eight_at(bytes: &[u8], j: usize) -> u64
     u64::from_be_bytes(eight)
 }
 
-/// How many bits stand before the first at which the bytes differ, counted from the highest.
+/// How many bits stand before the first at which `x` and `y` differ, counted from the highest.
 fn byte_mismatch(x: u8, y: u8) -> u32
     requires { x ≢ y }
     ensures bound { result < 8 }
@@ -296,7 +296,7 @@ fn byte_mismatch(x: u8, y: u8) -> u32
     (x ^ y).leading_zeros()
 }
 
-/// The key's bits at the positions, the bit at `positions[j]` as bit `31 - j`. All lower bits are 0.
+/// The bits of `key` at `positions`, 31 at most: the bit at `positions[j]` is bit `31 - j`. All lower bits are 0.
 pub fn extract(key: &Key, positions: &[u16]) -> u32
     requires { length positions.now ≤ 31 }
     ensures { result ≡ gathered (bit_of key.now) positions.now }
@@ -309,7 +309,7 @@ pub fn extract(key: &Key, positions: &[u16]) -> u32
     bits << (31 - positions.len()) << 1
 }
 
-/// The bit at a position of a key with these bytes, as a number.
+/// The bit at `position` of the key with the bytes `bytes`, as 0 or 1.
 fn bit_in(bytes: &[u8], position: u16) -> u32
     ensures { result ≡ (if bit_of bytes.now position then 1 else 0) }
 {

@@ -24,7 +24,7 @@ impl KeyCount {
         KeyCount { keys: 0 }
     }
 
-    /// Counts a call of the pass that was answered with this reply.
+    /// Counts a call of the pass whose reply was `reply`.
     pub fn note(&mut self, reply: Reply)
         ensures { (q place : ℕ) (notes : List Note) (call : Call) → MayReply call reply → IsCountOf q notes self.old →
             IsCountOf q (notes ++ record { place = place; call = call; reply = reply } ∷ []) self.new }
@@ -33,7 +33,7 @@ impl KeyCount {
     }
 }
 
-/// How many keys a call with this reply has put in, less how many it has taken out, modulo 2^64.
+/// How many keys a call with the reply `reply` has put in, less how many it has taken out, modulo 2^64.
 fn net(reply: Reply) -> u64
     ensures { result ≡ net_of reply }
 {
@@ -44,7 +44,7 @@ fn net(reply: Reply) -> u64
     }
 }
 
-/// How many keys the map has, by the counts of all passes in the order of their numbers, when nobody changes it.
+/// How many keys the map has, by `counts`, those of all passes in the order of their numbers, when nobody changes it.
 pub fn total(counts: &[KeyCount]) -> u64
     ensures { (front : List Change) → AreCounts front counts.now → length (map_of front) < 2 ^ 64 → result ≡ length (map_of front) }
 {

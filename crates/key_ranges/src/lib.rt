@@ -9,7 +9,7 @@ pub mod laws;
 
 use key_bits::{Key, MAX_BYTES};
 
-/// The least key above this one. There is none above `MAX_BYTES` bytes of 255.
+/// The least key above `key`; `None` above the greatest key, `MAX_BYTES` bytes of 255.
 pub fn next_key(key: &Key) -> Option<Key>
     ensures some { IfSome result (IsNextKey key.now) }
     ensures none { result ≡ None → NoKeyAbove key.now }
@@ -28,7 +28,7 @@ pub fn next_key(key: &Key) -> Option<Key>
     None
 }
 
-/// The greatest key below this one. There is none below the empty key.
+/// The greatest key below `key`; `None` below the empty key.
 pub fn previous_key(key: &Key) -> Option<Key>
     ensures some { IfSome result (IsPreviousKey key.now) }
     ensures none { result ≡ None → key.now ≡ [] }
@@ -41,7 +41,7 @@ pub fn previous_key(key: &Key) -> Option<Key>
     Some(of_front(front))
 }
 
-/// The key of these bytes.
+/// The key of the bytes `front`.
 fn of_front(front: &[u8]) -> Key
     requires { IsKey front.now }
     ensures { result ≡ front.now }
@@ -51,7 +51,7 @@ fn of_front(front: &[u8]) -> Key
     Key::of_places(places, front.len())
 }
 
-/// The key of these bytes and one more.
+/// The key of the bytes `front`, which has room for one more, and `last` behind them.
 fn with_byte(front: &[u8], last: u8) -> Key
     requires key { IsKey front.now }
     requires room { length front.now < MAX_BYTES }
@@ -63,7 +63,7 @@ fn with_byte(front: &[u8], last: u8) -> Key
     Key::of_places(places, front.len() + 1)
 }
 
-/// The last key that begins with this prefix: behind it are as many bytes of 255 as have room.
+/// The last key that begins with `prefix`: behind that are as many bytes of 255 as have room.
 pub fn last_with_prefix(prefix: &Key) -> Key
     ensures { result ≡ last_with prefix.now }
 {

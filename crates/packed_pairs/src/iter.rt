@@ -28,7 +28,7 @@ impl<'a> Model for Iter<'a> {
 }
 
 impl<'a> Iter<'a> {
-    /// The pairs of these heads, whose keys have these bytes.
+    /// The pairs of `heads`, whose keys have `bytes`, one after another.
     pub(crate) fn of(bytes: &'a [u8], heads: &'a [Head]) -> Iter<'a>
         requires { ArePacked heads.now bytes.now }
         ensures { result ≡ unpacked heads.now bytes.now }
@@ -36,7 +36,8 @@ impl<'a> Iter<'a> {
         Iter { bytes, heads }
     }
 
-    /// The next pair, with a key that is a value of its own. Inline, so that the key is made where the caller wants it.
+    /// The next pair, with a key that is a value of its own; `None` if no pair is left. Inline, so that the key is made where the caller
+    /// wants it.
     #[inline(always)]
     pub(crate) fn next_key(&mut self) -> Option<(Key, u64)>
         ensures { YieldsFirst (λ i. i) self.old result self.new }
@@ -49,7 +50,7 @@ impl<'a> Iter<'a> {
     }
 }
 
-/// The key of these bytes. Inline, as its caller is.
+/// The key of `bytes`. Inline, as its caller is.
 #[inline(always)]
 pub(crate) fn key_of(bytes: &[u8]) -> Key
     requires { IsKey bytes.now }

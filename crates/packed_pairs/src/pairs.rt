@@ -49,7 +49,7 @@ impl Pairs {
         }
     }
 
-    /// How many pairs it has.
+    /// How many pairs the list has.
     pub fn len(&self) -> usize
         ensures count { result ≡ length self.now }
         ensures short { length self.now < 2 ^ 63 }
@@ -57,14 +57,14 @@ impl Pairs {
         self.heads.len()
     }
 
-    /// Whether it has no pair.
+    /// Whether the list has no pair.
     pub fn is_empty(&self) -> bool
         ensures { result ≡ nat_eq (length self.now) 0 }
     {
         self.len() == 0
     }
 
-    /// Takes out all pairs. It keeps its memory.
+    /// Takes out all pairs. The list keeps its memory.
     pub fn clear(&mut self)
         ensures { self.new ≡ [] }
     {
@@ -72,7 +72,8 @@ impl Pairs {
         self.heads.clear();
     }
 
-    /// Adds a pair at the end, whose key has the first bytes of these places, so many. Where memory ends, the list stays as it is.
+    /// Adds a pair of a key and `value` at the end. The key has the first `length` bytes of `places`. An error if memory is refused: the
+    /// list stays as it is.
     #[inline(always)]
     pub fn push(
         &mut self,
@@ -94,7 +95,7 @@ impl Pairs {
         Ok(())
     }
 
-    /// The key of the last pair, or none where there is no pair.
+    /// The key of the last pair; `None` if there is no pair.
     pub fn last_key(&self) -> Option<Key>
         ensures { MatchOption result (self.now ≡ []) (IsLastKey self.now) }
     {
@@ -127,9 +128,10 @@ impl Pairs {
     }
 }
 
-/// Ends the bytes by the first of these places. Most keys are short, and a copy of a number of bytes that is known beforehand needs no
-/// call: where there is room, eight bytes are copied for a key of eight, and 64 for one of up to 64, of which those behind the key are
-/// dropped.
+/// Adds the first `length` bytes of `places` to the end of `bytes`. An error if memory is refused: `bytes` stay as they are.
+///
+/// Most keys are short, and a copy of a number of bytes that is known beforehand needs no call. So, where there is room, eight bytes are
+/// copied for a key of eight. 64 are copied for one of up to 64, and those behind the key are dropped.
 #[inline(always)]
 fn append(bytes: &mut Vec<u8>, places: &[u8; MAX_BYTES], length: usize) -> Result<(), AllocError>
     requires { length ≤ MAX_BYTES }
@@ -145,7 +147,7 @@ fn append(bytes: &mut Vec<u8>, places: &[u8; MAX_BYTES], length: usize) -> Resul
     append_any(bytes, &places[..length])
 }
 
-/// The same for a key of up to 64 bytes.
+/// Does what [`append`] does, for a key of up to 64 bytes.
 #[inline(always)]
 fn append_short(
     bytes: &mut Vec<u8>,
@@ -161,7 +163,8 @@ fn append_short(
     Ok(())
 }
 
-/// The same for any key. Never inline, so that short keys need not pass through what is ready for any.
+/// Adds `key`, of any length, to the end of `bytes`. An error if memory is refused: `bytes` stay as they are. Never inline, so that short
+/// keys need not pass through what is ready for any.
 #[inline(never)]
 fn append_any(bytes: &mut Vec<u8>, key: &[u8]) -> Result<(), AllocError>
     ensures items { bytes.new.items ≡ if is_ok result then bytes.old.items ++ key.now else bytes.old.items }

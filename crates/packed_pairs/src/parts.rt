@@ -7,7 +7,7 @@ use crate::pairs::{Head, Pairs};
 use std::alloc::Global;
 
 impl Pairs {
-    /// The heads of its pairs, and the bytes of their keys, one after another.
+    /// The heads of the list's pairs, and the bytes of their keys, one after another.
     pub fn parts(&self) -> (&[Head], &[u8])
         ensures heads { result.0.now ≡ map packed_head self.now }
         ensures keys { result.1.now ≡ keys_in self.now }
@@ -33,14 +33,14 @@ impl Pairs {
         }
     }
 
-    /// How many bytes its keys have together.
+    /// How many bytes the keys of the list have together.
     pub fn key_bytes(&self) -> usize
         ensures { result ≡ length (keys_in self.now) }
     {
         self.bytes.len()
     }
 
-    /// Takes out all pairs. Keeps its memory only where neither the heads nor the bytes of keys have more than `most` bytes of it.
+    /// Takes out all pairs. The list keeps its memory only if neither the heads nor the bytes of keys have more than `most` bytes of it.
     pub fn let_go(&mut self, alloc: Global, most: usize)
         ensures { self.new ≡ [] }
     {

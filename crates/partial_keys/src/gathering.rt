@@ -14,7 +14,7 @@ use std::simd::prelude::*;
 /// At each fraction of nine, in sixteenths, that a position can have: its bit in its byte, and none for the first of the nine bits.
 const MASKS: [u8; 16] = [0, 128, 0, 64, 0, 32, 0, 16, 8, 8, 4, 0, 2, 0, 1, 0];
 
-/// The bytes that have the bits at these positions; for a position behind all bytes of a key no byte of a key.
+/// The number of the byte that has the bit at each of `positions`. For a position behind all bytes of a key, it is no byte of a key.
 #[inline(always)]
 fn bytes_at(positions: u16x32) -> u8x32
     ensures { result ≡ map byte_lane positions }
@@ -24,7 +24,7 @@ fn bytes_at(positions: u16x32) -> u8x32
     bytes.simd_min(u16x32::splat(255)).cast::<u8>()
 }
 
-/// Each position's bit in its byte.
+/// The bit of each of `positions` in its byte, as a mask; 0 for the first of a byte's nine bits.
 #[inline(always)]
 fn masks_at(positions: u16x32) -> u8x32
     ensures { result ≡ map mask_lane positions }
@@ -33,7 +33,7 @@ fn masks_at(positions: u16x32) -> u8x32
     doubled(u8x16::from_array(MASKS)).swizzle_dyn_within::<16>(parts.cast::<u8>())
 }
 
-/// Sixteen lanes, twice.
+/// The sixteen lanes `lanes`, twice.
 #[inline(always)]
 fn doubled(lanes: u8x16) -> u8x32
     ensures { (i : ℕ) → i < 32 → slice_index result i ≡ slice_index lanes (i % 16) }
@@ -44,7 +44,7 @@ fn doubled(lanes: u8x16) -> u8x32
     ])
 }
 
-/// Sixteen of the key's places from this byte on, twice.
+/// Sixteen places of `key` from byte `first` on, twice. Those past its end are 0.
 #[inline(always)]
 fn window_at(key: &Key, first: usize) -> u8x32
     requires { first + 16 ≤ MAX_BYTES }
@@ -53,8 +53,8 @@ fn window_at(key: &Key, first: usize) -> u8x32
     doubled(u8x16::from_slice(&key.places()[first..]))
 }
 
-/// For each lane the bits of its mask that its byte lacks, which stands in the window from the first byte on. A lane whose byte is
-/// behind the last has some bit anyhow.
+/// For each lane the bits of its mask in `masks` that its byte lacks, where `bytes` says which byte that is. The sixteen bytes from
+/// `first` on stand in `window`. A lane whose byte is behind `last` has some bit anyhow.
 #[inline(always)]
 fn missed(bytes: u8x32, masks: u8x32, window: u8x32, first: u8, last: u8) -> u8x32
     requires lanes { (length bytes ≡ 32) × (length masks ≡ 32) × (length window ≡ 32) }
@@ -66,7 +66,7 @@ fn missed(bytes: u8x32, masks: u8x32, window: u8x32, first: u8, last: u8) -> u8x
     masks & !there | bytes.saturating_sub(u8x32::splat(last))
 }
 
-/// Lane i as bit 31-i, set exactly where it is 0.
+/// Bit 31-i is set exactly if lane i is 0.
 #[inline(always)]
 fn zeros(lanes: u8x32) -> u32
     requires { length lanes ≡ 32 }
@@ -75,7 +75,7 @@ fn zeros(lanes: u8x32) -> u32
     lanes.reverse().simd_eq(u8x32::splat(0)).to_bitmask() as u32
 }
 
-/// The key's bits at the columns in the first `count` lanes: the bit of column j is bit 31-j.
+/// The bits of `key` at the columns in the first `count` lanes: the bit of column j is bit 31-j.
 ///
 /// By vectors, if the sixteen bytes from the first column's on have all bits at columns that the key has: seldom are columns further
 /// apart. A position p is bit p%9 of byte p/9, and p*7282/65536 is p/9 as long as p is below 9 * 3640.
@@ -95,7 +95,8 @@ pub fn dense_lanes(lanes: u16x32, count: u8, key: &Key) -> u32
     }
 }
 
-/// Whether sixteen bytes from the first on have all bits at columns that a key of this length has.
+/// Whether the sixteen bytes from byte `first` on have all bits at columns that a key of `key_length` bytes has. `bytes` has the byte of
+/// each column.
 #[inline(always)]
 fn is_near(bytes: u8x32, first: usize, key_length: usize) -> bool
     requires lanes { length bytes ≡ 32 }
@@ -108,7 +109,7 @@ fn is_near(bytes: u8x32, first: usize, key_length: usize) -> bool
         && (key_length <= first + 16 || has_none_between(bytes, first as u8 + 16, key_length as u8))
 }
 
-/// Whether each lane is below the first of these bytes, or not below the second.
+/// Whether each of `bytes` is below `from`, or not below `to`.
 #[inline(always)]
 fn has_none_between(bytes: u8x32, from: u8, to: u8) -> bool
     requires lanes { length bytes ≡ 32 }
@@ -121,7 +122,8 @@ fn has_none_between(bytes: u8x32, from: u8, to: u8) -> bool
         == 0
 }
 
-/// The same bits, sixteen bytes of the key after the other. Never inline: so the lanes go into memory only where columns are far apart.
+/// The bits that [`dense_lanes`] returns, gathered from sixteen bytes of the key after the other. Never inline: so the lanes go into
+/// memory only where columns are far apart.
 #[inline(never)]
 fn dense_far(lanes: u16x32, count: u8, key: &Key) -> u32
     requires { AreColumnLanes lanes count }
@@ -136,8 +138,8 @@ fn dense_far(lanes: u16x32, count: u8, key: &Key) -> u32
     zeros(missing)
 }
 
-/// For each lane 0 exactly where the key has its bit, in one of the sixteen places from this one on, or in the last sixteen if those
-/// would be past the end of the places.
+/// For each lane 0 exactly if `key` has its bit, in one of the sixteen places from `from` on. If those would be past the last place, the
+/// last sixteen count instead.
 #[inline(always)]
 fn missed_from(lanes: u16x32, from: usize, key: &Key) -> u8x32
     requires lanes { length lanes ≡ 32 }
@@ -158,7 +160,7 @@ fn missed_from(lanes: u16x32, from: usize, key: &Key) -> u8x32
     missed | before(bytes, first as u8)
 }
 
-/// How many bytes each lane is before this one.
+/// How many bytes each of `bytes` is before byte `first`; 0 if it isn't before.
 #[inline(always)]
 fn before(bytes: u8x32, first: u8) -> u8x32
     requires { length bytes ≡ 32 }
@@ -168,7 +170,7 @@ fn before(bytes: u8x32, first: u8) -> u8x32
     u8x32::splat(first).saturating_sub(bytes)
 }
 
-/// 31 positions as lanes, with 65,535 behind them.
+/// The 31 positions as lanes, and 65,535 behind them.
 #[inline(always)]
 pub(crate) fn lanes_of(positions: &[u16; 31]) -> u16x32
     ensures { result ≡ positions.now ++ 65535 ∷ [] }

@@ -51,7 +51,7 @@ impl Columns {
     ghost use Rattle.partial_keys.specs.Rows.{dense_of};
     ghost use Rattle.partial_keys.specs.Squeezed.{used_bits};
 
-    /// The columns at these positions.
+    /// The columns at `positions`, which are 1 to 31 and rise.
     pub fn of(positions: &[u16]) -> Columns
         requires { IsColumns positions.now }
         ensures { result ≡ positions.now }
@@ -62,7 +62,7 @@ impl Columns {
         }
     }
 
-    /// The columns at the first `count` of these positions; all others are 65,535.
+    /// The columns at the first `count` of `positions`; all others are 65,535.
     pub fn of_places(positions: [u16; 31], count: u8) -> Columns
         requires { HoldsColumns positions count }
         ensures { result ≡ take count positions }
@@ -107,7 +107,7 @@ impl Columns {
         self.positions[j as usize]
     }
 
-    /// How many columns are below the position. If the position is a column, that is its index.
+    /// How many columns are below `position`. If `position` is a column, that is its index.
     pub fn below(&self, position: u16) -> u8
         ensures value { result ≡ front_below position self.now }
         ensures within { result ≤ length self.now }
@@ -115,7 +115,7 @@ impl Columns {
         count_below(lanes_of(&self.positions), position)
     }
 
-    /// Whether the position is a column, where so many columns are below it.
+    /// Whether `position` is a column, where `below` columns are below it.
     pub fn is_column_at(&self, below: u8, position: u16) -> bool
         requires { below ≡ front_below position self.now }
         ensures { result ≡ has self.now position }
@@ -123,14 +123,14 @@ impl Columns {
         below < self.count && self.positions[below as usize] == position
     }
 
-    /// The key's bits at the columns: the bit of column j is bit 31-j.
+    /// The bits of `key` at the columns: the bit of column j is bit 31-j.
     pub fn dense(&self, key: &Key) -> u32
         ensures { result ≡ dense_of self.now (bit_of key.now) }
     {
         dense_lanes(lanes_of(&self.positions), self.count, key)
     }
 
-    /// Puts a position in as a column, in order, and answers its index.
+    /// Puts `position`, which is no column, in as one, in order, and returns its index.
     pub fn add_position(&mut self, position: u16) -> u8
         requires room { length self.old < 31 }
         requires below { position < 65535 }
@@ -143,7 +143,7 @@ impl Columns {
         at
     }
 
-    /// Puts a position in as a column, where so many columns are below it.
+    /// Puts `position`, which is no column, in as one, where `below` columns are below it.
     pub fn put(&mut self, below: u8, position: u16)
         requires room { length self.old < 31 }
         requires small { position < 65535 }
@@ -166,7 +166,7 @@ impl Columns {
     }
 }
 
-/// The positions, with the unused places filled.
+/// The positions at the first of 31 places, and 65,535 at the unused ones.
 fn filled(positions: &[u16]) -> [u16; 31]
     requires { length positions.now ≤ 31 }
     ensures { result ≡ with_free positions.now }
@@ -178,7 +178,7 @@ fn filled(positions: &[u16]) -> [u16; 31]
     places
 }
 
-/// How many lanes stand before the first that is not below the bound.
+/// How many lanes stand before the first that is not below `bound`.
 #[inline(always)]
 pub fn count_below(lanes: u16x32, bound: u16) -> u8
     ensures { result ≡ front_below bound lanes }
@@ -187,7 +187,7 @@ pub fn count_below(lanes: u16x32, bound: u16) -> u8
     reached.trailing_zeros() as u8
 }
 
-/// Puts an element in among the first `count`: those from its place on move up by one, over the element behind them.
+/// Puts `element` in among the first `count` places, at place `at`: those from there on move up by one, over the element behind them.
 pub fn put_in<T: Copy>(places: &mut [T], count: usize, at: usize, element: T)
     requires place { at ≤ count }
     requires room { count < length places.old }
@@ -197,7 +197,7 @@ pub fn put_in<T: Copy>(places: &mut [T], count: usize, at: usize, element: T)
     places[at] = element;
 }
 
-/// Takes an element out of the first `count`: those behind it move down by one, and `fill` comes behind them.
+/// Takes the element at place `at` out of the first `count`: those behind it move down by one, and `fill` comes behind them.
 pub fn take_out<T: Copy>(places: &mut [T], count: usize, at: usize, fill: T)
     requires place { at < count }
     requires room { count ≤ length places.old }
@@ -209,8 +209,7 @@ pub fn take_out<T: Copy>(places: &mut [T], count: usize, at: usize, fill: T)
     places[count - 1] = fill;
 }
 
-/// Keeps of the first `count` positions those j whose bit 31-j is set in `used`, in front of unused places, and answers how
-/// many these are.
+/// Keeps of the first `count` positions those j whose bit 31-j is set in `used`, in front of unused places. Returns how many these are.
 fn keep_used(places: &mut [u16; 31], count: usize, used: u32) -> usize
     requires few { count ≤ 31 }
     requires unused { drop count places.old ≡ replicate (31 - count) 65535 }
@@ -230,7 +229,7 @@ fn keep_used(places: &mut [u16; 31], count: usize, used: u32) -> usize
     found
 }
 
-/// The highest entry whose sparse partial key complies with the dense one: `dense & sparse[i] == sparse[i]`.
+/// The place of the highest entry whose sparse partial key complies with `dense`: `dense & sparse[i] == sparse[i]`.
 pub fn search_plain(sparse: &[u32; 32], dense: u32) -> u8
     requires { slice_index sparse.now 0 ≡ 0 }
     ensures value { result ≡ highest (complies dense) sparse.now }
@@ -249,7 +248,7 @@ pub fn search_plain(sparse: &[u32; 32], dense: u32) -> u8
     best
 }
 
-/// The same entry as `search_plain`'s, by one comparison of all 32 words as lanes of a vector.
+/// The place that `search_plain` returns, by one comparison of all 32 words as lanes of a vector.
 pub fn search_lanes(sparse: &[u32; 32], dense: u32) -> u8
     requires { slice_index sparse.now 0 ≡ 0 }
     ensures value { result ≡ highest (complies dense) sparse.now }
@@ -260,7 +259,7 @@ pub fn search_lanes(sparse: &[u32; 32], dense: u32) -> u8
     search_rows(u32x32::from_array(*sparse), dense)
 }
 
-/// The same entry, of words that are lanes already.
+/// The place that `search_plain` returns, of words that are lanes already.
 #[inline(always)]
 pub fn search_rows(sparse: u32x32, dense: u32) -> u8
     requires { slice_index sparse 0 ≡ 0 }
@@ -272,7 +271,7 @@ pub fn search_rows(sparse: u32x32, dense: u32) -> u8
     (63 - complying_lanes(sparse, dense).leading_zeros()) as u8
 }
 
-/// Bit i is set exactly where lane i complies: where it has no bit that the dense one lacks.
+/// Bit i is set exactly if lane i complies with `dense`: it has no bit that `dense` lacks.
 #[inline(always)]
 fn complying_lanes(lanes: u32x32, dense: u32) -> u64
     ensures { result ≡ mask_l (map (complies dense) lanes) }

@@ -25,18 +25,17 @@ pub enum Addition {
     Held(u32),
     /// The key is absent, and there is no room for it.
     Refused,
-    /// The key has this new leaf, which belongs beside the entry or above it: it differs first at the position from the key
-    /// of the leaf where its search ended.
+    /// The key has this new leaf, which belongs beside the entry or above it. The key differs first at `position` from that of the leaf
+    /// where its search ended.
     Above { position: u16, leaf: u32 },
     /// The key has a new leaf below, and this took the entry's place.
     Below(Risen),
 }
 
-/// Adds a key with its value below an entry, where it is absent, and makes room for so many nodes first.
+/// Adds `key` with `value` below `entry`, if it is absent, and makes room for `count` nodes first. Returns what becomes of the entry.
 ///
-/// The search goes down to a leaf once, and searches the node that takes the new leaf, and at times that node's child, again. A node
-/// whose first position is below the one at which the key differs takes the new leaf, and each node above it takes what took its
-/// child's place.
+/// The search goes down to a leaf once. It searches the node that takes the new leaf, and at times that node's child, again. A node whose
+/// first position is below the one at which the key differs takes the new leaf. Each node above it takes what took its child's place.
 pub fn added(
     nodes: &mut Vec<Node>,
     leaves: &mut Vec<LeafRecord>,
@@ -80,7 +79,8 @@ pub fn added(
     }
 }
 
-/// Adds a leaf for a key whose search ends at another leaf, unless that has the key.
+/// Adds a leaf with `value` for `key`, whose search ends at leaf `number`, and makes room for `count` nodes. `Held` if that leaf has the
+/// key, `Refused` if there is no room, and else `Above`.
 fn added_beside(
     nodes: &mut Vec<Node>,
     leaves: &mut Vec<LeafRecord>,
@@ -113,7 +113,8 @@ fn added_beside(
     }
 }
 
-/// Makes room for one leaf more, whose number is the answer, and for so many nodes.
+/// Makes room for one leaf more, whose number is returned, and for `count` nodes. `AllocError` if memory or numbers of 32 bits don't
+/// suffice; all records stay in any case.
 pub fn make_room(
     nodes: &mut Vec<Node>,
     leaves: &mut Vec<LeafRecord>,

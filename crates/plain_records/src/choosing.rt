@@ -8,7 +8,7 @@ use compound_node::{Entry, Node};
 use insert_cases::{Case, Choice, PathNode, choose};
 use key_bits::Key;
 
-/// The step of a key's search that takes entry `at` of a node.
+/// The step of a search that takes entry `at` of `node`, whose record is `number`.
 pub fn step_at(node: &Node, number: u32, at: u8) -> PathNode
     ensures height { result.height ≡ node.now.height }
     ensures count { result.count ≡ length node.now.entries }
@@ -22,8 +22,8 @@ pub fn step_at(node: &Node, number: u32, at: u8) -> PathNode
     }
 }
 
-/// What `choose` says of a node for a new leaf: `step` is the node's, its entries from `first` to `last` are affected, and
-/// the key's search goes on to `entry`.
+/// What `choose` says of a node for a new leaf of `key`. `step` is the node's, its entries from `first` to `last` are affected, and the
+/// search for `key` goes on to `entry`.
 pub fn choice_at(
     nodes: &Vec<Node>,
     step: PathNode,
@@ -46,7 +46,7 @@ pub fn choice_at(
     }
 }
 
-/// Whether the node for which this was chosen gets the leaf itself.
+/// Whether the node for which `choice` was made gets the leaf itself: not the next node, nor a new one of two.
 pub fn takes_leaf(choice: Choice) -> bool
     ensures { IsTrue result ↔ TakesLeaf choice }
 {

@@ -38,8 +38,11 @@ pub enum Progress {
     Full,
 }
 
-/// Lists the leaves of the range below an entry to which the search for its lower end leads. `difference` is the first
-/// position at which that key differs from the key of the leaf where the search ends, none where it is the same.
+/// Adds the leaves of `range` below `entry` to `leaves`, in the order of their keys, and returns whether the scan goes on. An error if
+/// memory is refused.
+///
+/// The search for `range.from` leads to `entry`. `difference` is the first position at which that key differs from the key of the leaf at
+/// its end; `None` if they are the same.
 pub fn gather<'a>(
     nodes: &Vec<Node>,
     records: &'a Vec<LeafRecord>,
@@ -83,7 +86,8 @@ pub fn gather<'a>(
     }
 }
 
-/// Lists the leaves of the range below a node, from one of its places on: none of their keys is below the range.
+/// Adds the leaves of `range` below node `number`, from its place `start` on, to `leaves`, and returns whether the scan goes on. None of
+/// their keys is below the range. An error if memory is refused.
 fn gather_from<'a>(
     nodes: &Vec<Node>,
     records: &'a Vec<LeafRecord>,
@@ -111,7 +115,8 @@ fn gather_from<'a>(
     Ok(Progress::On)
 }
 
-/// Lists a leaf, where it is not above the range and there is room.
+/// Adds leaf `number` to `leaves`, if it is not above the range and the limit leaves room, and returns whether the scan goes on. An error
+/// if memory is refused.
 fn list_leaf<'a>(
     records: &'a Vec<LeafRecord>,
     number: u32,
@@ -134,7 +139,8 @@ fn list_leaf<'a>(
     Ok(Progress::On)
 }
 
-/// The pairs of the leaves. Their keys are made from their bytes: of a short key so only these are read, and not all its places.
+/// The pairs of the leaves. A key is copied by its bytes, so that the unused places of a short one aren't read. Memory can run out only
+/// if there is a leaf.
 pub fn pairs_of(alloc: Global, leaves: &[&LeafRecord]) -> Result<Vec<(Key, u64)>, AllocError>
     ensures pairs { IfOk result (λ pairs. pairs.items ≡ pairs_read leaves.now) }
     ensures memory { OnErr result (leaves.now ≢ []) }
@@ -157,8 +163,8 @@ enum Start {
     Within,
 }
 
-/// Where a scan from a key starts in a node. `at` is the place to which the key's search leads, and `difference` the first
-/// position at which the key differs from that of the leaf where the search ends.
+/// Where a scan from `from` starts in `node`. `at` is the place to which the search for `from` leads. `difference` is the first position
+/// at which `from` differs from the key of the leaf at its end; `None` if they are the same.
 fn start_in(node: &Node, at: u8, difference: Option<u16>, from: &Key) -> Start
     requires { at < length node.now.entries }
     ensures { (b : Tree) → IsTrie b → piece node.now ≡ subtrie b → at ≡ spot from.now (subtrie b) →

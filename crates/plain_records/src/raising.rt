@@ -14,7 +14,8 @@ ghost use Rattle.plain_records.specs.Risen.{RisenShows, OthersStay, pushed_nodes
 use compound_node::{Cut, Entry, Half, Node};
 use insert_cases::{Grown, Risen};
 
-/// Stores a grown node in place of the one of this number and height. Of two halves that are nodes the first takes the old one's record, and the other a new one.
+/// Stores `grown` in place of node `number`, whose height was `height`, and returns what takes its place. Of two halves that are nodes
+/// the first takes the old one's record, and the other a new one.
 pub fn stored(nodes: &mut Vec<Node>, number: u32, height: u16, grown: Grown) -> Risen
     requires number { number < vec_len nodes.old }
     requires room { vec_len nodes.old < vec_capacity nodes.old }
@@ -39,7 +40,7 @@ pub fn stored(nodes: &mut Vec<Node>, number: u32, height: u16, grown: Grown) -> 
     }
 }
 
-/// Stores the two halves of a cut.
+/// Stores the two halves of `cut` in place of node `number`, whose height was `height`, and returns the fork of their entries.
 fn split(nodes: &mut Vec<Node>, number: u32, height: u16, cut: Cut) -> Risen
     requires number { number < vec_len nodes.old }
     requires room { vec_len nodes.old < vec_capacity nodes.old }
@@ -82,7 +83,7 @@ fn split(nodes: &mut Vec<Node>, number: u32, height: u16, cut: Cut) -> Risen
     }
 }
 
-/// The entry of a half, which takes the old node's record where it is a node.
+/// The entry of `half`: a new node takes record `number`, and the node as it was, of the height `height`, keeps it.
 fn half_kept(nodes: &mut Vec<Node>, number: u32, height: u16, half: Half) -> Entry
     requires { number < vec_len nodes.old }
     ensures nodes { nodes.new.items ≡ kept_nodes nodes.old.items number half }
@@ -97,7 +98,7 @@ fn half_kept(nodes: &mut Vec<Node>, number: u32, height: u16, half: Half) -> Ent
     }
 }
 
-/// The entry of a half, which gets a new record where it is a node.
+/// The entry of `half`: a new node gets a new record, and the node as it was, of the height `height`, keeps record `number`.
 fn half_pushed(nodes: &mut Vec<Node>, number: u32, height: u16, half: Half) -> Entry
     requires room { vec_len nodes.old < vec_capacity nodes.old }
     requires small { vec_len nodes.old < 2 ^ 32 }
@@ -114,7 +115,7 @@ fn half_pushed(nodes: &mut Vec<Node>, number: u32, height: u16, half: Half) -> E
     }
 }
 
-/// A node in the place of an old one.
+/// Puts `node` into record `number`, and returns its entry.
 pub fn kept(nodes: &mut Vec<Node>, number: u32, node: Node) -> Entry
     requires { number < vec_len nodes.old }
     ensures nodes { nodes.new.items ≡ slice_set nodes.old.items number node }
@@ -127,7 +128,7 @@ pub fn kept(nodes: &mut Vec<Node>, number: u32, node: Node) -> Entry
     Entry::Node { number, height }
 }
 
-/// A new node.
+/// Puts `node` into a new record behind the others, and returns its entry.
 fn pushed(nodes: &mut Vec<Node>, node: Node) -> Entry
     requires room { vec_len nodes.old < vec_capacity nodes.old }
     requires small { vec_len nodes.old < 2 ^ 32 }
@@ -144,7 +145,7 @@ fn pushed(nodes: &mut Vec<Node>, node: Node) -> Entry
     entry
 }
 
-/// One entry for a fork of two at a bit position: it gets a new node, behind the others.
+/// The entry of a new node of `zero` and `one` with a fork at `position`, in a new record behind the others.
 pub fn settled(nodes: &mut Vec<Node>, position: u16, zero: Entry, one: Entry) -> Entry
     requires room { vec_len nodes.old < vec_capacity nodes.old }
     requires small { vec_len nodes.old < 2 ^ 32 }

@@ -26,13 +26,12 @@ use compound_node::{Entry, Node};
 use insert_cases::{Case, Choice, Risen, grow_full, pull_up};
 use key_bits::Key;
 
-/// What takes the place of an entry when a key gets a leaf below it. The key differs first at `position` from that of
-/// the leaf where its search ends.
+/// What takes the place of `entry` when `key` gets the leaf `leaf` below it. The key differs first at `position` from that of the leaf
+/// where its search ends.
 ///
-/// The search goes down until `choose` gives the new leaf to the node where it stands, or to a leaf. A node above leaves
-/// alone takes the new leaf beside one of them; below a higher node a leaf counts as a child of height 0 that gave way to a
-/// fork of itself and the new one. Each node on the way back takes what took its child's place, and stays as it is where
-/// that is the child's own entry.
+/// The search goes down until `choose` gives the new leaf to the node where it stands, or to a leaf. A node above leaves alone takes the
+/// new leaf beside one of them. Below a higher node a leaf counts as a child of height 0 that gave way to a fork of itself and the new
+/// one. Each node on the way back takes what took its child's place, and stays as it is where that is the child's own entry.
 pub fn raised(nodes: &mut Vec<Node>, entry: Entry, key: &Key, position: u16, leaf: u32) -> Risen
     requires place { (leaves : List LeafRecord) × (value : ℕ) × (t : Tree) × IsAddable nodes.old.items leaves (item leaf key.now value) position entry t }
     requires position { position < 65535 }
@@ -75,7 +74,7 @@ pub fn raised(nodes: &mut Vec<Node>, entry: Entry, key: &Key, position: u16, lea
     }
 }
 
-/// The fork of an entry and a new one, which stands on the side of the bit.
+/// The fork at `position` of the entries `old` and `new`, where `new` is the side of `bit`.
 fn beside(old: Entry, position: u16, bit: bool, new: Entry) -> Risen
     ensures { subtrie_of result ≡ subtrie_forked bit position new (At old) }
 {
@@ -94,8 +93,8 @@ fn beside(old: Entry, position: u16, bit: bool, new: Entry) -> Risen
     }
 }
 
-/// What takes the place of a node that gets a leaf as was chosen: beside its entries from the first to the last, and cut
-/// where it is full.
+/// What takes the place of node `number` when leaf `leaf` is put beside its entries from `choice.first` to `choice.last`. It is the node,
+/// or a fork of two if the node was full and is cut.
 fn grown_at(
     nodes: &mut Vec<Node>,
     number: u32,
@@ -147,8 +146,8 @@ fn grown_at(
     }
 }
 
-/// What takes a node's place when its child at `at` gave way. Where that is the child's own entry, the node stays as it
-/// is. A fork goes into the node where the node is one higher than the child, and into a new child otherwise.
+/// What takes the place of node `number` when `risen` takes that of `child`, its entry at `at`. If `risen` is the child's own entry, the
+/// node stays as it is. A fork goes into the node if the node is one higher than the child, and into a new child otherwise.
 pub fn lifted(
     nodes: &mut Vec<Node>,
     number: u32,
@@ -195,7 +194,8 @@ pub fn lifted(
     }
 }
 
-/// What takes the place of a node that gets a fork of two entries in place of its entry `at`.
+/// What takes the place of node `number` that gets a fork of `zero` and `one` at `position` in place of its entry `at`. It is the node,
+/// or a fork of two if the node was full and is cut.
 fn forked_at(
     nodes: &mut Vec<Node>,
     number: u32,
@@ -227,7 +227,7 @@ fn forked_at(
     stored(nodes, number, height, grown)
 }
 
-/// The root's entry, where this is what takes the place of the one before: a fork gets a new node.
+/// The root's entry when `risen` takes the place of the one before: that entry, or for a fork the entry of a new node.
 pub fn rooted(nodes: &mut Vec<Node>, risen: Risen) -> Entry
     requires place { (ns : List NodeView) × (leaves : List LeafRecord) × (x : Item) × (p : ℕ) × (t : Tree) × (h : ℕ) ×
         IsRaised ns nodes.old.items leaves x p t h (subtrie_of risen) }
@@ -250,7 +250,7 @@ pub fn rooted(nodes: &mut Vec<Node>, risen: Risen) -> Entry
     }
 }
 
-/// A node with another entry at a place, in its own record.
+/// Puts `entry` at place `at` of node `number`, in its own record, and returns the node's entry.
 fn replaced(nodes: &mut Vec<Node>, number: u32, at: u8, entry: Entry) -> Entry
     requires { (old : NodeView) × (slice_get nodes.old.items number ≡ Some old) × (at < size (piece old)) × StandsBelow old.height entry }
     ensures shows { (old : NodeView) → slice_get nodes.old.items number ≡ Some old → IsNamed nodes.new.items old result (grafted at (At entry) (piece old)) }

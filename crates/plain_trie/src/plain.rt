@@ -73,7 +73,7 @@ impl PlainTrie {
         }
     }
 
-    /// The root's entry: none without a key.
+    /// The root's entry; `None` if the trie has no key.
     pub fn top(&self) -> Option<Entry>
         ensures top { result ≡ self.now.top }
         ensures shows { ShowsTrie self.now }
@@ -91,15 +91,15 @@ impl PlainTrie {
         }
     }
 
-    /// The node whose record has this number: none where no record has it.
+    /// The node whose record has the number `number`; `None` if no record has it.
     pub fn node(&self, number: u32) -> Option<&Node>
         ensures { MatchOption result (slice_get self.now.nodes number ≡ None) (λ node. slice_get self.now.nodes number ≡ Some node.now) }
     {
         self.nodes.get(number as usize)
     }
 
-    /// The value of a key: none where the trie has not got the key. The search reads one record a level, and compares the
-    /// key with that of the one leaf at which it ends.
+    /// The value of `key`; `None` if the trie has not got the key. The search reads one record a level, and compares `key` with the key
+    /// of the one leaf at which it ends.
     pub fn get(&self, key: &Key) -> Option<u64>
         ensures { result ≡ value_at (trie_map self.now) key.now }
     {
@@ -116,17 +116,17 @@ impl PlainTrie {
         }
     }
 
-    /// Gives the key the value where it has none, and answers `Inserted`, or `Exists` with the value that it has and
-    /// keeps. Only a key that was absent takes memory. Room is made for its leaf and for the most nodes that one insertion
-    /// can add: `height() + 1`, one for each level and one above the root, and none for the first key.
+    /// Gives `key` the value `value` if it has none, and returns `Inserted`; or returns `Exists` with the value that it has and keeps.
+    /// Only a key that was absent takes memory. Room is made for its leaf and for the most nodes that one insertion can add. These are
+    /// `height() + 1`, one for each level and one above the root, and none for the first key.
     ///
-    /// The answer is `AllocError` only where a vector had to grow for that many and got no memory, or where too few numbers
-    /// of 32 bits are left: with 4,294,967,296 leaves, or with more than 4,294,967,295 - `height()` nodes. Most insertions
-    /// add fewer nodes than room is made for, so one can be refused that would have found room for its own, and the last
-    /// few numbers of nodes stay unused. A refused call leaves all records and the root as they were.
+    /// It returns `AllocError` only where a vector had to grow for that many and got no memory, or too few 32-bit numbers are left. These
+    /// are too few with 4,294,967,296 leaves, or with more than 4,294,967,295 - `height()` nodes. Most insertions add fewer nodes than
+    /// room is made for. So one can be refused that would have found room for its own, and the last few numbers of nodes stay unused. A
+    /// refused call leaves all records and the root as they were.
     ///
-    /// A key that is added below a node changes the nodes by the case of the one that it affects, as `choose` of
-    /// `insert_cases` names it, and those above it by what rises from there.
+    /// A key that is added below a node changes the nodes by the case of the affected one, as `choose` of `insert_cases` names it. Those
+    /// above it change by what rises from there.
     pub fn insert(&mut self, key: &Key, value: u64) -> Result<Reply, AllocError>
         ensures ok { IfOk result (IsTrieAnswer (Insert key.now value) self.old self.new) }
         ensures err { OnErr result (IsOutOfMemory (Insert key.now value) self.old self.new) }
@@ -140,8 +140,8 @@ impl PlainTrie {
         }
     }
 
-    /// Gives the key the value, and answers `New`, or `Was` with the value that it had. Only a key that was absent takes
-    /// memory. When the answer is `AllocError`, and what it leaves, is as for `insert`.
+    /// Gives `key` the value `value`, and returns `New`, or `Was` with the value that it had. Only a key that was absent takes memory. It
+    /// returns `AllocError` where `insert` would, and leaves all as it was then.
     pub fn upsert(&mut self, key: &Key, value: u64) -> Result<Reply, AllocError>
         ensures ok { IfOk result (IsTrieAnswer (Upsert key.now value) self.old self.new) }
         ensures err { OnErr result (IsOutOfMemory (Upsert key.now value) self.old self.new) }
@@ -157,9 +157,8 @@ impl PlainTrie {
         Ok(Reply::Was(held))
     }
 
-    /// Adds a key with its value where it is absent, and answers its leaf where it is not. At the end of the search room is
-    /// made for the leaf and for the most nodes that can come: one for each height, and a new root. So a refusal changes
-    /// nothing.
+    /// Adds `key` with `value` if it is absent, and returns `None`; else returns the place of its leaf record. At the end of the search
+    /// room is made for the leaf, a node for each height, and a new root. So a refusal, `AllocError`, changes nothing.
     fn add_absent(&mut self, key: &Key, value: u64) -> Result<Option<usize>, AllocError>
         ensures ok { IfOk result (λ held. MatchOption held
             ((value_at (trie_map self.old) key.now ≡ None) × (trie_map self.new ≡ with_value (trie_map self.old) key.now value))
@@ -189,7 +188,7 @@ impl PlainTrie {
         }
     }
 
-    /// Adds the first key.
+    /// Adds `key` with `value` to a trie without keys. If memory is refused, it returns `AllocError`, and nothing is changed.
     fn plant(&mut self, key: &Key, value: u64) -> Result<(), AllocError>
         requires { self.old.top ≡ None }
         ensures map { OnOk result (trie_map self.new ≡ with_value (trie_map self.old) key.now value) }
@@ -206,7 +205,7 @@ impl PlainTrie {
         Ok(())
     }
 
-    /// Gives a key that the trie has another value.
+    /// Gives `key`, which is held in leaf record `leaf`, the value `value`.
     fn set(&mut self, leaf: usize, key: &Key, value: u64)
         requires { IsHeldInLeaf self.old key.now leaf }
         ensures map { trie_map self.new ≡ with_value (trie_map self.old) key.now value }
@@ -219,7 +218,7 @@ impl PlainTrie {
         };
     }
 
-    /// The leaf at which the key's search ends.
+    /// The place of the leaf record at which the search for `key` ends, from the root's entry `top` down.
     fn find(&self, key: &Key, top: Entry) -> usize
         requires { self.now.top ≡ Some top }
         ensures number { (t : Tree) → shown_tree self.now ≡ Some t → (found key.now t).number ≡ result }
@@ -237,7 +236,7 @@ impl PlainTrie {
     }
 }
 
-/// The entry to which the key's search leads.
+/// The entry of `node` to which the search for `key` leads.
 fn sought(node: &Node, key: &Key) -> Entry
     ensures { result ≡ seek key.now (piece node.now) }
 {

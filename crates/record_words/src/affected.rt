@@ -13,12 +13,11 @@ use crate::{FIRST_ROWS, HEAD_WORDS};
 use partial_keys::count_below;
 use std::simd::prelude::*;
 
-/// The first and the last of the entries that agree with entry `found` in all columns whose position is below this one, in each node
-/// whose head has these words: those that a new fork at the position concerns. No head is made: the words are compared as vectors as
-/// they stand.
+/// The places of the first and the last of the entries that agree with the one at `found` in all columns below `position`. A new fork at
+/// `position` concerns these, in each node whose head has `words`. No head is made: the words are compared as vectors as they stand.
 ///
-/// The sparse partial keys rise. So those that agree in the first columns are a run, from the least number with these bits in front up
-/// to the greatest.
+/// The sparse partial keys rise. So those that agree in the first columns are a run, from the least number with these bits in front up to
+/// the greatest.
 #[inline(always)]
 pub fn affected_in(words: &[u64], found: u8, position: u16) -> (u8, u8)
     requires long { length words.now ≡ HEAD_WORDS }
@@ -36,7 +35,7 @@ pub fn affected_in(words: &[u64], found: u8, position: u16) -> (u8, u8)
     (first as u8, (end - 1) as u8)
 }
 
-/// The sparse partial key at a place, used or unused.
+/// The sparse partial key at place `at` of each node whose head has `words`; 4,294,967,295 past the last one.
 #[inline(always)]
 fn row_in(words: &[u64], at: u8) -> u32
     requires { (length words.now ≡ HEAD_WORDS) × (at < 32) }
@@ -45,7 +44,7 @@ fn row_in(words: &[u64], at: u8) -> u32
     row_of(words[FIRST_ROWS + at as usize / 2], at)
 }
 
-/// How many sparse partial keys are below this number.
+/// How many of `rows`, sparse partial keys, are below `bound`.
 #[inline(always)]
 fn rows_below(rows: u32x32, bound: u32) -> u32
     ensures { result ≡ count_by (λ x. nat_lt x bound) rows }
@@ -53,7 +52,7 @@ fn rows_below(rows: u32x32, bound: u32) -> u32
     rows.simd_lt(u32x32::splat(bound)).to_bitmask().count_ones()
 }
 
-/// How many sparse partial keys are this number or below it.
+/// How many of `rows`, sparse partial keys, are `bound` or below it.
 #[inline(always)]
 fn rows_upto(rows: u32x32, bound: u32) -> u32
     ensures { result ≡ count_by (λ x. nat_lt x (bound + 1)) rows }

@@ -8,7 +8,7 @@ ghost use Rattle.partial_keys.specs.Columns.{with_free};
 use crate::HEAD_WORDS;
 use std::simd::prelude::*;
 
-/// The positions that a head's words have, as far as there are places for them.
+/// The positions of the columns of each node whose head has `words`, and 65,535 at the unused ones of 31 places.
 pub(crate) fn read_places(words: &[u64]) -> [u16; 31]
     requires { length words.now ≡ HEAD_WORDS }
     ensures { InNodesOf words.now (λ node. result ≡ with_free node.columns) }
@@ -20,14 +20,15 @@ pub(crate) fn read_places(words: &[u64]) -> [u16; 31]
     places
 }
 
-/// The number of entries, the number of columns and the stored height in a word.
+/// The first word of a head. Its lowest byte has `count`, the number of entries, the next one `columns`, their number, and the bits above
+/// the stored height.
 pub(crate) fn word_of_numbers(count: u8, columns: u8, height: u16) -> u64
     ensures { result ≡ meta_word count columns height }
 {
     count as u64 + 256 * columns as u64 + 65_536 * height as u64
 }
 
-/// Four positions in a word, the first in its lowest bits.
+/// The four positions from `places[4 * j]` on in a word, the first in its lowest bits; 65,535 stands for one past the last place.
 pub(crate) fn word_of_places(places: &[u16; 31], j: usize) -> u64
     requires { j < 8 }
     ensures { result ≡ position_word places.now j }
@@ -37,14 +38,14 @@ pub(crate) fn word_of_places(places: &[u16; 31], j: usize) -> u64
     low + (high << 32)
 }
 
-/// The position at a place, or what stands past the last one.
+/// The position `places[at]`, or 65,535 past the last place.
 fn place(places: &[u16; 31], at: usize) -> u16
     ensures { result ≡ position_at places.now at }
 {
     if at < 31 { places[at] } else { u16::MAX }
 }
 
-/// Two and two sparse partial keys in a word each, the first in its low half.
+/// The sixteen sparse partial keys `rows` in eight words, two in each, the first of them in its low half.
 #[inline(always)]
 pub(crate) fn words_of_rows(rows: u32x16) -> u64x8
     ensures whole { length result ≡ 8 }

@@ -31,11 +31,11 @@ pub struct Layout {
     pub leaves: u32,
     /// The leaf records below this number are short.
     pub medium_from: u32,
-    /// Those from there on and below this number are medium ones.
+    /// Those from `medium_from` on and below this number are medium ones.
     pub large_from: u32,
-    /// Those from there on and below this number are large ones.
+    /// Those from `large_from` on and below this number are large ones.
     pub wide_from: u32,
-    /// Those from there on and below this number are wide ones, and all others are long.
+    /// Those from `wide_from` on and below this number are wide ones, and all others are long.
     pub long_from: u32,
     ghost passes_in_range: { IsStockPassCount passes },
     ghost nodes_in_range: { IsRecordCount nodes },
@@ -126,7 +126,8 @@ impl Layout {
     ghost use Rattle.record_words.specs.Limits.{IsPassCount, IsStockPassCount, IsNodeCount, IsLeafCount, IsRecordCount};
     ghost use Rattle.record_words.specs.Layout.{node_start, class_size, leaf_size, leaf_start, word_count, address, HasStock, leaves_of, IsInTable, IsLocationOf};
 
-    /// The layout with these numbers of records, of which all leaf records are long.
+    /// The layout with these numbers of records, of which all leaf records are long. There are 1 to 64 passes, 1 to 65,535 node records
+    /// and 1 to 262,143 leaf records. The fault names the first number that is out of range.
     pub fn of(passes: u32, nodes: u32, leaves: u32) -> Result<Layout, LayoutFault>
         ensures ok { IfOk result (λ layout. (layout.passes ≡ passes) × (layout.nodes ≡ nodes) × (layout.leaves ≡ leaves) × (layout.long_from ≡ 0)) }
         ensures passes { (result ≡ Err LayoutFault.Passes) ↔ ¬ IsPassCount passes }
@@ -153,8 +154,8 @@ impl Layout {
         })
     }
 
-    /// The layout with this stock: for 1 to `MAX_STOCK_PASSES` passes, with up to 4,294,967,295 node records, and as many leaf
-    /// records of all classes together.
+    /// The layout with this stock: for 1 to `MAX_STOCK_PASSES` passes, with 1 to 4,294,967,295 node records, and as many leaf records of
+    /// all classes together. The fault names the first number that is out of range.
     pub fn with_stock(passes: u32, stock: Stock) -> Result<Layout, LayoutFault>
         ensures ok { IfOk result (λ layout. (layout.passes ≡ passes) × HasStock layout stock) }
         ensures passes { (result ≡ Err LayoutFault.Passes) ↔ ¬ IsStockPassCount passes }
@@ -186,21 +187,21 @@ impl Layout {
         })
     }
 
-    /// The word of a pass's pin.
+    /// The number of the word with the pin of `pass`.
     pub fn pin(&self, pass: u16) -> usize
         ensures { result ≡ FIRST_PIN + LINE_WORDS * pass }
     {
         FIRST_PIN + LINE_WORDS * pass as usize
     }
 
-    /// The first word of a node record.
+    /// The number of the first word of node record `number`.
     pub fn node(&self, number: u32) -> usize
         ensures { result ≡ node_start self.now number }
     {
         FIRST_PIN + LINE_WORDS * self.passes as usize + NODE_WORDS * number as usize
     }
 
-    /// The class of a leaf record.
+    /// The class of leaf record `number`; the long one past the last record.
     pub fn class_of(&self, number: u32) -> LeafClass
         ensures { class_size result ≡ leaf_size self.now number }
     {
@@ -217,7 +218,7 @@ impl Layout {
         }
     }
 
-    /// How many words a leaf record has.
+    /// How many words leaf record `number` has.
     pub fn leaf_size(&self, number: u32) -> usize
         ensures size { result ≡ leaf_size self.now number }
         ensures few { (SHORT_WORDS ≤ result) × (result ≤ LEAF_WORDS) }
@@ -225,7 +226,8 @@ impl Layout {
         self.class_of(number).words()
     }
 
-    /// The number from which on each leaf record has so many words at least, where a long one has; those below have fewer.
+    /// The number of the first leaf record with at least `words` words: those below have fewer, and those behind have enough. It is the
+    /// number of leaf records if the table has none of a class so large. If no class is so large, it is where the long ones begin.
     pub fn first_with(&self, words: usize) -> u32
         ensures below { (q : ℕ) → q < result → leaf_size self.now q < words }
         ensures from { words ≤ LEAF_WORDS → (q : ℕ) → result ≤ q → words ≤ leaf_size self.now q }
@@ -244,7 +246,7 @@ impl Layout {
         }
     }
 
-    /// The number behind the last leaf record of the class of this one.
+    /// The number behind the last leaf record of the class of leaf record `number`.
     pub fn class_end(&self, number: u32) -> u32
         requires { number < self.now.leaves }
         ensures upto { (number < result) × (result ≤ self.now.leaves) }
@@ -263,7 +265,7 @@ impl Layout {
         }
     }
 
-    /// The first word of a leaf record.
+    /// The number of the first word of leaf record `number`.
     pub fn leaf(&self, number: u32) -> usize
         ensures { result ≡ leaf_start self.now number }
     {
@@ -289,7 +291,7 @@ impl Layout {
         WORD_BYTES * self.words()
     }
 
-    /// The word that stands at a location.
+    /// The number of the word at `location`.
     pub fn address(&self, location: Location) -> usize
         ensures { result ≡ address self.now location }
     {
@@ -303,7 +305,7 @@ impl Layout {
         }
     }
 
-    /// The one location of the table that has this word, or none: no location has the words that keep others apart, nor one past
+    /// The one location of the table whose word has the number `word`. `None` for the words that keep others apart, and for those past
     /// the table.
     pub fn location(&self, word: usize) -> Option<Location>
         ensures { IsLocationOf self.now word result }
@@ -329,7 +331,7 @@ impl Layout {
         }
     }
 
-    /// The location of a word of a leaf record.
+    /// The location of the word with the number `word`, which is one of a leaf record.
     fn leaf_location(&self, word: usize) -> Location
         requires { (leaf_start self.now 0 ≤ word) × (word < word_count self.now) }
         ensures here { address self.now result ≡ word }
@@ -353,7 +355,8 @@ impl Layout {
     }
 }
 
-/// The word so many words behind the first one of a leaf record, where it and those behind it have this size.
+/// The location of the word that stands `within` words behind the first one of leaf record `first`. That record and those behind have
+/// `size` words each.
 fn leaf_word(first: u32, size: usize, within: usize) -> Location
     requires size { (1 ≤ size) × (size ≤ LEAF_WORDS) }
     requires few { first + within / size < 2 ^ 32 }

@@ -8,7 +8,7 @@ ghost use Rattle.record_words.specs.Leaf.{HasLeafWords, key_word, leaf_words, wo
 use crate::{KEY_WORDS, LEAF_FIELDS};
 use key_bits::{Key, MAX_BYTES};
 
-/// How many words of a leaf have bytes of its key, which has this length.
+/// How many words of a leaf have bytes of its key, which has `length` bytes.
 pub fn key_words(length: u64) -> usize
     requires { length ≤ MAX_BYTES }
     ensures { result ≡ words_of_key length }
@@ -16,7 +16,7 @@ pub fn key_words(length: u64) -> usize
     (length as usize + 7) / 8
 }
 
-/// How many words a leaf record needs for a key: those of the state, the value and the length, and the key's own.
+/// How many words a leaf record needs for `key`: those of the state, the value and the length, and the key's own.
 pub fn words_for(key: &Key) -> usize
     ensures words { result ≡ words_for (length key.now) }
     ensures few { result ≤ LEAF_WORDS }
@@ -24,7 +24,8 @@ pub fn words_for(key: &Key) -> usize
     3 + key_words(key.as_bytes().len() as u64)
 }
 
-/// The word that a leaf has of its key's eight bytes from byte `8 * j` on.
+/// The word that a leaf has of the eight bytes of `key` from byte `8 * j` on, the first in its highest bits. Bytes past the key's end are
+/// 0.
 pub fn key_word_at(key: &Key, j: usize) -> u64
     requires { j < KEY_WORDS }
     ensures { result ≡ key_word key.now j }
@@ -34,7 +35,7 @@ pub fn key_word_at(key: &Key, j: usize) -> u64
     u64::from_be_bytes(eight)
 }
 
-/// The words of a leaf record from offset 1 on: the value, the key's length and its bytes.
+/// The words of a leaf record from offset 1 on: `value`, the length of `key` and its bytes; 0 behind these.
 pub fn pack_leaf(key: &Key, value: u64) -> [u64; LEAF_FIELDS]
     ensures words { result ≡ leaf_words (key.now, value) }
     ensures fits { HasLeafWords (key.now, value) }
@@ -49,7 +50,7 @@ pub fn pack_leaf(key: &Key, value: u64) -> [u64; LEAF_FIELDS]
     words
 }
 
-/// Writes the eight bytes of a word from byte `8 * j` on, the highest first: so those of a key's word where it has them.
+/// Writes the eight bytes of `word` to `bytes` from byte `8 * j` on, the highest first, as a key has them.
 pub fn write_word(bytes: &mut [u8; MAX_BYTES], j: usize, word: u64)
     requires { j < KEY_WORDS }
     ensures written { key_word bytes.new j ≡ word }

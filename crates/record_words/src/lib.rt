@@ -43,8 +43,8 @@ pub const MAX_LEAVES: u32 = 262_143;
 pub const WORD_BYTES: usize = 8;
 
 /// How many words a processor may fetch together: two cache lines, since with one it often fetches the one beside it. Words that
-/// different threads write often stand at least so far apart: then no two share a line, wherever in memory the table begins, nor two
-/// lines that are fetched together, and no thread's writes slow down what another does.
+/// different threads write often stand at least so far apart. Then no two share a line, nor two lines that are fetched together, wherever
+/// in memory the table begins. So no thread's writes slow down what another does.
 pub const LINE_WORDS: usize = 16;
 
 /// The word of the epoch. Gets, scans and changes load it and the root, so these two may share a line.
@@ -107,7 +107,7 @@ pub const LARGE_WORDS: usize = 10;
 /// How many words a wide leaf record has; its key has at most 88 bytes.
 pub const WIDE_WORDS: usize = 14;
 
-/// In `Stock::for_keys` so many keys have one node record, and one leaf record to spare.
+/// For how many keys `Stock::for_keys` has one node record, and one leaf record to spare.
 pub const STOCK_SHARE: u32 = 8;
 
 /// How many more node records and leaf records `Stock::for_keys` has, however few the keys are.

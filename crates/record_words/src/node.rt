@@ -19,7 +19,7 @@ use compound_node::{Entry, Head, Node, fork_rows};
 use partial_keys::{Columns, count_below, put_in, take_out};
 use std::simd::prelude::*;
 
-/// The words of a node record from offset 1 on.
+/// The words of a node record from offset 1 on that has `node`.
 pub fn pack_node(node: &Node) -> [u64; NODE_FIELDS]
     ensures words { result ≡ node_words node.now }
     ensures fits { HasNodeWords node.now }
@@ -39,7 +39,8 @@ pub fn pack_node(node: &Node) -> [u64; NODE_FIELDS]
     words
 }
 
-/// Puts in the words of a head with these fields, where some node has it.
+/// Makes the words of the head those of a head with `count` entries, the height `height`, `columns` and `rows`. The words of the entries
+/// stay.
 fn put_head(
     words: &mut [u64; NODE_FIELDS],
     count: u8,
@@ -57,7 +58,7 @@ fn put_head(
     put_rows(words, u32x32::from_array(*rows));
 }
 
-/// Puts in the words of these sparse partial keys.
+/// Makes the words of the sparse partial keys those of `rows`. All other words stay.
 #[inline(always)]
 fn put_rows(words: &mut [u64; NODE_FIELDS], rows: u32x32)
     ensures rows { (k : ℕ) → k < 16 → slice_index words.new (FIRST_ROWS + k) ≡ row_word rows k }
@@ -67,15 +68,16 @@ fn put_rows(words: &mut [u64; NODE_FIELDS], rows: u32x32)
     words_of_rows(rows.extract::<16, 16>()).copy_to_slice(&mut words[FIRST_ROWS + 8..]);
 }
 
-/// Whether the node that these words spell has leaves alone, and room for one more.
+/// Whether the node that `words` spell has leaves alone, and room for one more.
 pub fn can_take_leaf(words: &[u64; NODE_FIELDS]) -> bool
     ensures { (node : NodeView) → HasNodeWords node → node_words node ≡ words.now → IsTrue result ↔ CanTakeLeaf node }
 {
     words[0] / 65_536 == 1 && words[0] % 256 < MAX_ENTRIES as u64
 }
 
-/// Makes the words those of the node with a new leaf, which it can take: with a new fork over the entries from `first` to `last`, where
-/// they part from the leaf. With bit 1 that stands straight after them, with bit 0 straight before.
+/// Makes `words`, those of a node, those of the node with the new leaf `leaf`, which it can take. A new fork at `position` stands over
+/// the entries from `first` to `last`, where these part from the leaf. With `bit` the leaf stands straight after them, else straight
+/// before.
 pub fn add_leaf(
     words: &mut [u64; NODE_FIELDS],
     first: u8,
@@ -99,8 +101,8 @@ pub fn add_leaf(
     put_in(words, end, at, pack_entry(Some(Entry::Leaf(leaf))));
 }
 
-/// Puts a new fork in over the entries from `first` to `last`: the words of the head are those of the head with the fork, and the
-/// words of the entries stay. Mostly the position is a column already, and the words of the positions stay too.
+/// Puts a new fork at `position` in over the entries from `first` to `last`. The words of the head are those of the head with the fork,
+/// and the words of the entries stay. Mostly `position` is a column already, and the words of the positions stay too.
 fn add_fork(words: &mut [u64; NODE_FIELDS], first: u8, last: u8, position: u16, bit: bool)
     requires growing { (node : NodeView) × CanGrowAt words.old node position first last }
     requires below { position < 65535 }
@@ -117,7 +119,7 @@ fn add_fork(words: &mut [u64; NODE_FIELDS], first: u8, last: u8, position: u16, 
     put_rows(words, rows);
 }
 
-/// The same, whether or not the position is a column.
+/// Does what [`add_fork`] does, whether or not `position` is a column.
 fn add_column(words: &mut [u64; NODE_FIELDS], first: u8, last: u8, position: u16, bit: bool)
     requires growing { (node : NodeView) × CanGrowAt words.old node position first last }
     requires below { position < 65535 }
@@ -134,8 +136,8 @@ fn add_column(words: &mut [u64; NODE_FIELDS], first: u8, last: u8, position: u16
     );
 }
 
-/// Makes the words those of the node without the entry at a place that it has, and without the last fork on that one's path. Of two
-/// entries the other one is the answer, and the words stay.
+/// Makes `words`, those of a node, those of the node without the entry at `at`, and without the last fork on the path to it. If there are
+/// two entries, it returns the other one, and the words stay; else `None`.
 pub fn drop_entry(words: &mut [u64; NODE_FIELDS], at: u8) -> Option<Entry>
     requires { (node : NodeView) × HasNodeWords node × (node_words node ≡ words.old) × (at < length node.entries) }
     ensures { (node : NodeView) → HasNodeWords node → node_words node ≡ words.old → SpellLeft words.new result (without at (piece node)) }
@@ -158,8 +160,8 @@ pub fn drop_entry(words: &mut [u64; NODE_FIELDS], at: u8) -> Option<Entry>
     None
 }
 
-/// Makes the words those of the node with one entry in place of two, those at a place and at the one beside it, and of the fork between
-/// the two. If the node has no others, the entry is returned.
+/// Makes `words`, those of a node, those of the node with `entry` in place of two entries and of the fork between them. The two are at
+/// `at` and at `place`, beside it. If the node has no others, it returns `entry`; else `None`.
 pub fn close_fork(words: &mut [u64; NODE_FIELDS], at: u8, place: u8, entry: Entry) -> Option<Entry>
     requires { (node : NodeView) × CanCloseAt words.old node at place entry }
     ensures { (node : NodeView) → CanCloseAt words.old node at place entry → SpellLeft words.new result (collapsed at entry (piece node)) }
@@ -168,7 +170,7 @@ pub fn close_fork(words: &mut [u64; NODE_FIELDS], at: u8, place: u8, entry: Entr
     drop_entry(words, at)
 }
 
-/// The height of a new node over the entries with these words, all of which stood in a node of this height.
+/// The height of a new node over the entries whose words are `words`, all of which stood in a node of the height `height`.
 fn height_over(words: &[u64], height: u16) -> u16
     requires { (entries : List Entry) × SpellEntries height words.now entries }
     ensures { (entries : List Entry) → SpellEntries height words.now entries → result ≡ 1 + greatest_height entries }
@@ -183,7 +185,7 @@ fn height_over(words: &[u64], height: u16) -> u16
     1 + greatest as u16
 }
 
-/// The node that a node record has, of its words from offset 1 on; there is one.
+/// The node whose words are `words`, those of a node record from offset 1 on; there is one.
 pub fn read_node(words: &[u64; NODE_FIELDS]) -> Node
     requires { IsSpelling HasNodeWords node_words words.now }
     ensures { IsSpelledBy HasNodeWords node_words words.now result }
@@ -195,7 +197,7 @@ pub fn read_node(words: &[u64; NODE_FIELDS]) -> Node
     Node::of(head_of_words(&words[..HEAD_WORDS]), entries)
 }
 
-/// The head that has these words.
+/// The head whose words are `words`; there is one.
 fn head_of_words(words: &[u64]) -> Head
     requires { IsSpelling HasHeadWords head_words words.now }
     ensures { IsSpelledBy HasHeadWords head_words words.now result }
@@ -210,7 +212,7 @@ fn head_of_words(words: &[u64]) -> Head
     )
 }
 
-/// The word of an entry of a node.
+/// The word of the entry at place `i` of `node`.
 fn entry_word_at(node: &Node, i: u8) -> u64
     requires { i < length node.now.entries }
     ensures word { result ≡ entry_word (slice_get node.now.entries i) }

@@ -6,8 +6,8 @@ ghost use Rattle.record_words.specs.Node.{head_words};
 ghost use Rattle.record_words.specs.Packed.{position_at, row_at};
 ghost use Rattle.record_words.specs.declared.TheConstants.{FIRST_ROWS};
 
-/// The sparse partial key at a place, or 4,294,967,295 past the last one, in each node whose head has this word at
-/// `FIRST_ROWS + at / 2`.
+/// The sparse partial key at place `at`, in each node whose head has `word` at `FIRST_ROWS + at / 2`. It is 4,294,967,295 past the last
+/// one.
 #[inline(always)]
 pub fn row_of(word: u64, at: u8) -> u32
     requires { at < 32 }
@@ -16,7 +16,7 @@ pub fn row_of(word: u64, at: u8) -> u32
     (word >> (32 * (at % 2)) & 0xffff_ffff) as u32
 }
 
-/// The position of a column, or 65,535 past the last one, in each node whose head has this word at `1 + column / 4`.
+/// The position of column `column`, in each node whose head has `word` at `1 + column / 4`. It is 65,535 past the last one.
 #[inline(always)]
 pub fn position_of(word: u64, column: u8) -> u16
     requires { column < 31 }

@@ -23,7 +23,7 @@ pub struct Origins {
 }
 
 impl Origins {
-    /// Those of a table of this layout.
+    /// The origins of a table of `layout`.
     pub fn of(layout: Layout) -> Origins
         ensures { result.layout ≡ layout }
     {
@@ -35,7 +35,7 @@ impl Origins {
         }
     }
 
-    /// The first word of a node record.
+    /// The number of the first word of node record `number`.
     #[inline(always)]
     pub fn node(&self, number: u32) -> usize
         ensures { result ≡ node_start self.now.layout number }
@@ -43,7 +43,7 @@ impl Origins {
         self.nodes + NODE_WORDS * number as usize
     }
 
-    /// The first word of a leaf record.
+    /// The number of the first word of leaf record `number`.
     #[inline(always)]
     pub fn leaf(&self, number: u32) -> usize
         ensures { result ≡ leaf_start self.now.layout number }
@@ -58,7 +58,7 @@ impl Origins {
         }
     }
 
-    /// The word that stands at a location.
+    /// The number of the word at `location`.
     #[inline(always)]
     pub fn address(&self, location: Location) -> usize
         ensures { result ≡ address self.now.layout location }

@@ -15,8 +15,8 @@ use key_bits::Key;
 use partial_keys::{dense_lanes, search_rows};
 use std::simd::prelude::*;
 
-/// The key's bits at the columns of each node whose head begins with these words: the bit of column j is bit 31-j. The positions are
-/// read as a vector as they stand. With the words behind these `search_in` searches; so a caller can load those later.
+/// The bits of `key` at the columns of each node whose head begins with `words`: the bit of column j is bit 31-j. The positions are read
+/// as a vector as they stand. With the words behind these `search_in` searches; so a caller can load those later.
 #[inline(always)]
 pub fn dense_in(words: &[u64; FIRST_ROWS], key: &Key) -> u32
     requires { IsSpelling HasHeadWords front_words words.now }
@@ -26,7 +26,7 @@ pub fn dense_in(words: &[u64; FIRST_ROWS], key: &Key) -> u32
     dense_lanes(places, (words[0] / 256 % 256) as u8, key)
 }
 
-/// The place to which the forks lead, in each node whose head ends with these words and at whose columns the bits are these. As
+/// The place to which the forks lead, in each node whose head ends with `words` and at whose columns the bits are `dense`. As
 /// `Head::search`, but no head is made: the sparse partial keys are searched as a vector as they stand.
 #[inline(always)]
 pub fn search_in(words: &[u64; ROW_WORDS], dense: u32) -> u8
@@ -37,7 +37,7 @@ pub fn search_in(words: &[u64; ROW_WORDS], dense: u32) -> u8
     search_rows(rows_in(words), dense)
 }
 
-/// The sparse partial keys as lanes, and 4,294,967,295 at the unused places, in each node whose head ends with these words.
+/// The sparse partial keys as lanes, and 4,294,967,295 at the unused places, of each node whose head ends with `words`.
 #[inline(always)]
 pub(crate) fn rows_in(words: &[u64]) -> u32x32
     requires { length words.now ≡ ROW_WORDS }
@@ -54,7 +54,7 @@ pub(crate) fn rows_in(words: &[u64]) -> u32x32
     )
 }
 
-/// The quarters of these words, that with the lowest bits of each first.
+/// The four 16-bit quarters of each of `words`, that with the lowest bits first.
 #[inline(always)]
 pub(crate) fn quarters(words: u64x8) -> u16x32
     ensures whole { length result ≡ 32 }
@@ -63,7 +63,7 @@ pub(crate) fn quarters(words: u64x8) -> u16x32
     u16x32::from_le_bytes(words.to_le_bytes())
 }
 
-/// Whether one of these lanes is this number.
+/// Whether one of `lanes` is `number`.
 #[inline(always)]
 pub(crate) fn has_lane(lanes: u16x32, number: u16) -> bool
     ensures { result ≡ has lanes number }
@@ -71,7 +71,7 @@ pub(crate) fn has_lane(lanes: u16x32, number: u16) -> bool
     lanes.simd_eq(u16x32::splat(number)).to_bitmask() != 0
 }
 
-/// The halves of these words, the low one of each first.
+/// The two 32-bit halves of each of `words`, the low one first.
 #[inline(always)]
 pub(crate) fn halves(words: u64x8) -> u32x16
     ensures whole { length result ≡ 16 }

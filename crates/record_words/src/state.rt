@@ -21,7 +21,7 @@ pub enum Tag {
     Obsolete(u64),
 }
 
-/// The state word of a tag; an epoch is from 1 to `EPOCHS - 1`.
+/// The state word of `tag`; an epoch is from 1 to `EPOCHS - 1`.
 pub fn pack_state(tag: Tag) -> u64
     requires { HasStateWord tag }
     ensures { result ≡ state_word tag }
@@ -35,7 +35,7 @@ pub fn pack_state(tag: Tag) -> u64
     }
 }
 
-/// The tag that has this state word.
+/// The tag whose state word is `word`; `WordFault::Bad` if no tag has it.
 pub fn unpack_state(word: u64) -> Result<Tag, WordFault>
     ensures { IsReading HasStateWord state_word word result }
 {

@@ -14,7 +14,7 @@ use crate::{
 use key_bits::MAX_BYTES;
 
 impl LeafClass {
-    /// The smallest class with room for a key of so many bytes; the long one where no key has so many.
+    /// The smallest class with room for a key of `bytes` bytes; the long one for any number above 240, which no key has.
     pub fn for_key(bytes: usize) -> LeafClass
         ensures { result ≡ class_for bytes }
     {
@@ -60,7 +60,7 @@ impl Stock {
         )
     }
 
-    /// So many node records, and so many leaf records of one class alone.
+    /// A stock of `nodes` node records, and of `leaves` leaf records, all of the class `class`.
     pub fn of_class(nodes: u32, class: LeafClass, leaves: u32) -> Stock
         ensures { result ≡ stock_of nodes class leaves }
     {

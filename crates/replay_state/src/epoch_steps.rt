@@ -11,7 +11,7 @@ use crate::state::State;
 use record_words::EPOCHS;
 
 impl State {
-    /// The pin and the round of a pass.
+    /// The pin and the round of `pass`, which the index has.
     pub(crate) fn own(&self, pass: u16) -> PassState
         requires { pass < length self.now.passes }
         ensures { slice_get self.now.passes pass ≡ Some result }
@@ -19,14 +19,14 @@ impl State {
         self.passes[pass as usize]
     }
 
-    /// The pin and the round of a pass, where the index has it.
+    /// The pin and the round of `pass`; `None` if the index hasn't that pass.
     fn pass(&self, pass: u16) -> Option<PassState>
         ensures { result ≡ slice_get self.now.passes pass }
     {
         self.passes.get(pass as usize).copied()
     }
 
-    /// Loads the epoch, which begins a round.
+    /// Loads the epoch as `word`, which begins a round of the pass. Returns whether that is legal; if not, nothing changes.
     pub(crate) fn load_epoch(&mut self, pass: u16, word: u64) -> bool
         requires { pass < length self.old.passes }
         ensures { IsStepped result self.old self.new pass (LoadEpoch word) }
@@ -40,7 +40,7 @@ impl State {
         true
     }
 
-    /// Raises the epoch by one, if it is the expected one.
+    /// Raises the epoch by one, if it is `expected`; `found` is the epoch before. Returns whether that is legal; if not, nothing changes.
     pub(crate) fn advance(&mut self, pass: u16, expected: u64, found: u64) -> bool
         ensures { IsStepped result self.old self.new pass (Advance expected found) }
     {
@@ -53,7 +53,7 @@ impl State {
         true
     }
 
-    /// Pins the pass by the epoch that it loaded last.
+    /// Pins the pass by `word`, the epoch that it loaded last. Returns whether that is legal; if not, nothing changes.
     pub(crate) fn set_pin(&mut self, pass: u16, word: u64) -> bool
         requires { pass < length self.old.passes }
         ensures { IsStepped result self.old self.new pass (SetPin word) }
@@ -67,7 +67,7 @@ impl State {
         true
     }
 
-    /// Unpins the pass.
+    /// Unpins the pass. Returns whether that is legal, as it is of a pinned pass; if not, nothing changes.
     pub(crate) fn clear_pin(&mut self, pass: u16) -> bool
         requires { pass < length self.old.passes }
         ensures { IsStepped result self.old self.new pass ClearPin }
@@ -81,7 +81,7 @@ impl State {
         true
     }
 
-    /// Loads the pin of a pass into the round.
+    /// Loads the pin of pass `of`, as `word`, into the round of `pass`. Returns whether that is legal; if not, nothing changes.
     pub(crate) fn load_pin(&mut self, pass: u16, of: u16, word: u64) -> bool
         requires { pass < length self.old.passes }
         ensures { IsStepped result self.old self.new pass (LoadPin of word) }

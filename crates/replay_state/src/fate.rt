@@ -25,7 +25,7 @@ pub(crate) enum Fate {
 impl Fate {
     ghost use Rattle.replay_state.specs.Fates.{stored_fate};
 
-    /// The state of a record of this fate, by who has locked it.
+    /// The state of a record of this fate, where `lock` is the pass that has locked it, if any.
     pub(crate) fn tag(self, lock: Option<u16>) -> Tag
         ensures { result ≡ tag_of lock (stored_fate self) }
     {
@@ -38,7 +38,7 @@ impl Fate {
     }
 }
 
-/// The state of what this pass has locked, or none.
+/// The state of what the pass in `lock` has locked, or of what is live and unlocked if there is none.
 pub(crate) fn tag_of_lock(lock: Option<u16>) -> Tag
     ensures { result ≡ lock_tag lock }
 {

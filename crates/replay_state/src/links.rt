@@ -8,7 +8,7 @@ ghost use Rattle.replay_state.specs.Links.{AllMayCome, AllMayGo, AreNextFates, M
 use crate::fate::Fate;
 
 impl Fate {
-    /// Whether the pass may link a record of this fate, if it does.
+    /// Whether `pass` may publish a tree that links a record of this fate, if `is_linked`; `true` if it isn't linked.
     fn may_come(self, pass: u16, is_linked: bool) -> bool
         ensures { IsTrue result ↔ MayCome pass is_linked self }
     {
@@ -19,7 +19,7 @@ impl Fate {
         }
     }
 
-    /// Whether the pass may leave out a node of this fate and lock, if it does.
+    /// Whether `pass` may publish a tree that leaves out a node of this fate and lock, unless `is_linked`; `true` if it is linked.
     fn may_go(self, pass: u16, is_linked: bool, lock: Option<u16>) -> bool
         ensures { IsTrue result ↔ MayGo pass is_linked lock self }
     {
@@ -29,7 +29,7 @@ impl Fate {
         }
     }
 
-    /// The fate of a record after a publish by the pass, which makes the version after `now`.
+    /// The fate of a record after a publish by `pass`, which makes the version after `now`, of a tree that links the record or not.
     fn next(self, now: u64, pass: u16, is_linked: bool) -> Fate
         requires { now + 1 < 2 ^ 64 }
         ensures { stored_fate result ≡ next_fate now pass is_linked (stored_fate self) }
@@ -46,7 +46,7 @@ impl Fate {
     }
 }
 
-/// Whether the pass may link each of these records that it links.
+/// Whether `pass` may link each of these records that `linked` marks.
 pub(crate) fn all_may_come(fates: &[Fate], pass: u16, linked: &[bool]) -> bool
     ensures { IsTrue result ↔ AllMayCome pass linked.now fates.now }
 {
@@ -58,7 +58,7 @@ pub(crate) fn all_may_come(fates: &[Fate], pass: u16, linked: &[bool]) -> bool
     true
 }
 
-/// Whether the pass may leave out each of these nodes that it leaves out.
+/// Whether `pass` may leave out each of these nodes that `linked` doesn't mark.
 pub(crate) fn all_may_go(fates: &[Fate], locks: &[Option<u16>], pass: u16, linked: &[bool]) -> bool
     ensures { IsTrue result ↔ AllMayGo pass linked.now locks.now fates.now }
 {
@@ -70,7 +70,8 @@ pub(crate) fn all_may_go(fates: &[Fate], locks: &[Option<u16>], pass: u16, linke
     true
 }
 
-/// Gives these records the fates that they have after a publish by the pass, which makes the version after `now`.
+/// Gives these records their fates after a publish by `pass`, which makes the version after `now`, of a tree that links those that
+/// `linked` marks.
 pub(crate) fn link_all(fates: &mut [Fate], now: u64, pass: u16, linked: &[bool])
     requires { now + 1 < 2 ^ 64 }
     ensures { AreNextFates now pass linked.now fates.old fates.new }
@@ -80,14 +81,14 @@ pub(crate) fn link_all(fates: &mut [Fate], now: u64, pass: u16, linked: &[bool])
     }
 }
 
-/// The flag at a place; past the last one, none is set.
+/// The flag at place `at`; `false` past the last one.
 fn is_set(flags: &[bool], at: usize) -> bool
     ensures { result ≡ get_or flags.now at false }
 {
     flags.get(at).copied().unwrap_or(false)
 }
 
-/// Who has locked the node at a place; past the last one, nothing is locked.
+/// The pass that has locked the node at place `at`; `None` if none has, and past the last one.
 fn lock_of(locks: &[Option<u16>], at: usize) -> Option<u16>
     ensures { result ≡ get_or locks.now at None }
 {

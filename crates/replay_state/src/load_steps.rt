@@ -14,7 +14,7 @@ use replay_trees::unpack_entry;
 use rowex_core::{Rec, Spot};
 
 impl State {
-    /// Loads the root or an entry word.
+    /// Loads the word of the entry at `spot`, as `word`. Returns whether that is legal; nothing changes.
     pub(crate) fn load_ref(&mut self, pass: u16, spot: Spot, word: u64) -> bool
         ensures { IsStepped result self.old self.new pass (LoadRef spot word) }
     {
@@ -30,7 +30,8 @@ impl State {
         }
     }
 
-    /// Loads a word of a record that is neither its state nor an entry.
+    /// Loads the word at `offset` of `rec`, as `word`, which is neither its state nor an entry. Returns whether that is legal; nothing
+    /// changes.
     pub(crate) fn load_fixed(&mut self, pass: u16, rec: Rec, offset: u8, word: u64) -> bool
         ensures { IsStepped result self.old self.new pass (LoadFixed rec offset word) }
     {
@@ -40,7 +41,7 @@ impl State {
         self.records.has_word(rec, offset as usize - 1, word)
     }
 
-    /// Loads the state of a record.
+    /// Loads the state of `rec`, as `word`. Returns whether that is legal; nothing changes.
     pub(crate) fn load_state(&mut self, pass: u16, rec: Rec, word: u64) -> bool
         ensures { IsStepped result self.old self.new pass (LoadState rec word) }
     {
@@ -48,7 +49,7 @@ impl State {
     }
 }
 
-/// Whether the word is that of the entry, or of none.
+/// Whether `word` is that of `entry`, which is 0 for `None`.
 fn is_entry_word(entry: Option<Entry>, word: u64) -> bool
     ensures { IsTrue result ↔ (HasEntryWord entry × (word ≡ entry_word entry)) }
 {

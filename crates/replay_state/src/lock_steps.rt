@@ -12,14 +12,14 @@ use record_words::{Tag, pack_state};
 use rowex_core::{Rec, Target};
 
 impl State {
-    /// Whether the pass has locked the anchor.
+    /// Whether `pass` has locked the anchor.
     pub(crate) fn is_anchored_by(&self, pass: u16) -> bool
         ensures { IsTrue result ↔ (self.now.anchor ≡ Some pass) }
     {
         self.anchor == Some(pass)
     }
 
-    /// Locks the anchor or a node, if it is not locked.
+    /// Locks `target`, if it is not locked; `found` is its state before. Returns whether that is legal; if not, nothing changes.
     pub(crate) fn lock(&mut self, pass: u16, target: Target, found: u64) -> bool
         ensures { IsStepped result self.old self.new pass (Lock target found) }
     {
@@ -29,7 +29,7 @@ impl State {
         }
     }
 
-    /// Unlocks the anchor or a node.
+    /// Unlocks `target`. Returns whether that is legal; if not, nothing changes.
     pub(crate) fn unlock(&mut self, pass: u16, target: Target) -> bool
         ensures { IsStepped result self.old self.new pass (Unlock target) }
     {
@@ -39,7 +39,7 @@ impl State {
         }
     }
 
-    /// Locks the anchor, if it is not locked.
+    /// Locks the anchor, if it is not locked; `found` is its state before. Returns whether that is legal; if not, nothing changes.
     fn lock_anchor(&mut self, pass: u16, found: u64) -> bool
         ensures { IsStepped result self.old self.new pass (Lock Anchor found) }
     {
@@ -52,7 +52,8 @@ impl State {
         true
     }
 
-    /// Locks a node that is in the tree, if it is not locked.
+    /// Locks node `node`, which is in the tree, if it is not locked; `found` is its state before. Returns whether that is legal; if not,
+    /// nothing changes.
     fn lock_node(&mut self, pass: u16, node: u32, found: u64) -> bool
         ensures { IsStepped result self.old self.new pass (Lock (NodeTarget node) found) }
     {
@@ -68,7 +69,7 @@ impl State {
         true
     }
 
-    /// Unlocks the anchor.
+    /// Unlocks the anchor. Returns whether that is legal, as it is if `pass` has locked it; if not, nothing changes.
     fn unlock_anchor(&mut self, pass: u16) -> bool
         ensures { IsStepped result self.old self.new pass (Unlock Anchor) }
     {
@@ -79,7 +80,7 @@ impl State {
         true
     }
 
-    /// Unlocks a node that is in the tree.
+    /// Unlocks node `node`, which is in the tree. Returns whether that is legal; if not, nothing changes.
     fn unlock_node(&mut self, pass: u16, node: u32) -> bool
         ensures { IsStepped result self.old self.new pass (Unlock (NodeTarget node)) }
     {

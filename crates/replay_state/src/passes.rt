@@ -7,8 +7,8 @@ use record_words::MAX_STOCK_PASSES;
 /// The most passes of an index, as a length.
 const PASSES: usize = MAX_STOCK_PASSES as usize;
 
-/// The pin of a pass, and its last load of the epoch: what it found, at which version, the least of it and of the pins
-/// loaded since, and whose they were.
+/// The pin of a pass, and its last load of the epoch: `epoch` is what it found, and `version` at which version. `bound` is the least of
+/// that and of the pins loaded since, and `seen` says whose these were.
 #[derive(Clone, Copy)]
 pub(crate) struct PassState {
     pub(crate) pin: Option<u64>,
@@ -34,7 +34,7 @@ impl PassState {
         }
     }
 
-    /// The pass when it has loaded this epoch at this version.
+    /// The pass when it has loaded `epoch` at `version`.
     pub(crate) fn loaded(self, epoch: u64, version: u64) -> PassState
         ensures { result ≡ in_round self epoch version }
     {
@@ -47,7 +47,7 @@ impl PassState {
         }
     }
 
-    /// The pass when it has loaded this pin of another, or of its own.
+    /// The pass when it has loaded `pin`, the pin of pass `of`, which may be its own.
     pub(crate) fn with_seen(self, of: u16, pin: Option<u64>) -> PassState
         ensures { result ≡ with_pin_seen self of pin }
     {
@@ -68,15 +68,15 @@ impl PassState {
         }
     }
 
-    /// Whether the pass may be pinned by this epoch: it isn't pinned, and has loaded the epoch last.
+    /// Whether the pass may be pinned by `epoch`: it isn't pinned, and has loaded that epoch last.
     pub(crate) fn may_pin(&self, epoch: u64) -> bool
         ensures { IsTrue result ↔ MayPin self.now epoch }
     {
         self.pin.is_none() && epoch == self.epoch && epoch >= 1
     }
 
-    /// Whether no pass can reach what was marked with this epoch: it is below the round's bound, and the round has loaded
-    /// the pin of each of so many passes.
+    /// Whether no pass can reach what was marked with `epoch`. It is below the round's bound, and the round has loaded the pin of each of
+    /// the first `passes` passes.
     pub(crate) fn is_past(&self, epoch: u64, passes: usize) -> bool
         ensures { IsTrue result ↔ IsOutOfReach self.now epoch passes }
     {
@@ -86,7 +86,7 @@ impl PassState {
         self.has_seen_all(passes)
     }
 
-    /// Whether it has loaded the pin of each of the first passes in its round.
+    /// Whether the pass has loaded the pin of each of the first `passes` passes in its round.
     fn has_seen_all(&self, passes: usize) -> bool
         ensures { IsTrue result ↔ HasLoadedPins self.now passes }
     {

@@ -17,7 +17,8 @@ use rowex_core::Spot;
 use std::alloc::AllocError;
 
 impl State {
-    /// Stores the root or an entry word under its lock.
+    /// Stores `word` at `spot`, the root or an entry, under its lock. Returns whether that is legal; if not, nothing changes. An error,
+    /// which changes nothing, if memory is refused.
     pub(crate) fn publish(&mut self, pass: u16, spot: Spot, word: u64) -> Result<bool, AllocError>
         ensures ok { IfOk result (λ made. IsStepped made self.old self.new pass (Publish spot word)) }
         ensures err { OnErr result (self.new ≡ self.old) }
@@ -32,7 +33,8 @@ impl State {
         }
     }
 
-    /// Stores the root.
+    /// Stores `root`, whose word is `word`, as the root. Returns whether that is legal; if not, nothing changes. An error, which changes
+    /// nothing, if memory is refused.
     fn publish_root(
         &mut self,
         pass: u16,
@@ -51,7 +53,8 @@ impl State {
         self.publish_tree(pass, root)
     }
 
-    /// Stores an entry word of a node. Where that is not legal, the old word is put back.
+    /// Stores `word` as entry `entry` of node `node`. Returns whether that is legal. If not, or if memory is refused, which is an error,
+    /// the old word is put back.
     fn publish_entry(
         &mut self,
         pass: u16,
@@ -92,7 +95,8 @@ impl State {
         }
     }
 
-    /// Makes the tree that the words show from this root the newest version, if the pass may.
+    /// Makes the tree that the words show from `root` the newest version, if `pass` may. Returns whether it may; if not, nothing changes.
+    /// An error, which changes nothing, if memory is refused.
     fn publish_tree(&mut self, pass: u16, root: Option<Entry>) -> Result<bool, AllocError>
         ensures ok { IfOk result (λ made. IsPublishJudged made self.old self.new pass root) }
         ensures err { OnErr result (self.new ≡ self.old) }

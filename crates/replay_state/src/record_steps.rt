@@ -13,7 +13,7 @@ use record_words::{FIRST_ENTRY, Layout, NODE_WORDS, Tag, pack_state};
 use rowex_core::Rec;
 
 impl State {
-    /// Claims a record, if it is free.
+    /// Claims `rec`, if it is free; `found` is its state before. Returns whether that is legal; if not, nothing changes.
     pub(crate) fn claim(&mut self, pass: u16, rec: Rec, found: u64) -> bool
         ensures { IsStepped result self.old self.new pass (Claim rec found) }
     {
@@ -26,7 +26,7 @@ impl State {
         true
     }
 
-    /// Stores a word of a held record.
+    /// Stores `word` at `offset` of `rec`, which the pass holds. Returns whether that is legal; if not, nothing changes.
     pub(crate) fn fill(&mut self, pass: u16, rec: Rec, offset: u8, word: u64) -> bool
         ensures { IsStepped result self.old self.new pass (Fill rec offset word) }
     {
@@ -37,7 +37,8 @@ impl State {
         true
     }
 
-    /// Makes a held record live.
+    /// Makes `rec` live, which the pass holds. Returns whether that is legal, as it is if its words spell a value; if not, nothing
+    /// changes.
     pub(crate) fn ready(&mut self, pass: u16, rec: Rec) -> bool
         ensures { IsStepped result self.old self.new pass (Ready rec) }
     {
@@ -48,7 +49,7 @@ impl State {
         true
     }
 
-    /// Makes a held record free.
+    /// Makes `rec` free, which the pass holds. Returns whether that is legal; if not, nothing changes.
     pub(crate) fn release(&mut self, pass: u16, rec: Rec) -> bool
         ensures { IsStepped result self.old self.new pass (Release rec) }
     {
@@ -59,7 +60,8 @@ impl State {
         true
     }
 
-    /// Makes a record obsolete that the pass has unlinked before its last load of the epoch. It is locked no more.
+    /// Makes `rec` obsolete in `epoch`, which the pass has unlinked before it loaded that epoch, its last. The record is locked no more.
+    /// Returns whether that is legal; if not, nothing changes.
     pub(crate) fn mark(&mut self, pass: u16, rec: Rec, epoch: u64) -> bool
         requires { pass < length self.old.passes }
         ensures { IsStepped result self.old self.new pass (Mark rec epoch) }
@@ -75,7 +77,8 @@ impl State {
         true
     }
 
-    /// Makes a record free that is marked with this epoch, below the bound of the pass's whole round.
+    /// Makes `rec` free, if it is marked with `epoch`, below the bound of the pass's whole round; `found` is its state before. Returns
+    /// whether that is legal; if not, nothing changes.
     pub(crate) fn give_back(&mut self, pass: u16, rec: Rec, epoch: u64, found: u64) -> bool
         requires { pass < length self.old.passes }
         ensures { IsStepped result self.old self.new pass (GiveBack rec epoch found) }
@@ -93,7 +96,7 @@ impl State {
     }
 }
 
-/// Whether a record of a table of this layout has a word other than its state at this offset.
+/// Whether `rec`, in a table of `layout`, has a word other than its state at `offset`.
 fn is_offset(layout: Layout, rec: Rec, offset: u8) -> bool
     ensures { IsTrue result ↔ (IsOffset rec offset × HasWord layout rec offset) }
 {
@@ -103,7 +106,7 @@ fn is_offset(layout: Layout, rec: Rec, offset: u8) -> bool
     }
 }
 
-/// Whether a record of a table of this layout has a word at this offset that is neither its state nor an entry.
+/// Whether `rec`, in a table of `layout`, has a word at `offset` that is neither its state nor an entry.
 pub(crate) fn is_fixed_offset(layout: Layout, rec: Rec, offset: u8) -> bool
     ensures { IsTrue result ↔ (IsFixedOffset rec offset × HasWord layout rec offset) }
 {

@@ -44,7 +44,7 @@ impl Records {
     ghost use Rattle.rowex_core.specs.Opening.{opening};
     ghost use Rattle.replay_state.specs.Records.{AreRecordsOf, HasState, AreNextRecords, MayLink, HasWordStored, IsPackedIn, fate_in, lock_in, marked_in, tag_in, words_in, with_fate_in, with_lock_in, with_words_in};
 
-    /// Free records of a layout: all words are 0, and nothing is locked.
+    /// Free records of a table of `layout`: all words are 0, and nothing is locked. An error if memory is refused.
     pub(crate) fn new(alloc: Global, layout: Layout) -> Result<Records, AllocError>
         ensures { let c = opening layout in IfOk result (λ s. AreRecordsOf s layout c.words c.fate c.lock) }
     {
@@ -65,7 +65,7 @@ impl Records {
         self.layout
     }
 
-    /// What has become of a record, where the table has it.
+    /// What has become of `rec`; `None` if the table hasn't the record.
     pub(crate) fn fate(&self, rec: Rec) -> Option<Fate>
         ensures { result ≡ fate_in self.now rec }
     {
@@ -75,7 +75,7 @@ impl Records {
         }
     }
 
-    /// Who has locked a record, where the table has it. A leaf is never locked.
+    /// Which pass has locked `rec`, if any; `None` if the table hasn't that node. A leaf is never locked.
     pub(crate) fn lock(&self, rec: Rec) -> Option<Option<u16>>
         ensures { result ≡ lock_in self.now rec }
     {
@@ -85,7 +85,7 @@ impl Records {
         }
     }
 
-    /// The state of a record, where the table has it.
+    /// The state of `rec`; `None` if the table hasn't the record.
     pub(crate) fn tag(&self, rec: Rec) -> Option<Tag>
         ensures { result ≡ tag_in self.now rec }
     {
@@ -94,7 +94,7 @@ impl Records {
         Some(fate.tag(lock))
     }
 
-    /// The words of a record but its state, where the table has it.
+    /// The words of `rec` but its state; `None` if the table hasn't the record.
     pub(crate) fn words(&self, rec: Rec) -> Option<&[u64]>
         ensures { MatchOption result (words_in self.now rec ≡ None) (λ words. words_in self.now rec ≡ Some words.now) }
     {
@@ -110,21 +110,22 @@ impl Records {
         }
     }
 
-    /// The words of each node but its state.
+    /// The words of each node record but its state.
     pub(crate) fn nodes(&self) -> &[[u64; NODE_FIELDS]]
         ensures { result.now ≡ self.now.nodes }
     {
         &self.nodes
     }
 
-    /// The words of each leaf but its state.
+    /// The words of each leaf record but its state.
     pub(crate) fn leaves(&self) -> &[[u64; LEAF_FIELDS]]
         ensures { result.now ≡ self.now.leaves }
     {
         &self.leaves
     }
 
-    /// Whether the pass may publish a tree that links these nodes and leaves and no other, going by fates and locks.
+    /// Whether `pass` may publish a tree that links the nodes and leaves that `nodes` and `leaves` mark, and no other, going by fates and
+    /// locks.
     pub(crate) fn may_link(&self, pass: u16, nodes: &[bool], leaves: &[bool]) -> bool
         ensures { IsTrue result ↔ MayLink self.now pass nodes.now leaves.now }
     {
@@ -137,8 +138,8 @@ impl Records {
         all_may_go(&self.node_fates, &self.locks, pass, nodes)
     }
 
-    /// Gives each record its fate after a publish by the pass of a tree that links these nodes and leaves. It makes the
-    /// version after `now`.
+    /// Gives each record its fate after a publish by `pass`, which makes the version after `now`. The tree links the nodes and leaves
+    /// that `nodes` and `leaves` mark.
     pub(crate) fn link(&mut self, now: u64, pass: u16, nodes: &[bool], leaves: &[bool])
         requires { now + 1 < 2 ^ 64 }
         ensures { AreNextRecords now pass nodes.now leaves.now self.old self.new }
@@ -147,7 +148,7 @@ impl Records {
         link_all(&mut self.leaf_fates, now, pass, leaves);
     }
 
-    /// Whether the state of a record has this word.
+    /// Whether `word` is the state word of `rec`; `false` if the table hasn't the record.
     pub(crate) fn has_state(&self, rec: Rec, word: u64) -> bool
         ensures { IsTrue result ↔ HasState self.now rec word }
     {
@@ -157,7 +158,7 @@ impl Records {
         }
     }
 
-    /// Whether this word stands among those of a record, at a place counted from its first word behind the state.
+    /// Whether `word` stands at place `at` among the words of `rec`, counted from 0 behind the state.
     pub(crate) fn has_word(&self, rec: Rec, at: usize, word: u64) -> bool
         ensures { IsTrue result ↔ HasWordStored self.now rec at word }
     {
@@ -167,7 +168,7 @@ impl Records {
         }
     }
 
-    /// Whether the words of a record spell a value, and the record has room for it.
+    /// Whether the words of `rec` spell a value, and the record has room for it.
     pub(crate) fn is_packed(&self, rec: Rec) -> bool
         ensures { IsTrue result ↔ IsPackedIn self.now rec }
     {
@@ -183,14 +184,14 @@ impl Records {
         }
     }
 
-    /// Whether a leaf record has room for a key of the length that these words have.
+    /// Whether leaf record `number` has room for a key of the length that `words` have.
     fn has_room(&self, number: u32, words: &[u64; LEAF_FIELDS]) -> bool
         ensures { IsTrue result ↔ FitsIn self.now.layout (a_leaf number) words.now }
     {
         words[1] <= 8 * (self.layout.leaf_size(number) as u64 - 3)
     }
 
-    /// Whether the pass holds the record.
+    /// Whether `pass` holds `rec`.
     pub(crate) fn is_held(&self, rec: Rec, pass: u16) -> bool
         ensures { IsTrue result ↔ (fate_in self.now rec ≡ Some (Held pass)) }
     {
@@ -200,7 +201,7 @@ impl Records {
         }
     }
 
-    /// Whether the record is marked with this epoch.
+    /// Whether `rec` is marked with `epoch`.
     pub(crate) fn is_marked(&self, rec: Rec, epoch: u64) -> bool
         ensures { IsTrue result ↔ ((since : ℕ) × (last : ℕ) × (fate_in self.now rec ≡ Some (Marked since last epoch))) }
     {
@@ -210,21 +211,22 @@ impl Records {
         }
     }
 
-    /// Whether the node is in the tree.
+    /// Whether node `number` is in the tree.
     pub(crate) fn is_in_tree(&self, number: u32) -> bool
         ensures { IsTrue result ↔ ((since : ℕ) × (fate_in self.now (a_node number) ≡ Some (InTree since))) }
     {
         matches!(self.fate(Rec::Node(number)), Some(Fate::InTree { .. }))
     }
 
-    /// Whether the pass has locked the node.
+    /// Whether `pass` has locked node `number`.
     pub(crate) fn is_locked_by(&self, number: u32, pass: u16) -> bool
         ensures { IsTrue result ↔ (lock_in self.now (a_node number) ≡ Some (Some pass)) }
     {
         self.lock(Rec::Node(number)) == Some(Some(pass))
     }
 
-    /// Puts a word in its place among those of a record; nothing where the table has it not.
+    /// Puts `word` at place `at` among the words of `rec`, counted from 0 behind the state. If the table hasn't that word, nothing
+    /// changes.
     pub(crate) fn set_word(&mut self, rec: Rec, at: usize, word: u64)
         ensures { MatchOption (words_in self.old rec) (self.new ≡ self.old) (λ words. self.new ≡ with_words_in self.old rec (set words at word)) }
     {
@@ -242,28 +244,28 @@ impl Records {
         }
     }
 
-    /// The words of a node but its state, where the table has it.
+    /// The words of node record `number` but its state; `None` if the table hasn't the record.
     pub(crate) fn node(&self, number: u32) -> Option<[u64; NODE_FIELDS]>
         ensures { result ≡ words_in self.now (a_node number) }
     {
         self.nodes.get(number as usize).copied()
     }
 
-    /// The words of a leaf but its state, where the table has it.
+    /// The words of leaf record `number` but its state; `None` if the table hasn't the record.
     fn leaf(&self, number: u32) -> Option<[u64; LEAF_FIELDS]>
         ensures { result ≡ words_in self.now (a_leaf number) }
     {
         self.leaves.get(number as usize).copied()
     }
 
-    /// Gives a node these words; nothing where the table has it not.
+    /// Gives node record `number` the words `words`. If the table hasn't the record, nothing changes.
     pub(crate) fn set_node(&mut self, number: u32, words: [u64; NODE_FIELDS])
         ensures { self.new ≡ with_words_in self.old (a_node number) words }
     {
         put(&mut self.nodes, number as usize, words);
     }
 
-    /// Gives a record this fate; nothing where the table has it not.
+    /// Gives `rec` the fate `fate`. If the table hasn't the record, nothing changes.
     pub(crate) fn set_fate(&mut self, rec: Rec, fate: Fate)
         ensures { self.new ≡ with_fate_in self.old rec fate }
     {
@@ -273,7 +275,7 @@ impl Records {
         }
     }
 
-    /// Gives a record this fate and has it unlocked; nothing where the table has it not.
+    /// Gives `rec` the fate `fate`, and has it unlocked. If the table hasn't the record, nothing changes.
     pub(crate) fn mark(&mut self, rec: Rec, fate: Fate)
         ensures { self.new ≡ marked_in self.old rec fate }
     {
@@ -283,7 +285,7 @@ impl Records {
         self.set_fate(rec, fate);
     }
 
-    /// Has a node locked by this pass, or by none; nothing where the table has it not.
+    /// Has node `number` locked by the pass in `lock`, or by none. If the table hasn't the node, nothing changes.
     pub(crate) fn set_lock(&mut self, number: u32, lock: Option<u16>)
         ensures { self.new ≡ with_lock_in self.old number lock }
     {
@@ -291,7 +293,7 @@ impl Records {
     }
 }
 
-/// So many copies of an item.
+/// A list of `count` copies of `item`; an error if memory is refused.
 pub(crate) fn repeated<T: Copy>(alloc: Global, item: T, count: u32) -> Result<Vec<T>, AllocError>
     ensures { IfOk result (λ copies. copies.items ≡ replicate count item) }
 {
@@ -302,7 +304,7 @@ pub(crate) fn repeated<T: Copy>(alloc: Global, item: T, count: u32) -> Result<Ve
     Ok(copies)
 }
 
-/// Puts an item in the place of another; nothing past the last one.
+/// Puts `item` at place `at` of `items`. Past the last one, nothing changes.
 pub(crate) fn put<T: Copy>(items: &mut Vec<T>, at: usize, item: T)
     ensures { items.new.items ≡ set items.old.items at item }
 {
@@ -311,7 +313,7 @@ pub(crate) fn put<T: Copy>(items: &mut Vec<T>, at: usize, item: T)
     }
 }
 
-/// These words with one of them changed; nothing past the last one.
+/// `words` with `word` at place `at`. Past the last place, they are as they were.
 pub(crate) fn filled<const N: usize>(words: [u64; N], at: usize, word: u64) -> [u64; N]
     ensures { result ≡ set words.entry at word }
 {
@@ -322,14 +324,14 @@ pub(crate) fn filled<const N: usize>(words: [u64; N], at: usize, word: u64) -> [
     filled
 }
 
-/// Whether these are the words of a node.
+/// Whether `words` are those of a node.
 pub(crate) fn is_node(words: &[u64; NODE_FIELDS]) -> bool
     ensures { (n : ℕ) → IsTrue result ↔ IsPacked (a_node n) words.now }
 {
     unpack_node(words).is_ok()
 }
 
-/// Whether these are the words of a leaf.
+/// Whether `words` are those of a leaf.
 fn is_leaf(words: &[u64; LEAF_FIELDS]) -> bool
     ensures { (n : ℕ) → IsTrue result ↔ IsPacked (a_leaf n) words.now }
 {

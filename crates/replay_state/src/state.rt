@@ -50,7 +50,7 @@ impl State {
     ghost use Rattle.rowex_core.specs.Opening.{opening};
     ghost use Rattle.replay_state.specs.States.{IsLockedPublish, IsStateOf, IsStepped};
 
-    /// The state of an index of this layout when no event has come yet.
+    /// The state of an index of `layout` when no event has come yet; an error if memory is refused.
     pub fn new(alloc: Global, layout: Layout) -> Result<State, AllocError>
         ensures { IfOk result (λ state. IsStateOf state (opening layout)) }
     {
@@ -66,7 +66,8 @@ impl State {
         })
     }
 
-    /// Makes an event, if it is legal.
+    /// Makes `event`, if it is legal; else the fault is `Illegal`. `Memory` if memory was refused, as it can be for a publish under its
+    /// lock. A fault changes nothing.
     pub fn step(&mut self, event: Event) -> Result<(), ReplayFault>
         ensures ok { OnOk result ((c : Core) → ∥ IsLawful c ∥₁ → IsStateOf self.old c
             → Legal c event.pass event.act × IsStateOf self.new (after c event.pass event.act)) }
@@ -85,7 +86,8 @@ impl State {
         }
     }
 
-    /// Makes the act of a pass, if it is legal, and answers whether it was.
+    /// Makes the act `act` of `pass`, if it is legal, and returns whether it was; if not, nothing changes. An error, which changes
+    /// nothing, if memory is refused.
     fn made(&mut self, pass: u16, act: Act) -> Result<bool, AllocError>
         requires { pass < length self.old.passes }
         ensures ok { IfOk result (λ made. IsStepped made self.old self.new pass act) }

@@ -9,9 +9,9 @@ use crate::trees::Item;
 use finite_map::{Change, Kind};
 use std::cmp::Ordering;
 
-/// The change by which a pass made one list of leaves the other: one leaf more, or one less, or one in the place of
-/// another of its key; `None` exactly where it was no such change. The lists are in the order of the keys, and leaves
-/// of one number are one leaf.
+/// The change by which `pass` made the leaves `before` the leaves `after`. It is one leaf more, or one less, or one in the place of
+/// another of its key. `None` exactly where it was no such change. The lists are in the order of the keys, and leaves of one number are
+/// one leaf.
 pub fn change_between(pass: u16, before: &[Item], after: &[Item]) -> Option<Change>
     ensures { AreSame (map read_item before.now) (map read_item after.now) → IsFoundChange pass (map read_item before.now) (map read_item after.now) result }
 {
@@ -19,7 +19,7 @@ pub fn change_between(pass: u16, before: &[Item], after: &[Item]) -> Option<Chan
     change_at(pass, &before[front..], &after[front..])
 }
 
-/// As `change_between`, of lists whose first leaves are not the same.
+/// As `change_between`, of lists `gone` and `come` whose first leaves are not the same.
 fn change_at(pass: u16, gone: &[Item], come: &[Item]) -> Option<Change>
     requires { BeginApart (map read_item gone.now) (map read_item come.now) }
     ensures { AreSame (map read_item gone.now) (map read_item come.now) → IsFoundChange pass (map read_item gone.now) (map read_item come.now) result }
@@ -36,7 +36,7 @@ fn change_at(pass: u16, gone: &[Item], come: &[Item]) -> Option<Change>
     }
 }
 
-/// The change that a leaf tells, where the other leaves are the same before and after.
+/// The change of the kind `kind` that `item` tells, if the other leaves, `before` and `after`, are the same; else `None`.
 fn made(pass: u16, item: &Item, kind: Kind, before: &[Item], after: &[Item]) -> Option<Change>
     ensures { IsMade (map read_item before.now) (map read_item after.now) (record { pass = pass; key = item.now.key; value = item.now.value; kind = kind }) result }
 {
@@ -52,7 +52,7 @@ fn made(pass: u16, item: &Item, kind: Kind, before: &[Item], after: &[Item]) -> 
     }
 }
 
-/// How many leaves the lists have in common before they differ.
+/// How many leaves `before` and `after` have in common before they differ.
 fn same_front(before: &[Item], after: &[Item]) -> usize
     ensures within { result ≤ length before.now }
     ensures within_both { result ≤ length after.now }

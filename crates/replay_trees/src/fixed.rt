@@ -21,7 +21,7 @@ impl Fixed {
     ghost use Rattle.record_words.specs.Reading.{IsReading};
     ghost use Rattle.replay_trees.specs.Fixed.{HasFixedWords, packed_words};
 
-    /// The numbers that have these words.
+    /// The numbers whose words are `words`; `WordFault::Bad` if no numbers have such words.
     pub(crate) fn unpack(words: &[u64]) -> Result<Fixed, WordFault>
         requires { length words.now ≡ HEAD_WORDS }
         ensures { IsReading HasFixedWords packed_words words.now result }
@@ -45,7 +45,7 @@ impl Fixed {
     }
 }
 
-/// The positions that have these words.
+/// The 32 positions in `words`, four in each, the first in its lowest bits.
 fn positions_of_words(words: &[u64]) -> [u16; 32]
     requires { length words.now ≡ 8 }
     ensures { ArePositionsOf result words.now }
@@ -57,7 +57,7 @@ fn positions_of_words(words: &[u64]) -> [u16; 32]
     positions
 }
 
-/// The sparse partial keys that have these words.
+/// The 32 sparse partial keys in `words`, two in each, the first in its low half.
 fn rows_of_words(words: &[u64]) -> [u32; 32]
     requires { length words.now ≡ 16 }
     ensures { AreRowsOf result words.now }
@@ -69,13 +69,14 @@ fn rows_of_words(words: &[u64]) -> [u32; 32]
     rows
 }
 
-/// Whether no column has one of these positions.
+/// Whether each of `positions` is 65,535, which is that of no column.
 fn is_unused(positions: &[u16]) -> bool
     ensures { IsTrue result ↔ EachIndex positions.now (λ i. slice_index positions.now i ≡ 65535) }
 {
     positions.iter().all(|position| *position == u16::MAX)
 }
 
+/// The list of `columns`, 31 at most.
 fn copied(columns: &[u16]) -> ArrayVec<u16, 31>
     requires { length columns.now ≤ 31 }
     ensures { result.items ≡ columns.now }

@@ -9,7 +9,8 @@ ghost use Rattle.record_words.specs.Reading.{IsReading};
 use key_bits::{Key, MAX_BYTES};
 use record_words::{LEAF_FIELDS, WordFault, key_words, write_word};
 
-/// The key and the value that a leaf record has, of its words from offset 1 on. Those behind its key may be any.
+/// The key and the value that a leaf record has, of its words from offset 1 on. Those behind its key may be any. `WordFault::Bad` if no
+/// leaf has these words.
 pub fn unpack_leaf(words: &[u64; LEAF_FIELDS]) -> Result<(Key, u64), WordFault>
     ensures { IsReading HasLeafWords leaf_words (up_to_key words.now) result }
 {
@@ -19,7 +20,7 @@ pub fn unpack_leaf(words: &[u64; LEAF_FIELDS]) -> Result<(Key, u64), WordFault>
     unpack_with(words, &bytes_of_words(words))
 }
 
-/// Unpacks a leaf whose words up to the end of its key have these bytes.
+/// The key and the value of a leaf with `words`, where those of its key have `bytes`. `WordFault::Bad` if a byte behind the key isn't 0.
 fn unpack_with(words: &[u64; LEAF_FIELDS], bytes: &[u8]) -> Result<(Key, u64), WordFault>
     requires short { slice_index words.now 1 ≤ MAX_BYTES }
     requires spelled { IsBytesOf bytes.now (take KEY_WORDS (drop 2 (up_to_key words.now))) }
@@ -35,14 +36,14 @@ fn unpack_with(words: &[u64; LEAF_FIELDS], bytes: &[u8]) -> Result<(Key, u64), W
     }
 }
 
-/// Whether all bytes are 0.
+/// Whether all of `bytes` are 0.
 fn is_zero(bytes: &[u8]) -> bool
     ensures { IsTrue result ↔ EachIndex bytes.now (λ i. slice_index bytes.now i ≡ 0) }
 {
     bytes.iter().all(|byte| *byte == 0)
 }
 
-/// The bytes whose words are a leaf's up to the end of its key, and then 0.
+/// The bytes of a leaf's words, up to the word with the end of its key, and 0 behind these.
 fn bytes_of_words(words: &[u64; LEAF_FIELDS]) -> [u8; MAX_BYTES]
     requires { slice_index words.now 1 ≤ MAX_BYTES }
     ensures { IsBytesOf result (take KEY_WORDS (drop 2 (up_to_key words.now))) }

@@ -19,8 +19,8 @@ pub(crate) struct Records<'a> {
     pub leaves: &'a [[u64; LEAF_FIELDS]],
 }
 
-/// Reads what stands below an entry, and answers whether that is lawful, with no fork before position `least`. What it
-/// links is added to `linked`.
+/// Reads what stands below `entry`, adds what it links to `linked`, and returns whether it is lawful, with no fork before position
+/// `least`. An error if memory is refused.
 #[cycle(reading)]
 pub(crate) fn read_entry(
     records: Records,
@@ -48,7 +48,7 @@ pub(crate) fn read_entry(
     }
 }
 
-/// As `read_entry`, of one side of a fork.
+/// As `read_entry`, of `half`, one side of a fork.
 #[cycle(reading)]
 fn read_half(
     records: Records,
@@ -67,7 +67,7 @@ fn read_half(
     }
 }
 
-/// As `read_entry`, of a node's root fork and its two sides.
+/// As `read_entry`, of `cut`, a node's root fork and its two sides.
 #[cycle(reading)]
 fn read_cut(records: Records, least: u32, cut: Cut, linked: &mut Linked) -> Result<bool, AllocError>
     requires { HasMarks records.nodes.now records.leaves.now linked.old }
@@ -89,7 +89,8 @@ fn read_cut(records: Records, least: u32, cut: Cut, linked: &mut Linked) -> Resu
     Ok(are_parted(position, &linked.items[zero].key, &linked.items[one].key))
 }
 
-/// Adds a leaf record of the table, and answers whether its words spell a value.
+/// Adds leaf record `number` to `linked`, and returns `true`; `false` if the table has no such record, or its words spell no value. An
+/// error if memory is refused.
 fn read_leaf(
     leaves: &[[u64; LEAF_FIELDS]],
     number: u32,
@@ -109,7 +110,7 @@ fn read_leaf(
     Ok(true)
 }
 
-/// The node of this height that a record of the table has.
+/// The node of the height `height` in record `number`; `None` if the table has no such record, or the record has no such node.
 fn node_at(nodes: &[[u64; NODE_FIELDS]], number: u32, height: u16) -> Option<Node>
     ensures { IsNodeAt nodes.now number height result }
 {
@@ -122,7 +123,7 @@ fn node_at(nodes: &[[u64; NODE_FIELDS]], number: u32, height: u16) -> Option<Nod
     }
 }
 
-/// Whether two keys part at a position, the first on the side of 0.
+/// Whether the keys `zero` and `one` differ first at `position`, where `zero` has 0.
 fn are_parted(position: u16, zero: &Key, one: &Key) -> bool
     ensures { IsTrue result ↔ IsParted position zero.now one.now }
 {

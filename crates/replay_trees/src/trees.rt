@@ -52,7 +52,7 @@ pub fn read_tree(
     Ok(Some(linked))
 }
 
-/// So many marks, none of them set.
+/// A list of `count` marks, none of them set; an error if memory is refused.
 fn marks(alloc: Global, count: usize) -> Result<Vec<bool>, AllocError>
     ensures { IfOk result (λ marks. marks.items ≡ replicate count false) }
 {

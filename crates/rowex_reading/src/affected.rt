@@ -13,8 +13,8 @@ use record_words::{HEAD_WORDS, affected_in};
 use rowex_core::Gate;
 use rowex_table::{HotTable, TableSeat};
 
-/// The first and the last of the entries of a node that a new fork at the position concerns, of which entry `found` is one: loads all
-/// words of the node's head, and compares them as they stand.
+/// The places of the first and the last entry of node `number` that a new fork at `position` concerns. The entry at `found` is one of
+/// these. Loads all words of the node's head, and compares them as they stand.
 #[inline(always)]
 pub fn find_affected<G: Gate>(
     table: &HotTable,

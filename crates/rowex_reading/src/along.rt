@@ -36,8 +36,8 @@ pub struct Turn {
     pub place: u8,
 }
 
-/// Loads the root, and lets so many keys from the first on go down by turns, each a node at a time; gives the turns of their ways:
-/// a row for each node from the topmost on, and in it a place for each key.
+/// Loads the root, and lets `count` keys of `keys`, from index `first` on, go down by turns, each a node at a time. Returns the turns of
+/// their ways: a row for each level, the topmost first, and in it a place for each key. It is `None` where the key's way has no node.
 pub fn go_down<G: Gate>(
     table: &HotTable,
     seat: &mut TableSeat,
@@ -66,8 +66,8 @@ pub fn go_down<G: Gate>(
     rows
 }
 
-/// Looks a key up along a way that it went before, the turns of these rows at this index. In a node that the way had at this depth
-/// the key's place is known, and the head isn't loaded anew.
+/// Looks `key` up from the root, along a way that it went before: the turns at `index` in `rows`. In a node that the way had at this
+/// depth the place is known, and the head isn't loaded anew. Returns the key's value, or `None` if the key is absent.
 pub fn look_up_along<G: Gate>(
     table: &HotTable,
     seat: &mut TableSeat,
@@ -99,7 +99,7 @@ pub fn look_up_along<G: Gate>(
     }
 }
 
-/// The turn at this depth and index, if there is one.
+/// The turn at `index` in the row of `depth`; `None` if there is none, or no such row.
 fn turn_of(
     rows: &[[Option<Turn>; TOGETHER]; MOST_TURNS],
     depth: usize,
@@ -115,8 +115,8 @@ fn turn_of(
     }
 }
 
-/// The place in a node, whose record begins at this word, at which the key's way goes on: that of the turn, if it is one in this node;
-/// else by the node's head.
+/// The place in node `number`, whose record begins at word `start`, to which the bits of `key` lead. It is that of `turn`, if that is a
+/// turn in this node; else the node's head is searched.
 fn place_in<G: Gate>(
     table: &HotTable,
     seat: &mut TableSeat,
@@ -140,13 +140,14 @@ fn place_in<G: Gate>(
     }
 }
 
-/// Whether any of these ways has led to a node.
+/// Whether any of the entries `tips` is a node, so that a way goes on.
 fn lead_on(tips: &[Option<Entry>; TOGETHER]) -> bool {
     tips.iter()
         .any(|tip| matches!(tip, Some(Entry::Node { .. })))
 }
 
-/// The turns of so many keys from the first on, in the nodes to which their ways have led.
+/// The turns of `count` keys of `keys`, from index `first` on, in the nodes to which their ways have led, as `tips` says. `None` for a
+/// key whose way has ended.
 fn turn_each<G: Gate>(
     table: &HotTable,
     seat: &mut TableSeat,
@@ -171,7 +172,7 @@ fn turn_each<G: Gate>(
     turns
 }
 
-/// The key's turn in the node to which its way has led, if it is one.
+/// The turn of `key` in the node that `tip` names; `None` if `tip` is a leaf or nothing.
 fn turn_at<G: Gate>(
     table: &HotTable,
     seat: &mut TableSeat,
@@ -194,7 +195,7 @@ fn turn_at<G: Gate>(
     }
 }
 
-/// The entries to which the ways of so many keys lead by these turns.
+/// The entries to which the first `count` of `turns` lead; `None` where there is no turn. The records that they name are touched.
 fn enter_each<G: Gate>(
     table: &HotTable,
     seat: &mut TableSeat,
@@ -216,7 +217,7 @@ fn enter_each<G: Gate>(
     tips
 }
 
-/// The entry to which a way leads by this turn. The record that it names is touched.
+/// The entry to which `turn` leads; `None` if there is no turn. The record that the entry names is touched.
 fn enter<G: Gate>(
     table: &HotTable,
     seat: &mut TableSeat,
@@ -239,8 +240,8 @@ fn enter<G: Gate>(
     }
 }
 
-/// Loads a word of each of the first lines of the record that an entry names: so the lines are at hand when the record is read, and
-/// those of several keys' records come side by side.
+/// Loads a word of each of the first lines of the record that `entry` names: one of a leaf, three of a node. So the lines are at hand
+/// when the record is read, and those of several keys' records come side by side.
 fn touch<G: Gate>(table: &HotTable, seat: &mut TableSeat, gate: &mut G, entry: Entry)
     requires reader { IsReader table.now seat.old }
     requires led { IsWayTip seat.old.known entry }

@@ -29,12 +29,13 @@ pub enum Found {
         number: u32,
         /// The leaf's value.
         value: u64,
-        /// Where the leaf's key first differs from the one that is looked for; none where it is that key.
+        /// Where the leaf's key first differs from the one that is looked for; `None` if it is that key.
         mismatch: Option<u16>,
     },
 }
 
-/// Searches for a key from the root down to a leaf; leaves the nodes of its way, the topmost first, and answers what it found.
+/// Searches for a key from the root down. Fills `way` with the nodes on the way, the topmost first, and returns what stands at its end.
+/// The key had the value that was found, or was absent, in a version since this load of the root.
 pub fn search_way<G: Gate>(
     table: &HotTable,
     seat: &mut TableSeat,

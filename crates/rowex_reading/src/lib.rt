@@ -1,4 +1,4 @@
-//! What a pass reads of the tree: single loads, and the search for a key from the root down to a leaf; and what the pass can
+//! What a pass reads of the tree: single loads, and the search for a key from the root down to a leaf. Contracts say what the pass can
 //! be sure of then, whatever other passes publish meanwhile.
 //!
 //! # Mechanism
@@ -17,17 +17,17 @@
 //! # Four searches
 //!
 //! [`look_up`] keeps nothing of its path: a get. [`search_way`] keeps for each node what a change or a scan may ask of it later.
-//! [`go_down`] takes sixteen keys down together, a node at a time, so that the loads of one wait while those of the others run;
-//! [`look_up_along`] then follows each of these paths from the root. [`find_affected`] asks one node of a path once more: which
-//! entries does a new leaf affect?
+//! [`go_down`] takes sixteen keys down together, a node at a time, so that the loads of one wait while those of the others run. Then
+//! [`look_up_along`] follows each of these paths from the root. [`find_affected`] asks one node of a path once more: which entries does
+//! a new leaf affect?
 //!
 //! # Why a search in old nodes is right
 //!
-//! A node's head never changes while the node lives. Its entries change by one store each, and no more once the node is replaced.
-//! So a reader may stand in a node that a writer has replaced: the node shows what it showed in the last version that had it, and
-//! by then the search had begun. As long as a node lives, all keys below it agree up to its first fork. So at each step the
-//! search has either followed its key in some version since it began, or the key was absent in such a version. At the end the
-//! leaf decides. The crate `rowex_walks` proves this for versions; here it is told of the words that were loaded.
+//! A node's head never changes while the node lives. Its entries change by one store each, and no more once the node is replaced. So a
+//! reader may stand in a node that a writer has replaced. The node shows what it showed in the last version that had it, and by then
+//! the search had begun. As long as a node lives, all keys below it agree up to its first fork. So at each step the search has either
+//! followed its key in some version since it began, or the key was absent in such a version. At the end the leaf decides. The crate
+//! `rowex_walks` proves this for versions; here it is told of the words that were loaded.
 //!
 //! What a pass has learned by its loads is kept as facts about versions of the past, which no step of another pass makes false.
 //! So a contract says: the value was the key's at a moment between the call's load of the root and its end.

@@ -10,7 +10,8 @@ use key_bits::Key;
 use rowex_core::{Gate, Rec};
 use rowex_table::{HotTable, TableSeat};
 
-/// Searches for a key from the root down to a leaf, and compares the leaf's key; answers the value that it found.
+/// Searches for `key` from the root down to a leaf, and compares the leaf's key. Returns the key's value, or `None` if the key is absent.
+/// This was so in a version since the load of the root.
 pub fn look_up<G: Gate>(
     table: &HotTable,
     seat: &mut TableSeat,

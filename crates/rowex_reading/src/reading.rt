@@ -26,7 +26,7 @@ use record_words::{
 use rowex_core::{Gate, Rec, Spot};
 use rowex_table::{HotTable, TableSeat};
 
-/// Loads the root's entry: none where the tree is empty.
+/// Loads the root's entry; `None` if the tree is empty.
 pub fn load_root<G: Gate>(table: &HotTable, seat: &mut TableSeat, gate: &mut G) -> Option<Entry>
     requires own { IsSeatOf table.now seat.old }
     requires pinned { IsSome seat.old.known.pin }
@@ -38,7 +38,8 @@ pub fn load_root<G: Gate>(table: &HotTable, seat: &mut TableSeat, gate: &mut G) 
     read_entry(word)
 }
 
-/// Loads all words of a node's head to these places. Which of them have something is not asked first, so nothing waits for the numbers.
+/// Loads all words of the head of node `number` into `words`. Which of them have something is not asked first, so nothing waits for the
+/// numbers.
 #[inline(always)]
 pub(crate) fn load_head_words<G: Gate>(
     table: &HotTable,
@@ -59,7 +60,7 @@ pub(crate) fn load_head_words<G: Gate>(
     }
 }
 
-/// The step of a way that enters a node, where the way takes the first entry: loads all words of the node's head.
+/// The step of a way at node `number` that takes the node's first entry: loads all words of the node's head.
 #[inline(always)]
 pub fn enter_node<G: Gate>(
     table: &HotTable,
@@ -85,7 +86,7 @@ pub fn enter_node<G: Gate>(
     }
 }
 
-/// The place to which the key's bits lead in a node whose record begins at this word.
+/// The place to which the bits of `key` lead in node `number`, whose record begins at word `start`.
 #[inline(always)]
 pub fn find_place<G: Gate>(
     table: &HotTable,
@@ -105,10 +106,12 @@ pub fn find_place<G: Gate>(
     find_step(table, seat, gate, number, start, key).at
 }
 
-/// The step of a way at a node whose record begins at this word, where the way takes the entry to which the key's bits lead: loads all
-/// words of the node's head, and searches them as they stand. Which words have positions and sparse partial keys is not asked first, so nothing waits for the numbers,
-/// and the loads are as many in each node. The key's bits are gathered before the sparse partial keys are loaded: so nothing stands
-/// between these loads and the search, and what was loaded stays in registers.
+/// The step of a way at node `number`, whose record begins at word `start`, that takes the entry to which the bits of `key` lead. Loads
+/// all words of the node's head, and searches them as they stand.
+///
+/// Which words have positions and sparse partial keys is not asked first. So nothing waits for the numbers, and the loads are as many in
+/// each node. The key's bits are gathered before the sparse partial keys are loaded. So nothing stands between these loads and the
+/// search, and what was loaded stays in registers.
 #[inline(always)]
 pub fn find_step<G: Gate>(
     table: &HotTable,
@@ -146,7 +149,7 @@ pub fn find_step<G: Gate>(
     }
 }
 
-/// Loads the entry of a node at a place that the node has.
+/// Loads the entry at `place` of node `number`, which has that place.
 pub fn load_entry<G: Gate>(
     table: &HotTable,
     seat: &mut TableSeat,
@@ -164,7 +167,7 @@ pub fn load_entry<G: Gate>(
     load_entry_from(table, seat, gate, number, start, place)
 }
 
-/// Loads as `load_entry` does, of a node whose record begins at this word: for several loads its place is found once.
+/// Loads as `load_entry` does, of a node whose record begins at word `start`: for several loads that is found once.
 #[inline(always)]
 pub fn load_entry_from<G: Gate>(
     table: &HotTable,
@@ -185,10 +188,11 @@ pub fn load_entry_from<G: Gate>(
     read_some(word)
 }
 
-/// Loads the value of a leaf, the length of its key, and the words that have bytes of the key, each of which goes at once to its
-/// place among these, which may have anything: the key's bytes stand in the first of them then. The words behind are not loaded, and
-/// the places of theirs stay: where all were 0 the places are the key's (`Key::of_places`), else the others mean nothing. Gives the
-/// length and the value. Inline, so that a caller has the bytes where they were read.
+/// Loads leaf `number`: its value, its key's length, and the words with bytes of the key, which go at once to the first of `places`.
+/// Returns the length and the value.
+///
+/// The words behind are not loaded, and their places stay. If all were 0, `places` are the key's (`Key::of_places`); else those behind
+/// the key mean nothing. Inline, so that a caller has the bytes where they were read.
 #[inline(always)]
 pub fn load_places<G: Gate>(
     table: &HotTable,
@@ -210,8 +214,8 @@ pub fn load_places<G: Gate>(
     load_places_from(table, seat, gate, number, start, places)
 }
 
-/// Loads as `load_places` does, of a leaf whose record begins at this word: so a caller can find that in a way of its own. Keys of eight
-/// bytes are common, and their one word needs no loop.
+/// Loads as `load_places` does, of a leaf whose record begins at word `start`: so a caller can find that in a way of its own. Keys of
+/// eight bytes are common, and their one word needs no loop.
 #[inline(always)]
 pub fn load_places_from<G: Gate>(
     table: &HotTable,
@@ -247,9 +251,8 @@ pub fn load_places_from<G: Gate>(
     (length as usize, value)
 }
 
-/// Loads the value of a leaf that has this key: the length of its key first, the words with bytes of that as long as they are
-/// the key's own, and then the value. None where one of them is not, for the leaf has another key then. Keys of eight bytes are common:
-/// what is compiled for them alone has no loop.
+/// Loads the value of leaf `number`, if the leaf has `key`; `None` if it has another key. It loads the key's length first, then its words
+/// up to the first that differs, and the value last. Keys of eight bytes are common: what is compiled for them alone has no loop.
 pub fn load_value<G: Gate>(
     table: &HotTable,
     seat: &mut TableSeat,
@@ -270,7 +273,7 @@ pub fn load_value<G: Gate>(
     load_value_of(table, seat, gate, number, start, key, size)
 }
 
-/// Loads as `load_value` does, of a leaf whose record begins at this word, for a key of this length.
+/// Loads as `load_value` does, of a leaf whose record begins at word `start`, for a key of `size` bytes.
 #[inline(always)]
 fn load_value_of<G: Gate>(
     table: &HotTable,

@@ -22,7 +22,7 @@ pub enum RecordKind {
 }
 
 impl RecordKind {
-    /// The record of this kind that has the number, counted from the first of the kind on.
+    /// The record of this kind with the number `number`, counted from 0 at the first of the kind.
     fn record_at(self, number: u32) -> Rec
         requires { HasIndex self number }
         ensures { result ≡ record_of self number }
@@ -33,7 +33,8 @@ impl RecordKind {
         }
     }
 
-    /// The word at which the record of this kind that has the number begins, or would begin.
+    /// The word at which the record of this kind with the number `number` begins. If `number` is their count, it is where one more would
+    /// begin.
     fn start_at(self, layout: &Layout, number: u32) -> usize
         requires { number ≤ count_of self layout.now }
         ensures { result ≡ first_word self layout.now number }
@@ -44,7 +45,7 @@ impl RecordKind {
         }
     }
 
-    /// The records from this number on that are as large as the one that has it: the number behind the last of them, and how many
+    /// The records of this kind from `number` on that are as large as the first of them. Returns the number behind the last, and how many
     /// words each has.
     fn row_at(self, layout: &Layout, number: u32) -> (u32, usize)
         requires kind { IsKindOf self layout.now }
@@ -61,7 +62,7 @@ impl RecordKind {
         }
     }
 
-    /// How many records of this kind a table has.
+    /// How many records of this kind a table of `layout` has.
     fn count(self, layout: Layout) -> u32
         ensures { result ≡ count_of self layout }
     {
@@ -72,7 +73,7 @@ impl RecordKind {
     }
 }
 
-/// Claims the first record of a kind that it finds free; answers its number.
+/// Claims the first record of `kind` that it finds free and returns its number.
 ///
 /// Each record is tried once, from number `from` on, and from 0 on after the last; `None` if no try found one free. A try loads the
 /// state, and claims only what it saw free. A `from` that is out of range counts as 0. Inline, for callers know the kind.
@@ -99,7 +100,8 @@ pub fn claim_record<G: Gate>(
     claim_within(table, seat, gate, kind, from, &mut left)
 }
 
-/// Claims the first record of a kind that it finds free, of the next `left` ones; answers its number.
+/// Claims the first record of `kind` that it finds free, of the next `left` ones from `from` on, and returns its number. `None` if none
+/// of them was free.
 ///
 /// It tries records as [`claim_record`] does, but no more than `left`, which is then less by those that were tried.
 ///
@@ -129,7 +131,8 @@ pub fn claim_within<G: Gate>(
     claimed
 }
 
-/// Claims the first record of a kind that it finds free, of so many from this number on; answers its number, and how many it tried.
+/// Claims the first record of `kind` that it finds free, of the next `most` from number `from` on. Returns its number, or `None` if none
+/// of them was free, and how many it tried.
 #[inline(always)]
 fn claim_of<G: Gate>(
     table: &HotTable,
@@ -157,8 +160,8 @@ fn claim_of<G: Gate>(
     claim_behind(table, seat, gate, kind, begin, most)
 }
 
-/// Claims the first record of a kind that it finds free behind this one, which was not free, row by row, until it has tried so many
-/// with this one; answers the record's number, and how many it tried with this one.
+/// Claims the first record of `kind` that it finds free behind number `begin`, which was not free, row by row. It tries no more than
+/// `most`, with that one. Returns the record's number, or `None` if none was free, and how many were tried, with that one.
 fn claim_behind<G: Gate>(
     table: &HotTable,
     seat: &mut TableSeat,
@@ -192,8 +195,8 @@ fn claim_behind<G: Gate>(
     (None, most)
 }
 
-/// Claims the first record of a kind that it finds free, of so many from this number on, each of which begins `size` words behind
-/// the one before; answers how many it tried before that one.
+/// Claims the first record of `kind` that it finds free, of `count` from number `number` on. Each of these begins `size` words behind the
+/// one before. Returns how many it tried before that one; `None` if none was free.
 fn claim_in_row<G: Gate>(
     table: &HotTable,
     seat: &mut TableSeat,
@@ -222,8 +225,8 @@ fn claim_in_row<G: Gate>(
     None
 }
 
-/// Claims the record of a kind that has the number, if it finds that free; answers whether the pass has it now. A number that is
-/// out of range is no record's. Inline, for callers know the kind.
+/// Claims the record of `kind` with the number `number`, if it finds that free, and returns whether the pass has it now. `false` for a
+/// number that is out of range. Inline, for callers know the kind.
 #[inline(always)]
 pub fn claim_numbered<G: Gate>(
     table: &HotTable,
@@ -246,7 +249,8 @@ pub fn claim_numbered<G: Gate>(
     try_record(table, seat, gate, rec, table.start_of(rec))
 }
 
-/// Loads the state of a record, which begins at `start`, and claims it, if that is free; answers whether the pass has it now.
+/// Loads the state of `rec`, which begins at word `start`, and claims the record if the state is free. Returns whether the pass has it
+/// now.
 fn try_record<G: Gate>(
     table: &HotTable,
     seat: &mut TableSeat,
@@ -265,7 +269,7 @@ fn try_record<G: Gate>(
     table.claim_from(seat, gate, rec, start) == 0
 }
 
-/// The number to begin at, of `all`.
+/// The number to begin at, of `all` records: `from`, or 0 if `from` is out of range.
 fn first(from: u32, all: u32) -> u32
     ensures begin { result ≡ begin_of all from }
     ensures low { 0 < all → result < all }
@@ -274,7 +278,7 @@ fn first(from: u32, all: u32) -> u32
     if from < all { from } else { 0 }
 }
 
-/// Makes a record free again that the pass has claimed and not made ready.
+/// Makes `rec` free again, which the pass has claimed and not made ready.
 pub fn give_up<G: Gate>(table: &HotTable, seat: &mut TableSeat, gate: &mut G, rec: Rec)
     requires own { IsSeatOf table.now seat.old }
     requires range { HasRecord table.now.layout rec }
@@ -284,7 +288,7 @@ pub fn give_up<G: Gate>(table: &HotTable, seat: &mut TableSeat, gate: &mut G, re
     table.release(seat, gate, rec);
 }
 
-/// Makes all the records free again that the pass has, where each of them is claimed and not made ready.
+/// Makes the records `recs` free again, which are all that the pass has. Each of them is claimed and not made ready.
 pub fn give_up_all<G: Gate>(table: &HotTable, seat: &mut TableSeat, gate: &mut G, recs: &[Rec])
     requires own { IsSeatOf table.now seat.old }
     requires range { All (HasRecord table.now.layout) recs.now }

@@ -20,8 +20,8 @@ use record_words::{FIRST_ENTRY, FIRST_ROWS, HEAD_WORDS, NODE_FIELDS, key_word_at
 use rowex_core::{Gate, Rec};
 use rowex_table::{HotTable, TableSeat};
 
-/// Fills a claimed leaf record with a key, which has room in it, and a value: stores the words up to the key's end, in a step for each, but
-/// for the length, which is loaded, and stored only where another stands. What stands behind the key stays there.
+/// Fills the claimed leaf record `number`, which has room for `key`. It stores `value`, and the words of `key` up to its end, in a step
+/// each. But the key's length is loaded first, and stored only if another stands there. What stands behind the key stays.
 pub fn fill_leaf<G: Gate>(
     table: &HotTable,
     seat: &mut TableSeat,
@@ -49,7 +49,8 @@ pub fn fill_leaf<G: Gate>(
     }
 }
 
-/// Stores a word of a claimed leaf record, which begins at `start`, other than the length of its key.
+/// Stores `word` at `offset` of the claimed leaf record `number`, which begins at word `start`. The offset is not that of the key's
+/// length.
 #[inline(always)]
 fn store_leaf_word<G: Gate>(
     table: &HotTable,
@@ -70,8 +71,8 @@ fn store_leaf_word<G: Gate>(
     table.fill_from(seat, gate, Rec::Leaf(number), start, offset, word);
 }
 
-/// Sees to it that the length of the key in a claimed leaf record, which begins at `start`, is this one. Keys are often as long as the one
-/// that was there.
+/// Makes the key's length in the claimed leaf record `number`, which begins at word `start`, be `length`. It is loaded, and stored only
+/// if another stands there: keys are often as long as the one before.
 #[inline(always)]
 fn set_length<G: Gate>(
     table: &HotTable,
@@ -93,8 +94,8 @@ fn set_length<G: Gate>(
     }
 }
 
-/// Fills a claimed node record with the words of a node, in a step or two for each of its words but the state: a word in which the node
-/// has nothing is loaded, and stored only where another stands.
+/// Fills the claimed node record `number` with `words`, those of a node but its state, in a step or two for each. A word in which the
+/// node has nothing is loaded, and stored only where another stands.
 pub fn fill_words<G: Gate>(
     table: &HotTable,
     seat: &mut TableSeat,
@@ -127,8 +128,9 @@ pub fn fill_words<G: Gate>(
     set_eight(table, seat, gate, number, start, words, 49, leads);
 }
 
-/// Sees to it that eight words of a claimed node record, which begins at `start`, are these: those from `words[first]` on, of which the node
-/// has something in those before `words[end]`. Where that is in all of them, it is asked of none. Inline, so that it is known where each stands.
+/// Makes the claimed node record `number`, which begins at word `start`, have the eight words from `words[first]` on. The node has
+/// something in those before `words[end]` and nothing in the others. Where it has something in all, none is tested. Inline, so that it is
+/// known where each stands.
 #[inline(always)]
 fn set_eight<G: Gate>(
     table: &HotTable,
@@ -156,7 +158,7 @@ fn set_eight<G: Gate>(
     }
 }
 
-/// The same, one word after the other.
+/// Does what [`set_eight`] does, one word after the other, with a test of each for whether it stands before `words[end]`.
 #[inline(always)]
 fn set_each<G: Gate>(
     table: &HotTable,
@@ -185,7 +187,8 @@ fn set_each<G: Gate>(
     }
 }
 
-/// Sees to it that a word of a claimed node record, which begins at `start`, is this one, in which the node has something or nothing.
+/// Makes the word at `offset` of the claimed node record `number`, which begins at word `start`, be `word`. If `used`, the node has
+/// something in the word, and it is stored. Else it is loaded, and stored only if another stands there.
 #[inline(always)]
 fn set_node_word<G: Gate>(
     table: &HotTable,
@@ -212,7 +215,8 @@ fn set_node_word<G: Gate>(
     }
 }
 
-/// Sees to it that a word of a claimed node record, which begins at `start`, is the one where the node has nothing.
+/// Makes the word at `offset` of the claimed node record `number`, which begins at word `start`, be the one where a node has nothing. It
+/// is loaded, and stored only if another stands there.
 #[inline(always)]
 fn clear_node_word<G: Gate>(
     table: &HotTable,
@@ -234,7 +238,7 @@ fn clear_node_word<G: Gate>(
     }
 }
 
-/// The word that stands at an offset of a node record where the node has nothing.
+/// The word at `offset` of a node record in which the node has nothing: all ones before the first entry, and 0 from there on.
 #[inline(always)]
 fn unused_in_node(offset: u8) -> u64
     ensures { result ≡ unused_word offset }
@@ -246,7 +250,7 @@ fn unused_in_node(offset: u8) -> u64
     }
 }
 
-/// Loads a word of a node record that the pass has claimed, which begins at `start`.
+/// Loads the word at `offset` of node record `number`, which begins at word `start`. The offset is not that of the state.
 #[inline(always)]
 fn load_node_word<G: Gate>(
     table: &HotTable,
@@ -269,7 +273,7 @@ fn load_node_word<G: Gate>(
     }
 }
 
-/// Makes a claimed record live that has been filled.
+/// Makes the claimed record `rec` live, which has been filled: then it may be linked.
 pub fn make_ready<G: Gate>(table: &HotTable, seat: &mut TableSeat, gate: &mut G, rec: Rec)
     requires own { IsSeatOf table.now seat.old }
     requires range { HasRecord table.now.layout rec }

@@ -12,8 +12,8 @@ use std::marker::Model;
 
 /// Checks one given run of the concurrent index, event by event.
 ///
-/// Contracts see it as the run so far: the layout of the index and the events that were accepted, which are legal one
-/// after the other from the opening core on.
+/// Contracts see it as the run so far: the layout of the index and the events that were accepted. These are legal one after the other
+/// from the opening core on.
 #[derive(Drop)]
 pub struct Replay {
     pub(crate) state: State,
@@ -39,7 +39,7 @@ impl Replay {
     ghost use Rattle.rowex_replay.specs.Runs.{core_of, new_run, with_event};
     ghost use Rattle.rowex_replay.specs.Replays.{MayWantMemory};
 
-    /// A replay of no event yet, of an index of this layout.
+    /// A replay of no event yet, of an index of `layout`; an error if memory is refused.
     pub fn new(alloc: Global, layout: Layout) -> Result<Replay, AllocError>
         ensures { IfOk result (λ replay. replay ≡ new_run layout) }
     {
@@ -49,10 +49,10 @@ impl Replay {
         })
     }
 
-    /// Makes an event, if it is legal where the run so far leads.
+    /// Makes `event`, if it is legal where the run so far leads.
     ///
-    /// Ok exactly where it is, and `Illegal` exactly where it is not, but that a publish under the lock of its word is
-    /// refused by `Memory` where a growth is. Either refusal changes nothing.
+    /// Ok exactly where it is, and `Illegal` exactly where it is not. But a publish under the lock of its word is refused by `Memory`
+    /// where a growth is. Either refusal changes nothing.
     pub fn step(&mut self, event: Event) -> Result<(), ReplayFault>
         ensures ok { OnOk result (Legal (core_of self.old) event.pass event.act × (self.new ≡ with_event self.old event)) }
         ensures illegal { result ≡ Err ReplayFault.Illegal → ¬ Legal (core_of self.old) event.pass event.act }

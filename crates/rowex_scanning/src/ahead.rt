@@ -21,7 +21,7 @@ use rowex_table::{HotTable, TableSeat};
 /// How many places of a node a walk looks at together, at most.
 pub(crate) const MOST_AHEAD: u8 = 16;
 
-/// For how many pairs at least a walk looks at several places together.
+/// If the limit leaves fewer pairs, a walk looks at one place at a time.
 const LEAST_PAIRS: usize = 4;
 
 /// What comes next in a node.
@@ -33,9 +33,9 @@ pub(crate) struct Ahead {
     pub node: Option<u32>,
 }
 
-/// Whether a walk that has listed these pairs touches the leaves at so many places. The leaf at one place alone is read at once. And
-/// where the keys so far take a word each, or less, reading a leaf takes few instructions, and always as many: so a processor reads
-/// ahead by itself.
+/// Whether a walk that has listed `pairs` touches the leaves at the next `count` places. The leaf at one place alone is read at once. And
+/// where the keys so far take a word each, or less, reading a leaf takes few instructions, always as many. So a processor reads ahead by
+/// itself.
 #[inline(always)]
 fn touches(count: u8, pairs: &Pairs) -> bool
     ensures { IsTrue result ↔ (1 < count) × (length pairs.now < length (keys_in pairs.now) / 8) }
@@ -43,8 +43,8 @@ fn touches(count: u8, pairs: &Pairs) -> bool
     count > 1 && pairs.key_bytes() / 8 > pairs.len()
 }
 
-/// At how many places a walk looks together, where it has listed these pairs: at most at those of the pairs that the limit leaves, and
-/// the one behind them. Where they are few it looks at one place at a time.
+/// At how many places a walk that has listed `pairs` looks together: those of the pairs that `limit` leaves, and one more. It is
+/// `MOST_AHEAD` at most, and one place, if fewer than `LEAST_PAIRS` are left.
 #[inline(always)]
 pub(crate) fn most_together(limit: usize, pairs: &Pairs) -> u8
     requires { length pairs.now ≤ limit }
@@ -62,8 +62,9 @@ pub(crate) fn most_together(limit: usize, pairs: &Pairs) -> u8
     }
 }
 
-/// Loads the entries at so many places that come next in a node, up to the first that leads to a node, and touches their leaves, whose
-/// numbers go to the first of these places. Where it looks at one place alone, its leaf is read at once, and isn't touched.
+/// Loads the entries at the next `count` places in the node `top`, up to the first that leads to a node. The numbers of the leaves go to
+/// the first of `leaves`. Returns how many these are, and that node, if there is one. The leaves are touched; but one that is looked at
+/// alone is read at once, and isn't.
 #[inline(always)]
 pub(crate) fn look_ahead<G: Gate>(
     scan: &Scan,
@@ -110,7 +111,7 @@ pub(crate) fn look_ahead<G: Gate>(
     Ahead { count, node: None }
 }
 
-/// Loads a word of a leaf's record, so that its line is at hand when the leaf is read.
+/// Loads a word of the record of leaf `number`, so that its line is at hand when the leaf is read. `origins` are those of the table.
 #[inline(always)]
 fn touch<G: Gate>(
     table: &HotTable,

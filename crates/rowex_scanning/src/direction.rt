@@ -1,4 +1,5 @@
-//! In which order a scan passes places and keys, by its direction.
+//! In which order a scan passes places and keys, by its direction. In a node, gap `i` is before the entry at place `i`, and the last gap
+//! behind all entries.
 
 ghost use Rattle.std.specs.Prelude.{◌≡◌, ◌<◌, ◌≤◌, IsTrue, false};
 ghost use Rattle.key_bits.specs.Key.{IsKey};
@@ -9,7 +10,7 @@ ghost use Rattle.rowex_walks.specs.Directions.{first_gap as first_gap_of, gap_af
 use insert_cases::PathNode;
 use rowex_walks::Direction;
 
-/// How many entries are to come at the gap where a walk stands in this node.
+/// How many entries are to come in the node `top`, for a walk in the direction `direction` that stands at its gap `top.at`.
 #[inline(always)]
 pub(crate) fn to_come(direction: Direction, top: &PathNode) -> u8
     requires { top.now.at ≤ top.now.count }
@@ -21,7 +22,7 @@ pub(crate) fn to_come(direction: Direction, top: &PathNode) -> u8
     }
 }
 
-/// The gap behind so many entries that come next.
+/// The gap at which a walk in the direction `direction` stands in the node `top` after the next `entries` entries.
 #[inline(always)]
 pub(crate) fn gap_after(direction: Direction, top: PathNode, entries: u8) -> u8
     requires fits { top.at ≤ top.count }
@@ -34,7 +35,7 @@ pub(crate) fn gap_after(direction: Direction, top: PathNode, entries: u8) -> u8
     }
 }
 
-/// The place of the entry that comes behind so many others.
+/// The place in the node `top` of the entry that comes after the next `entries` ones, for a walk in the direction `direction`.
 #[inline(always)]
 pub(crate) fn place_ahead(direction: Direction, top: PathNode, entries: u8) -> u8
     requires fits { top.at ≤ top.count }
@@ -47,7 +48,7 @@ pub(crate) fn place_ahead(direction: Direction, top: PathNode, entries: u8) -> u
     }
 }
 
-/// The gap behind the entry at this place.
+/// The gap at which a walk in the direction `direction` stands after the entry at `place`.
 #[inline(always)]
 pub(crate) fn behind(direction: Direction, place: u8) -> u8
     requires { place < 32 }
@@ -59,7 +60,7 @@ pub(crate) fn behind(direction: Direction, place: u8) -> u8
     }
 }
 
-/// The gap at which a walk enters a node with so many entries.
+/// The gap at which a walk in the direction `direction` enters a node of `count` entries.
 #[inline(always)]
 pub(crate) fn first_gap(direction: Direction, count: u8) -> u8
     ensures { result ≡ first_gap_of direction count }
@@ -70,7 +71,8 @@ pub(crate) fn first_gap(direction: Direction, count: u8) -> u8
     }
 }
 
-/// Whether the key with the first bytes comes earlier than that with the second.
+/// Whether a scan in the direction `direction` passes the key with the bytes `first` before that with the bytes `second`. `false` if they
+/// are one key.
 #[inline(always)]
 pub(crate) fn is_earlier(direction: Direction, first: &[u8], second: &[u8]) -> bool
     requires keys { IsKey first.now × IsKey second.now }
@@ -83,8 +85,8 @@ pub(crate) fn is_earlier(direction: Direction, first: &[u8], second: &[u8]) -> b
     }
 }
 
-/// Whether the key with the first bytes is before that with the second: their first different byte says what their first different
-/// bit does.
+/// Whether the key with the bytes `first` is before that with the bytes `second`, as their first different bit says. Their first
+/// different byte says the same.
 pub(crate) fn is_before(first: &[u8], second: &[u8]) -> bool
     requires keys { IsKey first.now × IsKey second.now }
     ensures before { IsTrue result → IsBefore first.now second.now }

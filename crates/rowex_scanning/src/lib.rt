@@ -1,5 +1,5 @@
-//! Scans of a shared trie: a pinned pass walks from the first key of a range on, or from the last one downwards, and is sure of what it
-//! gives, whatever other passes publish meanwhile.
+//! Scans of a shared trie: a pinned pass walks from the first key of a range on, or from the last one downwards. It is sure of what it
+//! lists, whatever other passes publish meanwhile.
 #![tactic(auto)]
 
 mod ahead;

@@ -60,7 +60,7 @@ pub(crate) struct Scan<'a> {
 /// What becomes of a scan at a pair.
 #[derive(Clone, Copy)]
 pub(crate) enum Verdict {
-    /// It goes on.
+    /// The scan goes on.
     Further,
     /// The key is past the range.
     Past,
@@ -68,10 +68,12 @@ pub(crate) enum Verdict {
     Full,
 }
 
-/// The scan of a pinned pass: the first pairs of the range in the scan's direction, so many as the limit says, take the place of those
-/// in the list; and it answers whether there is a further one. An error where memory is refused: then too the pass has made loads
-/// alone, and the list has the first of these pairs, fewer than the limit, and there is a further one. The nodes of its way are left in
-/// `way`, which need not be empty. Inline, as what it does at its root is, so that a caller has a walk of its own direction.
+/// The scan of a pinned pass: the first pairs of `range` in its direction, `range.limit` at most, take the place of those in `pairs`.
+/// Returns whether there is a further one.
+///
+/// If memory is refused, it is an error. Then `pairs` has the first of these pairs, fewer than the limit, and there is a further one. In
+/// each case the pass has made loads alone. `way` is room for the nodes of its way, and need not be empty. Inline, as what it does at its
+/// root is, so that a caller has a walk of its own direction.
 #[inline(always)]
 pub fn scan_root<G: Gate>(
     table: &HotTable,
@@ -111,7 +113,7 @@ pub fn scan_root<G: Gate>(
     }
 }
 
-/// The first key of the range in the scan's direction.
+/// The first key of `range` in its direction.
 #[inline(always)]
 fn first_key<'a>(range: &'a Range) -> &'a Key
     ensures { result.now ≡ first_key_of range.now.direction (asked_range range.now) }
@@ -122,7 +124,8 @@ fn first_key<'a>(range: &'a Range) -> &'a Key
     }
 }
 
-/// The scan from a root that is a leaf.
+/// The scan from a root that is leaf `number`: lists the leaf's pair, if it belongs to `range` and the limit leaves room. Returns whether
+/// it belongs there and has no room; an error if memory is refused.
 #[inline(always)]
 fn scan_leaf<G: Gate>(
     table: &HotTable,
@@ -154,7 +157,8 @@ fn scan_leaf<G: Gate>(
     }
 }
 
-/// The scan from a root that is a node, below which the search for the range's first key has ended at this leaf.
+/// The scan from a root that is a node, where the search for the range's first key went through `way` and ended at `found`. It fills
+/// `pairs`, which is empty before, and returns whether there is a further pair; an error if memory is refused.
 #[inline(always)]
 fn scan_node<G: Gate>(
     table: &HotTable,
@@ -194,8 +198,11 @@ fn scan_node<G: Gate>(
     walk(&scan, seat, gate, way, top, places, pairs)
 }
 
-/// The walk over the places of the nodes on the way, in the scan's direction, from a gap of the lowest of them on. It looks at several
-/// places together, so that it doesn't wait for each leaf alone. The bytes of each key go to the same places, whatever stands there.
+/// The walk over the places of `lowest` from the gap `lowest.at` on, and of the nodes above it, `way`, in the scan's direction. It adds
+/// to `pairs`, and returns whether there is a further pair; an error if memory is refused.
+///
+/// It looks at several places together, so that it doesn't wait for each leaf alone. The bytes of each key go to the same `places`,
+/// whatever stands there.
 #[inline(always)]
 fn walk<G: Gate>(
     scan: &Scan,
@@ -249,8 +256,8 @@ fn walk<G: Gate>(
     }
 }
 
-/// Takes the pairs of the leaves that come next, up to one whose pair doesn't belong to the range or has no room; and goes behind them,
-/// where it has taken all.
+/// Adds the pairs of the next leaves, `leaves`, to `pairs`. At one that is past the range or has no room it stops, and returns that
+/// verdict. If all are added, `top` goes behind them, and it returns `Further`. An error if memory is refused.
 #[inline(always)]
 fn take_leaves<G: Gate>(
     scan: &Scan,
@@ -284,7 +291,7 @@ fn take_leaves<G: Gate>(
     Ok(Verdict::Further)
 }
 
-/// Goes to a node: reads its head, and begins at the gap before its first entry.
+/// The step of a walk at node `number` that begins at the gap before its first entry in this direction: loads the node's head.
 fn enter<G: Gate>(
     table: &HotTable,
     seat: &mut TableSeat,
@@ -302,7 +309,8 @@ fn enter<G: Gate>(
     step
 }
 
-/// Loads a leaf whose key does not come before the range, to these places, and takes its pair. Inline, as the two that it calls are.
+/// Loads leaf `number`, whose key does not come before the range, and takes its pair, as [`take_pair`] does. The key's bytes go to
+/// `places`. Inline, as the two that it calls are.
 #[inline(always)]
 fn read_leaf<G: Gate>(
     scan: &Scan,
@@ -325,9 +333,11 @@ fn read_leaf<G: Gate>(
     take_pair(pairs, scan.range, places, length, value)
 }
 
-/// Takes a pair whose key does not come before the range, if it belongs to the range and there is room for it: the key has the first of
-/// these places, so many. Keys of eight bytes are common: what is compiled for them alone has each as a number. Inline, so that the
-/// key's bytes go at once from where they were read to their place among the pairs.
+/// Adds a pair to `pairs`, if it belongs to `range` and the limit leaves room, and returns what becomes of the scan. An error if memory
+/// is refused. The pair's key has the first `length` of `places`, and does not come before the range.
+///
+/// Keys of eight bytes are common: what is compiled for them alone has each as a number. Inline, so that the key's bytes go at once from
+/// where they were read to their place among the pairs.
 #[inline(always)]
 fn take_pair(
     pairs: &mut Pairs,
@@ -348,7 +358,7 @@ fn take_pair(
     take_key(pairs, range, places, length, value)
 }
 
-/// The same, for keys of each length alike.
+/// Does what [`take_pair`] does, for keys of each length alike.
 #[inline(always)]
 fn take_key(
     pairs: &mut Pairs,
@@ -373,7 +383,8 @@ fn take_key(
     Ok(Verdict::Further)
 }
 
-/// Whether a key is past the range. In a scan upwards mostly the first eight bytes tell that it is not, as one number each.
+/// Whether the key with the bytes `key` is past the last key of `range` in its direction. In a scan upwards mostly the first eight bytes
+/// tell that it is not, as one number each.
 #[inline(always)]
 fn is_past(range: &Range, key: &[u8]) -> bool
     requires key { IsKey key.now }
@@ -392,7 +403,7 @@ fn is_past(range: &Range, key: &[u8]) -> bool
     }
 }
 
-/// The first eight bytes as a number, the first of them highest.
+/// The first eight bytes of `key` as a number, the first of them highest. The key has at least eight.
 #[inline(always)]
 fn first_word(key: &[u8]) -> u64
     requires { 8 ≤ length key.now }

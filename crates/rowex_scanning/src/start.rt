@@ -35,8 +35,9 @@ pub(crate) struct SearchEnd {
     pub mismatch: Option<u16>,
 }
 
-/// Where a scan from a key starts on the way of the key's search, which ended at this leaf. One downwards starts left of the place at
-/// which one upwards does; if the leaf stands there with a key that is not above, it comes first, and the scan goes on left of it.
+/// Where a scan from `key` in this direction starts on `way`, the way of the key's search, which ended at `found`. One downwards starts
+/// left of the place at which one upwards does. If the leaf stands there with a key that is not above, it comes first, and the scan goes
+/// on left of it.
 pub(crate) fn start_from<G: Gate>(
     table: &HotTable,
     seat: &mut TableSeat,
@@ -69,9 +70,10 @@ pub(crate) fn start_from<G: Gate>(
     }
 }
 
-/// Where a scan upwards from a key starts on the way of the key's search, which ended at this leaf. The position at which the leaf's
-/// key differs first parts the range's first key from those of the entries that it affects, and these from all others: so the
-/// scan starts at the first of them, or behind the last.
+/// Where a scan upwards from `key` starts on `way`, the way of the key's search. If that ended at a leaf with the key, it is there.
+///
+/// Else the leaf's key differs first at the position `mismatch`. That parts `key` from the keys of the entries that it affects, and these
+/// from all others. So the scan starts at the first of them, or behind the last.
 fn start_at<G: Gate>(
     table: &HotTable,
     seat: &mut TableSeat,

@@ -22,7 +22,7 @@ impl HotTable {
         self.load_as::<Brand, G>(seat, gate, Act::LoadEpoch { word: 0 }, Location::Epoch)
     }
 
-    /// Makes the epoch the next one, if it finds the expected one, from 1 to 2^60 - 2; answers the epoch that it found.
+    /// Makes the epoch `expected + 1`, if it finds it to be `expected`, which is from 1 to 2^60 - 2. Returns the epoch that it found.
     pub fn advance<G: Gate>(&self, seat: &mut TableSeat, gate: &mut G, expected: u64) -> u64
         requires own { IsSeatOf self.now seat.old }
         requires range { (1 ≤ expected) × (expected + 1 < EPOCHS) }
@@ -38,7 +38,7 @@ impl HotTable {
         )
     }
 
-    /// Stores the epoch that the pass loaded last as its pin.
+    /// Stores `word`, the epoch that the pass loaded last, as its pin.
     pub fn set_pin<G: Gate>(&self, seat: &mut TableSeat, gate: &mut G, word: u64)
         requires fits { IsPassOf self.now seat.old }
         requires may { MayStep self.now.layout (λ _. SetPin word) seat.old.known }
@@ -63,7 +63,7 @@ impl HotTable {
         self.store_as::<Brand, G>(seat, gate, Act::ClearPin, Location::Pin(seat.number()), 0);
     }
 
-    /// Loads the pin of a pass.
+    /// Loads the pin of pass `of`, which is 0 where it isn't pinned.
     pub fn load_pin<G: Gate>(&self, seat: &mut TableSeat, gate: &mut G, of: u16) -> u64
         requires own { IsSeatOf self.now seat.old }
         requires range { of < self.now.layout.passes }

@@ -14,7 +14,7 @@ pub fn runs_are_linked<G: Gate>()
     ensures { RunsAreLinked G.becomes }
 {}
 
-/// So do the steps of a call, with whose last one its notes come.
+/// The steps of a call, with whose last one its notes come, stand in one run of the table, too.
 pub fn ends_are_linked<G: Gate>()
     ensures { EndsAreLinked G.becomes }
 {}

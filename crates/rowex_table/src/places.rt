@@ -9,7 +9,7 @@ ghost use Rattle.rowex_table.specs.Rule.{HasEntryPlace};
 use record_words::{EPOCHS, FIRST_ENTRY, Location};
 use rowex_core::{Rec, Spot, Target};
 
-/// The word of a record at this offset.
+/// The location of the word at `offset` of `rec`.
 pub(crate) fn record_place(rec: Rec, offset: u8) -> Location
     ensures { result ≡ word_location rec offset }
 {
@@ -19,7 +19,7 @@ pub(crate) fn record_place(rec: Rec, offset: u8) -> Location
     }
 }
 
-/// The word of the root, or of an entry.
+/// The location of the entry at `spot`: the root, or a word of a node record.
 pub(crate) fn spot_place(spot: Spot) -> Location
     requires { HasEntryPlace spot }
     ensures { result ≡ spot_location spot }
@@ -33,7 +33,7 @@ pub(crate) fn spot_place(spot: Spot) -> Location
     }
 }
 
-/// The word that is locked.
+/// The location of the word by which `target` is locked: the anchor, or a node's state.
 pub(crate) fn target_place(target: Target) -> Location
     ensures { result ≡ target_location target }
 {
@@ -43,7 +43,7 @@ pub(crate) fn target_place(target: Target) -> Location
     }
 }
 
-/// The state word of a record that was retired in this epoch.
+/// The state word of a record that was retired in `epoch`.
 pub(crate) fn obsolete_word(epoch: u64) -> u64
     requires { epoch < EPOCHS }
     ensures { result ≡ state_word (Obsolete epoch) }

@@ -15,7 +15,7 @@ use rowex_core::{Act, Gate, Rec};
 use std::marker::Brand;
 
 impl HotTable {
-    /// The word at which a record begins.
+    /// The word at which `rec` begins.
     pub fn start_of(&self, rec: Rec) -> usize
         requires { HasRecord self.now.layout rec }
         ensures { IsStartOf self.now.layout rec result }
@@ -26,7 +26,7 @@ impl HotTable {
         }
     }
 
-    /// Claims a record, if it finds it free; returns the state word that it found.
+    /// Claims `rec`, if it finds the record free; returns the state word that it found.
     pub fn claim<G: Gate>(&self, seat: &mut TableSeat, gate: &mut G, rec: Rec) -> u64
         requires own { IsSeatOf self.now seat.old }
         requires range { HasRecord self.now.layout rec }
@@ -35,7 +35,7 @@ impl HotTable {
         self.claim_from(seat, gate, rec, self.start_of(rec))
     }
 
-    /// Claims as `claim` does, a record that begins at this word: where its state has been loaded before, its place is known.
+    /// Claims as `claim` does, where `rec` begins at word `start`: if its state has been loaded before, that is known.
     #[inline(always)]
     pub fn claim_from<G: Gate>(
         &self,
@@ -53,7 +53,7 @@ impl HotTable {
         self.exchange_at::<Brand, G>(seat, gate, act, start, free, held)
     }
 
-    /// Stores a word other than the state of a record that the pass holds; offsets are from 1.
+    /// Stores `word` at `offset` of `rec`, which the pass holds. Offsets are from 1, so that it isn't the state.
     pub fn fill<G: Gate>(&self, seat: &mut TableSeat, gate: &mut G, rec: Rec, offset: u8, word: u64)
         requires own { IsSeatOf self.now seat.old }
         requires range { HasRecord self.now.layout rec × IsOffset rec offset × HasWord self.now.layout rec offset }
@@ -63,7 +63,7 @@ impl HotTable {
         self.fill_from(seat, gate, rec, self.start_of(rec), offset, word);
     }
 
-    /// Stores as `fill` does, in a record that begins at this word.
+    /// Stores as `fill` does, where `rec` begins at word `start`.
     #[inline(always)]
     pub fn fill_from<G: Gate>(
         &self,
@@ -84,7 +84,7 @@ impl HotTable {
         self.store_at::<Brand, G>(seat, gate, act, start + offset as usize, word);
     }
 
-    /// Makes a held record live.
+    /// Makes `rec`, which the pass holds, live.
     pub fn ready<G: Gate>(&self, seat: &mut TableSeat, gate: &mut G, rec: Rec)
         requires own { IsSeatOf self.now seat.old }
         requires range { HasRecord self.now.layout rec }
@@ -95,7 +95,7 @@ impl HotTable {
         self.store_as::<Brand, G>(seat, gate, act, state, pack_state(Tag::Live));
     }
 
-    /// Makes a held record free.
+    /// Makes `rec`, which the pass holds, free.
     pub fn release<G: Gate>(&self, seat: &mut TableSeat, gate: &mut G, rec: Rec)
         requires own { IsSeatOf self.now seat.old }
         requires range { HasRecord self.now.layout rec }
@@ -106,7 +106,7 @@ impl HotTable {
         self.store_as::<Brand, G>(seat, gate, act, state, pack_state(Tag::Free));
     }
 
-    /// Loads a word of a record that is neither its state nor an entry.
+    /// Loads the word at `offset` of `rec`, which is neither its state nor an entry.
     pub fn load_fixed<G: Gate>(
         &self,
         seat: &mut TableSeat,
@@ -121,7 +121,7 @@ impl HotTable {
         self.load_fixed_from(seat, gate, rec, self.start_of(rec), offset)
     }
 
-    /// Loads as `load_fixed` does, of a record that begins at this word: for several loads its place is found once.
+    /// Loads as `load_fixed` does, where `rec` begins at word `start`: for several loads that is found once.
     #[inline(always)]
     pub fn load_fixed_from<G: Gate>(
         &self,
@@ -141,7 +141,7 @@ impl HotTable {
         self.load_at::<Brand, G>(seat, gate, act, start + offset as usize)
     }
 
-    /// Makes a record obsolete that the pass has unlinked, in the epoch that the pass loaded last.
+    /// Makes `rec`, which the pass has unlinked, obsolete in `epoch`, which the pass loaded last.
     pub fn mark<G: Gate>(&self, seat: &mut TableSeat, gate: &mut G, rec: Rec, epoch: u64)
         requires own { IsSeatOf self.now seat.old }
         requires range { HasRecord self.now.layout rec × (epoch < EPOCHS) }
@@ -157,7 +157,7 @@ impl HotTable {
         );
     }
 
-    /// Loads the state of a record.
+    /// Loads the state word of `rec`.
     pub fn load_state<G: Gate>(&self, seat: &mut TableSeat, gate: &mut G, rec: Rec) -> u64
         requires own { IsSeatOf self.now seat.old }
         requires range { HasRecord self.now.layout rec }
@@ -166,7 +166,7 @@ impl HotTable {
         self.load_state_from(seat, gate, rec, self.start_of(rec))
     }
 
-    /// Loads as `load_state` does, of a record that begins at this word: a walk over records knows where each begins.
+    /// Loads as `load_state` does, where `rec` begins at word `start`: a walk over records knows where each begins.
     #[inline(always)]
     pub fn load_state_from<G: Gate>(
         &self,
@@ -183,7 +183,7 @@ impl HotTable {
         self.load_at::<Brand, G>(seat, gate, act, start)
     }
 
-    /// Makes a record free, if it finds it obsolete in this epoch; returns the state word that it found.
+    /// Makes `rec` free, if it finds the record obsolete in `epoch`; returns the state word that it found.
     pub fn give_back<G: Gate>(
         &self,
         seat: &mut TableSeat,
@@ -199,7 +199,7 @@ impl HotTable {
         self.give_back_from(seat, gate, rec, self.start_of(rec), epoch)
     }
 
-    /// Gives back as `give_back` does, a record that begins at this word: where its state has been loaded before, its place is known.
+    /// Gives back as `give_back` does, where `rec` begins at word `start`: if its state has been loaded before, that is known.
     #[inline(always)]
     pub fn give_back_from<G: Gate>(
         &self,

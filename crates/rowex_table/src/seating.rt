@@ -14,7 +14,8 @@ use std::alloc::{AllocError, Global};
 use std::marker::Brand;
 
 impl HotTable {
-    /// A table with an empty index, and the seats of its passes in the order of their numbers, which go from 0 on.
+    /// A table of `layout` with an empty index, and the seats of its passes in the order of their numbers, which go from 0 on. An error
+    /// if memory is refused.
     pub fn new(alloc: Global, layout: Layout) -> Result<(HotTable, Vec<TableSeat>), AllocError>
         ensures table { IfOk result (λ made. made.0.layout ≡ layout) }
         ensures count { IfOk result (λ made. length made.1.items ≡ layout.passes) }
@@ -37,7 +38,8 @@ impl HotTable {
         Ok((HotTable { table, origins }, seats))
     }
 
-    /// Two passes meet: both have then seen the changes and the steps as they are now. It makes no event.
+    /// Two passes meet: both have then seen the changes and the steps as they are now. Returns their seats, that of `first` first. It
+    /// makes no event.
     pub fn meet_seats(&self, first: TableSeat, second: TableSeat) -> (TableSeat, TableSeat)
         requires { IsSeatOf self.now first × IsSeatOf self.now second }
         ensures own { IsSeatOf self.now result.0 × IsSeatOf self.now result.1 }
@@ -49,7 +51,7 @@ impl HotTable {
         self.meet_as::<Brand>(first, second)
     }
 
-    /// `meet_seats`, at a table of the layout that `Q` names.
+    /// Does what `meet_seats` does, at a table of the layout that `Q` names.
     fn meet_as<Q: Step>(&self, first: TableSeat, second: TableSeat) -> (TableSeat, TableSeat)
         requires own { IsSeatOf self.now first × IsSeatOf self.now second }
         requires layout { Q.layout ≡ Some self.now.layout }

@@ -18,7 +18,7 @@ use rowex_core::{Act, Gate, Spot, Target};
 use std::marker::Brand;
 
 impl HotTable {
-    /// Loads the root or an entry word.
+    /// Loads the word of the entry at `spot`, which is the root or a place of a node.
     pub fn load_ref<G: Gate>(&self, seat: &mut TableSeat, gate: &mut G, spot: Spot) -> u64
         requires own { IsSeatOf self.now seat.old }
         requires range { HasSpot self.now.layout spot }
@@ -27,7 +27,7 @@ impl HotTable {
         self.load_as::<Brand, G>(seat, gate, Act::LoadRef { spot, word: 0 }, spot_place(spot))
     }
 
-    /// Loads an entry word of a node's record, which begins at this word.
+    /// Loads the word of entry `entry` of node `node`, whose record begins at word `start`.
     #[inline(always)]
     pub fn load_slot_from<G: Gate>(
         &self,
@@ -47,7 +47,7 @@ impl HotTable {
         self.load_at::<Brand, G>(seat, gate, Act::LoadRef { spot, word: 0 }, address)
     }
 
-    /// Locks the anchor or a node, if it finds it live; answers the state word that it found.
+    /// Locks `target`, the anchor or a node, if it finds that live; returns the state word that it found.
     pub fn lock<G: Gate>(&self, seat: &mut TableSeat, gate: &mut G, target: Target) -> u64
         requires own { IsSeatOf self.now seat.old }
         requires range { IsInTable self.now.layout (target_word target) }
@@ -59,7 +59,7 @@ impl HotTable {
         self.exchange_as::<Brand, G>(seat, gate, act, target_place(target), live, locked)
     }
 
-    /// Makes what the pass has locked live.
+    /// Makes `target` live, which the pass has locked.
     pub fn unlock<G: Gate>(&self, seat: &mut TableSeat, gate: &mut G, target: Target)
         requires own { IsSeatOf self.now seat.old }
         requires range { IsInTable self.now.layout (target_word target) }
@@ -70,7 +70,7 @@ impl HotTable {
         self.store_as::<Brand, G>(seat, gate, act, target_place(target), live);
     }
 
-    /// Stores the root or an entry word under its lock: the one step that changes the map.
+    /// Stores `word` at `spot`, the root or an entry, under its lock: the one step that changes the map.
     pub fn publish<G: Gate>(&self, seat: &mut TableSeat, gate: &mut G, spot: Spot, word: u64)
         requires own { IsSeatOf self.now seat.old }
         requires range { HasSpot self.now.layout spot }

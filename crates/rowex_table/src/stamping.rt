@@ -42,7 +42,7 @@ impl HotTable {
         TableStamp { seat }
     }
 
-    /// The pass sees the changes and the steps as they are now, and with them all that the stamp tells of. It makes no event.
+    /// The pass sees the changes and the steps as they are now, and with them all that `stamp` tells of. It makes no event.
     pub fn follow_stamp(&self, seat: &mut TableSeat, stamp: TableStamp)
         requires { IsSeatOf self.now seat.old × IsStampOf self.now stamp }
         ensures same { IsOneSeat seat.old seat.new }
@@ -53,7 +53,7 @@ impl HotTable {
         self.follow_as::<Brand>(seat, stamp);
     }
 
-    /// `follow_stamp`, at a table of the layout that `Q` names.
+    /// Does what `follow_stamp` does, at a table of the layout that `Q` names.
     fn follow_as<Q: Step>(&self, seat: &mut TableSeat, stamp: TableStamp)
         requires own { IsSeatOf self.now seat.old × IsStampOf self.now stamp }
         requires layout { Q.layout ≡ Some self.now.layout }

@@ -13,7 +13,7 @@ use record_words::Location;
 use rowex_core::{Act, Event, Gate};
 
 impl HotTable {
-    /// A load of the word at this location, as this act; the answer is the word.
+    /// Loads the word at `location` as the step `act`, of which `gate` is told, and returns the word.
     pub(crate) fn load_as<Q: Step, G: Gate>(
         &self,
         seat: &mut TableSeat,
@@ -30,7 +30,7 @@ impl HotTable {
         self.load_at::<Q, G>(seat, gate, act, self.origins.address(location))
     }
 
-    /// The same of the word at this address.
+    /// Loads as `load_as` does, the word at `address`.
     pub(crate) fn load_at<Q: Step, G: Gate>(
         &self,
         seat: &mut TableSeat,
@@ -52,7 +52,7 @@ impl HotTable {
         word
     }
 
-    /// A store to the word at this location, as this act.
+    /// Stores `new` to the word at `location` as the step `act`, of which `gate` is told.
     pub(crate) fn store_as<Q: Step, G: Gate>(
         &self,
         seat: &mut TableSeat,
@@ -70,7 +70,7 @@ impl HotTable {
         self.store_at::<Q, G>(seat, gate, act, self.origins.address(location), new);
     }
 
-    /// The same to the word at this address.
+    /// Stores as `store_as` does, to the word at `address`.
     pub(crate) fn store_at<Q: Step, G: Gate>(
         &self,
         seat: &mut TableSeat,
@@ -91,7 +91,8 @@ impl HotTable {
         tell(gate, seat, act);
     }
 
-    /// An exchange of the word at this location from `old` to `new`, as this act; the answer is the word that it found.
+    /// Exchanges the word at `location` for `new`, if it is `old`, as the step `act`, of which `gate` is told. Returns the word that it
+    /// found.
     pub(crate) fn exchange_as<Q: Step, G: Gate>(
         &self,
         seat: &mut TableSeat,
@@ -110,7 +111,7 @@ impl HotTable {
         self.exchange_at::<Q, G>(seat, gate, act, self.origins.address(location), old, new)
     }
 
-    /// The same of the word at this address.
+    /// Exchanges as `exchange_as` does, the word at `address`.
     pub(crate) fn exchange_at<Q: Step, G: Gate>(
         &self,
         seat: &mut TableSeat,
@@ -135,7 +136,7 @@ impl HotTable {
     }
 }
 
-/// Tells the gate of the step that the pass of this seat has just made.
+/// Tells `gate` of the step `act`, which the pass of `seat` has just made.
 fn tell<G: Gate>(gate: &mut G, seat: &TableSeat, act: Act)
     ensures { G.becomes gate.old (record { pass = seat.now.known.pass; act = act }) gate.new }
 {
@@ -143,7 +144,7 @@ fn tell<G: Gate>(gate: &mut G, seat: &TableSeat, act: Act)
     gate.at(&Event { pass, act });
 }
 
-/// The act with the word that its step found. A store finds none.
+/// `act` with `word` as what its step found. A store finds none, and its act stays as it is.
 fn finding(act: Act, word: u64) -> Act
     ensures { result ≡ found_by act word }
 {

@@ -8,7 +8,8 @@ pub fn insert_at_spot()
     ensures { InsertAtSpot }
 {}
 
-/// Up from a locked node whose place alone is affected, each node above is so too.
+/// If an insertion at `p` affects only the place of the node below in a locked node, the locked node's first fork is before `p`. So the
+/// node above it needs no check but that its entry names it.
 pub fn upper_goes_on()
     ensures { UpperGoesOn }
 {}

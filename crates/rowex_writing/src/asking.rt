@@ -10,7 +10,7 @@ use finite_map::{Call, Reply};
 use key_bits::Key;
 use rowex_reading::Found;
 
-/// The key of a call.
+/// The key of `call`.
 pub(crate) fn key_of(call: &Call) -> &Key
     ensures { result.now ≡ the_key call.now }
 {
@@ -20,7 +20,8 @@ pub(crate) fn key_of(call: &Call) -> &Key
     }
 }
 
-/// The value that a call gives its key, which has this value, or none; 0 if it gives none.
+/// The value that `call` gives its key, whose value is `held`, or which is absent (`None`). It is 0 for a get, a removal, and an addition
+/// to an absent key, which give none.
 pub(crate) fn value_in(call: &Call, held: Option<u64>) -> u64
     ensures { result ≡ the_value_in call.now held }
 {
@@ -32,7 +33,7 @@ pub(crate) fn value_in(call: &Call, held: Option<u64>) -> u64
     }
 }
 
-/// The value that a search found for its key.
+/// The value of the key of a search that ended at `found`; `None` if it found nothing, or a leaf with another key.
 pub(crate) fn value_of(found: Found) -> Option<u64>
     ensures { result ≡ the_value found }
 {
@@ -46,8 +47,8 @@ pub(crate) fn value_of(found: Found) -> Option<u64>
     }
 }
 
-/// What a call aims at whose key has this value, or none. A get, a call that expects another value, and an addition to an absent key
-/// aim at nothing.
+/// What `call` aims at when its key has the value `held`, or is absent (`None`). It is `None` for a get, for a call that expects another
+/// value, and for an addition to an absent key.
 pub(crate) fn aim_of(call: &Call, held: Option<u64>) -> Option<Aim>
     ensures { result ≡ the_aim call.now held }
 {
@@ -62,7 +63,7 @@ pub(crate) fn aim_of(call: &Call, held: Option<u64>) -> Option<Aim>
     }
 }
 
-/// The aim of a call that expects a value, if its key has it.
+/// `aim`, if the key has the value `expected`; `None` if `held` is another value, or the key is absent.
 fn aim_where(expected: u64, held: Option<u64>, aim: Aim) -> Option<Aim>
     ensures { result ≡ the_aim_where expected held aim }
 {
@@ -72,7 +73,7 @@ fn aim_where(expected: u64, held: Option<u64>, aim: Aim) -> Option<Aim>
     }
 }
 
-/// The reply to a call whose key has this value, or none.
+/// The reply to `call` when its key has the value `held` before it, or is absent (`None`).
 pub(crate) fn reply_to(call: &Call, held: Option<u64>) -> Reply
     ensures { result ≡ the_reply call.now held }
 {

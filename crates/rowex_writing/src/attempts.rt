@@ -52,10 +52,14 @@ pub enum TryFault {
     FullLeaves,
 }
 
-/// Makes one attempt: searches for the key and answers, where nothing is to change; or else locks what it wants to change, each
-/// once, checks that it still stands as the search found it, and makes the change by one store. Where it tries no lock, it makes at
-/// most 58 atomic steps, and 26 for each node on the key's way; else at most 124, 26 for each such node, 297 for each lock that it
-/// tries, four for each leaf record and two for each node record.
+/// Makes one attempt at `call` and returns the reply. It searches for the key, locks what is to change, each once, checks that this
+/// stands as found, and changes it by one store. A call with nothing to change locks nothing. Where another pass is at work, or no record
+/// is free, nothing is changed, and the fault tells which.
+///
+/// `way` is filled with the nodes that the search went through; `build` keeps the records that the change makes.
+///
+/// Where it tries no lock, it makes at most 58 atomic steps, and 26 for each node on the key's way. Else it makes at most 124, and 26 for
+/// each such node. To these come 297 for each lock that it tries, four for each leaf record and two for each node record.
 pub fn attempt<G: Gate>(
     table: &HotTable,
     seat: &mut TableSeat,
@@ -101,7 +105,8 @@ pub fn attempt<G: Gate>(
     }
 }
 
-/// Makes the change of a plan, unless another pass is at work where it is to be made, or no record is free.
+/// Makes the change `deed` that is planned for the span of `job`. Where another pass is at work there, or no record is free, nothing is
+/// changed, and the fault tells which.
 fn try_plan<G: Gate>(
     table: &HotTable,
     seat: &mut TableSeat,
@@ -133,7 +138,8 @@ fn try_plan<G: Gate>(
     }
 }
 
-/// Makes the change of a plan whose nodes are locked and checked, as [`make_change`] and [`make_removal`] do.
+/// Makes the change `deed` at a span whose nodes are locked and checked. If no record was free, it is undone, and the kind of record is
+/// returned.
 fn change_taken<G: Gate>(
     table: &HotTable,
     seat: &mut TableSeat,
@@ -154,7 +160,8 @@ fn change_taken<G: Gate>(
     }
 }
 
-/// Makes a removal: where the leaf's node has one above it on the way, as [`make_removal`] does.
+/// Makes a removal whose nodes are locked and checked: by [`make_removal`] if the leaf's node has one above it on the way, else by
+/// [`make_change`]. If no node record was free, it is undone, and `Full::Nodes` is returned.
 fn take_away<G: Gate>(
     table: &HotTable,
     seat: &mut TableSeat,
@@ -174,8 +181,8 @@ fn take_away<G: Gate>(
     make_change(table, seat, gate, build, job, Deed::Take)
 }
 
-/// Makes a removal from a node that has one above it on the way: what is left of the node takes its place, or becomes one with the
-/// node beside it. It is undone if no record was free.
+/// Makes a removal from a node that has one above it on the way. What is left of the node takes its place, or becomes one node with the
+/// node beside it. If no node record was free, the removal is undone, and `Full::Nodes` is returned.
 fn make_removal<G: Gate>(
     table: &HotTable,
     seat: &mut TableSeat,
@@ -202,7 +209,7 @@ fn make_removal<G: Gate>(
     }
 }
 
-/// The end of a removal that is carried out: it merges, or is published as it is.
+/// Ends a removal that is carried out: by a merge with the node beside, or, where that can't be made, by a publish of `raised`.
 fn end_removal<G: Gate>(
     table: &HotTable,
     seat: &mut TableSeat,
@@ -223,8 +230,8 @@ fn end_removal<G: Gate>(
     publish_change(table, seat, gate, build, job, raised);
 }
 
-/// Locks what is to change, and checks that it still stands as the search found it. Where a lock is refused, or something else
-/// stands there now, all locks are given back, and the answer is `false`.
+/// Locks what `job` is to change, and checks that it stands as the search found it. If a lock is refused, or something else stands there,
+/// all locks are given back, and `false` is returned.
 fn take_span<G: Gate>(table: &HotTable, seat: &mut TableSeat, gate: &mut G, job: &Job<'_>) -> bool
     requires own { IsSeatOf table.now seat.old }
     requires possible { IsPossible table.now.layout seat.old.known }
@@ -254,7 +261,8 @@ fn take_span<G: Gate>(table: &HotTable, seat: &mut TableSeat, gate: &mut G, job:
     false
 }
 
-/// Makes the change of a plan whose nodes are locked and checked: it is published, or undone if no record was free.
+/// Makes the change `deed` of a plan whose nodes are locked and checked. It is published; or, if no record was free, undone, and the kind
+/// of record is returned.
 fn make_change<G: Gate>(
     table: &HotTable,
     seat: &mut TableSeat,
@@ -282,7 +290,7 @@ fn make_change<G: Gate>(
     }
 }
 
-/// The refusal of a call for whose change no record of the kind was free.
+/// The fault of an attempt that found no record of the kind `full` free.
 fn refusal_of(full: Full) -> TryFault
     ensures { result ≡ the_refusal full }
 {

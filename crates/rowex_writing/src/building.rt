@@ -59,8 +59,9 @@ pub struct Build {
     pub leaves: [Supply; LEAF_CLASSES],
 }
 
-/// Makes a record for a node; answers its entry, or nothing where no node record was free: the claims try `build.left_nodes` of them at
-/// most, from `build.nodes.next` on, which are all where the change has claimed none before.
+/// Makes a record for `node`, adds it to `build.made`, and returns its entry. `None` if no node record was free.
+///
+/// The claims try `build.left_nodes` records at most, from `build.nodes.next` on. These are all, where the change has claimed none yet.
 pub(crate) fn make_node<G: Gate>(
     table: &HotTable,
     seat: &mut TableSeat,
@@ -83,7 +84,7 @@ pub(crate) fn make_node<G: Gate>(
     make_words(table, seat, gate, build, &words)
 }
 
-/// Makes a record of a node's words, as [`make_node`] does for the node.
+/// Makes a record of `words`, which are those of a node, as [`make_node`] does.
 pub(crate) fn make_words<G: Gate>(
     table: &HotTable,
     seat: &mut TableSeat,
@@ -112,7 +113,7 @@ pub(crate) fn make_words<G: Gate>(
     })
 }
 
-/// The entry that names this node, which is in the record of this number.
+/// The entry that names `node`, which is in node record `number`.
 fn entry_of(number: u32, node: &Node) -> Entry
     ensures { result ≡ Entry.Node number node.now.height }
 {
@@ -122,8 +123,8 @@ fn entry_of(number: u32, node: &Node) -> Entry
     }
 }
 
-/// Makes a record for the node that these words spell with a new leaf, which it can take, as [`make_node`] does. The words become those
-/// of the record, so that no node is read and none is packed.
+/// Makes a record for the node that `words` spell with the leaf `new`, as [`make_node`] does. The node has leaves alone and room for one
+/// more. `words` become those of the record, so that no node is read and none is packed.
 fn make_low<G: Gate>(
     table: &HotTable,
     seat: &mut TableSeat,
@@ -150,7 +151,8 @@ fn make_low<G: Gate>(
     make_words(table, seat, gate, build, words)
 }
 
-/// The entry for a half of what a node became: a node gets a record, and the node that stays whole keeps its own.
+/// The entry for `half`, a side of a cut node. One entry is itself, a new node gets a record, and the node as it was keeps its entry
+/// `old`. `None` if a record was wanted and none was free.
 fn make_half<G: Gate>(
     table: &HotTable,
     seat: &mut TableSeat,
@@ -176,8 +178,8 @@ fn make_half<G: Gate>(
     }
 }
 
-/// What comes in the place of a node that became this, with records for all new nodes: of a cut the upper side's is made
-/// first.
+/// Makes what takes the place of a node with the entry `old` that became `grown`: one entry, or a fork of two for a cut. Each new node
+/// gets a record, that of a cut's 1 side first. `None` if no node record was free.
 fn make_risen<G: Gate>(
     table: &HotTable,
     seat: &mut TableSeat,
@@ -213,8 +215,10 @@ fn make_risen<G: Gate>(
     }
 }
 
-/// What comes in the place of a locked node, when a fork takes the place of the entry that named the node below it. A node with room
-/// gets the fork where it stands, so that no whole node is moved.
+/// Makes what takes the place of the locked node `number` when `fork` takes the place of the entry to which its key leads. It is one
+/// entry, or a fork of two if the node was full. `None` if no node record was free.
+///
+/// A node with room gets the fork where it stands, so that no whole node is moved.
 fn raise_level<G: Gate>(
     table: &HotTable,
     seat: &mut TableSeat,
@@ -248,7 +252,8 @@ fn raise_level<G: Gate>(
     Some(Risen::Whole(entry))
 }
 
-/// What [`make_grown`] makes, by a value of the node: one with room gets the leaf where it stands, so that no whole node is moved.
+/// Makes what [`make_grown`] makes, by a value of the node that is read from `words`. A node with room gets the leaf where it stands, so
+/// that no whole node is moved.
 fn make_by_value<G: Gate>(
     table: &HotTable,
     seat: &mut TableSeat,
@@ -280,8 +285,10 @@ fn make_by_value<G: Gate>(
     Some((Risen::Whole(entry), false))
 }
 
-/// What comes in the place of the node of this record, with these words, that gets a new leaf, and whether the node stays whole. Where
-/// it has leaves alone, and room, no node is read or packed, and no place for one is made.
+/// Makes what takes the place of node `number`, with the words `words`, that gets the leaf `new`: one entry, or a fork of two if full.
+/// The flag tells whether the node stays, as one side of that fork. `None` if no node record was free.
+///
+/// A node of leaves alone with room gets the leaf in `words`. So no node is read or packed, and no place for one is made.
 fn make_grown<G: Gate>(
     table: &HotTable,
     seat: &mut TableSeat,
@@ -307,7 +314,8 @@ fn make_grown<G: Gate>(
     make_by_value(table, seat, gate, build, number, words, new)
 }
 
-/// What comes in the place of the lowest node, which gets a new leaf; and whether the node stays whole.
+/// Makes what takes the place of a span's lowest node that gets a new leaf: one entry, or a fork of two if the node was full. The flag
+/// tells whether the node stays as it is, as one side of that fork. Nothing if no node record was free.
 fn raise_lowest<G: Gate>(
     table: &HotTable,
     seat: &mut TableSeat,
@@ -334,7 +342,7 @@ fn raise_lowest<G: Gate>(
     make_grown(table, seat, gate, build, number, &mut words, new)
 }
 
-/// Whether one half is the old node as it stands.
+/// Whether one side of `grown` is the node that was cut, as it was; `false` if `grown` is one node.
 fn stays_whole(grown: &Grown) -> bool
     ensures { result ≡ keeps_node grown.now }
 {
@@ -344,7 +352,7 @@ fn stays_whole(grown: &Grown) -> bool
     }
 }
 
-/// Whether the half is the old node.
+/// Whether `half` is the node that was cut, as it was.
 fn is_same(half: &Half) -> bool
     ensures { result ≡ is_the_same half.now }
 {
@@ -354,7 +362,8 @@ fn is_same(half: &Half) -> bool
     }
 }
 
-/// The one entry for what has risen: a fork of two gets a node of its own. Inline, for mostly it is the entry already.
+/// The one entry for `risen`: the entry itself, or that of a new node of two for a fork. `None` if no node record was free. Inline, for
+/// mostly it is the entry already.
 #[inline(always)]
 fn settle<G: Gate>(
     table: &HotTable,
@@ -388,7 +397,8 @@ fn settle<G: Gate>(
     }
 }
 
-/// What has risen to the node at `level` of a way, for the key of its search, and is to rise on to the one at `end`.
+/// What has risen to the node at place `level` of a way, for the key of its search. It is to rise on to the node at `end`, which is
+/// `level` or less.
 #[derive(Drop)]
 pub(crate) struct Rise<'a> {
     pub key: &'a Key,
@@ -397,7 +407,8 @@ pub(crate) struct Rise<'a> {
     pub risen: Risen,
 }
 
-/// The one entry that comes in the place of the node at `end`. Inline, for mostly that node is reached.
+/// The one entry that takes the place of the node at `rise.end` of `way`, when `rise.risen` takes the place of the one at `rise.level`.
+/// `None` if no node record was free. Inline, for mostly these are one node.
 #[inline(always)]
 #[cycle(raising)]
 fn raise_on<G: Gate>(
@@ -427,7 +438,7 @@ fn raise_on<G: Gate>(
     raise_above(table, seat, gate, build, way, rise)
 }
 
-/// The same, where the node at `end` is above.
+/// What [`raise_on`] returns where `rise.end` is above `rise.level`. There a fork has risen, which goes into the next node above.
 #[cycle(raising)]
 fn raise_above<G: Gate>(
     table: &HotTable,
@@ -477,8 +488,8 @@ fn raise_above<G: Gate>(
     }
 }
 
-/// The one entry that comes in the place of the topmost node of the span, when its lowest gets a new leaf; and whether that
-/// stays whole. Nothing where no node record was free, as in [`make_node`].
+/// The one entry that takes the place of the topmost node of `job`'s span, when the lowest gets the leaf `new`. The flag tells whether
+/// the lowest node stays as it is. `None` if no node record was free, as in [`make_node`].
 pub(crate) fn raise_grown<G: Gate>(
     table: &HotTable,
     seat: &mut TableSeat,
@@ -515,9 +526,10 @@ pub(crate) fn raise_grown<G: Gate>(
     Some((entry, stays))
 }
 
-/// The entry for what is left of a locked node without the leaf at a place, to which some key's search leads. The node's words become
-/// those of the record, so that no node is read and none is packed; and none is searched, for the way has the place. Nothing where no
-/// node record was free, as in [`make_node`].
+/// The entry for what is left of the locked node `number` without the leaf at place `at`: a new record's, or the only one left. `None` if
+/// no node record was free, as in [`make_node`].
+///
+/// Some key's search leads to the place. The node's words become those of the record, so that no node is read, searched or packed.
 pub(crate) fn raise_without<G: Gate>(
     table: &HotTable,
     seat: &mut TableSeat,

@@ -24,9 +24,9 @@ use rowex_core::{Gate, Spot};
 use rowex_reading::{Found, load_root};
 use rowex_table::{HotTable, TableSeat};
 
-/// Whether each node that is locked for the span, and the root under the anchor's lock, still names what the search found there:
-/// one load each, from the top down. What the search read below the lowest of them needs no second look. Where one names something
-/// else, another pass has made a change since the search loaded the root.
+/// Whether each node that is locked for the span, and the root under the anchor's lock, still names what the search found there. Each is
+/// loaded once, from the top down. What the search read below the lowest of them needs no second look. Where one names something else,
+/// another pass has made a change since the search loaded the root.
 pub(crate) fn check_span<G: Gate>(
     table: &HotTable,
     seat: &mut TableSeat,
@@ -49,7 +49,7 @@ pub(crate) fn check_span<G: Gate>(
     entries_stand(table, seat, gate, job)
 }
 
-/// What names the node at this index of the way; after the last one, what the search ended at.
+/// The entry that names the node at `index` of `way`. Past the last node it is what the search ended at: the leaf found, or `None`.
 pub(crate) fn named_at(way: &[PathNode], found: Found, index: usize) -> Option<Entry>
     ensures { result ≡ named way.now found index }
 {
@@ -66,7 +66,7 @@ pub(crate) fn named_at(way: &[PathNode], found: Found, index: usize) -> Option<E
     }
 }
 
-/// Whether the root has this entry, under the anchor's lock.
+/// Whether the root is `root`, where `None` is empty, by one load under the anchor's lock.
 pub(crate) fn root_stands<G: Gate>(
     table: &HotTable,
     seat: &mut TableSeat,
@@ -86,7 +86,8 @@ pub(crate) fn root_stands<G: Gate>(
     are_same(found, root)
 }
 
-/// Whether each node that is locked for the span has the entry that the search took there.
+/// Whether each node that is locked for `job`'s span has the entry that the search took in it. Each is loaded once, from the top down, up
+/// to the first that has another.
 fn entries_stand<G: Gate>(
     table: &HotTable,
     seat: &mut TableSeat,
@@ -110,7 +111,7 @@ fn entries_stand<G: Gate>(
     true
 }
 
-/// Whether a locked node has this entry at the place that the search took.
+/// Whether the locked node `step.number` has `entry` at place `step.at`, by one load.
 pub(crate) fn entry_stands<G: Gate>(
     table: &HotTable,
     seat: &mut TableSeat,
@@ -137,7 +138,8 @@ pub(crate) fn entry_stands<G: Gate>(
     is_word_of(entry, word)
 }
 
-/// Whether the entry, or none, that has this word is this one. Its word is made and compared, which takes less than to read the other.
+/// Whether `word` is that of `entry`, or 0 for `None`; a node of height 0 has no word. The word of `entry` is made and compared, which
+/// takes less than to read `word`.
 fn is_word_of(entry: Option<Entry>, word: u64) -> bool
     ensures same { result ≡ true → HasEntryWord entry × (entry_word entry ≡ word) }
     ensures differ { result ≡ false → (e : Option EntryValue) → HasEntryWord e → entry_word e ≡ word → e ≢ entry }
@@ -151,7 +153,7 @@ fn is_word_of(entry: Option<Entry>, word: u64) -> bool
     }
 }
 
-/// Whether two entries, or none, are the same.
+/// Whether `one` and `other` are the same entry, or both `None`.
 fn are_same(one: Option<Entry>, other: Option<Entry>) -> bool
     ensures same { result ≡ true → one ≡ other }
     ensures differ { result ≡ false → one ≢ other }

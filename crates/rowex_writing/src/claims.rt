@@ -34,13 +34,13 @@ pub struct Supply {
     pub spare: ArrayVec<u32, MOST_SPARE>,
     /// The number after that of the record that was claimed last, but for spare ones: then claims go on from there.
     pub next: u32,
-    /// How many claims still pass these records by, since the last one found none free, where there are larger ones: as many as there
-    /// are records, so that in the long run a claim looks at one of them.
+    /// How many claims of a leaf record still try these records last, since a claim found none of them free. It begins as the number of
+    /// the records, so that in the long run a claim looks at one of them.
     pub passed_by: u32,
 }
 
 impl Supply {
-    /// A supply of which nothing is known, with claims that begin at this number.
+    /// A supply without spare numbers, whose claims begin at the number `next`.
     pub fn begin_at(next: u32) -> Supply {
         Supply {
             spare: ArrayVec::new(),
@@ -49,7 +49,8 @@ impl Supply {
         }
     }
 
-    /// Lets claims begin with this number, if there is a place for it.
+    /// Adds `number` to the spare ones, with which claims begin; if there is no place for it, it is not kept. Claims don't pass these
+    /// records by then.
     pub fn give_back(&mut self, number: u32) {
         self.passed_by = 0;
         if !self.spare.is_full() {
@@ -58,10 +59,10 @@ impl Supply {
     }
 }
 
-/// Claims a record of a kind; answers its number, or nothing where none was free.
+/// Claims a record of `kind` and returns its number, or `None` if none was free.
 ///
-/// It tries the last of the supply's spare numbers first, which is spare no more, and else each record, from `next` on. Inline, so that no
-/// claim asks of which kind it is.
+/// It tries the last spare number of `supply` first, which is spare no more. Then it tries each record once, from `supply.next` on. That
+/// becomes the number after one claimed so. Inline, so that no claim asks of which kind it is.
 #[inline(always)]
 pub(crate) fn claim_next<G: Gate>(
     table: &HotTable,
@@ -87,8 +88,8 @@ pub(crate) fn claim_next<G: Gate>(
     Some(number)
 }
 
-/// Tries the last of the spare numbers, which is spare no more; answers it, if the pass has claimed its record. Inline, so that no claim
-/// asks of which kind it is.
+/// Takes the last number out of `spare`, and returns it if the pass could claim its record. `None` if it couldn't, or if `spare` was
+/// empty. Inline, so that no claim asks of which kind it is.
 #[inline(always)]
 pub(crate) fn claim_spare<G: Gate>(
     table: &HotTable,
@@ -111,10 +112,10 @@ pub(crate) fn claim_spare<G: Gate>(
     None
 }
 
-/// Claims a leaf record that has so many words at least; answers its number, or nothing where none was free.
+/// Claims a leaf record of at least `words` words and returns its number, or `None` if none was free.
 ///
-/// The classes of records with so many words are tried one after the other, the smallest first; but those of the smallest in which none
-/// was found free lately come after the others.
+/// The classes of records that are large enough are tried one after the other, the smallest first. But the smallest ones that are to be
+/// passed by come after the others.
 pub(crate) fn claim_leaf<G: Gate>(
     table: &HotTable,
     seat: &mut TableSeat,
@@ -142,7 +143,8 @@ pub(crate) fn claim_leaf<G: Gate>(
     Some(number)
 }
 
-/// The number of the first leaf record, from this one on, whose class the next claim doesn't pass by.
+/// The number of the first leaf record, from `first` on, whose class is not to be passed by; `layout.leaves` if there is none. Each class
+/// passed by is so for one claim less afterwards.
 fn pass_by(layout: Layout, classes: &mut [Supply; LEAF_CLASSES], first: u32) -> u32
     requires { first ≤ layout.leaves }
     ensures { (first ≤ result) × (result ≤ layout.leaves) }
@@ -159,8 +161,9 @@ fn pass_by(layout: Layout, classes: &mut [Supply; LEAF_CLASSES], first: u32) -> 
     from
 }
 
-/// Claims one of the leaf records from one number on and below another, of the smallest class that has one free; answers its number.
-/// Inline, for it is known then of which class the first of them is.
+/// Claims one of the leaf records from number `from` on and below `upto`, of the smallest class that has one free, and returns its
+/// number. `None` if none was free. A class with none free is to be passed by afterwards. Inline, for it is known then of which class the
+/// first of them is.
 #[inline(always)]
 fn claim_between<G: Gate>(
     table: &HotTable,
@@ -194,10 +197,10 @@ fn claim_between<G: Gate>(
     None
 }
 
-/// Claims a node record; answers its number, or nothing where each was found not free since the change began to claim them.
+/// Claims a node record and returns its number, or `None` if each was found not free since the change began to claim them.
 ///
-/// All claims of a change try each node record once at most, spare ones aside. Where none is left to try, each was found not free
-/// or is one of those that the change has made, and these are looked at now.
+/// All claims of a change try each node record once at most, spare ones aside. Where none is left to try, each was found not free, or the
+/// change has made it. Those that it has made are looked at now.
 pub(crate) fn claim_node<G: Gate>(
     table: &HotTable,
     seat: &mut TableSeat,
@@ -223,7 +226,7 @@ pub(crate) fn claim_node<G: Gate>(
     None
 }
 
-/// Looks at the records that the pass has made: each is found not free.
+/// Loads the states of the records `made`, which the pass has made: each is found not free.
 fn look_at<G: Gate>(table: &HotTable, seat: &mut TableSeat, gate: &mut G, made: &[Rec])
     requires building { (news : List Made) × IsBuilding table.now seat.old made.now news }
     ensures goes { WorksOn table.now G.becomes (seat.old, gate.old) (seat.new, gate.new) }
@@ -237,10 +240,10 @@ fn look_at<G: Gate>(table: &HotTable, seat: &mut TableSeat, gate: &mut G, made: 
     }
 }
 
-/// Claims the next node record of the walk that is free; answers its number, or nothing where none of those left was.
+/// Claims the next free node record of the walk and returns its number, or `None` if none of those left was free.
 ///
-/// It tries the last of the supply's spare numbers first, which is spare no more, and else each record once, from `next` on, but no
-/// more than `left`, which is then less by those that were tried.
+/// It tries the last spare number of `supply` first, which is spare no more. Then it tries each record once, from `supply.next` on,
+/// `left` at most, which is then less by those that were tried.
 fn claim_left<G: Gate>(
     table: &HotTable,
     seat: &mut TableSeat,

@@ -19,8 +19,8 @@ use rowex_core::Gate;
 use rowex_reading::Found;
 use rowex_table::{HotTable, TableSeat};
 
-/// What a change is made by: the way of the search and what it found at its end, and which nodes of the way get others in their
-/// place.
+/// What a change is made by: the way of the search for `key`, what it found, and the value that `key` is to get. `span` says which nodes
+/// of the way get others in their place.
 #[derive(Drop)]
 pub(crate) struct Job<'a> {
     pub way: &'a [PathNode],
@@ -33,16 +33,16 @@ pub(crate) struct Job<'a> {
 /// What comes in the place of a span's nodes.
 #[derive(Clone, Copy)]
 pub(crate) struct Raised {
-    /// The entry, or none where the root is to be empty.
+    /// The entry; `None` if the root is to be empty.
     pub entry: Option<Entry>,
-    /// The nodes of the span from here on stay: the lowest, or none.
+    /// The index on the way from which on nodes of the span stay: that of the lowest, or the span's `len` if none stays.
     pub low: usize,
-    /// The leaf that goes, too.
+    /// The number of the leaf record that the change unlinks, if it unlinks one.
     pub leaf: Option<u32>,
 }
 
-/// Does what is planned, as far as other passes don't see it: makes the records of the change. The nodes of the span are locked and
-/// checked.
+/// Makes the records of the change `deed`, which other passes don't see, and returns what is to take the place of the span's nodes. If no
+/// record was free, the kind is returned. The nodes of the span are locked and checked.
 pub(crate) fn carry_out<G: Gate>(
     table: &HotTable,
     seat: &mut TableSeat,
@@ -63,7 +63,8 @@ pub(crate) fn carry_out<G: Gate>(
     }
 }
 
-/// The new leaf takes the place of what the search found: nothing, or the leaf that has the key.
+/// Makes the new leaf, which is to take the place of what the search found: nothing, or the leaf that has the key. `Full::Leaves` if no
+/// leaf record with room was free.
 pub(crate) fn put_leaf<G: Gate>(
     table: &HotTable,
     seat: &mut TableSeat,
@@ -84,7 +85,7 @@ pub(crate) fn put_leaf<G: Gate>(
     })
 }
 
-/// The leaf that the search found, if any.
+/// The number of the leaf record in `found`, which a search found; `None` if it found nothing.
 fn found_leaf(found: Found) -> Option<u32>
     ensures { leaf_gone result ≡ leaf_found found }
 {
@@ -94,7 +95,8 @@ fn found_leaf(found: Found) -> Option<u32>
     }
 }
 
-/// A new node of the found leaf and the new one, with a fork at the position, takes the found leaf's place.
+/// Makes the new leaf, and a node of it and the found leaf with a fork at `position`. That node is to take the found leaf's place. If no
+/// leaf record with room or no node record was free, that kind is returned.
 pub(crate) fn push_down<G: Gate>(
     table: &HotTable,
     seat: &mut TableSeat,

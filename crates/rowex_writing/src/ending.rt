@@ -15,8 +15,8 @@ use rowex_core::{Gate, Rec, Target};
 use rowex_records::give_up_all;
 use rowex_table::{HotTable, TableSeat};
 
-/// Straight after a publish: marks the records `gone` that it has unlinked, in the epoch as it is now, and unlocks the nodes
-/// `kept`, the first one first, and then the anchor, where that is locked. The pass has no record and no lock then.
+/// Straight after a publish: loads the epoch, and marks with it the records `gone`, which the publish has unlinked. Then it unlocks the
+/// nodes `kept`, the first one first, and the anchor, if `anchor` says that it is locked. The pass has no record and no lock then.
 pub(crate) fn retire<G: Gate>(
     table: &HotTable,
     seat: &mut TableSeat,
@@ -43,8 +43,8 @@ pub(crate) fn retire<G: Gate>(
     }
 }
 
-/// Takes a change back that was not published: gives up the records `held`, which are all that the pass has, and unlocks the
-/// nodes of the span and the one above them, or the anchor where they go up to the root, which are all that it has locked.
+/// Takes a change back that was not published: gives up the records `held`, which are all that the pass has. Then it unlocks the nodes of
+/// `span` and the one above them, or the anchor if `span.end` is 0. These are all that the pass has locked.
 pub(crate) fn undo<G: Gate>(
     table: &HotTable,
     seat: &mut TableSeat,
@@ -71,7 +71,7 @@ pub(crate) fn undo<G: Gate>(
     }
 }
 
-/// Marks all records that the pass has unlinked, in the epoch that it has just loaded.
+/// Marks the records `recs`, all that the pass has unlinked, with `epoch`, which it has just loaded.
 fn mark_all<G: Gate>(table: &HotTable, seat: &mut TableSeat, gate: &mut G, recs: &[Rec], epoch: u64)
     requires own { IsSeatOf table.now seat.old }
     requires records { AreInTable table.now.layout recs.now }

@@ -20,7 +20,8 @@ use compound_node::Entry;
 use rowex_core::Gate;
 use rowex_table::{HotTable, TableSeat};
 
-/// The lowest node of the span gets the new leaf, and what comes of that takes the place of the topmost.
+/// Makes the new leaf and puts it into the lowest node of the span, beside the entries that `position` affects. Returns what is to take
+/// the place of the topmost, or the kind of record of which none was free.
 pub(crate) fn grow_node<G: Gate>(
     table: &HotTable,
     seat: &mut TableSeat,
@@ -44,7 +45,8 @@ pub(crate) fn grow_node<G: Gate>(
     grow_with(table, seat, gate, build, job, &new)
 }
 
-/// The lowest node of the span gets the leaf, of which the record is made.
+/// Puts the leaf `new`, whose record is made, into the lowest node of the span. Returns what is to take the place of the topmost, or
+/// `Full::Nodes` if no node record was free.
 fn grow_with<G: Gate>(
     table: &HotTable,
     seat: &mut TableSeat,
@@ -75,7 +77,7 @@ fn grow_with<G: Gate>(
     })
 }
 
-/// The number of an entry's record has 32 bits, as its type says. The function does nothing else than to tell it.
+/// The number of the record of `entry` has 32 bits, as its type says. The function does nothing else than to tell it.
 pub(crate) fn has_number(entry: Entry)
     ensures { HasNumber entry }
 {

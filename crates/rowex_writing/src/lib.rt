@@ -24,8 +24,8 @@
 //!
 //! # What carries the proof
 //!
-//! A locked node's words stay as they are, so what was loaded under the locks is true at the store. `rowex_rights` has for each case
-//! of a change the law that allows the store: from the words of the locked nodes and of the new records to a lawful next version,
+//! A locked node's words stay as they are, so what was loaded under the locks is true at the store. `rowex_rights` has for each case of
+//! a change the law that allows the store. It leads from the words of the locked nodes and of the new records to a lawful next version,
 //! which differs by one key. A pass recalls what its loads have shown, whatever others publish elsewhere.
 //!
 //! Nobody waits for a lock while holding one, so no order of locks can block. Lowest first means that those that more passes want

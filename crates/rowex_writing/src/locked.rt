@@ -21,8 +21,8 @@ use record_words::{
 use rowex_core::{Gate, Rec, Spot};
 use rowex_table::{HotTable, TableSeat};
 
-/// Loads the words of a node that the pass has locked, from offset 1 on: those of the lock. Words of entries are loaded by eight, as far
-/// as there are entries. Those behind are 0, as all of these are before.
+/// Loads the words of the locked node `number`, all but its state, into `words`, which are 0 before. Words of entries are loaded by
+/// eight, as far as there are entries; those behind stay 0.
 pub(crate) fn load_words<G: Gate>(
     table: &HotTable,
     seat: &mut TableSeat,
@@ -50,7 +50,8 @@ pub(crate) fn load_words<G: Gate>(
     load_eight(table, seat, gate, number, start, words, 49, end);
 }
 
-/// Loads the sparse partial key at a place of a locked node, whose record begins at `start`; 4,294,967,295 past the last one.
+/// Loads the sparse partial key at place `at` of the locked node `number`, whose record begins at `start`. It is 4,294,967,295 past the
+/// last one.
 #[inline(always)]
 fn load_row<G: Gate>(
     table: &HotTable,
@@ -74,8 +75,8 @@ fn load_row<G: Gate>(
     row_of(load_word(table, seat, gate, number, start, index), at)
 }
 
-/// The place beside one of a locked node, and the column of the fork between the two; none where the other side of the last fork on
-/// the path has several places. Four sparse partial keys are loaded, and not the head.
+/// The place beside place `at` of the locked node `number`, and the column of the fork between the two. `None` if the other side of the
+/// last fork on the path to `at` has several places. At most four sparse partial keys are loaded, and not the head.
 pub(crate) fn load_beside<G: Gate>(
     table: &HotTable,
     seat: &mut TableSeat,
@@ -98,7 +99,7 @@ pub(crate) fn load_beside<G: Gate>(
     place_beside(at, before, own, after, second)
 }
 
-/// Loads the position of a column of a locked node.
+/// Loads the position of column `column` of the locked node `number`.
 pub(crate) fn load_position<G: Gate>(
     table: &HotTable,
     seat: &mut TableSeat,
@@ -118,7 +119,7 @@ pub(crate) fn load_position<G: Gate>(
     position_of(load_word(table, seat, gate, number, start, index), column)
 }
 
-/// Loads the entry at a place that a locked node has.
+/// Loads the entry at `place` of the locked node `number`, which has that place.
 pub(crate) fn load_place<G: Gate>(
     table: &HotTable,
     seat: &mut TableSeat,
@@ -141,8 +142,8 @@ pub(crate) fn load_place<G: Gate>(
     read_some(table.load_ref(seat, gate, spot))
 }
 
-/// Loads eight words of a locked node, whose record begins at `start`, to these places: those from this index on, if there are entries among
-/// them, as the words of these end before `end`. Inline, so that it is known where each stands.
+/// Loads eight words of the locked node `number`, whose record begins at `start`, into `words` from index `first` on. If `first` isn't
+/// before `end`, where the words of the node's entries end, none is loaded. Inline, so that it is known where each stands.
 #[inline(always)]
 fn load_eight<G: Gate>(
     table: &HotTable,
@@ -168,7 +169,7 @@ fn load_eight<G: Gate>(
     }
 }
 
-/// The node in a record that the pass has locked.
+/// The node in record `number`, which the pass has locked.
 pub(crate) fn read_locked<G: Gate>(
     table: &HotTable,
     seat: &mut TableSeat,
@@ -187,7 +188,8 @@ pub(crate) fn read_locked<G: Gate>(
     read_node(&words)
 }
 
-/// One word of a locked node, of those after its state; its record begins at `start`. Inline, so that neither loop over the words tests which they are.
+/// Loads the word at `index` of the locked node `number`, counted from 0 behind its state. The record begins at `start`. Inline, so that
+/// neither loop over the words tests which they are.
 #[inline(always)]
 fn load_word<G: Gate>(
     table: &HotTable,

@@ -12,9 +12,9 @@ use record_words::{Tag, pack_state};
 use rowex_core::{Gate, Target};
 use rowex_table::{HotTable, TableSeat};
 
-/// Locks the nodes of a span of the way, and the one above it that gets the new entry: from the lowest upwards, and the anchor
-/// last where the span goes up to the root. Each is tried once at most. Where another pass has locked one or has retired it, those
-/// that were locked are given back, and the answer is `false`.
+/// Locks the nodes of `span` and the one above it that gets the new entry, from the lowest upwards. The anchor comes last, where the span
+/// goes up to the root. Each is tried once at most. If another pass has locked one or has retired it, those that were locked are given
+/// back, and `false` is returned.
 pub(crate) fn lock_span<G: Gate>(
     table: &HotTable,
     seat: &mut TableSeat,
@@ -57,7 +57,7 @@ pub(crate) fn lock_span<G: Gate>(
     false
 }
 
-/// Locks a node that the pass may lock, if it is live.
+/// Locks node `number`, which the pass may lock, if it is live; returns whether it was.
 pub(crate) fn lock_node<G: Gate>(
     table: &HotTable,
     seat: &mut TableSeat,
@@ -77,7 +77,7 @@ pub(crate) fn lock_node<G: Gate>(
     found == pack_state(Tag::Live)
 }
 
-/// Locks the anchor, if it is live.
+/// Locks the anchor, if no pass has locked it; returns whether that was so.
 pub(crate) fn lock_anchor<G: Gate>(table: &HotTable, seat: &mut TableSeat, gate: &mut G) -> bool
     requires own { IsSeatOf table.now seat.old }
     requires free { seat.old.known.anchor ≡ None }
@@ -90,7 +90,7 @@ pub(crate) fn lock_anchor<G: Gate>(table: &HotTable, seat: &mut TableSeat, gate:
     found == pack_state(Tag::Live)
 }
 
-/// Unlocks the nodes of a part of the way, the first one first: all that the pass has locked, but the anchor.
+/// Unlocks the nodes `steps`, the first one first. They are all that the pass has locked, but for the anchor.
 pub(crate) fn unlock_nodes<G: Gate>(
     table: &HotTable,
     seat: &mut TableSeat,

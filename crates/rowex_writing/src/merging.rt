@@ -47,9 +47,11 @@ pub(crate) struct Beside {
     pub number: u32,
 }
 
-/// Makes a removal so that what is left of the leaf's node, for which a record is made, and the node beside it are one node: where
-/// they have at most 32 entries together, no other pass is at work there, and another record is free, if one is wanted. Else the
-/// answer is `false`, and the pass has and has locked what it had.
+/// Ends a removal by a merge: what is left of the leaf's node, in a record made for it, and the node beside become one. Returns whether
+/// it did.
+///
+/// It can where the two have at most 32 entries together, no other pass is at work there, and another record is free, if one is wanted.
+/// Else `false` is returned, and the pass has the records and locks that it had.
 pub(crate) fn try_merge<G: Gate>(
     table: &HotTable,
     seat: &mut TableSeat,
@@ -76,7 +78,7 @@ pub(crate) fn try_merge<G: Gate>(
     merge_under_locks(table, seat, gate, build, job, &beside, number)
 }
 
-/// The number of a node record that is the only one of these.
+/// The number of the one node record in `made`; `None` if `made` has a leaf record, several records or none.
 fn sole_node(made: &[Rec]) -> Option<u32>
     ensures { IfSome result (λ number. made.now ≡ a_node number ∷ []) }
 {
@@ -89,8 +91,10 @@ fn sole_node(made: &[Rec]) -> Option<u32>
     }
 }
 
-/// The node beside the one that loses a leaf, if its entry is all of the last fork's other side, and both have few entries. A full node
-/// has none, for what is left of it has too many.
+/// The node beside the one that loses a leaf. `None` if the other side of the last fork is not one node, or both nodes have more than 33
+/// entries together, with the leaf.
+///
+/// A full node has none, for what is left of it has too many.
 fn find_beside<G: Gate>(
     table: &HotTable,
     seat: &mut TableSeat,
@@ -124,7 +128,8 @@ fn find_beside<G: Gate>(
     })
 }
 
-/// Under the wider locks: makes the records and the one store, or gives the wider locks back.
+/// Ends a removal by a merge, under the locks that [`widen`] has taken: makes the records and the one store. If they can't be made, gives
+/// these locks back and returns `false`; the pass has the records that it had.
 fn merge_under_locks<G: Gate>(
     table: &HotTable,
     seat: &mut TableSeat,
@@ -154,8 +159,9 @@ fn merge_under_locks<G: Gate>(
     false
 }
 
-/// Makes the records: for the node of both, in the place of what is left of the lower one, and for what is left of the upper one, if
-/// that has more entries. Nothing if the two have too many entries, or no record was free: then the pass has what it had.
+/// Makes the node of both in record `number`, in the place of what is left of the lower one. Returns the entry for what is left of the
+/// upper one, with a new record if it has more entries. `None` if the two have too many entries, or no record was free: then the pass has
+/// the records that it had.
 fn make_merged<G: Gate>(
     table: &HotTable,
     seat: &mut TableSeat,
@@ -190,8 +196,8 @@ fn make_merged<G: Gate>(
     Some(entry)
 }
 
-/// What is left of the lower node, and all of the one beside it, as one node with the fork between the two; nothing where they have too
-/// many entries.
+/// What is left of the lower node, and all of the one beside it, as one node with the fork between the two. `None` if they have more than
+/// 32 entries, or one entry alone is left of the lower.
 fn join_beside<G: Gate>(
     table: &HotTable,
     seat: &mut TableSeat,
@@ -218,7 +224,7 @@ fn join_beside<G: Gate>(
     Some(join_sides(job.key.bit(beside.position), beside.position, &left, &other))
 }
 
-/// A node of two, the first on the side of the bit.
+/// One node of the entries of `own` and `other`, with a fork of the two at `position`: `own` is the side of `bit`.
 fn join_sides(bit: bool, position: u16, own: &Node, other: &Node) -> Node
     requires room { length own.now.entries + length other.now.entries ≤ 32 }
     requires after { RisesFrom 0 (fork_of bit position (piece own.now) (piece other.now)) }
@@ -231,8 +237,8 @@ fn join_sides(bit: bool, position: u16, own: &Node, other: &Node) -> Node
     }
 }
 
-/// The entry for what is left of the upper node when an entry takes the place of its fork above the two nodes: that entry, or the one of
-/// a new record. Nothing where none was free.
+/// The entry for what is left of the upper node `above` when `merged` takes the place of its fork of `above.at` and `place`. It is
+/// `merged` if nothing else is left, else that of a new record. `None` if no node record was free.
 fn raise_closed<G: Gate>(
     table: &HotTable,
     seat: &mut TableSeat,
@@ -264,8 +270,8 @@ fn raise_closed<G: Gate>(
     make_words(table, seat, gate, build, &words)
 }
 
-/// The end of a removal that merges: makes its records ready, stores the entry, marks the records that this unlinks, and unlocks what
-/// names it.
+/// The end of a removal that merges: makes the new records ready, and stores `entry` in the place of the upper node's. Then it retires
+/// both nodes of the span, node `number` beside the lower one, and the leaf. It unlocks the node above the upper one, or the anchor.
 fn publish_merged<G: Gate>(
     table: &HotTable,
     seat: &mut TableSeat,
@@ -290,7 +296,7 @@ fn publish_merged<G: Gate>(
     retire(table, seat, gate, build.gone.as_slice(), kept, end == 0);
 }
 
-/// The change unlinks both nodes of the span, the one beside them, and the leaf.
+/// Lists in `build.gone` what a merge unlinks: both nodes of the span, node `number` beside the lower one, and the leaf.
 fn name_merged(build: &mut Build, job: &Job<'_>, number: u32)
     requires within { (0 < job.now.span.end) × (job.now.span.end < length job.now.way.now) }
     requires found { (leaf value : ℕ) × (job.now.found ≡ FoundLeaf leaf value None) }

@@ -26,7 +26,7 @@ pub(crate) enum Aim {
     Insert,
     /// The key with the value, whatever it had.
     Upsert,
-    /// The key's end.
+    /// The absence of the key.
     Remove,
 }
 
@@ -39,7 +39,7 @@ pub(crate) struct Span {
 }
 
 impl Span {
-    /// The first node of the way that is locked for the span: the one above it, if there is one.
+    /// The index on the way of the first locked node: the one above the span, or 0 if the span goes up to the root.
     pub(crate) fn first_locked(self) -> usize
         ensures { result ≡ self.end - 1 }
     {
@@ -63,7 +63,7 @@ pub(crate) enum Deed {
 /// What a call does.
 #[derive(Clone, Copy)]
 pub(crate) enum Plan {
-    /// It answers, and changes nothing.
+    /// It returns this reply, and changes nothing.
     Answer(Reply),
     /// It makes this change.
     Change { span: Span, deed: Deed },
@@ -85,12 +85,12 @@ pub enum Full {
 pub(crate) enum Outline {
     /// All is told.
     Known(Plan),
-    /// The new leaf goes beside the entries that the position affects at this level of the way: `plan_beside` tells the
-    /// rest from them.
+    /// The new leaf goes beside the entries that `position` affects in the node at place `level` of the way: `plan_beside` tells the rest
+    /// from these.
     Beside { position: u16, level: usize },
 }
 
-/// What a call does that found this at the end of its way, as far as that tells it.
+/// What a call with the aim `aim` does whose search went through `way` and found `found`, as far as these tell it.
 pub(crate) fn plan_call(way: &[PathNode], aim: Aim, found: Found) -> Outline
     ensures { IsOutline way.now aim found result }
 {
@@ -121,7 +121,7 @@ pub(crate) fn plan_call(way: &[PathNode], aim: Aim, found: Found) -> Outline
     }
 }
 
-/// A new leaf whose key differs from that found first at a position.
+/// What a call does whose new leaf's key first differs from that of the found leaf at `position`, as far as `way` tells it.
 fn beside(way: &[PathNode], position: u16) -> Outline
     ensures { IsBesideFound way.now position result }
 {
@@ -135,7 +135,8 @@ fn beside(way: &[PathNode], position: u16) -> Outline
     Outline::Beside { position, level }
 }
 
-/// What a call does whose new leaf goes into the last node of the way, which has leaves alone: whichever of these the position affects.
+/// What a call does whose new leaf goes into the last node of `way`, that at `level`, which has leaves alone. The plan is the same
+/// whichever of these `position` affects.
 fn plan_low(way: &[PathNode], position: u16, level: usize) -> Plan
     requires last { level + 1 ≡ length way.now }
     requires low { (s : PathNodeView) → slice_get way.now level ≡ Some s → s.height ≤ 1 }
@@ -149,8 +150,8 @@ fn plan_low(way: &[PathNode], position: u16, level: usize) -> Plan
     }
 }
 
-/// What a call does whose new leaf goes beside the entries from `first` to `last` of the node at this level: those that
-/// the position affects.
+/// What a call does whose new leaf goes beside entries of the node at `level` of `way`: those from `first` to `last`, which `position`
+/// affects.
 pub(crate) fn plan_beside(
     way: &[PathNode],
     position: u16,
@@ -171,7 +172,7 @@ pub(crate) fn plan_beside(
     }
 }
 
-/// The change of a span.
+/// The plan to make `deed` at the nodes of the way from `end` on, before `len`.
 fn change(len: usize, end: usize, deed: Deed) -> Plan
     ensures { result ≡ a_change len end deed }
 {
@@ -181,8 +182,8 @@ fn change(len: usize, end: usize, deed: Deed) -> Plan
     }
 }
 
-/// What a call does, by the way of its search: where a new leaf goes into a node, its head is loaded once more for the entries that
-/// the position affects.
+/// What a call with the aim `aim` does whose search went through `way` and found `found`. Where the entries that a new leaf affects
+/// matter, their node's head is loaded once more.
 pub(crate) fn find_plan<G: Gate>(
     table: &HotTable,
     seat: &mut TableSeat,

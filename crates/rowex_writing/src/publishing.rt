@@ -36,8 +36,8 @@ use rowex_core::{Gate, Rec, Spot};
 use rowex_records::{fill_leaf, make_ready};
 use rowex_table::{HotTable, TableSeat};
 
-/// Makes a record for the new leaf, the first one of a change; answers its number, or nothing where no leaf record
-/// with room for the key was free.
+/// Makes a record for the new leaf of `key` and `value`, the first one of a change, and returns its number. `None` if no leaf record with
+/// room for `key` was free.
 pub(crate) fn make_leaf<G: Gate>(
     table: &HotTable,
     seat: &mut TableSeat,
@@ -63,8 +63,8 @@ pub(crate) fn make_leaf<G: Gate>(
     Some(number)
 }
 
-/// Makes all records ready that the pass has made for a change, the one made last first: then they may be linked. The list is empty then,
-/// one by one: to clear it would be a call for a record or two.
+/// Makes the records `made` ready, which the pass has made for a change, the last one first: then they may be linked. They are taken out
+/// of `made` one by one: to clear it would be a call for a record or two.
 pub(crate) fn ready_all<G: Gate>(
     table: &HotTable,
     seat: &mut TableSeat,
@@ -81,7 +81,7 @@ pub(crate) fn ready_all<G: Gate>(
     }
 }
 
-/// The word of an entry, or of none, of which it is known that its word spells an entry: so a node's height is at least 1.
+/// The word of `entry`, or of an empty root for `None`. The word is known to spell an entry, so a node's height is at least 1.
 pub(crate) fn stored_word(entry: Option<Entry>) -> u64
     requires { HasEntryWord (entry_of (entry_word entry)) }
     ensures { result ≡ entry_word entry }
@@ -93,8 +93,8 @@ pub(crate) fn stored_word(entry: Option<Entry>) -> u64
     }
 }
 
-/// The end of each change: makes its records ready, stores the word of what was raised above the span, marks the records that this
-/// unlinks, and unlocks the nodes that stay, the one above the span first, and then the anchor, where that is locked.
+/// The end of each change: makes its records ready, stores the word of `raised.entry` above the span, and marks the records that the
+/// store unlinks. Then it unlocks the nodes that stay, the one above the span first, and the anchor, where that is locked.
 pub(crate) fn publish_change<G: Gate>(
     table: &HotTable,
     seat: &mut TableSeat,
@@ -128,7 +128,7 @@ pub(crate) fn publish_change<G: Gate>(
     );
 }
 
-/// The change unlinks the nodes of these steps, and this leaf.
+/// Lists in `build.gone` what a change unlinks: the nodes of `steps`, and leaf record `leaf`, if there is one.
 fn name_gone(build: &mut Build, steps: &[PathNode], leaf: Option<u32>)
     requires { length steps.now ≤ 2160 }
     ensures gone { build.new.gone.items ≡ map (λ (s : PathNodeView). a_node s.number) steps.now ++ leaf_gone leaf }
@@ -143,7 +143,7 @@ fn name_gone(build: &mut Build, steps: &[PathNode], leaf: Option<u32>)
     }
 }
 
-/// What a span keeps of its locked nodes: the one above it, if there is one, and the lowest, where that is at `low` and not below.
+/// The locked nodes that a change keeps: the one above the span, if there is one; and the span's lowest, if `low` is its index.
 fn kept_steps(way: &[PathNode], span: Span, low: usize) -> ArrayVec<PathNode, 2>
     requires { (span.end ≤ low) × (low ≤ span.len) × (span.len ≤ low + 1) × (span.len ≤ length way.now) }
     ensures { result.items ≡ slice_range way.now (span.end - 1) span.end ++ slice_range way.now low span.len }
@@ -158,7 +158,7 @@ fn kept_steps(way: &[PathNode], span: Span, low: usize) -> ArrayVec<PathNode, 2>
     kept
 }
 
-/// The spot that names what comes in the place of the nodes of the way from `end` on: in the node above them, or the root.
+/// The spot of the entry above the nodes of `way` from `end` on: in the node above them, or the root if `end` is 0.
 pub(crate) fn spot_above(way: &[PathNode], end: usize) -> Spot
     requires { end ≤ length way.now }
     ensures { IsSpotAbove way.now end result }

@@ -18,7 +18,8 @@ use rowex_core::Gate;
 use rowex_reading::Found;
 use rowex_table::{HotTable, TableSeat};
 
-/// The leaf that has the key goes: what is left of its node takes the node's place, and a root that was the leaf is empty.
+/// Takes the found leaf out of its node: returns the entry for what is left, which is to take the node's place. If the leaf was the root,
+/// the root is to be empty. `Full::Nodes` if no node record was free for what is left.
 pub(crate) fn remove_leaf<G: Gate>(
     table: &HotTable,
     seat: &mut TableSeat,
@@ -45,7 +46,8 @@ pub(crate) fn remove_leaf<G: Gate>(
     })
 }
 
-/// What is left of the last node without the leaf takes its place.
+/// Returns the entry for what is left of the span's node without leaf `number`, which is to take the node's place. `Full::Nodes` if no
+/// node record was free for it.
 fn remake_without<G: Gate>(
     table: &HotTable,
     seat: &mut TableSeat,

@@ -28,8 +28,9 @@ use insert_cases::PathNode;
 use rowex_core::{Gate, Target};
 use rowex_table::{HotTable, TableSeat};
 
-/// Locks the node beside the lower one of a removal's span, and then what names the upper one, and checks that it still does. Each is
-/// tried once at most. Where a lock is refused, or something else is named there now, both are given back, and the answer is `false`.
+/// Locks node `number`, beside the lower one of a removal's span, and then what names the upper one, and checks that this still does.
+/// Each is tried once at most. Returns whether both are locked. Where a lock is refused, or something else is named there, both are given
+/// back.
 pub(crate) fn widen<G: Gate>(
     table: &HotTable,
     seat: &mut TableSeat,
@@ -59,7 +60,7 @@ pub(crate) fn widen<G: Gate>(
     false
 }
 
-/// Whether this is the number of a node of the span, or of the one above it.
+/// Whether `number` is that of a node of the way from index `span.end - 2` on, within the span: a removal's two or the one above.
 fn is_near(job: &Job<'_>, number: u32) -> bool
     requires within { (job.now.span.end ≤ job.now.span.len) × (job.now.span.len ≤ length job.now.way.now) }
     ensures none { result ≡ false → (step : PathNodeView) (i : ℕ) → slice_get job.now.way.now i ≡ Some step → job.now.span.end ≤ i + 2 → i < job.now.span.len → number ≢ step.number }
@@ -72,8 +73,8 @@ fn is_near(job: &Job<'_>, number: u32) -> bool
     false
 }
 
-/// Locks what names the upper node of a removal's span, the node above it or the anchor, and checks that it still does. Else what is
-/// locked is as before.
+/// Locks what names the upper node of a removal's span, the node above it or the anchor, and checks that it still does. If a lock is
+/// refused, or something else is named, `false` is returned, and the locks are as before.
 fn lock_above<G: Gate>(table: &HotTable, seat: &mut TableSeat, gate: &mut G, job: &Job<'_>) -> bool
     requires own { IsSeatOf table.now seat.old }
     requires possible { IsPossible table.now.layout seat.old.known }
@@ -94,7 +95,8 @@ fn lock_above<G: Gate>(table: &HotTable, seat: &mut TableSeat, gate: &mut G, job
     lock_step(table, seat, gate, job.way[end - 1], named)
 }
 
-/// Locks the anchor, where the root is this one then.
+/// Locks the anchor, and checks that the root is `root`. If the lock is refused, or the root is another, `false` is returned, and the
+/// locks are as before.
 fn lock_root<G: Gate>(
     table: &HotTable,
     seat: &mut TableSeat,
@@ -120,7 +122,8 @@ fn lock_root<G: Gate>(
     false
 }
 
-/// Locks a node of the way, where the entry that the search took there is this one then.
+/// Locks node `step.number`, and checks that its entry at `step.at` is `entry`. If the lock is refused, or the entry is another, `false`
+/// is returned, and the locks are as before.
 fn lock_step<G: Gate>(
     table: &HotTable,
     seat: &mut TableSeat,
@@ -149,7 +152,7 @@ fn lock_step<G: Gate>(
     false
 }
 
-/// Unlocks the node that the pass has locked last.
+/// Unlocks node `number`, which the pass has locked last.
 fn unlock_last<G: Gate>(table: &HotTable, seat: &mut TableSeat, gate: &mut G, number: u32)
     requires own { IsSeatOf table.now seat.old }
     requires range { number < table.now.layout.nodes }
@@ -162,7 +165,7 @@ fn unlock_last<G: Gate>(table: &HotTable, seat: &mut TableSeat, gate: &mut G, nu
     table.unlock(seat, gate, Target::Node(number));
 }
 
-/// Unlocks what names the nodes of the way from `end` on, the last lock that the pass has taken.
+/// Unlocks the node at `end - 1` of `way`, or the anchor if `end` is 0: the last lock that the pass has taken.
 fn unlock_above<G: Gate>(
     table: &HotTable,
     seat: &mut TableSeat,
@@ -186,7 +189,7 @@ fn unlock_above<G: Gate>(
     }
 }
 
-/// Unlocks what [`widen`] has locked.
+/// Unlocks what [`widen`] has locked: what names the upper node, and node `number`.
 pub(crate) fn narrow<G: Gate>(
     table: &HotTable,
     seat: &mut TableSeat,

@@ -44,7 +44,7 @@ pub struct RecordCounts {
     pub bytes: usize,
 }
 
-/// Loads the state of each record, nodes first, and counts what it finds.
+/// Loads the state of each record, nodes first, and returns how many it found in each state.
 pub fn count_records<G: Gate>(table: &HotTable, seat: &mut TableSeat, gate: &mut G) -> RecordCounts
     requires { IsSeatOf table.now seat.old }
     ensures pin { seat.new.known.pin ≡ seat.old.known.pin }
@@ -68,7 +68,7 @@ pub fn count_records<G: Gate>(table: &HotTable, seat: &mut TableSeat, gate: &mut
     }
 }
 
-/// Loads the state of each node record, and counts what it finds.
+/// Loads the state of each node record, and returns how many it found in each state.
 fn count_nodes<G: Gate>(table: &HotTable, seat: &mut TableSeat, gate: &mut G) -> StateCounts
     requires { IsSeatOf table.now seat.old }
     ensures pin { seat.new.known.pin ≡ seat.old.known.pin }
@@ -82,7 +82,7 @@ fn count_nodes<G: Gate>(table: &HotTable, seat: &mut TableSeat, gate: &mut G) ->
     counts
 }
 
-/// Loads the states of the leaf records from one number up to another, exclusive, and counts what it finds.
+/// Loads the states of the leaf records from number `first` on and below `behind`, and returns how many it found in each state.
 fn count_leaves<G: Gate>(
     table: &HotTable,
     seat: &mut TableSeat,
@@ -115,7 +115,7 @@ fn none() -> StateCounts
     }
 }
 
-/// The counts with one more record, which has this state word.
+/// `counts` with one more record, whose state word is `word`.
 fn counted(counts: StateCounts, word: u64) -> StateCounts
     requires few { counts.free + counts.held + counts.live + counts.obsolete + 1 < 2 ^ 32 }
     requires state { IsSpelling HasStateWord state_word word }

@@ -21,7 +21,8 @@ use rowex_writing::{Full, TryFault, attempt};
 use std::sync::Wait;
 use std::thread;
 
-/// Tries to make a change, at most twice, after a small round if one is due.
+/// Tries to make the change `call`, at most twice, after a small round if one is due. Returns the reply, or why the last attempt was
+/// refused.
 pub fn try_change<G: Gate>(
     table: &HotTable,
     seat: &mut TableSeat,
@@ -48,9 +49,9 @@ fn tidy<G: Gate>(table: &HotTable, seat: &mut TableSeat, gate: &mut G, room: &mu
     }
 }
 
-/// Tries to make a change, at most twice: if no record was free, it makes a round of collection and tries again, and that answer
-/// stands. If the round gave back no record of the kind, and there is no other pass that could have done so, the second attempt
-/// does nothing and is refused as the first was.
+/// Tries to make the change `call`. If no record was free, it makes a round of collection and tries once more, and returns what the
+/// second attempt came to. If the round gave back no record of the kind, and no other pass could have, that attempt does nothing. It is
+/// refused as the first was.
 fn try_twice<G: Gate>(
     table: &HotTable,
     seat: &mut TableSeat,
@@ -77,7 +78,7 @@ fn try_twice<G: Gate>(
     first
 }
 
-/// The kind of records of which none was free, if the call was refused for that.
+/// The kind of records of which none was free, if `answer` is a refusal for that; else `None`.
 fn lacked(answer: Result<Reply, TryFault>) -> Option<Full>
     ensures some { IfSome result (λ full. answer ≡ Err (fault_of full)) }
     ensures none { result ≡ None → is_full answer ≡ false }
@@ -89,7 +90,7 @@ fn lacked(answer: Result<Reply, TryFault>) -> Option<Full>
     }
 }
 
-/// How many records of this kind a round gave back.
+/// How many records of the kind `kind` a round gave back, by its counts `given`.
 fn given_of(given: Given, kind: Full) -> u32 {
     match kind {
         Full::Nodes => given.nodes,
@@ -97,13 +98,13 @@ fn given_of(given: Given, kind: Full) -> u32 {
     }
 }
 
-/// Whether a record of a kind may be free after a round that gave back so many: one of these, or one that another of so many passes gave
-/// back meanwhile.
+/// Whether a record of a kind may be free after a round that gave back `given` of it. It may be one of these, or, if `passes` is above 1,
+/// one that another pass gave back meanwhile.
 fn has_room(passes: u32, given: u32) -> bool {
     passes > 1 || given > 0
 }
 
-/// Whether a round gave back records that another of so many passes may have taken before the next attempt.
+/// Whether a round gave back records, `given` of a kind, that another of `passes` passes may take before the next attempt.
 fn may_be_taken(passes: u32, given: u32) -> bool {
     passes > 1 && given > 0
 }
@@ -117,7 +118,8 @@ fn refuse_again<G: Gate>(table: &HotTable, seat: &mut TableSeat, gate: &mut G)
     unpin(table, seat, gate);
 }
 
-/// Tries to make a change until no other pass is in its way, holds back the records that it lacks, or may have taken them.
+/// Tries to make the change `call` until it is made, or refused for want of records. It tries again as long as another pass is in its
+/// way, holds back records, or may have taken those given back. Returns the reply, or the kind of records of which none was free.
 pub fn change<R: Wait, G: Gate>(
     rt: &R,
     table: &HotTable,
@@ -144,7 +146,8 @@ pub fn change<R: Wait, G: Gate>(
     unreachable!()
 }
 
-/// The refusal with which a call that waits ends, if it ends: not if another pass is in its way, or records are moving.
+/// The refusal with which a call that waits ends after the fault `fault`: the kind of records of which none was free. `None` if it tries
+/// again, as another pass is in its way, or records are moving.
 fn refusal(fault: TryFault, is_moving: bool) -> Option<Full>
     ensures { IfSome result (λ full. fault ≡ fault_of full) }
 {
@@ -155,7 +158,8 @@ fn refusal(fault: TryFault, is_moving: bool) -> Option<Full>
     }
 }
 
-/// Makes one attempt, with the pass pinned, and notes its answer if it has one.
+/// Makes one attempt at `call`, with the pass pinned, and notes its reply if it has one. Returns the reply, or why the attempt was
+/// refused.
 fn try_once<G: Gate>(
     table: &HotTable,
     seat: &mut TableSeat,
@@ -173,7 +177,8 @@ fn try_once<G: Gate>(
     outcome
 }
 
-/// Clears the pin at the end of an attempt at this call, which had this outcome. The note of an answer is added with this step.
+/// Clears the pin at the end of an attempt. The note of a reply comes with this step. The caller's proof makes it of `_call` and
+/// `_outcome`, which the code doesn't read.
 fn end_try<G: Gate>(
     table: &HotTable,
     seat: &mut TableSeat,

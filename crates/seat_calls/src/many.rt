@@ -17,8 +17,9 @@ use rowex_table::{HotTable, TableSeat};
 /// How many keys gain time by going down by turns first: fewer are looked up sooner without it.
 const ENOUGH: usize = 16;
 
-/// Looks up keys, one after the other, each from the root down, and writes what it finds to the key's place. Where there are enough
-/// keys, they go down by turns before that, in groups: so the nodes on their ways are in the cache, and the places in them are known.
+/// Looks up `keys`, one after the other, each from the root down. What it finds goes to the key's place in `found`: the value, or `None`
+/// if the key is absent. If there are enough keys, they go down by turns before that, in groups. So the nodes on their ways are in the
+/// cache, and the places in them are known.
 pub fn look_up_each<G: Gate>(
     table: &HotTable,
     seat: &mut TableSeat,
@@ -47,8 +48,8 @@ pub fn look_up_each<G: Gate>(
     }
 }
 
-/// Clears the pin at the end of gets that looked for these keys and found this for each. The notes `said` come with this step. The
-/// caller's proof makes them of `_keys` and `_found`, which the code doesn't read.
+/// Clears the pin at the end of gets of several keys. The notes `said` come with this step. The caller's proof makes them of `_keys` and
+/// `_found`, which the code doesn't read.
 pub fn end_gets<G: Gate>(
     table: &HotTable,
     seat: &mut TableSeat,

@@ -19,13 +19,13 @@ pub struct Room {
     pub build: Build,
     /// What the pass has retired and not given back yet.
     pub limbo: Limbo,
-    /// Whether records were moving at the last full round: it saw a retired one that a pass may still reach, or it gave back some of the
-    /// kind that was lacked, which other passes may have taken since.
+    /// Whether records were moving at the last full round. They were if it saw a retired one that a pass may still reach. They were too
+    /// if it gave back some of the kind that was lacked, which other passes may have taken since.
     pub is_moving: bool,
 }
 
 impl Room {
-    /// After an attempt: takes what it has unlinked, if anything, to the end of the limbo list.
+    /// After an attempt: moves the records that it has unlinked, if any, to the end of the limbo list.
     pub fn keep_gone(&mut self) {
         while let Some(rec) = self.build.gone.pop() {
             self.limbo.push(rec);
@@ -47,7 +47,7 @@ impl Room {
     }
 }
 
-/// Lets claims begin with this record.
+/// Lets claims begin with `rec`, if the list of spare numbers has a place for it.
 fn give_back(build: &mut Build, layout: Layout, rec: Rec) {
     match rec {
         Rec::Node(number) => build.nodes.give_back(number),
@@ -59,7 +59,7 @@ fn give_back(build: &mut Build, layout: Layout, rec: Rec) {
     }
 }
 
-/// The number of the first leaf record of the class of this one.
+/// The number of the first leaf record of the class of leaf record `number`.
 fn class_begin(layout: Layout, number: u32) -> u32 {
     match layout.class_of(number) {
         LeafClass::Short => 0,
@@ -70,8 +70,8 @@ fn class_begin(layout: Layout, number: u32) -> u32 {
     }
 }
 
-/// A room with empty lists for the pass of this number. Its claims begin at a part of the records of its own, so that passes begin
-/// apart.
+/// A room with empty lists for pass `number`; an error if memory is refused. The pass's claims begin at a part of the records of its own,
+/// so that passes begin apart.
 pub fn new_room(alloc: Global, layout: Layout, number: u16) -> Result<Box<Room>, AllocError> {
     let part = |from: u32, upto: u32| {
         Supply::begin_at(first_claim(number, layout.passes, upto.saturating_sub(from)))
@@ -98,7 +98,7 @@ pub fn new_room(alloc: Global, layout: Layout, number: u16) -> Result<Box<Room>,
     Ok(Box::new(alloc, room)?)
 }
 
-/// Where the claims of the pass of this number begin, of so many passes and records.
+/// Where the claims of pass `number` begin, if `passes` passes share `records` records.
 fn first_claim(number: u16, passes: u32, records: u32) -> u32 {
     let first = (u64::from(number) * u64::from(records))
         .checked_div(u64::from(passes))

@@ -11,10 +11,11 @@ use plain_records::{Progress, Range, gather, pairs_of};
 use std::alloc::{AllocError, Global};
 
 impl PlainTrie {
-    /// The keys from `from` to `upto`, both included, with their values: the first `limit` of them, in the order of the keys.
-    /// It visits the nodes on the way of the search for `from`, and those above the pairs that it gives and the one behind
-    /// them. Its calls nest as deep as the trie is high; it takes memory for the pairs and for a reference to each of their
-    /// leaves, and answers `AllocError` where they find no room, so only where it has a pair to give.
+    /// The keys from `from` to `upto`, both included, with their values: the first `limit` of them, in the order of the keys. It visits
+    /// the nodes on the way of the search for `from`, and those above the pairs that it returns and the one behind them.
+    ///
+    /// Its calls nest as deep as the trie is high. It takes memory for the pairs and for a reference to each of their leaves. It returns
+    /// `AllocError` where they find no room, so only where it has a pair to return.
     pub fn scan(
         &self,
         alloc: Global,
