@@ -162,8 +162,8 @@ impl Head {
         self.height = height;
     }
 
-    /// Puts a new fork at `position` in over the entries from `first` to `last`, as `Node::add` does. It is for a new leaf of a node that
-    /// has leaves alone.
+    /// Puts a new fork at `position` in over the entries from `first` to `last`, as `Node::add` does, for a new leaf. The node has leaves
+    /// alone.
     pub fn add_leaf(&mut self, first: u8, last: u8, position: u16, bit: bool)
         requires room { length self.old.rows < 32 }
         requires low { self.old.height ≡ 1 }

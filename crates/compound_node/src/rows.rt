@@ -367,8 +367,7 @@ fn fork_column(row: u32) -> u8
 /// The place beside place `at`, and the column of the fork between the two. `None` if the other side of the last fork on the path to `at`
 /// has several places.
 ///
-/// It is told by the rows at the places from `at - 1` to `at + 2`: `before`, `own`, `after`, `second`. It is so in each node with these
-/// there.
+/// The rows at the places from `at - 1` to `at + 2`, `before`, `own`, `after` and `second`, tell it, in each node that has these there.
 #[inline(always)]
 pub fn place_beside(at: u8, before: u32, own: u32, after: u32, second: u32) -> Option<(u8, u8)>
     requires { at < 32 }

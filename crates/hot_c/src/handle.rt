@@ -52,7 +52,7 @@ impl Handle {
 /// Does nothing; its bound asks that the value's type may go to another thread.
 fn needs_send<T: Send>(_value: &T) {}
 
-/// This function is proved only if a handle may go to another thread.
+/// Does nothing. It is proved only if a handle may go to another thread.
 pub fn may_go_to_another_thread(handle: &Handle) {
     needs_send(handle);
 }

@@ -84,8 +84,8 @@ impl<'a> Commands<'a> {
         None
     }
 
-    /// The number of the first line that may have a command, and the commands from there on. It is 2 if the first line is `hot 2`, which
-    /// makes the script one of the second version, else 1.
+    /// The number of the first line that may have a command, and the commands from there on. The number is 2 if the first line is `hot
+    /// 2`, which makes the script one of the second version, else 1.
     fn opening(script: &'a [u8]) -> (u32, Commands<'a>)
         ensures { IsOpening script.now result.0 result.1 }
     {

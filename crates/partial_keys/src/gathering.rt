@@ -44,7 +44,7 @@ fn doubled(lanes: u8x16) -> u8x32
     ])
 }
 
-/// Sixteen places of `key` from byte `first` on, twice. Those past its end are 0.
+/// Sixteen places of `key` from byte `first` on, twice. Places past the key's end are 0.
 #[inline(always)]
 fn window_at(key: &Key, first: usize) -> u8x32
     requires { first + 16 ≤ MAX_BYTES }

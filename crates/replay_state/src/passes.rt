@@ -75,8 +75,8 @@ impl PassState {
         self.pin.is_none() && epoch == self.epoch && epoch >= 1
     }
 
-    /// Whether no pass can reach what was marked with `epoch`. It is below the round's bound, and the round has loaded the pin of each of
-    /// the first `passes` passes.
+    /// Whether no pass can reach what was marked with `epoch`. So it is if `epoch` is below the round's bound, and the round has loaded
+    /// the pin of each of the first `passes` passes.
     pub(crate) fn is_past(&self, epoch: u64, passes: usize) -> bool
         ensures { IsTrue result ↔ IsOutOfReach self.now epoch passes }
     {

@@ -37,7 +37,8 @@ pub struct Turn {
 }
 
 /// Loads the root, and lets `count` keys of `keys`, from index `first` on, go down by turns, each a node at a time. Returns the turns of
-/// their ways: a row for each level, the topmost first, and in it a place for each key. It is `None` where the key's way has no node.
+/// their ways: a row for each level, the topmost first, and in it a place for each key. The place is `None` where the key's way has no
+/// node.
 pub fn go_down<G: Gate>(
     table: &HotTable,
     seat: &mut TableSeat,

@@ -63,8 +63,8 @@ pub(crate) fn most_together(limit: usize, pairs: &Pairs) -> u8
 }
 
 /// Loads the entries at the next `count` places in the node `top`, up to the first that leads to a node. The numbers of the leaves go to
-/// the first of `leaves`. Returns how many these are, and that node, if there is one. The leaves are touched; but one that is looked at
-/// alone is read at once, and isn't.
+/// the first of `leaves`, and the leaves are touched, where [`touches`] says so. Returns how many these are, and that node, if there is
+/// one.
 #[inline(always)]
 pub(crate) fn look_ahead<G: Gate>(
     scan: &Scan,
