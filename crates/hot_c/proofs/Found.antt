@@ -2,6 +2,7 @@
 use Rattle.std.proofs.Common.{◌≡◌, ℕ, ◌≤◌, List, [], ◌∷◌, length, slice_get, Bool, Option, Some, inl, inr, refl, subst, arith}
 use Rattle.std.specs.Option.{option_to_list}
 use Rattle.record_words.specs.declared.layout.Layout.{Layout}
+use Rattle.seat_calls.specs.Answers.{range_from}
 use Rattle.seat_calls.specs.Passes.{PassView}
 use Rattle.hot_c.specs.Ends.{FindsBy, FindsIn}
 use Rattle.hot_c.specs.Orders.{IsFilledIn}
@@ -19,21 +20,21 @@ one_at_most (pair ∷ []) few = refl
 one_at_most (pair ∷ next ∷ pairs) few = absurd (omega (arith, few))
 
 module _ (order : Order) {from upto : List ℕ} {old new : Option Opened} {before after : Pair} {status : ℕ} where
-  pub found : {mid : Option Opened} {count : ℕ} {is_more : Bool} (h : HasFilled (IsFilledIn order) from upto 1 old mid count is_more) (u v : Opened) → mid ≡ Some u → new ≡ Some v → v.handle ≡ u.handle
+  pub found : {mid : Option Opened} {count : ℕ} {is_more : Bool} (h : HasFilled (IsFilledIn order) (range_from from upto 1) old mid count is_more) (u v : Opened) → mid ≡ Some u → new ≡ Some v → v.handle ≡ u.handle
       → IsPairTold (slice_get u.list 0) before after status → FindsIn order from upto old new before after status
   found {is_more = is_more} h u v is last kept told = record {
     closed = λ none. absurd (not_closed h u is none);
     long = λ some no. absurd (no h.fit);
     made = λ some fit. inl (
       slice_get u.list 0,
-      stays h u is (λ layout k j. (more : Bool) × IsFilledIn order layout k j from upto 1 (option_to_list (slice_get u.list 0)) more) new v last kept
-          (is_more, subst (λ (l : List (List ℕ × ℕ)). IsFilledIn order h.before.handle.index.layout h.before.handle.pass u.handle.pass from upto 1 l is_more) (one_at_most u.list (few_here h u is)) (made_here h u is)),
+      stays h u is (λ layout k j. (more : Bool) × IsFilledIn order layout k j (range_from from upto 1) (option_to_list (slice_get u.list 0)) more) new v last kept
+          (is_more, subst (λ (l : List (List ℕ × ℕ)). IsFilledIn order h.before.handle.index.layout h.before.handle.pass u.handle.pass (range_from from upto 1) l is_more) (one_at_most u.list (few_here h u is)) (made_here h u is)),
       told,
     );
     read = λ some fit. reads h u is new v last kept;
   }
 
-  pub unfound : ListsNothing from upto 1 old new status → after ≡ before → FindsIn order from upto old new before after status
+  pub unfound : ListsNothing (range_from from upto 1) old new status → after ≡ before → FindsIn order from upto old new before after status
   unfound h kept = record {
     closed = λ none. (let e = h.closed none in (e.0, e.1, kept));
     long = λ some no. (let e = h.long some no in (e.0, e.1, kept));

@@ -5,7 +5,8 @@ use Rattle.std.proofs.lemmas.List.{length-reverse, reverse-reverse}
 use Rattle.std.specs.declared.alloc.AllocError.{AllocError}
 use Rattle.finite_map.specs.declared.Scan.{Scan}
 use Rattle.record_words.specs.declared.layout.Layout.{Layout}
-use Rattle.seat_calls.specs.Answers.{HasFoundPair, IsListed, IsListedBy, IsUnnoted, ScanLaw}
+use Rattle.rowex_walks.specs.Scan.{Range}
+use Rattle.seat_calls.specs.Answers.{HasFoundPair, IsListed, IsListedBy, IsUnnoted, ScanLaw, range_from}
 use Rattle.seat_calls.specs.Calls.{IsListReadBy, IsRangeRead}
 use Rattle.hot_index.specs.Handles.{HandleView, Stays}
 use Rattle.seat_calls.specs.Passes.{PassView}
@@ -13,7 +14,7 @@ use Rattle.seat_calls.specs.Reverse.{IsReverseListed}
 use Rattle.seat_calls.specs.Traces.{HasGotRange, untold}
 use Rattle.hot_index.proofs.Reading.{range_whole}
 use Rattle.hot_c.specs.Calls.{FitsInKey, StaysOpen}
-use Rattle.hot_c.specs.Orders.{IsFilledIn, IsListedIn, in_order}
+use Rattle.hot_c.specs.Orders.{Answer, IsFilledIn, IsListedIn, in_order}
 use Rattle.hot_c.specs.Owning.{heap}
 use Rattle.hot_c.specs.Packs.{IsListedByParts}
 use Rattle.hot_c.specs.Scans.{HasFilled, ListsInto, ListsNothing}
@@ -22,10 +23,6 @@ use Rattle.hot_c.specs.declared.pairs.Order.{Order}
 use Rattle.hot_c.specs.declared.pairs.Order.TheVariants.{Rising, Falling, LastRising}
 use Rattle.hot_c.specs.declared.status.TheConstants.{DONE, NO_MEMORY}
 use Rattle.hot_c.proofs.Parted.{cut_falling, cut_rising}
-
--- what a scan answers, and what it found
-abbrev pub Answer : Type 1
-Answer = Layout → PassView → PassView → List ℕ → List ℕ → ℕ → List (List ℕ × ℕ) → Bool → Type 0
 
 none_is_some : (s : Opened) → None ≡ Some s → ⊥
 none_is_some s e = cc
@@ -40,36 +37,36 @@ scan_of pairs is_more short = record {
   more = is_more;
 }
 
-module _ (layout : Layout) (k j : PassView) (from upto : List ℕ) (limit : ℕ) (pairs : List (List ℕ × ℕ)) (is_more : Bool) where
-  few_listed : IsListed layout k j from upto limit pairs is_more → length pairs < 2 ^ 63 → length pairs ≤ limit
+module _ (layout : Layout) (k j : PassView) (range : Range) (pairs : List (List ℕ × ℕ)) (is_more : Bool) where
+  few_listed : IsListed layout k j range pairs is_more → length pairs < 2 ^ 63 → length pairs ≤ range.limit
   few_listed h small = (h.lawful (scan_of pairs is_more small) refl refl).short
 
-  few_reverse_listed : IsReverseListed layout k j from upto limit pairs is_more → length pairs < 2 ^ 63 → length pairs ≤ limit
+  few_reverse_listed : IsReverseListed layout k j range pairs is_more → length pairs < 2 ^ 63 → length pairs ≤ range.limit
   few_reverse_listed h small = (h.lawful (scan_of pairs is_more small) refl refl).short
 
 -- a list has no more pairs than it was to have
-few_filled : (order : Order) (layout : Layout) (k j : PassView) (from upto : List ℕ) (limit : ℕ) (pairs : List (List ℕ × ℕ)) (is_more : Bool)
-    → IsFilledIn order layout k j from upto limit pairs is_more → length pairs < 2 ^ 63 → length pairs ≤ limit
-few_filled Rising layout k j from upto limit pairs is_more h small = few_listed layout k j from upto limit pairs is_more h small
-few_filled Falling layout k j from upto limit pairs is_more h small = few_reverse_listed layout k j from upto limit pairs is_more h small
-few_filled LastRising layout k j from upto limit pairs is_more h small = few_reverse_listed layout k j from upto limit pairs is_more h small
+few_filled : (order : Order) (layout : Layout) (k j : PassView) (range : Range) (pairs : List (List ℕ × ℕ)) (is_more : Bool)
+    → IsFilledIn order layout k j range pairs is_more → length pairs < 2 ^ 63 → length pairs ≤ range.limit
+few_filled Rising layout k j range pairs is_more h small = few_listed layout k j range pairs is_more h small
+few_filled Falling layout k j range pairs is_more h small = few_reverse_listed layout k j range pairs is_more h small
+few_filled LastRising layout k j range pairs is_more h small = few_reverse_listed layout k j range pairs is_more h small
 
 -- what a scan left in the list is answered in this order
-pub in_its_order : (order : Order) (layout : Layout) (k j : PassView) (from upto : List ℕ) (limit : ℕ) (pairs : List (List ℕ × ℕ)) (is_more : Bool)
-    → IsFilledIn order layout k j from upto limit pairs is_more → IsListedIn order layout k j from upto limit (in_order order pairs) is_more
-in_its_order Rising layout k j from upto limit pairs is_more h = h
-in_its_order Falling layout k j from upto limit pairs is_more h = h
-in_its_order LastRising layout k j from upto limit pairs is_more h = subst (λ (l : List (List ℕ × ℕ)). IsReverseListed layout k j from upto limit l is_more) (sym (reverse-reverse pairs)) h
+pub in_its_order : (order : Order) (layout : Layout) (k j : PassView) (range : Range) (pairs : List (List ℕ × ℕ)) (is_more : Bool)
+    → IsFilledIn order layout k j range pairs is_more → IsListedIn order layout k j range (in_order order pairs) is_more
+in_its_order Rising layout k j range pairs is_more h = h
+in_its_order Falling layout k j range pairs is_more h = h
+in_its_order LastRising layout k j range pairs is_more h = subst (λ (l : List (List ℕ × ℕ)). IsReverseListed layout k j range l is_more) (sym (reverse-reverse pairs)) h
 
 -- of a scan into a list, whatever part it leaves
-pub without_part : {IsLawful : ScanLaw} {from upto : List ℕ} {limit : ℕ} {pairs : List (List ℕ × ℕ)} {r : Result Bool AllocError} {old new : HandleView}
-    → Stays (λ index k j. IsListReadBy IsLawful from upto limit pairs r index untold (k, tt) (j, tt)) old new → Stays (IsRangeRead (λ layout k j. IsListedBy IsLawful layout k j from upto limit pairs) from upto limit r) old new
+pub without_part : {IsLawful : ScanLaw} {range : Range} {pairs : List (List ℕ × ℕ)} {r : Result Bool AllocError} {old new : HandleView}
+    → Stays (λ index k j. IsListReadBy IsLawful range pairs r index untold (k, tt) (j, tt)) old new → Stays (IsRangeRead (λ layout k j. IsListedBy IsLawful layout k j range pairs) range r) old new
 without_part {r = r} h = record { index = h.index; pass = range_whole r h.pass }
 
 -- what is left in one order is left in the same one
-pub filled_as : (order other : Order) → order ≡ other → (from upto : List ℕ) (limit : ℕ) (pairs : List (List ℕ × ℕ)) (r : Result Bool AllocError) (old new : HandleView)
-    → Stays (IsRangeRead (λ layout k j. IsFilledIn other layout k j from upto limit pairs) from upto limit r) old new → Stays (IsRangeRead (λ layout k j. IsFilledIn order layout k j from upto limit pairs) from upto limit r) old new
-filled_as order other same from upto limit pairs r old new h = subst (λ (o : Order). Stays (IsRangeRead (λ layout k j. IsFilledIn o layout k j from upto limit pairs) from upto limit r) old new) (sym same) h
+pub filled_as : (order other : Order) → order ≡ other → (range : Range) (pairs : List (List ℕ × ℕ)) (r : Result Bool AllocError) (old new : HandleView)
+    → Stays (IsRangeRead (λ layout k j. IsFilledIn other layout k j range pairs) range r) old new → Stays (IsRangeRead (λ layout k j. IsFilledIn order layout k j range pairs) range r) old new
+filled_as order other same range pairs r old new h = subst (λ (o : Order). Stays (IsRangeRead (λ layout k j. IsFilledIn o layout k j range pairs) range r) old new) (sym same) h
 
 pub as_many : (order : Order) (pairs : List (List ℕ × ℕ)) → length (in_order order pairs) ≡ length pairs
 as_many Rising pairs = refl
@@ -77,8 +74,8 @@ as_many Falling pairs = refl
 as_many LastRising pairs = length-reverse pairs
 
 module _ (from upto k l : List ℕ) (old new : Option Opened) (limit : ℕ) (s u : Opened) (was : old ≡ Some s) (first : (k ≡ from) × FitsInKey from) (last : (l ≡ upto) × FitsInKey upto) where
-  pub filled : (order : Order) (count : ℕ) (is_more : Bool) → new ≡ Some u → u.handle.index ≡ s.handle.index → IsFilledIn order s.handle.index.layout s.handle.pass u.handle.pass k l limit u.list is_more
-      → HasGotRange s.handle.index untold limit (s.handle.pass, tt) (u.handle.pass, tt) → count ≡ length u.list → length u.list < 2 ^ 63 → HasFilled (IsFilledIn order) from upto limit old new count is_more
+  pub filled : (order : Order) (count : ℕ) (is_more : Bool) → new ≡ Some u → u.handle.index ≡ s.handle.index → IsFilledIn order s.handle.index.layout s.handle.pass u.handle.pass (range_from k l limit) u.list is_more
+      → HasGotRange s.handle.index untold limit (s.handle.pass, tt) (u.handle.pass, tt) → count ≡ length u.list → length u.list < 2 ^ 63 → HasFilled (IsFilledIn order) (range_from from upto limit) old new count is_more
   filled order count is_more is index made read many small = record {
     before = s;
     after = u;
@@ -87,34 +84,34 @@ module _ (from upto k l : List ℕ) (old new : Option Opened) (limit : ℕ) (s u
     index = index;
     fit = (first.1, last.1);
     count_is = many;
-    few = subst (λ n. n ≤ limit) (sym many) (few_filled order s.handle.index.layout s.handle.pass u.handle.pass k l limit u.list is_more made small);
-    made = subst (λ (x : List ℕ). IsFilledIn order s.handle.index.layout s.handle.pass u.handle.pass x upto limit u.list is_more) first.0
-        (subst (λ (x : List ℕ). IsFilledIn order s.handle.index.layout s.handle.pass u.handle.pass k x limit u.list is_more) last.0 made);
+    few = subst (λ n. n ≤ limit) (sym many) (few_filled order s.handle.index.layout s.handle.pass u.handle.pass (range_from k l limit) u.list is_more made small);
+    made = subst (λ (x : List ℕ). IsFilledIn order s.handle.index.layout s.handle.pass u.handle.pass (range_from x upto limit) u.list is_more) first.0
+        (subst (λ (x : List ℕ). IsFilledIn order s.handle.index.layout s.handle.pass u.handle.pass (range_from k x limit) u.list is_more) last.0 made);
     read = read;
   }
 
   -- the list that the scan left was emptied
   pub unfilled : (v : Opened) (status : ℕ) → new ≡ Some v → v.handle ≡ u.handle → u.handle.index ≡ s.handle.index → IsUnnoted s.handle.index.layout s.handle.pass u.handle.pass
-      → HasFoundPair s.handle.index.layout s.handle.pass u.handle.pass k l limit → HasGotRange s.handle.index untold limit (s.handle.pass, tt) (u.handle.pass, tt) → status ≡ NO_MEMORY → ListsNothing from upto limit old new status
+      → HasFoundPair s.handle.index.layout s.handle.pass u.handle.pass (range_from k l limit) → HasGotRange s.handle.index untold limit (s.handle.pass, tt) (u.handle.pass, tt) → status ≡ NO_MEMORY → ListsNothing (range_from from upto limit) old new status
   unfilled v status is kept index unnoted pair read full =
-      let here = subst (λ (x : List ℕ). HasFoundPair s.handle.index.layout s.handle.pass u.handle.pass x upto limit) first.0 (subst (λ (x : List ℕ). HasFoundPair s.handle.index.layout s.handle.pass u.handle.pass k x limit) last.0 pair) in
+      let here = subst (λ (x : List ℕ). HasFoundPair s.handle.index.layout s.handle.pass u.handle.pass (range_from x upto limit)) first.0 (subst (λ (x : List ℕ). HasFoundPair s.handle.index.layout s.handle.pass u.handle.pass (range_from k x limit)) last.0 pair) in
       record {
         closed = λ none. absurd (none_is_some s (sym none ∙ was));
         long = λ some no. absurd (no (first.1, last.1));
-        full = λ some f t. (full, record { before = s; after = v; was = was; is = is; stays = subst (Stays (λ index k j. IsUnnoted index.layout k j × HasFoundPair index.layout k j from upto limit) s.handle) (sym kept) (record { index = index; pass = (unnoted, here) }) });
+        full = λ some f t. (full, record { before = s; after = v; was = was; is = is; stays = subst (Stays (λ index k j. IsUnnoted index.layout k j × HasFoundPair index.layout k j (range_from from upto limit)) s.handle) (sym kept) (record { index = index; pass = (unnoted, here) }) });
         read = λ some f t. record { before = s; after = v; was = was; is = is; stays = subst (Stays (λ index k j. HasGotRange index untold limit (k, tt) (j, tt)) s.handle) (sym kept) (record { index = index; pass = read }) };
       }
 
 -- the scan has left this list, which was read and then emptied
-module _ {IsMade : Answer} {from upto : List ℕ} {limit : ℕ} {old mid : Option Opened} {count : ℕ} {is_more : Bool} (h : HasFilled IsMade from upto limit old mid count is_more) (u : Opened) (is : mid ≡ Some u) where
+module _ {IsMade : Answer} {range : Range} {old mid : Option Opened} {count : ℕ} {is_more : Bool} (h : HasFilled IsMade range old mid count is_more) (u : Opened) (is : mid ≡ Some u) where
   pub count_here : count ≡ length u.list
   count_here = h.count_is ∙ ap (λ (x : Opened). length x.list) (same h.after u (sym h.is ∙ is))
 
-  pub few_here : length u.list ≤ limit
-  few_here = subst (λ n. n ≤ limit) count_here h.few
+  pub few_here : length u.list ≤ range.limit
+  few_here = subst (λ n. n ≤ range.limit) count_here h.few
 
-  pub made_here : IsMade h.before.handle.index.layout h.before.handle.pass u.handle.pass from upto limit u.list is_more
-  made_here = subst (λ (x : Opened). IsMade h.before.handle.index.layout h.before.handle.pass x.handle.pass from upto limit x.list is_more) (same h.after u (sym h.is ∙ is)) h.made
+  pub made_here : IsMade h.before.handle.index.layout h.before.handle.pass u.handle.pass range u.list is_more
+  made_here = subst (λ (x : Opened). IsMade h.before.handle.index.layout h.before.handle.pass x.handle.pass range x.list is_more) (same h.after u (sym h.is ∙ is)) h.made
 
   pub stays : (Became : Layout → PassView → PassView → Type 0) (new : Option Opened) (v : Opened) → new ≡ Some v → v.handle ≡ u.handle
       → Became h.before.handle.index.layout h.before.handle.pass u.handle.pass → StaysOpen (λ index k j. Became index.layout k j) old new
@@ -126,31 +123,31 @@ module _ {IsMade : Answer} {from upto : List ℕ} {limit : ℕ} {old mid : Optio
     stays = subst (Stays (λ index k j. Became index.layout k j) h.before.handle) (sym kept) (record { index = ap (λ (x : Opened). x.handle.index) (same u h.after (sym is ∙ h.is)) ∙ h.index; pass = became });
   }
 
-  pub reads : (new : Option Opened) (v : Opened) → new ≡ Some v → v.handle ≡ u.handle → StaysOpen (λ index k j. HasGotRange index untold limit (k, tt) (j, tt)) old new
+  pub reads : (new : Option Opened) (v : Opened) → new ≡ Some v → v.handle ≡ u.handle → StaysOpen (λ index k j. HasGotRange index untold range.limit (k, tt) (j, tt)) old new
   reads new v last kept = record {
     before = h.before;
     after = v;
     was = h.was;
     is = last;
-    stays = subst (Stays (λ index k j. HasGotRange index untold limit (k, tt) (j, tt)) h.before.handle) (sym (kept ∙ ap (λ (x : Opened). x.handle) (same u h.after (sym is ∙ h.is)))) (record { index = h.index; pass = h.read });
+    stays = subst (Stays (λ index k j. HasGotRange index untold range.limit (k, tt) (j, tt)) h.before.handle) (sym (kept ∙ ap (λ (x : Opened). x.handle) (same u h.after (sym is ∙ h.is)))) (record { index = h.index; pass = h.read });
   }
 
   pub not_closed : old ≡ None → ⊥
   not_closed none = none_is_some h.before (sym none ∙ h.was)
 
-module _ {Room : Type 0} {limit : Room → ℕ} {IsWritten : List (List ℕ × ℕ) → Bool → Room → Room → Type 0} {from upto : List ℕ} {old new : Option Opened} {before after : Room} {status : ℕ} (IsTold : Answer) where
+module _ {Room : Type 0} {IsWritten : List (List ℕ × ℕ) → Bool → Room → Room → Type 0} {range : Range} {old new : Option Opened} {before after : Room} {status : ℕ} (IsTold : Answer) where
   -- the pairs of the list were written
-  pub listed : {IsMade : Answer} {mid : Option Opened} {count : ℕ} {is_more : Bool} (h : HasFilled IsMade from upto (limit before) old mid count is_more) (u v : Opened) (pairs : List (List ℕ × ℕ))
+  pub listed : {IsMade : Answer} {mid : Option Opened} {count : ℕ} {is_more : Bool} (h : HasFilled IsMade range old mid count is_more) (u v : Opened) (pairs : List (List ℕ × ℕ))
       → mid ≡ Some u → new ≡ Some v → v.handle ≡ u.handle → status ≡ DONE
-      → IsTold h.before.handle.index.layout h.before.handle.pass u.handle.pass from upto (limit before) pairs is_more → IsWritten pairs is_more before after → ListsInto limit IsWritten IsTold from upto old new before after status
+      → IsTold h.before.handle.index.layout h.before.handle.pass u.handle.pass range pairs is_more → IsWritten pairs is_more before after → ListsInto IsWritten IsTold range old new before after status
   listed h u v pairs is last kept done told written = record {
     closed = λ none. absurd (not_closed h u is none);
     long = λ some no. absurd (no h.fit);
-    made = λ some f t. inl (done, pairs, _, stays h u is (λ layout k j. IsTold layout k j from upto (limit before) pairs _) new v last kept told, written);
+    made = λ some f t. inl (done, pairs, _, stays h u is (λ layout k j. IsTold layout k j range pairs _) new v last kept told, written);
     read = λ some f t. reads h u is new v last kept;
   }
 
-  pub unlisted : ListsNothing from upto (limit before) old new status → after ≡ before → ListsInto limit IsWritten IsTold from upto old new before after status
+  pub unlisted : ListsNothing range old new status → after ≡ before → ListsInto IsWritten IsTold range old new before after status
   unlisted h kept = record {
     closed = λ none. (let e = h.closed none in (e.0, e.1, kept));
     long = λ some no. (let e = h.long some no in (e.0, e.1, kept));
@@ -159,9 +156,9 @@ module _ {Room : Type 0} {limit : Room → ℕ} {IsWritten : List (List ℕ × �
   }
 
 -- the first pairs of a list are those of a scan that was cut after them
-rising_by_parts : (layout : Layout) (k j : PassView) (from upto : List ℕ) (limit : ℕ) (pairs : List (List ℕ × ℕ)) (is_more : Bool) → length pairs < 2 ^ 63 → IsListed layout k j from upto limit pairs is_more
-    → IsListedByParts IsListed layout k j from upto limit pairs is_more
-rising_by_parts layout k j from upto limit pairs is_more small h = record {
+rising_by_parts : (layout : Layout) (k j : PassView) (range : Range) (pairs : List (List ℕ × ℕ)) (is_more : Bool) → length pairs < 2 ^ 63 → IsListed layout k j range pairs is_more
+    → IsListedByParts IsListed layout k j range pairs is_more
+rising_by_parts layout k j range pairs is_more small h = record {
   whole = h;
   parts = λ n few. record {
     on = h.on;
@@ -171,9 +168,9 @@ rising_by_parts layout k j from upto limit pairs is_more small h = record {
   };
 }
 
-falling_by_parts : (layout : Layout) (k j : PassView) (from upto : List ℕ) (limit : ℕ) (pairs : List (List ℕ × ℕ)) (is_more : Bool) → length pairs < 2 ^ 63 → IsReverseListed layout k j from upto limit pairs is_more
-    → IsListedByParts IsReverseListed layout k j from upto limit pairs is_more
-falling_by_parts layout k j from upto limit pairs is_more small h = record {
+falling_by_parts : (layout : Layout) (k j : PassView) (range : Range) (pairs : List (List ℕ × ℕ)) (is_more : Bool) → length pairs < 2 ^ 63 → IsReverseListed layout k j range pairs is_more
+    → IsListedByParts IsReverseListed layout k j range pairs is_more
+falling_by_parts layout k j range pairs is_more small h = record {
   whole = h;
   parts = λ n few. record {
     on = h.on;
@@ -183,8 +180,8 @@ falling_by_parts layout k j from upto limit pairs is_more small h = record {
   };
 }
 
-pub by_parts : (order : Order) (layout : Layout) (k j : PassView) (from upto : List ℕ) (limit : ℕ) (pairs : List (List ℕ × ℕ)) (is_more : Bool) → length pairs < 2 ^ 63 → IsFilledIn order layout k j from upto limit pairs is_more
-    → IsListedByParts (IsFilledIn order) layout k j from upto limit pairs is_more
-by_parts Rising layout k j from upto limit pairs is_more small h = rising_by_parts layout k j from upto limit pairs is_more small h
-by_parts Falling layout k j from upto limit pairs is_more small h = falling_by_parts layout k j from upto limit pairs is_more small h
-by_parts LastRising layout k j from upto limit pairs is_more small h = falling_by_parts layout k j from upto limit pairs is_more small h
+pub by_parts : (order : Order) (layout : Layout) (k j : PassView) (range : Range) (pairs : List (List ℕ × ℕ)) (is_more : Bool) → length pairs < 2 ^ 63 → IsFilledIn order layout k j range pairs is_more
+    → IsListedByParts (IsFilledIn order) layout k j range pairs is_more
+by_parts Rising layout k j range pairs is_more small h = rising_by_parts layout k j range pairs is_more small h
+by_parts Falling layout k j range pairs is_more small h = falling_by_parts layout k j range pairs is_more small h
+by_parts LastRising layout k j range pairs is_more small h = falling_by_parts layout k j range pairs is_more small h

@@ -2,7 +2,7 @@
 use Rattle.std.specs.Prelude.{◌≡◌, ◌⊎◌, ℕ, List, [], Bool, Option, None, IsSome}
 use Rattle.std.specs.Option.{option_to_list}
 use Rattle.record_words.specs.declared.layout.Layout.{Layout}
-use Rattle.seat_calls.specs.Answers.{HasFoundPair, IsUnnoted}
+use Rattle.seat_calls.specs.Answers.{HasFoundPair, IsUnnoted, range_from}
 use Rattle.seat_calls.specs.Passes.{PassView}
 use Rattle.hot_index.specs.Ranges.{IsFirstFound}
 use Rattle.seat_calls.specs.Reverse.{IsLastFound}
@@ -30,13 +30,14 @@ pub record FindsBy (Fits : Type 0) (IsFound : Layout → PassView → PassView �
 
 -- the call found the first pair from a key on, or that there is none
 abbrev pub FindsFirst : List ℕ → Option Opened → Option Opened → Pair → Pair → ℕ → Type 0
-FindsFirst from = FindsBy (FitsInKey from) (λ layout k j. IsFirstFound layout k j from) (λ layout k j. HasFoundPair layout k j from (last_with []) 1)
+FindsFirst from = FindsBy (FitsInKey from) (λ layout k j. IsFirstFound layout k j from) (λ layout k j. HasFoundPair layout k j (range_from from (last_with []) 1))
 
 -- the call found the last pair up to a key, or that there is none
 abbrev pub FindsLast : List ℕ → Option Opened → Option Opened → Pair → Pair → ℕ → Type 0
-FindsLast upto = FindsBy (FitsInKey upto) (λ layout k j. IsLastFound layout k j upto) (λ layout k j. HasFoundPair layout k j [] upto 1)
+FindsLast upto = FindsBy (FitsInKey upto) (λ layout k j. IsLastFound layout k j upto) (λ layout k j. HasFoundPair layout k j (range_from [] upto 1))
 
 -- the pair that a scan of a range finds first
 abbrev pub FindsIn : Order → List ℕ → List ℕ → Option Opened → Option Opened → Pair → Pair → ℕ → Type 0
 FindsIn order from upto = FindsBy (FitsInKey from × FitsInKey upto)
-    (λ layout k j found. (is_more : Bool) × IsFilledIn order layout k j from upto 1 (option_to_list found) is_more) (λ layout k j. HasFoundPair layout k j from upto 1)
+    (λ layout k j found. (is_more : Bool) × IsFilledIn order layout k j (range_from from upto 1) (option_to_list found) is_more)
+    (λ layout k j. HasFoundPair layout k j (range_from from upto 1))

@@ -1,18 +1,23 @@
 -- The orders in which a scan lists its pairs, and what was answered in each.
 use Rattle.std.specs.Prelude.{ℕ, List, reverse, Bool}
 use Rattle.record_words.specs.declared.layout.Layout.{Layout}
+use Rattle.rowex_walks.specs.Scan.{Range}
 use Rattle.seat_calls.specs.Answers.{IsListed}
 use Rattle.seat_calls.specs.Passes.{PassView}
 use Rattle.seat_calls.specs.Reverse.{IsReverseListed}
 use Rattle.hot_c.specs.declared.pairs.Order.{Order}
 use Rattle.hot_c.specs.declared.pairs.Order.TheVariants.{Rising, Falling, LastRising}
 
+-- what a scan of a range was answered: its pairs, and whether there is a further one
+abbrev pub Answer : Type 1
+Answer = Layout → PassView → PassView → Range → List (List ℕ × ℕ) → Bool → Type 0
+
 -- A scan of the last pairs in rising order was answered: a scan downwards lists them from the last one on.
-abbrev pub IsLastListed : Layout → PassView → PassView → List ℕ → List ℕ → ℕ → List (List ℕ × ℕ) → Bool → Type 0
-IsLastListed layout k j from upto limit pairs is_more = IsReverseListed layout k j from upto limit (reverse pairs) is_more
+abbrev pub IsLastListed : Answer
+IsLastListed layout k j range pairs is_more = IsReverseListed layout k j range (reverse pairs) is_more
 
 -- a scan in this order was answered
-abbrev pub IsListedIn : Order → Layout → PassView → PassView → List ℕ → List ℕ → ℕ → List (List ℕ × ℕ) → Bool → Type 0
+abbrev pub IsListedIn : Order → Answer
 IsListedIn Rising = IsListed
 IsListedIn Falling = IsReverseListed
 IsListedIn LastRising = IsLastListed
@@ -24,7 +29,7 @@ in_order Falling pairs = pairs
 in_order LastRising pairs = reverse pairs
 
 -- a scan that found these pairs, one after the other, was answered
-abbrev pub IsFilledIn : Order → Layout → PassView → PassView → List ℕ → List ℕ → ℕ → List (List ℕ × ℕ) → Bool → Type 0
+abbrev pub IsFilledIn : Order → Answer
 IsFilledIn Rising = IsListed
 IsFilledIn Falling = IsReverseListed
 IsFilledIn LastRising = IsReverseListed

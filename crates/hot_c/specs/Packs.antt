@@ -4,9 +4,12 @@ use Rattle.std.specs.Int.{from_bool}
 use Rattle.packed_pairs.specs.Parts.{fitting, packed_head, keys_in}
 use Rattle.packed_pairs.specs.declared.pairs.Head.{Head}
 use Rattle.record_words.specs.declared.layout.Layout.{Layout}
-use Rattle.seat_calls.specs.Answers.{IsListed}
+use Rattle.rowex_scanning.specs.Scanning.{limited}
+use Rattle.rowex_walks.specs.Scan.{Range}
+use Rattle.seat_calls.specs.Answers.{IsListed, range_from}
 use Rattle.seat_calls.specs.Passes.{PassView}
 use Rattle.seat_calls.specs.Reverse.{IsReverseListed}
+use Rattle.hot_c.specs.Orders.{Answer}
 use Rattle.hot_c.specs.Scans.{ListsInto}
 use Rattle.hot_c.specs.declared.opened.Opened.{Opened}
 
@@ -33,15 +36,14 @@ pub record IsPackListed (pairs : List (List ℕ × ℕ)) (is_more : Bool) (befor
   pub more : after.more ≡ from_bool (is_more || nat_lt (length written) (length pairs))
 
 -- A scan was answered; and so are the scans that are cut after any of its first pairs, and have more.
-pub record IsListedByParts (IsMade : Layout → PassView → PassView → List ℕ → List ℕ → ℕ → List (List ℕ × ℕ) → Bool → Type 0)
-    (layout : Layout) (k j : PassView) (from upto : List ℕ) (limit : ℕ) (pairs : List (List ℕ × ℕ)) (is_more : Bool) : Type 0 where
-  pub whole : IsMade layout k j from upto limit pairs is_more
-  pub parts : (n : ℕ) → n < length pairs → IsMade layout k j from upto n (take n pairs) true
+pub record IsListedByParts (IsMade : Answer) (layout : Layout) (k j : PassView) (range : Range) (pairs : List (List ℕ × ℕ)) (is_more : Bool) : Type 0 where
+  pub whole : IsMade layout k j range pairs is_more
+  pub parts : (n : ℕ) → n < length pairs → IsMade layout k j (limited range n) (take n pairs) true
 
 -- a scan of as many pairs as there is room for heads
-abbrev pub ListsPackedBy : (Layout → PassView → PassView → List ℕ → List ℕ → ℕ → List (List ℕ × ℕ) → Bool → Type 0) →
-    List ℕ → List ℕ → Option Opened → Option Opened → Packing → Packing → ℕ → Type 0
-ListsPackedBy IsMade = ListsInto (λ (it : Packing). length it.heads) IsPackListed (IsListedByParts IsMade)
+abbrev pub ListsPackedBy : Answer → List ℕ → List ℕ → Option Opened → Option Opened → Packing → Packing → ℕ → Type 0
+ListsPackedBy IsMade from upto old new before after status =
+    ListsInto IsPackListed (IsListedByParts IsMade) (range_from from upto (length before.heads)) old new before after status
 
 -- from the first key on
 abbrev pub ListsPacked : List ℕ → List ℕ → Option Opened → Option Opened → Packing → Packing → ℕ → Type 0

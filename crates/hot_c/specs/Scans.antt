@@ -1,55 +1,52 @@
 -- What the scans of a program in C say.
 use Rattle.std.specs.Prelude.{◌≡◌, ◌⊎◌, ℕ, ◌≤◌, List, length, drop, Bool, Option, Some, None, IsSome}
 use Rattle.std.specs.Int.{from_bool}
-use Rattle.record_words.specs.declared.layout.Layout.{Layout}
-use Rattle.seat_calls.specs.Answers.{HasFoundPair, IsListed, IsUnnoted}
-use Rattle.seat_calls.specs.Passes.{PassView}
+use Rattle.rowex_walks.specs.Scan.{Range}
+use Rattle.seat_calls.specs.Answers.{HasFoundPair, IsListed, IsUnnoted, range_from}
 use Rattle.seat_calls.specs.Reverse.{IsReverseListed}
 use Rattle.seat_calls.specs.Traces.{HasGotRange, untold}
 use Rattle.hot_c.specs.Calls.{FitsInKey, StaysOpen}
-use Rattle.hot_c.specs.Orders.{IsLastListed}
+use Rattle.hot_c.specs.Orders.{Answer, IsLastListed}
 use Rattle.hot_c.specs.Pairs.{AreSpelled}
 use Rattle.hot_c.specs.declared.opened.Opened.{Opened}
 use Rattle.hot_c.specs.declared.pairs.Pair.{Pair}
 use Rattle.hot_c.specs.declared.status.TheConstants.{DONE, KEY_TOO_LONG, CLOSED, NO_MEMORY}
 
 -- A scan through a handle was made, of so many pairs, whether there is a further one. They are in the handle's list.
-pub record HasFilled (IsMade : Layout → PassView → PassView → List ℕ → List ℕ → ℕ → List (List ℕ × ℕ) → Bool → Type 0)
-    (from upto : List ℕ) (limit : ℕ) (old new : Option Opened) (count : ℕ) (is_more : Bool) : Type 0 where
+pub record HasFilled (IsMade : Answer) (range : Range) (old new : Option Opened) (count : ℕ) (is_more : Bool) : Type 0 where
   pub before : Opened
   pub after : Opened
   pub was : old ≡ Some before
   pub is : new ≡ Some after
   pub index : after.handle.index ≡ before.handle.index
-  pub fit : FitsInKey from × FitsInKey upto
+  pub fit : FitsInKey range.from × FitsInKey range.upto
   pub count_is : count ≡ length after.list
-  pub few : count ≤ limit
-  pub made : IsMade before.handle.index.layout before.handle.pass after.handle.pass from upto limit after.list is_more
-  pub read : HasGotRange before.handle.index untold limit (before.handle.pass, tt) (after.handle.pass, tt)
+  pub few : count ≤ range.limit
+  pub made : IsMade before.handle.index.layout before.handle.pass after.handle.pass range after.list is_more
+  pub read : HasGotRange before.handle.index untold range.limit (before.handle.pass, tt) (after.handle.pass, tt)
 
 -- A scan through a handle lists nothing. A closed handle and a key that is too long are told as such, and nothing has changed; else
 -- there is no memory for a pair that it found, and it has made the steps of a scan, so many at most.
-pub record ListsNothing (from upto : List ℕ) (limit : ℕ) (old new : Option Opened) (status : ℕ) : Type 0 where
+pub record ListsNothing (range : Range) (old new : Option Opened) (status : ℕ) : Type 0 where
   pub closed : old ≡ None → (status ≡ CLOSED) × (new ≡ old)
-  pub long : IsSome old → ¬ (FitsInKey from × FitsInKey upto) → (status ≡ KEY_TOO_LONG) × (new ≡ old)
-  pub full : IsSome old → FitsInKey from → FitsInKey upto →
-      (status ≡ NO_MEMORY) × StaysOpen (λ index k j. IsUnnoted index.layout k j × HasFoundPair index.layout k j from upto limit) old new
-  pub read : IsSome old → FitsInKey from → FitsInKey upto → StaysOpen (λ index k j. HasGotRange index untold limit (k, tt) (j, tt)) old new
+  pub long : IsSome old → ¬ (FitsInKey range.from × FitsInKey range.upto) → (status ≡ KEY_TOO_LONG) × (new ≡ old)
+  pub full : IsSome old → FitsInKey range.from → FitsInKey range.upto →
+      (status ≡ NO_MEMORY) × StaysOpen (λ index k j. IsUnnoted index.layout k j × HasFoundPair index.layout k j range) old new
+  pub read : IsSome old → FitsInKey range.from → FitsInKey range.upto → StaysOpen (λ index k j. HasGotRange index untold range.limit (k, tt) (j, tt)) old new
 
 -- A scan through a handle, of so many pairs at most. A closed handle and a key that is too long are told as such, and nothing has
 -- changed; else the scan is made and its pairs are written where C has room for them, or there is no memory for a pair that it found
 -- and nothing is written. Either way it makes the steps of a scan, so many at most.
-pub record ListsInto {Room : Type 0} (limit : Room → ℕ) (IsWritten : List (List ℕ × ℕ) → Bool → Room → Room → Type 0)
-    (IsMade : Layout → PassView → PassView → List ℕ → List ℕ → ℕ → List (List ℕ × ℕ) → Bool → Type 0)
-    (from upto : List ℕ) (old new : Option Opened) (before after : Room) (status : ℕ) : Type 0 where
+pub record ListsInto {Room : Type 0} (IsWritten : List (List ℕ × ℕ) → Bool → Room → Room → Type 0)
+    (IsMade : Answer) (range : Range) (old new : Option Opened) (before after : Room) (status : ℕ) : Type 0 where
   pub closed : old ≡ None → (status ≡ CLOSED) × (new ≡ old) × (after ≡ before)
-  pub long : IsSome old → ¬ (FitsInKey from × FitsInKey upto) → (status ≡ KEY_TOO_LONG) × (new ≡ old) × (after ≡ before)
-  pub made : IsSome old → FitsInKey from → FitsInKey upto →
+  pub long : IsSome old → ¬ (FitsInKey range.from × FitsInKey range.upto) → (status ≡ KEY_TOO_LONG) × (new ≡ old) × (after ≡ before)
+  pub made : IsSome old → FitsInKey range.from → FitsInKey range.upto →
       ((status ≡ DONE) × (pairs : List (List ℕ × ℕ)) × (is_more : Bool) ×
-      StaysOpen (λ index k j. IsMade index.layout k j from upto (limit before) pairs is_more) old new × IsWritten pairs is_more before after)
-      ⊎ ((status ≡ NO_MEMORY) × StaysOpen (λ index k j. IsUnnoted index.layout k j × HasFoundPair index.layout k j from upto (limit before)) old new
+      StaysOpen (λ index k j. IsMade index.layout k j range pairs is_more) old new × IsWritten pairs is_more before after)
+      ⊎ ((status ≡ NO_MEMORY) × StaysOpen (λ index k j. IsUnnoted index.layout k j × HasFoundPair index.layout k j range) old new
       × (after ≡ before))
-  pub read : IsSome old → FitsInKey from → FitsInKey upto → StaysOpen (λ index k j. HasGotRange index untold (limit before) (k, tt) (j, tt)) old new
+  pub read : IsSome old → FitsInKey range.from → FitsInKey range.upto → StaysOpen (λ index k j. HasGotRange index untold range.limit (k, tt) (j, tt)) old new
 
 -- what C sees of a scan's answer: its array, the count of pairs, and whether there is a further one
 pub record Listing : Type 0 where
@@ -70,9 +67,8 @@ pub record IsArrayListed (pairs : List (List ℕ × ℕ)) (is_more : Bool) (befo
   pub more : after.more ≡ from_bool is_more
 
 -- a scan of as many pairs as the array has places
-abbrev pub ListsBy : (Layout → PassView → PassView → List ℕ → List ℕ → ℕ → List (List ℕ × ℕ) → Bool → Type 0) →
-    List ℕ → List ℕ → Option Opened → Option Opened → Listing → Listing → ℕ → Type 0
-ListsBy = ListsInto (λ (it : Listing). length it.room) IsArrayListed
+abbrev pub ListsBy : Answer → List ℕ → List ℕ → Option Opened → Option Opened → Listing → Listing → ℕ → Type 0
+ListsBy IsMade from upto old new before after status = ListsInto IsArrayListed IsMade (range_from from upto (length before.room)) old new before after status
 
 -- from the first key on, from the last one downwards, and of the last ones in rising order
 abbrev pub Lists : List ℕ → List ℕ → Option Opened → Option Opened → Listing → Listing → ℕ → Type 0

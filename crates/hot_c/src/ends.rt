@@ -3,7 +3,7 @@
 ghost use Rattle.hot_c.specs.Ends.{FindsFirst, FindsIn, FindsLast};
 
 use crate::handle::Handle;
-use crate::pairs::{Order, Pair, tell_first};
+use crate::pairs::{Order, Pair, Query, tell_first};
 use crate::scans::fill;
 use key_bits::MAX_BYTES;
 use std::alloc::Global;
@@ -14,14 +14,12 @@ use std::alloc::Global;
 pub extern "C" fn hot_first(alloc: Global, handle: &mut Handle, from: &[u8], pair: &mut Pair) -> u32
     ensures call { FindsFirst from.now handle.old.slot.opened handle.new.slot.opened pair.old pair.new result }
 {
-    find(
-        alloc,
-        handle,
-        Order::Rising,
+    let query = Query {
+        order: Order::Rising,
         from,
-        &[u8::MAX; MAX_BYTES],
-        pair,
-    )
+        upto: &[u8::MAX; MAX_BYTES],
+    };
+    find(alloc, handle, &query, pair)
 }
 
 /// Writes the last pair whose key is `upto` or below to `pair`: `FOUND`, or `ABSENT` if there is none. `CLOSED`, `KEY_TOO_LONG` or
@@ -30,22 +28,20 @@ pub extern "C" fn hot_first(alloc: Global, handle: &mut Handle, from: &[u8], pai
 pub extern "C" fn hot_last(alloc: Global, handle: &mut Handle, upto: &[u8], pair: &mut Pair) -> u32
     ensures call { FindsLast upto.now handle.old.slot.opened handle.new.slot.opened pair.old pair.new result }
 {
-    find(alloc, handle, Order::Falling, &[], upto, pair)
+    let query = Query {
+        order: Order::Falling,
+        from: &[],
+        upto,
+    };
+    find(alloc, handle, &query, pair)
 }
 
-/// Writes the pair that a scan of the range for one pair finds to `pair`: `FOUND`, or `ABSENT` if it finds none. Another status says why
+/// Writes the pair that a scan for one pair of `query` finds to `pair`: `FOUND`, or `ABSENT` if it finds none. Another status says why
 /// there was no scan.
-fn find(
-    alloc: Global,
-    handle: &mut Handle,
-    order: Order,
-    from: &[u8],
-    upto: &[u8],
-    pair: &mut Pair,
-) -> u32
-    ensures { FindsIn order from.now upto.now handle.old.slot.opened handle.new.slot.opened pair.old pair.new result }
+fn find(alloc: Global, handle: &mut Handle, query: &Query, pair: &mut Pair) -> u32
+    ensures { FindsIn query.now.order query.now.from.now query.now.upto.now handle.old.slot.opened handle.new.slot.opened pair.old pair.new result }
 {
-    match fill(alloc, handle, order, from, upto, 1) {
+    match fill(alloc, handle, query, 1) {
         Ok(_) => {
             let opened = handle.slot.lend();
             let status = tell_first(&opened.list, pair);

@@ -4,7 +4,7 @@ ghost use Rattle.std.specs.Prelude.{◌≡◌, [], IfErr, IfOk, MatchOption, Res
 ghost use Rattle.finite_map.specs.declared.Call.TheVariants.{Get};
 ghost use Rattle.finite_map.specs.declared.Reply.{Reply as ReplyView};
 ghost use Rattle.rowex_writing.specs.declared.attempts.TryFault.{TryFault as FaultView};
-ghost use Rattle.seat_calls.specs.Answers.{IsNoted, MayRefuse};
+ghost use Rattle.seat_calls.specs.Answers.{IsNoted, MayRefuse, range_from};
 ghost use Rattle.seat_calls.specs.Calls.{IsRangeRead};
 ghost use Rattle.hot_index.specs.Handles.{Stays};
 ghost use Rattle.hot_index.specs.Stamps.{HasCaughtUp, IsStampFrom};
@@ -89,8 +89,8 @@ impl Opened {
         upto: &Key,
         limit: usize,
     ) -> Result<bool, AllocError>
-        ensures { Stays (IsRangeRead (λ layout k j. IsFilledIn order layout k j from.now upto.now limit self.new.list) from.now upto.now limit result)
-            self.old.handle self.new.handle }
+        ensures { Stays (IsRangeRead (λ layout k j. IsFilledIn order layout k j (range_from from.now upto.now limit) self.new.list)
+            (range_from from.now upto.now limit) result) self.old.handle self.new.handle }
     {
         match order {
             Order::Rising => self.handle.scan_into(from, upto, limit, &mut self.list),

@@ -6,7 +6,7 @@ ghost use Rattle.hot_c.specs.Packs.{ListsPacked, ListsPackedBy, ListsPackedRever
 ghost use Rattle.packed_pairs.specs.Parts.{packed_head, keys_in};
 
 use crate::handle::Handle;
-use crate::pairs::Order;
+use crate::pairs::{Order, Query};
 use crate::scans::fill;
 use crate::status::DONE;
 use packed_pairs::{Head, Pairs};
@@ -30,7 +30,8 @@ pub extern "C" fn hot_scan_packed(
     ensures call { ListsPacked from.now upto.now handle.old.slot.opened handle.new.slot.opened (packing bytes.old heads.old count.old more.old) (packing bytes.new heads.new count.new more.new) result }
 {
     let order = Order::Rising;
-    list_packed(alloc, handle, order, from, upto, bytes, heads, count, more)
+    let query = Query { order, from, upto };
+    list_packed(alloc, handle, &query, bytes, heads, count, more)
 }
 
 /// Lists the last pairs whose keys are from `from` to `upto`, both included, in falling key order, packed as by `hot_scan_packed`.
@@ -49,24 +50,24 @@ pub extern "C" fn hot_scan_packed_reverse(
     ensures call { ListsPackedReverse from.now upto.now handle.old.slot.opened handle.new.slot.opened (packing bytes.old heads.old count.old more.old) (packing bytes.new heads.new count.new more.new) result }
 {
     let order = Order::Falling;
-    list_packed(alloc, handle, order, from, upto, bytes, heads, count, more)
+    let query = Query { order, from, upto };
+    list_packed(alloc, handle, &query, bytes, heads, count, more)
 }
 
 /// Lists the pairs of a range in the order `order`, packed as by `hot_scan_packed`. A status other than `DONE` leaves all as it was.
 fn list_packed(
     alloc: Global,
     handle: &mut Handle,
-    order: Order,
-    from: &[u8],
-    upto: &[u8],
+    query: &Query,
     bytes: &mut [u8],
     heads: &mut [Head],
     count: &mut usize,
     more: &mut u32,
 ) -> u32
-    ensures { ListsPackedBy (IsFilledIn order) from.now upto.now handle.old.slot.opened handle.new.slot.opened (packing bytes.old heads.old count.old more.old) (packing bytes.new heads.new count.new more.new) result }
+    ensures { ListsPackedBy (IsFilledIn query.now.order) query.now.from.now query.now.upto.now handle.old.slot.opened handle.new.slot.opened
+        (packing bytes.old heads.old count.old more.old) (packing bytes.new heads.new count.new more.new) result }
 {
-    match fill(alloc, handle, order, from, upto, heads.len()) {
+    match fill(alloc, handle, query, heads.len()) {
         Ok((found, is_more)) => {
             let opened = handle.slot.lend();
             opened.list.fit(bytes.len());

@@ -27,6 +27,14 @@ pub enum Order {
     LastRising,
 }
 
+/// Which pairs a scan is asked for: those with keys from one to another, both included, in this order.
+#[derive(Drop)]
+pub struct Query<'a> {
+    pub order: Order,
+    pub from: &'a [u8],
+    pub upto: &'a [u8],
+}
+
 /// Writes `pairs`, as a scan left them, to the first places of `room`, in the order `order`.
 pub fn write_in(order: Order, pairs: &Pairs, room: &mut [Pair])
     requires { length pairs.now ≤ length room.old }

@@ -1,11 +1,12 @@
 //! The scans of a range, for programs in C.
 
 ghost use Rattle.std.specs.Prelude.{◌<◌, ◌^◌, IfErr, IfOk};
+ghost use Rattle.seat_calls.specs.Answers.{range_from};
 ghost use Rattle.hot_c.specs.Orders.{IsFilledIn, IsListedIn};
 ghost use Rattle.hot_c.specs.Scans.{HasFilled, Lists, ListsBy, ListsLast, ListsNothing, ListsReverse, listing};
 
 use crate::handle::Handle;
-use crate::pairs::{Order, Pair, write_in};
+use crate::pairs::{Order, Pair, Query, write_in};
 use crate::status::{CLOSED, DONE, KEY_TOO_LONG, NO_MEMORY};
 use key_bits::Key;
 use std::alloc::Global;
@@ -24,7 +25,9 @@ pub extern "C" fn hot_scan(
 ) -> u32
     ensures call { Lists from.now upto.now handle.old.slot.opened handle.new.slot.opened (listing room.old count.old more.old) (listing room.new count.new more.new) result }
 {
-    list(alloc, handle, Order::Rising, from, upto, room, count, more)
+    let order = Order::Rising;
+    let query = Query { order, from, upto };
+    list(alloc, handle, &query, room, count, more)
 }
 
 /// Lists the last pairs whose keys are from `from` to `upto`, both included, in falling key order: as many as `room` has places. `count`
@@ -41,7 +44,9 @@ pub extern "C" fn hot_scan_reverse(
 ) -> u32
     ensures call { ListsReverse from.now upto.now handle.old.slot.opened handle.new.slot.opened (listing room.old count.old more.old) (listing room.new count.new more.new) result }
 {
-    list(alloc, handle, Order::Falling, from, upto, room, count, more)
+    let order = Order::Falling;
+    let query = Query { order, from, upto };
+    list(alloc, handle, &query, room, count, more)
 }
 
 /// Lists the last pairs whose keys are from `from` to `upto`, both included, in rising key order: as many as `room` has places. `count`
@@ -58,38 +63,30 @@ pub extern "C" fn hot_scan_last(
 ) -> u32
     ensures call { ListsLast from.now upto.now handle.old.slot.opened handle.new.slot.opened (listing room.old count.old more.old) (listing room.new count.new more.new) result }
 {
-    list(
-        alloc,
-        handle,
-        Order::LastRising,
-        from,
-        upto,
-        room,
-        count,
-        more,
-    )
+    let order = Order::LastRising;
+    let query = Query { order, from, upto };
+    list(alloc, handle, &query, room, count, more)
 }
 
-/// Lists pairs of a range in the order `order`: as many as `room` has places. `count` becomes their number, and `more` 1 if the range has
+/// Lists pairs of `query`, in its order: as many as `room` has places. `count` becomes their number, and `more` 1 if the range has
 /// more, else 0. A status other than `DONE` leaves all as it was.
 fn list(
     alloc: Global,
     handle: &mut Handle,
-    order: Order,
-    from: &[u8],
-    upto: &[u8],
+    query: &Query,
     room: &mut [Pair],
     count: &mut usize,
     more: &mut u32,
 ) -> u32
-    ensures { ListsBy (IsListedIn order) from.now upto.now handle.old.slot.opened handle.new.slot.opened (listing room.old count.old more.old) (listing room.new count.new more.new) result }
+    ensures { ListsBy (IsListedIn query.now.order) query.now.from.now query.now.upto.now handle.old.slot.opened handle.new.slot.opened
+        (listing room.old count.old more.old) (listing room.new count.new more.new) result }
 {
-    match fill(alloc, handle, order, from, upto, room.len()) {
+    match fill(alloc, handle, query, room.len()) {
         Ok((found, is_more)) => {
             let opened = handle.slot.lend();
             *count = found;
             *more = u32::from(is_more);
-            write_in(order, &opened.list, room);
+            write_in(query.order, &opened.list, room);
             opened.empty_list(alloc);
             DONE
         }
@@ -102,25 +99,24 @@ fn list(
 pub fn fill(
     alloc: Global,
     handle: &mut Handle,
-    order: Order,
-    from: &[u8],
-    upto: &[u8],
+    query: &Query,
     limit: usize,
 ) -> Result<(usize, bool), u32>
-    ensures ok { IfOk result (λ found. HasFilled (IsFilledIn order) from.now upto.now limit handle.old.slot.opened handle.new.slot.opened found.0 found.1) }
+    ensures ok { IfOk result (λ found. HasFilled (IsFilledIn query.now.order) (range_from query.now.from.now query.now.upto.now limit)
+        handle.old.slot.opened handle.new.slot.opened found.0 found.1) }
     ensures short { IfOk result (λ found. found.0 < 2 ^ 63) }
-    ensures err { IfErr result (ListsNothing from.now upto.now limit handle.old.slot.opened handle.new.slot.opened) }
+    ensures err { IfErr result (ListsNothing (range_from query.now.from.now query.now.upto.now limit) handle.old.slot.opened handle.new.slot.opened) }
 {
     if !handle.is_open() {
         return Err(CLOSED);
     }
     let mut first = Key::empty();
     let mut last = Key::empty();
-    let (Ok(()), Ok(())) = (first.set_bytes(from), last.set_bytes(upto)) else {
+    let (Ok(()), Ok(())) = (first.set_bytes(query.from), last.set_bytes(query.upto)) else {
         return Err(KEY_TOO_LONG);
     };
     let opened = handle.slot.lend();
-    match opened.scan(order, &first, &last, limit) {
+    match opened.scan(query.order, &first, &last, limit) {
         Ok(is_more) => Ok((opened.list.len(), is_more)),
         Err(_) => {
             opened.empty_list(alloc);

@@ -8,7 +8,7 @@ use Rattle.tries.specs.Keys.{Key}
 use Rattle.rowex_walks.specs.Directions.{IsLawfulBy}
 use Rattle.rowex_walks.specs.declared.direction.Direction.{Direction}
 use Rattle.rowex_walks.specs.declared.direction.Direction.TheVariants.{Upwards, Downwards}
-use Rattle.seat_calls.specs.Answers.{IsListedBy}
+use Rattle.seat_calls.specs.Answers.{IsListedBy, range_from}
 use Rattle.seat_calls.specs.Passes.{PassView}
 
 nothing : (found : Option (Key × ℕ)) → found ≡ None → IsSome found → ⊥
@@ -23,7 +23,7 @@ only items (y ∷ ys) (Some pair) e few some =
     let n : length items ≡ length ((y ∷ ys) ++ pair ∷ []) = ap length e in let m = length-append (y ∷ ys) (pair ∷ []) in absurd (omega (arith, n, m, few))
 
 -- a scan of one pair at most lists one at most
-pub one_at_most : (d : Direction) {layout : Layout} {k j : PassView} {from upto : Key} {pairs : List (Key × ℕ)} {more : Bool} → IsListedBy (IsLawfulBy d) layout k j from upto 1 pairs more →
+pub one_at_most : (d : Direction) {layout : Layout} {k j : PassView} {from upto : Key} {pairs : List (Key × ℕ)} {more : Bool} → IsListedBy (IsLawfulBy d) layout k j (range_from from upto 1) pairs more →
     (scan : Scan) → scan.pairs.items ≡ pairs → scan.more ≡ more → length pairs ≤ 1
 one_at_most Upwards h scan same last = subst (λ (l : List (Key × ℕ)). length l ≤ 1) same (h.lawful scan same last).short
 one_at_most Downwards h scan same last = subst (λ (l : List (Key × ℕ)). length l ≤ 1) same (h.lawful scan same last).short

@@ -34,20 +34,20 @@ scan_of pairs more short = record {
 }
 
 -- One pair of a list will do.
-module _ {layout : Layout} {k j : PassView} {from upto : Key} {limit : ℕ} where
-  first_found : (pairs : List (Key × ℕ)) → GoesOn layout k j → pairs ≢ [] → length pairs ≤ limit → All (λ e. IsTrue (is_within from upto e.0)) pairs →
-      All (λ e. IsHeldBetween j.fresh.front j.front e.0 e.1) pairs → HasFoundPair layout k j from upto limit
+module _ {layout : Layout} {k j : PassView} {range : Range} where
+  first_found : (pairs : List (Key × ℕ)) → GoesOn layout k j → pairs ≢ [] → length pairs ≤ range.limit → All (λ e. IsTrue (is_within range.from range.upto e.0)) pairs →
+      All (λ e. IsHeldBetween j.fresh.front j.front e.0 e.1) pairs → HasFoundPair layout k j range
   first_found [] on some short within held = absurd (some refl)
   first_found (e ∷ pairs) on some short within held = record {
     on = on;
     room = omega (arith, short);
     key = e.0;
     value = e.1;
-    within = All-head (λ (e : Key × ℕ). IsTrue (is_within from upto e.0)) e pairs within;
+    within = All-head (λ (e : Key × ℕ). IsTrue (is_within range.from range.upto e.0)) e pairs within;
     held = All-head (λ (e : Key × ℕ). IsHeldBetween j.fresh.front j.front e.0 e.1) e pairs held;
   }
 
-  pub listed_found : (d : Direction) {pairs : List (Key × ℕ)} {more : Bool} → IsListedBy (IsLawfulBy d) layout k j from upto limit pairs more → pairs ≢ [] → length pairs < 2 ^ 63 → HasFoundPair layout k j from upto limit
+  pub listed_found : (d : Direction) {pairs : List (Key × ℕ)} {more : Bool} → IsListedBy (IsLawfulBy d) layout k j range pairs more → pairs ≢ [] → length pairs < 2 ^ 63 → HasFoundPair layout k j range
   listed_found Upwards {pairs = pairs} {more = more} h some small =
       let l = h.lawful (scan_of pairs more small) refl refl in first_found pairs h.on some l.short l.within l.held
   listed_found Downwards {pairs = pairs} {more = more} h some small =
@@ -56,7 +56,7 @@ module _ {layout : Layout} {k j : PassView} {from upto : Key} {limit : ℕ} wher
 -- The pass has looked since it was settled, and clears the pin now; it is sure that a key of the range was held since its last load of the
 -- root. So a scan of no pairs is cut before that key.
 module _ {layout : Layout} {i : Known} (s t : SeatView) (looks : HasLooked s.known i) (event : IsEvent layout ClearPin silent i t.known) (g : Range) (keys : IsKey g.from × IsKey g.upto) (is : IsSome i.pin) where
-  sure_found : 0 < g.limit → Sure i (λ x. (key : Key) × (value : ℕ) × IsInRange g key × IsHeldSince x (since i) key value) → HasFoundPair layout (pass_of s) (pass_of t) g.from g.upto g.limit
+  sure_found : 0 < g.limit → Sure i (λ x. (key : Key) × (value : ℕ) × IsInRange g key × IsHeldSince x (since i) key value) → HasFoundPair layout (pass_of s) (pass_of t) g
   sure_found room found =
       let p = pinned_by i.pin is in
       let none = scan_of [] true (omega arith) in
@@ -76,7 +76,7 @@ module _ {layout : Layout} {i : Known} (s t : SeatView) (looks : HasLooked s.kno
       let (key, value, within, held, past) = l.further refl in
       record { on = goes_on s t looks.on event; room = room; key = key; value = value; within = within; held = held }
 
-  pub part_found : (d : Direction) {pairs : List (Key × ℕ)} → HasScannedPart d i g pairs → HasFoundPair layout (pass_of s) (pass_of t) g.from g.upto g.limit
+  pub part_found : (d : Direction) {pairs : List (Key × ℕ)} → HasScannedPart d i g pairs → HasFoundPair layout (pass_of s) (pass_of t) g
   part_found d {pairs} h = sure_found (let short = h.0 in omega (arith, short)) (λ c lawful recalls. further (seen c i) (length pairs) h.1.taken d (h.1.answer c lawful recalls))
     where
       further : (x : Past) (n : ℕ) (taken : List Pair) (d : Direction) → IsAnswer d x (since i) (limited g n) taken true → (key : Key) × (value : ℕ) × IsInRange g key × IsHeldSince x (since i) key value

@@ -19,7 +19,7 @@ use Rattle.rowex_table.specs.Seats.{IsSeatOf, SeatView, TableView}
 use Rattle.rowex_walks.specs.Scan.{Range}
 use Rattle.epochs.specs.Runs.{Pins}
 use Rattle.tries.specs.Keys.{Key}
-use Rattle.seat_calls.specs.Answers.{IsFoundBy, IsListedBy, IsUnnoted, ScanLaw}
+use Rattle.seat_calls.specs.Answers.{IsFoundBy, IsListedBy, IsUnnoted, ScanLaw, range_from}
 use Rattle.seat_calls.specs.Calls.{IsListReadBy, IsRangeReadWith, IsScanReadBy, no_part}
 use Rattle.seat_calls.specs.Passes.{PassView, IsSettled, pass_of}
 use Rattle.seat_calls.specs.Traces.{untold}
@@ -29,42 +29,42 @@ use Rattle.seat_calls.proofs.Scanned.{if_answered, if_refused, listed_scanned, l
 use Rattle.seat_calls.proofs.Tracing.{has_walked, walked_untold}
 
 -- nobody need be told
-pub range_untold : {A E G : Type 0} {IsAnswer : Layout → PassView → PassView → A → Type 0} {IsPart : Layout → PassView → PassView → Type 0} {from upto : Key} {limit : ℕ} {r : Result A E} {index : TableView}
-    {becomes : G → Event → G → Type 0} {a b : PassView × G} → IsRangeReadWith IsAnswer IsPart from upto limit r index becomes a b → IsRangeReadWith IsAnswer IsPart from upto limit r index untold (a.0, tt) (b.0, tt)
+pub range_untold : {A E G : Type 0} {IsAnswer : Layout → PassView → PassView → A → Type 0} {IsPart : Layout → PassView → PassView → Type 0} {range : Range} {r : Result A E} {index : TableView}
+    {becomes : G → Event → G → Type 0} {a b : PassView × G} → IsRangeReadWith IsAnswer IsPart range r index becomes a b → IsRangeReadWith IsAnswer IsPart range r index untold (a.0, tt) (b.0, tt)
 range_untold x = record { own = x.own; ok = x.ok; err = x.err; part = x.part; memory = x.memory; steps = x.steps; read = walked_untold _ _ _ _ _ x.read }
 
-module _ {G : Type 0} {from upto : Key} {limit : ℕ} {index : TableView} {becomes : G → Event → G → Type 0} {a b : PassView × G} where
+module _ {G : Type 0} {range : Range} {index : TableView} {becomes : G → Event → G → Type 0} {a b : PassView × G} where
   -- whatever part is left
-  pub range_whole : {A E : Type 0} {IsAnswer : Layout → PassView → PassView → A → Type 0} {IsPart : Layout → PassView → PassView → Type 0} (r : Result A E) → IsRangeReadWith IsAnswer IsPart from upto limit r index becomes a b →
-      IsRangeReadWith IsAnswer no_part from upto limit r index becomes a b
+  pub range_whole : {A E : Type 0} {IsAnswer : Layout → PassView → PassView → A → Type 0} {IsPart : Layout → PassView → PassView → Type 0} (r : Result A E) → IsRangeReadWith IsAnswer IsPart range r index becomes a b →
+      IsRangeReadWith IsAnswer no_part range r index becomes a b
   range_whole (Ok x) h = record { own = h.own; ok = h.ok; err = h.err; part = tt; memory = h.memory; steps = h.steps; read = h.read }
   range_whole (Err e) h = record { own = h.own; ok = h.ok; err = h.err; part = tt; memory = h.memory; steps = h.steps; read = h.read }
 
   -- it was refused for want of memory, and so is what it was for
   pub range_refused : {A B E F : Type 0} {IsAnswer : Layout → PassView → PassView → A → Type 0} {IsOther : Layout → PassView → PassView → B → Type 0} {IsPart : Layout → PassView → PassView → Type 0}
-      {e : E} {f : F} (r : Result A F) → r ≡ Err f → IsRangeReadWith IsOther IsPart from upto limit (Err e) index becomes a b → IsRangeReadWith IsAnswer no_part from upto limit r index becomes a b
+      {e : E} {f : F} (r : Result A F) → r ≡ Err f → IsRangeReadWith IsOther IsPart range (Err e) index becomes a b → IsRangeReadWith IsAnswer no_part range r index becomes a b
   range_refused {IsAnswer = IsAnswer} r is h =
-      subst (λ z. IsRangeReadWith IsAnswer no_part from upto limit z index becomes a b) (sym is) (record { own = h.own; ok = tt; err = h.err; part = tt; memory = h.memory; steps = h.steps; read = h.read })
+      subst (λ z. IsRangeReadWith IsAnswer no_part range z index becomes a b) (sym is) (record { own = h.own; ok = tt; err = h.err; part = tt; memory = h.memory; steps = h.steps; read = h.read })
 
   -- its pairs are not copied, for want of memory
   pub range_uncopied : (d : Direction) {A E F : Type 0} {IsAnswer : Layout → PassView → PassView → A → Type 0} {pairs : List (Key × ℕ)} {more : Bool} {f : F} (r : Result A F) → r ≡ Err f →
-      IsListReadBy {E = E} (IsLawfulBy d) from upto limit pairs (Ok more) index becomes a b → pairs ≢ [] → length pairs < 2 ^ 63 → IsRangeReadWith IsAnswer no_part from upto limit r index becomes a b
+      IsListReadBy {E = E} (IsLawfulBy d) range pairs (Ok more) index becomes a b → pairs ≢ [] → length pairs < 2 ^ 63 → IsRangeReadWith IsAnswer no_part range r index becomes a b
   range_uncopied d {IsAnswer = IsAnswer} r is h some small =
-      subst (λ z. IsRangeReadWith IsAnswer no_part from upto limit z index becomes a b) (sym is)
+      subst (λ z. IsRangeReadWith IsAnswer no_part range z index becomes a b) (sym is)
       (record { own = h.own; ok = tt; err = listed_unnoted h.ok; part = tt; memory = listed_found d h.ok some small; steps = h.steps; read = h.read })
 
   -- they are copied
-  pub range_copied : {IsLawful : ScanLaw} {E F : Type 0} {pairs : List (Key × ℕ)} {more : Bool} → IsListReadBy {E = E} IsLawful from upto limit pairs (Ok more) index becomes a b → (scan : Scan) → scan.pairs.items ≡ pairs →
-      scan.more ≡ more → IsScanReadBy {E = F} IsLawful from upto limit (Ok scan) index becomes a b
+  pub range_copied : {IsLawful : ScanLaw} {E F : Type 0} {pairs : List (Key × ℕ)} {more : Bool} → IsListReadBy {E = E} IsLawful range pairs (Ok more) index becomes a b → (scan : Scan) → scan.pairs.items ≡ pairs →
+      scan.more ≡ more → IsScanReadBy {E = F} IsLawful range (Ok scan) index becomes a b
   range_copied h scan same last = record { own = h.own; ok = listed_scanned h.ok scan same last; err = tt; part = tt; memory = tt; steps = h.steps; read = h.read }
 
 -- and the only one is taken
 pub range_first : {G : Type 0} {from upto : Key} {index : TableView} {becomes : G → Event → G → Type 0} {a b : PassView × G} {IsLawful : ScanLaw} {E F : Type 0} {pairs : List (Key × ℕ)} {more : Bool} →
-    IsListReadBy {E = E} IsLawful from upto 1 pairs (Ok more) index becomes a b → (found : Option (Key × ℕ)) → option_to_list found ≡ pairs →
-    IsRangeReadWith {E = F} (λ layout k j. IsFoundBy IsLawful layout k j from upto) no_part from upto 1 (Ok found) index becomes a b
+    IsListReadBy {E = E} IsLawful (range_from from upto 1) pairs (Ok more) index becomes a b → (found : Option (Key × ℕ)) → option_to_list found ≡ pairs →
+    IsRangeReadWith {E = F} (λ layout k j. IsFoundBy IsLawful layout k j from upto) no_part (range_from from upto 1) (Ok found) index becomes a b
 range_first {from = from} {upto = upto} {index = index} {a = a} {b = b} {IsLawful = IsLawful} {more = more} h found taken = record {
   own = h.own;
-  ok = (more, subst (λ pairs. IsListedBy IsLawful index.layout a.0 b.0 from upto 1 pairs more) (sym taken) h.ok);
+  ok = (more, subst (λ pairs. IsListedBy IsLawful index.layout a.0 b.0 (range_from from upto 1) pairs more) (sym taken) h.ok);
   err = tt;
   part = tt;
   memory = tt;
@@ -76,13 +76,13 @@ range_first {from = from} {upto = upto} {index = index} {a = a} {b = b} {IsLawfu
 pub list_read : {G : Type 0} (table : TableView) (becomes : G → Event → G → Type 0) (d : Direction) (g : Range) (pairs : List (Key × ℕ)) (r : Result Bool AllocError) {a b c e : SeatView × G} → IsSettled a.0.known →
     Pins table becomes a b → IsSeatOf table b.0 → IsSome b.0.known.pin → Scans table becomes g.limit b c → IsKey g.from × IsKey g.upto → IfOk r (HasScanned d c.0.known g pairs) → OnErr r (HasScannedPart d c.0.known g pairs) →
     c.0.known.steps ≤ b.0.known.steps + (1 + scan_loads g.limit) → StepsWith table becomes ClearPin silent c e →
-    IsListReadBy (IsLawfulBy d) g.from g.upto g.limit pairs r table becomes (pass_of a.0, a.1) (pass_of e.0, e.1)
+    IsListReadBy (IsLawfulBy d) g pairs r table becomes (pass_of a.0, a.1) (pass_of e.0, e.1)
 list_read table becomes d g pairs r {a} {b} {c} {e} settled pins own pinned scans keys scanned cut few end =
     let looks = looked settled pins scans.3 in
     let still : IsSome c.0.known.pin = subst IsSome (sym (looked_at scans.3).later.pin) pinned in
     record {
       own = end.seat.0 ∙ ((looks_same scans.3).0 ∙ own);
-      ok = if_answered r (HasScanned d c.0.known g pairs) (IsListedBy (IsLawfulBy d) table.layout (pass_of a.0) (pass_of e.0) g.from g.upto g.limit pairs) (scan_answered a.0 e.0 settled looks end.event d g keys still pairs) scanned;
+      ok = if_answered r (HasScanned d c.0.known g pairs) (IsListedBy (IsLawfulBy d) table.layout (pass_of a.0) (pass_of e.0) g pairs) (scan_answered a.0 e.0 settled looks end.event d g keys still pairs) scanned;
       err = if_refused r (IsUnnoted table.layout (pass_of a.0) (pass_of e.0)) (scan_refused a.0 e.0 settled looks end.event);
       part = on_err_weaker r (λ h. (h.0, scan_answered a.0 e.0 settled looks end.event d (limited g (length pairs)) keys still pairs true h.1)) cut;
       memory = on_err_weaker r (part_found a.0 e.0 looks end.event g keys still d) cut;

@@ -1,6 +1,6 @@
 -- What a cursor lists, and where it goes on.
 use Rattle.std.specs.Prelude.{◌≡◌, ◌⊎◌, ℕ, List, [], Bool, true, false, Option, Some, None}
-use Rattle.seat_calls.specs.Answers.{IsListed}
+use Rattle.seat_calls.specs.Answers.{IsListed, range_from}
 use Rattle.seat_calls.specs.Passes.{PassView}
 use Rattle.hot_index.specs.declared.cursor.Rest.{Rest}
 use Rattle.key_ranges.specs.Ranges.{IsNextKey, NoKeyAbove}
@@ -28,5 +28,5 @@ IsLeft rest pairs false left = left ≡ None
 
 -- A part was listed by a scan of the keys that were left, and these are left now.
 pub record IsPartListed (layout : Layout) (k j : PassView) (rest : Rest) (limit : ℕ) (pairs : List (Key × ℕ)) (left : Option Rest) (more : Bool) : Type 0 where
-  pub listed : IsListed layout k j rest.from rest.upto limit pairs more
+  pub listed : IsListed layout k j (range_from rest.from rest.upto limit) pairs more
   pub rest_is : IsLeft rest pairs more left

@@ -1,7 +1,7 @@
 //! Cursors, which list a range of keys in parts, each by a scan of its own.
 
 ghost use Rattle.std.specs.Prelude.{◌≡◌, ◌+◌, ◌≤◌, [], false, IfOk, None, Ok, OnErr, Some};
-ghost use Rattle.seat_calls.specs.Answers.{HasFoundPair, IsListedInPart, IsUnnoted};
+ghost use Rattle.seat_calls.specs.Answers.{HasFoundPair, IsListedInPart, IsUnnoted, range_from};
 ghost use Rattle.seat_calls.specs.Counts.{scan_steps};
 ghost use Rattle.seat_calls.specs.Traces.{HasGotRange, untold};
 ghost use Rattle.hot_index.specs.Cursors.{IsLeft, IsPartListed, rest_of};
@@ -78,8 +78,9 @@ impl Cursor {
         ensures ended { self.old ≡ None → (result ≡ Ok false) × (pairs.new ≡ []) × (pass.new ≡ pass.old) × (self.new ≡ None) }
         ensures part { (rest : Rest) → self.old ≡ Some rest → IfOk result (IsPartListed index.now.layout pass.old pass.new rest limit pairs.new self.new) }
         ensures err { OnErr result (IsUnnoted index.now.layout pass.old pass.new × self.new ≡ self.old) }
-        ensures refused { (rest : Rest) → self.old ≡ Some rest → OnErr result (IsListedInPart index.now.layout pass.old pass.new rest.from rest.upto limit pairs.new) }
-        ensures memory { (rest : Rest) → self.old ≡ Some rest → OnErr result (HasFoundPair index.now.layout pass.old pass.new rest.from rest.upto limit) }
+        ensures refused { (rest : Rest) → self.old ≡ Some rest →
+            OnErr result (IsListedInPart index.now.layout pass.old pass.new (range_from rest.from rest.upto limit) pairs.new) }
+        ensures memory { (rest : Rest) → self.old ≡ Some rest → OnErr result (HasFoundPair index.now.layout pass.old pass.new (range_from rest.from rest.upto limit)) }
         ensures steps { pass.new.steps ≤ pass.old.steps + scan_steps limit }
         ensures read { (rest : Rest) → self.old ≡ Some rest → HasGotRange index.now untold limit (pass.old, tt) (pass.new, tt) }
     {

@@ -4,7 +4,7 @@ ghost use Rattle.std.specs.Prelude.{◌≡◌, ◌≢◌, [], All, Err, IfOk, le
 ghost use Rattle.finite_map.specs.declared.Call.TheVariants.{Add, Exchange, Get, Insert, Remove, RemoveIf, Upsert};
 ghost use Rattle.finite_map.specs.Reverse.{IsLawfulReverseScan};
 ghost use Rattle.rowex_table.specs.Seats.{IsShownAll};
-ghost use Rattle.seat_calls.specs.Answers.{HaveMet, IsNoted, IsUnnoted, got};
+ghost use Rattle.seat_calls.specs.Answers.{HaveMet, IsNoted, IsUnnoted, got, range_from};
 ghost use Rattle.seat_calls.specs.Calls.{IsAwaited, IsCallTried, IsListRead, IsListReadBy, IsRangeRead, IsScanRead, IsScanReadBy, IsTried};
 ghost use Rattle.seat_calls.specs.Census.{HasCounted};
 ghost use Rattle.hot_index.specs.Handles.{Stays, handle_at};
@@ -234,7 +234,7 @@ impl<I: ShowsIndex> Handle<I> {
         upto: &Key,
         limit: usize,
     ) -> Result<Scan, AllocError>
-        ensures { Stays (IsScanRead from.now upto.now limit result) self.old self.new }
+        ensures { Stays (IsScanRead (range_from from.now upto.now limit) result) self.old self.new }
     {
         self.index
             .show()
@@ -250,7 +250,7 @@ impl<I: ShowsIndex> Handle<I> {
         limit: usize,
         pairs: &mut Pairs,
     ) -> Result<bool, AllocError>
-        ensures call { Stays (IsListRead from.now upto.now limit pairs.new result) self.old self.new }
+        ensures call { Stays (IsListRead (range_from from.now upto.now limit) pairs.new result) self.old self.new }
     {
         self.index
             .show()
@@ -265,7 +265,7 @@ impl<I: ShowsIndex> Handle<I> {
         limit: usize,
         pairs: &mut Pairs,
     ) -> Result<bool, AllocError>
-        ensures call { Stays (IsListRead prefix.now (last_with prefix.now) limit pairs.new result) self.old self.new }
+        ensures call { Stays (IsListRead (range_from prefix.now (last_with prefix.now) limit) pairs.new result) self.old self.new }
     {
         self.index
             .show()
@@ -281,7 +281,8 @@ impl<I: ShowsIndex> Handle<I> {
         limit: usize,
         pairs: &mut Pairs,
     ) -> Result<bool, AllocError>
-        ensures call { Stays (λ index k j. IsListReadBy IsLawfulReverseScan from.now upto.now limit pairs.new result index untold (k, tt) (j, tt)) self.old self.new }
+        ensures call { Stays (λ index k j. IsListReadBy IsLawfulReverseScan (range_from from.now upto.now limit) pairs.new result index untold (k, tt) (j, tt))
+            self.old self.new }
     {
         self.index
             .show()
@@ -297,7 +298,7 @@ impl<I: ShowsIndex> Handle<I> {
         upto: &Key,
         limit: usize,
     ) -> Result<Scan, AllocError>
-        ensures { Stays (λ index k j. IsScanReadBy IsLawfulReverseScan from.now upto.now limit result index untold (k, tt) (j, tt)) self.old self.new }
+        ensures { Stays (λ index k j. IsScanReadBy IsLawfulReverseScan (range_from from.now upto.now limit) result index untold (k, tt) (j, tt)) self.old self.new }
     {
         self.index
             .show()
@@ -306,14 +307,14 @@ impl<I: ShowsIndex> Handle<I> {
 
     /// The first pair whose key is `from` or above; `None` if there is none, as by `Index::first`. An error if memory is refused.
     pub fn first(&mut self, alloc: Global, from: &Key) -> Result<Option<(Key, u64)>, AllocError>
-        ensures { Stays (IsRangeRead (λ layout k j. IsFirstFound layout k j from.now) from.now (last_with []) 1 result) self.old self.new }
+        ensures { Stays (IsRangeRead (λ layout k j. IsFirstFound layout k j from.now) (range_from from.now (last_with []) 1) result) self.old self.new }
     {
         self.index.show().first(alloc, &mut self.pass, from)
     }
 
     /// The last pair whose key is `upto` or below; `None` if there is none, as by `Index::last`. An error if memory is refused.
     pub fn last(&mut self, alloc: Global, upto: &Key) -> Result<Option<(Key, u64)>, AllocError>
-        ensures { Stays (IsRangeRead (λ layout k j. IsLastFound layout k j upto.now) [] upto.now 1 result) self.old self.new }
+        ensures { Stays (IsRangeRead (λ layout k j. IsLastFound layout k j upto.now) (range_from [] upto.now 1) result) self.old self.new }
     {
         self.index.show().last(alloc, &mut self.pass, upto)
     }

@@ -1,6 +1,7 @@
 //! Scans of the keys that begin with a prefix, and the first pair from a key on.
 
 ghost use Rattle.std.specs.Prelude.{[]};
+ghost use Rattle.seat_calls.specs.Answers.{range_from};
 ghost use Rattle.seat_calls.specs.Calls.{IsListRead, IsRangeRead};
 ghost use Rattle.seat_calls.specs.Passes.{Owns};
 ghost use Rattle.hot_index.specs.Ranges.{IsFirstFound};
@@ -26,7 +27,7 @@ impl Index {
         pairs: &mut Pairs,
     ) -> Result<bool, AllocError>
         requires { Owns self.now pass.old }
-        ensures { IsListRead prefix.now (last_with prefix.now) limit pairs.new result self.now pass.old pass.new }
+        ensures { IsListRead (range_from prefix.now (last_with prefix.now) limit) pairs.new result self.now pass.old pass.new }
     {
         self.scan_into(pass, prefix, &last_with_prefix(prefix), limit, pairs)
     }
@@ -42,7 +43,7 @@ impl Index {
         from: &Key,
     ) -> Result<Option<(Key, u64)>, AllocError>
         requires { Owns self.now pass.old }
-        ensures { IsRangeRead (λ layout k j. IsFirstFound layout k j from.now) from.now (last_with []) 1 result self.now pass.old pass.new }
+        ensures { IsRangeRead (λ layout k j. IsFirstFound layout k j from.now) (range_from from.now (last_with []) 1) result self.now pass.old pass.new }
     {
         let last = last_with_prefix(&Key::of_places([0; MAX_BYTES], 0));
         self.first_by(alloc, pass, Direction::Upwards, from, &last)

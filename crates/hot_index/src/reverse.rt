@@ -2,6 +2,7 @@
 
 ghost use Rattle.std.specs.Prelude.{[]};
 ghost use Rattle.finite_map.specs.Reverse.{IsLawfulReverseScan};
+ghost use Rattle.seat_calls.specs.Answers.{range_from};
 ghost use Rattle.seat_calls.specs.Calls.{IsListReadBy, IsRangeRead, IsScanReadBy};
 ghost use Rattle.seat_calls.specs.Passes.{Owns};
 ghost use Rattle.seat_calls.specs.Reverse.{IsLastFound};
@@ -12,7 +13,7 @@ use finite_map::Scan;
 use key_bits::{Key, MAX_BYTES};
 use packed_pairs::Pairs;
 use rowex_core::{Gate, NoGate};
-use rowex_scanning::Direction;
+use rowex_scanning::{Direction, Range};
 use std::alloc::{AllocError, Global};
 
 impl Index {
@@ -34,17 +35,15 @@ impl Index {
         limit: usize,
     ) -> Result<Scan, AllocError>
         requires { Owns self.now pass.old }
-        ensures { IsScanReadBy IsLawfulReverseScan from.now upto.now limit result self.now untold (pass.old, tt) (pass.new, tt) }
+        ensures { IsScanReadBy IsLawfulReverseScan (range_from from.now upto.now limit) result self.now untold (pass.old, tt) (pass.new, tt) }
     {
-        self.scan_by(
-            alloc,
-            pass,
-            Direction::Downwards,
+        let range = Range {
             from,
             upto,
+            direction: Direction::Downwards,
             limit,
-            &mut NoGate,
-        )
+        };
+        self.scan_by(alloc, pass, &range, &mut NoGate)
     }
 
     /// `scan_reverse` into a list, whose earlier pairs are dropped. The pair with the greatest key comes first. Returns whether the
@@ -61,7 +60,7 @@ impl Index {
         pairs: &mut Pairs,
     ) -> Result<bool, AllocError>
         requires { Owns self.now pass.old }
-        ensures { IsListReadBy IsLawfulReverseScan from.now upto.now limit pairs.new result self.now untold (pass.old, tt) (pass.new, tt) }
+        ensures { IsListReadBy IsLawfulReverseScan (range_from from.now upto.now limit) pairs.new result self.now untold (pass.old, tt) (pass.new, tt) }
     {
         self.scan_reverse_into_with(pass, from, upto, limit, pairs, &mut NoGate)
     }
@@ -78,7 +77,7 @@ impl Index {
         upto: &Key,
     ) -> Result<Option<(Key, u64)>, AllocError>
         requires { Owns self.now pass.old }
-        ensures { IsRangeRead (λ layout k j. IsLastFound layout k j upto.now) [] upto.now 1 result self.now pass.old pass.new }
+        ensures { IsRangeRead (λ layout k j. IsLastFound layout k j upto.now) (range_from [] upto.now 1) result self.now pass.old pass.new }
     {
         let empty = Key::of_places([0; MAX_BYTES], 0);
         self.first_by(alloc, pass, Direction::Downwards, &empty, upto)
@@ -95,8 +94,14 @@ impl Index {
         gate: &mut G,
     ) -> Result<bool, AllocError>
         requires { Owns self.now pass.old }
-        ensures { IsListReadBy IsLawfulReverseScan from.now upto.now limit pairs.new result self.now G.becomes (pass.old, gate.old) (pass.new, gate.new) }
+        ensures { IsListReadBy IsLawfulReverseScan (range_from from.now upto.now limit) pairs.new result self.now G.becomes (pass.old, gate.old) (pass.new, gate.new) }
     {
-        self.list_by(pass, Direction::Downwards, from, upto, limit, pairs, gate)
+        let range = Range {
+            from,
+            upto,
+            direction: Direction::Downwards,
+            limit,
+        };
+        self.list_by(pass, &range, pairs, gate)
     }
 }

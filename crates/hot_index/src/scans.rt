@@ -1,7 +1,8 @@
 //! Scans, of a range of keys in either direction.
 
 ghost use Rattle.rowex_walks.specs.Directions.{IsLawfulBy};
-ghost use Rattle.seat_calls.specs.Answers.{IsFoundBy};
+ghost use Rattle.rowex_scanning.specs.Scanning.{asked_range};
+ghost use Rattle.seat_calls.specs.Answers.{IsFoundBy, range_from};
 ghost use Rattle.seat_calls.specs.Calls.{IsListRead, IsListReadBy, IsListReadWith, IsRangeRead, IsScanRead, IsScanReadBy, IsScanReadWith};
 ghost use Rattle.seat_calls.specs.Passes.{Owns};
 
@@ -35,7 +36,7 @@ impl Index {
         limit: usize,
     ) -> Result<Scan, AllocError>
         requires { Owns self.now pass.old }
-        ensures { IsScanRead from.now upto.now limit result self.now pass.old pass.new }
+        ensures { IsScanRead (range_from from.now upto.now limit) result self.now pass.old pass.new }
     {
         self.scan_with(alloc, pass, from, upto, limit, &mut NoGate)
     }
@@ -51,9 +52,15 @@ impl Index {
         gate: &mut G,
     ) -> Result<Scan, AllocError>
         requires { Owns self.now pass.old }
-        ensures { IsScanReadWith from.now upto.now limit result self.now G.becomes (pass.old, gate.old) (pass.new, gate.new) }
+        ensures { IsScanReadWith (range_from from.now upto.now limit) result self.now G.becomes (pass.old, gate.old) (pass.new, gate.new) }
     {
-        self.scan_by(alloc, pass, Direction::Upwards, from, upto, limit, gate)
+        let range = Range {
+            from,
+            upto,
+            direction: Direction::Upwards,
+            limit,
+        };
+        self.scan_by(alloc, pass, &range, gate)
     }
 
     /// `scan` into a list, whose earlier pairs are dropped. Returns whether the range has more.
@@ -72,7 +79,7 @@ impl Index {
         pairs: &mut Pairs,
     ) -> Result<bool, AllocError>
         requires { Owns self.now pass.old }
-        ensures { IsListRead from.now upto.now limit pairs.new result self.now pass.old pass.new }
+        ensures { IsListRead (range_from from.now upto.now limit) pairs.new result self.now pass.old pass.new }
     {
         self.scan_into_with(pass, from, upto, limit, pairs, &mut NoGate)
     }
@@ -88,9 +95,15 @@ impl Index {
         gate: &mut G,
     ) -> Result<bool, AllocError>
         requires { Owns self.now pass.old }
-        ensures { IsListReadWith from.now upto.now limit pairs.new result self.now G.becomes (pass.old, gate.old) (pass.new, gate.new) }
+        ensures { IsListReadWith (range_from from.now upto.now limit) pairs.new result self.now G.becomes (pass.old, gate.old) (pass.new, gate.new) }
     {
-        self.list_by(pass, Direction::Upwards, from, upto, limit, pairs, gate)
+        let range = Range {
+            from,
+            upto,
+            direction: Direction::Upwards,
+            limit,
+        };
+        self.list_by(pass, &range, pairs, gate)
     }
 
     /// What `scan_into_with` does, or, in the other direction, `scan_reverse_into_with`. Inline, so that each has a walk of its own
@@ -99,29 +112,20 @@ impl Index {
     pub(crate) fn list_by<G: Gate>(
         &self,
         pass: &mut Pass,
-        direction: Direction,
-        from: &Key,
-        upto: &Key,
-        limit: usize,
+        range: &Range,
         pairs: &mut Pairs,
         gate: &mut G,
     ) -> Result<bool, AllocError>
         requires { Owns self.now pass.old }
-        ensures { IsListReadBy (IsLawfulBy direction) from.now upto.now limit pairs.new result self.now G.becomes (pass.old, gate.old) (pass.new, gate.new) }
+        ensures { IsListReadBy (IsLawfulBy range.now.direction) (asked_range range.now) pairs.new result self.now G.becomes (pass.old, gate.old) (pass.new, gate.new) }
     {
-        let range = Range {
-            from,
-            upto,
-            direction,
-            limit,
-        };
         pin(&self.table, &mut pass.seat, gate);
         let scan = scan_root(
             &self.table,
             &mut pass.seat,
             gate,
             &mut pass.room.way,
-            &range,
+            range,
             pairs,
         );
         unpin(&self.table, &mut pass.seat, gate);
@@ -134,17 +138,14 @@ impl Index {
         &self,
         alloc: Global,
         pass: &mut Pass,
-        direction: Direction,
-        from: &Key,
-        upto: &Key,
-        limit: usize,
+        range: &Range,
         gate: &mut G,
     ) -> Result<Scan, AllocError>
         requires { Owns self.now pass.old }
-        ensures { IsScanReadBy (IsLawfulBy direction) from.now upto.now limit result self.now G.becomes (pass.old, gate.old) (pass.new, gate.new) }
+        ensures { IsScanReadBy (IsLawfulBy range.now.direction) (asked_range range.now) result self.now G.becomes (pass.old, gate.old) (pass.new, gate.new) }
     {
         let mut list = Pairs::new(alloc);
-        let more = self.list_by(pass, direction, from, upto, limit, &mut list, gate)?;
+        let more = self.list_by(pass, range, &mut list, gate)?;
         let pairs = list.to_vec(alloc)?;
         Ok(Scan { pairs, more })
     }
@@ -160,10 +161,17 @@ impl Index {
         upto: &Key,
     ) -> Result<Option<(Key, u64)>, AllocError>
         requires { Owns self.now pass.old }
-        ensures { IsRangeRead (λ layout k j. IsFoundBy (IsLawfulBy direction) layout k j from.now upto.now) from.now upto.now 1 result self.now pass.old pass.new }
+        ensures { IsRangeRead (λ layout k j. IsFoundBy (IsLawfulBy direction) layout k j from.now upto.now) (range_from from.now upto.now 1) result
+            self.now pass.old pass.new }
     {
+        let range = Range {
+            from,
+            upto,
+            direction,
+            limit: 1,
+        };
         let mut list = Pairs::new(alloc);
-        self.list_by(pass, direction, from, upto, 1, &mut list, &mut NoGate)?;
+        self.list_by(pass, &range, &mut list, &mut NoGate)?;
         let mut pairs = list.to_vec(alloc)?;
         Ok(pairs.pop())
     }

@@ -19,7 +19,7 @@ use Rattle.finite_map.proofs.Steps.{map_after_all-push, replies_of-push}
 use Rattle.rowex_core.specs.declared.event.Event.{Event}
 use Rattle.rowex_table.specs.Seats.{TableView}
 use Rattle.hot_scripts.specs.Meaning.{line, reply_text}
-use Rattle.seat_calls.specs.Answers.{IsScanned, IsUnnoted}
+use Rattle.seat_calls.specs.Answers.{IsScanned, IsUnnoted, range_from}
 use Rattle.seat_calls.specs.Passes.{PassView, AreByPasses, IsNewPass}
 use Rattle.hot_run.specs.Answers.{Answered, called, refused, listed, full_text, lines_of_answer}
 use Rattle.hot_run.specs.Runs.{text_told}
@@ -87,7 +87,7 @@ module _ (index : TableView) where
     same_unnoted : IsUnnoted index.layout k j → map_of j.front ≡ map_of k.front
     same_unnoted n = ap map_of (front_of j (alone_unnoted n) ∙ ap (changes_of 0) n.notes ∙ sym (front_of k h))
 
-    module _ (from upto : List ℕ) (limit : ℕ) (scan : Scan) (n : IsScanned index.layout k j from upto limit scan) where
+    module _ (from upto : List ℕ) (limit : ℕ) (scan : Scan) (n : IsScanned index.layout k j (range_from from upto limit) scan) where
       alone_scanned : IsAlone index j
       alone_scanned = record { one = h.one; number = n.on.number ∙ h.number; makers = n.on.makers; legal = n.legal }
 

@@ -17,7 +17,7 @@ use Rattle.finite_map.proofs.Legal.{place_after-within}
 use Rattle.record_words.specs.declared.layout.Layout.{Layout}
 use Rattle.rowex_core.specs.declared.event.Event.{Event}
 use Rattle.rowex_table.specs.Seats.{TableView}
-use Rattle.seat_calls.specs.Answers.{IsListed, IsNoted, IsScanned}
+use Rattle.seat_calls.specs.Answers.{IsListed, IsNoted, IsScanned, range_from}
 use Rattle.seat_calls.specs.Passes.{PassView, AreByPasses}
 use Rattle.seat_calls.specs.Traces.{HasRead, HasTold, untold}
 use Rattle.seat_calls.proofs.Tracing.{read_told, told_untold}
@@ -118,7 +118,7 @@ module _ {G : Type 0} (index : TableView) (becomes : G → Event → G → Type 
 
   -- a scan that was answered so
   pub HasAnsweredCommand-scan : (a m : PassView × G) (range : Range) (scan : Scan) (before after : List ℕ)
-      → IsScanned index.layout a.0 m.0 range.from range.upto range.limit scan → HasRead index becomes a m
+      → IsScanned index.layout a.0 m.0 (range_from range.from range.upto range.limit) scan → HasRead index becomes a m
       → after ≡ before ++ scan_lines scan.pairs.items scan.more → HasAnsweredCommand index becomes a (Lists range) m before after
   HasAnsweredCommand-scan a m range scan before after is read text = record {
     answer = listed range scan (length m.0.fresh.front) (length m.0.front);
@@ -137,7 +137,7 @@ module _ {G : Type 0} (index : TableView) (becomes : G → Event → G → Type 
 
   -- a scan into a list that was answered so
   pub HasAnsweredCommand-list : Global → (a m : PassView × G) (range : Range) (pairs : List (List ℕ × ℕ)) → length pairs < 2 ^ 63 → (more : Bool) (before after : List ℕ)
-      → IsListed index.layout a.0 m.0 range.from range.upto range.limit pairs more → HasRead index becomes a m → after ≡ before ++ scan_lines pairs more
+      → IsListed index.layout a.0 m.0 (range_from range.from range.upto range.limit) pairs more → HasRead index becomes a m → after ≡ before ++ scan_lines pairs more
       → HasAnsweredCommand index becomes a (Lists range) m before after
   HasAnsweredCommand-list alloc a m range pairs short more before after is read text =
       let scan = scan_of alloc pairs short more in

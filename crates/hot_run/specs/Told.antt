@@ -9,7 +9,7 @@ use Rattle.record_words.specs.Layout.{leaf_size}
 use Rattle.record_words.specs.Leaf.{words_for}
 use Rattle.rowex_core.specs.declared.event.Event.{Event}
 use Rattle.rowex_table.specs.Seats.{TableView}
-use Rattle.seat_calls.specs.Answers.{IsRefused, IsScanned, MayLack, fault_of}
+use Rattle.seat_calls.specs.Answers.{IsRefused, IsScanned, MayLack, fault_of, range_from}
 use Rattle.seat_calls.specs.Passes.{PassView, AreByPasses, IsNewPass, Owns}
 use Rattle.seat_calls.specs.Traces.{HasTold}
 use Rattle.hot_scripts.specs.declared.command.Command.{Command}
@@ -31,7 +31,7 @@ abbrev pub IsCommandTold : Layout → PassView → Answered → PassView → Typ
 IsCommandTold layout k (called note) j = IsCalled layout k j note
 IsCommandTold layout k (refused call full) j = MayLack call full × IsRefused layout call k j (fault_of full)
 IsCommandTold layout k (listed range scan before after) j =
-    IsScanned layout k j range.from range.upto range.limit scan × (before ≡ length j.fresh.front) × (after ≡ length j.front)
+    IsScanned layout k j (range_from range.from range.upto range.limit) scan × (before ≡ length j.fresh.front) × (after ≡ length j.front)
 
 -- And these answers, one after another. The pass makes each command's steps and no other between them, and its gate is told each of
 -- these, in order, and nothing else.

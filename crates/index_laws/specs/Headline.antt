@@ -26,7 +26,7 @@ use Rattle.rowex_scanning.specs.Counts.{scan_entries}
 use Rattle.rowex_table.specs.Seats.{SeatView, TableView}
 use Rattle.rowex_writing.specs.declared.attempts.TryFault.{TryFault}
 use Rattle.rowex_writing.specs.declared.attempts.TryFault.TheVariants.{Busy, FullLeaves}
-use Rattle.seat_calls.specs.Answers.{HaveMet, IsCause, IsListedBy, IsNoted, IsRefused, IsScannedBy, MayRefuse, ScanLaw}
+use Rattle.seat_calls.specs.Answers.{HaveMet, IsCause, IsListedBy, IsNoted, IsRefused, IsScannedBy, MayRefuse, ScanLaw, range_from}
 use Rattle.seat_calls.specs.declared.census.RecordCounts.{RecordCounts}
 use Rattle.seat_calls.specs.Census.{HasCounted}
 use Rattle.seat_calls.specs.Counts.{round_steps, try_steps}
@@ -79,8 +79,8 @@ abbrev pub ScansShow : ScanLaw → (Map → List ℕ → Type 0) → Type 0
 ScansShow IsLawful IsReached =
     (layout : Layout) (last : ℕ) (at : ℕ → Moment) (happens : ℕ → Happening) → IsWholeRun layout last at happens →
     (q t : ℕ) → q < layout.passes → t ≤ last → (call : Pending) (s e : SeatView) → IsReturning layout at q t call s e →
-    (from upto : List ℕ) (limit : ℕ) (scan : Scan) → IsScannedBy IsLawful layout (pass_of s) (pass_of e) from upto limit scan ⊎
-    IsListedBy IsLawful layout (pass_of s) (pass_of e) from upto limit scan.pairs.items scan.more →
+    (from upto : List ℕ) (limit : ℕ) (scan : Scan) → IsScannedBy IsLawful layout (pass_of s) (pass_of e) (range_from from upto limit) scan ⊎
+    IsListedBy IsLawful layout (pass_of s) (pass_of e) (range_from from upto limit) scan.pairs.items scan.more →
     IsLawful (pass_of e).fresh.front (pass_of e).front from upto limit scan × IsScanInTime IsReached at call.since t from upto scan
 
 -- A refused call has changed nothing. One that is busy found that another pass stood in its way, and with one pass it is never busy. One that

@@ -1,5 +1,5 @@
 -- What a walk has seen at the places that come next, and what it comes to behind their leaves.
-use Rattle.std.proofs.Common.{◌≡◌, ℕ, ◌+◌, ◌<◌, ◌≤◌, List, length, get_or, set, take, ap, sym, subst, arith, ⊎_elim}
+use Rattle.std.proofs.Common.{◌≡◌, ℕ, ◌+◌, ◌<◌, ◌≤◌, List, length, Bool, get_or, set, take, ap, sym, subst, arith, ⊎_elim}
 use Rattle.std.proofs.lemmas.Bool.{cases_lt}
 use Rattle.std.proofs.lemmas.List.{get_or-set_other, get_or-take, length-take-le}
 use Rattle.std.proofs.lemmas.Grind.{get_or-set_at}
@@ -63,7 +63,7 @@ module _ (d : Direction) (m : ℕ) (top : PathNode) where
       (cases_lt o i)
 
 -- Before any leaf.
-pub passed_none : {d : Direction} {k : Known} {m : ℕ} {g : Range} {top : PathNode} {frames : List PathNode} {xs : List (Key × ℕ)} → IsWalk d k m g top frames xs → IsBound d k m (first_key d g) top frames → HavePassed d k m g top frames 0 xs xs
+pub passed_none : {d : Direction} {k : Known} {m : ℕ} {g : Range} {top : PathNode} {frames : List PathNode} {xs : List (Key × ℕ)} → IsWalk d k m g top frames xs → IsBound d k m (first_key d g) top frames → HavePassed d k m g frames (top, xs) 0 xs
 passed_none {d} {k} {m} {g} {top} {frames} {xs} w b = record {
   more = omega arith;
   walk = subst (λ (z : PathNode). IsWalk d k m g z frames xs) same w;
@@ -74,7 +74,7 @@ passed_none {d} {k} {m} {g} {top} {frames} {xs} w b = record {
     same = ap (at_gap top) (sym (gap_none d top.at))
 
 -- Behind some leaves, at one more.
-module _ {d : Direction} {k : Known} {m : ℕ} {g : Range} {top : PathNode} {frames : List PathNode} {i : ℕ} {xs ys : List (Key × ℕ)} (fits : top.at ≤ top.count) (come : i < to_come d top.count top.at) (p : HavePassed d k m g top frames i xs ys)
+module _ {d : Direction} {k : Known} {m : ℕ} {g : Range} {top : PathNode} {frames : List PathNode} {i : ℕ} {xs ys : List (Key × ℕ)} (fits : top.at ≤ top.count) (come : i < to_come d top.count top.at) (p : HavePassed d k m g frames (top, xs) i ys)
     {number : ℕ} (placed : Sure k (λ s. IsPlaced s m top.number (place_ahead d top.at i) (Leaf number))) where
   pub leaf_at : IsAtEntry d k m g (record top { at = place_ahead d top.at i }) frames ys (Leaf number)
   leaf_at = record { walk = walk_at_place i fits come p.walk; placed = placed }
@@ -87,7 +87,7 @@ module _ {d : Direction} {k : Known} {m : ℕ} {g : Range} {top : PathNode} {fra
   leaf_reached layout = (entry_led leaf_at, bound_leaf d m (first_key d g) (record top { at = place_ahead d top.at i }) bound_at number leaf_at.walk.pinned placed)
 
   -- and which was taken
-  pub passed_more : {j : Known} {zs : List (Key × ℕ)} {verdict : Verdict} → IsLater k j → IsLeafTaken d k j g number ys zs verdict → verdict ≡ Further → HavePassed d j m g top frames (i + 1) xs zs
+  pub passed_more : {j : Known} {zs : List (Key × ℕ)} {verdict : Verdict} → IsLater k j → IsLeafTaken d k j g number ys zs verdict → verdict ≡ Further → HavePassed d j m g frames (top, xs) (i + 1) zs
   passed_more {j} {zs} l t is = record {
     more = let one = taken_more leaf_at l t is in let before = p.more in omega (arith, one, before);
     walk = subst (λ z. IsWalk d j m g (at_gap top z) frames zs) (gap_behind_place d top.at i) (walk_further leaf_at l t is);
@@ -95,13 +95,11 @@ module _ {d : Direction} {k : Known} {m : ℕ} {g : Range} {top : PathNode} {fra
         (bound_next d m (first_key d g) (record top { at = place_ahead d top.at i }) (bound_later d m (first_key d g) l bound_at));
   }
 
--- What became of the walk where all were taken; since the same version.
-pub taken_all : {d : Direction} {k : Known} {n m : ℕ} {g : Range} {top after : PathNode} {frames : List PathNode} {count : ℕ} {xs ys : List (Key × ℕ)} {verdict : Verdict} → AreTaken d k n g top after frames count xs ys verdict → verdict ≡ Further →
-    n ≡ m → (after ≡ record top { at = gap_after d top.at count }) × HavePassed d k m g top frames count xs ys
-taken_all {d} {k} {n} {m} {g} {top} {after} {frames} {count} {xs} {ys} taken is same =
-    let (moved, passed) = subst (λ z. AreTaken d k n g top after frames count xs ys z) is taken in (moved, subst (λ z. HavePassed d k z g top frames count xs ys) same passed)
+-- All were taken.
+pub taken_all : (Passed : Type 0) (Ended : Bool → Type 0) {verdict : Verdict} → AreTaken Passed Ended verdict → verdict ≡ Further → Passed
+taken_all Passed Ended taken is = subst (λ z. AreTaken Passed Ended z) is taken
 
 -- At the node that comes behind them.
-pub node_at : {d : Direction} {k : Known} {m : ℕ} {g : Range} {top : PathNode} {frames : List PathNode} {count number : ℕ} {xs ys : List (Key × ℕ)} → top.at ≤ top.count → count < to_come d top.count top.at → HavePassed d k m g top frames count xs ys →
+pub node_at : {d : Direction} {k : Known} {m : ℕ} {g : Range} {top : PathNode} {frames : List PathNode} {count number : ℕ} {xs ys : List (Key × ℕ)} → top.at ≤ top.count → count < to_come d top.count top.at → HavePassed d k m g frames (top, xs) count ys →
     (ahead : IsNodeAhead d k m top count number) → IsAtEntry d k m g (record top { at = place_ahead d top.at count }) frames ys (Node number ahead.0)
 node_at {count = count} fits come p ahead = record { walk = walk_at_place count fits come p.walk; placed = ahead.2 }

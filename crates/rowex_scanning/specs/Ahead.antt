@@ -1,11 +1,11 @@
 -- What a walk has seen at the places that come next.
-use Rattle.std.specs.Prelude.{◌≡◌, ℕ, ◌+◌, ◌<◌, List, length, slice_index, IfSome, option_to_list, false, true}
+use Rattle.std.specs.Prelude.{◌≡◌, ℕ, ◌+◌, ◌<◌, List, length, slice_index, Bool, IfSome, option_to_list, false, true}
 use Rattle.compound_node.specs.declared.entries.Entry.TheVariants.{Leaf, Node}
 use Rattle.insert_cases.specs.declared.choice.PathNode.{PathNode}
 use Rattle.tries.specs.Keys.{Key}
 use Rattle.rowex_core.specs.declared.known.Known.{Known}
 use Rattle.rowex_walks.specs.Scan.{Range, IsPlaced}
-use Rattle.rowex_reading.specs.Seen.{HasPlace, Sure}
+use Rattle.rowex_reading.specs.Seen.{HasPlace, Sure, since}
 use Rattle.rowex_walks.specs.Directions.{first_key, gap_after, place_ahead}
 use Rattle.rowex_scanning.specs.Scanning.{HasScanned, IsBound, IsWalk}
 use Rattle.rowex_scanning.specs.declared.ahead.Ahead.{Ahead}
@@ -34,18 +34,21 @@ pub record HasSeenAhead (d : Direction) (k : Known) (m : ℕ) (top : PathNode) (
   pub first : AreAhead d k m top a.count leaves
   pub node : IfSome a.node (IsNodeAhead d k m top a.count)
 
--- The walk has passed so many leaves: it stands behind them, with their pairs.
-pub record HavePassed (d : Direction) (k : Known) (m : ℕ) (g : Range) (top : PathNode) (frames : List PathNode) (count : ℕ) (xs ys : List (Key × ℕ)) : Type 0 where
-  pub more : length ys ≡ length xs + count
-  pub walk : IsWalk d k m g (record top { at = gap_after d top.at count }) frames ys
-  pub bound : IsBound d k m (first_key d g) (record top { at = gap_after d top.at count }) frames
+-- a node at a gap of which a walk stands, and the pairs so far
+abbrev pub Reached : Type 0
+Reached = PathNode × List (Key × ℕ)
 
--- What became of the pairs, and of the node at which the walk stands, at so many leaves: it has passed all of them; or the scan has ended
--- at one.
-abbrev pub AreTaken : Direction → Known → ℕ → Range → PathNode → PathNode → List PathNode → ℕ → List (Key × ℕ) → List (Key × ℕ) → Verdict → Type 0
-AreTaken d k m g top after frames count xs ys Further = (after ≡ record top { at = gap_after d top.at count }) × HavePassed d k m g top frames count xs ys
-AreTaken d k m g top after frames count xs ys IsPast = HasScanned d k g ys false
-AreTaken d k m g top after frames count xs ys Full = HasScanned d k g ys true
+-- From there the walk has passed so many leaves: it stands behind them, with their pairs.
+pub record HavePassed (d : Direction) (k : Known) (m : ℕ) (g : Range) (frames : List PathNode) (before : Reached) (count : ℕ) (pairs : List (Key × ℕ)) : Type 0 where
+  pub more : length pairs ≡ length before.1 + count
+  pub walk : IsWalk d k m g (record before.0 { at = gap_after d before.0.at count }) frames pairs
+  pub bound : IsBound d k m (first_key d g) (record before.0 { at = gap_after d before.0.at count }) frames
+
+-- What became of a scan at some leaves: it has passed all of them; or it has ended at one, and there is a further key or not.
+abbrev pub AreTaken : Type 0 → (Bool → Type 0) → Verdict → Type 0
+AreTaken Passed Ended Further = Passed
+AreTaken Passed Ended IsPast = Ended false
+AreTaken Passed Ended Full = Ended true
 
 -- The walk is at a gap of this node on this way, with these pairs so far; and what stands behind it comes later than the range's first key.
 abbrev pub IsBoundWalk : Direction → Known → ℕ → Range → PathNode → List PathNode → List (Key × ℕ) → Type 0
@@ -55,7 +58,9 @@ IsBoundWalk d k m g top frames xs = IsWalk d k m g top frames xs × IsBound d k 
 abbrev pub IsOnSomeWay : Direction → Known → ℕ → Range → PathNode → List (Key × ℕ) → Type 0
 IsOnSomeWay d k m g top xs = (frames : List PathNode) × IsBoundWalk d k m g top frames xs
 
--- What became of them, on each way on which it is so.
-abbrev pub AreTakenOnWays : Direction → Known → Known → ℕ → Range → PathNode → PathNode → ℕ → List (Key × ℕ) → List (Key × ℕ) → Verdict → Type 0
-AreTakenOnWays d k j m g top after count xs ys verdict =
-    (frames : List PathNode) → IsBoundWalk d k m g top frames xs → AreTaken d j m g top after frames count xs ys verdict
+-- What became of so many leaves, on each way on which it is so, since the last load of the root.
+abbrev pub AreTakenOnWays : Direction → Known → Known → Range → Reached → ℕ → Reached → Verdict → Type 0
+AreTakenOnWays d k j g before count after verdict =
+    (frames : List PathNode) → IsBoundWalk d k (since k) g before.0 frames before.1 →
+    AreTaken ((after.0 ≡ record before.0 { at = gap_after d before.0.at count }) × HavePassed d j (since k) g frames before count after.1)
+    (HasScanned d j g after.1) verdict

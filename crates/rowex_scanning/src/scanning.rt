@@ -275,8 +275,8 @@ fn take_leaves<G: Gate>(
     requires come { length leaves.now ≤ to_come_of scan.now.range.now.direction top.old.count top.old.at }
     requires most { length leaves.now ≤ MOST_AHEAD }
     ensures reads { (n : ℕ) × (n ≤ LEAF_FIELDS * length leaves.now) × Reads scan.now.table.now G.becomes 0 n (seat.old, gate.old) (seat.new, gate.new) }
-    ensures taken { IfOk result (AreTakenOnWays scan.now.range.now.direction seat.old.known seat.new.known (since seat.old.known) (asked_range scan.now.range.now)
-        top.old top.new (length leaves.now) pairs.old pairs.new) }
+    ensures taken { IfOk result (AreTakenOnWays scan.now.range.now.direction seat.old.known seat.new.known (asked_range scan.now.range.now)
+        (top.old, pairs.old) (length leaves.now) (top.new, pairs.new)) }
     ensures part { OnErr result (HasScannedPart scan.now.range.now.direction seat.new.known (asked_range scan.now.range.now) pairs.new) }
 {
     for index in 0..leaves.len() {

@@ -38,8 +38,8 @@ if_refused (Ok answer) Q h = tt
 if_refused (Err e) Q h = h
 
 -- A list has the pairs of a scan.
-module _ {IsLawful : ScanLaw} {layout : Layout} {k j : PassView} {from upto : Key} {limit : ℕ} {pairs : List (Key × ℕ)} {more : Bool} (h : IsListedBy IsLawful layout k j from upto limit pairs more) where
-  pub listed_scanned : (scan : Scan) → scan.pairs.items ≡ pairs → scan.more ≡ more → IsScannedBy IsLawful layout k j from upto limit scan
+module _ {IsLawful : ScanLaw} {layout : Layout} {k j : PassView} {range : Range} {pairs : List (Key × ℕ)} {more : Bool} (h : IsListedBy IsLawful layout k j range pairs more) where
+  pub listed_scanned : (scan : Scan) → scan.pairs.items ≡ pairs → scan.more ≡ more → IsScannedBy IsLawful layout k j range scan
   listed_scanned scan same last = record { on = h.on; notes = h.notes; lawful = h.lawful scan same last; legal = h.legal }
 
   pub listed_unnoted : IsUnnoted layout k j
@@ -67,7 +67,7 @@ module _ {layout : Layout} {i : Known} (s t : SeatView) (settled : IsSettled s.k
   scan_refused = let on = goes_on s t looks.on event in record { number = on.number; front = on.front; notes = notes_stay; legal = legal_then; makers = on.makers }
 
   pub scan_answered : (d : Direction) (g : Range) → IsKey g.from × IsKey g.upto → IsSome i.pin → (pairs : List (Key × ℕ)) (more : Bool) → HasScanned d i g pairs more →
-      IsListedBy (IsLawfulBy d) layout (pass_of s) (pass_of t) g.from g.upto g.limit pairs more
+      IsListedBy (IsLawfulBy d) layout (pass_of s) (pass_of t) g pairs more
   scan_answered d g keys is pairs more h = record {
     on = goes_on s t looks.on event;
     notes = notes_stay;

@@ -14,6 +14,8 @@ use Rattle.finite_map.specs.Scans.{is_within, IsHeldBetween, IsLawfulScan}
 use Rattle.finite_map.specs.Weaves.{LegalHistory, weave}
 use Rattle.tries.specs.Keys.{Key}
 use Rattle.record_words.specs.declared.layout.Layout.{Layout}
+use Rattle.rowex_scanning.specs.Scanning.{limited}
+use Rattle.rowex_walks.specs.Scan.{Range}
 use Rattle.rowex_writing.specs.Changes.{LacksLeaves, LacksNodes}
 use Rattle.rowex_writing.specs.Locks.{HasMetTaken}
 use Rattle.rowex_writing.specs.declared.attempts.TryFault.{TryFault}
@@ -46,52 +48,56 @@ pub record IsNoted (layout : Layout) (k j : PassView) (call : Call) (reply : Rep
   pub high : place ≤ length j.front
   pub legal : LegalCalls j.front j.number j.notes
 
+-- the range from one key to another, of which a scan lists so many pairs at most
+abbrev pub range_from : Key → Key → ℕ → Range
+range_from from upto limit = record { from = from; upto = upto; limit = limit }
+
 -- when a scan of a range, with this limit, is lawful while one front grew to another: upwards or downwards
 abbrev pub ScanLaw : Type 1
 ScanLaw = List Change → List Change → Key → Key → ℕ → Scan → Type 0
 
 -- A scan was answered: it is lawful from the last load of the root to what the pass has seen now, and adds no note.
-pub record IsScannedBy (IsLawful : ScanLaw) (layout : Layout) (k j : PassView) (from upto : Key) (limit : ℕ) (scan : Scan) : Type 0 where
+pub record IsScannedBy (IsLawful : ScanLaw) (layout : Layout) (k j : PassView) (range : Range) (scan : Scan) : Type 0 where
   pub on : GoesOn layout k j
   pub notes : j.notes ≡ k.notes
-  pub lawful : IsLawful j.fresh.front j.front from upto limit scan
+  pub lawful : IsLawful j.fresh.front j.front range.from range.upto range.limit scan
   pub legal : LegalCalls j.front j.number j.notes
 
 -- A scan into a list was answered, whether there is a further key. It adds no note; and a scan with these pairs is lawful from the
 -- last load of the root to what the pass has seen now.
-pub record IsListedBy (IsLawful : ScanLaw) (layout : Layout) (k j : PassView) (from upto : Key) (limit : ℕ) (pairs : List (Key × ℕ)) (more : Bool) : Type 0 where
+pub record IsListedBy (IsLawful : ScanLaw) (layout : Layout) (k j : PassView) (range : Range) (pairs : List (Key × ℕ)) (more : Bool) : Type 0 where
   pub on : GoesOn layout k j
   pub notes : j.notes ≡ k.notes
-  pub lawful : (scan : Scan) → scan.pairs.items ≡ pairs → scan.more ≡ more → IsLawful j.fresh.front j.front from upto limit scan
+  pub lawful : (scan : Scan) → scan.pairs.items ≡ pairs → scan.more ≡ more → IsLawful j.fresh.front j.front range.from range.upto range.limit scan
   pub legal : LegalCalls j.front j.number j.notes
 
 -- A scan into a list was refused memory: it is answered as one that was cut at the number of its pairs, which are fewer than the limit.
-abbrev pub IsListedInPartBy : ScanLaw → Layout → PassView → PassView → Key → Key → ℕ → List (Key × ℕ) → Type 0
-IsListedInPartBy IsLawful layout k j from upto limit pairs = (length pairs < limit) × IsListedBy IsLawful layout k j from upto (length pairs) pairs true
+abbrev pub IsListedInPartBy : ScanLaw → Layout → PassView → PassView → Range → List (Key × ℕ) → Type 0
+IsListedInPartBy IsLawful layout k j range pairs = (length pairs < range.limit) × IsListedBy IsLawful layout k j (limited range (length pairs)) pairs true
 
 -- a scan for one pair found this one, or found none
 abbrev pub IsFoundBy : ScanLaw → Layout → PassView → PassView → Key → Key → Option (Key × ℕ) → Type 0
-IsFoundBy IsLawful layout k j from upto found = (more : Bool) × IsListedBy IsLawful layout k j from upto 1 (option_to_list found) more
+IsFoundBy IsLawful layout k j from upto found = (more : Bool) × IsListedBy IsLawful layout k j (range_from from upto 1) (option_to_list found) more
 
 -- the same of scans upwards
-abbrev pub IsScanned : Layout → PassView → PassView → Key → Key → ℕ → Scan → Type 0
+abbrev pub IsScanned : Layout → PassView → PassView → Range → Scan → Type 0
 IsScanned = IsScannedBy IsLawfulScan
 
-abbrev pub IsListed : Layout → PassView → PassView → Key → Key → ℕ → List (Key × ℕ) → Bool → Type 0
+abbrev pub IsListed : Layout → PassView → PassView → Range → List (Key × ℕ) → Bool → Type 0
 IsListed = IsListedBy IsLawfulScan
 
 -- A scan upwards into a list ran out of memory: it is as one that was cut at the number of its pairs.
-abbrev pub IsListedInPart : Layout → PassView → PassView → Key → Key → ℕ → List (Key × ℕ) → Type 0
+abbrev pub IsListedInPart : Layout → PassView → PassView → Range → List (Key × ℕ) → Type 0
 IsListedInPart = IsListedInPartBy IsLawfulScan
 
 -- A scan was refused memory, which it needed for a pair: the limit allows one, and a key of the range was in the index in a version
 -- from the last load of the root to what the pass has seen now.
-pub record HasFoundPair (layout : Layout) (k j : PassView) (from upto : Key) (limit : ℕ) : Type 0 where
+pub record HasFoundPair (layout : Layout) (k j : PassView) (range : Range) : Type 0 where
   pub on : GoesOn layout k j
-  pub room : 0 < limit
+  pub room : 0 < range.limit
   pub key : Key
   pub value : ℕ
-  pub within : IsTrue (is_within from upto key)
+  pub within : IsTrue (is_within range.from range.upto key)
   pub held : IsHeldBetween j.fresh.front j.front key value
 
 -- A call was refused or asked nothing of the map: no note is added.

@@ -13,6 +13,7 @@ use Rattle.rowex_writing.specs.declared.attempts.TryFault.{TryFault}
 use Rattle.rowex_writing.specs.declared.attempts.TryFault.TheVariants.{FullLeaves}
 use Rattle.rowex_writing.specs.declared.plan.Full.{Full}
 use Rattle.rowex_writing.specs.declared.plan.Full.TheVariants.{Leaves}
+use Rattle.rowex_walks.specs.Scan.{Range}
 use Rattle.tries.specs.Keys.{Key}
 use Rattle.seat_calls.specs.Answers.{HasFoundPair, IsListedBy, IsListedInPartBy, IsNoted, IsRefused, IsScannedBy, IsUnnoted, MayRefuse, ScanLaw, fault_of}
 use Rattle.seat_calls.specs.Counts.{scan_steps}
@@ -62,46 +63,46 @@ IsAwaited asked result index k j = IsAwaitedWith asked result index untold (k, t
 -- A range was read, with such an answer, or memory was refused for a pair that it had found, and such a part is left; by its steps, so
 -- many at most, of which the gate was told.
 pub record IsRangeReadWith {A E G : Type 0} (IsAnswer : Layout → PassView → PassView → A → Type 0) (IsPart : Layout → PassView → PassView → Type 0)
-    (from upto : Key) (limit : ℕ) (result : Result A E) (index : TableView) (becomes : G → Event → G → Type 0) (a b : PassView × G) : Type 0 where
+    (range : Range) (result : Result A E) (index : TableView) (becomes : G → Event → G → Type 0) (a b : PassView × G) : Type 0 where
   pub own : Owns index b.0
   pub ok : IfOk result (IsAnswer index.layout a.0 b.0)
   pub err : OnErr result (IsUnnoted index.layout a.0 b.0)
   pub part : OnErr result (IsPart index.layout a.0 b.0)
-  pub memory : OnErr result (HasFoundPair index.layout a.0 b.0 from upto limit)
-  pub steps : b.0.steps ≤ a.0.steps + scan_steps limit
-  pub read : HasGotRange index becomes limit a b
+  pub memory : OnErr result (HasFoundPair index.layout a.0 b.0 range)
+  pub steps : b.0.steps ≤ a.0.steps + scan_steps range.limit
+  pub read : HasGotRange index becomes range.limit a b
 
 -- no part is left
 abbrev pub no_part : Layout → PassView → PassView → Type 0
 no_part layout k j = Unit {0}
 
 -- a range was read, with no gate; out of memory no part is left
-abbrev pub IsRangeRead : {A E : Type 0} → (Layout → PassView → PassView → A → Type 0) → Key → Key → ℕ → Result A E → TableView → PassView → PassView → Type 0
-IsRangeRead IsAnswer from upto limit result index k j = IsRangeReadWith IsAnswer no_part from upto limit result index untold (k, tt) (j, tt)
+abbrev pub IsRangeRead : {A E : Type 0} → (Layout → PassView → PassView → A → Type 0) → Range → Result A E → TableView → PassView → PassView → Type 0
+IsRangeRead IsAnswer range result index k j = IsRangeReadWith IsAnswer no_part range result index untold (k, tt) (j, tt)
 
 -- a scan was made that is lawful in this sense
-abbrev pub IsScanReadBy : {E G : Type 0} → ScanLaw → Key → Key → ℕ → Result Scan E → TableView → (G → Event → G → Type 0) → PassView × G → PassView × G → Type 0
-IsScanReadBy IsLawful from upto limit result index becomes a b =
-    IsRangeReadWith (λ layout k j. IsScannedBy IsLawful layout k j from upto limit) no_part from upto limit result index becomes a b
+abbrev pub IsScanReadBy : {E G : Type 0} → ScanLaw → Range → Result Scan E → TableView → (G → Event → G → Type 0) → PassView × G → PassView × G → Type 0
+IsScanReadBy IsLawful range result index becomes a b =
+    IsRangeReadWith (λ layout k j. IsScannedBy IsLawful layout k j range) no_part range result index becomes a b
 
 -- a scan upwards was made that is lawful, and a gate was told its steps
-abbrev pub IsScanReadWith : {E G : Type 0} → Key → Key → ℕ → Result Scan E → TableView → (G → Event → G → Type 0) → PassView × G → PassView × G → Type 0
-IsScanReadWith from upto limit result index becomes a b = IsScanReadBy IsLawfulScan from upto limit result index becomes a b
+abbrev pub IsScanReadWith : {E G : Type 0} → Range → Result Scan E → TableView → (G → Event → G → Type 0) → PassView × G → PassView × G → Type 0
+IsScanReadWith range result index becomes a b = IsScanReadBy IsLawfulScan range result index becomes a b
 
 -- a scan upwards was made that is lawful
-abbrev pub IsScanRead : {E : Type 0} → Key → Key → ℕ → Result Scan E → TableView → PassView → PassView → Type 0
-IsScanRead from upto limit result index k j = IsScanReadWith from upto limit result index untold (k, tt) (j, tt)
+abbrev pub IsScanRead : {E : Type 0} → Range → Result Scan E → TableView → PassView → PassView → Type 0
+IsScanRead range result index k j = IsScanReadWith range result index untold (k, tt) (j, tt)
 
 -- the same of a scan into a list
-abbrev pub IsListReadBy : {E G : Type 0} → ScanLaw → Key → Key → ℕ → List (Key × ℕ) → Result Bool E → TableView → (G → Event → G → Type 0) → PassView × G → PassView × G → Type 0
-IsListReadBy IsLawful from upto limit pairs result index becomes a b =
-    IsRangeReadWith (λ layout k j. IsListedBy IsLawful layout k j from upto limit pairs) (λ layout k j. IsListedInPartBy IsLawful layout k j from upto limit pairs)
-    from upto limit result index becomes a b
+abbrev pub IsListReadBy : {E G : Type 0} → ScanLaw → Range → List (Key × ℕ) → Result Bool E → TableView → (G → Event → G → Type 0) → PassView × G → PassView × G → Type 0
+IsListReadBy IsLawful range pairs result index becomes a b =
+    IsRangeReadWith (λ layout k j. IsListedBy IsLawful layout k j range pairs) (λ layout k j. IsListedInPartBy IsLawful layout k j range pairs)
+    range result index becomes a b
 
 -- a scan upwards into a list was made that is lawful, and a gate was told its steps
-abbrev pub IsListReadWith : {E G : Type 0} → Key → Key → ℕ → List (Key × ℕ) → Result Bool E → TableView → (G → Event → G → Type 0) → PassView × G → PassView × G → Type 0
-IsListReadWith from upto limit pairs result index becomes a b = IsListReadBy IsLawfulScan from upto limit pairs result index becomes a b
+abbrev pub IsListReadWith : {E G : Type 0} → Range → List (Key × ℕ) → Result Bool E → TableView → (G → Event → G → Type 0) → PassView × G → PassView × G → Type 0
+IsListReadWith range pairs result index becomes a b = IsListReadBy IsLawfulScan range pairs result index becomes a b
 
 -- a scan upwards into a list was made that is lawful
-abbrev pub IsListRead : {E : Type 0} → Key → Key → ℕ → List (Key × ℕ) → Result Bool E → TableView → PassView → PassView → Type 0
-IsListRead from upto limit pairs result index k j = IsListReadWith from upto limit pairs result index untold (k, tt) (j, tt)
+abbrev pub IsListRead : {E : Type 0} → Range → List (Key × ℕ) → Result Bool E → TableView → PassView → PassView → Type 0
+IsListRead range pairs result index k j = IsListReadWith range pairs result index untold (k, tt) (j, tt)

@@ -3,17 +3,18 @@ use Rattle.std.specs.Prelude.{ℕ, List, [], Bool, Option}
 use Rattle.finite_map.specs.declared.Scan.{Scan}
 use Rattle.finite_map.specs.Reverse.{IsLawfulReverseScan}
 use Rattle.record_words.specs.declared.layout.Layout.{Layout}
+use Rattle.rowex_walks.specs.Scan.{Range}
 use Rattle.tries.specs.Keys.{Key}
 use Rattle.seat_calls.specs.Answers.{IsFoundBy, IsListedBy, IsListedInPartBy, IsScannedBy}
 use Rattle.seat_calls.specs.Passes.{PassView}
 
-abbrev pub IsReverseScanned : Layout → PassView → PassView → Key → Key → ℕ → Scan → Type 0
+abbrev pub IsReverseScanned : Layout → PassView → PassView → Range → Scan → Type 0
 IsReverseScanned = IsScannedBy IsLawfulReverseScan
 
-abbrev pub IsReverseListed : Layout → PassView → PassView → Key → Key → ℕ → List (Key × ℕ) → Bool → Type 0
+abbrev pub IsReverseListed : Layout → PassView → PassView → Range → List (Key × ℕ) → Bool → Type 0
 IsReverseListed = IsListedBy IsLawfulReverseScan
 
-abbrev pub IsReverseListedInPart : Layout → PassView → PassView → Key → Key → ℕ → List (Key × ℕ) → Type 0
+abbrev pub IsReverseListedInPart : Layout → PassView → PassView → Range → List (Key × ℕ) → Type 0
 IsReverseListedInPart = IsListedInPartBy IsLawfulReverseScan
 
 -- The last pair up to the key was asked for: a scan downwards of one pair, of the keys from this one to the first key of all, has

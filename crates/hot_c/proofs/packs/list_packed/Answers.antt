@@ -37,8 +37,8 @@ returns-after-is_more c =
     let small : length u.list < 2 ^ 63 = subst (λ n. n < 2 ^ 63) many c.in-Ok.ensures.short in
     let is_further : c.if-is_more.from ≡ (c.in-Ok.is_more || nat_lt c.len.result c.in-Ok.found) =
     elim c.if-is_more.branch [ then-is_more w ↦ first _ _ _ w.if-is_more.true w.from-is | else-is_more w ↦ second _ _ _ w.if-is_more.false w.from-is ] in
-    listed (IsListedByParts (IsFilledIn c.args.order)) h u c.empty_list.new.self u.list is refl c.empty_list.ensures refl
-    (by_parts c.args.order _ _ _ _ _ _ _ _ small (made_here h u is)) (record {
+    listed (IsListedByParts (IsFilledIn c.args.query.now.order)) h u c.empty_list.new.self u.list is refl c.empty_list.ensures refl
+    (by_parts c.args.query.now.order _ _ _ _ _ _ small (made_here h u is)) (record {
       written = c.fit.new.self;
       fit = c.fit.ensures;
       short = few_here h u is;

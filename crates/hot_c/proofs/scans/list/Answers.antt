@@ -12,9 +12,9 @@ returns-in-Ok c =
     let h = c.in-Ok.ensures.ok in
     let u = c.lend-opened.result.now in
     let is = c.lend-opened.ensures.value in
-    let many = sym (as_many c.args.order u.list) in
-    listed (IsListedIn c.args.order) h u c.empty_list.new.self (in_order c.args.order u.list) is refl c.empty_list.ensures refl
-    (in_its_order c.args.order _ _ _ _ _ _ _ _ (made_here h u is)) (record {
+    let many = sym (as_many c.args.query.now.order u.list) in
+    listed (IsListedIn c.args.query.now.order) h u c.empty_list.new.self (in_order c.args.query.now.order u.list) is refl c.empty_list.ensures refl
+    (in_its_order c.args.query.now.order _ _ _ _ _ _ (made_here h u is)) (record {
       short = subst (λ n. n ≤ length c.args.room.now) many (few_here h u is);
       written = c.write_in.ensures.written;
       others = subst (λ n. drop n c.write_in.new.room ≡ drop n c.args.room.now) many c.write_in.ensures.others;

@@ -114,7 +114,7 @@ returns-clause-reads g c = let (n, few, reads) = c.loop-index.invariant.reads in
 pub returns-clause-taken : goal.returns-clause-taken
 returns-clause-taken g c = λ frames w. (
   ap (λ z. let x : PathNode = record c.args.top.now { at = z } in x) c.gap_after-top.ensures,
-  subst (λ z. HavePassed c.args.scan.now.range.now.direction c.loop-index.seat.known (since c.args.seat.now.known) (asked_range c.args.scan.now.range.now) c.args.top.now frames z c.args.pairs.now c.loop-index.pairs)
+  subst (λ z. HavePassed c.args.scan.now.range.now.direction c.loop-index.seat.known (since c.args.seat.now.known) (asked_range c.args.scan.now.range.now) frames (c.args.top.now, c.args.pairs.now) z c.loop-index.pairs)
       (omega (arith, c.loop-index-test.false, c.loop-index.auto.index-end)) (c.loop-index.invariant.passed frames w),
 )
 

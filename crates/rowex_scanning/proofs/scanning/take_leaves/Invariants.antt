@@ -14,5 +14,5 @@ invariant-loop-index g l = record {
   reads : (n : ℕ) × (n ≤ LEAF_FIELDS * l.index) × Reads l.scan.table.now g.G.Gate.becomes 0 n (l.fn.seat, l.fn.gate) (l.seat, l.gate);
   ahead : AreAhead l.scan.range.now.direction l.seat.known (since l.fn.seat.known) l.top (length l.leaves) l.leaves;
   passed : (frames : List PathNode) → IsBoundWalk l.scan.range.now.direction l.fn.seat.known (since l.fn.seat.known) (asked_range l.scan.range.now) l.top frames l.fn.pairs →
-      HavePassed l.scan.range.now.direction l.seat.known (since l.fn.seat.known) (asked_range l.scan.range.now) l.top frames l.index l.fn.pairs l.pairs;
+      HavePassed l.scan.range.now.direction l.seat.known (since l.fn.seat.known) (asked_range l.scan.range.now) frames (l.top, l.fn.pairs) l.index l.pairs;
 }

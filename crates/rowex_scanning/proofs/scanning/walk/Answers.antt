@@ -10,7 +10,7 @@ use Rattle.rowex_reading.proofs.Led.{reader_then, reads_later, reads_none, reads
 use Rattle.rowex_reading.proofs.Seeing.{placed_stable, sure_later}
 use Rattle.rowex_scanning.specs.Ahead.{AreAhead, HasPlaces, IsBoundWalk, HavePassed, IsNodeAhead, entries_ahead}
 use Rattle.rowex_walks.specs.Directions.{first_key, gap_after, place_ahead, to_come}
-use Rattle.rowex_scanning.specs.Scanning.{IsBound, IsWalk, asked_range}
+use Rattle.rowex_scanning.specs.Scanning.{HasScanned, IsBound, IsWalk, asked_range}
 use Rattle.rowex_walks.specs.declared.direction.Direction.{Direction}
 use Rattle.rowex_scanning.proofs.Directed.{come_after, gap_before_place, place_at_gap}
 use Rattle.rowex_scanning.proofs.Passing.{ahead_first, node_at, node_later, taken_all}
@@ -60,14 +60,17 @@ passed : (g : given.Over) (c : In-Further g) → length (take c.look_ahead-ahead
     IsBoundWalk c.args.scan.now.range.now.direction c.look_ahead-ahead.new.seat.known (since c.look_ahead-ahead.new.seat.known) (asked_range c.args.scan.now.range.now) c.loop-seat.top
     c.loop-seat.way.items c.loop-seat.pairs →
     (c.take_leaves.new.top ≡ record c.loop-seat.top { at = gap_after c.args.scan.now.range.now.direction c.loop-seat.top.at c.look_ahead-ahead.result.count }) ×
-    HavePassed c.args.scan.now.range.now.direction c.take_leaves.new.seat.known (since c.args.seat.now.known) (asked_range c.args.scan.now.range.now) c.loop-seat.top
-    c.loop-seat.way.items c.look_ahead-ahead.result.count c.loop-seat.pairs c.take_leaves.new.pairs
+    HavePassed c.args.scan.now.range.now.direction c.take_leaves.new.seat.known (since c.args.seat.now.known) (asked_range c.args.scan.now.range.now)
+    c.loop-seat.way.items (c.loop-seat.top, c.loop-seat.pairs) c.look_ahead-ahead.result.count c.take_leaves.new.pairs
 passed g c n walked =
-    let d = c.args.scan.now.range.now.direction in let top = c.loop-seat.top in
-    subst
-    (λ z. (c.take_leaves.new.top ≡ record top { at = gap_after d top.at z }) ×
-    HavePassed d c.take_leaves.new.seat.known (since c.args.seat.now.known) (asked_range c.args.scan.now.range.now) top c.loop-seat.way.items z c.loop-seat.pairs c.take_leaves.new.pairs) n
-    (taken_all (c.in_ok-take_leaves.ensures.taken c.loop-seat.way.items walked) c.in-Further.is (same_since (reads_trans c.loop-seat.invariant.reads.3 c.look_ahead-ahead.ensures.reads.2)))
+    let d = c.args.scan.now.range.now.direction in let top = c.loop-seat.top in let range = asked_range c.args.scan.now.range.now in let frames = c.loop-seat.way.items in
+    let count = length (take c.look_ahead-ahead.result.count c.look_ahead-ahead.new.leaves) in let k = c.take_leaves.new.seat.known in let pairs = c.take_leaves.new.pairs in
+    let (moved, p) = taken_all
+    ((c.take_leaves.new.top ≡ record top { at = gap_after d top.at count }) × HavePassed d k (since c.look_ahead-ahead.new.seat.known) range frames (top, c.loop-seat.pairs) count pairs)
+    (HasScanned d k range pairs) (c.in_ok-take_leaves.ensures.taken frames walked) c.in-Further.is in
+    let still = same_since (reads_trans c.loop-seat.invariant.reads.3 c.look_ahead-ahead.ensures.reads.2) in
+    subst (λ z. (c.take_leaves.new.top ≡ record top { at = gap_after d top.at z }) × HavePassed d k (since c.args.seat.now.known) range frames (top, c.loop-seat.pairs) z pairs) n
+    (moved, subst (λ z. HavePassed d k z range frames (top, c.loop-seat.pairs) count pairs) still p)
 
 pub loop-seat-init : goal.loop-seat-init
 loop-seat-init g c =

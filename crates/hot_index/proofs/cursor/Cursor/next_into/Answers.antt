@@ -3,7 +3,7 @@ use Rattle.std.proofs.Common.{rules, ◌≡◌, Bool, Option, Some, None, Ok, Er
 use Rattle.std.proofs.lemmas.Result.{IfOk-from_err}
 use Rattle.std.specs.Prelude.{Result, OnErr}
 use Rattle.std.specs.declared.alloc.AllocError.{AllocError}
-use Rattle.seat_calls.specs.Answers.{IsListedInPart, HasFoundPair}
+use Rattle.seat_calls.specs.Answers.{IsListedInPart, HasFoundPair, range_from}
 use Rattle.hot_index.specs.Cursors.{IsPartListed}
 use Rattle.hot_index.specs.declared.cursor.Rest.{Rest}
 use Rattle.hot_index.proofs.cursor.Cursor.next_into.Goals.{After-from_residual}
@@ -27,11 +27,11 @@ asked : (c : After-from_residual) → c.args.self.now ≡ Some c.in-Some.rest
 asked c = sym c.self.view_is ∙ c.in-Some.is
 
 pub returns-in_err-more-clause-refused : goal.returns-in_err-more-clause-refused
-returns-in_err-more-clause-refused c = on_the_same _ _ _ _ _ (λ (r : Rest). IsListedInPart c.args.index.now.layout c.args.pass.now c.scan_into.new.pass r.from r.upto c.args.limit c.scan_into.new.pairs)
+returns-in_err-more-clause-refused c = on_the_same _ _ _ _ _ (λ (r : Rest). IsListedInPart c.args.index.now.layout c.args.pass.now c.scan_into.new.pass (range_from r.from r.upto c.args.limit) c.scan_into.new.pairs)
     (asked c) c.in_err-more.was c.scan_into.ensures.part
 
 pub returns-in_err-more-clause-memory : goal.returns-in_err-more-clause-memory
-returns-in_err-more-clause-memory c = on_the_same _ _ _ _ _ (λ (r : Rest). HasFoundPair c.args.index.now.layout c.args.pass.now c.scan_into.new.pass r.from r.upto c.args.limit)
+returns-in_err-more-clause-memory c = on_the_same _ _ _ _ _ (λ (r : Rest). HasFoundPair c.args.index.now.layout c.args.pass.now c.scan_into.new.pass (range_from r.from r.upto c.args.limit))
     (asked c) c.in_err-more.was c.scan_into.ensures.memory
 
 pub returns-clause-part : goal.returns-clause-part

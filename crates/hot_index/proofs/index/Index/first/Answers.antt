@@ -1,12 +1,12 @@
 -- The greatest key is the last one with the empty prefix.
 use Rattle.std.proofs.Common.{ℕ, List, ap, subst, ◌∙◌}
 use Rattle.finite_map.specs.Scans.{IsLawfulScan}
-use Rattle.seat_calls.specs.Answers.{IsFoundBy}
+use Rattle.seat_calls.specs.Answers.{IsFoundBy, range_from}
 use Rattle.seat_calls.specs.Calls.{IsRangeRead}
 use Rattle.key_ranges.specs.Ranges.{last_with}
 use Rattle.hot_index.proofs.index.Index.first.Goals as goal
 
 pub returns : goal.returns
 returns c =
-    subst (λ (upto : List ℕ). IsRangeRead (λ layout k j. IsFoundBy IsLawfulScan layout k j c.args.from.now upto) c.args.from.now upto 1 c.first_by.result c.args.self.now c.args.pass.now c.first_by.new.pass)
+    subst (λ (upto : List ℕ). IsRangeRead (λ layout k j. IsFoundBy IsLawfulScan layout k j c.args.from.now upto) (range_from c.args.from.now upto 1) c.first_by.result c.args.self.now c.args.pass.now c.first_by.new.pass)
     (c.last_with_prefix-last.ensures ∙ ap last_with c.of_places.ensures) c.first_by.ensures

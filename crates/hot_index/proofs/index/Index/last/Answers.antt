@@ -1,11 +1,11 @@
 -- The first key of all is empty.
 use Rattle.std.proofs.Common.{ℕ, List, subst}
 use Rattle.finite_map.specs.Reverse.{IsLawfulReverseScan}
-use Rattle.seat_calls.specs.Answers.{IsFoundBy}
+use Rattle.seat_calls.specs.Answers.{IsFoundBy, range_from}
 use Rattle.seat_calls.specs.Calls.{IsRangeRead}
 use Rattle.hot_index.proofs.index.Index.last.Goals as goal
 
 pub returns : goal.returns
 returns c =
-    subst (λ (from : List ℕ). IsRangeRead (λ layout k j. IsFoundBy IsLawfulReverseScan layout k j from c.args.upto.now) from c.args.upto.now 1 c.first_by.result c.args.self.now c.args.pass.now c.first_by.new.pass)
+    subst (λ (from : List ℕ). IsRangeRead (λ layout k j. IsFoundBy IsLawfulReverseScan layout k j from c.args.upto.now) (range_from from c.args.upto.now 1) c.first_by.result c.args.self.now c.args.pass.now c.first_by.new.pass)
     c.of_places-empty.ensures c.first_by.ensures

@@ -4,6 +4,7 @@ use Rattle.std.specs.Prelude.{IsSome}
 use Rattle.rowex_table.specs.Seats.{TableView}
 use Rattle.rowex_walks.specs.Scan.{Range}
 use Rattle.rowex_reading.proofs.Led.{looked_at, looks_same}
+use Rattle.rowex_scanning.specs.Scanning.{asked_range}
 use Rattle.rowex_walks.specs.Directions.{IsLawfulBy}
 use Rattle.seat_calls.specs.Calls.{IsListReadBy}
 use Rattle.seat_calls.specs.Passes.{PassView, pass_of}
@@ -25,7 +26,8 @@ invariant_of-pass g c =
 pub returns : goal.returns
 returns g c =
     let s = c.scan_root-scan.ensures in
-    let range : Range = record { from = c.args.from.now; upto = c.args.upto.now; limit = c.args.limit } in
-    subst (λ (x : TableView × PassView). IsListReadBy (IsLawfulBy c.args.direction) c.args.from.now c.args.upto.now c.args.limit c.scan_root-scan.new.pairs c.scan_root-scan.result x.0 g.G.Gate.becomes (x.1, c.args.gate.now) (pass_of c.unpin.new.seat, c.unpin.new.gate))
+    let range : Range = asked_range c.args.range.now in
+    let direction = c.args.range.now.direction in
+    subst (λ (x : TableView × PassView). IsListReadBy (IsLawfulBy direction) range c.scan_root-scan.new.pairs c.scan_root-scan.result x.0 g.G.Gate.becomes (x.1, c.args.gate.now) (pass_of c.unpin.new.seat, c.unpin.new.gate))
     (λ e. (c.self.view_is e, c.pass.view_is e))
-    (list_read c.self.inside.table g.G.Gate.becomes c.args.direction range c.scan_root-scan.new.pairs c.scan_root-scan.result c.pass.invariant c.pin.ensures.steps c.pin.ensures.fits.0 c.pin.ensures.pinned s.looks s.keys s.scanned s.part s.few c.unpin.ensures.step)
+    (list_read c.self.inside.table g.G.Gate.becomes direction range c.scan_root-scan.new.pairs c.scan_root-scan.result c.pass.invariant c.pin.ensures.steps c.pin.ensures.fits.0 c.pin.ensures.pinned s.looks s.keys s.scanned s.part s.few c.unpin.ensures.step)
