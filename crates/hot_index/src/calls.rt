@@ -3,7 +3,7 @@
 ghost use Rattle.std.specs.Prelude.{◌≡◌, ◌+◌, ◌≤◌, IfErr, MatchResult};
 ghost use Rattle.rowex_writing.specs.declared.plan.Full.{Full as FullValue};
 ghost use Rattle.seat_calls.specs.Answers.{IsNoted, IsRefused, MayLack, MayRefuse, fault_of};
-ghost use Rattle.seat_calls.specs.Calls.{IsCallTried, MakesStepsWith};
+ghost use Rattle.seat_calls.specs.Calls.{GetsOrTries, IsCallTried, MakesStepsWith};
 ghost use Rattle.seat_calls.specs.Counts.{try_steps};
 ghost use Rattle.seat_calls.specs.Passes.{Owns};
 ghost use Rattle.seat_calls.specs.Traces.{HasTold};
@@ -63,6 +63,7 @@ impl Index {
         ensures call { MatchResult result (IsNoted self.now.layout pass.old pass.new call.now)
             (λ full. IsRefused self.now.layout call.now pass.old pass.new (fault_of full)) }
         ensures lacks { IfErr result (MayLack call.now) }
+        ensures tries { GetsOrTries call.now result self.now G.becomes (pass.old, gate.old) (pass.new, gate.new) }
         ensures told { HasTold self.now G.becomes (pass.old, gate.old) (pass.new, gate.new) }
     {
         match call {

@@ -148,8 +148,8 @@ impl Index {
     /// where no record is free, if records may come back. Then another pass's call keeps retired ones from reuse, or other passes
     /// may have taken what a round of collection gave back.
     ///
-    /// It returns `Full` only if it found each node record, or each leaf record with room for the key, taken, as `try_insert` does.
-    /// It has changed nothing then, and holds no lock and no record.
+    /// It returns `Full` only if its last try found each node record, or each leaf record with room for the key, taken, as
+    /// `try_insert` does. It has changed nothing then, and holds no lock and no record.
     pub fn insert<R: Wait>(
         &self,
         rt: &R,

@@ -47,7 +47,7 @@ use Rattle.rowex_writing.specs.declared.attempts.TryFault.TheVariants.{Busy, Ful
 use Rattle.epochs.specs.Rounds.{IsRound}
 use Rattle.seat_calls.specs.Answers.{IsCause, IsNoted, IsRefused, IsUnnoted, MayLack, MayRefuse, fault_of}
 use Rattle.seat_calls.specs.Asked.{HasAsked, HasReplied, last_try}
-use Rattle.seat_calls.specs.Calls.{IsAwaited, IsAwaitedWith, IsTriedWith, MakesSteps, MakesStepsWith}
+use Rattle.seat_calls.specs.Calls.{AreTriesRefused, GetsOrTries, IsAwaited, IsAwaitedWith, IsTriedWith, MakesSteps, MakesStepsWith, MakesTries}
 use Rattle.seat_calls.specs.Counts.{once_steps, try_steps, twice_steps}
 use Rattle.seat_calls.specs.Noting.{change_notes, place_by}
 use Rattle.seat_calls.specs.Passes.{IsSettled, Owns, PassView, pass_of}
@@ -478,6 +478,17 @@ makes_steps (Get key) r index becomes a b change made = absurd (change key refl)
 makes_steps (Remove key) r index becomes a b change made = made
 makes_steps (RemoveIf key expected) r index becomes a b change made = made
 
+-- and its tries are a change's
+pub gets_or_tries : {G : Type 0} (call : Call) (r : Result Reply Full) (index : TableView) (becomes : G → Event → G → Type 0) (a b : PassView × G) → ((key : Key) → call ≢ Get key) →
+    MakesTries call r index becomes a b → GetsOrTries call r index becomes a b
+gets_or_tries (Insert key value) r index becomes a b change made = made
+gets_or_tries (Upsert key value) r index becomes a b change made = made
+gets_or_tries (Exchange key expected value) r index becomes a b change made = made
+gets_or_tries (Add key delta) r index becomes a b change made = made
+gets_or_tries (Get key) r index becomes a b change made = absurd (change key refl)
+gets_or_tries (Remove key) r index becomes a b change made = made
+gets_or_tries (RemoveIf key expected) r index becomes a b change made = made
+
 -- nobody need be told
 pub steps_untold : {G : Type 0} (call : Call) (r : Result Reply TryFault) (index : TableView) (becomes : G → Event → G → Type 0) (a b : PassView × G) → MakesStepsWith call r index becomes a b →
     MakesSteps call r index a.0 b.0
@@ -522,16 +533,37 @@ pub stepped_told : {table index : TableView} {k : PassView} {s t : SeatView} {G 
 stepped_told {table = table} {s = s} {t = t} {becomes = becomes} {g = g} {h = h} index_is pass_is stepped loaded =
     subst (λ (x : TableView × PassView). HasTold x.0 becomes (x.1, g) (pass_of t, h)) (λ e. (index_is e, pass_is e)) (has_told table becomes (s, g) (t, h) stepped loaded)
 
+-- one try more was refused
+pub refused_again : {G : Type 0} {call : Call} {index : TableView} {becomes : G → Event → G → Type 0} (a b c : PassView × G) (faults : List TryFault) (fault : TryFault) →
+    AreTriesRefused call faults index becomes a b → IsTriedWith call (Err fault) index becomes b c → AreTriesRefused call (faults ++ fault ∷ []) index becomes a c
+refused_again {G = G} {call = call} {index = index} {becomes = becomes} a b c [] fault none last = (c, subst (λ (z : PassView × G). IsTriedWith call (Err fault) index becomes z c) none last, refl)
+refused_again a b c (first ∷ faults) fault (m, one, rest) last = (m, one, refused_again m b c faults fault rest last)
+
 -- a change that waits, as the index and the pass see it
 pub awaited_seen : {table index : TableView} {k : PassView} {s t : SeatView} {call : Call} {G : Type 0} {becomes : G → Event → G → Type 0} {g h : G} {said : Known → List Note} {r : Result Reply Full} →
-    table ≡ index → pass_of s ≡ k → HasReplied table call (last_try r) s t → HasStepped table becomes said (s, g) (t, h) → IsAwaitedWith call r index becomes (k, g) (pass_of t, h)
-awaited_seen {call = call} {r = r} index_is pass_is replied stepped = record {
+    table ≡ index → pass_of s ≡ k → HasReplied table call (last_try r) s t → HasStepped table becomes said (s, g) (t, h) → MakesTries call r table becomes (pass_of s, g) (pass_of t, h) →
+    IsAwaitedWith call r index becomes (k, g) (pass_of t, h)
+awaited_seen {t = t} {call = call} {becomes = becomes} {g = g} {h = h} {r = r} index_is pass_is replied stepped made = record {
   own = replied_own index_is pass_is replied;
   call = waited_call index_is pass_is r replied;
   leafless = waited_leafless call r replied.leafless;
+  tries = subst (λ (x : TableView × PassView). MakesTries call r x.0 becomes (x.1, g) (pass_of t, h)) (λ e. (index_is e, pass_is e)) made;
   told = stepped_told index_is pass_is stepped replied.loaded;
 }
 
 -- nobody need be told
+refused_untold : {G : Type 0} (call : Call) (index : TableView) (becomes : G → Event → G → Type 0) (a b : PassView × G) (faults : List TryFault) → AreTriesRefused call faults index becomes a b →
+    AreTriesRefused call faults index untold (a.0, tt) (b.0, tt)
+refused_untold {G = G} call index becomes a b [] none = ap (λ (z : PassView × G). (z.0, tt)) none
+refused_untold call index becomes a b (fault ∷ faults) (m, one, rest) = ((m.0, tt), tried_untold one, refused_untold call index becomes m b faults rest)
+
+tries_untold : {G : Type 0} {call : Call} {r : Result Reply Full} {index : TableView} {becomes : G → Event → G → Type 0} {a b : PassView × G} → MakesTries call r index becomes a b → MakesTries call r index untold (a.0, tt) (b.0, tt)
+tries_untold {call = call} {index = index} {becomes = becomes} {a = a} x = record {
+  faults = x.faults;
+  last = (x.last.0, tt);
+  refused = refused_untold call index becomes a x.last x.faults x.refused;
+  tried = tried_untold x.tried;
+}
+
 pub awaited_untold : {call : Call} {r : Result Reply Full} {index : TableView} {G : Type 0} {becomes : G → Event → G → Type 0} {a b : PassView × G} → IsAwaitedWith call r index becomes a b → IsAwaited call r index a.0 b.0
-awaited_untold {index = index} {becomes = becomes} {a = a} {b = b} x = record { own = x.own; call = x.call; leafless = x.leafless; told = told_untold index becomes a b x.told }
+awaited_untold {index = index} {becomes = becomes} {a = a} {b = b} x = record { own = x.own; call = x.call; leafless = x.leafless; tries = tries_untold x.tries; told = told_untold index becomes a b x.told }

@@ -1,5 +1,5 @@
 -- What a call of an index ensures, each of its clauses a field by the clause's name.
-use Rattle.std.specs.Prelude.{◌+◌, ◌≤◌, ℕ, Bool, List, Result, MatchResult, IfOk, IfErr, OnErr}
+use Rattle.std.specs.Prelude.{◌≡◌, ◌+◌, ◌≤◌, ℕ, Bool, List, [], ◌∷◌, Result, Err, MatchResult, IfOk, IfErr, OnErr}
 use Rattle.finite_map.specs.declared.Call.{Call}
 use Rattle.finite_map.specs.declared.Call.TheVariants.{Get}
 use Rattle.finite_map.specs.declared.Reply.{Reply}
@@ -16,6 +16,7 @@ use Rattle.rowex_writing.specs.declared.plan.Full.TheVariants.{Leaves}
 use Rattle.rowex_walks.specs.Scan.{Range}
 use Rattle.tries.specs.Keys.{Key}
 use Rattle.seat_calls.specs.Answers.{HasFoundPair, IsListedBy, IsListedInPartBy, IsNoted, IsRefused, IsScannedBy, IsUnnoted, MayRefuse, ScanLaw, fault_of}
+use Rattle.seat_calls.specs.Asked.{last_try}
 use Rattle.seat_calls.specs.Counts.{scan_steps}
 use Rattle.seat_calls.specs.Passes.{Owns, PassView}
 use Rattle.seat_calls.specs.Traces.{HasGot, HasGotRange, HasMade, HasTold, untold}
@@ -47,13 +48,34 @@ pub record IsCallTried (asked : Call) (result : Result Reply TryFault) (index : 
   pub may : IfErr result (MayRefuse asked)
   pub made : MakesSteps asked result index k j
 
--- A change that waits was answered or refused, by its steps, of which the gate was told; and its last load of the root has shown the pass all
--- that any pass had seen by then.
+-- Tries of a change were refused for these reasons, one after the other. Each try is a whole call that doesn't wait.
+abbrev pub AreTriesRefused : {G : Type 0} → Call → List TryFault → TableView → (G → Event → G → Type 0) → PassView × G → PassView × G → Type 0
+AreTriesRefused asked [] index becomes a b = b ≡ a
+AreTriesRefused {G = G} asked (fault ∷ faults) index becomes a b =
+    (m : PassView × G) × IsTriedWith asked (Err fault) index becomes a m × AreTriesRefused asked faults index becomes m b
+
+-- A change that waits makes tries, one after the other, and no other step. All but the last are refused. The last one leaves what the change
+-- leaves: so the cause of a refusal lies in the last try alone.
+pub record MakesTries {G : Type 0} (asked : Call) (result : Result Reply Full) (index : TableView) (becomes : G → Event → G → Type 0)
+    (a b : PassView × G) : Type 0 where
+  pub faults : List TryFault
+  pub last : PassView × G
+  pub refused : AreTriesRefused asked faults index becomes a last
+  pub tried : IsTriedWith asked (last_try result) index becomes last b
+
+-- The steps of a call that waits and has this outcome: those of a get, or a change's tries.
+abbrev pub GetsOrTries : {G : Type 0} → Call → Result Reply Full → TableView → (G → Event → G → Type 0) → PassView × G → PassView × G → Type 0
+GetsOrTries (Get key) result index becomes a b = HasGot index becomes a b
+GetsOrTries asked result index becomes a b = MakesTries asked result index becomes a b
+
+-- A change that waits was answered or refused, by its steps, of which the gate was told: those of its tries. Its last load of the root has
+-- shown the pass all that any pass had seen by then.
 pub record IsAwaitedWith {G : Type 0} (asked : Call) (result : Result Reply Full) (index : TableView) (becomes : G → Event → G → Type 0)
     (a b : PassView × G) : Type 0 where
   pub own : Owns index b.0
   pub call : MatchResult result (IsNoted index.layout a.0 b.0 asked) (λ full. IsRefused index.layout asked a.0 b.0 (fault_of full))
   pub leafless : IsLeafless Leaves asked result
+  pub tries : MakesTries asked result index becomes a b
   pub told : HasTold index becomes a b
 
 -- the same, where nobody is told of its steps

@@ -67,8 +67,8 @@ AreRight front low (x ∷ xs) = (n : ℕ) × (low ≤ n) × (reply_of (map_of (t
 abbrev pub most_entries : ℕ
 most_entries = 9 * MAX_BYTES + MOST_TURNS
 
--- The pass has looked so many keys up, one after the other, after it had loaded the root: so these calls' replies are right in turn, at
--- places from what it had seen then on.
+-- The pass has looked so many keys up, after it had loaded the root. These calls' replies are right in turn, at places from what it had seen
+-- then on. Which of its loads serve which key isn't said.
 pub record HasLookedUp {G : Type 0} (table : TableView) (becomes : G → Event → G → Type 0) (count : ℕ) (calls : List (Call × Reply)) (a b : SeatView × G) : Type 0 where
   pub entries : ℕ
   pub loaded : ℕ
@@ -79,8 +79,9 @@ pub record HasLookedUp {G : Type 0} (table : TableView) (becomes : G → Event �
 
 -- The call pins the pass, loads the root, looks so many keys up, and clears the pin: these steps lead from the very seat that the pass has
 -- before to the one that it has after, one after the other, and no other does. With the last one come the call's notes, and none of them
--- stands before what the pass has seen by its first load of the root: all changes that the table's steps had made by then. The gate is
--- told each of them, in order, and nothing else. It makes at most 29 steps for each entry that it loads, 34 for each key, and 4 beside.
+-- stands before what the pass has seen by its first load of the root: all changes that the table's steps had made by then. The gate is told
+-- each of them, in order, and nothing else. Which loads serve which key isn't said. It makes at most 29 steps for each entry that it loads,
+-- 34 for each key, and 4 beside.
 pub record HasGotMany {G : Type 0} (index : TableView) (becomes : G → Event → G → Type 0) (count : ℕ) (a b : PassView × G) : Type 0 where
   pub epoch : ℕ
   pub root : ℕ

@@ -8,8 +8,10 @@ ghost use Rattle.rowex_table.specs.Runs.{StepsWith};
 ghost use Rattle.rowex_table.specs.Seats.{IsPassOf};
 ghost use Rattle.seat_calls.specs.Answers.{fault_of};
 ghost use Rattle.seat_calls.specs.Asked.{HasAsked, HasReplied, HasRested, IsIdle, last_try};
+ghost use Rattle.seat_calls.specs.Calls.{MakesTries};
 ghost use Rattle.seat_calls.specs.Counts.{once_steps, try_steps, twice_steps};
 ghost use Rattle.seat_calls.specs.Noting.{change_notes};
+ghost use Rattle.seat_calls.specs.Passes.{pass_of};
 ghost use Rattle.seat_calls.specs.Traces.{AreAttempts, AreTries, HasStepped, IsOneAttempt, Tidies, is_full};
 
 use crate::room::Room;
@@ -131,6 +133,7 @@ pub fn change<R: Wait, G: Gate>(
     requires idle { IsIdle table.now seat.old }
     ensures replied { HasReplied table.now call.now (last_try result) seat.old seat.new }
     ensures stepped { HasStepped table.now G.becomes (change_notes call.now (last_try result)) (seat.old, gate.old) (seat.new, gate.new) }
+    ensures tries { MakesTries call.now result table.now G.becomes (pass_of seat.old, gate.old) (pass_of seat.new, gate.new) }
 {
     for _ in rt.forever() {
         match try_change(table, seat, gate, room, call) {

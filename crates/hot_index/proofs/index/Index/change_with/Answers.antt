@@ -6,4 +6,4 @@ pub invariant_of-pass : goal.invariant_of-pass
 invariant_of-pass g c = c.change.ensures.replied.idle.1
 
 pub returns : goal.returns
-returns g c = awaited_seen c.self.view_is c.pass.view_is c.change.ensures.replied c.change.ensures.stepped
+returns g c = awaited_seen c.self.view_is c.pass.view_is c.change.ensures.replied c.change.ensures.stepped c.change.ensures.tries
