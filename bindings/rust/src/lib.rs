@@ -31,6 +31,11 @@ use ffi::{Index, Lease, Seen};
 use std::fmt;
 use std::sync::Arc;
 
+/// The code of the README, which `cargo test` runs.
+#[cfg(doctest)]
+#[doc = include_str!("../README.md")]
+struct Readme;
+
 /// The greatest length of a key, in bytes. A longer key is never there: a look-up doesn't find it, and a bound of a range is what it
 /// is for any other map. No call inserts it.
 pub const MAX_KEY: usize = 240;
@@ -111,7 +116,8 @@ pub struct Hot {
 }
 
 impl Hot {
-    /// Makes an empty index with room for so many keys of at most `longest` bytes, and for 1 to 1,024 handles at a time.
+    /// Makes an empty index with room for so many keys of at most `longest` bytes, and for 1 to 1,024 handles at a time. A handle takes
+    /// 118 KB from when it is first opened; those of the last one are taken at once.
     pub fn with_capacity(keys: usize, longest: usize, handles: usize) -> Result<Hot, Error> {
         Hot::with_stock(&Stock::for_keys(keys, longest)?, handles)
     }
