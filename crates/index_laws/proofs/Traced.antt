@@ -43,7 +43,7 @@ use Rattle.index_laws.proofs.Timed.{executions_are_runs, opening_is_new}
 
 -- The core to which steps lead
 
-core_is : (c : Core) (xs : List Event) (d : Core) → EventsLead c xs d → d ≡ core_led_to c xs
+pub core_is : (c : Core) (xs : List Event) (d : Core) → EventsLead c xs d → d ≡ core_led_to c xs
 core_is c [] d e = e
 core_is c (x ∷ xs) d e = core_is (after c x.pass x.act) xs d e.1
 

@@ -11,7 +11,9 @@ use Rattle.finite_map.specs.Calls.{place_after}
 use Rattle.finite_map.specs.Fronts.{BeginsWith}
 use Rattle.record_words.specs.declared.layout.Layout.{Layout}
 use Rattle.rowex_core.specs.declared.event.Act.{Act}
+use Rattle.rowex_core.specs.declared.event.Act.TheVariants.{LoadRef}
 use Rattle.rowex_core.specs.declared.event.Event.{Event}
+use Rattle.rowex_core.specs.declared.event.Spot.TheVariants.{Root}
 use Rattle.rowex_core.specs.declared.known.Known.{Known}
 use Rattle.rowex_core.specs.Cores.{Core}
 use Rattle.rowex_core.specs.Events.{after}
@@ -115,6 +117,15 @@ abbrev pub AGetIsTraced : Type 0
 AGetIsTraced =
     (table : TableView) → 0 < table.layout.passes → (key : List ℕ) → (at : ℕ → Instant) × (happens : ℕ → Happening) ×
     IsTracedExecution table 6 at happens × (complete_calls happens 6 ≡ (5, record { place = 0; call = Get key; reply = Absent }) ∷ [])
+
+-- In an execution by contracts alone, let a pass have loaded the root between two moments. It did so at one moment between them, when the steps
+-- so far were just those before the load. And it was shown all that any pass had seen by then.
+abbrev pub LoadsAreMoments : Type 0
+LoadsAreMoments =
+    (table : TableView) (last : ℕ) (at : ℕ → Instant) (happens : ℕ → Happening) → IsTracedExecution table last at happens →
+    (q i j : ℕ) → q < table.layout.passes → i ≤ j → j ≤ last → (loads : SeesAllOfRun table.layout ((at i).seat q) ((at j).seat q)) →
+    (m : ℕ) × (notes : List Note) × (i ≤ m) × (m < j) × (happens m ≡ steps q (LoadRef Root loads.root) notes) × ((at m).run ≡ loads.run) ×
+    ((o : ℕ) → o < table.layout.passes → BeginsWith ((at j).seat q).known.fresh.front ((at m).seat o).known.front)
 
 -- one of these steps is a load of the root by pass q, and it stands right behind the steps `before`
 abbrev pub LoadsRootBehind : ℕ → List Event → List Event → Type 0
