@@ -1,6 +1,6 @@
 -- Executions by contracts alone, and the order of calls by traces.
-use Rattle.std.proofs.Common.{◌≡◌, ◌⊎◌, ◌<◌, ◌≤◌, inl, inr, ⊎_elim, ℕ, zero, suc, List, [], ◌∷◌, ◌++◌, Option, None, refl, sym, ap, subst, ◌∙◌, arith}
-use Rattle.std.proofs.lemmas.Bool.{cases_lt}
+use Rattle.std.proofs.Common.{◌≡◌, ◌⊎◌, ◌<◌, ◌≤◌, inl, inr, ⊎_elim, ℕ, zero, suc, List, [], ◌∷◌, ◌++◌, Bool, true, false, if◌then◌else◌, nat_eq, Option, None, refl, sym, ap, subst, ◌∙◌, arith}
+use Rattle.std.proofs.lemmas.Bool.{cases_lt, eq-eqb}
 use Rattle.std.proofs.lemmas.List.Elements.{All-head, All-tail}
 use Rattle.std.specs.Prelude.{All}
 use Rattle.finite_map.specs.declared.Change.{Change}
@@ -11,7 +11,9 @@ use Rattle.finite_map.proofs.Growth.{begins_itself, others_begin}
 use Rattle.finite_map.proofs.Legal.{place_after-within}
 use Rattle.record_words.specs.declared.layout.Layout.{Layout}
 use Rattle.rowex_core.specs.declared.event.Act.{Act}
+use Rattle.rowex_core.specs.declared.event.Act.TheVariants.{LoadRef}
 use Rattle.rowex_core.specs.declared.event.Event.{Event}
+use Rattle.rowex_core.specs.declared.event.Spot.TheVariants.{Root}
 use Rattle.rowex_core.specs.declared.known.Fresh.{Fresh}
 use Rattle.rowex_core.specs.declared.known.Known.{Known}
 use Rattle.rowex_core.specs.declared.known.View.TheVariants.{Witness}
@@ -23,12 +25,13 @@ use Rattle.rowex_core.specs.Runs.{AreOthers, EventsLead}
 use Rattle.rowex_core.proofs.Learning.{learns}
 use Rattle.rowex_core.proofs.Runs.{runs_keep, runs_stay_lawful}
 use Rattle.rowex_table.specs.Rule.{with_front}
-use Rattle.rowex_table.specs.Runs.{StepsWith}
+use Rattle.rowex_table.specs.Runs.{StepsWith, root_load}
 use Rattle.rowex_table.specs.Seats.{SeatView, TableView}
-use Rattle.rowex_table.specs.Traces.{RunBeginsWith}
+use Rattle.rowex_table.specs.Stays.{LeavesFresh}
+use Rattle.rowex_table.specs.Traces.{RunBeginsWith, own_acts}
 use Rattle.rowex_table.proofs.Keeping.{renoted}
 use Rattle.rowex_table.proofs.Linking.{lead_rest}
-use Rattle.rowex_table.proofs.Onward.{led_more}
+use Rattle.rowex_table.proofs.Onward.{begins_on as run_begins_on, led_more}
 use Rattle.rowex_table.proofs.Running.{runs_same}
 use Rattle.seat_calls.specs.Traces.{untold}
 use Rattle.seat_calls.proofs.Noting.{longer}
@@ -40,7 +43,7 @@ use Rattle.index_laws.proofs.Timed.{executions_are_runs, opening_is_new}
 
 -- The core to which steps lead
 
-core_is : (c : Core) (xs : List Event) (d : Core) → EventsLead c xs d → d ≡ core_led_to c xs
+pub core_is : (c : Core) (xs : List Event) (d : Core) → EventsLead c xs d → d ≡ core_led_to c xs
 core_is c [] d e = e
 core_is c (x ∷ xs) d e = core_is (after c x.pass x.act) xs d e.1
 
@@ -195,36 +198,65 @@ step_grows table act said s t step run e led begins =
     runs_keep d begins.0 e (Witness t.known.front) (runs_stay_lawful table.layout t.trace d here) on (nobodys t.known.front begins.0)
     (others_begin t.known.pass t.known.front d.changes knows.seen.front)
 
+-- of a pass's own steps in a list, those behind its first
+own_rest : (b : Bool) (act : Act) (acts : List Act) → All LeavesFresh (if b then act ∷ acts else acts) → All LeavesFresh acts
+own_rest true act acts h = All-tail LeavesFresh act acts h
+own_rest false act acts h = h
+
+-- steps with a load of the root by the pass
+loads_one : (q root : ℕ) (before more : List Event) → All LeavesFresh (own_acts q ((before ++ root_load q root ∷ []) ++ more)) → ⊥
+loads_one q root [] more h =
+    All-head LeavesFresh (LoadRef Root root) (own_acts q more)
+    (subst (All LeavesFresh) (ap (λ b. if b then LoadRef Root root ∷ own_acts q more else own_acts q more) (eq-eqb q q refl)) h)
+loads_one q root (x ∷ before) more h =
+    loads_one q root before more (own_rest (nat_eq x.pass q) x.act (own_acts q ((before ++ root_load q root ∷ []) ++ more)) h)
+
+-- a load of the root stands no later than the last one
+none_later : (q root : ℕ) (before run more rest : List Event) (last : Event) → (before ++ root_load q root ∷ []) ++ more ≡ run ++ last ∷ rest → All LeavesFresh (own_acts q rest) → RunBeginsWith run before
+none_later q root [] run more rest last e none = (run, refl)
+none_later q root (x ∷ before) [] more rest last e none =
+    let tail : (before ++ root_load q root ∷ []) ++ more ≡ rest = cc in absurd (loads_one q root before more (subst (λ l. All LeavesFresh (own_acts q l)) (sym tail) none))
+none_later q root (x ∷ before) (y ∷ run) more rest last e none =
+    let head : y ≡ x = cc in
+    let tail : (before ++ root_load q root ∷ []) ++ more ≡ run ++ last ∷ rest = cc in
+    let h = none_later q root before run more rest last tail none in (h.0, λ i. head i ∷ h.1 i)
+
 pub loads_see_all : LoadsSeeAll
-loads_see_all index s t acts last said ends u v loads begins =
-    subst (λ (z : Fresh). BeginsWith z.front t.known.front) (sym loads.sees.fresh) (step_grows index last said ends.0.0 t ends.2 loads.run loads.sees.core loads.led begins)
+loads_see_all index s t acts last said ends u v loads before load begins =
+    let q : ℕ = u.known.pass in
+    let earlier : RunBeginsWith loads.run before = none_later q load.0 before loads.run load.1.0 loads.rest (root_load q loads.root) (sym load.1.1 ∙ loads.until) loads.last in
+    subst (λ (z : Fresh). BeginsWith z.front t.known.front) (sym loads.sees.fresh)
+    (step_grows index last said ends.0.0 t ends.2 loads.run loads.sees.core loads.led (run_begins_on t.trace before loads.run begins earlier))
 
 last_of : (P : Note → Type 0) (notes : List Note) (n : Note) → All P (notes ++ n ∷ []) → P n
 last_of P [] n h = All-head P n [] h
 last_of P (x ∷ notes) n h = last_of P notes n (All-tail P x (notes ++ n ∷ []) h)
 
 pub ended_before_loaded : EndedBeforeLoaded
-ended_before_loaded index s t call reply first acts last said ends u v later answer second loads begins =
+ended_before_loaded index s t call reply first acts last said ends u v later answer second loads before load begins =
     let note : Note = record { place = first.place; call = call; reply = reply } in
     let stands : StandsIn t.known.front t.known.pass note = last_of (StandsIn t.known.front t.known.pass) s.known.notes note (subst (All (StandsIn t.known.front t.known.pass)) first.notes first.legal.each) in
     let ended = place_after-within t.known.front t.known.pass note stands in
-    let loaded = longer v.known.fresh.front t.known.front (loads_see_all index s t acts last said ends u v loads begins) in
+    let loaded = longer v.known.fresh.front t.known.front (loads_see_all index s t acts last said ends u v loads before load begins) in
     let low = second.low in
     omega (arith, ended, loaded, low)
 
--- of two parts of one list the one begins with the other
-parts : (a b x y : List Event) → a ++ x ≡ b ++ y → RunBeginsWith b a ⊎ RunBeginsWith a b
-parts [] b x y e = inl (b, refl)
-parts (p ∷ a) [] x y e = inr (p ∷ a, refl)
-parts (p ∷ a) (q ∷ b) x y e =
+-- a part of a list stands before one of its elements, or has it
+before_or_with : (a before x y : List Event) (l : Event) → a ++ x ≡ (before ++ l ∷ []) ++ y → RunBeginsWith before a ⊎ RunBeginsWith a (before ++ l ∷ [])
+before_or_with [] before x y l e = inl (before, refl)
+before_or_with (p ∷ a) [] x y l e = let head : p ≡ l = cc in inr (a, λ i. head i ∷ a)
+before_or_with (p ∷ a) (q ∷ before) x y l e =
     let head : p ≡ q = cc in
-    let rest : a ++ x ≡ b ++ y = cc in
-    ⊎_elim (λ (h : RunBeginsWith b a). inl (h.0, λ i. sym head i ∷ h.1 i)) (λ (h : RunBeginsWith a b). inr (h.0, λ i. head i ∷ h.1 i)) (parts a b x y rest)
+    let rest : a ++ x ≡ (before ++ l ∷ []) ++ y = cc in
+    ⊎_elim (λ (h : RunBeginsWith before a). inl (h.0, λ i. sym head i ∷ h.1 i)) (λ (h : RunBeginsWith a (before ++ l ∷ [])). inr (h.0, λ i. head i ∷ h.1 i)) (before_or_with a before x y l rest)
 
 pub ended_or_loaded_before : EndedOrLoadedBefore
-ended_or_loaded_before index s t call reply first acts last said ends u v later answer second loads run one other =
-    ⊎_elim (λ (begins : RunBeginsWith loads.run t.trace). inl (ended_before_loaded index s t call reply first acts last said ends u v later answer second loads begins)) inr
-    (parts t.trace loads.run one.0 other.0 (sym one.1 ∙ other.1))
+ended_or_loaded_before index s t call reply first acts last said ends u v later answer second loads run before one other load =
+    let l : Event = root_load u.known.pass load.0 in
+    let with_load : RunBeginsWith run (before ++ l ∷ []) = run_begins_on (before ++ l ∷ []) v.trace run load.1 other in
+    ⊎_elim (λ (begins : RunBeginsWith before t.trace). inl (ended_before_loaded index s t call reply first acts last said ends u v later answer second loads before load begins))
+    (λ (has : RunBeginsWith t.trace (before ++ l ∷ [])). inr (load.0, has))
+    (before_or_with t.trace before one.0 with_load.0 l (sym one.1 ∙ with_load.1))
 
 -- What is no step
 

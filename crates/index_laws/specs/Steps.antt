@@ -27,7 +27,7 @@ made_at c k act = found_by act (word_at c (location_of k.pass act))
 abbrev pub known_after : Core → Known → Act → List Note → Known
 known_after c k act notes = record (learned c (made_at c k act) k) { notes = k.notes ++ notes }
 
--- all steps so far, with this one
+-- the steps of the run, with this one behind them
 abbrev pub run_after : List Event → Core → Known → Act → List Event
 run_after run c k act = run ++ record { pass = k.pass; act = made_at c k act } ∷ []
 
@@ -40,7 +40,7 @@ state_after layout s id k act v =
 abbrev pub view_after : List Event → Core → Known → Trace → Act → List Note → TracedView
 view_after run c k t act notes = Pass (known_after c k act notes) (record { events = run_after run c k act; asides = t.asides })
 
--- By the rule of the table a core shows its state, to which all steps so far have led. A step that a pass may make, by what it knows, is legal
+-- By the rule of the table a core shows its state, to which its run leads. A step that a pass may make, by what it knows, is legal
 -- in this very core; and the core after it shows the state that the step leads to, and what the pass then knows. The table's run has one step
 -- more. So cores of steps follow one another.
 abbrev pub StepsFollow : Type 0

@@ -11,14 +11,16 @@ use Rattle.finite_map.specs.Calls.{place_after}
 use Rattle.finite_map.specs.Fronts.{BeginsWith}
 use Rattle.record_words.specs.declared.layout.Layout.{Layout}
 use Rattle.rowex_core.specs.declared.event.Act.{Act}
+use Rattle.rowex_core.specs.declared.event.Act.TheVariants.{LoadRef}
 use Rattle.rowex_core.specs.declared.event.Event.{Event}
+use Rattle.rowex_core.specs.declared.event.Spot.TheVariants.{Root}
 use Rattle.rowex_core.specs.declared.known.Known.{Known}
 use Rattle.rowex_core.specs.Cores.{Core}
 use Rattle.rowex_core.specs.Events.{after}
 use Rattle.rowex_core.specs.Knowing.{learned}
 use Rattle.rowex_core.specs.Opening.{opening}
 use Rattle.rowex_table.specs.Rule.{with_front}
-use Rattle.rowex_table.specs.Runs.{Ends, SeesAllOfRun, StepsWith}
+use Rattle.rowex_table.specs.Runs.{Ends, SeesAllOfRun, StepsWith, root_load}
 use Rattle.rowex_table.specs.Seats.{IsNewSeatOf, IsShownAll, SeatView, TableView}
 use Rattle.rowex_table.specs.Traces.{RunBeginsWith}
 use Rattle.seat_calls.specs.Answers.{IsNoted}
@@ -116,33 +118,47 @@ AGetIsTraced =
     (table : TableView) → 0 < table.layout.passes → (key : List ℕ) → (at : ℕ → Instant) × (happens : ℕ → Happening) ×
     IsTracedExecution table 6 at happens × (complete_calls happens 6 ≡ (5, record { place = 0; call = Get key; reply = Absent }) ∷ [])
 
--- A pass made steps, as a call without a gate does; and a call of any pass loaded the root in a run that begins with what the first one then
--- knew of, so after its last step. That load showed all changes that the first pass had seen.
+-- In an execution by contracts alone, let a pass have loaded the root between two moments. It did so at one moment between them, when the steps
+-- so far were just those before the load. And it was shown all that any pass had seen by then.
+abbrev pub LoadsAreMoments : Type 0
+LoadsAreMoments =
+    (table : TableView) (last : ℕ) (at : ℕ → Instant) (happens : ℕ → Happening) → IsTracedExecution table last at happens →
+    (q i j : ℕ) → q < table.layout.passes → i ≤ j → j ≤ last → (loads : SeesAllOfRun table.layout ((at i).seat q) ((at j).seat q)) →
+    (m : ℕ) × (notes : List Note) × (i ≤ m) × (m < j) × (happens m ≡ steps q (LoadRef Root loads.root) notes) × ((at m).run ≡ loads.run) ×
+    ((o : ℕ) → o < table.layout.passes → BeginsWith ((at j).seat q).known.fresh.front ((at m).seat o).known.front)
+
+-- one of these steps is a load of the root by pass q, and it stands right behind the steps `before`
+abbrev pub LoadsRootBehind : ℕ → List Event → List Event → Type 0
+LoadsRootBehind q run before = (root : ℕ) × RunBeginsWith run (before ++ root_load q root ∷ [])
+
+-- A pass made steps, as a call without a gate does; and a call of any pass loaded the root. Let some load of the root by
+-- the later pass stand behind all steps of which the first pass knew, in the later one's trace at its end. Then the later call was shown all
+-- changes that the first pass had seen.
 abbrev pub LoadsSeeAll : Type 0
 LoadsSeeAll =
     (index : TableView) (s t : SeatView) (acts : List Act) (last : Act) (said : Known → List Note) → Ends index untold acts last said (s, tt) (t, tt) →
-    (u v : SeatView) (loads : SeesAllOfRun index.layout u v) → RunBeginsWith loads.run t.trace → BeginsWith v.known.fresh.front t.known.front
+    (u v : SeatView) → SeesAllOfRun index.layout u v → (before : List Event) → LoadsRootBehind u.known.pass v.trace before → RunBeginsWith before t.trace →
+    BeginsWith v.known.fresh.front t.known.front
 
 -- So if the first one's steps answered a call with one key, the place of a later such call is no earlier than the first one's, and later than
--- its change. Of the two runs this asks that they go on one from the other, which the run of a table does; a caller knows it by a stamp or a
--- meeting.
+-- its change. Of the two traces this asks that the one goes on from the other, as those of one table do; a caller knows it by a stamp or a meeting.
 abbrev pub EndedBeforeLoaded : Type 0
 EndedBeforeLoaded =
     (index : TableView) (s t : SeatView) (call : Call) (reply : Reply) (first : IsNoted index.layout (pass_of s) (pass_of t) call reply) →
     (acts : List Act) (last : Act) (said : Known → List Note) → Ends index untold acts last said (s, tt) (t, tt) →
     (u v : SeatView) (later : Call) (answer : Reply) (second : IsNoted index.layout (pass_of u) (pass_of v) later answer) →
-    (loads : SeesAllOfRun index.layout u v) → RunBeginsWith loads.run t.trace →
+    SeesAllOfRun index.layout u v → (before : List Event) → LoadsRootBehind u.known.pass v.trace before → RunBeginsWith before t.trace →
     place_after (record { place = first.place; call = call; reply = reply }) ≤ second.place
 
--- So where both are parts of one run, as those of passes are that have met since, either the two calls stand so, or the later one's load of the
--- root came no later than the first one's last step.
+-- So where one run has both traces, as those of passes that have met since, either the two calls stand so, or the later one's load of the root
+-- is one of the steps of which the first pass knew at the end of its call.
 abbrev pub EndedOrLoadedBefore : Type 0
 EndedOrLoadedBefore =
     (index : TableView) (s t : SeatView) (call : Call) (reply : Reply) (first : IsNoted index.layout (pass_of s) (pass_of t) call reply) →
     (acts : List Act) (last : Act) (said : Known → List Note) → Ends index untold acts last said (s, tt) (t, tt) →
     (u v : SeatView) (later : Call) (answer : Reply) (second : IsNoted index.layout (pass_of u) (pass_of v) later answer) →
-    (loads : SeesAllOfRun index.layout u v) (run : List Event) → RunBeginsWith run t.trace → RunBeginsWith run loads.run →
-    (place_after (record { place = first.place; call = call; reply = reply }) ≤ second.place) ⊎ RunBeginsWith t.trace loads.run
+    SeesAllOfRun index.layout u v → (run before : List Event) → RunBeginsWith run t.trace → RunBeginsWith run v.trace → LoadsRootBehind u.known.pass v.trace before →
+    (place_after (record { place = first.place; call = call; reply = reply }) ≤ second.place) ⊎ LoadsRootBehind u.known.pass t.trace before
 
 -- A call of steps that end in one, as those of one key and scans do, makes no stamp, follows none and meets no other pass.
 abbrev pub CallsMakeNoAsides : Type 0

@@ -2,7 +2,7 @@
 ghost use Rattle.index_laws.specs.Headline.{Headline};
 ghost use Rattle.index_laws.specs.Statements.{AGetReturns, Responses};
 ghost use Rattle.index_laws.specs.Steps.{StepsAreMoments, StepsFollow};
-ghost use Rattle.index_laws.specs.Traced.{AGetIsTraced, CallsMakeNoAsides, EndedBeforeLoaded, EndedOrLoadedBefore, LoadsSeeAll, TracedAreExecutions};
+ghost use Rattle.index_laws.specs.Traced.{AGetIsTraced, CallsMakeNoAsides, EndedBeforeLoaded, EndedOrLoadedBefore, LoadsAreMoments, LoadsSeeAll, TracedAreExecutions};
 
 /// A run may begin where an index has just been made, and a call that has ended does so in it as its contract says.
 pub fn responses()
@@ -38,6 +38,11 @@ pub fn traced_are_executions()
 /// There are executions by contracts alone in which calls return.
 pub fn a_get_is_traced()
     ensures { AGetIsTraced }
+{}
+
+/// In such an execution a load of the root has its moment in the call, and shows all that any pass had seen by then.
+pub fn loads_are_moments()
+    ensures { LoadsAreMoments }
 {}
 
 /// A load of the root shows all changes that another pass, or the same, had seen by any of its steps before that load.

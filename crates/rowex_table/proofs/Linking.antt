@@ -15,10 +15,11 @@ use Rattle.rowex_core.specs.Opening.{opening}
 use Rattle.rowex_core.specs.Runs.{EventsLead}
 use Rattle.rowex_table.specs.Runs.{StepsWith, silent}
 use Rattle.rowex_table.specs.Seats.{SeatView, TableView}
-use Rattle.rowex_table.specs.Statements.{EndsAreLinked, IsInOneRun, RunsAreLinked, with_notes}
+use Rattle.rowex_table.specs.declared.traces.TracedView.TheVariants.{Pass}
+use Rattle.rowex_table.specs.Statements.{EndsAreLinked, IsInOneRun, RunsAreLinked, TracesAreOfOneRun, with_notes}
 use Rattle.rowex_table.specs.Traces.{IsTableRun, own_acts, taught}
 use Rattle.rowex_table.proofs.ActsLeave.{learned_notes}
-use Rattle.rowex_table.proofs.Onward.{led_more}
+use Rattle.rowex_table.proofs.Onward.{begins_on, led_more, of_one_run, others_begin}
 
 -- Steps that lead from core to core
 
@@ -132,3 +133,11 @@ ends_are_linked {G = G} becomes table [] act said a b ends = subst (λ (z : Seat
 ends_are_linked becomes table (x ∷ acts) act said a b ends =
     linked_trans table.layout (x ∷ []) (acts ++ act ∷ []) said a.0 ends.1.0.0 b.0 ends.1.1.seat.2 (some_acts x []) (linked_one table becomes x silent a ends.1.0 ends.1.1)
     (ends_are_linked becomes table acts act said ends.1.0 b (ends.0, ends.1.2, ends.2))
+
+-- Runs of several passes
+
+pub traces_are_of_one_run : TracesAreOfOneRun
+traces_are_of_one_run layout s r i j k l t u here there one other begins begun =
+    of_one_run r.run one other
+    (begins_on one t.events r.run begins (others_begin k.pass t.events r.run (r.knows i (Pass k t) here).1))
+    (begins_on other u.events r.run begun (others_begin l.pass u.events r.run (r.knows j (Pass l u) there).1))

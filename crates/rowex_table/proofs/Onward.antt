@@ -1,5 +1,5 @@
 -- Lists of steps, and traces, where the run goes on.
-use Rattle.std.proofs.Common.{◌≢◌, ℕ, ◌<◌, List, [], ◌∷◌, ◌++◌, refl, sym, ap, subst, ◌∙◌, inl, inr, ⊎_elim, append_assoc, append-nil}
+use Rattle.std.proofs.Common.{◌≡◌, ◌≢◌, ◌⊎◌, ℕ, ◌<◌, List, [], ◌∷◌, ◌++◌, refl, sym, ap, subst, ◌∙◌, inl, inr, ⊎_elim, append_assoc, append-nil}
 use Rattle.std.proofs.lemmas.Bool.{cases_lt}
 use Rattle.std.proofs.lemmas.List.Elements.{All-append, All-cons, All-nil}
 use Rattle.rowex_core.specs.declared.event.Act.{Act}
@@ -34,6 +34,18 @@ others_more q a b x ne g = others_on q a b (b ++ x ∷ []) g (x ∷ [], refl, Al
 
 pub others_begin : (q : ℕ) (a b : List Event) → OthersStepOn q a b → RunBeginsWith b a
 others_begin q a b g = (g.0, g.1)
+
+parts : (a b x y : List Event) → a ++ x ≡ b ++ y → RunBeginsWith b a ⊎ RunBeginsWith a b
+parts [] b x y e = inl (b, refl)
+parts (p ∷ a) [] x y e = inr (p ∷ a, refl)
+parts (p ∷ a) (q ∷ b) x y e =
+    let head : p ≡ q = cc in
+    let rest : a ++ x ≡ b ++ y = cc in
+    ⊎_elim (λ (h : RunBeginsWith b a). inl (h.0, λ i. sym head i ∷ h.1 i)) (λ (h : RunBeginsWith a b). inr (h.0, λ i. head i ∷ h.1 i)) (parts a b x y rest)
+
+-- of two lists with which one run begins, the one begins with the other
+pub of_one_run : (run a b : List Event) → RunBeginsWith run a → RunBeginsWith run b → RunBeginsWith b a ⊎ RunBeginsWith a b
+of_one_run run a b g h = parts a b g.0 h.0 (sym g.1 ∙ h.1)
 
 -- one legal step more
 pub led_more : (c : Core) (run : List Event) (d : Core) (q : ℕ) (act : Act) → EventsLead c run d → Legal d q act → EventsLead c (run ++ record { pass = q; act = act } ∷ []) (after d q act)

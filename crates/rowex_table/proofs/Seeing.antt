@@ -1,5 +1,7 @@
 -- What a pass's last load of the root has shown it, whatever steps were before and after.
-use Rattle.std.proofs.Common.{◌≡◌, ◌⊎◌, inl, inr, ⊎_elim, ℕ, ◌+◌, ◌<◌, ◌≤◌, List, [], ◌∷◌, refl, sym, ap, subst, ◌∙◌, arith, le_refl, le_trans}
+use Rattle.std.proofs.Common.{◌≡◌, ◌⊎◌, inl, inr, ⊎_elim, ℕ, ◌+◌, ◌<◌, ◌≤◌, List, [], ◌∷◌, ◌++◌, refl, sym, ap, subst, ◌∙◌, arith, append_assoc, append-nil, le_refl, le_trans}
+use Rattle.std.specs.Prelude.{All}
+use Rattle.std.proofs.lemmas.List.Elements.{All-append, All-cons, All-nil}
 use Rattle.finite_map.specs.declared.Note.{Note}
 use Rattle.finite_map.specs.Fronts.{BeginsWith}
 use Rattle.record_words.specs.declared.layout.Layout.{Layout}
@@ -9,12 +11,15 @@ use Rattle.rowex_core.specs.declared.event.Event.{Event}
 use Rattle.rowex_core.specs.declared.event.Spot.TheVariants.{Root, Slot}
 use Rattle.rowex_core.specs.declared.known.Fresh.{Fresh}
 use Rattle.rowex_core.specs.declared.known.Known.{Known}
+use Rattle.rowex_core.specs.Events.{Legal}
 use Rattle.rowex_core.specs.Knowing.{IsEvent, version_of}
 use Rattle.rowex_core.proofs.Keeping.{seen_by}
-use Rattle.rowex_table.specs.Runs.{Ends, Runs, SeesAllOfRun, Steps, StepsWith, silent}
+use Rattle.rowex_table.specs.Runs.{Ends, Runs, SeesAllOfRun, Steps, StepsWith, root_load, silent}
 use Rattle.rowex_table.specs.Seats.{TableView, SeatView}
-use Rattle.rowex_table.specs.Traces.{RunBeginsWith}
+use Rattle.rowex_table.specs.Stays.{LeavesFresh}
+use Rattle.rowex_table.specs.Traces.{RunBeginsWith, own_acts}
 use Rattle.rowex_table.proofs.ActsLeave.{act_fresh}
+use Rattle.rowex_table.proofs.Linking.{linked_one, own_acts-append}
 use Rattle.rowex_table.proofs.Onward.{begins_itself, begins_on, next_begins, others_begin}
 
 -- one step more
@@ -33,6 +38,26 @@ after_itself s = record { pass = refl; steps = le_refl s.known.steps; trace = be
 pub after_trans : {s t u : SeatView} → IsAfter s t → IsAfter t u → IsAfter s u
 after_trans {s} {t} {u} x y = record { pass = y.pass ∙ x.pass; steps = le_trans x.steps y.steps; trace = begins_on s.trace t.trace u.trace x.trace y.trace }
 
+-- steps of the pass none of which loads the root: its trace goes on without such a load
+pub record LoadsNone (s t : SeatView) : Type 0 where
+  pub fresh : t.known.fresh ≡ s.known.fresh
+  pub more : List Event
+  pub trace : t.trace ≡ s.trace ++ more
+  pub none : All LeavesFresh (own_acts s.known.pass more)
+
+-- the pass's own steps in two lists, none of which loads the root
+none_both : (p q : ℕ) (xs ys : List Event) → p ≡ q → All LeavesFresh (own_acts q xs) → All LeavesFresh (own_acts p ys) → All LeavesFresh (own_acts q (xs ++ ys))
+none_both p q xs ys same h k = subst (All LeavesFresh) (sym (own_acts-append q xs ys))
+    (All-append LeavesFresh (own_acts q xs) (own_acts q ys) h (subst (λ r. All LeavesFresh (own_acts r ys)) same k))
+
+none_then : {s t u : SeatView} → t.known.pass ≡ s.known.pass → LoadsNone s t → LoadsNone t u → LoadsNone s u
+none_then {s} {t} {u} same x y = record {
+  fresh = y.fresh ∙ x.fresh;
+  more = x.more ++ y.more;
+  trace = y.trace ∙ (ap (λ l. l ++ y.more) x.trace ∙ append_assoc s.trace x.more y.more);
+  none = none_both t.known.pass s.known.pass x.more y.more same x.none y.none;
+}
+
 -- what was loaded since an earlier version
 sees_since : (layout : Layout) (k i j : SeatView) → IsAfter k i → SeesAllOfRun layout i j → SeesAllOfRun layout k j
 sees_since layout k i j later x = record {
@@ -40,12 +65,16 @@ sees_since layout k i j later x = record {
   run = x.run;
   led = x.led;
   since = begins_on k.trace i.trace x.run later.trace x.since;
-  until = x.until;
+  root = x.root;
+  legal = subst (λ q. Legal x.sees.core q (LoadRef Root x.root)) later.pass x.legal;
+  rest = x.rest;
+  until = x.until ∙ ap (λ q. x.run ++ root_load q x.root ∷ x.rest) later.pass;
+  last = subst (λ q. All LeavesFresh (own_acts q x.rest)) later.pass x.last;
 }
 
 -- and is not loaded again
-sees_still : (layout : Layout) (k i j : SeatView) → IsAfter i j → SeesAllOfRun layout k i → j.known.fresh ≡ i.known.fresh → SeesAllOfRun layout k j
-sees_still layout k i j later x same = record {
+sees_still : (layout : Layout) (k i j : SeatView) → i.known.pass ≡ k.known.pass → IsAfter i j → SeesAllOfRun layout k i → LoadsNone i j → SeesAllOfRun layout k j
+sees_still layout k i j pass later x none = record {
   sees = (let s = x.sees in record {
     core = s.core;
     lawful = s.lawful;
@@ -55,26 +84,30 @@ sees_still layout k i j later x same = record {
     pass = s.pass;
     since = s.since;
     until = (let u = s.until in let more = later.steps in omega (arith, more));
-    fresh = same ∙ s.fresh;
-    all = λ o known. subst (λ (z : Fresh). BeginsWith z.front o.front) (sym same) (s.all o known);
+    fresh = none.fresh ∙ s.fresh;
+    all = λ o known. subst (λ (z : Fresh). BeginsWith z.front o.front) (sym none.fresh) (s.all o known);
   });
   run = x.run;
   led = x.led;
   since = x.since;
-  until = begins_on x.run i.trace j.trace x.until later.trace;
+  root = x.root;
+  legal = x.legal;
+  rest = x.rest ++ none.more;
+  until = none.trace ∙ (ap (λ l. l ++ none.more) x.until ∙ append_assoc x.run (root_load k.known.pass x.root ∷ x.rest) none.more);
+  last = none_both i.known.pass k.known.pass x.rest none.more pass x.last none.none;
 }
 
 -- steps that leave what was loaded before them, or load the root
 abbrev pub Shows : Layout → SeatView → SeatView → Type 0
-Shows layout s t = (t.known.fresh ≡ s.known.fresh) ⊎ SeesAllOfRun layout s t
+Shows layout s t = LoadsNone s t ⊎ SeesAllOfRun layout s t
 
 -- once loaded, whatever follows
 pub sees_then : (layout : Layout) (k i j : SeatView) → IsAfter k i → IsAfter i j → SeesAllOfRun layout k i → Shows layout i j → SeesAllOfRun layout k j
-sees_then layout k i j first second s shows = ⊎_elim (sees_still layout k i j second s) (sees_since layout k i j first) shows
+sees_then layout k i j first second s shows = ⊎_elim (sees_still layout k i j first.pass second s) (sees_since layout k i j first) shows
 
 shows_then : (layout : Layout) (k i j : SeatView) → IsAfter k i → IsAfter i j → Shows layout k i → Shows layout i j → Shows layout k j
 shows_then layout k i j later more first second = ⊎_elim
-    (λ (f : i.known.fresh ≡ k.known.fresh). ⊎_elim (λ (e : j.known.fresh ≡ i.known.fresh). inl (e ∙ f)) (λ s. inr (sees_since layout k i j later s)) second)
+    (λ (f : LoadsNone k i). ⊎_elim (λ (e : LoadsNone i j). inl (none_then later.pass f e)) (λ s. inr (sees_since layout k i j later s)) second)
     (λ s. inr (sees_then layout k i j later more s second))
     first
 
@@ -110,13 +143,28 @@ module _ {G : Type 0} (table : TableView) (becomes : G → Event → G → Type 
         run = step.next.before;
         led = step.next.led;
         since = others_begin k.pass a.0.trace step.next.before step.next.others;
-        until = (record { pass = k.pass; act = LoadRef Root w } ∷ [], step.next.next_is);
+        root = w;
+        legal = e.legal;
+        rest = [];
+        until = step.next.next_is;
+        last = All-nil LeavesFresh;
+      }
+
+  -- any other step
+  step_none : (act : Act) (said : Known → List Note) (a b : SeatView × G) → StepsWith table becomes act said a b → LeavesFresh act → LoadsNone a.0 b.0
+  step_none act said a b step leaves =
+      let linked = linked_one table becomes act said a b step in
+      record {
+        fresh = act_fresh table.layout a.0.known b.0.known act said step.event leaves;
+        more = linked.steps;
+        trace = linked.trace;
+        none = subst (All LeavesFresh) (sym linked.own) (All-cons LeavesFresh act [] leaves (All-nil LeavesFresh));
       }
 
   pub step_shows : (act : Act) (said : Known → List Note) (a b : SeatView × G) → StepsWith table becomes act said a b → Shows table.layout a.0 b.0
   step_shows (LoadRef Root w) said a b step = inr (root_shows w said a b step)
-  step_shows (LoadRef (Slot n i) w) said a b step = inl (act_fresh table.layout a.0.known b.0.known (LoadRef (Slot n i) w) said step.event tt)
-  step_shows act said a b step = inl (act_fresh table.layout a.0.known b.0.known act said step.event tt)
+  step_shows (LoadRef (Slot n i) w) said a b step = inl (step_none (LoadRef (Slot n i) w) said a b step tt)
+  step_shows act said a b step = inl (step_none act said a b step tt)
 
   -- Steps one after the other
 
@@ -128,7 +176,12 @@ module _ {G : Type 0} (table : TableView) (becomes : G → Event → G → Type 
   runs_later acts a b run = (runs_after acts a b run).steps
 
   pub runs_show : (acts : List Act) (a b : SeatView × G) → Runs table becomes acts a b → Shows table.layout a.0 b.0
-  runs_show [] a b run = inl (ap (λ (z : SeatView × G). z.0.known.fresh) run)
+  runs_show [] a b run = inl (record {
+    fresh = ap (λ (z : SeatView × G). z.0.known.fresh) run;
+    more = [];
+    trace = ap (λ (z : SeatView × G). z.0.trace) run ∙ sym (append-nil a.0.trace);
+    none = All-nil LeavesFresh;
+  })
   runs_show (act ∷ acts) a b run =
       shows_then table.layout a.0 run.0.0 b.0 (step_after act silent a run.0 run.1) (runs_after acts run.0 b run.2) (step_shows act silent a run.0 run.1) (runs_show acts run.0 b run.2)
 
@@ -156,6 +209,6 @@ module _ {G : Type 0} (table : TableView) (becomes : G → Event → G → Type 
       SeesAllOfRun table.layout a.0 b.0
   ends_see acts act said a b ends late =
       let old = counted acts act said a b ends in ⊎_elim
-      (λ (same : b.0.known.fresh ≡ a.0.known.fresh). let step = ap (λ (z : Fresh). z.step) same in absurd (omega (arith, old, late, step)))
+      (λ (none : LoadsNone a.0 b.0). let step = ap (λ (z : Fresh). z.step) none.fresh in absurd (omega (arith, old, late, step)))
       (λ s. s)
       (ends_show acts act said a b ends)

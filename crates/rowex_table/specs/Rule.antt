@@ -36,8 +36,8 @@ IsSomeSeats views q = (i : ℕ) × (v : TracedView) × (get_elem? views i ≡ so
 abbrev pub IsTrueOf : Core → List Event → TracedView → Type 0
 IsTrueOf core run v = Knowing core (view_of v) × HasTraces run v
 
--- There is a lawful core with this layout, which the words show, and to which all steps so far have led from a new table; what each seat
--- knows is true of it and of these steps; no two seats have one number, and each number of a pass is some seat's.
+-- There is a lawful core with this layout, which the words show. A list of steps, the run, leads to it from a new table. What each seat knows
+-- is true of both. No two seats have one number, and each number of a pass is some seat's.
 pub record Ruled {S : Type 0} (layout : Layout) (s : State S TracedView) : Type 0 where
   pub core : Core
   pub lawful : IsLawful core
@@ -158,7 +158,8 @@ SeatsHaveMet layout j k j' k' =
     (front : List Change) × (j' ≡ with_front front j) × (k' ≡ with_front front k) × LegalFront front × OthersGoOn j.pass j.front front × OthersGoOn k.pass k.front front ×
     (j.pass ≢ k.pass) × All (λ x. x.pass < layout.passes) front
 
--- Both know of all steps so far, `run`, which led to a core in which just the changes of their fronts have been made.
+-- Both know of the same steps, which lead from a new table to a core in which just the changes of their fronts have been made. They begin with
+-- those of which each had known, and go on by steps of others.
 abbrev pub TracesHaveMet : Layout → Known → Trace → Known → Trace → Known → Trace → Known → Trace → Type 0
 TracesHaveMet layout j t k u j' t' k' u' =
     (t'.events ≡ u'.events) × IsShownRun layout j.pass t.events t'.events j'.front × IsShownRun layout k.pass u.events u'.events k'.front ×
@@ -200,14 +201,14 @@ abbrev pub following : TracedView → TracedView → TracedView
 following (Pass k t) (Witness front events) = Follower k t front events
 following v w = Spent
 
--- The pass that knew k knows j now: it has seen all changes so far, each of which was legal and made by a pass of the table. They begin
--- with the stamp's, and with what the pass had seen, and go on from there by changes of others.
+-- The pass that knew k knows j now: it has seen a list of changes, each of which was legal and made by a pass of the table. It begins
+-- with the stamp's, and with what the pass had seen, and goes on from there by changes of others.
 abbrev pub HasFollowed : Layout → List Change → Known → Known → Type 0
 HasFollowed layout stamp k j =
     (front : List Change) × (j ≡ with_front front k) × LegalFront front × OthersGoOn k.pass k.front front × BeginsWith front stamp ×
     All (λ x. x.pass < layout.passes) front
 
--- And of all steps so far, which begin with the stamp's.
+-- It also knows of steps that begin with the stamp's, and lead from a new table to a core in which just these changes have been made.
 abbrev pub TraceHasFollowed : Layout → List Event → Known → Trace → Known → Trace → Type 0
 TraceHasFollowed layout stamp k t j u = IsShownRun layout k.pass t.events u.events j.front × RunBeginsWith u.events stamp × (u.asides ≡ suc t.asides)
 

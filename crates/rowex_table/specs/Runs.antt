@@ -1,15 +1,19 @@
 -- Steps of one pass, one after the other, and what its gate is told.
-use Rattle.std.specs.Prelude.{◌≡◌, ℕ, zero, suc, ◌+◌, List, [], ◌∷◌, ◌++◌, length, map}
+use Rattle.std.specs.Prelude.{◌≡◌, ℕ, zero, suc, ◌+◌, All, List, [], ◌∷◌, ◌++◌, length, map}
 use Rattle.finite_map.specs.declared.Note.{Note}
 use Rattle.record_words.specs.declared.layout.Layout.{Layout}
 use Rattle.rowex_core.specs.declared.event.Act.{Act}
+use Rattle.rowex_core.specs.declared.event.Act.TheVariants.{LoadRef}
 use Rattle.rowex_core.specs.declared.event.Event.{Event}
+use Rattle.rowex_core.specs.declared.event.Spot.TheVariants.{Root}
 use Rattle.rowex_core.specs.declared.known.Known.{Known}
+use Rattle.rowex_core.specs.Events.{Legal}
 use Rattle.rowex_core.specs.Knowing.{IsEvent, SeesAllAtRoot}
 use Rattle.rowex_core.specs.Opening.{opening}
 use Rattle.rowex_core.specs.Runs.{EventsLead}
 use Rattle.rowex_table.specs.Seats.{TableView, SeatView, IsSame}
-use Rattle.rowex_table.specs.Traces.{IsNextStep, RunBeginsWith}
+use Rattle.rowex_table.specs.Stays.{LeavesFresh}
+use Rattle.rowex_table.specs.Traces.{IsNextStep, RunBeginsWith, own_acts}
 
 -- no notes
 abbrev pub silent : Known → List Note
@@ -25,22 +29,30 @@ abbrev pub events_of : ℕ → List Act → List Event
 events_of q acts = map (λ act. record { pass = q; act = act }) acts
 
 -- The seat stays one seat; its pass makes this one step, and `said` are the notes that come with it; and the gate is told it. The step is
--- the next one of the table's run: all steps of all passes before it lead from a new table to its core.
+-- the next one of a run. The steps before it lead from a new table to its core, and begin with those of which the pass knew.
 pub record StepsWith {G : Type 0} (table : TableView) (becomes : G → Event → G → Type 0) (act : Act) (said : Known → List Note) (a b : SeatView × G) : Type 0 where
   pub seat : IsSame a.0 b.0
   pub event : IsEvent table.layout act said a.0.known b.0.known
   pub next : IsNextStep table.layout a.0.known.pass act event.core a.0.trace b.0.trace
   pub told : becomes a.1 (record { pass = a.0.known.pass; act = act }) b.1
 
--- Between these views of a seat its pass has loaded the root, as `SeesAllAtRoot` says; and it did so in a core of the table: all steps so far,
--- `run`, lead from a new table to it. They begin with those of which the pass knew at first, and those of which it knows at last begin
--- with them.
+-- the load of the root by pass q that finds this word
+abbrev pub root_load : ℕ → ℕ → Event
+root_load q word = record { pass = q; act = LoadRef Root word }
+
+-- Between these views of a seat its pass has loaded the root, as `SeesAllAtRoot` says. The steps `run` lead from a new table to the core of that
+-- load, and begin with those of which the pass knew at first. In the steps of which it knows at last, the load stands right behind `run`. No
+-- load of the root by this pass stands behind it there.
 pub record SeesAllOfRun (layout : Layout) (s t : SeatView) : Type 0 where
   pub sees : SeesAllAtRoot layout s.known t.known
   pub run : List Event
   pub led : EventsLead (opening layout) run sees.core
   pub since : RunBeginsWith run s.trace
-  pub until : RunBeginsWith t.trace run
+  pub root : ℕ
+  pub legal : Legal sees.core s.known.pass (LoadRef Root root)
+  pub rest : List Event
+  pub until : t.trace ≡ run ++ root_load s.known.pass root ∷ rest
+  pub last : All LeavesFresh (own_acts s.known.pass rest)
 
 -- the same with no note
 abbrev pub Steps : {G : Type 0} → TableView → (G → Event → G → Type 0) → Act → SeatView × G → SeatView × G → Type 0

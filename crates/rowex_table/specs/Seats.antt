@@ -13,8 +13,9 @@ pub record TableView : Type 0 where
   pub id : TableId
   pub layout : Layout
 
--- A seat: its table, which one it is there, and what its pass knows; all steps of all passes on this table, from the first up to the last of
--- which the pass knows; and how often the pass has made a stamp, has followed one, or has met another pass.
+-- A seat: its table, which one it is there, and what its pass knows. The trace is a list of steps of all passes, up to the last of which this
+-- pass knows: by the rule of the table its run begins with it. `asides` says how often the pass has made a stamp, has followed one, or has met
+-- another pass.
 pub record SeatView : Type 0 where
   pub table : TableId
   pub id : ℕ
@@ -48,7 +49,7 @@ IsOneSeat s t = (t.table ≡ s.table) × (t.id ≡ s.id) × (t.known.pass ≡ s.
 abbrev pub IsSame : SeatView → SeatView → Type 0
 IsSame s t = (t.table ≡ s.table) × (t.id ≡ s.id) × (t.known.pass ≡ s.known.pass) × (t.asides ≡ s.asides)
 
--- The pass is shown all steps so far, and the changes that they have made, as where it follows a stamp or meets another pass.
+-- The pass is shown a run, and the changes that it has made (`IsShownRun`), as where it follows a stamp or meets another pass.
 pub record IsShownAll (layout : Layout) (s t : SeatView) : Type 0 where
   pub pass : t.known.pass ≡ s.known.pass
   pub run : IsShownRun layout s.known.pass s.trace t.trace t.known.front

@@ -1,5 +1,8 @@
 -- The laws of the table.
-use Rattle.std.specs.Prelude.{◌≡◌, ◌≢◌, ◌⊎◌, List, [], ◌∷◌, ◌++◌}
+use Rattle.std.specs.Prelude.{◌≡◌, ◌≢◌, ◌⊎◌, ℕ, List, [], ◌∷◌, ◌++◌}
+use mathlib.Core.Option.{some}
+use lib.ListN.{get_elem?}
+use Rattle.atomic_table.specs.Table.{State}
 use Rattle.finite_map.specs.declared.Note.{Note}
 use Rattle.record_words.specs.declared.layout.Layout.{Layout}
 use Rattle.rowex_core.specs.declared.event.Act.{Act}
@@ -8,9 +11,13 @@ use Rattle.rowex_core.specs.declared.known.Known.{Known}
 use Rattle.rowex_core.specs.Cores.{Core}
 use Rattle.rowex_core.specs.Opening.{opening}
 use Rattle.rowex_core.specs.Runs.{EventsLead}
+use Rattle.rowex_table.specs.declared.traces.Trace.{Trace}
+use Rattle.rowex_table.specs.declared.traces.TracedView.{TracedView}
+use Rattle.rowex_table.specs.declared.traces.TracedView.TheVariants.{Pass}
+use Rattle.rowex_table.specs.Rule.{Ruled}
 use Rattle.rowex_table.specs.Seats.{TableView, SeatView}
 use Rattle.rowex_table.specs.Runs.{Ends, IsTold, Runs, events_of, silent}
-use Rattle.rowex_table.specs.Traces.{IsTableRun, own_acts, taught}
+use Rattle.rowex_table.specs.Traces.{IsTableRun, RunBeginsWith, own_acts, taught}
 
 -- the gate of a run is told the event of each of its steps, in order, and nothing else
 abbrev pub RunsAreTold : {G : Type 0} → (G → Event → G → Type 0) → Type 0
@@ -40,3 +47,12 @@ RunsAreLinked {G = G} becomes = (table : TableView) (acts : List Act) (a b : Sea
 abbrev pub EndsAreLinked : {G : Type 0} → (G → Event → G → Type 0) → Type 0
 EndsAreLinked {G = G} becomes = (table : TableView) (acts : List Act) (act : Act) (said : Known → List Note) (a b : SeatView × G) →
     Ends table becomes acts act said a b → IsInOneRun table.layout (acts ++ act ∷ []) said a.0 b.0
+
+-- By the rule of the table all traces are of one run. Of the steps of which one pass knows, or knew earlier, and those of another, the ones
+-- begin with the others. No contract shows the state of a table: by contracts two passes have one run where they meet, or one follows the
+-- other's stamp.
+abbrev pub TracesAreOfOneRun : Type 0
+TracesAreOfOneRun =
+    (layout : Layout) (s : State (Unit {0}) TracedView) → Ruled layout s → (i j : ℕ) (k l : Known) (t u : Trace) →
+    get_elem? s.views i ≡ some (Pass k t) → get_elem? s.views j ≡ some (Pass l u) →
+    (one other : List Event) → RunBeginsWith t.events one → RunBeginsWith u.events other → RunBeginsWith other one ⊎ RunBeginsWith one other

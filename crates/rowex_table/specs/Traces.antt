@@ -65,16 +65,17 @@ HasTraces run (Pair j t k u) = OthersStepOn j.pass t.events run × OthersStepOn 
 HasTraces run (Witness front events) = RunBeginsWith run events
 HasTraces run (Follower k t front events) = OthersStepOn k.pass t.events run × RunBeginsWith run events
 
--- Pass q, which knew of the steps `trace`, makes this step in this core, and knows of the steps `next`. All steps so far lead from a new
--- table to the core. They begin with the trace and go on by steps of others; the pass knows of them all now, and of its own behind them.
+-- Pass q, which knew of the steps `trace`, makes this step in this core, and knows of the steps `next`. The steps `before` lead from a new table
+-- to the core: they are the table's run, by its rule. They begin with the trace and go on by steps of others. The pass knows of them now, and
+-- of its own behind them.
 pub record IsNextStep (layout : Layout) (q : ℕ) (act : Act) (core : Core) (trace next : List Event) : Type 0 where
   pub before : List Event
   pub led : EventsLead (opening layout) before core
   pub others : OthersStepOn q trace before
   pub next_is : next ≡ before ++ record { pass = q; act = act } ∷ []
 
--- Pass q, which knew of the steps `trace`, is shown all steps so far, `run`, and all changes so far: the steps lead from a new table to a
--- core in which just these changes have been made. They begin with the trace and go on by steps of others.
+-- Pass q, which knew of the steps `trace`, is shown the steps `run` and the changes `front`. The steps lead from a new table to a core in which
+-- just these changes have been made: they are the table's run, by its rule. They begin with the trace and go on by steps of others.
 pub record IsShownRun (layout : Layout) (q : ℕ) (trace run : List Event) (front : List Change) : Type 0 where
   pub core : Core
   pub led : EventsLead (opening layout) run core

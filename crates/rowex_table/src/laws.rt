@@ -1,6 +1,6 @@
 //! The laws of the table. The functions do nothing: their contracts are the laws.
 
-ghost use Rattle.rowex_table.specs.Statements.{EndsAreLinked, RunsAreLinked, RunsAreTold};
+ghost use Rattle.rowex_table.specs.Statements.{EndsAreLinked, RunsAreLinked, RunsAreTold, TracesAreOfOneRun};
 
 use rowex_core::Gate;
 
@@ -17,4 +17,9 @@ pub fn runs_are_linked<G: Gate>()
 /// The steps of a call, with whose last one its notes come, stand in one run of the table, too.
 pub fn ends_are_linked<G: Gate>()
     ensures { EndsAreLinked G.becomes }
+{}
+
+/// By the rule of the table, of the traces of two passes the one begins with the other.
+pub fn traces_are_of_one_run()
+    ensures { TracesAreOfOneRun }
 {}

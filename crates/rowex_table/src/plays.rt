@@ -14,8 +14,8 @@ use atomic_table::{Join, Play, Split, TableRule};
 use record_words::Layout;
 use std::marker::{Brand, PhantomData};
 
-/// The rule of a table with a layout: there is a lawful core which its words show, and to which all steps so far have led. What each
-/// seat knows is true of both, no two seats are of one pass, and each pass has a seat.
+/// The rule of a table with a layout: there is a lawful core which its words show, and a list of steps that leads to it from a new
+/// table. What each seat knows is true of both, no two seats are of one pass, and each pass has a seat.
 pub(crate) struct RowexRule;
 
 impl TableRule<(), TracedView, Layout> for RowexRule {

@@ -7,7 +7,7 @@ use versions::Listed;
 
 /// The steps of which a pass knows.
 pub struct Trace {
-    /// All atomic steps of all passes, from the first on a new table up to the last of which this pass knows.
+    /// Atomic steps of all passes, from the first on a new table up to the last of which this pass knows.
     pub events: Listed<Event>,
     /// How often the pass has made a stamp, has followed one, or has met another pass. None of these is a step.
     pub asides: u64,
