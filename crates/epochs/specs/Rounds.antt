@@ -103,10 +103,10 @@ abbrev pub VisitsAll : {G : Type 0} → TableView → (G → Event → G → Typ
 VisitsAll table becomes bound kind n given a b =
     (acts : List Act) × InTurn (λ m. Visits bound (kind m)) n acts × Does table becomes collecting acts a b × (given ≡ count_by has_given acts)
 
--- visits that go on after those of the first n records of a kind, so that then those of the first m are made
-abbrev pub GoesOnVisiting : {G : Type 0} → TableView → (G → Event → G → Type 0) → ℕ → (ℕ → Rec) → (n given m more : ℕ) → SeatView × G → SeatView × G → Type 0
-GoesOnVisiting {G = G} table becomes bound kind n given m more b c =
-    (a : SeatView × G) → VisitsAll table becomes bound kind n given a b → VisitsAll table becomes bound kind m more a c
+-- So many records of a kind were visited, the first ones, and so many of them given back. Then visits go on, until this is so of more.
+abbrev pub GoesOnVisiting : {G : Type 0} → TableView → (G → Event → G → Type 0) → ℕ → (ℕ → Rec) → ℕ × ℕ → ℕ × ℕ → SeatView × G → SeatView × G → Type 0
+GoesOnVisiting {G = G} table becomes bound kind before after b c =
+    (a : SeatView × G) → VisitsAll table becomes bound kind before.0 before.1 a b → VisitsAll table becomes bound kind after.0 after.1 a c
 
 -- visits of some records, so many at most
 abbrev pub VisitsSome : {G : Type 0} → TableView → (G → Event → G → Type 0) → ℕ → ℕ → SeatView × G → SeatView × G → Type 0

@@ -199,7 +199,7 @@ fn visit_class<G: Gate>(
     requires few { before.given ≤ first }
     ensures same { (seat.new.known.pin ≡ seat.old.known.pin) × (seat.new.known.round ≡ seat.old.known.round) }
     ensures few { result.given ≤ end }
-    ensures steps { GoesOnVisiting table.now G.becomes bound a_leaf first before.given end result.given (seat.old, gate.old) (seat.new, gate.new) }
+    ensures steps { GoesOnVisiting table.now G.becomes bound a_leaf (first, before.given) (end, result.given) (seat.old, gate.old) (seat.new, gate.new) }
 {
     let layout = table.layout();
     let size = layout.leaf_size(first);

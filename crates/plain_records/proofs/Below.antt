@@ -17,7 +17,7 @@ use Rattle.insert_cases.specs.declared.raising.Risen.{Risen}
 use Rattle.plain_records.specs.Cases.{IsByCase, is_split}
 use Rattle.plain_records.specs.Adding.{IsStanding, HasForkBefore, EndsAt, IsAbsentFrom, HasLeafRisen, with_leaf}
 use Rattle.insert_cases.specs.Risen.{subtrie_of}
-use Rattle.plain_records.specs.Rising.{IsAddable, IsRaised}
+use Rattle.plain_records.specs.Rising.{IsAddable, IsRaised, records}
 use Rattle.plain_records.specs.Store.{item_record}
 use Rattle.insert_cases.specs.Ways.{WayBelow}
 use Rattle.insert_cases.proofs.Choosing.{has_found}
@@ -163,7 +163,7 @@ leaf_addable ns ls us e t k v m p s leaves number key differ = record {
 
 -- ---- what rises from a node
 pub risen_here : (ns os ms : List NodeView) (ls us : List LeafRecord) (k : Key) (v n p : ℕ) (e : Entry) (t : Tree) (risen : Risen) → os ≡ ns → us ≡ with_leaf ls k v → n ≡ length ls →
-    IsAddable ns us (item n k v) p e t → HasForkBefore p t → IsRaised os ms us (item n k v) p t (suc (height_of e)) (subtrie_of risen) → IsByCase os ms k p n t (is_split risen) → HasLeafRisen ns ms ls us k v e t risen
+    IsAddable ns us (item n k v) p e t → HasForkBefore p t → IsRaised os ms us (item n k v) p t (suc (height_of e)) (subtrie_of risen) → IsByCase os ms k p n t (is_split risen) → HasLeafRisen (records ns ls) (records ms us) k v e t risen
 risen_here ns os ms ls us k v n p e t risen nodes leaves number addable behind raised by_case = record {
   leaves = leaves;
   position = p;

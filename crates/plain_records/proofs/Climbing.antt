@@ -24,7 +24,7 @@ use Rattle.tries.proofs.Tries.{rises, trie_within, built_within, within_child, s
 use Rattle.plain_records.specs.declared.leaf.LeafRecord.{LeafRecord}
 use Rattle.insert_cases.specs.declared.raising.Risen.{Risen}
 use Rattle.pieces.specs.Grafts.{grafted, IsAbovePath}
-use Rattle.plain_records.specs.Rising.{IsRaised, IsAddable, IsLifting, IsNew}
+use Rattle.plain_records.specs.Rising.{IsRaised, IsAddable, IsLifting, IsNew, level, records}
 use Rattle.insert_cases.specs.Risen.{subtrie_of}
 use Rattle.plain_records.specs.Risen.{IsNamed, RisenShows, OthersStay}
 use Rattle.plain_records.specs.Store.{ShowsTree}
@@ -217,7 +217,7 @@ child_low {x = x} u e is = let l = lower_child u.fixed.height x.key u.body u.bui
 
 pub here_lifting : {ns : List NodeView} {ls : List LeafRecord} {x : Item} {p n h : ℕ} {t : Tree} (u : IsHere ns ls x p n h t) (at low : ℕ) (e : Entry) (ms : List NodeView) (head : Subtrie) →
     WayBelow p x.key u.body → at ≡ spot x.key (subtrie u.body) → e ≡ seek x.key (subtrie u.body) → low ≡ height_of e →
-    IsRaised ns ms ls x p (child x.key u.body) (suc (height_of e)) head → IsLifting ns ms ls x p n h at low u.fixed u.body head
+    IsRaised ns ms ls x p (child x.key u.body) (suc (height_of e)) head → IsLifting (records ns ls) ms x p (level n h at low) u.fixed u.body head
 here_lifting {ns} {ls} {x} {p} u at low e ms head below at_is is low_is up = record {
   trie = u.trie;
   built = u.built;
@@ -241,7 +241,7 @@ path_rises (one_side w) q a c i =
     (one_side r.0, (rises true r.0 i.1 (λ y z u v. i.2 y z (inr u) (inr v)) i.4, r.1))
 
 module _ {ns ms : List NodeView} {ls : List LeafRecord} {x : Item} {p n height at low : ℕ} {y : Fixed} {b : Tree} {head : Subtrie}
-    (i : IsLifting ns ms ls x p n height at low y b head) where
+    (i : IsLifting (records ns ls) ms x p (level n height at low) y b head) where
   below_height : suc low ≤ y.height
   below_height = omega (arith, i.lower, i.high_is)
 
@@ -285,7 +285,7 @@ module _ {ns ms : List NodeView} {ls : List LeafRecord} {x : Item} {p n height a
 
   -- where the node is higher by two, a new node can stand between
   pub between : (us : List NodeView) (q : ℕ) (z o e : Entry) → head ≡ Fork q (Place z) (Place o) → IsNew ms us e (Fork q (Place z) (Place o)) → suc low < height →
-      IsLifting ns us ls x p n height at (suc low) y b (Place e)
+      IsLifting (records ns ls) us x p (level n height at (suc low)) y b (Place e)
   between us q z o e is new far = record {
     trie = i.trie;
     built = i.built;

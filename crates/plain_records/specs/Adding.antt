@@ -12,7 +12,7 @@ use Rattle.plain_records.specs.declared.adding.Addition.TheVariants.{Held, Refus
 use Rattle.insert_cases.specs.declared.raising.Risen.{Risen}
 use Rattle.insert_cases.specs.Risen.{subtrie_of}
 use Rattle.plain_records.specs.Cases.{IsByCase, is_split}
-use Rattle.plain_records.specs.Rising.{IsRaised, IsAddable}
+use Rattle.plain_records.specs.Rising.{Records, IsRaised, IsAddable}
 use Rattle.plain_records.specs.Store.{ShowsTree, item_record}
 use Rattle.tries.specs.Search.{found}
 use Rattle.tries.specs.Content.{item}
@@ -47,27 +47,27 @@ pub record IsAbsentFrom (k : Key) (t : Tree) : Type 0 where
   pub differ : IsFirstDifference k (found k t).key position
 
 -- the new leaf stands behind the others, and nothing else has changed
-pub record IsLeafAdded (ns ms : List NodeView) (ls us : List LeafRecord) (k : Key) (v : ℕ) (e : Entry) (t : Tree) (p n : ℕ) : Type 0 where
-  pub nodes : ms ≡ ns
-  pub leaves : us ≡ with_leaf ls k v
-  pub number : n ≡ length ls
+pub record IsLeafAdded (before after : Records) (k : Key) (v : ℕ) (e : Entry) (t : Tree) (p n : ℕ) : Type 0 where
+  pub nodes : after.nodes ≡ before.nodes
+  pub leaves : after.leaves ≡ with_leaf before.leaves k v
+  pub number : n ≡ length before.leaves
   pub bound : p < 65535
-  pub addable : IsAddable ns us (item n k v) p e t
+  pub addable : IsAddable before.nodes after.leaves (item n k v) p e t
 
 -- the new leaf has risen up to the entry
-pub record HasLeafRisen (ns ms : List NodeView) (ls us : List LeafRecord) (k : Key) (v : ℕ) (e : Entry) (t : Tree) (risen : Risen) : Type 0 where
-  pub leaves : us ≡ with_leaf ls k v
+pub record HasLeafRisen (before after : Records) (k : Key) (v : ℕ) (e : Entry) (t : Tree) (risen : Risen) : Type 0 where
+  pub leaves : after.leaves ≡ with_leaf before.leaves k v
   pub position : ℕ
-  pub addable : IsAddable ns us (item (length ls) k v) position e t
+  pub addable : IsAddable before.nodes after.leaves (item (length before.leaves) k v) position e t
   pub behind : HasForkBefore position t
-  pub raised : IsRaised ns ms us (item (length ls) k v) position t (suc (height_of e)) (subtrie_of risen)
-  pub by_case : IsByCase ns ms k position (length ls) t (is_split risen)
+  pub raised : IsRaised before.nodes after.nodes after.leaves (item (length before.leaves) k v) position t (suc (height_of e)) (subtrie_of risen)
+  pub by_case : IsByCase before.nodes after.nodes k position (length before.leaves) t (is_split risen)
 
-abbrev pub IsAddition : List NodeView → List NodeView → List LeafRecord → List LeafRecord → Key → ℕ → Entry → Tree → Addition → Type 0
-IsAddition ns ms ls us k v e t (Held n) = (ms ≡ ns) × (us ≡ ls) × EndsAt ls k t n
-IsAddition ns ms ls us k v e t Refused = (ms ≡ ns) × (us ≡ ls) × IsAbsentFrom k t
-IsAddition ns ms ls us k v e t (Above p n) = IsLeafAdded ns ms ls us k v e t p n
-IsAddition ns ms ls us k v e t (Below risen) = HasLeafRisen ns ms ls us k v e t risen
+abbrev pub IsAddition : Records → Records → Key → ℕ → Entry → Tree → Addition → Type 0
+IsAddition before after k v e t (Held n) = (after.nodes ≡ before.nodes) × (after.leaves ≡ before.leaves) × EndsAt before.leaves k t n
+IsAddition before after k v e t Refused = (after.nodes ≡ before.nodes) × (after.leaves ≡ before.leaves) × IsAbsentFrom k t
+IsAddition before after k v e t (Above p n) = IsLeafAdded before after k v e t p n
+IsAddition before after k v e t (Below risen) = HasLeafRisen before after k v e t risen
 
 -- after a new leaf there is room for the nodes that can still come, of `count` in all
 abbrev pub IsRoomy : ℕ → ℕ → ℕ → ℕ → Addition → Type 0

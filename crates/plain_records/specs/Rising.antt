@@ -47,17 +47,35 @@ pub record IsAddable (nodes : List NodeView) (leaves : List LeafRecord) (x : Ite
   pub differ : IsFirstDifference x.key (found x.key t).key p
   pub new : slice_get leaves x.number ≡ Some (item_record x)
 
--- A node of the old records, below which a new leaf has risen up to its child at the key's place: the child was of height
--- `low`, and in its place stands this subtrie.
-pub record IsLifting (old new : List NodeView) (leaves : List LeafRecord) (x : Item) (p n height at low : ℕ) (y : Fixed) (b : Tree) (head : Subtrie) : Type 0 where
+-- the records of nodes and those of leaves
+pub record Records : Type 0 where
+  pub nodes : List NodeView
+  pub leaves : List LeafRecord
+
+abbrev pub records : List NodeView → List LeafRecord → Records
+records nodes leaves = record { nodes = nodes; leaves = leaves }
+
+-- a node of this number and height, and the place in it of a child of height `low`
+pub record Level : Type 0 where
+  pub number : ℕ
+  pub height : ℕ
+  pub at : ℕ
+  pub low : ℕ
+
+abbrev pub level : ℕ → ℕ → ℕ → ℕ → Level
+level number height at low = record { number = number; height = height; at = at; low = low }
+
+-- A node of the old records, below which a new leaf has risen up to its child at the key's place: this subtrie stands in the
+-- child's place.
+pub record IsLifting (old : Records) (new : List NodeView) (x : Item) (p : ℕ) (l : Level) (y : Fixed) (b : Tree) (head : Subtrie) : Type 0 where
   pub trie : IsTrie b
-  pub built : IsBuilt (node n y b)
-  pub shown : ShowsTree old leaves (node n y b)
+  pub built : IsBuilt (node l.number y b)
+  pub shown : ShowsTree old.nodes old.leaves (node l.number y b)
   pub below : WayBelow p x.key b
-  pub high_is : y.height ≡ height
-  pub at_is : at ≡ spot x.key (subtrie b)
-  pub lower : low < height
-  pub up : IsRaised old new leaves x p (child x.key b) (suc low) head
+  pub high_is : y.height ≡ l.height
+  pub at_is : l.at ≡ spot x.key (subtrie b)
+  pub lower : l.low < l.height
+  pub up : IsRaised old.nodes new old.leaves x p (child x.key b) (suc l.low) head
 
 -- one node more, behind the others, that was built for this subtrie
 pub record IsNew (old new : List NodeView) (entry : Entry) (shown : Subtrie) : Type 0 where

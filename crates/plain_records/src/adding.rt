@@ -7,6 +7,7 @@ ghost use Rattle.compound_node.specs.declared.entries.Entry.TheVariants.{Leaf as
 ghost use Rattle.tries.specs.Tree.{Tree};
 ghost use Rattle.plain_records.specs.Adding.{IsStanding, IsAddition, IsRoomy, KeepsMemory};
 ghost use Rattle.plain_records.specs.Heights.{KeepsHeights};
+ghost use Rattle.plain_records.specs.Rising.{records};
 
 use crate::leaf::LeafRecord;
 use crate::rising::{lifted, raised};
@@ -48,7 +49,7 @@ pub fn added(
     requires enough { height_of entry < count }
     requires few { count ≤ 65536 }
     ensures adds { (t : Tree) → IsStanding nodes.old.items leaves.old.items entry t →
-        IsAddition nodes.old.items nodes.new.items leaves.old.items leaves.new.items key.now value entry t result }
+        IsAddition (records nodes.old.items leaves.old.items) (records nodes.new.items leaves.new.items) key.now value entry t result }
     ensures heights { KeepsHeights nodes.old.items nodes.new.items }
     ensures room { IsRoomy (vec_len nodes.new) (vec_capacity nodes.new) count (height_of entry) result }
     ensures memory { KeepsMemory (vec_len nodes.old) (vec_capacity nodes.old) (vec_capacity nodes.new)
@@ -92,7 +93,7 @@ fn added_beside(
     requires place { (t : Tree) × IsStanding nodes.old.items leaves.old.items (LeafEntry number) t }
     requires few { count ≤ 65536 }
     ensures adds { (t : Tree) → IsStanding nodes.old.items leaves.old.items (LeafEntry number) t →
-        IsAddition nodes.old.items nodes.new.items leaves.old.items leaves.new.items key.now value (LeafEntry number) t result }
+        IsAddition (records nodes.old.items leaves.old.items) (records nodes.new.items leaves.new.items) key.now value (LeafEntry number) t result }
     ensures same { nodes.new.items ≡ nodes.old.items }
     ensures room { IsRoomy (vec_len nodes.new) (vec_capacity nodes.new) count 0 result }
     ensures memory { KeepsMemory (vec_len nodes.old) (vec_capacity nodes.old) (vec_capacity nodes.new)

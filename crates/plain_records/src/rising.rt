@@ -12,7 +12,7 @@ ghost use Rattle.tries.specs.Tree.{Tree, Fixed, node as tree_node};
 ghost use Rattle.pieces.specs.Grafts.{grafted, IsAbovePath};
 ghost use Rattle.plain_records.specs.Cases.{AddsByCase, DoesCase, IsLevelDone, IsNewNode, IsPutBetween, TakesFork, is_overflow, is_split};
 ghost use Rattle.plain_records.specs.Heights.{KeepsHeights};
-ghost use Rattle.plain_records.specs.Rising.{IsRaised, IsAddable, IsLifting};
+ghost use Rattle.plain_records.specs.Rising.{IsRaised, IsAddable, IsLifting, level, records};
 ghost use Rattle.insert_cases.specs.Risen.{subtrie_of};
 ghost use Rattle.insert_cases.specs.Ways.{case_of};
 ghost use Rattle.plain_records.specs.Risen.{IsNamed, RisenShows, OthersStay, AllStay};
@@ -157,12 +157,12 @@ pub fn lifted(
     risen: Risen,
 ) -> Risen
     requires place { (ns : List NodeView) × (leaves : List LeafRecord) × (x : Item) × (p : ℕ) × (y : Fixed) × (b : Tree) ×
-        IsLifting ns nodes.old.items leaves x p number height at (height_of child) y b (subtrie_of risen) }
+        IsLifting (records ns leaves) nodes.old.items x p (level number height at (height_of child)) y b (subtrie_of risen) }
     requires child { (old : NodeView) → slice_get nodes.old.items number ≡ Some old → IsLawfulNode old × (slice_get old.entries at ≡ Some child) }
     requires room { vec_len nodes.old < vec_capacity nodes.old }
     requires small { vec_len nodes.old < 2 ^ 32 }
     ensures raised { (ns : List NodeView) (leaves : List LeafRecord) (x : Item) (p : ℕ) (y : Fixed) (b : Tree) →
-        IsLifting ns nodes.old.items leaves x p number height at (height_of child) y b (subtrie_of risen) →
+        IsLifting (records ns leaves) nodes.old.items x p (level number height at (height_of child)) y b (subtrie_of risen) →
         IsRaised ns nodes.new.items leaves x p (tree_node number y b) (suc height) (subtrie_of result) }
     ensures between { (old : NodeView) (p : ℕ) (zero one : EntryView) → slice_get nodes.old.items number ≡ Some old → subtrie_of risen ≡ Fork p (At zero) (At one) → height_of child + 1 < height →
         IsPutBetween nodes.old.items nodes.new.items number at old (Fork p (At zero) (At one)) }

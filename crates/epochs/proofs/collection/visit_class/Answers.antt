@@ -28,5 +28,5 @@ loop-number-preserved g c = record {
 pub returns-clause-steps : goal.returns-clause-steps
 returns-clause-steps g c =
     let done : c.loop-number.number ≡ c.args.end = omega arith in
-    subst (λ n. GoesOnVisiting c.args.table.now g.G.Gate.becomes c.args.bound a_leaf c.args.first c.args.before.given n c.loop-number.tally.given (c.args.seat.now, c.args.gate.now) (c.loop-number.seat, c.loop-number.gate)) done
+    subst (λ n. GoesOnVisiting c.args.table.now g.G.Gate.becomes c.args.bound a_leaf (c.args.first, c.args.before.given) (n, c.loop-number.tally.given) (c.args.seat.now, c.args.gate.now) (c.loop-number.seat, c.loop-number.gate)) done
     c.loop-number.invariant.steps

@@ -13,7 +13,7 @@ use Rattle.tries.specs.Search.{child, seek}
 use Rattle.pieces.specs.Piece.{Place, Fork}
 use Rattle.tries.specs.Tree.{Tree, Fixed, node, subtrie}
 use Rattle.plain_records.specs.declared.leaf.LeafRecord.{LeafRecord}
-use Rattle.plain_records.specs.Rising.{IsAddable, IsLifting, IsRaised}
+use Rattle.plain_records.specs.Rising.{IsAddable, IsLifting, IsRaised, level, records}
 use Rattle.insert_cases.specs.Risen.{subtrie_of}
 use Rattle.insert_cases.specs.declared.raising.Risen.{Risen}
 use Rattle.plain_records.specs.Cases.{AddsByCase, DoesCase, IsLevelDone, IsPutBetween, TakesLeaf, is_split}
@@ -100,8 +100,8 @@ raised-risen-requires t c =
 -- what took the child's place, where the search goes on there
 lifts : (t : ℕ) (c : After-raised-risen t) (leaves : List LeafRecord) (value : ℕ) (s : Tree) →
     IsAddable c.args.nodes.now.items leaves (item c.args.leaf c.args.key.now value) c.args.position c.args.entry s →
-    (y : Fixed) × (b : Tree) × (s ≡ node c.in-Node.number y b) × IsLifting c.args.nodes.now.items c.raised-risen.new.nodes.items leaves (item c.args.leaf c.args.key.now value) c.args.position
-    c.in-Node.number c.in-Node.height c.search-at.result (height_of c.entry-child.result) y b (subtrie_of c.raised-risen.result)
+    (y : Fixed) × (b : Tree) × (s ≡ node c.in-Node.number y b) × IsLifting (records c.args.nodes.now.items leaves) c.raised-risen.new.nodes.items (item c.args.leaf c.args.key.now value) c.args.position
+    (level c.in-Node.number c.in-Node.height c.search-at.result (height_of c.entry-child.result)) y b (subtrie_of c.raised-risen.result)
 lifts t c leaves value s a =
     let i = addable_to c.in-Node.is a in
     let u = node_here i in
