@@ -1,7 +1,12 @@
 //! Finds libhot: below the folder `HOT_DIR`, else in the package that this crate lies in, else by pkg-config. The archive is linked
-//! where there is one, and with `HOT_SHARED=1` the shared library.
+//! where there is one, and with `HOT_SHARED=1` the shared library. A library of another major version, or of an earlier minor one, is
+//! refused.
 use std::path::{Path, PathBuf};
 use std::{env, fs, process};
+
+/// The version from which on the library has the calls of `ffi.rs`.
+const MAJOR: u32 = 2;
+const MINOR: u32 = 1;
 
 fn main() {
     for name in ["HOT_DIR", "HOT_SHARED", "PKG_CONFIG", "PKG_CONFIG_PATH"] {
@@ -11,7 +16,7 @@ fn main() {
         .and_then(|(folder, header)| check(&header).map(|_| folder))
         .unwrap_or_else(|why| {
             eprintln!(
-                "libhot 2 was not found: {why}\nset HOT_DIR to the folder that has lib/libhot.a, or PKG_CONFIG_PATH"
+                "libhot {MAJOR}.{MINOR} was not found: {why}\nset HOT_DIR to the folder that has lib/libhot.a, or PKG_CONFIG_PATH"
             );
             process::exit(1);
         });
@@ -45,15 +50,25 @@ fn best(folder: PathBuf) -> PathBuf {
     }
 }
 
-/// What the crate knows of the library is true of this version.
+/// What the crate knows of the library is true of the versions from this one on to the next major one.
 fn check(header: &Path) -> Result<(), String> {
     println!("cargo:rerun-if-changed={}", header.display());
     let text = fs::read_to_string(header).map_err(|why| format!("{}: {why}", header.display()))?;
-    if text.contains("#define HOT_VERSION_MAJOR 2\n") {
-        Ok(())
-    } else {
-        Err(format!("{} is of another version", header.display()))
+    match (number(&text, "MAJOR"), number(&text, "MINOR")) {
+        (Some(MAJOR), Some(minor)) if minor >= MINOR => Ok(()),
+        (Some(major), Some(minor)) => Err(format!("{} is of version {major}.{minor}", header.display())),
+        _ => Err(format!("{} says no version", header.display())),
     }
+}
+
+/// The number of a part of the version, as the header says it.
+fn number(header: &str, part: &str) -> Option<u32> {
+    let name = format!("HOT_VERSION_{part}");
+    header
+        .lines()
+        .filter_map(|line| line.strip_prefix("#define "))
+        .find_map(|line| line.trim().strip_prefix(name.as_str()))
+        .and_then(|number| number.trim().parse().ok())
 }
 
 /// The folder that the library is in, and its header.
@@ -66,18 +81,17 @@ fn find() -> Result<(PathBuf, PathBuf), String> {
     match package {
         Some(folder) if folder.join("lib/libhot.a").is_file() => Ok(below(&folder)),
         _ => {
-            ask_pkg_config("--atleast-version=2")?;
-            let header = Path::new(&ask_pkg_config("--variable=includedir")?).join("hot.h");
-            Ok((ask_pkg_config("--variable=libdir")?.into(), header))
+            // Unlike --atleast-version this has pkg-config say which version there is.
+            ask_pkg_config("--exists", &format!("hot >= {MAJOR}.{MINOR}"))?;
+            let header = Path::new(&ask_pkg_config("--variable=includedir", "hot")?).join("hot.h");
+            Ok((ask_pkg_config("--variable=libdir", "hot")?.into(), header))
         }
     }
 }
 
-fn ask_pkg_config(what: &str) -> Result<String, String> {
+fn ask_pkg_config(what: &str, of: &str) -> Result<String, String> {
     let tool = env::var("PKG_CONFIG").unwrap_or_else(|_| "pkg-config".into());
-    let asked = process::Command::new(&tool)
-        .args(["--print-errors", what, "hot"])
-        .output();
+    let asked = process::Command::new(&tool).args(["--print-errors", what, of]).output();
     let said = asked.map_err(|why| format!("{tool}: {why}"))?;
     if said.status.success() {
         Ok(String::from_utf8_lossy(&said.stdout).trim().to_owned())
