@@ -31,6 +31,11 @@ use ffi::{Index, Lease, Seen};
 use std::fmt;
 use std::sync::Arc;
 
+/// The code of the README, which `cargo test` runs.
+#[cfg(doctest)]
+#[doc = include_str!("../README.md")]
+struct Readme;
+
 /// The greatest length of a key, in bytes. A longer key is never there: a look-up doesn't find it, and a bound of a range is what it
 /// is for any other map. No call inserts it.
 pub const MAX_KEY: usize = 240;
