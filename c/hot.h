@@ -33,8 +33,9 @@
  * Each other call ends after a bounded number of steps, whatever other threads do: a step is one atomic access to a word of the index.
  * Each call below that makes steps gives its bound, for the worst tree that there can be.
  *
- * A handle takes some 118 KB, from when it is first opened, so that no change needs memory. One that hot_open_index made and that was
- * not opened yet takes some 80 bytes; but the index takes the 118 KB of its last handle at once.
+ * A handle takes some 118 KB, from when it is first opened, so that no change needs memory. hot_create and hot_create_with open all
+ * their handles, so 64 of them take 7.6 MB at once. A handle of hot_open_index takes some 80 bytes until hot_open first opens it; but the
+ * index takes the 118 KB of its last handle at once.
  *
  * Each handle has memory for the pairs of its scans, too, which the next scan uses again. After a scan it goes if the keys have more than
  * 32 KiB of it, or the rest has. So a handle keeps 64 KiB of it at most between its calls.
@@ -123,8 +124,8 @@ typedef struct hot_pair {
     uint64_t value;
 } hot_pair;
 
-/* Makes an empty index and opens `count` handles on it, 1 to 64; all must be closed before. The index has `nodes` node records, 1 to
- * 65535, and `leaves` leaf records, 1 to 262143. Each key takes one leaf record; a node record holds 2 to 32 keys or nodes. Have some
+/* Makes an empty index and opens `count` handles on it, 1 to 64; all must be closed before. Each takes its 118 KB at once; for handles
+ * that may stay unused take hot_open_index. The index has `nodes` node records, 1 to 65535, and `leaves` leaf records, 1 to 262143. Each key takes one leaf record; a node record holds 2 to 32 keys or nodes. Have some
  * of both to spare, since a change builds the new before it gives the old back.
  * HOT_DONE; or HOT_OUT_OF_RANGE, for which it looks before it looks at the handles, HOT_OPEN, HOT_NO_MEMORY or HOT_OLD_PROCESSOR, and
  * then no handle was opened. */
@@ -141,8 +142,9 @@ typedef struct hot_stock {
     uint32_t long_leaves;   /* up to HOT_MAX_KEY bytes; 264 */
 } hot_stock;
 
-/* Makes an empty index with this stock and opens `count` handles on it, 1 to 1024; all must be closed before. It has 1 to 4294967295
- * nodes, and 1 to 4294967295 leaves of all sizes together. (The leaves that hot_create makes are all long.)
+/* Makes an empty index with this stock and opens `count` handles on it, 1 to 1024; all must be closed before. Each takes its 118 KB at
+ * once, as by hot_create. The index has 1 to 4294967295 nodes, and 1 to 4294967295 leaves of all sizes together. (The leaves that
+ * hot_create makes are all long.)
  * HOT_DONE; or HOT_OUT_OF_RANGE, HOT_OPEN, HOT_NO_MEMORY or HOT_OLD_PROCESSOR, as hot_create. */
 hot_status hot_create_with(const hot_stock *stock, hot_handle *handles, size_t count);
 
@@ -157,11 +159,12 @@ void hot_stock_for_keys(uint32_t keys, size_t longest, hot_stock *stock);
 void hot_stock_for_lengths(const uint32_t *keys, hot_stock *stock);
 
 /* Writes how many bytes the records and pins of an index with this stock and this number of handles take. While it is being made, an
- * index takes twice that.
+ * index takes twice that. The 118 KB of each handle come to it.
  * HOT_DONE; or HOT_OUT_OF_RANGE or HOT_OLD_PROCESSOR, where hot_create_with would return that. */
 hot_status hot_stock_bytes(const hot_stock *stock, size_t handles, size_t *bytes);
 
-/* Makes an empty index with this stock and room for so many handles, 1 to 1024, and writes it to `index`.
+/* Makes an empty index with this stock and room for so many handles, 1 to 1024, and writes it to `index`. Room for a handle takes some 80
+ * bytes; the handle's 118 KB are taken when hot_open first opens it, and those of the last one at once.
  * HOT_DONE; or HOT_OUT_OF_RANGE, HOT_NO_MEMORY or HOT_OLD_PROCESSOR, and then nothing is written. */
 hot_status hot_open_index(const hot_stock *stock, size_t handles, hot_index **index);
 
