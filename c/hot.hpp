@@ -48,13 +48,18 @@ struct [[nodiscard]] change {
     const char *text() const { return hot_status_text(static_cast<hot_status>(what)); }
 };
 
-/// A key: text, or bytes that lie in one piece, such as a std::array<std::byte, 8> or a std::span of std::uint8_t.
+/// A key: text, or bytes that lie in one piece, such as a std::array<std::byte, 8> or a std::span of std::uint8_t. It points to the bytes,
+/// which must be there as long as it is used; no call of a handle keeps it. Making one throws nothing, however long the key is.
 class key_view : public std::string_view {
   public:
+    /// From text that a 0 byte ends, which is no part of the key; or from a pointer and a length.
     using std::string_view::string_view;
+    /// The empty key, which comes before all others.
     constexpr key_view() = default;
+    /// All bytes of a text, 0 bytes among them.
     constexpr key_view(std::string_view text) : std::string_view(text) {}
     key_view(const std::string &text) : std::string_view(text) {}
+    /// All elements of what has std::data and std::size, and whose elements are std::byte or unsigned char.
     template <class Bytes, class Byte = std::remove_cv_t<std::remove_pointer_t<decltype(std::data(std::declval<const Bytes &>()))>>,
               std::enable_if_t<std::is_same_v<Byte, std::byte> || std::is_same_v<Byte, unsigned char>, int> = 0>
     key_view(const Bytes &bytes) : std::string_view(reinterpret_cast<const char *>(std::data(bytes)), std::size(bytes)) {}
@@ -167,7 +172,9 @@ class range {
         using pointer = arrow;
         using reference = item;
 
+        /// The end of any range.
         iterator() = default;
+        /// At the pair at which the range stands: `begin` makes it.
         explicit iterator(range *of) : of_(of) {}
         item operator*() const { return of_->at_place(of_->at_); }
         arrow operator->() const { return {**this}; }
@@ -188,6 +195,9 @@ class range {
         range *of_ = nullptr;
     };
 
+    /// The pairs from one key to another, both included, of a handle that is open as long as the range is used; the calls of `handle` make
+    /// it. It copies both keys, has room for `page` pairs, at least one, and asks for none before `begin`. Throws std::bad_alloc, or
+    /// std::length_error if no vector has so many pairs.
     range(hot_handle *handle, std::string_view from, std::string_view upto, std::size_t page, order goes = order::rising)
         : handle_(handle), from_(from), upto_(upto), page_(page ? page : 1), goes_(goes) {}
     iterator begin() {
@@ -245,7 +255,9 @@ class packed {
         using pointer = const pair *;
         using reference = pair;
 
+        /// At no pair: it may only be assigned to.
         iterator() = default;
+        /// At the pair whose key and head are at these places: `begin` and `end` make it.
         iterator(const std::uint8_t *key, const hot_head *head) : key_(key), head_(head) {}
         pair operator*() const { return {{reinterpret_cast<const char *>(key_), head_->length}, head_->value}; }
         iterator &operator++() {
@@ -274,6 +286,9 @@ class packed {
         const hot_head *head_ = nullptr;
     };
 
+    /// A page that is empty until a scan fills it, with room for `pairs` pairs whose keys have `bytes` bytes together at most. `pairs`
+    /// times HOT_MAX_KEY bytes are always enough, and HOT_MAX_KEY bytes for one pair. Throws std::bad_alloc, or std::length_error if no
+    /// vector has so many.
     // One more of both, so that they point somewhere with no room too.
     packed(std::size_t pairs, std::size_t bytes) : keys_(bytes + 1), heads_(pairs + 1) {}
     iterator begin() const { return {keys_.data(), heads_.data()}; }
@@ -293,16 +308,18 @@ class packed {
     std::uint32_t more_ = 0;
 };
 
-/// The right to use an index, for one thread at a time. It can be moved, and closes itself; a call on one that is closed or was moved
-/// from throws std::logic_error. Otherwise calls throw only as `check` does.
+/// The right to use an index, for one thread at a time, which index::open gives. It closes itself. A move leaves the other handle closed,
+/// and a handle that is assigned to is closed first. A call on a closed handle throws std::logic_error. Otherwise calls throw only as
+/// `check` does.
 class handle {
   public:
     static constexpr std::size_t page = 64;
 
-    /// A handle that is closed.
+    /// A closed handle, of no index. It takes no memory and throws nothing.
     handle() = default;
     /// Whether it is open.
     explicit operator bool() const { return it_ != nullptr; }
+    /// Gives the handle back to its index, whose next `open` may have it. It does nothing if the handle is closed.
     void close() { it_.reset(); }
 
     [[nodiscard]] std::optional<std::uint64_t> get(key_view key) {
@@ -514,15 +531,19 @@ class handle {
 /// An index, which gives handles to threads. It may be moved, and gone before its handles: the last one frees what there is.
 class index {
   public:
-    /// Makes an empty index with this stock of records, and room for so many handles, 1 to 1024. Throws std::invalid_argument,
-    /// std::bad_alloc.
+    /// Makes an empty index with this stock of records, and room for so many handles, 1 to 1024, none of which is open. It takes
+    /// `stock_bytes(stock, handles)` bytes, and 118 KB for one handle; each other one takes its 118 KB when it is first opened. Throws
+    /// std::invalid_argument if a number is out of range, std::bad_alloc, or std::runtime_error if the library is compiled for newer
+    /// processors. Nothing is left then.
     explicit index(const hot_stock &stock, std::size_t handles = 64) {
         hot_index *made = nullptr;
         check(hot_open_index(&stock, handles, &made));
         at_ = std::shared_ptr<hot_index>(made, hot_close_index);
     }
-    /// Makes an empty index with room for `keys` keys of at most `longest` bytes each.
+    /// The same with `stock_for_keys(keys, longest)`: room for `keys` keys of at most `longest` bytes each. A call with a key that no leaf
+    /// record has room for throws std::length_error.
     index(std::uint32_t keys, std::size_t longest, std::size_t handles = 64) : index(stock_for_keys(keys, longest), handles) {}
+    /// A move leaves the other index with nothing: its `open` throws std::logic_error. Handles stay open.
     index(index &&) = default;
     index &operator=(index &&) = default;
 
@@ -550,8 +571,8 @@ class index {
     std::shared_ptr<hot_index> at_;
 };
 
-/// Makes an empty index with a stock of records, and opens `count` handles on it, 1 to 1024. The last one that is closed frees it.
-/// Throws std::invalid_argument, std::bad_alloc.
+/// Makes an empty index with a stock of records, and opens `count` handles on it, 1 to 1024, each of which takes its 118 KB. The last one
+/// that is closed frees it. Throws as the constructor of `index` does, and leaves nothing then.
 [[nodiscard]] inline std::vector<handle> create(const hot_stock &stock, std::size_t count = 1) {
     index made(stock, count);
     std::vector<handle> handles;
@@ -565,7 +586,7 @@ class index {
     return create(hot_stock{nodes, 0, 0, 0, 0, leaves}, count);
 }
 
-/// How many bytes an index with this stock and this number of handles takes: hot_stock_bytes. Throws std::invalid_argument.
+/// How many bytes the records of an index with this stock and this number of handles take: hot_stock_bytes. Throws std::invalid_argument.
 [[nodiscard]] inline std::size_t stock_bytes(const hot_stock &stock, std::size_t count = 1) {
     std::size_t bytes = 0;
     check(hot_stock_bytes(&stock, count, &bytes));
