@@ -3,7 +3,8 @@
 the index and of the B-tree in the repetition that was disturbed least, how the first is to the second, and how their medians are, for
 each number of keys.
 
-usage: table.py [FILE RECORDS]     FILE is to be a CSV of the medians, with RECORDS (fit or long) in each row: bench/pages reads such
+usage: table.py [FILE RECORDS]     FILE is to be a CSV of the medians, with RECORDS (fit or long) in each row; room.csv beside it is to be
+                                   one of what the index takes, if RECORDS is fit. bench/pages reads such
 """
 import csv
 import os
@@ -34,6 +35,9 @@ LINES = [
 
 # The columns of the CSV.
 FIELDS = ["date", "processor", "compiler", "commit", "records", "keys", "count", "call", "index_ns", "tree_ns", "ratio"]
+
+# The columns of the CSV of what the index takes: bytes a key as it is made and by hot_stock_for_keys, and keys for a node record.
+ROOM = ["date", "commit", "keys", "count", "made", "for_keys", "keys_a_node"]
 
 # What a stock has.
 STOCK = "{} nodes; leaves {} short, {} medium, {} large, {} wide, {} long"
@@ -77,7 +81,6 @@ class Column:
         median = self.nanoseconds("index", works, statistics.median) / self.nanoseconds("tree", works, statistics.median)
         return f"{index:>12.0f}{tree:>8.0f}{index / tree:>8.2f}{median:>8.2f}"
 
-
     def row(self, works: list) -> list:
         """What the CSV has of these works: the medians, and how the first is to the second."""
         index, tree = [self.nanoseconds(name, works, statistics.median) for name in ("index", "tree")]
@@ -111,6 +114,14 @@ def keep(file, title: str, columns: list, begins: list) -> None:
     file.flush()
 
 
+def keep_room(file, title: str, columns: list, begins: list) -> None:
+    """Adds what the index takes for a kind of keys to the CSV of that."""
+    day, _, _, commit, _ = begins
+    rows = csv.writer(file, lineterminator="\n")
+    rows.writerows([day, commit, title, it.keys, *(f"{figure:.1f}" for figure in it.figures)] for it in columns)
+    file.flush()
+
+
 def show(title: str, columns: list) -> None:
     """Writes the table of a kind of keys, how look-ups grow from the first column to the last, and the stock of each."""
     print(f"{title:<36}" + "".join(f"{it.keys:>31} keys" for it in columns))
@@ -132,16 +143,21 @@ def show(title: str, columns: list) -> None:
 
 def main() -> None:
     title, columns = "", []
-    file, begins = None, []
+    file, room, begins = None, None, []
     if len(sys.argv) == 3:
         file, begins = open(sys.argv[1], "w", newline=""), [*origin(), sys.argv[2]]
         csv.writer(file, lineterminator="\n").writerow(FIELDS)
+    if begins[-1:] == ["fit"]:
+        room = open(Path(sys.argv[1]).with_name("room.csv"), "w", newline="")
+        csv.writer(room, lineterminator="\n").writerow(ROOM)
     for line in sys.stdin:
         word, *words = line.split()
         if word in ("kind", "the") and columns:
             show(title, columns)
             if file:
                 keep(file, title, columns, begins)
+            if room:
+                keep_room(room, title, columns, begins)
             columns = []
         if word == "kind":
             title = line.rstrip("\n").partition(" ")[2]
