@@ -1,5 +1,5 @@
 -- What the contracts of the index give in other words.
-use Rattle.std.specs.Prelude.{◌≡◌, ◌⊎◌, ◌<◌, ◌≤◌, ℕ, List, [], length, Contains, Option, Some, None}
+use Rattle.std.specs.Prelude.{◌≡◌, ◌⊎◌, ◌*◌, ◌<◌, ◌≤◌, ℕ, List, [], length, Contains, Option, Some, None}
 use Rattle.key_bits.specs.Key.{IsKey}
 use Rattle.finite_map.specs.declared.Call.{Call}
 use Rattle.finite_map.specs.declared.Change.{Change}
@@ -8,11 +8,12 @@ use Rattle.finite_map.specs.Calls.{place_after}
 use Rattle.finite_map.specs.Fronts.{BeginsWith}
 use Rattle.record_words.specs.declared.layout.Layout.{Layout}
 use Rattle.record_words.specs.Leaf.{words_for}
+use Rattle.versions.specs.Trades.{AreApart, IsOneOf}
 use Rattle.versions.specs.declared.Rec.{Rec}
 use Rattle.versions.specs.declared.Rec.TheVariants.{Node as a_node, Leaf as a_leaf}
 use Rattle.tries.specs.Keys.{Key}
-use Rattle.rowex_records.specs.Claims.{AllMissed, AllMissedFrom, IsAnothers}
-use Rattle.rowex_writing.specs.Counts.{most_made}
+use Rattle.rowex_records.specs.Claims.{AllMissed, AllMissedFrom, HasMissedSince, IsAnothers}
+use Rattle.rowex_writing.specs.Counts.{most_nodes}
 use Rattle.rowex_writing.specs.declared.attempts.TryFault.TheVariants.{Busy, FullLeaves, FullNodes}
 use Rattle.seat_calls.specs.Answers.{IsCause, IsNoted}
 use Rattle.seat_calls.specs.Passes.{PassView}
@@ -22,7 +23,7 @@ use Rattle.seat_calls.specs.Passes.{PassView}
 abbrev pub LacksAllLong : Type 0
 LacksAllLong =
     (layout : Layout) (key : Key) (k j : PassView) → layout.long_from ≡ 0 → IsKey key → IsCause layout key k j FullLeaves →
-    AllMissed (IsAnothers layout j.number []) a_leaf layout.leaves j.failed k.steps
+    AllMissed (IsAnothers layout j.number [] []) a_leaf layout.leaves j.failed k.steps
 
 -- A call of a pass whose index has no other pass is never refused as busy.
 abbrev pub OnePassIsNeverBusy : Type 0
@@ -32,14 +33,24 @@ OnePassIsNeverBusy = (layout : Layout) (key : Key) (k j : PassView) → layout.p
 abbrev pub IsNobodys : Rec → Option ℕ → Type 0
 IsNobodys r by = by ≡ None
 
+-- each node record was in the tree or retired when its turn came, but for 4,320, which the call may have claimed itself
+abbrev pub AreTakenButOwn : Layout → PassView → PassView → Type 0
+AreTakenButOwn layout k j = (own : List Rec) × (length own ≤ 2 * most_nodes) × AllMissed (λ r by. IsNobodys r by ⊎ Contains own r) a_node layout.nodes j.failed k.steps
+
+-- At least a third of the node records were in the tree or retired when their turn came: these, each listed once.
+pub record ThirdIsTaken (layout : Layout) (k j : PassView) : Type 0 where
+  pub nodes : List ℕ
+  pub apart : AreApart nodes
+  pub many : layout.nodes ≤ 3 * length nodes
+  pub each : (n : ℕ) → IsOneOf n nodes → (n < layout.nodes) × HasMissedSince IsNobodys j.failed (a_node n) k.steps
+
 -- A call of a pass whose index has no other pass lacks a leaf record only if each that has room for its key was in the tree or retired, when
--- its turn came; and so for node records, but for `most_made`, which the call may have claimed itself.
+-- its turn came. It lacks a node record only if at least a third of these were so, and all but some that it may have claimed itself.
 abbrev pub OnePassFullIsFull : Type 0
 OnePassFullIsFull =
     (layout : Layout) (key : Key) (k j : PassView) → layout.passes ≡ 1 → j.number < layout.passes →
     (IsCause layout key k j FullLeaves → AllMissedFrom IsNobodys layout (words_for (length key)) j.failed k.steps) ×
-    (IsCause layout key k j FullNodes →
-    (own : List Rec) × (length own ≤ most_made) × AllMissed (λ r by. IsNobodys r by ⊎ Contains own r) a_node layout.nodes j.failed k.steps)
+    (IsCause layout key k j FullNodes → ThirdIsTaken layout k j × AreTakenButOwn layout k j)
 
 -- A call was answered, and a stamp tells of all that its pass had seen then. Where a pass has seen what the stamp tells of before it
 -- begins a call, that call's place is no earlier than the first one's, and later than the first one's change.

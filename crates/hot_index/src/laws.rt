@@ -13,8 +13,9 @@ pub fn one_pass_is_never_busy()
     ensures { OnePassIsNeverBusy }
 {}
 
-/// In an index of one pass a call is full of leaves only if each leaf record that would serve holds a leaf, or is retired; and of nodes
-/// only if each node record does so, but for at most 4,322, which the call may have claimed itself.
+/// In an index of one pass a call is full of leaves only if each leaf record that would serve holds a leaf, or is retired. It is full of
+/// nodes only if at least a third of the node records hold nodes or are retired. So do all but 4,320 at most, which the call may have
+/// claimed itself.
 pub fn one_pass_full_is_full()
     ensures { OnePassFullIsFull }
 {}

@@ -84,8 +84,8 @@ ScansShow IsLawful IsReached =
     IsLawful (pass_of e).fresh.front (pass_of e).front from upto limit scan × IsScanInTime IsReached at call.since t from upto scan
 
 -- A refused call has changed nothing. One that is busy found that another pass stood in its way, and with one pass it is never busy. One that
--- is full found each record not free that would have served; and none of these was its own, but for some node records, 4,322 at most: so of
--- node records this says little where an index has no more.
+-- is full found each record not free that would have served. None of these was its own, but for some node records: at most two for each node
+-- that it had locked.
 abbrev pub Refusals : Type 0
 Refusals =
     (layout : Layout) (call : Call) (k j : PassView) (fault : TryFault) → IsRefused layout call k j fault → LegalCalls k.front k.number k.notes →
@@ -131,7 +131,8 @@ pub record Headline : Type 0 where
   pub scans : ScansShow IsLawfulScan IsUpToLast
   pub reverse_scans : ScansShow IsLawfulReverseScan IsDownToLast
   pub refusals : Refusals
-  -- with one pass, each leaf record that a full call lacked was in the tree or retired; and each node record, but for 4,322 at most
+  -- with one pass, each leaf record that a full call lacked was in the tree or retired; and so was at least a third of the node records, and
+  -- each of them but for 4,320 at most
   pub full_alone : OnePassFullIsFull
   pub never_refused : NeverRefused
   pub steps : BoundedSteps

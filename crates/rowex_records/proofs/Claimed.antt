@@ -7,6 +7,9 @@ use Rattle.record_words.specs.declared.layout.Layout.{Layout}
 use Rattle.record_words.specs.Layout.{leaf_size, leaf_start}
 use Rattle.record_words.specs.State.{state_word}
 use Rattle.versions.specs.declared.Rec.{Rec}
+use Rattle.versions.specs.declared.Rec.TheVariants.{Node as a_node}
+use Rattle.versions.specs.Trades.{IsOneOf}
+use Rattle.versions.proofs.Members.{all_of, map_of, of_map}
 use Rattle.versions.specs.Core.{Fate, Free, Held as HeldBy, Ready as ReadyBy, InTree, Unlinked, Marked}
 use Rattle.rowex_core.specs.declared.event.Act.{Act}
 use Rattle.rowex_core.specs.declared.event.Act.TheVariants.{Claim, LoadState}
@@ -17,13 +20,15 @@ use Rattle.rowex_core.specs.declared.known.FailedAct.TheVariants.{Claim as a_cla
 use Rattle.rowex_core.specs.declared.known.Holding.{Holding}
 use Rattle.rowex_core.specs.declared.known.Holding.TheVariants.{Held, Ready as IsReady, Unlinked as IsUnlinked}
 use Rattle.rowex_core.specs.declared.known.Known.{Known}
+use Rattle.rowex_core.specs.declared.known.Locked.{Locked}
 use Rattle.rowex_core.specs.declared.known.Owned.{Owned}
 use Rattle.rowex_core.specs.Cores.{Core, IsLawful, holder_of}
 use Rattle.rowex_core.specs.Words.{lock_of, tag_of}
 use Rattle.rowex_core.specs.Events.{word_of}
-use Rattle.rowex_core.specs.Sharing.{IsOwned, fate_of}
+use Rattle.rowex_core.specs.Sharing.{IsLocked, IsOwned, fate_of}
 use Rattle.rowex_core.specs.Knowing.{Knows, claim_learned, failed_with}
 use Rattle.rowex_core.proofs.Owning.{knows_all}
+use Rattle.rowex_table.specs.Made.{nodes_of}
 use Rattle.rowex_table.specs.Rule.{IsStartOf}
 use Rattle.rowex_table.specs.Rights.{OwnsAs, IsClaimed}
 use Rattle.rowex_table.specs.Runs.{Steps, Does}
@@ -136,28 +141,46 @@ among_held made [] only r (i, low, is) = absurd (omega arith)
 among_held made (o ∷ own) only r (zero, low, is) = subst (Contains made) is (All-head (λ (p : Owned). (p.holding ≡ Held) × Contains made p.rec) o own only).1
 among_held made (o ∷ own) only r (suc i, low, is) = among_held made own (All-tail (λ (p : Owned). (p.holding ≡ Held) × Contains made p.rec) o own only) r (i, omega arith, is)
 
--- whose a record is in a lawful core: its own if it knows that it has it
+-- whose a record is in a lawful core: its own if it knows that it has it, and nobody's if it has locked its node
 module _ (c : Core) (k : Known) (r : Rec) (law : IsLawful c) (known : Knows c k) where
   has_it : (h : Holding) → c.fate r ≡ fate_of k.pass h → Contains (records_had k) r
   has_it h e = record_had k.own (record { rec = r; holding = h; words = c.words r }) ((knows_all c k known).all_own r h e)
 
+  locked_in_tree : IsOneOf r (map a_node (nodes_of k.locks)) → (since : ℕ) × (c.fate r ≡ InTree since)
+  locked_in_tree there =
+      let (n, among, is) = of_map a_node r (nodes_of k.locks) there in
+      let (l, at, node) = of_map (λ (z : Locked). z.node) n k.locks among in
+      let (since, fate) = (all_of (IsLocked k.pass c) l k.locks (knows_all c k known).locks at).1 in
+      (since, ap c.fate (is ∙ ap a_node node) ∙ fate)
+
+  not_locked : (q : ℕ) → holder_of (c.fate r) ≡ Some q → ¬ (IsOneOf r (map a_node (nodes_of k.locks)))
+  not_locked q e there =
+      let (since, fate) = locked_in_tree there in
+      let none : None ≡ Some q = sym (ap holder_of fate) ∙ e in cc
+
   is_anothers : (f : Fate) → c.fate r ≡ f → IsAnothersTo c.layout k r (holder_of f)
   is_anothers Free e = tt
-  is_anothers (HeldBy q) e = (law.records.holders r q (ap holder_of e), λ mine. has_it Held (e ∙ ap HeldBy mine))
-  is_anothers (ReadyBy q) e = (law.records.holders r q (ap holder_of e), λ mine. has_it IsReady (e ∙ ap ReadyBy mine))
+  is_anothers (HeldBy q) e = (law.records.holders r q (ap holder_of e), λ mine. has_it Held (e ∙ ap HeldBy mine), not_locked q (ap holder_of e))
+  is_anothers (ReadyBy q) e = (law.records.holders r q (ap holder_of e), λ mine. has_it IsReady (e ∙ ap ReadyBy mine), not_locked q (ap holder_of e))
   is_anothers (InTree s) e = tt
-  is_anothers (Unlinked s l q) e = (law.records.holders r q (ap holder_of e), λ mine. has_it (IsUnlinked s l) (e ∙ ap (λ z. Unlinked s l z) mine))
+  is_anothers (Unlinked s l q) e = (law.records.holders r q (ap holder_of e), λ mine. has_it (IsUnlinked s l) (e ∙ ap (λ z. Unlinked s l z) mine), not_locked q (ap holder_of e))
   is_anothers (Marked s l epoch) e = tt
 
--- so it is to the pass that had the same records before
-pub anothers_before : (layout : Layout) (k j : Known) (r : Rec) (by : Option ℕ) → j.pass ≡ k.pass → j.own ≡ k.own → IsAnothersTo layout j r by → IsAnothersTo layout k r by
-anothers_before layout k j r by pass own h =
-    subst (λ z. IsAnothers layout k.pass (map (λ (o : Owned). o.rec) z) r by) own (subst (λ q. IsAnothers layout q (records_had j) r by) pass h)
+-- so it is to the pass that had the same records and locks before
+pub anothers_before : (layout : Layout) (k j : Known) (r : Rec) (by : Option ℕ) → j.pass ≡ k.pass → j.own ≡ k.own → j.locks ≡ k.locks → IsAnothersTo layout j r by → IsAnothersTo layout k r by
+anothers_before layout k j r by pass own locks h =
+    subst (λ (z : List Locked). IsAnothers layout k.pass (records_had k) (nodes_of z) r by) locks
+    (subst (λ z. IsAnothers layout k.pass (map (λ (o : Owned). o.rec) z) (nodes_of j.locks) r by) own (subst (λ q. IsAnothers layout q (records_had j) (nodes_of j.locks) r by) pass h))
 
--- and to one that has more records
-pub anothers_among : (layout : Layout) (q : ℕ) (own more : List Rec) (r : Rec) (by : Option ℕ) → (Contains own r → Contains more r) → IsAnothers layout q own r by → IsAnothers layout q more r by
-anothers_among layout q own more r None among h = tt
-anothers_among layout q own more r (Some by) among h = (h.0, λ mine. among (h.1 mine))
+node_among : (nodes more : List ℕ) (r : Rec) → ((n : ℕ) → IsOneOf n nodes → IsOneOf n more) → IsOneOf r (map a_node nodes) → IsOneOf r (map a_node more)
+node_among nodes more r within there =
+    let (n, among, is) = of_map a_node r nodes there in subst (λ z. IsOneOf z (map a_node more)) (sym is) (map_of a_node n more (within n among))
+
+-- and to one that has more records, of fewer locks
+pub anothers_among : (layout : Layout) (q : ℕ) (own more : List Rec) (locked fewer : List ℕ) (r : Rec) (by : Option ℕ) → (Contains own r → Contains more r) → ((n : ℕ) → IsOneOf n fewer → IsOneOf n locked) →
+    IsAnothers layout q own locked r by → IsAnothers layout q more fewer r by
+anothers_among layout q own more locked fewer r None among within h = tt
+anothers_among layout q own more locked fewer r (Some by) among within h = (h.0, λ mine. among (h.1 mine), λ there. h.2 (node_among fewer locked r within there))
 
 tells_so : (Whose Their : Option ℕ → Type 0) (act : FailedAct) → ((by : Option ℕ) → Whose by → Their by) → TellsState Whose act → TellsState Their act
 tells_so Whose Their (a_claim by) so tells = so by tells
@@ -168,8 +191,9 @@ tells_so Whose Their (a_lock by) so tells = absurd tells
 pub missed_so : (Whose Their : Rec → Option ℕ → Type 0) (missed : List Failed) (r : Rec) (since : ℕ) → ((by : Option ℕ) → Whose r by → Their r by) → HasMissedSince Whose missed r since → HasMissedSince Their missed r since
 missed_so Whose Their missed r since so (step, late, (act, word, tells, one, has)) = (step, late, (act, word, tells_so (Whose r) (Their r) act so tells, one, has))
 
-pub missed_before : (layout : Layout) (k j : Known) (missed : List Failed) (r : Rec) (since : ℕ) → j.pass ≡ k.pass → j.own ≡ k.own → HasMissedSince (IsAnothersTo layout j) missed r since → HasMissedSince (IsAnothersTo layout k) missed r since
-missed_before layout k j missed r since pass own h = missed_so (IsAnothersTo layout j) (IsAnothersTo layout k) missed r since (λ by. anothers_before layout k j r by pass own) h
+pub missed_before : (layout : Layout) (k j : Known) (missed : List Failed) (r : Rec) (since : ℕ) → j.pass ≡ k.pass → j.own ≡ k.own → j.locks ≡ k.locks →
+    HasMissedSince (IsAnothersTo layout j) missed r since → HasMissedSince (IsAnothersTo layout k) missed r since
+missed_before layout k j missed r since pass own locks h = missed_so (IsAnothersTo layout j) (IsAnothersTo layout k) missed r since (λ by. anothers_before layout k j r by pass own locks) h
 
 further : (Whose : Rec → Option ℕ → Type 0) (missed : List Failed) (x : Failed) (r : Rec) (since : ℕ) → HasMissedSince Whose missed r since → HasMissedSince Whose (x ∷ missed) r since
 further Whose missed x r since (step, late, (act, word, tells, one, (at, low, is))) = (step, late, (act, word, tells, one, (suc at, omega arith, is)))
@@ -252,7 +276,7 @@ module _ {G : Type 0} (table : TableView) (becomes : G → Event → G → Type 
   missed_by_claim r found a i b low load claim =
       let first = looked r a i load in
       let act : FailedAct = a_claim (by_of r (Claim r found) i b claim) in
-      let tells = anothers_before table.layout a.0.known i.0.known r (by_of r (Claim r found) i b claim) (ap (λ (z : Known). z.pass) load.event.learned_is) first.0 (step_tells r (Claim r found) i b claim) in
+      let tells = anothers_before table.layout a.0.known i.0.known r (by_of r (Claim r found) i b claim) (ap (λ (z : Known). z.pass) load.event.learned_is) first.0 (ap (λ (z : Known). z.locks) load.event.learned_is) (step_tells r (Claim r found) i b claim) in
       let learns = claim_misses r found i b low claim in record {
         acts = LoadState r 0 ∷ Claim r found ∷ [];
         misses = (found, low, inr refl);
@@ -334,7 +358,7 @@ module _ {G : Type 0} (table : TableView) (becomes : G → Event → G → Type 
       Whose = IsAnothersTo table.layout a.0.known
 
       tells : HasMissedSince Whose (one.failed ∷ []) (kind number) i.0.known.steps
-      tells = missed_before table.layout a.0.known i.0.known (one.failed ∷ []) (kind number) i.0.known.steps (ap (λ (z : Known). z.pass) none.does.rest) none.own one.tells
+      tells = missed_before table.layout a.0.known i.0.known (one.failed ∷ []) (kind number) i.0.known.steps (ap (λ (z : Known). z.pass) none.does.rest) none.own (ap (λ (z : Known). z.locks) none.does.rest) one.tells
 
       each : (z : ℕ) → z < m + 1 → HasMissedSince Whose (one.failed ∷ none.missed) (kind (wrapped n from z)) a.0.known.steps
       each z below = go (nat_lt z m) refl

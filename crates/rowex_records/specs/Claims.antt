@@ -4,6 +4,7 @@ use Rattle.record_words.specs.declared.layout.Layout.{Layout}
 use Rattle.record_words.specs.Layout.{leaf_size}
 use Rattle.versions.specs.declared.Rec.{Rec}
 use Rattle.versions.specs.declared.Rec.TheVariants.{Node as a_node, Leaf as a_leaf}
+use Rattle.versions.specs.Trades.{IsOneOf}
 use Rattle.rowex_core.specs.declared.event.Act.{Act}
 use Rattle.rowex_core.specs.declared.event.Act.TheVariants.{Claim, LoadState}
 use Rattle.rowex_core.specs.declared.event.Event.{Event}
@@ -15,6 +16,7 @@ use Rattle.rowex_core.specs.declared.known.Known.{Known}
 use Rattle.rowex_core.specs.declared.known.Owned.{Owned}
 use Rattle.rowex_core.specs.Cores.{word_count_of}
 use Rattle.rowex_core.specs.Events.{word_of}
+use Rattle.rowex_table.specs.Made.{nodes_of}
 use Rattle.rowex_table.specs.Runs.{Does, InTurn}
 use Rattle.rowex_table.specs.Seats.{TableView, SeatView}
 use Rattle.rowex_records.specs.declared.claiming.RecordKind.{RecordKind}
@@ -56,11 +58,15 @@ wrapped n from m = if nat_lt (from + m) n then from + m else from + m - n
 abbrev pub Misses : Rec → List Act → Type 0
 Misses r acts = (word : ℕ) × (1 ≤ word) × ((acts ≡ LoadState r word ∷ []) ⊎ (acts ≡ LoadState r 0 ∷ Claim r word ∷ []))
 
--- Whose record r may be when pass q finds it not free: nobody's, in the tree or retired; or a pass's of the index. It is not q's own, unless
--- it is one of these.
-abbrev pub IsAnothers : Layout → ℕ → List Rec → Rec → Option ℕ → Type 0
-IsAnothers layout q own r None = Unit {0}
-IsAnothers layout q own r (Some by) = (by < layout.passes) × (by ≡ q → Contains own r)
+-- Whose record r may be when pass q finds it not free: a pass's of the index, or nobody's, and then it is in the tree or retired. It is not
+-- q's own, unless it is one of these; and it is nobody's where it is the record of one of those nodes, which q has locked.
+abbrev pub IsAnothers : Layout → ℕ → (own : List Rec) → (locked : List ℕ) → Rec → Option ℕ → Type 0
+IsAnothers layout q own locked r None = Unit {0}
+IsAnothers layout q own locked r (Some by) = (by < layout.passes) × (by ≡ q → Contains own r) × ¬ (IsOneOf r (map a_node locked))
+
+-- so for a pass and the nodes that it has locked, where these may be its own
+abbrev pub IsAnothersBut : Layout → Known → List Rec → Rec → Option ℕ → Type 0
+IsAnothersBut layout k own = IsAnothers layout k.pass own (nodes_of k.locks)
 
 -- the records that a pass has
 abbrev pub records_had : Known → List Rec
@@ -68,7 +74,7 @@ records_had k = map (λ (o : Owned). o.rec) k.own
 
 -- it is not the pass's own, unless the pass knows that it has it
 abbrev pub IsAnothersTo : Layout → Known → Rec → Option ℕ → Type 0
-IsAnothersTo layout k = IsAnothers layout k.pass (records_had k)
+IsAnothersTo layout k = IsAnothersBut layout k (records_had k)
 
 -- a failed step finds that a record is not free, and whose it is
 abbrev pub TellsState : (Option ℕ → Type 0) → FailedAct → Type 0

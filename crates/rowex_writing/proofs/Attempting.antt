@@ -54,6 +54,7 @@ use Rattle.rowex_reading.specs.declared.descent.Found.TheVariants.{Nothing, Leaf
 use Rattle.rowex_writing.specs.declared.plan.Plan.{Plan}
 use Rattle.rowex_writing.specs.declared.plan.Plan.TheVariants.{Answer, Change as a_change}
 use Rattle.rowex_writing.specs.declared.plan.Span.{Span}
+use Rattle.rowex_writing.proofs.Keeping.{lacks_so}
 use Rattle.rowex_writing.proofs.Onward.{looks_run, reads_run}
 use Rattle.rowex_writing.proofs.Runs.{run_loaded, runs_trans}
 use Rattle.rowex_writing.proofs.Spans.{met_since}
@@ -360,7 +361,7 @@ refused_busy layout key k i j m (p, pinned, early) loaded first next why = recor
 }
 
 full_before : (layout : Layout) (key : Key) (k i j : Known) (full : Full) → k.steps ≤ i.steps → IsFull layout key i j full → IsFull layout key k j full
-full_before layout key k i j Nodes low (own, few, f) = (own, few, all_earlier (IsAnothers layout j.pass own) a_node layout.nodes j.failed k.steps i.steps low f)
+full_before layout key k i j Nodes low l = lacks_so layout j.pass j.failed j.failed i.steps k.steps l (all_earlier (IsAnothers layout j.pass l.own l.locked) a_node layout.nodes j.failed k.steps i.steps low l.missed)
 full_before layout key k i j Leaves low f = λ q within room. let (step, from, at) = f q within room in (step, (omega (arith, low, from)), at)
 
 others_since : (k i j : Known) → IsLater k i → OthersGoOn i.pass i.front j.front → OthersGoOn k.pass k.front j.front

@@ -11,9 +11,11 @@ use Rattle.rowex_core.specs.declared.event.Event.{Event}
 use Rattle.rowex_core.specs.declared.known.Failed.{Failed}
 use Rattle.rowex_core.specs.declared.known.Known.{Known}
 use Rattle.rowex_core.specs.declared.known.Owned.{Owned}
+use Rattle.rowex_table.specs.Made.{nodes_of}
 use Rattle.rowex_table.specs.Seats.{TableView, SeatView}
 use Rattle.rowex_records.specs.declared.claiming.RecordKind.TheVariants.{Leaf}
-use Rattle.rowex_records.specs.Claims.{AllMissed, AllMissedFrom, HasMissedSince, IsAnothers, IsAnothersTo, record_of}
+use Rattle.rowex_records.specs.Claims.{AllMissed, AllMissedFrom, HasMissedSince, IsAnothers, IsAnothersBut, IsAnothersTo, record_of}
+use Rattle.rowex_records.proofs.Claimed.{anothers_among, missed_so}
 use Rattle.rowex_writing.specs.Changes.{LacksLeaves}
 use Rattle.rowex_writing.specs.Classes.{AllMissedBetween}
 use Rattle.rowex_writing.specs.Going.{WorksOn}
@@ -47,5 +49,8 @@ module _ {G : Type 0} (table : TableView) (becomes : G → Event → G → Type 
 pub lacks_leaves : (layout : Layout) (key : Key) (k j : Known) (failed : List Failed) (since : ℕ) → j.pass ≡ k.pass → k.own ≡ [] → AllMissedFrom (IsAnothersTo layout k) layout (words_for (length key)) failed since →
     LacksLeaves layout key j.pass failed since
 lacks_leaves layout key k j failed since same none missed =
+    let all : AllMissedFrom (IsAnothersBut layout k []) layout (words_for (length key)) failed since =
+    subst (λ own. AllMissedFrom (IsAnothersBut layout k (map (λ (o : Owned). o.rec) own)) layout (words_for (length key)) failed since) none missed in
     subst (λ q. LacksLeaves layout key q failed since) (sym same)
-    (subst (λ own. AllMissedFrom (IsAnothers layout k.pass (map (λ (o : Owned). o.rec) own)) layout (words_for (length key)) failed since) none missed)
+    (λ q low room. missed_so (IsAnothersBut layout k []) (IsAnothers layout k.pass [] []) failed (a_leaf q) since
+    (λ by. anothers_among layout k.pass [] [] (nodes_of k.locks) [] (a_leaf q) by (λ h. h) (λ n none. absurd none)) (all q low room))

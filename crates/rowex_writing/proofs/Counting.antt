@@ -1,9 +1,11 @@
 -- How long parts of a list are, and how many steps claims make.
-use Rattle.std.proofs.Common.{◌≡◌, ℕ, zero, suc, ◌+◌, ◌-◌, ◌*◌, ◌<◌, ◌≤◌, List, [], ◌∷◌, length, take, drop, ap, ◌∙◌, arith}
-use Rattle.std.specs.Prelude.{slice_range}
+use Rattle.std.proofs.Common.{◌≡◌, ℕ, zero, suc, ◌+◌, ◌-◌, ◌*◌, ◌<◌, ◌≤◌, List, [], ◌∷◌, ◌++◌, length, take, drop, refl, ap, ◌∙◌, arith}
+use Rattle.std.specs.Prelude.{Contains, slice_range}
 use Rattle.std.proofs.lemmas.List.{length-drop, length-map, length-take-le}
 use Rattle.insert_cases.specs.declared.choice.PathNode.{PathNode}
 use Rattle.versions.specs.declared.Rec.{Rec}
+use Rattle.versions.specs.declared.Rec.TheVariants.{Node as a_node, Leaf as a_leaf}
+use Rattle.tries.specs.Content.{Item}
 use Rattle.rowex_core.specs.declared.event.Act.TheVariants.{Claim, LoadState}
 use Rattle.rowex_core.specs.declared.event.Event.{Event}
 use Rattle.rowex_table.specs.Made.{Made}
@@ -12,10 +14,11 @@ use Rattle.rowex_records.specs.Claims.{Claims, FindsNone}
 use Rattle.rowex_reading.proofs.Counting.{runs_count}
 use Rattle.rowex_reading.specs.declared.descent.Found.{Found}
 use Rattle.rowex_reading.specs.declared.descent.Found.TheVariants.{Nothing, Leaf}
-use Rattle.rowex_writing.specs.Building.{IsBuilding}
+use Rattle.rowex_writing.specs.Building.{HasLeafMade, IsBuilding}
 use Rattle.rowex_writing.specs.Counts.{level_steps, node_steps}
 use Rattle.rowex_writing.specs.Locks.{numbers_of}
 use Rattle.rowex_writing.specs.Putting.{leaf_found}
+use Rattle.rowex_writing.specs.Walks.{nodes_among}
 
 -- ---- parts of a list
 take_few : {X : Type 0} (n : ℕ) (xs : List X) → length (take n xs) ≤ n
@@ -88,3 +91,43 @@ lowest_more made after others more = omega arith
 
 pub all_more : (made mid after others : ℕ) → mid ≤ made + 2 → after ≤ mid + 2 * others + 1 → after ≤ made + 2 * others + 3
 all_more made mid after others first rest = omega arith
+
+-- ---- node records that are made so, and the one that is lacking, if one is
+pub one_node : (made after lacks : ℕ) → after + lacks ≤ made + 1 → after + lacks ≤ made + 2
+one_node made after lacks more = omega arith
+
+pub two_nodes : (made mid after lacks : ℕ) → mid + 0 ≤ made + 1 → after + lacks ≤ mid + 1 → after + lacks ≤ made + 2
+two_nodes made mid after lacks first rest = omega arith
+
+pub entry_nodes : (made after lacks others : ℕ) → after + lacks ≤ made + 1 → after + lacks ≤ made + (2 * others + 1)
+entry_nodes made after lacks others more = omega arith
+
+pub level_nodes : (made after lacks end level : ℕ) → end < level → after + lacks ≤ made + 2 → after + lacks ≤ made + (2 * (level - end) + 1)
+level_nodes made after lacks end level above more = omega arith
+
+pub levels_nodes : (made mid after lacks end level : ℕ) → end < level → mid + 0 ≤ made + 2 → after + lacks ≤ mid + (2 * (level - 1 - end) + 1) → after + lacks ≤ made + (2 * (level - end) + 1)
+levels_nodes made mid after lacks end level above first rest = omega arith
+
+pub lowest_nodes : (made after lacks others : ℕ) → after + lacks ≤ made + 2 → after + lacks ≤ made + (2 * others + 3)
+lowest_nodes made after lacks others more = omega arith
+
+pub all_nodes : (made mid after lacks others : ℕ) → mid + 0 ≤ made + 2 → after + lacks ≤ mid + (2 * others + 1) → after + lacks ≤ made + (2 * others + 3)
+all_nodes made mid after lacks others first rest = omega arith
+
+-- where a leaf alone is made, none is
+pub no_nodes : {table : TableView} {a : SeatView} {made : List Rec} {x : Item} → HasLeafMade table a made x → length (nodes_among made) ≡ 0
+no_nodes leaf = ap (λ made. length (nodes_among made)) leaf.building.listed
+
+-- one node record more is one more
+pub nodes_pushed : (made : List Rec) (n : ℕ) → length (nodes_among (made ++ a_node n ∷ [])) ≡ length (nodes_among made) + 1
+nodes_pushed [] n = refl
+nodes_pushed (a_node m ∷ made) n = let rest = nodes_pushed made n in omega arith
+nodes_pushed (a_leaf m ∷ made) n = nodes_pushed made n
+
+-- a node's is one of them
+pub among_nodes : (made : List Rec) (n : ℕ) → Contains made (a_node n) → Contains (nodes_among made) (a_node n)
+among_nodes [] n (i, low, is) = absurd (omega arith)
+among_nodes (a_node m ∷ made) n (zero, low, is) = (0, omega arith, is)
+among_nodes (a_node m ∷ made) n (suc i, low, is) = let (at, within, same) = among_nodes made n (i, omega arith, is) in (suc at, omega arith, same)
+among_nodes (a_leaf m ∷ made) n (zero, low, is) = absurd cc
+among_nodes (a_leaf m ∷ made) n (suc i, low, is) = among_nodes made n (i, omega arith, is)

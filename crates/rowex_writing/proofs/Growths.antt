@@ -1,9 +1,9 @@
 -- What rises is put at its spot; what goes for it, and what is kept of the locked nodes.
 use Rattle.rowex_writing.proofs.Spared.{range_split}
-use Rattle.std.proofs.Common.{◌≡◌, inl, inr, ◌⊎◌, ℕ, ◌+◌, ◌-◌, ◌<◌, ◌≤◌, Bool, true, false, List, [], ◌∷◌, ◌++◌, length, map, take, drop, refl, sym, ap, ap₂, subst, ◌∙◌, arith, if◌then◌else◌, Some, None, IsSome, get_or, le_trans}
+use Rattle.std.proofs.Common.{◌≡◌, inl, inr, ◌⊎◌, ℕ, ◌+◌, ◌-◌, ◌*◌, ◌<◌, ◌≤◌, Bool, true, false, List, [], ◌∷◌, ◌++◌, length, map, take, drop, refl, sym, ap, ap₂, subst, ◌∙◌, arith, if◌then◌else◌, Some, None, IsSome, get_or, le_trans}
 use Rattle.std.specs.Prelude.{All, slice_get, slice_range}
 use Rattle.std.proofs.lemmas.List.{append-nil, drop-take, map-append}
-use Rattle.std.proofs.lemmas.List.Elements.{All-append, All-cons, All-drop, All-head, All-tail, All-take}
+use Rattle.std.proofs.lemmas.List.Elements.{All-append, All-cons, All-drop, All-head, All-map, All-tail, All-take}
 use Rattle.std.proofs.lemmas.Option.{slice_get-get_or}
 use Rattle.compound_node.specs.Nodes.{IsEntry}
 use Rattle.compound_node.specs.declared.entries.Entry.{Entry}
@@ -54,19 +54,23 @@ use Rattle.rowex_rights.specs.Ending.{IsAtRest}
 use Rattle.rowex_rights.proofs.Loops.{later_transitive}
 use Rattle.rowex_writing.specs.declared.plan.Full.TheVariants.{Nodes, Leaves}
 use Rattle.rowex_writing.specs.Building.{FitsAbove, HasLeafMade, IsChain, HasRisenTo, gone_unless_whole, gone_with_way}
-use Rattle.rowex_records.specs.Claims.{IsAnothers}
+use Rattle.rowex_records.specs.Claims.{AllMissed, IsAnothers, IsAnothersBut}
+use Rattle.rowex_records.proofs.Claimed.{anothers_among, missed_so}
 use Rattle.rowex_writing.specs.Changes.{HasNoRoom, HasRun, HasTakenSpan, IsChecked, IsFull, IsPlanned, IsPutChange, LacksLeaves, LacksNodes, MayPublishOnceReady}
 use Rattle.rowex_writing.specs.Going.{HasLocked, WorksOn}
 use Rattle.rowex_writing.specs.Growths.{HasNumber, MayGrow}
-use Rattle.rowex_writing.specs.Locks.{AreNodes, Works, numbers_of, span_numbers}
+use Rattle.rowex_writing.specs.Counts.{most_nodes}
+use Rattle.rowex_writing.specs.Locks.{AreNodes, HasLockedSpan, Works, numbers_of, span_numbers}
 use Rattle.rowex_writing.specs.Putting.{IsSpotAbove}
 use Rattle.rowex_writing.specs.Retiring.{AreInTable}
+use Rattle.rowex_writing.specs.Walks.{nodes_among}
 use Rattle.rowex_writing.specs.declared.plan.Span.{Span}
 use Rattle.rowex_writing.proofs.Bridging.{IsGrowPlan, chain_at, found_below, grow_plan, part_at, leads_at, pulled_full, spot_of, top_within}
 use Rattle.rowex_writing.proofs.Above.{locked_at}
 use Rattle.rowex_writing.proofs.Lifting.{gone_more}
 use Rattle.rowex_writing.proofs.Runs.{works_run}
-use Rattle.rowex_writing.proofs.Keeping.{missed_from_on, missed_on}
+use Rattle.rowex_writing.proofs.Counting.{among_nodes, numbers_few}
+use Rattle.rowex_writing.proofs.Keeping.{lacks_so, missed_from_on, missed_on}
 use Rattle.rowex_writing.proofs.Spans.{locked_same}
 use Rattle.rowex_writing.proofs.Works.{works_later}
 use Rattle.rowex_writing.proofs.Staging.{risen_subtrie}
@@ -175,13 +179,40 @@ pub range_records : (layout : Layout) (way : List PathNode) (b d : ℕ) → AreN
 range_records layout way b d nodes = node_records layout (slice_range way b d) (range_nodes layout way b d nodes)
 
 -- ---- none was free
+-- The pass has locked a span, and has made two node records for each node of it, or fewer.
+pub lacks_nodes : (layout : Layout) (k j : Known) (way : List PathNode) (span : Span) (made : List Rec) (since : ℕ) → AreNodes layout way → HasLockedSpan k way span → j.locks ≡ k.locks →
+    span.end ≤ span.len → span.len ≤ length way → span.len ≤ span.end - 1 + most_nodes → length (nodes_among made) ≤ 2 * (span.len - span.end) →
+    AllMissed (IsAnothersBut layout j made) a_node layout.nodes j.failed since → LacksNodes layout j.pass j.failed since
+lacks_nodes layout k j way span made since nodes taken same order within depth few missed = record {
+  own = nodes_among made;
+  locked = numbers;
+  few = omega (arith, size, few, order);
+  most = omega (arith, size, depth);
+  apart = taken.nodes.1;
+  low = All-map (λ n. n < layout.nodes) (λ (s : PathNode). s.number) (slice_range way (span.end - 1) span.len) (range_nodes layout way (span.end - 1) span.len nodes);
+  missed = λ q low. missed_so (IsAnothersBut layout j made) (IsAnothers layout j.pass (nodes_among made) numbers) j.failed (a_node q) since
+      (λ by. anothers_among layout j.pass made (nodes_among made) (nodes_of j.locks) numbers (a_node q) by (among_nodes made q) held) (missed q low);
+}
+  where
+    numbers : List ℕ
+    numbers = span_numbers way span
+
+    size : length numbers ≡ span.len - (span.end - 1)
+    size = numbers_few way (span.end - 1) span.len (omega (arith, order)) within
+
+    held : (n : ℕ) → IsOneOf n numbers → IsOneOf n (nodes_of j.locks)
+    held n there =
+        let (l, at, is) = taken.nodes.0.each n there in
+        subst (λ (z : List Locked). IsOneOf n (nodes_of z)) (sym same) (subst (λ m. IsOneOf m (nodes_of k.locks)) is (map_of (λ (z : Locked). z.node) l k.locks at))
+
 full_on : {G : Type 0} (table : TableView) (becomes : G → Event → G → Type 0) (key : Key) (k : Known) (b c : SeatView × G) (full : Full) → c.0.known.pass ≡ b.0.known.pass → HasRun table becomes b c → IsFull table.layout key k b.0.known full → IsFull table.layout key k c.0.known full
-full_on table becomes key k b c Nodes same run (own, few, missed) =
+full_on table becomes key k b c Nodes same run l =
     subst (λ q. LacksNodes table.layout q c.0.known.failed k.steps) (sym same)
-    (own, few, missed_on table becomes (IsAnothers table.layout b.0.known.pass own) a_node table.layout.nodes k.steps b c run missed)
+    (lacks_so table.layout b.0.known.pass b.0.known.failed c.0.known.failed k.steps k.steps l
+    (missed_on table becomes (IsAnothers table.layout b.0.known.pass l.own l.locked) a_node table.layout.nodes k.steps b c run l.missed))
 full_on table becomes key k b c Leaves same run missed =
     subst (λ q. LacksLeaves table.layout key q c.0.known.failed k.steps) (sym same)
-    (missed_from_on table becomes (IsAnothers table.layout b.0.known.pass []) (words_for (length key)) k.steps b c run missed)
+    (missed_from_on table becomes (IsAnothers table.layout b.0.known.pass [] []) (words_for (length key)) k.steps b c run missed)
 
 pub no_room : {G : Type 0} (table : TableView) (becomes : G → Event → G → Type 0) (key : Key) (a b c : SeatView × G) (full : Full) → WorksOn table becomes a b → Works table becomes b c → IsAtRest c.0.known →
     IsFull table.layout key a.0.known b.0.known full → HasNoRoom table.layout key a.0.known c.0.known full
@@ -193,7 +224,8 @@ no_room table becomes key a b c full goes works rest missed = record {
 
 -- nor since an earlier version
 pub full_since : (layout : Layout) (key : Key) (a b c : Known) (full : Full) → a.steps ≤ b.steps → IsFull layout key b c full → IsFull layout key a c full
-full_since layout key a b c Nodes count (own, few, missed) = (own, few, λ q low. (let (step, late, miss) = missed q low in (step, le_trans count late, miss)))
+full_since layout key a b c Nodes count l =
+    lacks_so layout c.pass c.failed c.failed b.steps a.steps l (λ q low. (let (step, late, miss) = l.missed q low in (step, le_trans count late, miss)))
 full_since layout key a b c Leaves count missed = λ q low room. (let (step, late, miss) = missed q low room in (step, le_trans count late, miss))
 
 -- ---- the leaf's record is made

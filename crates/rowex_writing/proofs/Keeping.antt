@@ -34,12 +34,12 @@ use Rattle.rowex_table.specs.Rights.{IsClaimed}
 use Rattle.rowex_table.specs.Runs.{Runs, silent}
 use Rattle.rowex_table.specs.Seats.{TableView, SeatView}
 use Rattle.rowex_table.proofs.ActsLeave.{act_leaves}
-use Rattle.rowex_records.specs.Claims.{AllMissed, AllMissedFrom, HasMissedSince}
+use Rattle.rowex_records.specs.Claims.{AllMissed, AllMissedFrom, HasMissedSince, IsAnothers}
 use Rattle.rowex_records.proofs.Claimed.{among_held}
 use Rattle.rowex_writing.specs.Walks.{HasNoOther}
 use Rattle.rowex_records.specs.Records.{HoldsJust}
 use Rattle.rowex_writing.specs.Building.{IsBuilding}
-use Rattle.rowex_writing.specs.Changes.{HasRun, HasChanged}
+use Rattle.rowex_writing.specs.Changes.{HasRun, HasChanged, LacksNodes}
 use Rattle.rowex_writing.specs.Locks.{AreNodes}
 use Rattle.rowex_writing.specs.Retiring.{AreInTable}
 use Rattle.rowex_reading.specs.Ways.{IsWayOf}
@@ -95,6 +95,11 @@ module _ {G : Type 0} (table : TableView) (becomes : G → Event → G → Type 
 
   pub missed_from_on : (Whose : Rec → Option ℕ → Type 0) (words since : ℕ) (a b : SeatView × G) → HasRun table becomes a b → AllMissedFrom Whose table.layout words a.0.known.failed since → AllMissedFrom Whose table.layout words b.0.known.failed since
   missed_from_on Whose words since a b run missed = λ q low room. missed_there Whose (a_leaf q) since a b run (missed q low room)
+
+-- what these failed steps tell of the lack of a node record, others may
+pub lacks_so : (layout : Layout) (q : ℕ) (tried more : List Failed) (since earlier : ℕ) (l : LacksNodes layout q tried since) → AllMissed (IsAnothers layout q l.own l.locked) a_node layout.nodes more earlier →
+    LacksNodes layout q more earlier
+lacks_so layout q tried more since earlier l missed = record { own = l.own; locked = l.locked; few = l.few; most = l.most; apart = l.apart; low = l.low; missed = missed }
 
 -- ---- records that are given up
 reverse_more : {X : Type 0} (x : X) (xs : List X) → reverse (x ∷ xs) ≡ reverse xs ++ x ∷ []

@@ -11,15 +11,16 @@ use Rattle.rowex_core.specs.declared.event.Act.TheVariants.{LoadState}
 use Rattle.rowex_core.specs.declared.event.Event.{Event}
 use Rattle.rowex_core.specs.declared.known.Failed.{Failed}
 use Rattle.rowex_core.specs.declared.known.Known.{Known}
+use Rattle.rowex_core.specs.declared.known.Locked.{Locked}
 use Rattle.rowex_core.specs.declared.known.Owned.{Owned}
 use Rattle.rowex_core.specs.declared.known.Holding.TheVariants.{Held}
 use Rattle.rowex_core.specs.Cores.{HasRecord}
-use Rattle.rowex_table.specs.Made.{Made}
+use Rattle.rowex_table.specs.Made.{Made, nodes_of}
 use Rattle.rowex_table.specs.Rights.{IsClaimed}
 use Rattle.rowex_table.specs.Runs.{Steps}
 use Rattle.rowex_table.specs.Seats.{TableView, SeatView}
 use Rattle.rowex_table.proofs.Running.{does_count}
-use Rattle.rowex_records.specs.Claims.{AllMissed, Claims, FindsNone, HasMissedSince, IsAnothers, IsAnothersTo, MissesOne, begin_of, claiming, records_had, wrapped}
+use Rattle.rowex_records.specs.Claims.{AllMissed, Claims, FindsNone, HasMissedSince, IsAnothers, IsAnothersBut, IsAnothersTo, MissesOne, begin_of, claiming, records_had, wrapped}
 use Rattle.rowex_records.proofs.Claimed.{anothers_among, anothers_before, held_misses, missed_among, missed_earlier, missed_so, turned_to}
 use Rattle.rowex_records.proofs.Making.{looks_one}
 use Rattle.rowex_writing.specs.declared.building.Build.{Build}
@@ -68,10 +69,12 @@ next_on n begin t number low within is = subst (λ z. begin_of n (z + 1) ≡ wra
 
 -- ---- whose it was
 -- what is said of the pass is said of the same one later, which may have more records
-pub missed_as : (layout : Layout) (q p : ℕ) (own more : List Rec) (failed : List Failed) (r : Rec) (since : ℕ) → p ≡ q → (Contains own r → Contains more r) → HasMissedSince (IsAnothers layout q own) failed r since → HasMissedSince (IsAnothers layout p more) failed r since
-missed_as layout q p own more failed r since same among missed =
-    subst (λ z. HasMissedSince (IsAnothers layout z more) failed r since) (sym same)
-    (missed_so (IsAnothers layout q own) (IsAnothers layout q more) failed r since (λ by. anothers_among layout q own more r by among) missed)
+pub missed_as : (layout : Layout) (k j : Known) (own more : List Rec) (failed : List Failed) (r : Rec) (since : ℕ) → j.pass ≡ k.pass → j.locks ≡ k.locks → (Contains own r → Contains more r) →
+    HasMissedSince (IsAnothersBut layout k own) failed r since → HasMissedSince (IsAnothersBut layout j more) failed r since
+missed_as layout k j own more failed r since same locks among missed =
+    subst (λ q. HasMissedSince (IsAnothers layout q more (nodes_of j.locks)) failed r since) (sym same)
+    (subst (λ (l : List Locked). HasMissedSince (IsAnothers layout k.pass more (nodes_of l)) failed r since) (sym locks)
+    (missed_so (IsAnothersBut layout k own) (IsAnothersBut layout k more) failed r since (λ by. anothers_among layout k.pass own more (nodes_of k.locks) (nodes_of k.locks) r by among (λ n there. there)) missed))
 
 -- and of more failed steps
 missed_more : (Whose : Rec → Option ℕ → Type 0) (failed more : List Failed) (r : Rec) (since : ℕ) → ((x : Failed) → Contains failed x → Contains more x) → HasMissedSince Whose failed r since → HasMissedSince Whose more r since
@@ -100,9 +103,9 @@ module _ (kind : ℕ → Rec) (n : ℕ) where
       begins false e = rw e some
 
   -- it goes on being one, where failed steps and records come to those that there are
-  pub walk_stays : (layout : Layout) (since : ℕ) (k j : Known) (made more : List Rec) (next left : ℕ) → j.pass ≡ k.pass → k.steps ≤ j.steps → ((x : Failed) → Contains k.failed x → Contains j.failed x) → ((r : Rec) → Contains made r → Contains more r)
+  pub walk_stays : (layout : Layout) (since : ℕ) (k j : Known) (made more : List Rec) (next left : ℕ) → j.pass ≡ k.pass → j.locks ≡ k.locks → k.steps ≤ j.steps → ((x : Failed) → Contains k.failed x → Contains j.failed x) → ((r : Rec) → Contains made r → Contains more r)
       → IsClaimWalk layout kind n since k made next left → IsClaimWalk layout kind n since j more next left
-  walk_stays layout since k j made more next left same later failed kept w = record {
+  walk_stays layout since k j made more next left same locks later failed kept w = record {
     early = let early = w.early in omega arith;
     begin = w.begin;
     low = w.low;
@@ -110,36 +113,39 @@ module _ (kind : ℕ → Rec) (n : ℕ) where
     count = w.count;
     next_is = w.next_is;
     each = λ i low. elim (w.each i low) [
-      | inl missed ↦ inl (missed_as layout k.pass j.pass made more j.failed (kind (wrapped n w.begin i)) since same (kept (kind (wrapped n w.begin i)))
-          (missed_more (IsAnothers layout k.pass made) k.failed j.failed (kind (wrapped n w.begin i)) since failed missed))
+      | inl missed ↦ inl (missed_as layout k j made more j.failed (kind (wrapped n w.begin i)) since same locks (kept (kind (wrapped n w.begin i)))
+          (missed_more (IsAnothersBut layout k made) k.failed j.failed (kind (wrapped n w.begin i)) since failed missed))
       | inr has ↦ inr (kept _ has)
     ];
   }
 
   -- where all have been tried, each was found not free, if those that are made were
-  pub walk_ends : (layout : Layout) (since : ℕ) (k : Known) (made : List Rec) (next left : ℕ) → left ≡ 0 → ((r : Rec) → Contains made r → HasMissedSince (IsAnothers layout k.pass made) k.failed r since) →
-      IsClaimWalk layout kind n since k made next left → AllMissed (IsAnothers layout k.pass made) kind n k.failed since
+  pub walk_ends : (layout : Layout) (since : ℕ) (k : Known) (made : List Rec) (next left : ℕ) → left ≡ 0 → ((r : Rec) → Contains made r → HasMissedSince (IsAnothersBut layout k made) k.failed r since) →
+      IsClaimWalk layout kind n since k made next left → AllMissed (IsAnothersBut layout k made) kind n k.failed since
   walk_ends layout since k made next left none looked w q low =
       let (i, within, is) = turned_to n w.begin q w.low low in
       let all = w.count in
-      subst (λ z. HasMissedSince (IsAnothers layout k.pass made) k.failed (kind z) since) is (elim (w.each i (omega arith)) [ inl missed ↦ missed | inr has ↦ looked _ has ])
+      subst (λ z. HasMissedSince (IsAnothersBut layout k made) k.failed (kind z) since) is (elim (w.each i (omega arith)) [ inl missed ↦ missed | inr has ↦ looked _ has ])
 
   module _ {G : Type 0} (table : TableView) (becomes : G → Event → G → Type 0) where
     pub walk_on : (since : ℕ) (a b : SeatView × G) (made more : List Rec) (next left : ℕ) → WorksOn table becomes a b → ((r : Rec) → Contains made r → Contains more r)
         → IsClaimWalk table.layout kind n since a.0.known made next left → IsClaimWalk table.layout kind n since b.0.known more next left
     walk_on since a b made more next left goes kept w =
-        walk_stays table.layout since a.0.known b.0.known made more next left goes.stays.0.pass (steps_rise table becomes goes.acts a b goes.steps) (λ x has. run_failed table becomes goes.acts a b goes.steps x has) kept w
+        walk_stays table.layout since a.0.known b.0.known made more next left goes.stays.0.pass goes.stays.1 (steps_rise table becomes goes.acts a b goes.steps) (λ x has. run_failed table becomes goes.acts a b goes.steps x has) kept w
 
     -- after tries that found none free
     module _ (since m : ℕ) (a b : SeatView × G) (made : List Rec) (next left : ℕ) (alone : HasNoOther a.0.known made) (w : IsClaimWalk table.layout kind n since a.0.known made next left) (within : m ≤ left)
         (none : FindsNone table becomes kind n (begin_of n next) m a b) where
       abbrev Whose : Rec → Option ℕ → Type 0
-      Whose = IsAnothers table.layout b.0.known.pass made
+      Whose = IsAnothersBut table.layout b.0.known made
 
       same : b.0.known.pass ≡ a.0.known.pass
       same = ap (λ (z : Known). z.pass) none.does.rest
 
-      pub each_tried : (i : ℕ) → i < w.tried + m → HasMissedSince (IsAnothers table.layout b.0.known.pass made) b.0.known.failed (kind (wrapped n w.begin i)) since ⊎ Contains made (kind (wrapped n w.begin i))
+      locks : b.0.known.locks ≡ a.0.known.locks
+      locks = ap (λ (z : Known). z.locks) none.does.rest
+
+      pub each_tried : (i : ℕ) → i < w.tried + m → HasMissedSince (IsAnothersBut table.layout b.0.known made) b.0.known.failed (kind (wrapped n w.begin i)) since ⊎ Contains made (kind (wrapped n w.begin i))
       each_tried i low = go (nat_lt i w.tried) refl
         where
           count : w.tried + left ≡ n
@@ -148,7 +154,7 @@ module _ (kind : ℕ → Rec) (n : ℕ) where
           go : (t : Bool) → nat_lt i w.tried ≡ t → HasMissedSince Whose b.0.known.failed (kind (wrapped n w.begin i)) since ⊎ Contains made (kind (wrapped n w.begin i))
           go true e = elim (w.each i (ltb-true i w.tried e)) [
             | inl missed ↦ inl (subst (λ l. HasMissedSince Whose l (kind (wrapped n w.begin i)) since) (sym none.failed) (beyond none.missed a.0.known.failed (kind (wrapped n w.begin i)) since
-                (missed_as table.layout a.0.known.pass b.0.known.pass made made a.0.known.failed (kind (wrapped n w.begin i)) since same (λ h. h) missed)))
+                (missed_as table.layout a.0.known b.0.known made made a.0.known.failed (kind (wrapped n w.begin i)) since same locks (λ h. h) missed)))
             | inr has ↦ inr has
           ]
             where
@@ -163,7 +169,7 @@ module _ (kind : ℕ → Rec) (n : ℕ) where
               (wrapped_on n w.begin w.tried (i - w.tried) w.low (omega arith) (omega arith) ∙ ap (wrapped n w.begin) (let same : w.tried + (i - w.tried) ≡ i = omega arith in same)) in
               let r : Rec = kind (wrapped n w.begin i) in
               inl (subst (λ l. HasMissedSince Whose l r since) (sym none.failed) (missed_among Whose none.missed a.0.known.failed r since (missed_earlier Whose none.missed r since a.0.known.steps early
-              (missed_as table.layout a.0.known.pass b.0.known.pass (records_had a.0.known) made none.missed r a.0.known.steps same (alone r)
+              (missed_as table.layout a.0.known b.0.known (records_had a.0.known) made none.missed r a.0.known.steps same locks (alone r)
               (subst (λ z. HasMissedSince (IsAnothersTo table.layout a.0.known) none.missed (kind z) a.0.known.steps) at (none.each (i - w.tried) (omega arith)))))))
 
     -- none of those that were left is free
@@ -202,7 +208,7 @@ module _ (kind : ℕ → Rec) (n : ℕ) where
         here = claims.number_is ∙ (ap (λ z. wrapped n z claims.tried) (w.next_is (omega arith)) ∙ wrapped_on n w.begin w.tried claims.tried w.low (omega arith) (omega arith))
 
         Whose : Rec → Option ℕ → Type 0
-        Whose = IsAnothers table.layout b.0.known.pass (made ++ kind number ∷ [])
+        Whose = IsAnothersBut table.layout b.0.known (made ++ kind number ∷ [])
 
         each : (i : ℕ) → i < w.tried + claims.tried + 1 → HasMissedSince Whose b.0.known.failed (kind (wrapped n w.begin i)) since ⊎ Contains (made ++ kind number ∷ []) (kind (wrapped n w.begin i))
         each i low = go (nat_lt i (w.tried + claims.tried)) refl
@@ -210,8 +216,8 @@ module _ (kind : ℕ → Rec) (n : ℕ) where
             go : (t : Bool) → nat_lt i (w.tried + claims.tried) ≡ t → HasMissedSince Whose b.0.known.failed (kind (wrapped n w.begin i)) since ⊎ Contains (made ++ kind number ∷ []) (kind (wrapped n w.begin i))
             go true e = elim (each_tried since claims.tried a claims.before made next left alone w (omega arith) claims.none i (ltb-true i (w.tried + claims.tried) e)) [
               | inl missed ↦ inl (subst (λ l. HasMissedSince Whose l (kind (wrapped n w.begin i)) since) (sym claims.one.failed)
-                  (missed_as table.layout claims.before.0.known.pass b.0.known.pass made (made ++ kind number ∷ []) claims.before.0.known.failed (kind (wrapped n w.begin i)) since
-                  (ap (λ (z : Known). z.pass) claims.one.does.rest) (Contains-append_left made (kind number ∷ []) (kind (wrapped n w.begin i))) missed))
+                  (missed_as table.layout claims.before.0.known b.0.known made (made ++ kind number ∷ []) claims.before.0.known.failed (kind (wrapped n w.begin i)) since
+                  (ap (λ (z : Known). z.pass) claims.one.does.rest) (ap (λ (z : Known). z.locks) claims.one.does.rest) (Contains-append_left made (kind number ∷ []) (kind (wrapped n w.begin i))) missed))
               | inr has ↦ inr (Contains-append_left made (kind number ∷ []) (kind (wrapped n w.begin i)) has)
             ]
             go false e =
@@ -228,7 +234,7 @@ module _ {G : Type 0} (table : TableView) (becomes : G → Event → G → Type 
   pub record HasLooked (index : ℕ) (a b : SeatView × G) : Type 0 where
     pub goes : WorksOn table becomes a b
     pub own : b.0.known.own ≡ a.0.known.own
-    pub seen : (i : ℕ) (d : Rec) → i < index → HasMissedSince (IsAnothers table.layout a.0.known.pass made) b.0.known.failed (get_or made i d) a.0.known.steps
+    pub seen : (i : ℕ) (d : Rec) → i < index → HasMissedSince (IsAnothersBut table.layout a.0.known made) b.0.known.failed (get_or made i d) a.0.known.steps
     pub few : b.0.known.steps ≤ a.0.known.steps + index
 
   pub looked_none : (a : SeatView × G) → HasLooked 0 a a
@@ -259,12 +265,12 @@ module _ {G : Type 0} (table : TableView) (becomes : G → Event → G → Type 
       later = steps_rise table becomes looked.goes.acts a m looked.goes.steps
 
       Whose : Rec → Option ℕ → Type 0
-      Whose = IsAnothers table.layout a.0.known.pass made
+      Whose = IsAnothersBut table.layout a.0.known made
 
       tells : HasMissedSince Whose (one.failed ∷ []) r m.0.known.steps
       tells = missed_so (IsAnothersTo table.layout m.0.known) Whose (one.failed ∷ []) r m.0.known.steps
-          (λ by h. anothers_among table.layout a.0.known.pass (records_had a.0.known) made r by (made_alone table a.0 made news building r)
-          (anothers_before table.layout a.0.known m.0.known r by looked.goes.stays.0.pass looked.own h)) one.tells
+          (λ by h. anothers_among table.layout a.0.known.pass (records_had a.0.known) made (nodes_of a.0.known.locks) (nodes_of a.0.known.locks) r by (made_alone table a.0 made news building r) (λ n there. there)
+          (anothers_before table.layout a.0.known m.0.known r by looked.goes.stays.0.pass looked.own looked.goes.stays.1 h)) one.tells
 
       seen : (i : ℕ) (e : Rec) → i < index + 1 → HasMissedSince Whose b.0.known.failed (get_or made i e) a.0.known.steps
       seen i e below = go (nat_lt i index) refl
@@ -281,8 +287,8 @@ module _ {G : Type 0} (table : TableView) (becomes : G → Event → G → Type 
               (subst (λ l. HasMissedSince Whose l r a.0.known.steps) (sym one.failed_is)
               (missed_among Whose (one.failed ∷ []) m.0.known.failed r a.0.known.steps (missed_earlier Whose (one.failed ∷ []) r a.0.known.steps m.0.known.steps later tells))))
 
-  pub looked_all : (index : ℕ) (a b : SeatView × G) → length made ≤ index → HasLooked index a b → (r : Rec) → Contains made r → HasMissedSince (IsAnothers table.layout a.0.known.pass made) b.0.known.failed r a.0.known.steps
-  looked_all index a b all looked r (i, low, is) = subst (λ z. HasMissedSince (IsAnothers table.layout a.0.known.pass made) b.0.known.failed z a.0.known.steps) is (looked.seen i r (omega arith))
+  pub looked_all : (index : ℕ) (a b : SeatView × G) → length made ≤ index → HasLooked index a b → (r : Rec) → Contains made r → HasMissedSince (IsAnothersBut table.layout a.0.known made) b.0.known.failed r a.0.known.steps
+  looked_all index a b all looked r (i, low, is) = subst (λ z. HasMissedSince (IsAnothersBut table.layout a.0.known made) b.0.known.failed z a.0.known.steps) is (looked.seen i r (omega arith))
 
 -- ---- what builds goes on with the walk
 pub walks_later : {G : Type 0} (table : TableView) (becomes : G → Event → G → Type 0) {X : Type 0} (a m : SeatView × G) (k : Known) (build after : Build) (answer : Option X) → WorksOn table becomes a m →

@@ -1,5 +1,5 @@
 -- What a call that changes the map knows under its locks, and what its change leaves.
-use Rattle.std.specs.Prelude.{◌≡◌, ℕ, ◌+◌, ◌<◌, ◌≤◌, List, [], ◌∷◌, ◌++◌, slice_get, length, Option, Some, None}
+use Rattle.std.specs.Prelude.{◌≡◌, ℕ, ◌+◌, ◌*◌, ◌<◌, ◌≤◌, List, [], ◌∷◌, ◌++◌, slice_get, length, All, Option, Some, None}
 use Rattle.finite_map.specs.declared.Change.{Change}
 use Rattle.finite_map.specs.declared.Kind.TheVariants.{Added, Replaced, Removed}
 use Rattle.finite_map.specs.Fronts.{BeginsWith, OthersGoOn, map_of, Fits}
@@ -10,6 +10,7 @@ use Rattle.record_words.specs.declared.layout.Layout.{Layout}
 use Rattle.tries.specs.Keys.{Key}
 use Rattle.tries.specs.Search.{seek}
 use Rattle.tries.specs.Tree.{Subtrie}
+use Rattle.versions.specs.Trades.{AreApart}
 use Rattle.versions.specs.declared.Rec.{Rec}
 use Rattle.record_words.specs.Leaf.{words_for}
 use Rattle.versions.specs.declared.Rec.TheVariants.{Node as a_node}
@@ -30,7 +31,7 @@ use Rattle.rowex_records.specs.Claims.{AllMissed, AllMissedFrom, IsAnothers}
 use Rattle.rowex_rights.specs.Ending.{IsAtRest}
 use Rattle.rowex_rights.specs.Stages.{HasReady}
 use Rattle.rowex_writing.specs.Building.{IsBuilding}
-use Rattle.rowex_writing.specs.Counts.{most_made}
+use Rattle.rowex_writing.specs.Counts.{most_nodes}
 use Rattle.rowex_writing.specs.Going.{HasLocked}
 use Rattle.rowex_writing.specs.Jobs.{IsJobFrom}
 use Rattle.rowex_writing.specs.Locks.{HasLockedSpan, TriesBy, TriesOnceBy}
@@ -119,15 +120,21 @@ pub record HasChanged (k j : Known) (x : Change) (was : Option ℕ) : Type 0 whe
   pub fits : Fits (map_of before) x
   pub was_held : value_at (map_of before) x.key ≡ was
 
--- Pass q lacks a node record: each was found not free, at this step or a later one. None was its own, but for a few that it had then; so
--- another pass had it, or nobody, in the tree or retired.
-abbrev pub LacksNodes : Layout → ℕ → List Failed → ℕ → Type 0
-LacksNodes layout q failed since = (own : List Rec) × (length own ≤ most_made) × AllMissed (IsAnothers layout q own) a_node layout.nodes failed since
+-- Pass q lacks a node record: each was found not free, at this step or a later one. Its own were at most two for each node that it had
+-- locked. Each locked one was nobody's; and any other was another pass's, or nobody's, in the tree or retired.
+pub record LacksNodes (layout : Layout) (q : ℕ) (failed : List Failed) (since : ℕ) : Type 0 where
+  pub own : List Rec
+  pub locked : List ℕ
+  pub few : length own ≤ 2 * length locked
+  pub most : length locked ≤ most_nodes
+  pub apart : AreApart locked
+  pub low : All (λ n. n < layout.nodes) locked
+  pub missed : AllMissed (IsAnothers layout q own locked) a_node layout.nodes failed since
 
 -- It lacks a leaf record with room for the key: each was found not free. None was its own; so another pass had it, or nobody, in the tree
 -- or retired.
 abbrev pub LacksLeaves : Layout → Key → ℕ → List Failed → ℕ → Type 0
-LacksLeaves layout key q failed since = AllMissedFrom (IsAnothers layout q []) layout (words_for (length key)) failed since
+LacksLeaves layout key q failed since = AllMissedFrom (IsAnothers layout q [] []) layout (words_for (length key)) failed since
 
 -- no record was free, when the pass wanted one: of the nodes, or of the leaf records that have room for this key
 abbrev pub IsFull : Layout → Key → Known → Known → Full → Type 0

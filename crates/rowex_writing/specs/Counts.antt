@@ -12,10 +12,6 @@ most_nodes = 9 * MAX_BYTES
 abbrev pub most_locks : ℕ
 most_locks = suc most_nodes
 
--- the most records that a change makes: two for each lock
-abbrev pub most_made : ℕ
-most_made = 2 * most_locks
-
 -- a search on a way of so many nodes: the root, 26 words of each node, and 32 of a leaf
 abbrev pub search_steps : ℕ → ℕ
 search_steps nodes = 1 + 26 * nodes + 32

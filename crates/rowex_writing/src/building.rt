@@ -20,7 +20,7 @@ ghost use Rattle.versions.specs.declared.Rec.TheVariants.{Node as a_node};
 ghost use Rattle.rowex_core.specs.Reading.{node_words_of};
 ghost use Rattle.rowex_walks.specs.Rise.{entry};
 ghost use Rattle.rowex_writing.specs.Counts.{level_steps, node_steps};
-ghost use Rattle.rowex_writing.specs.Walks.{Spends, WalksOn};
+ghost use Rattle.rowex_writing.specs.Walks.{MakesNodes, Spends, WalksOn};
 
 use crate::claims::{Supply, claim_node};
 use crate::deeds::Job;
@@ -77,6 +77,7 @@ pub(crate) fn make_node<G: Gate>(
         (λ e. (number : ℕ) × (e ≡ Entry.Node number node.now.height) × HasNodeWords node.now ×
         IsBuilding table.now seat.new build.new.made.items (made_of_node number node.now ∷ news)) }
     ensures more { length build.new.made.items ≤ length build.old.made.items + 1 }
+    ensures nodes { MakesNodes 1 build.old build.new result }
     ensures walk { WalksOn table.now.layout seat.old.known build.old seat.new.known build.new result }
     ensures few { Spends node_steps seat.old.known build.old seat.new.known build.new result }
 {
@@ -101,6 +102,7 @@ pub(crate) fn make_words<G: Gate>(
         (λ e. (number : ℕ) × (e ≡ Entry.Node number node.height) × IsBuilding table.now seat.new build.new.made.items (made_of_node number node ∷ news)) }
     ensures same { result ≡ None → (seat.new.known.own ≡ seat.old.known.own) × (build.new.made.items ≡ build.old.made.items) }
     ensures more { length build.new.made.items ≤ length build.old.made.items + 1 }
+    ensures nodes { MakesNodes 1 build.old build.new result }
     ensures walk { WalksOn table.now.layout seat.old.known build.old seat.new.known build.new result }
     ensures few { Spends node_steps seat.old.known build.old seat.new.known build.new result }
 {
@@ -142,6 +144,7 @@ fn make_low<G: Gate>(
         (λ e. (after : NodeView) × IsBuiltFrom after (subtrie_with_leaf new.now (piece node)) × (number : ℕ) × (e ≡ Entry.Node number after.height) × HasNodeWords after ×
         IsBuilding table.now seat.new build.new.made.items (made_of_node number after ∷ news)) }
     ensures more { length build.new.made.items ≤ length build.old.made.items + 1 }
+    ensures nodes { MakesNodes 1 build.old build.new result }
     ensures walk { WalksOn table.now.layout seat.old.known build.old seat.new.known build.new result }
     ensures few { Spends node_steps seat.old.known build.old seat.new.known build.new result }
 {
@@ -168,6 +171,7 @@ fn make_half<G: Gate>(
         (HasNotMade table.now seat.new build.new.made.items)
         (λ e. (more : List Made) × IsHalfMade old half.now e more × IsBuilding table.now seat.new build.new.made.items (more ++ news)) }
     ensures more { length build.new.made.items ≤ length build.old.made.items + 1 }
+    ensures nodes { MakesNodes 1 build.old build.new result }
     ensures walk { WalksOn table.now.layout seat.old.known build.old seat.new.known build.new result }
     ensures few { Spends node_steps seat.old.known build.old seat.new.known build.new result }
 {
@@ -195,6 +199,7 @@ fn make_risen<G: Gate>(
         (HasNotMade table.now seat.new build.new.made.items)
         (λ risen. (after : List Made) × IsMadeFrom old grown.now risen news after × IsBuilding table.now seat.new build.new.made.items after) }
     ensures more { length build.new.made.items ≤ length build.old.made.items + 2 }
+    ensures nodes { MakesNodes 2 build.old build.new result }
     ensures walk { WalksOn table.now.layout seat.old.known build.old seat.new.known build.new result }
     ensures few { Spends (2 * node_steps) seat.old.known build.old seat.new.known build.new result }
 {
@@ -238,6 +243,7 @@ fn raise_level<G: Gate>(
         b.here.since b.here.item b.here.mismatch b.here.like entry number (subtrie_of risen)) }
     ensures level { (words : List ℕ) → HasLocked seat.old.known number words → IfSome result (IsLevelRisen words) }
     ensures more { length build.new.made.items ≤ length build.old.made.items + 2 }
+    ensures nodes { MakesNodes 2 build.old build.new result }
     ensures walk { WalksOn table.now.layout seat.old.known build.old seat.new.known build.new result }
     ensures few { Spends level_steps seat.old.known build.old seat.new.known build.new result }
 {
@@ -269,6 +275,7 @@ fn make_by_value<G: Gate>(
     ensures goes { WorksOn table.now G.becomes (seat.old, gate.old) (seat.new, gate.new) }
     ensures made { MakesGrown table.now seat.old build.old.made.items seat.new build.new.made.items number words.now new.now result }
     ensures more { length build.new.made.items ≤ length build.old.made.items + 2 }
+    ensures nodes { MakesNodes 2 build.old build.new result }
     ensures walk { WalksOn table.now.layout seat.old.known build.old seat.new.known build.new result }
     ensures few { Spends (2 * node_steps) seat.old.known build.old seat.new.known build.new result }
 {
@@ -304,6 +311,7 @@ fn make_grown<G: Gate>(
     ensures goes { WorksOn table.now G.becomes (seat.old, gate.old) (seat.new, gate.new) }
     ensures made { MakesGrown table.now seat.old build.old.made.items seat.new build.new.made.items number words.old new.now result }
     ensures more { length build.new.made.items ≤ length build.old.made.items + 2 }
+    ensures nodes { MakesNodes 2 build.old build.new result }
     ensures walk { WalksOn table.now.layout seat.old.known build.old seat.new.known build.new result }
     ensures few { Spends (2 * node_steps) seat.old.known build.old seat.new.known build.new result }
 {
@@ -334,6 +342,7 @@ fn raise_lowest<G: Gate>(
         IsRaising table.now seat.new build.new.made.items after (gone_unless_whole r.1 number) b.since b.item new.now.position b.like entry number (subtrie_of r.0)) }
     ensures level { (words : List ℕ) → HasLocked seat.old.known number words → IfSome result (λ r. IsLevelRisen words r.0) }
     ensures more { length build.new.made.items ≤ length build.old.made.items + 2 }
+    ensures nodes { MakesNodes 2 build.old build.new result }
     ensures walk { WalksOn table.now.layout seat.old.known build.old seat.new.known build.new result }
     ensures few { Spends level_steps seat.old.known build.old seat.new.known build.new result }
 {
@@ -381,6 +390,7 @@ fn settle<G: Gate>(
         (λ e. (after : List Made) × IsRaising table.now seat.new build.new.made.items after b.gone b.since b.item b.mismatch b.like entry number (At e)) }
     ensures low { (height : ℕ) → IsLowRisen height risen → IfSome result (IsNextTo height risen) }
     ensures more { length build.new.made.items ≤ length build.old.made.items + 1 }
+    ensures nodes { MakesNodes 1 build.old build.new result }
     ensures walk { WalksOn table.now.layout seat.old.known build.old seat.new.known build.new result }
     ensures few { Spends node_steps seat.old.known build.old seat.new.known build.new result }
 {
@@ -428,6 +438,7 @@ fn raise_on<G: Gate>(
         (gone_with_way way.now rise.entry.end rise.entry.level b.here.gone)) }
     ensures low { (s : PathNodeView) (words : List ℕ) → slice_get way.now rise.entry.end ≡ Some s → HasLocked seat.old.known s.number words → IfSome result (FitsAbove words) }
     ensures more { length build.new.made.items ≤ length build.old.made.items + 2 * (rise.entry.level - rise.entry.end) + 1 }
+    ensures nodes { MakesNodes (2 * (rise.entry.level - rise.entry.end) + 1) build.old build.new result }
     ensures walk { WalksOn table.now.layout seat.old.known build.old seat.new.known build.new result }
     ensures few { Spends ((rise.entry.level - rise.entry.end + 1) * level_steps) seat.old.known build.old seat.new.known build.new result }
 {
@@ -458,6 +469,7 @@ fn raise_above<G: Gate>(
         (gone_with_way way.now rise.entry.end rise.entry.level b.here.gone)) }
     ensures low { (s : PathNodeView) (words : List ℕ) → slice_get way.now rise.entry.end ≡ Some s → HasLocked seat.old.known s.number words → IfSome result (FitsAbove words) }
     ensures more { length build.new.made.items ≤ length build.old.made.items + 2 * (rise.entry.level - rise.entry.end) + 1 }
+    ensures nodes { MakesNodes (2 * (rise.entry.level - rise.entry.end) + 1) build.old build.new result }
     ensures walk { WalksOn table.now.layout seat.old.known build.old seat.new.known build.new result }
     ensures few { Spends ((rise.entry.level - rise.entry.end + 1) * level_steps) seat.old.known build.old seat.new.known build.new result }
 {
@@ -509,6 +521,7 @@ pub(crate) fn raise_grown<G: Gate>(
     ensures low { (s : PathNodeView) (words : List ℕ) → slice_get job.now.way.now job.now.span.end ≡ Some s → HasLocked seat.old.known s.number words →
         IfSome result (λ r. FitsAbove words r.0) }
     ensures more { length build.new.made.items ≤ length build.old.made.items + 2 * (job.now.span.len - 1 - job.now.span.end) + 3 }
+    ensures nodes { MakesNodes (2 * (job.now.span.len - 1 - job.now.span.end) + 3) build.old build.new result }
     ensures walk { WalksOn table.now.layout seat.old.known build.old seat.new.known build.new result }
     ensures few { Spends (locks_of job.now.span * level_steps) seat.old.known build.old seat.new.known build.new result }
 {
@@ -549,6 +562,7 @@ pub(crate) fn raise_without<G: Gate>(
         (λ e. (news : List Made) × IsSide (subtrie_without key (node_words_of words).subtrie) e news × IsBuilding table.now seat.new build.new.made.items news) }
     ensures low { (words : List ℕ) → HasLocked seat.old.known number words → IfSome result (λ e. height_of e ≤ (node_words_of words).fixed.height) }
     ensures more { length build.new.made.items ≤ length build.old.made.items + 1 }
+    ensures nodes { MakesNodes 1 build.old build.new result }
     ensures walk { WalksOn table.now.layout seat.old.known build.old seat.new.known build.new result }
     ensures few { Spends level_steps seat.old.known build.old seat.new.known build.new result }
 {

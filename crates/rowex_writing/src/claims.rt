@@ -5,7 +5,7 @@ ghost use Rattle.record_words.specs.Layout.{leaf_size};
 ghost use Rattle.record_words.specs.declared.TheConstants.{LEAF_WORDS};
 ghost use Rattle.versions.specs.declared.Rec.TheVariants.{Leaf as a_leaf, Node as a_node};
 ghost use Rattle.rowex_table.specs.Seats.{IsSeatOf};
-ghost use Rattle.rowex_records.specs.Claims.{AllMissed, AllMissedFrom, HoldsOneMore, IsAnothersTo, IsKindOf, count_of, record_of, HasMissedSince, IsAnothers};
+ghost use Rattle.rowex_records.specs.Claims.{AllMissed, AllMissedFrom, HoldsOneMore, IsAnothersTo, IsKindOf, count_of, record_of, HasMissedSince, IsAnothersBut};
 ghost use Rattle.rowex_writing.specs.Classes.{AllMissedBetween};
 ghost use Rattle.rowex_writing.specs.Going.{WorksOn};
 ghost use Rattle.versions.specs.declared.Rec.{Rec as Record};
@@ -213,7 +213,7 @@ pub(crate) fn claim_node<G: Gate>(
         (λ number. (number < table.now.layout.nodes) × HoldsOneMore (a_node number) seat.old.known seat.new.known) }
     ensures made { build.new.made.items ≡ build.old.made.items }
     ensures walk { (since : ℕ) → HasWalked table.now.layout since seat.old.known build.old → MatchOption result
-        (AllMissed (IsAnothers table.now.layout seat.new.known.pass build.new.made.items) a_node table.now.layout.nodes seat.new.known.failed since)
+        (AllMissed (IsAnothersBut table.now.layout seat.new.known build.new.made.items) a_node table.now.layout.nodes seat.new.known.failed since)
         (λ number. IsClaimWalk table.now.layout a_node table.now.layout.nodes since seat.new.known (build.old.made.items ++ a_node number ∷ [])
         build.new.nodes.next build.new.left_nodes) }
     ensures few { Spends 2 seat.old.known build.old seat.new.known build.new result }
@@ -232,7 +232,7 @@ fn look_at<G: Gate>(table: &HotTable, seat: &mut TableSeat, gate: &mut G, made: 
     ensures goes { WorksOn table.now G.becomes (seat.old, gate.old) (seat.new, gate.new) }
     ensures own { seat.new.known.own ≡ seat.old.known.own }
     ensures seen { (r : Record) → Contains made.now r →
-        HasMissedSince (IsAnothers table.now.layout seat.old.known.pass made.now) seat.new.known.failed r seat.old.known.steps }
+        HasMissedSince (IsAnothersBut table.now.layout seat.old.known made.now) seat.new.known.failed r seat.old.known.steps }
     ensures few { seat.new.known.steps ≤ seat.old.known.steps + length made.now }
 {
     for index in 0..made.len() {

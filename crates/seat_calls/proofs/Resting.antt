@@ -28,7 +28,7 @@ use Rattle.rowex_writing.specs.declared.attempts.TryFault.{TryFault}
 use Rattle.rowex_writing.specs.declared.attempts.TryFault.TheVariants.{Busy, FullNodes, FullLeaves}
 use Rattle.rowex_writing.specs.declared.plan.Full.{Full}
 use Rattle.rowex_writing.specs.declared.plan.Full.TheVariants.{Nodes, Leaves}
-use Rattle.rowex_writing.proofs.Keeping.{run_failed}
+use Rattle.rowex_writing.proofs.Keeping.{lacks_so, run_failed}
 use Rattle.seat_calls.specs.Answers.{IsCause, IsUnnoted, fault_of}
 use Rattle.seat_calls.specs.Passes.{AreByPasses, IsSettled, PassView, pass_of}
 use Rattle.seat_calls.specs.Traces.{HasEnded, IsAttempt, is_full}
@@ -100,10 +100,11 @@ module _ {G : Type 0} {table : TableView} {becomes : G → Event → G → Type 
 
   pub cause_still : (fault : TryFault) → is_full (Err fault) ≡ true → IsCause table.layout key k (pass_of b.0) fault → IsCause table.layout key k (pass_of d.0) fault
   cause_still Busy full cause = absurd (false≢true full)
-  cause_still FullNodes full (own, few, all) =
-      subst (λ q. LacksNodes table.layout q d.0.known.failed k.steps) (sym same) (own, few, λ q low. missed_still (IsAnothers table.layout b.0.known.pass own) (a_node q) (all q low))
+  cause_still FullNodes full l =
+      subst (λ q. LacksNodes table.layout q d.0.known.failed k.steps) (sym same)
+      (lacks_so table.layout b.0.known.pass b.0.known.failed d.0.known.failed k.steps k.steps l (λ q low. missed_still (IsAnothers table.layout b.0.known.pass l.own l.locked) (a_node q) (l.missed q low)))
   cause_still FullLeaves full all =
-      subst (λ q. LacksLeaves table.layout key q d.0.known.failed k.steps) (sym same) (λ q low room. missed_still (IsAnothers table.layout b.0.known.pass []) (a_leaf q) (all q low room))
+      subst (λ q. LacksLeaves table.layout key q d.0.known.failed k.steps) (sym same) (λ q low room. missed_still (IsAnothers table.layout b.0.known.pass [] []) (a_leaf q) (all q low room))
 
 -- one that lacked these was refused as full
 pub lacked_full : (full : Full) → is_full (Err (fault_of full)) ≡ true

@@ -44,6 +44,7 @@ use Rattle.rowex_writing.specs.declared.plan.Full.{Full}
 use Rattle.rowex_writing.specs.declared.plan.Full.TheVariants.{Nodes as OfNodes, Leaves as OfLeaves}
 use Rattle.rowex_writing.specs.declared.attempts.TryFault.{TryFault}
 use Rattle.rowex_writing.specs.declared.attempts.TryFault.TheVariants.{Busy, FullNodes, FullLeaves}
+use Rattle.rowex_writing.proofs.Keeping.{lacks_so}
 use Rattle.epochs.specs.Rounds.{IsRound}
 use Rattle.seat_calls.specs.Answers.{IsCause, IsNoted, IsRefused, IsUnnoted, MayLack, MayRefuse, fault_of}
 use Rattle.seat_calls.specs.Asked.{HasAsked, HasReplied, last_try}
@@ -175,11 +176,12 @@ missed_on Whose kind n tried more since later le same all q low =
 pub cause_from_before : (layout : Layout) (key : Key) (k j h i : PassView) (fault : TryFault) → k.steps ≤ j.steps → i.number ≡ h.number → i.failed ≡ h.failed → i.front ≡ h.front → i.fresh ≡ h.fresh →
     IsCause layout key j h fault → IsCause layout key k i fault
 cause_from_before layout key k j h i Busy steps number failed front fresh conflict = conflict_from_before layout k j h i steps number failed front fresh conflict
-cause_from_before layout key k j h i FullNodes steps number failed front fresh (own, few, all) =
-    subst (λ q. LacksNodes layout q i.failed k.steps) (sym number) (own, few, missed_on (IsAnothers layout h.number own) a_node layout.nodes h.failed i.failed k.steps j.steps steps failed all)
+cause_from_before layout key k j h i FullNodes steps number failed front fresh l =
+    subst (λ q. LacksNodes layout q i.failed k.steps) (sym number)
+    (lacks_so layout h.number h.failed i.failed j.steps k.steps l (missed_on (IsAnothers layout h.number l.own l.locked) a_node layout.nodes h.failed i.failed k.steps j.steps steps failed l.missed))
 cause_from_before layout key k j h i FullLeaves steps number failed front fresh all =
     subst (λ q. LacksLeaves layout key q i.failed k.steps) (sym number)
-    (λ q low room. let one = all q low room in (one.0, le_trans steps one.1, subst (λ (z : List Failed). HasMissed (IsAnothers layout h.number []) z (a_leaf q) one.0) (sym failed) one.2))
+    (λ q low room. let one = all q low room in (one.0, le_trans steps one.1, subst (λ (z : List Failed). HasMissed (IsAnothers layout h.number [] []) z (a_leaf q) one.0) (sym failed) one.2))
 
 -- A part of a call that was not noted, and the rest of the call
 

@@ -126,7 +126,8 @@ pub record HasConflict (layout : Layout) (k j : PassView) : Type 0 where
   pub met : HasMetTaken layout j.number k.steps j.failed ⊎ IsOvertaken layout k j
 
 -- Why a call was refused: another pass stood in its way; or of each node record, or of each leaf record with room for its key, a claim
--- failed or a load found the state not free. Then none of these was the pass's own, but for a few node records.
+-- failed or a load found the state not free. Then no leaf record was the pass's own, and of the node records at most two for each node
+-- that it had locked.
 abbrev pub IsCause : Layout → Key → PassView → PassView → TryFault → Type 0
 IsCause layout key k j Busy = HasConflict layout k j
 IsCause layout key k j FullNodes = LacksNodes layout j.number j.failed k.steps

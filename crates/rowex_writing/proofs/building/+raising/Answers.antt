@@ -10,7 +10,7 @@ use Rattle.rowex_writing.specs.Building.{IsSplit}
 use Rattle.rowex_writing.specs.Going.{HasLocked}
 use Rattle.rowex_writing.proofs.Locking.{goes_more}
 use Rattle.rowex_writing.proofs.Lifting.{fits_above, up_there, up_below, up_next, rising_on_at_end, settled_at_end, up_done}
-use Rattle.rowex_writing.proofs.Counting.{entry_few, entry_more, level_few, level_more, levels_few, levels_more}
+use Rattle.rowex_writing.proofs.Counting.{entry_few, entry_more, entry_nodes, level_few, level_more, level_nodes, levels_few, levels_more, levels_nodes}
 use Rattle.rowex_writing.proofs.building.+raising.Goals as goal
 
 abbrev no_step : PathNode
@@ -194,3 +194,15 @@ raise_above-returns-clause-more g t c = levels_more _ _ _ c.args.rise.end c.args
 
 pub raise_on-offset_bounds-way-level : goal.raise_on-offset_bounds-way-level
 raise_on-offset_bounds-way-level g t c = let h = slice_get_within c.args.way.now c.args.rise.level c.requires.up.step c.requires.up.at in search (rules, h)
+
+pub raise_on-returns-then-level-rise-clause-nodes : goal.raise_on-returns-then-level-rise-clause-nodes
+raise_on-returns-then-level-rise-clause-nodes g t c = entry_nodes _ _ _ (c.args.rise.level - c.args.rise.end) c.settle.ensures.nodes
+
+pub raise_on-returns-clause-nodes : goal.raise_on-returns-clause-nodes
+raise_on-returns-clause-nodes g t c = c.raise_above.ensures.nodes
+
+pub raise_above-returns-in_err-next-in-Split-clause-nodes : goal.raise_above-returns-in_err-next-in-Split-clause-nodes
+raise_above-returns-in_err-next-in-Split-clause-nodes g t c = rw c.from_residual.ensures (level_nodes _ _ _ c.args.rise.end c.args.rise.level (below c.args.rise.level c.args.rise.end c.requires.above c.requires.up.upto) c.in_err-next-in-Split.ensures.nodes)
+
+pub raise_above-returns-clause-nodes : goal.raise_above-returns-clause-nodes
+raise_above-returns-clause-nodes g t c = levels_nodes _ _ _ _ c.args.rise.end c.args.rise.level (below c.args.rise.level c.args.rise.end c.requires.above c.requires.up.upto) c.in_ok-next-in-Split.ensures.nodes c.raise_on.ensures.nodes

@@ -2,7 +2,7 @@
 use Rattle.std.proofs.Common.{◌≡◌, ◌<◌, false, true, refl, sym, subst, ◌∙◌, length, arith}
 use Rattle.insert_cases.specs.declared.growth.Grown.TheVariants.{One as Single}
 use Rattle.rowex_writing.specs.Building.{IsMadeFrom}
-use Rattle.rowex_writing.proofs.Counting.{one_few, one_more}
+use Rattle.rowex_writing.proofs.Counting.{one_few, one_more, one_node}
 use Rattle.rowex_writing.proofs.Lifting.{grown_for}
 use Rattle.rowex_writing.proofs.Remade.{takes_read, takes_same}
 use Rattle.rowex_writing.proofs.building.make_by_value.Goals as goal
@@ -111,3 +111,15 @@ returns-in_err-risen-clause-goes g c = c.in_err-risen.ensures.goes
 
 pub returns-in_err-risen-clause-more : goal.returns-in_err-risen-clause-more
 returns-in_err-risen-clause-more g c = c.in_err-risen.ensures.more
+
+pub returns-clause-nodes : goal.returns-clause-nodes
+returns-clause-nodes g c = one_node _ _ _ c.in_ok-entry.ensures.nodes
+
+pub returns-then-count-eq32-clause-nodes : goal.returns-then-count-eq32-clause-nodes
+returns-then-count-eq32-clause-nodes g c = c.in_ok-risen.ensures.nodes
+
+pub returns-in_err-entry-clause-nodes : goal.returns-in_err-entry-clause-nodes
+returns-in_err-entry-clause-nodes g c = rw c.from_residual-in_err-entry.ensures (one_node _ _ _ c.in_err-entry.ensures.nodes)
+
+pub returns-in_err-risen-clause-nodes : goal.returns-in_err-risen-clause-nodes
+returns-in_err-risen-clause-nodes g c = rw c.from_residual.ensures c.in_err-risen.ensures.nodes

@@ -4,7 +4,7 @@ use Rattle.compound_node.specs.Nodes.{piece}
 use Rattle.insert_cases.specs.declared.growth.Grown.TheVariants.{One as Single}
 use Rattle.record_words.specs.Node.{CanTakeLeaf}
 use Rattle.rowex_writing.specs.Remaking.{subtrie_with_leaf}
-use Rattle.rowex_writing.proofs.Counting.{one_few, one_more}
+use Rattle.rowex_writing.proofs.Counting.{one_few, one_more, one_node}
 use Rattle.rowex_writing.proofs.Remade.{built_low, leaf_low}
 use Rattle.rowex_writing.proofs.building.make_grown.Goals as goal
 
@@ -71,3 +71,12 @@ returns-clause-walk g c = c.make_by_value.ensures.walk
 
 pub returns-clause-more : goal.returns-clause-more
 returns-clause-more g c = c.make_by_value.ensures.more
+
+pub returns-in_err-entry-clause-nodes : goal.returns-in_err-entry-clause-nodes
+returns-in_err-entry-clause-nodes g c = rw c.from_residual.ensures (one_node _ _ _ c.in_err-entry.ensures.nodes)
+
+pub returns-then-can_take_leaf-clause-nodes : goal.returns-then-can_take_leaf-clause-nodes
+returns-then-can_take_leaf-clause-nodes g c = one_node _ _ _ c.in_ok-entry.ensures.nodes
+
+pub returns-clause-nodes : goal.returns-clause-nodes
+returns-clause-nodes g c = c.make_by_value.ensures.nodes

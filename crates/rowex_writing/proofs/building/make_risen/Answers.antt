@@ -1,7 +1,7 @@
 -- The upper half, and then the lower one.
 use Rattle.std.proofs.Common.{ℕ, ◌+◌, ◌<◌, ◌≤◌, ◌++◌, ◌∷◌, refl, arith}
 use Rattle.rowex_rights.specs.Rises.{made_of_node}
-use Rattle.rowex_writing.proofs.Counting.{one_few, one_more, two_few, two_more}
+use Rattle.rowex_writing.proofs.Counting.{one_few, one_more, one_node, two_few, two_more, two_nodes}
 use Rattle.rowex_writing.proofs.Locking.{goes_more}
 use Rattle.rowex_writing.proofs.building.make_risen.Goals as goal
 
@@ -109,3 +109,18 @@ make_half-requires-in-Two-clause-building g c =
 
 pub make_half-requires-in-Two-clause-room : goal.make_half-requires-in-Two-clause-room
 make_half-requires-in-Two-clause-room g c = room_left _ _ _ c.in_ok-one-in-Two.ensures.more c.requires.room
+
+pub returns-in_err-entry-in-One-clause-nodes : goal.returns-in_err-entry-in-One-clause-nodes
+returns-in_err-entry-in-One-clause-nodes g c = rw c.from_residual.ensures (one_node _ _ _ c.in_err-entry-in-One.ensures.nodes)
+
+pub returns-in_ok-entry-in-One-clause-nodes : goal.returns-in_ok-entry-in-One-clause-nodes
+returns-in_ok-entry-in-One-clause-nodes g c = one_node _ _ _ c.in_ok-entry-in-One.ensures.nodes
+
+pub returns-in_err-one-in-Two-clause-nodes : goal.returns-in_err-one-in-Two-clause-nodes
+returns-in_err-one-in-Two-clause-nodes g c = rw c.from_residual-in_err-one-in-Two.ensures (one_node _ _ _ c.in_err-one-in-Two.ensures.nodes)
+
+pub returns-in_err-zero-in-Two-clause-nodes : goal.returns-in_err-zero-in-Two-clause-nodes
+returns-in_err-zero-in-Two-clause-nodes g c = rw c.from_residual-in_err-zero-in-Two.ensures (two_nodes _ _ _ _ c.in_ok-one-in-Two.ensures.nodes c.in_err-zero-in-Two.ensures.nodes)
+
+pub returns-in_ok-zero-in-Two-clause-nodes : goal.returns-in_ok-zero-in-Two-clause-nodes
+returns-in_ok-zero-in-Two-clause-nodes g c = two_nodes _ _ _ _ c.in_ok-one-in-Two.ensures.nodes c.in_ok-zero-in-Two.ensures.nodes

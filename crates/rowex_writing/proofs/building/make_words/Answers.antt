@@ -7,7 +7,8 @@ use Rattle.record_words.proofs.Growing.{first_told}
 use Rattle.rowex_records.proofs.Claimed.{more_is_claimed}
 use Rattle.rowex_rights.specs.Rises.{made_of_node}
 use Rattle.rowex_writing.specs.Building.{IsBuilding}
-use Rattle.rowex_writing.specs.Walks.{IsClaimWalk}
+use Rattle.rowex_writing.specs.Walks.{IsClaimWalk, nodes_among}
+use Rattle.rowex_writing.proofs.Counting.{nodes_pushed}
 use Rattle.rowex_writing.proofs.Locking.{goes_more, seat_of}
 use Rattle.rowex_writing.proofs.Making.{set_all_on, building_node, not_made}
 use Rattle.rowex_writing.proofs.Walked.{walk_on}
@@ -85,3 +86,11 @@ returns-in_err-number-clause-same g c = λ none. (c.in_err-number.ensures.claims
 
 pub returns-clause-same : goal.returns-clause-same
 returns-clause-same g c = λ none. absurd cc
+
+pub returns-in_err-number-clause-nodes : goal.returns-in_err-number-clause-nodes
+returns-in_err-number-clause-nodes g c = rw c.from_residual.ensures (omega (arith, ap (λ made. length (nodes_among made)) c.claim_node.ensures.made))
+
+pub returns-clause-nodes : goal.returns-clause-nodes
+returns-clause-nodes g c =
+    let items = c.claim_node.new.build.made.items in
+    omega (arith, ap (λ made. length (nodes_among made)) c.push.ensures.items, ap (λ made. length (nodes_among made)) c.claim_node.ensures.made, nodes_pushed items c.in_ok-number.number)

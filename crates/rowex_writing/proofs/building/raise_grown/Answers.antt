@@ -7,7 +7,7 @@ use Rattle.versions.specs.Trades.{IsOneOf}
 use Rattle.rowex_writing.specs.Building.{HasRisenTo, gone_unless_whole, gone_with_way}
 use Rattle.rowex_writing.proofs.Locking.{goes_more}
 use Rattle.rowex_writing.proofs.Lifting.{low_at, up_first}
-use Rattle.rowex_writing.proofs.Counting.{all_more, level_few, levels_few, lowest_more}
+use Rattle.rowex_writing.proofs.Counting.{all_more, all_nodes, level_few, levels_few, lowest_more, lowest_nodes}
 use Rattle.rowex_writing.proofs.building.raise_grown.Goals as goal
 
 abbrev no_step : PathNode
@@ -121,3 +121,12 @@ returns-clause-more g c = all_more _ _ _ (c.args.job.now.span.len - 1 - c.args.j
 
 pub offset_bounds-way-top : goal.offset_bounds-way-top
 offset_bounds-way-top g c = let h = slice_get_within c.args.job.now.way.now (c.args.job.now.span.len - 1) c.requires.growing.step c.requires.growing.at in search (rules, h)
+
+pub returns-in_err-risen-clause-nodes : goal.returns-in_err-risen-clause-nodes
+returns-in_err-risen-clause-nodes g c = rw c.from_residual.ensures (lowest_nodes _ _ _ (c.args.job.now.span.len - 1 - c.args.job.now.span.end) c.in_err-risen.ensures.nodes)
+
+pub returns-in_err-entry-clause-nodes : goal.returns-in_err-entry-clause-nodes
+returns-in_err-entry-clause-nodes g c = rw c.from_residual-in_err-entry.ensures (all_nodes _ _ _ _ (c.args.job.now.span.len - 1 - c.args.job.now.span.end) c.in_ok-risen.ensures.nodes c.in_err-entry.ensures.nodes)
+
+pub returns-clause-nodes : goal.returns-clause-nodes
+returns-clause-nodes g c = all_nodes _ _ _ _ (c.args.job.now.span.len - 1 - c.args.job.now.span.end) c.in_ok-risen.ensures.nodes c.in_ok-entry.ensures.nodes

@@ -7,7 +7,7 @@ use Rattle.insert_cases.specs.declared.raising.Risen.{Risen}
 use Rattle.insert_cases.specs.declared.raising.Risen.TheVariants.{Whole}
 use Rattle.rowex_rights.specs.Rises.{made_of_node}
 use Rattle.rowex_writing.specs.Building.{IsBuilding}
-use Rattle.rowex_writing.proofs.Counting.{one_more}
+use Rattle.rowex_writing.proofs.Counting.{one_more, one_node}
 use Rattle.rowex_writing.proofs.Locking.{goes_more}
 use Rattle.rowex_writing.proofs.Lifting.{lift_tree, lift_zero, lift_one, lift_building, lifted, fork_level}
 use Rattle.rowex_writing.proofs.Walked.{walks_later}
@@ -100,3 +100,9 @@ pub returns-in_err-entry-clause-walk : goal.returns-in_err-entry-clause-walk
 returns-in_err-entry-clause-walk g c = rw c.from_residual.ensures
     (walks_later c.args.table.now g.G.Gate.becomes {X = Risen} (c.args.seat.now, c.args.gate.now) (c.read_locked-node.new.seat, c.read_locked-node.new.gate) c.make_node.new.seat.known c.args.build.now c.make_node.new.build None
     c.read_locked-node.ensures.reads.goes c.in_err-entry.ensures.walk)
+
+pub returns-clause-nodes : goal.returns-clause-nodes
+returns-clause-nodes g c = one_node _ _ _ c.in_ok-entry.ensures.nodes
+
+pub returns-in_err-entry-clause-nodes : goal.returns-in_err-entry-clause-nodes
+returns-in_err-entry-clause-nodes g c = rw c.from_residual.ensures (one_node _ _ _ c.in_err-entry.ensures.nodes)

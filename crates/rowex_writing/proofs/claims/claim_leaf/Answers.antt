@@ -38,7 +38,7 @@ returns-in_err-number-clause-claims g c =
           (c.claim_between-2.new.seat, c.claim_between-2.new.gate) late c.claim_between-2.ensures.goes
           (λ q low. subst (λ (z : Layout). leaf_size z q < c.args.words) at (c.first_with-first.ensures.below q low)) later
           (λ q low high. missed_before table.layout c.args.seat.now.known c.claim_between.new.seat.known c.claim_between-2.new.seat.known.failed (a_leaf q) c.claim_between.new.seat.known.steps
-          goes.stays.0.pass c.in_default.ensures.claims.0 (c.in_err-number.ensures.claims.1 q low high)),
+          goes.stays.0.pass c.in_default.ensures.claims.0 goes.stays.1 (c.in_err-number.ensures.claims.1 q low high)),
     )
 
 pub returns-clause-goes : goal.returns-clause-goes

@@ -19,7 +19,7 @@ returns-in_err-number-clause-claims g c = rw c.from_residual.ensures (
   all_earlier (IsAnothersTo c.args.table.now.layout c.args.seat.now.known) (record_of c.args.kind) (count_of c.args.kind c.args.table.now.layout) c.claim_record.new.seat.known.failed c.args.seat.now.known.steps c.claim_spare.new.seat.known.steps
       (steps_rise c.args.table.now g.G.Gate.becomes c.claim_spare.ensures.goes.acts (c.args.seat.now, c.args.gate.now) (c.claim_spare.new.seat, c.claim_spare.new.gate) c.claim_spare.ensures.goes.steps)
       (λ q low. missed_before c.args.table.now.layout c.args.seat.now.known c.claim_spare.new.seat.known c.claim_record.new.seat.known.failed (record_of c.args.kind q) c.claim_spare.new.seat.known.steps
-      c.claim_spare.ensures.goes.stays.0.pass c.in_default.ensures.claims (c.in_err-number.ensures.none q low)),
+      c.claim_spare.ensures.goes.stays.0.pass c.in_default.ensures.claims c.claim_spare.ensures.goes.stays.1 (c.in_err-number.ensures.none q low)),
 )
 
 pub returns-clause-goes : goal.returns-clause-goes

@@ -2,7 +2,7 @@
 use Rattle.std.proofs.Common.{◌∙◌, ℕ, Option, sym, subst, Contains, ap, arith, length}
 use Rattle.versions.specs.declared.Rec.{Rec as Record}
 use Rattle.versions.specs.declared.Rec.TheVariants.{Node as a_node}
-use Rattle.rowex_records.specs.Claims.{HasMissedSince, IsAnothers}
+use Rattle.rowex_records.specs.Claims.{HasMissedSince, IsAnothersBut}
 use Rattle.rowex_records.proofs.Claimed.{missed_earlier}
 use Rattle.rowex_writing.specs.Building.{IsBuilding}
 use Rattle.rowex_writing.proofs.Keeping.{made_alone}
@@ -39,10 +39,10 @@ returns-clause-walk g c = λ since w.
     let early = walk.early in
     walk_ends a_node c.args.table.now.layout.nodes c.args.table.now.layout since c.look_at.new.seat.known c.args.build.now.made.items c.claim_left-claimed.new.supply.next c.claim_left-claimed.new.left none
     (λ r has.
-    let Whose : Record → Option ℕ → Type 0 = IsAnothers c.args.table.now.layout c.claim_left-claimed.new.seat.known.pass made in
-    missed_as c.args.table.now.layout c.claim_left-claimed.new.seat.known.pass c.look_at.new.seat.known.pass made made c.look_at.new.seat.known.failed r since c.look_at.ensures.goes.stays.0.pass (λ h. h)
+    let Whose : Record → Option ℕ → Type 0 = IsAnothersBut c.args.table.now.layout c.claim_left-claimed.new.seat.known made in
+    missed_as c.args.table.now.layout c.claim_left-claimed.new.seat.known c.look_at.new.seat.known made made c.look_at.new.seat.known.failed r since c.look_at.ensures.goes.stays.0.pass c.look_at.ensures.goes.stays.1 (λ h. h)
     (missed_earlier Whose c.look_at.new.seat.known.failed r since c.claim_left-claimed.new.seat.known.steps early
-    (subst (λ z. HasMissedSince (IsAnothers c.args.table.now.layout c.claim_left-claimed.new.seat.known.pass z) c.look_at.new.seat.known.failed r c.claim_left-claimed.new.seat.known.steps) c.as_slice.ensures.value
+    (subst (λ z. HasMissedSince (IsAnothersBut c.args.table.now.layout c.claim_left-claimed.new.seat.known z) c.look_at.new.seat.known.failed r c.claim_left-claimed.new.seat.known.steps) c.as_slice.ensures.value
     (c.look_at.ensures.seen r (subst (λ z. Contains z r) (sym c.as_slice.ensures.value) has)))))
     (walk_on a_node c.args.table.now.layout.nodes c.args.table.now g.G.Gate.becomes since (c.claim_left-claimed.new.seat, c.claim_left-claimed.new.gate) (c.look_at.new.seat, c.look_at.new.gate) c.args.build.now.made.items c.args.build.now.made.items
     c.claim_left-claimed.new.supply.next c.claim_left-claimed.new.left c.look_at.ensures.goes (λ r has. has) walk)

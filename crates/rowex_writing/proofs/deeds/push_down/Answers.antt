@@ -1,5 +1,5 @@
 -- The new node takes the found leaf's place.
-use Rattle.std.proofs.Common.{◌≡◌, ◌≤◌, ◌+◌, ◌*◌, [], ◌∷◌, Some, None, refl, sym, ap, subst, arith, length}
+use Rattle.std.proofs.Common.{◌≡◌, ◌≤◌, ◌+◌, ◌*◌, [], ◌∷◌, Some, None, refl, sym, ap, subst, ◌∙◌, arith, length}
 use Rattle.record_words.specs.Entry.{entry_word}
 use Rattle.record_words.specs.declared.layout.Layout.{Layout}
 use Rattle.versions.specs.declared.Rec.TheVariants.{Node as a_node}
@@ -11,9 +11,10 @@ use Rattle.tries.specs.Keys.{bit}
 use Rattle.rowex_walks.specs.Writer.{added_change}
 use Rattle.rowex_writing.specs.Changes.{IsPutChange, MayPublishOnceReady}
 use Rattle.rowex_writing.specs.Counts.{node_steps}
-use Rattle.rowex_writing.proofs.Counting.{made_one}
+use Rattle.rowex_writing.proofs.Counting.{made_one, no_nodes}
 use Rattle.rowex_writing.proofs.Raised.{just_leaf_gone, no_leaf_free, none_in_table}
-use Rattle.rowex_writing.proofs.Growths.{full_since}
+use Rattle.rowex_writing.proofs.Growths.{full_since, lacks_nodes}
+use Rattle.rowex_writing.proofs.Keeping.{step_nodes}
 use Rattle.rowex_writing.proofs.Lifting.{paired}
 use Rattle.rowex_writing.proofs.Locking.{goes_more}
 use Rattle.rowex_writing.proofs.Making.{steps_rise}
@@ -51,17 +52,19 @@ returns-in_default-make_node g c = record {
   done = record {
     goes = (goes_more c.args.table.now g.G.Gate.becomes (c.args.seat.now, c.args.gate.now) (c.make_leaf.new.seat, c.make_leaf.new.gate) (c.make_node.new.seat, c.make_node.new.gate) c.make_leaf.ensures.goes c.make_node.ensures.goes);
     raised = tt;
-    full = (let missed = c.in_default-make_node.ensures.walk c.make_leaf.new.seat.known.steps
+    full = (let job = c.args.job.now in
+        let (m, aim, t, planned) = c.requires.taken in
+        let here = pair_here c.args.seat.now.known m job.key.now job.way.now aim job.found job.span c.args.position planned c.in-Leaf.old _ _ c.in-Leaf.is in
+        let missed = c.in_default-make_node.ensures.walk c.make_leaf.new.seat.known.steps
         (walk_begins a_node c.args.table.now.layout.nodes c.args.table.now.layout c.make_leaf.new.seat.known c.make_leaf.new.build.made.items c.make_leaf.new.build.nodes.next c.layout.result.nodes c.args.table.now.layout.nodes_in_range.0 (ap (λ (z : Layout). z.nodes) c.layout.ensures)) in
         let rise = steps_rise c.args.table.now g.G.Gate.becomes c.make_leaf.ensures.goes.acts (c.args.seat.now, c.args.gate.now) (c.make_leaf.new.seat, c.make_leaf.new.gate) c.make_leaf.ensures.goes.steps in
         record {
           not_made = c.in_default-make_node.ensures.made (made_of_leaf (item c.in-Some.leaf c.args.job.now.key.now c.args.job.now.value) c.in-Some.ensures.made.fresh ∷ []) c.in-Some.ensures.made.building;
           few = omega (arith, made_one c.in-Some.ensures.made.building, c.make_node.ensures.more);
-          full_of = full_since c.args.table.now.layout c.args.job.now.key.now c.args.seat.now.known c.make_leaf.new.seat.known c.make_node.new.seat.known Nodes rise (
-            c.make_node.new.build.made.items,
-            omega (arith, made_one c.in-Some.ensures.made.building, c.make_node.ensures.more),
-            missed,
-          );
+          full_of = full_since c.args.table.now.layout c.args.job.now.key.now c.args.seat.now.known c.make_leaf.new.seat.known c.make_node.new.seat.known Nodes rise
+              (lacks_nodes c.args.table.now.layout c.args.seat.now.known c.make_node.new.seat.known job.way.now job.span c.make_node.new.build.made.items c.make_leaf.new.seat.known.steps
+              (step_nodes c.args.table.now.layout c.args.seat.now.known m job.key.now job.way.now job.found t.way_of) t.locked (c.make_node.ensures.goes.stays.1 ∙ c.make_leaf.ensures.goes.stays.1)
+              t.within.0 t.within.1 (omega (arith, here.len)) (omega (arith, no_nodes c.in-Some.ensures.made, c.in_default-make_node.ensures.nodes)) missed);
         });
     few = (let whole : c.layout.result.nodes ≡ c.args.table.now.layout.nodes = ap (λ (z : Layout). z.nodes) c.layout.ensures in
         let few : c.make_node.new.seat.known.steps + 2 * c.make_node.new.build.left_nodes ≤ c.make_leaf.new.seat.known.steps + 2 * c.layout.result.nodes + node_steps + length c.make_node.new.build.made.items = c.in_default-make_node.ensures.few in

@@ -7,9 +7,9 @@ use Rattle.record_words.specs.declared.layout.Layout.{Layout}
 use Rattle.versions.specs.declared.Rec.TheVariants.{Node as a_node}
 use Rattle.rowex_writing.specs.Counts.{level_steps}
 use Rattle.rowex_writing.specs.Locks.{locks_of}
-use Rattle.rowex_writing.proofs.Counting.{made_one}
+use Rattle.rowex_writing.proofs.Counting.{made_one, no_nodes}
 use Rattle.rowex_writing.proofs.Raised.{none_in_table}
-use Rattle.rowex_writing.proofs.Growths.{gone_is, grown_ends}
+use Rattle.rowex_writing.proofs.Growths.{gone_is, grown_ends, lacks_nodes}
 use Rattle.rowex_writing.proofs.Walked.{walk_begins}
 use Rattle.rowex_writing.proofs.growing.grow_with.Goals as goal
 use Rattle.rowex_writing.proofs.growing.grow_with.Goals.{then-stays, else-stays}
@@ -20,12 +20,11 @@ returns-in_default-clause-full g c =
     record {
       not_made = c.in_default.ensures.made may.growing;
       few = omega (arith, made_one may.growing.lowest.made_leaf.building, c.raise_grown.ensures.more, may.within.0);
-      full_of = (
-        c.raise_grown.new.build.made.items,
-        omega (arith, made_one may.growing.lowest.made_leaf.building, c.raise_grown.ensures.more, may.within, may.depth),
-        c.in_default.ensures.walk c.args.seat.now.known.steps
-            (walk_begins a_node c.args.table.now.layout.nodes c.args.table.now.layout c.args.seat.now.known c.args.build.now.made.items c.args.build.now.nodes.next c.layout.result.nodes c.args.table.now.layout.nodes_in_range.0 (ap (λ (z : Layout). z.nodes) c.layout.ensures)),
-      );
+      full_of = lacks_nodes c.args.table.now.layout c.args.seat.now.known c.raise_grown.new.seat.known c.args.job.now.way.now c.args.job.now.span c.raise_grown.new.build.made.items c.args.seat.now.known.steps
+          may.nodes may.locked c.raise_grown.ensures.goes.stays.1 (omega (arith, may.within.0)) may.within.1 (omega (arith, may.within.1, may.depth))
+          (omega (arith, no_nodes may.growing.lowest.made_leaf, c.in_default.ensures.nodes, may.within.0))
+          (c.in_default.ensures.walk c.args.seat.now.known.steps
+          (walk_begins a_node c.args.table.now.layout.nodes c.args.table.now.layout c.args.seat.now.known c.args.build.now.made.items c.args.build.now.nodes.next c.layout.result.nodes c.args.table.now.layout.nodes_in_range.0 (ap (λ (z : Layout). z.nodes) c.layout.ensures)));
     }
 
 pub returns-in_default-clause-few : goal.returns-in_default-clause-few

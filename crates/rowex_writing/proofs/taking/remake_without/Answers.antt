@@ -9,6 +9,9 @@ use Rattle.rowex_walks.specs.Writer.{removed_change}
 use Rattle.rowex_writing.specs.Changes.{MayPublishOnceReady}
 use Rattle.rowex_writing.specs.Building.{IsBuilding}
 use Rattle.rowex_writing.specs.Counts.{level_steps}
+use Rattle.rowex_writing.specs.Walks.{nodes_among}
+use Rattle.rowex_writing.proofs.Growths.{lacks_nodes}
+use Rattle.rowex_writing.proofs.Keeping.{step_nodes}
 use Rattle.rowex_writing.proofs.Making.{building_none}
 use Rattle.rowex_writing.proofs.Removing.{IsRaised, last_one, left_raised, leaf_gone_record, low_step, lowest_leads, lowest_locked, may_remake, no_step}
 use Rattle.rowex_writing.proofs.Walked.{walk_begins}
@@ -39,12 +42,11 @@ returns-in_default-clause-full g c =
       record {
         not_made = c.in_default.ensures.made job.key.now words (lowest_leads c.args.table.now c.args.seat.now m job.key.now job.way.now c.args.number value job.span b _ at) h;
         few = omega (arith, ap length c.requires.made, c.raise_without.ensures.more);
-        full_of = (
-          c.raise_without.new.build.made.items,
-          omega (arith, ap length c.requires.made, c.raise_without.ensures.more),
-          c.in_default.ensures.walk c.args.seat.now.known.steps
-              (walk_begins a_node c.args.table.now.layout.nodes c.args.table.now.layout c.args.seat.now.known c.args.build.now.made.items c.args.build.now.nodes.next c.layout.result.nodes c.args.table.now.layout.nodes_in_range.0 (ap (λ (z : Layout). z.nodes) c.layout.ensures)),
-        );
+        full_of = lacks_nodes c.args.table.now.layout c.args.seat.now.known c.raise_without.new.seat.known job.way.now job.span c.raise_without.new.build.made.items c.args.seat.now.known.steps
+            (step_nodes c.args.table.now.layout c.args.seat.now.known m job.key.now job.way.now _ b.taken.way_of) b.taken.locked c.raise_without.ensures.goes.stays.1 b.taken.within.0 b.taken.within.1 (omega (arith, b.last))
+            (omega (arith, ap (λ made. length (nodes_among made)) c.requires.made, c.in_default.ensures.nodes))
+            (c.in_default.ensures.walk c.args.seat.now.known.steps
+            (walk_begins a_node c.args.table.now.layout.nodes c.args.table.now.layout c.args.seat.now.known c.args.build.now.made.items c.args.build.now.nodes.next c.layout.result.nodes c.args.table.now.layout.nodes_in_range.0 (ap (λ (z : Layout). z.nodes) c.layout.ensures)));
       },
     )
 
