@@ -8,6 +8,7 @@ ghost use Rattle.hot_command_line.specs.Files.{IsFileFault};
 ghost use Rattle.hot_command_line.specs.declared.ending.Ending.TheVariants.{Fault};
 ghost use Rattle.hot_run.specs.Asked.{AnswersAll, IsAnsweredAsAsked, MayEndAllBy, MayEndAsAsked};
 
+use crate::indexes::Records;
 use crate::one::run_one;
 use crate::scripts::run_scripts;
 use hot_command_line::arguments::{Request, parse};
@@ -61,10 +62,13 @@ fn answer_request<T: AllocGlobal + Wait + Threads + Sync, S: FileSystem, R: Read
         ⊎ MayEndAllBy S.bytes (map (λ n. n.now) request.now.files.items) (R.remaining reader.old) (R.remaining reader.new) fault) }
     ensures nothing { IfErr result (λ fault. fault ≢ WriteFault → writer.new ≡ writer.old) }
 {
-    let (nodes, leaves) = (request.nodes, request.leaves);
+    let records = Records {
+        nodes: request.nodes,
+        leaves: request.leaves,
+    };
     if request.files.is_empty() {
-        return run_one(rt.alloc(), nodes, leaves, reader, writer);
+        return run_one(rt.alloc(), records, reader, writer);
     }
     let files = read_files(rt.alloc(), system, &request.files)?;
-    run_scripts(rt, rt.alloc(), nodes, leaves, files, reader, writer)
+    run_scripts(rt, records, files, reader, writer)
 }

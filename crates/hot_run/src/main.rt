@@ -5,7 +5,7 @@ mod answer;
 pub mod asked;
 mod callers;
 mod engine;
-mod indexes;
+pub mod indexes;
 pub mod one;
 pub mod scripts;
 mod together;

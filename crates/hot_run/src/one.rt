@@ -2,7 +2,6 @@
 
 ghost use Rattle.std.specs.Prelude.{◌≡◌, ◌≢◌, List, ℕ, IfOk, OnOk, IfErr};
 ghost use Rattle.std.specs.Io.KnownBytes.{Appends};
-ghost use Rattle.record_words.specs.Limits.{IsLeafCount, IsNodeCount};
 ghost use Rattle.seat_calls.specs.Passes.{Owns, PassView};
 ghost use Rattle.seat_calls.specs.Traces.{untold};
 ghost use Rattle.hot_scripts.specs.Parses.{script_commands};
@@ -12,7 +11,7 @@ ghost use Rattle.hot_run.specs.Runs.{AreAnswered, IsAnsweredScript, MayEndBy};
 
 use crate::callers::Alone;
 use crate::engine::run;
-use crate::indexes::index_for;
+use crate::indexes::{Records, index_for};
 use hot_index::{Handle, Index, NoGate, Pass};
 use hot_scripts::fault::RunFault;
 use hot_scripts::script::Script;
@@ -20,23 +19,20 @@ use hot_scripts::streams::{read_script, write_answers};
 use std::alloc::{AllocError, Global};
 use std::io::{Read, Write};
 
-/// Runs one script on a new index with one pass and this number of node and leaf records. It waits for no other thread, and returns
+/// Runs one script on a new index with one pass and so many records. It waits for no other thread, and returns
 /// once its reads and writes have returned.
 pub fn run_one<R: Read, W: Write>(
     alloc: Global,
-    nodes: u32,
-    leaves: u32,
+    records: Records,
     reader: &mut R,
     writer: &mut W,
 ) -> Result<(), RunFault>
-    requires nodes { IsNodeCount nodes }
-    requires leaves { IsLeafCount leaves }
 
     // The answers to the script were written, and nothing else: what the script means, if no command was refused. One was refused only
     // if it found no record of the kind free.
     ensures ok { OnOk result ((script : List ℕ) × (text : List ℕ)
         × TakesAll (R.remaining reader.old) (R.remaining reader.new) script
-        × IsAnsweredScript nodes leaves script text
+        × IsAnsweredScript records.nodes records.leaves script text
         × Appends (W.contents writer.old) (W.contents writer.new) text) }
 
     // A fault of the script's own is what the script means.
@@ -47,22 +43,15 @@ pub fn run_one<R: Read, W: Write>(
 {
     let bytes = read_script(alloc, reader)?;
     let script = Script::parse(bytes)?;
-    let text = answer_one(alloc, nodes, leaves, &script)?;
+    let text = answer_one(alloc, records, &script)?;
     write_answers(writer, &text)
 }
 
 /// Answers one script on a new index.
-fn answer_one(
-    alloc: Global,
-    nodes: u32,
-    leaves: u32,
-    script: &Script,
-) -> Result<Vec<u8>, AllocError>
-    requires nodes { IsNodeCount nodes }
-    requires leaves { IsLeafCount leaves }
-    ensures { IfOk result (λ text. AreAnswered nodes leaves (script_commands script.now) text.items) }
+fn answer_one(alloc: Global, records: Records, script: &Script) -> Result<Vec<u8>, AllocError>
+    ensures { IfOk result (λ text. AreAnswered records.nodes records.leaves (script_commands script.now) text.items) }
 {
-    let (index, pass) = index_for(alloc, nodes, leaves, script)?;
+    let (index, pass) = index_for(alloc, records, script)?;
     answer_alone(alloc, &index, pass, script)
 }
 
