@@ -21,7 +21,7 @@ use Rattle.hot_run.specs.Asked.{AnswersAll, HasFaultAsAsked, MayEndAllBy, MayEnd
 -- files were named
 module _ (bytes : List ℕ → Option (List ℕ)) where
   named_answers : (names files : List (List ℕ)) (nodes leaves : ℕ) (script text : List ℕ) → (names ≡ [] → ⊥) → AreStarts bytes names files
-      → LawfulScripts nodes leaves untold (map (λ f. tt) files) files script text → AnswersAll bytes names nodes leaves script text
+      → LawfulScripts nodes leaves untold (map (λ f. (tt, tt)) files) files script text → AnswersAll bytes names nodes leaves script text
   named_answers [] files nodes leaves script text some starts lawful = absurd (some refl)
   named_answers (name ∷ names) files nodes leaves script text some starts lawful = (files, starts, lawful)
 
@@ -31,9 +31,10 @@ module _ (bytes : List ℕ → Option (List ℕ)) where
   named_ends (name ∷ names) files old new fault some starts ended = (files, starts, ended)
 
 -- as many gates that are told nothing
-units : {A B : Type 0} (f : A → B) (xs : List A) → map {A = A} {B = Unit {0}} (λ x. tt) xs ≡ map {A = B} {B = Unit {0}} (λ y. tt) (map f xs)
+units : {A B : Type 0} (f : A → B) (xs : List A)
+    → map {A = A} {B = Unit {0} × Unit {0}} (λ x. (tt, tt)) xs ≡ map {A = B} {B = Unit {0} × Unit {0}} (λ y. (tt, tt)) (map f xs)
 units f [] = refl
-units f (x ∷ xs) = ap (λ (l : List (Unit {0})). tt ∷ l) (units f xs)
+units f (x ∷ xs) = ap (λ (l : List (Unit {0} × Unit {0})). (tt, tt) ∷ l) (units f xs)
 
 -- a vector that is tested to be empty
 pub no_items : (v : Vec (Bor (List ℕ)) Global) (empty : Bool) → empty ≡ (vec_len v == 0) → empty ≡ true → v.items ≡ []
@@ -54,11 +55,11 @@ some_named (name ∷ names) some e = cc
 module _ (bytes : List ℕ → Option (List ℕ)) (names : List (Bor (List ℕ))) (files : List (Vec ℕ Global)) (some : names ≡ [] → ⊥)
     (starts : AreStarts bytes (map (λ n. n.now) names) (map (λ f. f.items) files)) where
   -- the run has answered them
-  pub files_answered : (nodes leaves : ℕ) (script text : List ℕ) → LawfulScripts nodes leaves untold (map (λ f. tt) files) (map (λ f. f.items) files) script text
+  pub files_answered : (nodes leaves : ℕ) (script text : List ℕ) → LawfulScripts nodes leaves untold (map (λ f. (tt, tt)) files) (map (λ f. f.items) files) script text
       → AnswersAll bytes (map (λ n. n.now) names) nodes leaves script text
   files_answered nodes leaves script text lawful =
       named_answers bytes (map (λ n. n.now) names) (map (λ f. f.items) files) nodes leaves script text (some_named names some) starts
-      (subst (λ (gates : List (Unit {0})). LawfulScripts nodes leaves untold gates (map (λ (f : Vec ℕ Global). f.items) files) script text) (units (λ (f : Vec ℕ Global). f.items) files) lawful)
+      (subst (λ (gates : List (Unit {0} × Unit {0})). LawfulScripts nodes leaves untold gates (map (λ (f : Vec ℕ Global). f.items) files) script text) (units (λ (f : Vec ℕ Global). f.items) files) lawful)
 
   -- it has ended by a fault
   pub run_ended : (old new : Option (List ℕ)) (fault : RunFault) → MayEndScriptsBy (map (λ f. f.items) files) old new fault

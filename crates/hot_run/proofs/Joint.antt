@@ -23,9 +23,9 @@ use Rattle.hot_run.specs.declared.together.Done.{Done}
 use Rattle.hot_scripts.specs.Meaning.{line}
 use Rattle.hot_run.specs.Progress.{AllThree, HasAnsweredLast, HasRunCommands, IsDone, IsNewPassOf, MeetInTurn}
 use Rattle.hot_run.specs.Scripts.{AllFrom, AllTwoFrom, AreAllAnswered, IsLegalRun, LawfulScripts, Ran, by_pass, commands_in, notes_in, sections, text_in}
-use Rattle.hot_run.specs.Told.{IsOfSize, WasToldAnew}
+use Rattle.hot_run.specs.Told.{IsOfSize, IsToldOf, WasToldAnew}
 use Rattle.hot_run.proofs.Numbered.{AllFrom-append, first_with, seat_at, zip_at}
-use Rattle.hot_run.proofs.Progressing.{AreTold-untold, stand_lower, told_stood}
+use Rattle.hot_run.proofs.Progressing.{AreTold-untold, stand_lower, told_events, told_stood}
 
 -- Calls between two fronts
 
@@ -114,7 +114,7 @@ module _ (index : TableView) where
   -- The scripts of files
 
   -- A script that a new pass ran.
-  record RanFirst {G : Type 0} (becomes : G → Event → G → Type 0) (q : ℕ) (gate : G) (commands : List Command) (j : PassView) (text : List ℕ) : Type 0 where
+  record RanFirst {G : Type 0} (becomes : G → Event → G → Type 0) (q : ℕ) (gate : G × G) (commands : List Command) (j : PassView) (text : List ℕ) : Type 0 where
     pub ran : Ran
     pub front : ran.front ≡ j.front
     pub commands_are : commands_in ran ≡ commands
@@ -131,7 +131,7 @@ module _ (index : TableView) where
   new_makers q p new = rw new.1 (All-nil (λ x. x.pass < index.layout.passes))
 
   first_run : {G : Type 0} (becomes : G → Event → G → Type 0) (q : ℕ) (a b : PassView × G) (commands : List Command) (text : List ℕ)
-      → IsNewPassOf index q a.0 → HasRunCommands index becomes a commands b text → RanFirst becomes q a.1 commands b.0 text
+      → IsNewPassOf index q a.0 → HasRunCommands index becomes a commands b text → RanFirst becomes q (a.1, b.1) commands b.0 text
   first_run becomes q a b commands text first run =
       let p = a.0 in
       let j = b.0 in
@@ -155,7 +155,6 @@ module _ (index : TableView) where
           told = record {
             first = p;
             last = j;
-            gate_then = b.1;
             own = first.0;
             number = new.0;
             begins = new.1;
@@ -167,7 +166,7 @@ module _ (index : TableView) where
       }
 
   -- The scripts of files, the first with the pass q, that all met before the last script and again after it.
-  pub record HaveRun {G : Type 0} (becomes : G → Event → G → Type 0) (gates : List G) (met last : List Change) (q : ℕ)
+  pub record HaveRun {G : Type 0} (becomes : G → Event → G → Type 0) (gates : List (G × G)) (met last : List Change) (q : ℕ)
       (scripts : List (List Command)) (texts : List (List ℕ)) : Type 0 where
     pub rans : List Ran
     pub commands : map commands_in rans ≡ scripts
@@ -177,11 +176,11 @@ module _ (index : TableView) where
     pub shared : AllFrom q (λ q ran. LegalCalls last q (notes_in ran)) rans
     pub told : AllTwoFrom q (λ q gate ran. WasToldAnew index becomes q gate ran.answers ran.front) gates rans
 
-  pub files_have_run : {G : Type 0} (becomes : G → Event → G → Type 0) (last : List Change) (q : ℕ) (seats : List (PassView × G)) (scripts : List (List Command)) (done met again : List Done) (k j k' j' : PassView)
+  pub files_have_run : {G : Type 0} (becomes : G → Event → G → Type 0) (last : List Change) (q : ℕ) (seats : List (PassView × G)) (scripts : List (List Command)) (done : List (Done × G)) (met again : List Done) (k j k' j' : PassView)
       → AllFrom q (λ q a. IsNewPassOf index q a.0) seats → AllThree (IsDone becomes) (map (seat_at index) seats) scripts done
-      → MeetInTurn index k done j met → MeetInTurn index k' met j' again
+      → MeetInTurn index k (map (λ r. r.0) done) j met → MeetInTurn index k' met j' again
       → BeginsWith last j.front → BeginsWith k'.front last
-      → HaveRun becomes (map (λ a. a.1) seats) j.front last q scripts (map (λ d. d.text.items) again)
+      → HaveRun becomes (zip (map (λ a. a.1) seats) (map (λ r. r.1) done)) j.front last q scripts (map (λ d. d.text.items) again)
   files_have_run becomes last q [] [] [] [] [] k j k' j' new run first second b e = record {
     rans = [];
     commands = refl;
@@ -200,39 +199,40 @@ module _ (index : TableView) where
   files_have_run becomes last q (x ∷ seats) (y ∷ scripts) (z ∷ done) [] again k j k' j' new run first second b e = absurd first
   files_have_run becomes last q (x ∷ seats) (y ∷ scripts) (z ∷ done) (w ∷ met) [] k j k' j' new run first second b e = absurd second
   files_have_run becomes last q (p ∷ seats) (commands ∷ scripts) (d ∷ done) (a ∷ met) (f ∷ again) k j k' j' new run (m, one, same, first) (m', two, same', second) b e =
-      let ran = first_run becomes q p (d.handle.pass, run.0.1.0) commands d.text.items new.0 run.0.1.1 in
+      let pass = d.0.handle.pass in
+      let ran = first_run becomes q p (pass, d.1) commands d.0.text.items new.0 run.0.1 in
       let others = files_have_run becomes last (q + 1) seats scripts done met again m j m' j' new.1 run.1 first second b
       (begins_on last k'.front m'.front e two.first.front) in
-      let seen : BeginsWith j.front d.handle.pass.front =
-      begins_on d.handle.pass.front m.front j.front (subst (λ cs. BeginsWith cs d.handle.pass.front) (sym one.fronts) one.second.front) (met_begins m j done met first) in
+      let seen : BeginsWith j.front pass.front =
+      begins_on pass.front m.front j.front (subst (λ cs. BeginsWith cs pass.front) (sym one.fronts) one.second.front) (met_begins m j (map (λ r. r.0) done) met first) in
       let later : BeginsWith f.handle.pass.front last = subst (λ cs. BeginsWith cs last) two.fronts (begins_on last k'.front m'.front e two.first.front) in
       let number : f.handle.pass.number ≡ q = two.second.number ∙ one.second.number ∙ ran.number in
       let notes : f.handle.pass.notes ≡ notes_in ran.ran = two.second.notes ∙ one.second.notes ∙ ran.notes in
       let end : LegalCalls f.handle.pass.front q (notes_in ran.ran) =
       subst (λ n. LegalCalls f.handle.pass.front n (notes_in ran.ran)) number (subst (λ ns. LegalCalls f.handle.pass.front f.handle.pass.number ns) notes two.second.legal) in
-      let begin : LegalCalls d.handle.pass.front q (notes_in ran.ran) = subst (λ cs. LegalCalls cs q (notes_in ran.ran)) ran.front ran.run.legal in
+      let begin : LegalCalls pass.front q (notes_in ran.ran) = subst (λ cs. LegalCalls cs q (notes_in ran.ran)) ran.front ran.run.legal in
       record {
         rans = ran.ran ∷ others.rans;
         commands = ap₂ (λ c cs. c ∷ cs) ran.commands_are others.commands;
         texts_are = ap₂ (λ t ts. t ∷ ts) (ran.text_is ∙ ap (λ t. t.items) (sym same) ∙ ap (λ t. t.items) (sym same')) others.texts_are;
         each = (ran.run, others.each);
         begins = All-cons (λ (ran : Ran). BeginsWith j.front ran.front) ran.ran others.rans (subst (λ cs. BeginsWith j.front cs) (sym ran.front) seen) others.begins;
-        shared = (legal_between d.handle.pass.front last f.handle.pass.front q (notes_in ran.ran) begin end (begins_on d.handle.pass.front j.front last seen b) later, others.shared);
+        shared = (legal_between pass.front last f.handle.pass.front q (notes_in ran.ran) begin end (begins_on pass.front j.front last seen b) later, others.shared);
         told = (ran.told, others.told);
       }
 
   -- All scripts
 
   pub lawful_together : {G : Type 0} (becomes : G → Event → G → Type 0) (passes : List PassView) (gates : List G) (scripts : List (List Command))
-      (commands : List Command) (done met : List Done) (pass k : PassView) (text : List ℕ) (nodes leaves : ℕ)
+      (commands : List Command) (done : List (Done × G)) (met : List Done) (pass k : PassView) (text : List ℕ) (nodes leaves : ℕ)
       → IsOfSize (length scripts + 1) nodes leaves index → length gates ≡ length passes
       → AllFrom 0 (IsNewPassOf index) passes → IsNewPassOf index (length scripts) pass
-      → AllThree (IsDone becomes) (zip (map (handle_at index) passes) gates) scripts done → MeetInTurn index pass done k met
-      → HasAnsweredLast (handle_at index k) met commands text → AreAllAnswered nodes leaves becomes gates scripts commands text
+      → AllThree (IsDone becomes) (zip (map (handle_at index) passes) gates) scripts done → MeetInTurn index pass (map (λ r. r.0) done) k met
+      → HasAnsweredLast (handle_at index k) met commands text → AreAllAnswered nodes leaves becomes (zip gates (map (λ r. r.1) done)) scripts commands text
   lawful_together becomes passes gates scripts commands done met pass k text nodes leaves sized many_gates new last run first answered =
       let j = answered.after in
       let ran = answered.ran in
-      let kept = met_kept pass k done met (new_legal _ pass last.1) (new_makers _ pass last.1) first in
+      let kept = met_kept pass k (map (λ r. r.0) done) met (new_legal _ pass last.1) (new_makers _ pass last.1) first in
       let stood = told_stood index untold (k, tt) (j, tt) ran.answers kept.legal kept.makers ran.told in
       let whole : Ran = record { answers = ran.answers; front = j.front } in
       let notes : j.notes ≡ notes_in whole = stood.notes ∙ ap (λ ns. ns ++ notes_in whole) (kept.notes ∙ last.1.2) in
@@ -263,21 +263,34 @@ module _ (index : TableView) where
         };
         index = index;
         sized = sized;
-        files_told = subst (λ gates. AllTwoFrom 0 (λ q gate ran. WasToldAnew index becomes q gate ran.answers ran.front) gates files.rans) (seconds-zip passes gates many_gates) files.told;
-        last_told = record { first = k; last = j; gate_then = tt; own = answered.own; number = began; begins = refl; ends = refl; told = ran.told };
+        files_told = subst (λ gates. AllTwoFrom 0 (λ q gate ran. WasToldAnew index becomes q gate ran.answers ran.front) (zip gates (map (λ r. r.1) done)) files.rans)
+            (seconds-zip passes gates many_gates) files.told;
+        last_told = record { first = k; last = j; own = answered.own; number = began; begins = refl; ends = refl; told = ran.told };
       }
+
+-- What gates are told
+
+-- each gate was told the steps of its file's pass
+pub each_told : {G : Type 0} (index : TableView) (becomes : G → Event → G → Type 0) (first : ℕ) (gates : List (G × G)) (rans : List Ran)
+    → AllTwoFrom first (λ q gate ran. WasToldAnew index becomes q gate ran.answers ran.front) gates rans → AllFrom first (IsToldOf becomes) gates
+each_told index becomes first [] rans told = tt
+each_told index becomes first (gate ∷ gates) [] told = absurd told
+each_told index becomes first (gate ∷ gates) (ran ∷ rans) told =
+    let was = told.0.told in (
+      subst (λ q. IsToldOf becomes q gate) was.number (told_events index becomes (was.first, gate.0) (was.last, gate.1) ran.answers was.told),
+      each_told index becomes (first + 1) gates rans told.1,
+    )
 
 -- Nobody need be told
 
-WasTold-untold : {G : Type 0} (index : TableView) (becomes : G → Event → G → Type 0) (q : ℕ) (gate : G) (ran : Ran)
-    → WasToldAnew index becomes q gate ran.answers ran.front → WasToldAnew index untold q tt ran.answers ran.front
+WasTold-untold : {G : Type 0} (index : TableView) (becomes : G → Event → G → Type 0) (q : ℕ) (gate : G × G) (ran : Ran)
+    → WasToldAnew index becomes q gate ran.answers ran.front → WasToldAnew index untold q (tt, tt) ran.answers ran.front
 WasTold-untold index becomes q gate ran anew =
     let was = anew.told in
     record {
       told = record {
         first = was.first;
         last = was.last;
-        gate_then = tt;
         own = was.own;
         number = was.number;
         begins = was.begins;
@@ -287,10 +300,10 @@ WasTold-untold index becomes q gate ran anew =
       new = anew.new;
     }
 
-files_untold : {G A : Type 0} (index : TableView) (becomes : G → Event → G → Type 0) (first : ℕ) (gates : List G) (files : List A) (rans : List Ran)
+files_untold : {G A : Type 0} (index : TableView) (becomes : G → Event → G → Type 0) (first : ℕ) (gates : List (G × G)) (files : List A) (rans : List Ran)
     → length gates ≡ length files
     → AllTwoFrom first (λ q gate ran. WasToldAnew index becomes q gate ran.answers ran.front) gates rans
-    → AllTwoFrom first (λ q gate ran. WasToldAnew index untold q gate ran.answers ran.front) (map (λ f. tt) files) rans
+    → AllTwoFrom first (λ q gate ran. WasToldAnew index untold q gate ran.answers ran.front) (map (λ f. (tt, tt)) files) rans
 files_untold index becomes first [] [] [] long told = tt
 files_untold index becomes first [] [] (ran ∷ rans) long told = absurd told
 files_untold index becomes first [] (file ∷ files) rans long told = absurd (omega (arith, long))
@@ -299,9 +312,9 @@ files_untold index becomes first (gate ∷ gates) (file ∷ files) [] long told 
 files_untold index becomes first (gate ∷ gates) (file ∷ files) (ran ∷ rans) long told =
     (WasTold-untold index becomes first gate ran told.0, files_untold index becomes (first + 1) gates files rans (omega (arith, long)) told.1)
 
-pub scripts_untold : {G A : Type 0} (nodes leaves : ℕ) (becomes : G → Event → G → Type 0) (gates : List G) (files : List A) (scripts : List (List ℕ)) (script text : List ℕ)
+pub scripts_untold : {G A : Type 0} (nodes leaves : ℕ) (becomes : G → Event → G → Type 0) (gates : List (G × G)) (files : List A) (scripts : List (List ℕ)) (script text : List ℕ)
     → length gates ≡ length files → LawfulScripts nodes leaves becomes gates scripts script text
-    → LawfulScripts nodes leaves untold (map (λ f. tt) files) scripts script text
+    → LawfulScripts nodes leaves untold (map (λ f. (tt, tt)) files) scripts script text
 scripts_untold nodes leaves becomes gates files scripts script text long h = record {
   scripts = h.scripts;
   last = h.last;

@@ -72,8 +72,9 @@ at_own index handle done at = (refl, subst (λ (i : TableView). All (λ d. d.han
 
 module _ {G : Type 0} (becomes : G → Event → G → Type 0) where
   -- scripts that have run by handles at the index are at it
-  pub done_at : (index : TableView) (handles : List HandleView) (gates : List G) (scripts : List (List Command)) (done : List Done)
-      → All (λ h. h.index ≡ index) handles → AllThree (IsDone becomes) (zip handles gates) scripts done → All (λ d. d.handle.index ≡ index) done
+  pub done_at : (index : TableView) (handles : List HandleView) (gates : List G) (scripts : List (List Command)) (done : List (Done × G))
+      → All (λ h. h.index ≡ index) handles → AllThree (IsDone becomes) (zip handles gates) scripts done
+      → All (λ d. d.handle.index ≡ index) (map (λ r. r.0) done)
   done_at index [] gates [] [] at h = All-nil (λ (d : Done). d.handle.index ≡ index)
   done_at index [] gates [] (x ∷ done) at h = absurd h
   done_at index [] gates (x ∷ scripts) done at h = absurd h
@@ -83,10 +84,10 @@ module _ {G : Type 0} (becomes : G → Event → G → Type 0) where
   done_at index (x ∷ handles) (g ∷ gates) [] done at h = absurd h
   done_at index (x ∷ handles) (g ∷ gates) (s ∷ scripts) [] at h = absurd h
   done_at index (x ∷ handles) (g ∷ gates) (s ∷ scripts) (d ∷ done) at h =
-      All-cons (λ (d : Done). d.handle.index ≡ index) d done (h.0.0 ∙ All-head (λ (h : HandleView). h.index ≡ index) x handles at)
+      All-cons (λ (d : Done). d.handle.index ≡ index) d.0 (map (λ r. r.0) done) (h.0.0 ∙ All-head (λ (h : HandleView). h.index ≡ index) x handles at)
       (done_at index handles gates scripts done (All-tail (λ (h : HandleView). h.index ≡ index) x handles at) h.1)
 
-  pub done_long : (seats : List (HandleView × G)) (scripts : List (List Command)) (done : List Done) → AllThree (IsDone becomes) seats scripts done
+  pub done_long : (seats : List (HandleView × G)) (scripts : List (List Command)) (done : List (Done × G)) → AllThree (IsDone becomes) seats scripts done
       → length done ≡ length scripts
   done_long [] [] [] h = refl
   done_long [] [] (x ∷ done) h = absurd h
@@ -96,7 +97,7 @@ module _ {G : Type 0} (becomes : G → Event → G → Type 0) where
   done_long (p ∷ seats) (s ∷ scripts) (d ∷ done) h = ap suc (done_long seats scripts done h.1)
 
   -- what the threads did is what they were started for
-  pub all_joined : (seats : List (HandleView × G)) (scripts : List (List Command)) (orders : List (Order G)) (done : List Done)
+  pub all_joined : (seats : List (HandleView × G)) (scripts : List (List Command)) (orders : List (Order G)) (done : List (Done × G))
       → AllThree IsOrderOf seats scripts orders → AllZip (HasKept becomes) orders done → AllThree (IsDone becomes) seats scripts done
   all_joined [] [] [] [] h kept = tt
   all_joined [] [] [] (x ∷ done) h kept = absurd kept

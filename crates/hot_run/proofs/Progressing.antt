@@ -4,7 +4,8 @@ use Rattle.std.specs.Global.{Global}
 use Rattle.std.proofs.Common.{◌≡◌, ◌<◌, ◌^◌, ℕ, Bool, ◌≤◌, le_refl, List, [], ◌∷◌, ◌++◌, length, take, filter_map, Some, refl, sym, ap, ap₂, subst, ◌∙◌, arith, append_assoc, append-nil, length-append}
 use Rattle.std.proofs.Math.Seq.{take-append_seam}
 use Rattle.std.proofs.lemmas.List.Concat.{flat_map-cons}
-use Rattle.std.proofs.lemmas.List.Elements.{All-pop}
+use Rattle.std.proofs.lemmas.List.Elements.{All-append, All-cons, All-nil, All-pop}
+use Rattle.std.specs.List.{All}
 use Rattle.finite_map.specs.declared.Call.{Call}
 use Rattle.finite_map.specs.declared.Change.{Change}
 use Rattle.finite_map.specs.declared.Note.{Note}
@@ -15,8 +16,11 @@ use Rattle.finite_map.specs.Fronts.{BeginsWith}
 use Rattle.finite_map.proofs.Growth.{begins_itself, begins_on}
 use Rattle.finite_map.proofs.Legal.{place_after-within}
 use Rattle.record_words.specs.declared.layout.Layout.{Layout}
+use Rattle.rowex_core.specs.declared.event.Act.{Act}
 use Rattle.rowex_core.specs.declared.event.Event.{Event}
+use Rattle.rowex_table.specs.Runs.{events_of}
 use Rattle.rowex_table.specs.Seats.{TableView}
+use Rattle.rowex_table.proofs.Running.{told_append}
 use Rattle.seat_calls.specs.Answers.{IsListed, IsNoted, IsScanned, range_from}
 use Rattle.seat_calls.specs.Passes.{PassView, AreByPasses}
 use Rattle.seat_calls.specs.Traces.{HasRead, HasTold, untold}
@@ -30,7 +34,7 @@ use Rattle.hot_scripts.specs.Meaning.{line, scan_lines}
 use Rattle.hot_run.specs.Answers.{Answered, called, refused, listed, answer_text, lines_of_answer, note_of}
 use Rattle.hot_run.specs.Progress.{HasAnsweredCommand, HasRunCommands, answered_as}
 use Rattle.hot_run.specs.Scripts.{StandFrom}
-use Rattle.hot_run.specs.Told.{AreTold, IsCalled, IsCommandTold}
+use Rattle.hot_run.specs.Told.{AreTold, IsCalled, IsCommandTold, IsToldOf}
 
 -- Fronts
 
@@ -80,6 +84,28 @@ module _ {G : Type 0} (index : TableView) (becomes : G → Event → G → Type 
             told = (m, is.told, is.steps, ran.told);
           },
         )
+
+  -- the pass keeps its number
+  number_kept : (k j : PassView) (answer : Answered) → IsCommandTold index.layout k answer j → j.number ≡ k.number
+  number_kept k j (called note) c = c.number
+  number_kept k j (refused call full) (may, u) = u.unnoted.number
+  number_kept k j (listed range scan before after) (s, first, last) = s.on.number
+
+  events_by : (q : ℕ) (acts : List Act) → All (λ e. e.pass ≡ q) (events_of q acts)
+  events_by q [] = All-nil (λ (e : Event). e.pass ≡ q)
+  events_by q (act ∷ acts) = All-cons (λ (e : Event). e.pass ≡ q) (record { pass = q; act = act }) (events_of q acts) refl (events_by q acts)
+
+  -- the gate was told the pass's steps
+  pub told_events : (a b : PassView × G) (answers : List Answered) → AreTold index becomes a answers b → IsToldOf becomes a.0.number (a.1, b.1)
+  told_events a b [] told = ([], All-nil (λ (e : Event). e.pass ≡ a.0.number), ap (λ (c : PassView × G). c.1) told)
+  told_events a b (answer ∷ answers) (m, is, steps, rest) =
+      let q = a.0.number in
+      let acts = steps.acts ++ steps.last ∷ [] in
+      let later : IsToldOf becomes q (m.1, b.1) = subst (λ q. IsToldOf becomes q (m.1, b.1)) (number_kept a.0 m.0 answer is) (told_events m b answers rest) in (
+        events_of q acts ++ later.0,
+        All-append (λ (e : Event). e.pass ≡ q) (events_of q acts) later.0 (events_by q acts) later.1,
+        told_append index becomes (events_of q acts) later.0 a.1 m.1 b.1 steps.told later.2,
+      )
 
   -- nobody need be told
   pub AreTold-untold : (a b : PassView × G) (answers : List Answered) → AreTold index becomes a answers b

@@ -17,7 +17,7 @@ use Rattle.hot_run.specs.Scripts.{LawfulScripts, MayEndScriptsBy}
 abbrev pub AnswersAll : (List ℕ → Option (List ℕ)) → List (List ℕ) → ℕ → ℕ → List ℕ → List ℕ → Type 0
 AnswersAll bytes [] nodes leaves script text = IsAnsweredScript nodes leaves script text
 AnswersAll bytes (name ∷ names) nodes leaves script text =
-    (files : List (List ℕ)) × AreStarts bytes (name ∷ names) files × LawfulScripts nodes leaves untold (map (λ f. tt) files) files script text
+    (files : List (List ℕ)) × AreStarts bytes (name ∷ names) files × LawfulScripts nodes leaves untold (map (λ f. (tt, tt)) files) files script text
 
 -- What these words ask for was answered: the script is all that the reader had, and the answers were written behind what stood there.
 -- `old` and `new` are what the reader has left, `before` and `after` what was written, where that is known.

@@ -14,6 +14,7 @@ use Rattle.hot_run.specs.declared.engine.Answer.{Answer}
 use Rattle.hot_run.specs.declared.engine.Answer.TheVariants.{Reply, Full as Refused}
 use Rattle.hot_run.specs.declared.together.Done.{Done}
 use Rattle.hot_run.specs.declared.together.Order.{Order}
+use Rattle.hot_run.specs.declared.together.Results.{Results}
 use Rattle.hot_run.specs.Answers.{Answered, called, refused, answered_command, lines_of_answer}
 use Rattle.hot_run.specs.Scripts.{sections}
 use Rattle.hot_run.specs.Told.{AreTold, IsCommandTold}
@@ -48,23 +49,18 @@ IsNewPassOf index q pass = Owns index pass × IsNewPass q pass
 abbrev pub AreReady : {H C G : Type 0} → List H → List C → List G → Type 0
 AreReady handles scripts gates = (length scripts ≡ length handles) × (length gates ≡ length handles)
 
--- the thread of this handle and gate made these commands
-abbrev pub IsDone : {G : Type 0} → (G → Event → G → Type 0) → HandleView × G → List Command → Done → Type 0
-IsDone {G = G} becomes a commands done =
-    (done.handle.index ≡ a.0.index)
-    × ((gate : G) × HasRunCommands a.0.index becomes (a.0.pass, a.1) commands (done.handle.pass, gate) done.text.items)
+-- the thread of this handle and gate made these commands, and this became of both
+abbrev pub IsDone : {G : Type 0} → (G → Event → G → Type 0) → HandleView × G → List Command → Done × G → Type 0
+IsDone becomes a commands ran =
+    (ran.0.handle.index ≡ a.0.index) × HasRunCommands a.0.index becomes (a.0.pass, a.1) commands (ran.0.handle.pass, ran.1) ran.0.text.items
 
 -- a thread was started for these commands of this handle, with this gate
 abbrev pub IsOrderOf : {G : Type 0} → HandleView × G → List Command → Order G → Type 0
 IsOrderOf a commands order = (order.handle.value ≡ a.0) × (order.gate.value ≡ a.1) × (script_commands order.script.value ≡ commands)
 
--- there is one item more behind the others, and it has the property
-abbrev pub HasOneMore : {A : Type 0} → (A → Type 0) → List A → List A → Type 0
-HasOneMore {A = A} p before after = (x : A) × p x × (after ≡ before ++ x ∷ [])
-
 -- the thread kept its order
-abbrev pub HasKept : {G : Type 0} → (G → Event → G → Type 0) → Order G → Done → Type 0
-HasKept becomes order done = IsDone becomes (order.handle.value, order.gate.value) (script_commands order.script.value) done
+abbrev pub HasKept : {G : Type 0} → (G → Event → G → Type 0) → Order G → Done × G → Type 0
+HasKept becomes order ran = IsDone becomes (order.handle.value, order.gate.value) (script_commands order.script.value) ran
 
 -- R holds of the items of three lists, place by place
 abbrev pub AllThree : {A B C : Type 0} → (A → B → C → Type 0) → List A → List B → List C → Type 0
@@ -95,12 +91,13 @@ pub record HasAnsweredLast (k : HandleView) (met : List Done) (commands : List C
   pub text_is : text ≡ sections 1 (map (λ d. d.text.items) again) ++ line (codes "last") ++ answers
 
 -- The threads of these handles and gates made the commands of these scripts; then the handle's pass met theirs, one after another, and
--- the last script was answered.
+-- the last script was answered. The gates are those that the threads gave back.
 pub record HaveAnswered {G : Type 0} (becomes : G → Event → G → Type 0) (handles : List (HandleView × G)) (scripts : List (List Command))
-    (commands : List Command) (k : HandleView) (text : List ℕ) : Type 0 where
-  pub ran : List Done
+    (commands : List Command) (k : HandleView) (results : Results G) : Type 0 where
+  pub ran : List (Done × G)
   pub met : List Done
   pub after : PassView
   pub have_run : AllThree (IsDone becomes) handles scripts ran
-  pub meet : MeetInTurn k.index k.pass ran after met
-  pub answered : HasAnsweredLast (handle_at k.index after) met commands text
+  pub gates_are : results.gates.items ≡ map (λ r. r.1) ran
+  pub meet : MeetInTurn k.index k.pass (map (λ r. r.0) ran) after met
+  pub answered : HasAnsweredLast (handle_at k.index after) met commands (flat_map (λ t. t.items) results.texts.items)

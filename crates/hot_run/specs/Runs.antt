@@ -29,7 +29,7 @@ pub record AreAnswered (nodes leaves : ℕ) (commands : List Command) (text : Li
   pub sized : IsSizedFor commands 1 nodes leaves index
   pub answers : List Answered
   pub front : List Change
-  pub told : WasToldAnew index untold 0 tt answers front
+  pub told : WasToldAnew index untold 0 (tt, tt) answers front
   pub commands_are : map answered_command answers ≡ commands
   pub text_is : text ≡ text_told [] answers
 

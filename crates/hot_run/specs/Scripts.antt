@@ -92,18 +92,18 @@ pub record LawfulAnswers (scripts : List (List Command)) (last : List Command) (
   pub text_is : text ≡ sections 1 (map text_in files_ran) ++ line (codes "last") ++ text_in last_ran
 
 -- And these answers were given on one index of so many records: the calls of each file's pass, a new one, went to its gate, step by step, and a
--- command was refused only where that call found no record of the kind free (`IsCommandTold`).
-pub record AreAllAnswered {G : Type 0} (nodes leaves : ℕ) (becomes : G → Event → G → Type 0) (gates : List G)
+-- command was refused only where that call found no record of the kind free (`IsCommandTold`). Each gate is given as it was and as it is then.
+pub record AreAllAnswered {G : Type 0} (nodes leaves : ℕ) (becomes : G → Event → G → Type 0) (gates : List (G × G))
     (scripts : List (List Command)) (last : List Command) (text : List ℕ) : Type 0 where
   pub lawful : LawfulAnswers scripts last text
   pub index : TableView
   pub sized : IsOfSize (length scripts + 1) nodes leaves index
   pub files_told : AllTwoFrom 0 (λ q gate ran. WasToldAnew index becomes q gate ran.answers ran.front) gates lawful.files_ran
-  pub last_told : WasTold index untold (length scripts) tt lawful.met lawful.last_ran.answers lawful.last_ran.front
+  pub last_told : WasTold index untold (length scripts) (tt, tt) lawful.met lawful.last_ran.answers lawful.last_ran.front
 
 -- Several scripts, after Herlihy and Wing: these files and the last script have commands, and the text answers them lawfully, on an
--- index of so many records. Each file has a gate, which is told the steps of its calls.
-pub record LawfulScripts {G : Type 0} (nodes leaves : ℕ) (becomes : G → Event → G → Type 0) (gates : List G)
+-- index of so many records. Each file has a gate, which was told the steps of its calls: it is given as it was and as it is then.
+pub record LawfulScripts {G : Type 0} (nodes leaves : ℕ) (becomes : G → Event → G → Type 0) (gates : List (G × G))
     (files : List (List ℕ)) (script text : List ℕ) : Type 0 where
   pub scripts : List (List Command)
   pub last : List Command

@@ -8,6 +8,7 @@ use Rattle.record_words.specs.declared.layout.Layout.{Layout}
 use Rattle.record_words.specs.Layout.{leaf_size}
 use Rattle.record_words.specs.Leaf.{words_for}
 use Rattle.rowex_core.specs.declared.event.Event.{Event}
+use Rattle.rowex_table.specs.Runs.{IsTold}
 use Rattle.rowex_table.specs.Seats.{TableView}
 use Rattle.seat_calls.specs.Answers.{IsRefused, IsScanned, MayLack, fault_of, range_from}
 use Rattle.seat_calls.specs.Passes.{PassView, AreByPasses, IsNewPass, Owns}
@@ -40,6 +41,10 @@ AreTold index becomes a [] b = b ≡ a
 AreTold {G = G} index becomes a (answer ∷ answers) b =
     (m : PassView × G) × IsCommandTold index.layout a.0 answer m.0 × HasTold index becomes a m × AreTold index becomes m answers b
 
+-- The gate was told steps of this pass and no others, one after another: it is given as it was and as it is then.
+abbrev pub IsToldOf : {G : Type 0} → (G → Event → G → Type 0) → ℕ → G × G → Type 0
+IsToldOf becomes q gate = (events : List Event) × All (λ e. e.pass ≡ q) events × IsTold becomes events gate.0 gate.1
+
 -- an index of so many passes, and of so many node and leaf records, each of which has room for each key
 pub record IsOfSize (passes nodes leaves : ℕ) (index : TableView) : Type 0 where
   pub passes_are : index.layout.passes ≡ passes
@@ -59,19 +64,19 @@ pub record IsSizedFor (commands : List Command) (passes nodes leaves : ℕ) (ind
   pub room : All (HasRoomFor index.layout) commands
 
 -- The pass of this number, which had seen these changes, was told the answers by the index, and has seen these changes then. Its
--- gate, which was this one, was told the steps.
-pub record WasTold {G : Type 0} (index : TableView) (becomes : G → Event → G → Type 0) (q : ℕ) (gate : G)
+-- gate was told the steps: it is given as it was before the first step, and as it is after the last.
+pub record WasTold {G : Type 0} (index : TableView) (becomes : G → Event → G → Type 0) (q : ℕ) (gate : G × G)
     (before : List Change) (answers : List Answered) (after : List Change) : Type 0 where
   pub first : PassView
   pub last : PassView
-  pub gate_then : G
   pub own : Owns index first
   pub number : first.number ≡ q
   pub begins : first.front ≡ before
   pub ends : last.front ≡ after
-  pub told : AreTold index becomes (first, gate) answers (last, gate_then)
+  pub told : AreTold index becomes (first, gate.0) answers (last, gate.1)
 
 -- The same of a new pass: it knew of no step of any pass, so the steps of its calls stand in one run from the new table on.
-pub record WasToldAnew {G : Type 0} (index : TableView) (becomes : G → Event → G → Type 0) (q : ℕ) (gate : G) (answers : List Answered) (after : List Change) : Type 0 where
+pub record WasToldAnew {G : Type 0} (index : TableView) (becomes : G → Event → G → Type 0) (q : ℕ) (gate : G × G)
+    (answers : List Answered) (after : List Change) : Type 0 where
   pub told : WasTold index becomes q gate [] answers after
   pub new : IsNewPass q told.first

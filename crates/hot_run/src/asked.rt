@@ -67,5 +67,5 @@ fn answer_request<T: AllocGlobal + Wait + Threads + Sync, S: FileSystem, R: Read
         return run_one(rt.alloc(), nodes, leaves, reader, writer);
     }
     let files = read_files(rt.alloc(), system, &request.files)?;
-    run_scripts(rt, rt.alloc(), nodes, leaves, files, reader, writer)
+    run_scripts(rt, nodes, leaves, files, reader, writer)
 }

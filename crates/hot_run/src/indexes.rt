@@ -17,20 +17,28 @@ use hot_scripts::script::Script;
 use record_words::LeafClass;
 use std::alloc::{AllocError, Global};
 
+/// How many records an index has.
+#[derive(Clone, Copy)]
+pub struct Records {
+    /// Node records: 1 to 65,535.
+    pub nodes: u32,
+    /// Leaf records: 1 to 262,143.
+    pub leaves: u32,
+    ghost nodes_fit: { IsNodeCount nodes },
+    ghost leaves_fit: { IsLeafCount leaves },
+}
+
 /// An empty index for `script`, and its only pass; an error if memory is refused. All leaf records are of the smallest class with room
 /// for the keys of the script's calls: so they are close together, and a scan takes less time.
 pub fn index_for(
     alloc: Global,
-    nodes: u32,
-    leaves: u32,
+    records: Records,
     script: &Script,
 ) -> Result<(Index, Pass), AllocError>
-    requires nodes { IsNodeCount nodes }
-    requires leaves { IsLeafCount leaves }
-    ensures sized { IfOk result (λ made. IsSizedFor (script_commands script.now) 1 nodes leaves made.0) }
+    ensures sized { IfOk result (λ made. IsSizedFor (script_commands script.now) 1 records.nodes records.leaves made.0) }
     ensures pass { IfOk result (λ made. IsNewPassOf made.0 0 made.1) }
 {
-    let stock = stock_for(nodes, leaves, script.longest_key());
+    let stock = stock_for(records, script.longest_key());
     let (index, mut passes) = match create_with(alloc, 1, stock) {
         Ok(made) => made,
         Err(IndexFault::Memory) => return Err(AllocError),
@@ -42,14 +50,14 @@ pub fn index_for(
     }
 }
 
-/// A stock of `nodes` node records and `leaves` leaf records, all of the smallest class with room for keys of `longest` bytes.
-fn stock_for(nodes: u32, leaves: u32, longest: usize) -> Stock
-    ensures nodes { result.nodes ≡ nodes }
-    ensures leaves { leaves_of result ≡ leaves }
+/// A stock of `records`, with leaf records all of the smallest class with room for keys of `longest` bytes.
+fn stock_for(records: Records, longest: usize) -> Stock
+    ensures nodes { result.nodes ≡ records.nodes }
+    ensures leaves { leaves_of result ≡ records.leaves }
     ensures room { (layout : Layout) (leaf bytes : ℕ) → HasStock layout result → leaf < layout.leaves →
         bytes ≤ longest → bytes ≤ MAX_BYTES → words_for bytes ≤ leaf_size layout leaf }
 {
-    Stock::of_class(nodes, LeafClass::for_key(longest), leaves)
+    Stock::of_class(records.nodes, LeafClass::for_key(longest), records.leaves)
 }
 
 /// An empty index, the passes for `files` files, in the order of their numbers from 0 on, and the pass of the last script. An error if
@@ -57,18 +65,15 @@ fn stock_for(nodes: u32, leaves: u32, longest: usize) -> Stock
 pub fn new_index(
     alloc: Global,
     files: u32,
-    nodes: u32,
-    leaves: u32,
+    records: Records,
 ) -> Result<(Index, Vec<Pass>, Pass), AllocError>
     requires files { files ≤ MAX_FILES }
-    requires nodes { IsNodeCount nodes }
-    requires leaves { IsLeafCount leaves }
-    ensures sized { IfOk result (λ made. IsOfSize (files + 1) nodes leaves made.0) }
+    ensures sized { IfOk result (λ made. IsOfSize (files + 1) records.nodes records.leaves made.0) }
     ensures count { IfOk result (λ made. length made.1.items ≡ files) }
     ensures each { IfOk result (λ made. AllFrom 0 (IsNewPassOf made.0) made.1.items) }
     ensures last { IfOk result (λ made. IsNewPassOf made.0 files made.2) }
 {
-    let (index, mut passes) = match create(alloc, files + 1, nodes, leaves) {
+    let (index, mut passes) = match create(alloc, files + 1, records.nodes, records.leaves) {
         Ok(made) => made,
         Err(IndexFault::Memory) => return Err(AllocError),
         Err(IndexFault::Layout(_)) => unreachable!(),

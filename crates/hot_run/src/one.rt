@@ -12,7 +12,7 @@ ghost use Rattle.hot_run.specs.Runs.{AreAnswered, IsAnsweredScript, MayEndBy};
 
 use crate::callers::Alone;
 use crate::engine::run;
-use crate::indexes::index_for;
+use crate::indexes::{Records, index_for};
 use hot_index::{Handle, Index, NoGate, Pass};
 use hot_scripts::fault::RunFault;
 use hot_scripts::script::Script;
@@ -20,7 +20,7 @@ use hot_scripts::streams::{read_script, write_answers};
 use std::alloc::{AllocError, Global};
 use std::io::{Read, Write};
 
-/// Runs one script on a new index with one pass and these numbers of node and leaf records. It waits for no other thread, and returns
+/// Runs one script on a new index with one pass and `nodes` node and `leaves` leaf records. It waits for no other thread, and returns
 /// once its reads and writes have returned. A fault says why it has no answers.
 pub fn run_one<R: Read, W: Write>(
     alloc: Global,
@@ -47,22 +47,15 @@ pub fn run_one<R: Read, W: Write>(
 {
     let bytes = read_script(alloc, reader)?;
     let script = Script::parse(bytes)?;
-    let text = answer_one(alloc, nodes, leaves, &script)?;
+    let text = answer_one(alloc, Records { nodes, leaves }, &script)?;
     write_answers(writer, &text)
 }
 
-/// The answers to `script` on a new index with these numbers of records; an error if memory is refused.
-fn answer_one(
-    alloc: Global,
-    nodes: u32,
-    leaves: u32,
-    script: &Script,
-) -> Result<Vec<u8>, AllocError>
-    requires nodes { IsNodeCount nodes }
-    requires leaves { IsLeafCount leaves }
-    ensures { IfOk result (λ text. AreAnswered nodes leaves (script_commands script.now) text.items) }
+/// The answers to `script` on a new index with `records`; an error if memory is refused.
+fn answer_one(alloc: Global, records: Records, script: &Script) -> Result<Vec<u8>, AllocError>
+    ensures { IfOk result (λ text. AreAnswered records.nodes records.leaves (script_commands script.now) text.items) }
 {
-    let (index, pass) = index_for(alloc, nodes, leaves, script)?;
+    let (index, pass) = index_for(alloc, records, script)?;
     answer_alone(alloc, &index, pass, script)
 }
 

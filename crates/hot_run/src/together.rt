@@ -1,20 +1,19 @@
 //! Scripts that run at the same time: a thread and a handle for each, and the meetings of their passes.
 
-ghost use Rattle.std.specs.Prelude.{◌≡◌, ◌≤◌, All, IfOk, OnOk, flat_map, length, map};
+ghost use Rattle.std.specs.Prelude.{◌≡◌, ◌≤◌, All, IfOk, flat_map, length, map};
 ghost use Rattle.std.specs.List.{AllZip, zip};
-ghost use Rattle.record_words.specs.Limits.{IsLeafCount, IsNodeCount};
 ghost use Rattle.seat_calls.specs.Answers.{HaveMet};
 ghost use Rattle.seat_calls.specs.Passes.{Owns};
 ghost use Rattle.hot_index.specs.Handles.{handle_at};
 ghost use Rattle.hot_scripts.specs.declared.script.TheConstants.{MAX_FILES};
 ghost use Rattle.hot_scripts.specs.Parses.{script_commands};
-ghost use Rattle.hot_run.specs.Progress.{AllThree, AreAt, AreReady, HasAnsweredLast, HasKept, HasOneMore, HaveAnswered, IsDone, IsOrderOf, MeetInTurn};
+ghost use Rattle.hot_run.specs.Progress.{AllThree, AreAt, AreReady, HasAnsweredLast, HasKept, HaveAnswered, IsDone, IsOrderOf, MeetInTurn};
 ghost use Rattle.hot_run.specs.Scripts.{AreAllAnswered};
 
 use crate::answer::sections;
 use crate::callers::Waits;
 use crate::engine::run;
-use crate::indexes::new_index;
+use crate::indexes::{Records, new_index};
 use core::mem::replace_with;
 use hot_index::{Gate, Handle, Index, NoGate, Pass, handles_of};
 use hot_scripts::script::Script;
@@ -30,6 +29,18 @@ pub struct Done<'a> {
     pub text: Vec<u8>,
 }
 
+/// What all scripts were answered, and what has become of their gates.
+#[derive(Drop)]
+pub struct Results<G> {
+    /// Texts that follow one another: each script's answers below its heading.
+    pub texts: Vec<Vec<u8>>,
+    /// The gate of each file's script, which was told its steps.
+    pub gates: Vec<G>,
+}
+
+/// A thread that runs a script, and gives its gate back.
+type Running<'a, G> = PromisedHandle<Result<(Done<'a>, G), AllocError>, Order<'a, G>>;
+
 /// What a thread is to run, for contracts alone.
 #[derive(Drop)]
 struct Order<'a, G> {
@@ -38,59 +49,73 @@ struct Order<'a, G> {
     gate: Snapshot<G>,
 }
 
-impl<'a, G: Gate> Promise<Result<Done<'a>, AllocError>> for Order<'a, G> {
+impl<'a, G: Gate> Promise<Result<(Done<'a>, G), AllocError>> for Order<'a, G> {
     ghost use Rattle.std.specs.Prelude.{IfOk};
     ghost use Rattle.hot_run.specs.Progress.{HasKept};
 
     ghost kept_by = { λ order result. IfOk result (HasKept G.becomes order) };
 }
 
-/// Makes an index of so many records and runs scripts on it. Those of files run at the same time, each in a thread with its gate. `last`
-/// runs when they have ended. Returns all answers as texts that follow one another, each script's below its heading.
-pub fn answer_all<T: Threads + Wait + Sync, G: Gate + Send + Drop>(
+/// Makes an index of `records` and runs scripts on it. Those of files, `scripts`, run at the same time, each in a thread with its gate;
+/// `last` runs when they have ended. Returns all answers, and the gates in the order of `scripts`; an error if memory is refused, or a
+/// thread can't be started.
+pub fn answer_all<T: AllocGlobal + Threads + Wait + Sync, G: Gate + Send + Drop>(
     rt: &T,
-    alloc: Global,
-    nodes: u32,
-    leaves: u32,
+    records: Records,
     scripts: &[Script],
     gates: Vec<G>,
     last: &Script,
-) -> Result<Vec<Vec<u8>>, AllocError>
-    requires nodes { IsNodeCount nodes }
-    requires leaves { IsLeafCount leaves }
+) -> Result<Results<G>, AllocError>
     requires few { length scripts.now ≤ MAX_FILES }
     requires gates { length gates.items ≡ length scripts.now }
-    ensures { IfOk result (λ texts. AreAllAnswered nodes leaves G.becomes gates.items (map script_commands scripts.now) (script_commands last.now)
-        (flat_map (λ t. t.items) texts.items)) }
+    ensures each { IfOk result (λ results. length results.gates.items ≡ length gates.items) }
+    ensures answered { IfOk result (λ results. AreAllAnswered records.nodes records.leaves G.becomes (zip gates.items results.gates.items)
+        (map script_commands scripts.now) (script_commands last.now) (flat_map (λ t. t.items) results.texts.items)) }
 {
-    let (index, passes, pass) = new_index(alloc, scripts.len() as u32, nodes, leaves)?;
-    answer_by(rt, alloc, &index, passes, pass, scripts, gates, last)
+    let (index, passes, pass) = new_index(rt.alloc(), scripts.len() as u32, records)?;
+    answer_by(rt, Handle::new(&index, pass), passes, scripts, gates, last)
 }
 
-/// Answers `scripts`, those of files, by `passes`, and then, when `pass` has met them, `last` by that. Returns all answers as texts that
-/// follow one another; an error if memory is refused, or a thread can't be started.
-fn answer_by<T: Threads + Wait + Sync, G: Gate + Send + Drop>(
+/// Answers `scripts`, those of files, by `passes`, and then, when the pass of `handle` has met them, `last` by that. Returns all answers
+/// as texts that follow one another, and the gates in the order of `scripts`; an error if memory is refused, or a thread can't be started.
+fn answer_by<'a, T: AllocGlobal + Threads + Wait + Sync, G: Gate + Send + Drop>(
     rt: &T,
-    alloc: Global,
-    index: &Index,
+    handle: Handle<&'a Index>,
     passes: Vec<Pass>,
-    pass: Pass,
     scripts: &[Script],
     gates: Vec<G>,
     last: &Script,
-) -> Result<Vec<Vec<u8>>, AllocError>
-    requires own { Owns index.now pass }
-    requires owns { All (Owns index.now) passes.items }
+) -> Result<Results<G>, AllocError>
+    requires owns { All (Owns handle.index) passes.items }
     requires ready { AreReady passes.items scripts.now gates.items }
     requires few { length scripts.now ≤ MAX_FILES }
-    ensures { IfOk result (λ texts. HaveAnswered G.becomes (zip (map (handle_at index.now) passes.items) gates.items) (map script_commands scripts.now)
-        (script_commands last.now) (handle_at index.now pass) (flat_map (λ t. t.items) texts.items)) }
+    ensures { IfOk result (λ results. HaveAnswered G.becomes (zip (map (handle_at handle.entry.index) passes.items) gates.items)
+        (map script_commands scripts.now) (script_commands last.now) handle.entry results) }
 {
-    let handle = Handle::new(index, pass);
-    let mut ran = run_files(rt, alloc, index, passes, scripts, gates)?;
+    let alloc = rt.alloc();
+    let ended = run_files(rt, alloc, handle.index, passes, scripts, gates)?;
+    let (mut ran, gates) = part(alloc, ended)?;
     let done: &mut [Done] = &mut ran;
     let handle = meet_all(handle, done);
-    answer_last(rt, alloc, handle, done, last)
+    let texts = answer_last(rt, alloc, handle, done, last)?;
+    Ok(Results { texts, gates })
+}
+
+/// The scripts that have run, and their gates.
+fn part<'a, G: Drop>(
+    alloc: Global,
+    ran: Vec<(Done<'a>, G)>,
+) -> Result<(Vec<Done<'a>>, Vec<G>), AllocError>
+    ensures scripts { IfOk result (λ parts. parts.0.items ≡ map (λ r. r.0) ran.entry.items) }
+    ensures gates { IfOk result (λ parts. parts.1.items ≡ map (λ r. r.1) ran.entry.items) }
+{
+    let mut scripts = Vec::new(alloc);
+    let mut gates = Vec::new(alloc);
+    for (script, gate) in ran {
+        scripts.push(script)?;
+        gates.push(gate)?;
+    }
+    Ok((scripts, gates))
 }
 
 /// Answers the last script by `handle`, whose pass has met those of the others and meets them again. Returns the answers of all as texts
@@ -108,13 +133,13 @@ fn answer_last<'a, T: Wait>(
 {
     // The handle is opened: its pass belongs to its index.
     let _pass = &handle.pass;
-    let done = run_file(rt, alloc, handle, last, NoGate)?;
+    let (done, _gate) = run_file(rt, alloc, handle, last, NoGate)?;
     meet_all(done.handle, met);
     sections(alloc, met, done.text)
 }
 
-/// Runs each of `scripts` in a thread with its own pass of `index` and its own gate, all at the same time, and joins them. An error if
-/// memory is refused, or a thread can't be started.
+/// Runs each of `scripts` in a thread with its own pass of `index` and its own gate, all at the same time, and joins them. Returns each
+/// gate beside its script. An error if memory is refused, or a thread can't be started.
 fn run_files<'a, T: Threads + Wait + Sync, G: Gate + Send + Drop>(
     rt: &T,
     alloc: Global,
@@ -122,7 +147,7 @@ fn run_files<'a, T: Threads + Wait + Sync, G: Gate + Send + Drop>(
     passes: Vec<Pass>,
     scripts: &[Script],
     gates: Vec<G>,
-) -> Result<Vec<Done<'a>>, AllocError>
+) -> Result<Vec<(Done<'a>, G)>, AllocError>
     requires owns { All (Owns index.now) passes.items }
     requires ready { AreReady passes.items scripts.now gates.items }
     ensures { IfOk result (λ done. AllThree (IsDone G.becomes) (zip (map (handle_at index.now) passes.items) gates.items) (map script_commands scripts.now) done.items) }
@@ -131,7 +156,7 @@ fn run_files<'a, T: Threads + Wait + Sync, G: Gate + Send + Drop>(
     scope(
         scope_env(),
         rt,
-        |threads| -> Result<Vec<Done>, AllocError>
+        |threads| -> Result<Vec<(Done, G)>, AllocError>
             requires { AreReady handles.items scripts.now gates.items }
             ensures { IfOk result (λ done. AllThree (IsDone G.becomes) (zip handles.entry.items gates.items) (map script_commands scripts.entry.now) done.items) }
         { run_within(threads, rt, alloc, handles, scripts, gates) },
@@ -146,7 +171,7 @@ fn run_within<'a: 's, 's, E, T: Threads + Wait + Sync + 's, G: Gate + Send + Dro
     handles: Vec<Handle<&'a Index>>,
     scripts: &'s [Script],
     gates: Vec<G>,
-) -> Result<Vec<Done<'a>>, AllocError>
+) -> Result<Vec<(Done<'a>, G)>, AllocError>
     requires { AreReady handles.items scripts.now gates.items }
     ensures { IfOk result (λ done. AllThree (IsDone G.becomes) (zip handles.entry.items gates.items) (map script_commands scripts.entry.now) done.items) }
 {
@@ -163,7 +188,7 @@ fn start_all<'a: 's, 's, E, T: Threads + Wait + Sync + 's, G: Gate + Send + Drop
     handles: Vec<Handle<&'a Index>>,
     scripts: &'s [Script],
     gates: Vec<G>,
-) -> Result<Vec<PromisedHandle<Result<Done<'a>, AllocError>, Order<'a, G>>>, AllocError>
+) -> Result<Vec<Running<'a, G>>, AllocError>
     requires { AreReady handles.items scripts.now gates.items }
     ensures { IfOk result (λ running. AllThree IsOrderOf (zip handles.entry.items gates.items) (map script_commands scripts.entry.now)
         (map (λ t. t.promise) running.items)) }
@@ -178,7 +203,7 @@ fn start_all<'a: 's, 's, E, T: Threads + Wait + Sync + 's, G: Gate + Send + Drop
         let Some(gate) = gates.next() else {
             unreachable!();
         };
-        start(threads, rt, alloc, handle, script, gate, &mut running)?;
+        running.push(start(threads, rt, alloc, handle, script, gate)?)?;
     }
     Ok(running)
 }
@@ -187,8 +212,8 @@ fn start_all<'a: 's, 's, E, T: Threads + Wait + Sync + 's, G: Gate + Send + Drop
 fn join_all<'a, T: Threads + Wait, G: Gate + Drop>(
     rt: &T,
     alloc: Global,
-    running: Vec<PromisedHandle<Result<Done<'a>, AllocError>, Order<'a, G>>>,
-) -> Result<Vec<Done<'a>>, AllocError>
+    running: Vec<Running<'a, G>>,
+) -> Result<Vec<(Done<'a>, G)>, AllocError>
     ensures { IfOk result (λ done. AllZip (HasKept G.becomes) (map (λ t. t.promise) running.entry.items) done.items) }
 {
     let mut done = Vec::new(alloc);
@@ -198,7 +223,7 @@ fn join_all<'a, T: Threads + Wait, G: Gate + Drop>(
     Ok(done)
 }
 
-/// Starts the thread of `script`, and adds it to the end of `running`. An error if memory is refused, or the thread can't be started.
+/// Starts the thread of `script`. An error if it can't be started.
 fn start<'a: 's, 's, E, T: Threads + Wait + Sync + 's, G: Gate + Send + Drop + 's>(
     threads: &Scope<'s, E>,
     rt: &'s T,
@@ -206,10 +231,8 @@ fn start<'a: 's, 's, E, T: Threads + Wait + Sync + 's, G: Gate + Send + Drop + '
     handle: Handle<&'a Index>,
     script: &'s Script,
     gate: G,
-    running: &mut Vec<PromisedHandle<Result<Done<'a>, AllocError>, Order<'a, G>>>,
-) -> Result<(), AllocError>
-    ensures { OnOk result (HasOneMore (IsOrderOf (handle.entry, gate) (script_commands script.entry.now))
-        (map (λ t. t.promise) running.old.items) (map (λ t. t.promise) running.new.items)) }
+) -> Result<Running<'a, G>, AllocError>
+    ensures { IfOk result (λ thread. IsOrderOf (handle.entry, gate) (script_commands script.entry.now) thread.promise) }
 {
     let order = Order {
         handle: Snapshot::of(&handle),
@@ -218,29 +241,28 @@ fn start<'a: 's, 's, E, T: Threads + Wait + Sync + 's, G: Gate + Send + Drop + '
     };
     let thread = threads.spawn_with(
         order,
-        move || -> Result<Done, AllocError>
+        move || -> Result<(Done, G), AllocError>
             ensures { IfOk result (IsDone G.becomes (handle.entry, gate) (script_commands script.entry.now)) }
         { run_file(rt, alloc, handle, script, gate) },
     )?;
-    running.push(thread)?;
-    Ok(())
+    Ok(thread)
 }
 
-/// What the thread of a script does: runs `script` by `handle`, which `gate` is told of, and returns the handle with the answers. An
-/// error if memory is refused.
+/// What the thread of a script does: runs `script` by `handle`, which `gate` is told of, and returns the handle with the answers, and the
+/// gate. An error if memory is refused.
 fn run_file<'a, T: Wait, G: Gate + Drop>(
     rt: &T,
     alloc: Global,
     handle: Handle<&'a Index>,
     script: &Script,
     gate: G,
-) -> Result<Done<'a>, AllocError>
+) -> Result<(Done<'a>, G), AllocError>
     ensures { IfOk result (IsDone G.becomes (handle.entry, gate) (script_commands script.now)) }
 {
     let mut handle = handle;
     let mut gate = gate;
     match run(&Waits { rt }, alloc, &mut handle, script, &mut gate) {
-        Ok(text) => Ok(Done { handle, text }),
+        Ok(text) => Ok((Done { handle, text }, gate)),
         Err(refused) => Err(refused),
     }
 }

@@ -12,39 +12,28 @@ use std::thread;
 /// How often a gate looks before it gives up.
 const MAX_LOOKS: u32 = 100_000_000;
 
-/// What a gate has set, and whether it has seen what the other set.
-#[derive(Drop)]
-struct Flags {
-    is_told: AtomicBool,
-    has_seen: AtomicBool,
-}
-
-impl Flags {
-    fn new() -> Flags {
-        Flags {
-            is_told: AtomicBool::new(false),
-            has_seen: AtomicBool::new(false),
-        }
-    }
-}
-
 /// At its first step it sets its own flag, and waits for the other's.
 #[derive(Drop)]
 struct Waiting<'a> {
-    own: &'a Flags,
-    other: &'a Flags,
+    own: &'a AtomicBool,
+    other: &'a AtomicBool,
+    /// Whether it has seen the other's flag.
+    has_seen: bool,
+    /// How many steps it was told, as far as they can be counted.
+    steps: u32,
 }
 
 impl Gate for Waiting<'_> {
     ghost becomes = { λ _ _ _. Unit {0} };
 
     fn at(&mut self, _event: &Event) {
-        if self.own.is_told.swap(true, Ordering::SeqCst) {
+        self.steps = self.steps.saturating_add(1);
+        if self.own.swap(true, Ordering::SeqCst) {
             return;
         }
         for _ in 0..MAX_LOOKS {
-            if self.other.is_told.load(Ordering::SeqCst) {
-                self.own.has_seen.store(true, Ordering::SeqCst);
+            if self.other.load(Ordering::SeqCst) {
+                self.has_seen = true;
                 return;
             }
             thread::yield_now();
@@ -62,37 +51,43 @@ fn files_of(alloc: Global) -> Result<Vec<Vec<u8>>, AllocError>
     Ok(files)
 }
 
+/// The gate that has this flag and waits for the other.
+fn gate_of<'a>(own: &'a AtomicBool, other: &'a AtomicBool) -> Waiting<'a> {
+    Waiting {
+        own,
+        other,
+        has_seen: false,
+        steps: 0,
+    }
+}
+
 /// The gates of two files, each of which waits for the other's flag.
 fn gates_of<'a>(
     alloc: Global,
-    first: &'a Flags,
-    second: &'a Flags,
+    first: &'a AtomicBool,
+    second: &'a AtomicBool,
 ) -> Result<Vec<Waiting<'a>>, AllocError>
     ensures { IfOk result (λ gates. length gates.items ≡ 2) }
 {
     let mut gates = Vec::new(alloc);
-    gates.push(Waiting {
-        own: first,
-        other: second,
-    })?;
-    gates.push(Waiting {
-        own: second,
-        other: first,
-    })?;
+    gates.push(gate_of(first, second))?;
+    gates.push(gate_of(second, first))?;
     Ok(gates)
 }
 
 #[test]
 fn gates_wait_for_each_other(rt: HostRuntime) {
-    let (first, second) = (Flags::new(), Flags::new());
+    let (first, second) = (AtomicBool::new(false), AtomicBool::new(false));
     let (Ok(files), Ok(gates)) = (files_of(rt.alloc()), gates_of(rt.alloc(), &first, &second))
     else {
         panic!(rt; "no memory")
     };
     let mut text = Vec::new(rt.alloc());
     let mut last: &[u8] = b"";
-    let ran = run_scripts_with(&rt, rt.alloc(), 16, 128, files, gates, &mut last, &mut text);
-    assert!(rt; ran.is_ok());
-    assert!(rt; first.has_seen.load(Ordering::SeqCst) && second.has_seen.load(Ordering::SeqCst));
+    let Ok(gates) = run_scripts_with(&rt, 16, 128, files, gates, &mut last, &mut text) else {
+        panic!(rt; "no answers")
+    };
+    assert!(rt; gates[0].has_seen && gates[1].has_seen);
+    assert!(rt; gates[0].steps > 1 && gates[1].steps > 1);
     assert!(rt; text.as_slice() == b"file 1\ninserted\nfile 2\ninserted\nlast\n".as_slice());
 }

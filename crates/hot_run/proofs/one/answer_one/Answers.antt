@@ -22,7 +22,6 @@ returns c =
         told = record {
           first = pass;
           last = after;
-          gate_then = tt;
           own = made.pass.0;
           number = made.pass.1.0;
           begins = made.pass.1.1;

@@ -2,10 +2,11 @@
 use Rattle.std.proofs.Common.{Vec, ap, arith, length, map}
 use Rattle.std.specs.Global.{Global}
 use Rattle.std.specs.List.{flat_map}
-use Rattle.std.proofs.lemmas.Result.{err_from_is_err_and, on_ok_weaker}
+use Rattle.std.proofs.lemmas.Result.{err_from_is_err_and}
 use Rattle.hot_scripts.specs.declared.script.Script.{Script}
 use Rattle.hot_scripts.specs.Parses.{script_commands}
 use Rattle.hot_run.proofs.Asking.{parse_ended, read_ended}
+use Rattle.hot_run.proofs.Joint.{each_told}
 use Rattle.hot_run.proofs.scripts.run_scripts_with.Goals as goal
 
 pub returns-in_err-scripts-clause-fault : goal.returns-in_err-scripts-clause-fault
@@ -26,25 +27,28 @@ answer_all-requires-clause-few g c κs within = omega (arith, c.requires.few, c.
 pub answer_all-requires-clause-gates : goal.answer_all-requires-clause-gates
 answer_all-requires-clause-gates g c κs within = omega (arith, c.requires.gates, c.in_ok-scripts.ensures.count, ap length c.deref.ensures.value)
 
-pub returns-in_err-texts-clause-fault : goal.returns-in_err-texts-clause-fault
-returns-in_err-texts-clause-fault g c =
-    let p = err_from_is_err_and c.from_residual-in_err-texts.result c.from_residual-in_err-texts.ensures.1 in
+pub returns-in_err-results-clause-fault : goal.returns-in_err-results-clause-fault
+returns-in_err-results-clause-fault g c =
+    let p = err_from_is_err_and c.from_residual-in_err-results.result c.from_residual-in_err-results.ensures.1 in
     rw (p.1, p.2) tt
 
 pub returns-clause-ok : goal.returns-clause-ok
-returns-clause-ok g c =
-    on_ok_weaker c.write_sections.result
-    (λ written. (
-      c.in_ok-bytes.bytes.items,
-      flat_map (λ t. t.items) c.in_ok-texts.texts.items,
-      c.in_ok-bytes.ensures.whole,
-      record {
-        scripts = map script_commands c.in_ok-scripts.scripts.items;
-        last = script_commands c.in_ok-last.last;
-        files_are = c.in_ok-scripts.ensures.parsed;
-        short = omega (arith, c.in_ok-bytes.ensures.short, c.in_ok-bytes.bytes.ok);
-        last_is = c.in_ok-last.ensures;
-        answers = rw c.deref.ensures.value at c.in_ok-texts.ensures;
-      },
-      rw c.deref-2.ensures.value at written,
-    )) c.write_sections.ensures.ok
+returns-clause-ok g c = (
+  c.in_ok-bytes.bytes.items,
+  flat_map (λ t. t.items) c.in_ok-results.results.texts.items,
+  c.in_ok-bytes.ensures.whole,
+  record {
+    scripts = map script_commands c.in_ok-scripts.scripts.items;
+    last = script_commands c.in_ok-last.last;
+    files_are = c.in_ok-scripts.ensures.parsed;
+    short = omega (arith, c.in_ok-bytes.ensures.short, c.in_ok-bytes.bytes.ok);
+    last_is = c.in_ok-last.ensures;
+    answers = rw c.deref.ensures.value at c.in_ok-results.ensures.answered;
+  },
+  rw c.deref-2.ensures.value at c.in_ok-write_sections.ensures.ok,
+)
+
+pub returns-clause-told : goal.returns-clause-told
+returns-clause-told g c =
+    let all = c.in_ok-results.ensures.answered in
+    each_told all.index g.G.Gate.becomes 0 _ all.lawful.files_ran all.files_told

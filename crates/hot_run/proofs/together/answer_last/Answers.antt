@@ -26,7 +26,7 @@ returns g c =
       again = c.meet_all.new.done;
       answers = c.in_ok-done.done.text.items;
       own = subst (λ (h : HandleView). Owns h.index h.pass) c.handle.view_is c.handle.invariant;
-      ran = HasRunCommands-untold c.args.handle.index _ _ _ (script_commands c.args.last.now) c.in_ok-done.done.text.items c.in_ok-done.ensures.1.1;
+      ran = HasRunCommands-untold c.args.handle.index _ _ _ (script_commands c.args.last.now) c.in_ok-done.done.text.items c.in_ok-done.ensures.1;
       meet = rw c.in_ok-done.ensures.0 at c.meet_all.ensures.met;
       text_is = text_is;
     }) c.sections.ensures

@@ -9,5 +9,5 @@ use Rattle.hot_run.proofs.together.join_all.Given as goal
 -- what the threads that are left will have done completes what was done
 abbrev pub invariant-loop-thread : goal.invariant-loop-thread
 invariant-loop-thread g l =
-    (rest : List Done) → AllZip (HasKept g.G.Gate.becomes) (map (λ t. t.promise) (into_iter_items l.thread-iterator)) rest
+    (rest : List (Done × _)) → AllZip (HasKept g.G.Gate.becomes) (map (λ t. t.promise) (into_iter_items l.thread-iterator)) rest
     → AllZip (HasKept g.G.Gate.becomes) (map (λ t. t.promise) l.fn.running.items) (l.done.items ++ rest)
