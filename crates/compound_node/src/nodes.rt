@@ -159,7 +159,7 @@ impl Node {
         self.head.first_position()
     }
 
-    /// The place to which the forks lead by the bits of `key`.
+    /// The place to which the forks lead by the bits of `key`. Each key leads to a place, held or not.
     pub fn search(&self, key: &Key) -> u8
         ensures leads { result ≡ leads_to (bit_of key.now) (piece self.now) }
         ensures in_range { result < length self.now.entries }

@@ -108,7 +108,8 @@ fn begin_round<G: Gate>(table: &HotTable, seat: &mut TableSeat, gate: &mut G) ->
     find_bound(table, seat, gate)
 }
 
-/// Loads the epoch and, unless it is the last, makes it the next one, if no other pass has done so meanwhile.
+/// Loads the epoch and makes it the next one, unless another pass has done so meanwhile. At the last epoch, 2^60 - 1, nothing is tried. The
+/// pass's pin stays.
 fn advance_epoch<G: Gate>(table: &HotTable, seat: &mut TableSeat, gate: &mut G)
     requires { IsSeatOf table.now seat.old }
     ensures pin { seat.new.known.pin ≡ seat.old.known.pin }

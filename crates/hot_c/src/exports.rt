@@ -174,8 +174,8 @@ pub extern "C" fn hot_number(handle: &mut Handle, number: &mut u16) -> u32
     DONE
 }
 
-/// Looks up `key`: `FOUND`, with its value in `value`, or `ABSENT`; `CLOSED` or `KEY_TOO_LONG` if it can't. It is never busy and never
-/// full.
+/// Looks up `key`: `FOUND`, with its value in `value`, or `ABSENT`. `CLOSED` if `handle` is closed, `KEY_TOO_LONG` if `key` has more than
+/// 240 bytes. But for `FOUND`, `value` stays; no other status is returned.
 #[unsafe(no_mangle)]
 pub extern "C" fn hot_get(handle: &mut Handle, key: &[u8], value: &mut u64) -> u32
     ensures call { Answers key.now (Get key.now) handle.old.slot.opened handle.new.slot.opened value.old value.new result }

@@ -69,8 +69,8 @@ fn write_pairs_backwards(pairs: &Pairs, room: &mut [Pair])
     }
 }
 
-/// Writes `key` and `value` to `pair`. Keys of eight bytes are common, and so are keys of 16 to 64 bytes, such as URLs. A copy of so many
-/// needs no call; nor, through an array, a test of whether the two places overlap.
+/// Writes `key`, its length and `value` to `pair`. Keys of 8 and of 16 to 64 bytes, the common ones, are copied through arrays. Such a copy
+/// needs no call and no test for overlap.
 fn write_pair(key: &[u8], value: u64, pair: &mut Pair)
     requires { IsKey key.now }
     ensures { Spells (key.now, value) pair.new }

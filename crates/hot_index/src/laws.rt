@@ -2,8 +2,8 @@
 
 ghost use Rattle.hot_index.specs.Statements.{LacksAllLong, OnePassFullIsFull, OnePassIsNeverBusy, ReturnedBeforeBegun};
 
-/// If all leaf records are long (`create` makes them so), a call refused for want of one has found each of them not free. None was its
-/// pass's own.
+/// If all leaf records are long, as `create` makes them, a call refused as `FullLeaves` has found each leaf record not free. It found so
+/// after it began, and no leaf record was its pass's own.
 pub fn lacks_all_long()
     ensures { LacksAllLong }
 {}

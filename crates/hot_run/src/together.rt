@@ -267,7 +267,8 @@ fn run_file<'a, T: Wait, G: Gate + Drop>(
     }
 }
 
-/// The handle's pass meets those of the scripts that have run, `done`, one after another. Returns the handle.
+/// Lets the pass of `handle` meet that of each script of `done`, in order, as `Handle::meet` does; all are at one index. So each sees what
+/// the handle and those before it had seen. Returns the handle.
 fn meet_all<'a>(handle: Handle<&'a Index>, done: &mut [Done<'a>]) -> Handle<&'a Index>
     requires { AreAt handle.index handle done.old }
     ensures index { AreAt handle.entry.index result done.new }

@@ -124,7 +124,8 @@ fn command(version: Version, line: &[u8]) -> Result<Command, Reason>
     }
 }
 
-/// The command of `line`; `None` if the line is empty or a comment, and what is wrong with it if it is neither of these.
+/// The command of `line` in a script of `version`. `Ok(None)` if `line` is empty or begins with `#`. `Err` with the reason if `line` is
+/// anything else.
 pub fn reading(version: Version, line: &[u8]) -> Result<Option<Command>, Reason>
     ensures { result ≡ reading_of version line.now }
 {

@@ -28,7 +28,7 @@ impl<'a> Model for Iter<'a> {
 }
 
 impl<'a> Iter<'a> {
-    /// The pairs of `heads`, whose keys have `bytes`, one after another.
+    /// An iterator over the pairs of `heads`. `bytes` are the bytes of their keys, one key behind the other, and no others.
     pub(crate) fn of(bytes: &'a [u8], heads: &'a [Head]) -> Iter<'a>
         requires { ArePacked heads.now bytes.now }
         ensures { result ≡ unpacked heads.now bytes.now }

@@ -29,7 +29,8 @@ impl Fate {
         }
     }
 
-    /// The fate of a record after a publish by `pass`, which makes the version after `now`, of a tree that links the record or not.
+    /// The fate after a publish by `pass` of version `now + 1`: a ready record is in the tree if `is_linked`. One in the tree is unlinked
+    /// unless `is_linked`. All other fates stay.
     fn next(self, now: u64, pass: u16, is_linked: bool) -> Fate
         requires { now + 1 < 2 ^ 64 }
         ensures { stored_fate result ≡ next_fate now pass is_linked (stored_fate self) }

@@ -138,8 +138,8 @@ impl Records {
         all_may_go(&self.node_fates, &self.locks, pass, nodes)
     }
 
-    /// Gives each record its fate after a publish by `pass`, which makes the version after `now`. The tree links the nodes and leaves
-    /// that `nodes` and `leaves` mark.
+    /// Gives each record its fate after a publish by `pass` of version `now + 1`; all else stays. The tree links just the nodes and leaves
+    /// that `nodes` and `leaves` mark. A record past the last flag isn't linked.
     pub(crate) fn link(&mut self, now: u64, pass: u16, nodes: &[bool], leaves: &[bool])
         requires { now + 1 < 2 ^ 64 }
         ensures { AreNextRecords now pass nodes.now leaves.now self.old self.new }

@@ -106,12 +106,11 @@ pub fn find_place<G: Gate>(
     find_step(table, seat, gate, number, start, key).at
 }
 
-/// The step of a way at node `number`, whose record begins at word `start`, that takes the entry to which the bits of `key` lead. Loads
-/// all words of the node's head, and searches them as they stand.
+/// Loads the head of node `number`, whose record begins at word `start`, and searches it for `key`. Returns the node's `PathNode`, with the
+/// place to which the bits of `key` lead.
 ///
-/// Which words have positions and sparse partial keys is not asked first. So nothing waits for the numbers, and the loads are as many in
-/// each node. The key's bits are gathered before the sparse partial keys are loaded. So nothing stands between these loads and the
-/// search, and what was loaded stays in registers.
+/// All 25 words are loaded, whatever the node's size, so no load waits for another. The key's bits are gathered before the rows are loaded.
+/// So the rows stay in registers until the search.
 #[inline(always)]
 pub fn find_step<G: Gate>(
     table: &HotTable,
@@ -167,7 +166,8 @@ pub fn load_entry<G: Gate>(
     load_entry_from(table, seat, gate, number, start, place)
 }
 
-/// Loads as `load_entry` does, of a node whose record begins at word `start`: for several loads that is found once.
+/// Loads the entry at `place` of node `number`, which has that place. The node's record begins at word `start`, which several loads find
+/// once.
 #[inline(always)]
 pub fn load_entry_from<G: Gate>(
     table: &HotTable,
@@ -214,8 +214,8 @@ pub fn load_places<G: Gate>(
     load_places_from(table, seat, gate, number, start, places)
 }
 
-/// Loads as `load_places` does, of a leaf whose record begins at word `start`: so a caller can find that in a way of its own. Keys of
-/// eight bytes are common, and their one word needs no loop.
+/// `load_places` of leaf `number`, whose record begins at word `start`: so a caller can find that in a way of its own. Returns the key's
+/// length and the value. Keys of eight bytes are common, and their one word needs no loop.
 #[inline(always)]
 pub fn load_places_from<G: Gate>(
     table: &HotTable,
@@ -273,7 +273,7 @@ pub fn load_value<G: Gate>(
     load_value_of(table, seat, gate, number, start, key, size)
 }
 
-/// Loads as `load_value` does, of a leaf whose record begins at word `start`, for a key of `size` bytes.
+/// `load_value` of leaf `number`, whose record begins at word `start`, for a key of `size` bytes. `None` if the leaf has another key.
 #[inline(always)]
 fn load_value_of<G: Gate>(
     table: &HotTable,

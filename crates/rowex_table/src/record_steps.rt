@@ -15,7 +15,7 @@ use rowex_core::{Act, Gate, Rec};
 use std::marker::Brand;
 
 impl HotTable {
-    /// The word at which `rec` begins.
+    /// The number of the first word of `rec` in the table.
     pub fn start_of(&self, rec: Rec) -> usize
         requires { HasRecord self.now.layout rec }
         ensures { IsStartOf self.now.layout rec result }
@@ -35,7 +35,8 @@ impl HotTable {
         self.claim_from(seat, gate, rec, self.start_of(rec))
     }
 
-    /// Claims as `claim` does, where `rec` begins at word `start`: if its state has been loaded before, that is known.
+    /// Claims `rec`, which begins at word `start`, if it finds the record free; returns the state word that it found. A caller that has
+    /// loaded the state knows `start`.
     #[inline(always)]
     pub fn claim_from<G: Gate>(
         &self,
@@ -63,7 +64,8 @@ impl HotTable {
         self.fill_from(seat, gate, rec, self.start_of(rec), offset, word);
     }
 
-    /// Stores as `fill` does, where `rec` begins at word `start`.
+    /// Stores `word` at `offset` of `rec`, which the pass holds and which begins at word `start`. Offsets are from 1, so that it isn't the
+    /// state.
     #[inline(always)]
     pub fn fill_from<G: Gate>(
         &self,
@@ -121,7 +123,8 @@ impl HotTable {
         self.load_fixed_from(seat, gate, rec, self.start_of(rec), offset)
     }
 
-    /// Loads as `load_fixed` does, where `rec` begins at word `start`: for several loads that is found once.
+    /// Loads the word at `offset` of `rec`, which is neither its state nor an entry. `rec` begins at word `start`, which several loads find
+    /// once by `start_of`.
     #[inline(always)]
     pub fn load_fixed_from<G: Gate>(
         &self,
@@ -166,7 +169,7 @@ impl HotTable {
         self.load_state_from(seat, gate, rec, self.start_of(rec))
     }
 
-    /// Loads as `load_state` does, where `rec` begins at word `start`: a walk over records knows where each begins.
+    /// Loads the state word of `rec`, which begins at word `start`: a walk over records knows where each begins.
     #[inline(always)]
     pub fn load_state_from<G: Gate>(
         &self,
@@ -199,7 +202,8 @@ impl HotTable {
         self.give_back_from(seat, gate, rec, self.start_of(rec), epoch)
     }
 
-    /// Gives back as `give_back` does, where `rec` begins at word `start`: if its state has been loaded before, that is known.
+    /// Makes `rec`, which begins at word `start`, free, if it finds the record obsolete in `epoch`; returns the state word that it found. A
+    /// caller that has loaded the state knows `start`.
     #[inline(always)]
     pub fn give_back_from<G: Gate>(
         &self,

@@ -30,7 +30,7 @@ impl HotTable {
         self.load_at::<Q, G>(seat, gate, act, self.origins.address(location))
     }
 
-    /// Loads as `load_as` does, the word at `address`.
+    /// Loads the table's word number `address` as the step `act`, of which `gate` is told, and returns the word.
     pub(crate) fn load_at<Q: Step, G: Gate>(
         &self,
         seat: &mut TableSeat,
@@ -70,7 +70,7 @@ impl HotTable {
         self.store_at::<Q, G>(seat, gate, act, self.origins.address(location), new);
     }
 
-    /// Stores as `store_as` does, to the word at `address`.
+    /// Stores `new` to the table's word number `address`, as the step `act`, of which `gate` is told.
     pub(crate) fn store_at<Q: Step, G: Gate>(
         &self,
         seat: &mut TableSeat,
@@ -111,7 +111,8 @@ impl HotTable {
         self.exchange_at::<Q, G>(seat, gate, act, self.origins.address(location), old, new)
     }
 
-    /// Exchanges as `exchange_as` does, the word at `address`.
+    /// Exchanges the table's word number `address` for `new`, if it is `old`, as the step `act`, of which `gate` is told. Returns the word
+    /// that it found.
     pub(crate) fn exchange_at<Q: Step, G: Gate>(
         &self,
         seat: &mut TableSeat,

@@ -73,8 +73,7 @@ impl HotTable {
         self.origins.layout
     }
 
-    /// Where the table's records begin. A walk over many keeps this at hand: through the table it would be loaded anew behind each
-    /// atomic load.
+    /// Where the table's records begin, as a copy. A copy isn't loaded anew behind each atomic load of a walk over many records.
     pub fn origins(&self) -> Origins
         ensures { result.layout ≡ self.now.layout }
     {

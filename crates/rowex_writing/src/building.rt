@@ -85,7 +85,8 @@ pub(crate) fn make_node<G: Gate>(
     make_words(table, seat, gate, build, &words)
 }
 
-/// Makes a record of `words`, which are those of a node, as [`make_node`] does.
+/// Makes a node record of `words`, which are those of a node, adds it to `build.made`, and returns its entry. `None` if no node record was
+/// free: none is added. Claims go on as in [`make_node`].
 pub(crate) fn make_words<G: Gate>(
     table: &HotTable,
     seat: &mut TableSeat,
@@ -125,8 +126,9 @@ fn entry_of(number: u32, node: &Node) -> Entry
     }
 }
 
-/// Makes a record for the node that `words` spell with the leaf `new`, as [`make_node`] does. The node has leaves alone and room for one
-/// more. `words` become those of the record, so that no node is read and none is packed.
+/// Makes a record for the node that `words` spell with the leaf `new`, adds it to `build.made`, and returns its entry. `None` if no node
+/// record was free. The node has leaves alone and room for one more. `words` become those of the record, so that no node is read and none
+/// is packed.
 fn make_low<G: Gate>(
     table: &HotTable,
     seat: &mut TableSeat,
@@ -182,8 +184,8 @@ fn make_half<G: Gate>(
     }
 }
 
-/// Makes what takes the place of a node with the entry `old` that became `grown`: one entry, or a fork of two for a cut. Each new node
-/// gets a record, that of a cut's 1 side first. `None` if no node record was free.
+/// Makes what takes the place of a node with the entry `old` that became `grown`: one entry, or a fork of two for a cut. Each new node gets
+/// a record, that of a cut's 1 side first. `None` if no node record was free: one made by then stays in `build.made`.
 fn make_risen<G: Gate>(
     table: &HotTable,
     seat: &mut TableSeat,
@@ -361,7 +363,7 @@ fn stays_whole(grown: &Grown) -> bool
     }
 }
 
-/// Whether `half` is the node that was cut, as it was.
+/// Whether `half`, a side of a cut, is the whole old node (`Half::Same`). `false` for one entry and for a new node.
 fn is_same(half: &Half) -> bool
     ensures { result ≡ is_the_same half.now }
 {

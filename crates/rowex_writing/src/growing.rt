@@ -45,8 +45,8 @@ pub(crate) fn grow_node<G: Gate>(
     grow_with(table, seat, gate, build, job, &new)
 }
 
-/// Puts the leaf `new`, whose record is made, into the lowest node of the span. Returns what is to take the place of the topmost, or
-/// `Full::Nodes` if no node record was free.
+/// Makes and returns what takes the place of the nodes of `job.span` once the lowest gets `new`, a leaf whose record is made. `Full::Nodes`
+/// if no node record was free: those made by then stay in `build.made`.
 fn grow_with<G: Gate>(
     table: &HotTable,
     seat: &mut TableSeat,

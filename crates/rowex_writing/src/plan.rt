@@ -172,7 +172,8 @@ pub(crate) fn plan_beside(
     }
 }
 
-/// The plan to make `deed` at the nodes of the way from `end` on, before `len`.
+/// The plan to do `deed` and remake the nodes of the way from index `end` up to, but not including, `len`. None is remade if `end` is
+/// `len`.
 fn change(len: usize, end: usize, deed: Deed) -> Plan
     ensures { result ≡ a_change len end deed }
 {

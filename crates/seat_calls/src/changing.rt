@@ -111,7 +111,8 @@ fn may_be_taken(passes: u32, given: u32) -> bool {
     passes > 1 && given > 0
 }
 
-/// Makes an attempt that does nothing: it pins the pass and clears the pin.
+/// Makes an attempt that does nothing: pins the pass and clears the pin, in three steps. No note is added, and what was found not free
+/// stays known.
 fn refuse_again<G: Gate>(table: &HotTable, seat: &mut TableSeat, gate: &mut G)
     requires idle { IsIdle table.now seat.old }
     ensures rested { HasRested table.now G.becomes (seat.old, gate.old) (seat.new, gate.new) }

@@ -47,7 +47,8 @@ impl Room {
     }
 }
 
-/// Lets claims begin with `rec`, if the list of spare numbers has a place for it.
+/// Adds `rec` to the spare numbers of its kind or class, so that the next claim there begins with `rec`. With 256 kept, `rec` is not added.
+/// Either way claims pass this class by no more.
 fn give_back(build: &mut Build, layout: Layout, rec: Rec) {
     match rec {
         Rec::Node(number) => build.nodes.give_back(number),
