@@ -31,14 +31,14 @@ use Rattle.rowex_table.specs.Stays.{LeavesFresh}
 use Rattle.rowex_table.specs.Traces.{RunBeginsWith, own_acts}
 use Rattle.rowex_table.proofs.Keeping.{renoted}
 use Rattle.rowex_table.proofs.Linking.{lead_rest}
-use Rattle.rowex_table.proofs.Onward.{begins_on as run_begins_on, led_more}
+use Rattle.rowex_table.proofs.Onward.{begins_on as run_begins_on, led_more, of_one_run}
 use Rattle.rowex_table.proofs.Running.{runs_same}
 use Rattle.seat_calls.specs.Traces.{untold}
 use Rattle.seat_calls.proofs.Noting.{longer}
 use Rattle.real_time.specs.Moments.{Happening, IsCallTurn, IsMomentStep, IsNewIndex, IsShowing, IsSoundMoment, Moment, Pending, invokes, refuses, responds, shows, steps}
 use Rattle.real_time.proofs.Growing.{runs_stay_sound}
 use Rattle.index_laws.specs.Executions.{IsExecution, LeadsOn}
-use Rattle.index_laws.specs.Traced.{CallsMakeNoAsides, ContractsLeadOn, EndedBeforeLoaded, EndedOrLoadedBefore, Instant, IsSeatShowing, IsSeatStep, IsSeatTurn, IsShownItself, IsShownSteps, IsTracedExecution, LoadsSeeAll, TracedAreExecutions, core_led_to, moment_of}
+use Rattle.index_laws.specs.Traced.{CallsMakeNoAsides, ContractsLeadOn, EndedBeforeLoaded, EndedOrLoadedBefore, Instant, IsSeatShowing, IsSeatStep, IsSeatTurn, IsShownItself, IsShownSteps, IsTracedExecution, LoadsSeeAll, MetAreOfOneRun, TracedAreExecutions, core_led_to, moment_of}
 use Rattle.index_laws.proofs.Timed.{executions_are_runs, opening_is_new}
 
 -- The core to which steps lead
@@ -257,6 +257,13 @@ ended_or_loaded_before index s t call reply first acts last said ends u v later 
     ⊎_elim (λ (begins : RunBeginsWith before t.trace). inl (ended_before_loaded index s t call reply first acts last said ends u v later answer second loads before load begins))
     (λ (has : RunBeginsWith t.trace (before ++ l ∷ [])). inr (load.0, has))
     (before_or_with t.trace before one.0 with_load.0 l (sym one.1 ∙ with_load.1))
+
+pub met_are_of_one_run : MetAreOfOneRun
+met_are_of_one_run layout s t u v first second same one other begins begun =
+    let a = first.run.others in
+    let b = second.run.others in
+    of_one_run u.trace one other (run_begins_on one s.trace u.trace begins (a.0, a.1))
+    (subst (λ l. RunBeginsWith l other) (sym same) (run_begins_on other t.trace v.trace begun (b.0, b.1)))
 
 -- What is no step
 

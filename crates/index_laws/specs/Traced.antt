@@ -157,8 +157,16 @@ EndedOrLoadedBefore =
     (index : TableView) (s t : SeatView) (call : Call) (reply : Reply) (first : IsNoted index.layout (pass_of s) (pass_of t) call reply) →
     (acts : List Act) (last : Act) (said : Known → List Note) → Ends index untold acts last said (s, tt) (t, tt) →
     (u v : SeatView) (later : Call) (answer : Reply) (second : IsNoted index.layout (pass_of u) (pass_of v) later answer) →
-    SeesAllOfRun index.layout u v → (run before : List Event) → RunBeginsWith run t.trace → RunBeginsWith run v.trace → LoadsRootBehind u.known.pass v.trace before →
+    SeesAllOfRun index.layout u v → (run before : List Event) → RunBeginsWith run t.trace → RunBeginsWith run v.trace →
+    LoadsRootBehind u.known.pass v.trace before →
     (place_after (record { place = first.place; call = call; reply = reply }) ≤ second.place) ⊎ LoadsRootBehind u.known.pass t.trace before
+
+-- By contracts two passes are of one run where they have met, as the clauses `shown` and `traces` of a meeting say. Of the steps of which the
+-- one knew at any time before, and the other, the ones begin with the others.
+abbrev pub MetAreOfOneRun : Type 0
+MetAreOfOneRun =
+    (layout : Layout) (s t u v : SeatView) → IsShownAll layout s u → IsShownAll layout t v → u.trace ≡ v.trace →
+    (one other : List Event) → RunBeginsWith s.trace one → RunBeginsWith t.trace other → RunBeginsWith other one ⊎ RunBeginsWith one other
 
 -- A call of steps that end in one, as those of one key and scans do, makes no stamp, follows none and meets no other pass.
 abbrev pub CallsMakeNoAsides : Type 0

@@ -2,7 +2,7 @@
 ghost use Rattle.index_laws.specs.Headline.{Headline};
 ghost use Rattle.index_laws.specs.Statements.{AGetReturns, Responses};
 ghost use Rattle.index_laws.specs.Steps.{StepsAreMoments, StepsFollow};
-ghost use Rattle.index_laws.specs.Traced.{AGetIsTraced, CallsMakeNoAsides, EndedBeforeLoaded, EndedOrLoadedBefore, LoadsAreMoments, LoadsSeeAll, TracedAreExecutions};
+ghost use Rattle.index_laws.specs.Traced.{AGetIsTraced, CallsMakeNoAsides, EndedBeforeLoaded, EndedOrLoadedBefore, LoadsAreMoments, LoadsSeeAll, MetAreOfOneRun, TracedAreExecutions};
 
 /// A run may begin where an index has just been made, and a call that has ended does so in it as its contract says.
 pub fn responses()
@@ -58,6 +58,11 @@ pub fn ended_before_loaded()
 /// Of two such calls in one run of the table the one stands first, or the other's load of the root came no later than the one's last step.
 pub fn ended_or_loaded_before()
     ensures { EndedOrLoadedBefore }
+{}
+
+/// Two passes that have met are of one run of the table.
+pub fn met_are_of_one_run()
+    ensures { MetAreOfOneRun }
 {}
 
 /// A call makes no stamp, follows none and meets no other pass.
