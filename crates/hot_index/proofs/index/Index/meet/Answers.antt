@@ -8,6 +8,15 @@ use Rattle.hot_index.specs.Stamps.{HasSeenMore}
 use Rattle.hot_index.proofs.Meets.{first_settled, second_settled, passes_met, seen_more}
 use Rattle.hot_index.proofs.index.Index.meet.Goals as goal
 
+pub returns-clause-rest : goal.returns-clause-rest
+returns-clause-rest c =
+    let one = c.meet_seats-first.result.0 in
+    let other = c.meet_seats-first.result.1 in
+    let met = c.meet_seats-first.ensures.met in (
+      subst (λ (z : PassView). HasSeenMore z (pass_of one)) c.first.view_is (seen_more met.0 c.first.inside.seat.known one.known met.1),
+      subst (λ (z : PassView). HasSeenMore z (pass_of other)) c.second.view_is (seen_more met.0 c.second.inside.seat.known other.known met.2),
+    )
+
 pub invariant_of-result : goal.invariant_of-result
 invariant_of-result c = first_settled c.self.inside.table.layout _ _ _ _ c.meet_seats-first.ensures.met c.first.invariant
 
@@ -36,13 +45,4 @@ returns-clause-shown c =
     subst (λ (x : TableView). IsShownAll x.layout c.args.first.seat one × IsShownAll x.layout c.args.second.seat other) c.self.view_is (
       subst (λ (z : PassView). IsShownAll c.self.inside.table.layout z.seat one) c.first.view_is shown.0,
       subst (λ (z : PassView). IsShownAll c.self.inside.table.layout z.seat other) c.second.view_is shown.1,
-    )
-
-pub returns-clause-rest : goal.returns-clause-rest
-returns-clause-rest c =
-    let one = c.meet_seats-first.result.0 in
-    let other = c.meet_seats-first.result.1 in
-    let met = c.meet_seats-first.ensures.met in (
-      subst (λ (z : PassView). HasSeenMore z (pass_of one)) c.first.view_is (seen_more met.0 c.first.inside.seat.known one.known met.1),
-      subst (λ (z : PassView). HasSeenMore z (pass_of other)) c.second.view_is (seen_more met.0 c.second.inside.seat.known other.known met.2),
     )
