@@ -34,7 +34,7 @@
  * Each call below that makes steps gives its bound, for the worst tree that there can be.
  *
  * A handle takes some 118 KB, from when it is first opened, so that no change needs memory. One that hot_open_index made and that was
- * not opened yet takes some 80 bytes; but the index takes the 118 KB of its last handle at once.
+ * not opened yet takes some 90 bytes; but the index takes the 118 KB of its last handle at once.
  *
  * Each handle has memory for the pairs of its scans, too, which the next scan uses again. After a scan it goes if the keys have more than
  * 32 KiB of it, or the rest has. So a handle keeps 64 KiB of it at most between its calls.
