@@ -34,7 +34,7 @@
  * Each call below that makes steps gives its bound, for the worst tree that there can be.
  *
  * A handle takes some 118 KB, from when it is first opened, so that no change needs memory. hot_create and hot_create_with open all
- * their handles, so 64 of them take 7.6 MB at once. A handle of hot_open_index takes some 80 bytes until hot_open first opens it; but the
+ * their handles, so 64 of them take 7.6 MB at once. A handle of hot_open_index takes some 90 bytes until hot_open first opens it; but the
  * index takes the 118 KB of its last handle at once.
  *
  * Each handle has memory for the pairs of its scans, too, which the next scan uses again. After a scan it goes if the keys have more than

@@ -3,7 +3,7 @@
 
 ghost use Rattle.std.specs.Prelude.{◌≡◌};
 
-use hot_index::{Cursor, Handle, Index, IndexFault, Key, Pairs, create};
+use hot_index::{Cursor, Handle, Index, IndexFault, Key, Pairs, create, total};
 use std::io;
 use std::io::ErrorKind;
 use std::sync::Wait;
@@ -52,7 +52,9 @@ fn run<R: Threads + Wait + AllocGlobal + Print + Sync>(rt: &R) -> io::Result<()>
     );
 
     // Once they have met, each has seen what both wrote; the first insert of a key stays.
-    let (mut first, _) = first.meet(second);
+    let (mut first, second) = first.meet(second);
+    let counts = [first.count(), second.count()];
+    println!(rt; "{} keys in all", total(&counts))?;
     let (from, upto) = (key("b")?, key("z")?);
     let scan = first.scan(rt.alloc(), &from, &upto, 10)?;
     println!(rt;

@@ -1,4 +1,5 @@
 -- The lemmas of the crate.
+pub mod Counted
 pub mod ManyNoted
 pub mod Found
 pub mod Firsts

@@ -12,6 +12,7 @@ use Rattle.finite_map.specs.Calls.{LegalCalls, RisesFrom, StandsIn, change_of, c
 use Rattle.finite_map.specs.Fronts.{LegalFront, OthersGoOn, map_of}
 use Rattle.finite_map.specs.Maps.{reply_of}
 use Rattle.finite_map.proofs.Legal.{change_of-quiet, legal_longer, place_after-within}
+use Rattle.key_counts.specs.declared.KeyCount.{KeyCount}
 use Rattle.rowex_core.specs.declared.event.Act.TheVariants.{ClearPin, LoadEpoch, LoadRef, SetPin}
 use Rattle.rowex_core.specs.declared.event.Event.{Event}
 use Rattle.rowex_core.specs.declared.event.Spot.TheVariants.{Root}
@@ -30,6 +31,8 @@ use Rattle.seat_calls.specs.Traces.{reading, untold}
 use Rattle.seat_calls.proofs.LookedUp.{looked_on}
 use Rattle.seat_calls.proofs.Noting.{HasLooked, get_changes_nothing, goes_on, same_reply_reflexive, legal_front, longer, looked_then, reply_is, settles}
 use Rattle.seat_calls.proofs.Tracing.{pinned_sees, runs_untold, step_untold}
+use Rattle.hot_index.specs.Passes.{IsSettledWith}
+use Rattle.hot_index.proofs.Counted.{count_goes, count_stays}
 
 -- The places, from the last one on: each is the last right one up to that of the next call
 
@@ -205,6 +208,16 @@ module _ {G : Type 0} {table : TableView} {becomes : G → Event → G → Type 
       legal : LegalCalls c.0.known.front c.0.known.pass (c.0.known.notes ++ added)
       legal = subst (λ (z : ℕ × List Note). LegalCalls c.0.known.front z.0 (z.1 ++ added)) (λ x. (sym looks.on.pass x, sym looks.on.notes x))
           (legal_with a.0.known.front c.0.known.front a.0.known.pass start a.0.known.notes calls settled.legal looks.others (legal_front a.0 d.0 looks.on end.event) low_start are_placed)
+
+  -- and its count is as it was
+  pub gets_counted : (count : KeyCount) → IsSettledWith a.0.known count → IsSettledWith d.0.known count
+  gets_counted count was =
+      let told = gets_noted was.settled in
+      record {
+        settled = told.1;
+        counts = count_goes a.0.known.pass d.0.known.pass (a.0.known.notes ++ added) d.0.known.notes count told.0.number (notes_are was.settled)
+            (count_stays a.0.known.pass a.0.known.notes added count are_placed.none was.counts);
+      }
 
   all_steps : d.0.known.steps ≤ a.0.known.steps + 4 + 34 * length keys + 29 * up.entries
   all_steps =

@@ -1,7 +1,6 @@
 -- Passes that follow stamps, and how their calls stand.
-use Rattle.std.proofs.Common.{◌≡◌, List, [], ◌∷◌, ◌++◌, sym, ap, subst, ◌∙◌, arith}
+use Rattle.std.proofs.Common.{◌≡◌, List, sym, ap, subst, ◌∙◌, arith}
 use Rattle.std.specs.Prelude.{All}
-use Rattle.std.proofs.lemmas.List.Elements.{All-head, All-tail}
 use Rattle.finite_map.specs.declared.Change.{Change}
 use Rattle.finite_map.specs.declared.Note.{Note}
 use Rattle.finite_map.specs.Calls.{StandsIn}
@@ -14,6 +13,7 @@ use Rattle.rowex_table.specs.Seats.{IsOneSeat, IsShownAll, SeatView}
 use Rattle.seat_calls.specs.Passes.{IsSettled, pass_of}
 use Rattle.hot_index.specs.Stamps.{HasCaughtUp}
 use Rattle.hot_index.specs.Statements.{ReturnedBeforeBegun}
+use Rattle.hot_index.proofs.Counted.{last_of}
 use Rattle.hot_index.proofs.Meets.{goes_on, unnoted}
 use Rattle.seat_calls.proofs.Noting.{longer}
 
@@ -34,10 +34,6 @@ caught_up layout stamp s t same shown (front, is, legal, others, told, makers) s
     known = is ∙ ap (λ (z : List Change). with_front z s.known) (sym (ap (λ (z : Known). z.front) is))
 
 -- Time
-
-last_of : (P : Note → Type 0) (notes : List Note) (n : Note) → All P (notes ++ n ∷ []) → P n
-last_of P [] n h = All-head P n [] h
-last_of P (x ∷ notes) n h = last_of P notes n (All-tail P x (notes ++ n ∷ []) h)
 
 pub returned_before_begun : ReturnedBeforeBegun
 returned_before_begun layout k j call reply first stamp told i m later answer seen second =

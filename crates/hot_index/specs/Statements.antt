@@ -1,11 +1,13 @@
 -- What the contracts of the index give in other words.
-use Rattle.std.specs.Prelude.{◌≡◌, ◌⊎◌, ◌*◌, ◌<◌, ◌≤◌, ℕ, List, [], length, Contains, Option, Some, None}
+use Rattle.std.specs.Prelude.{◌≡◌, ◌⊎◌, ◌*◌, ◌<◌, ◌≤◌, ℕ, List, [], length, slice_get, Contains, Option, Some, None}
 use Rattle.key_bits.specs.Key.{IsKey}
 use Rattle.finite_map.specs.declared.Call.{Call}
 use Rattle.finite_map.specs.declared.Change.{Change}
 use Rattle.finite_map.specs.declared.Reply.{Reply}
-use Rattle.finite_map.specs.Calls.{place_after}
-use Rattle.finite_map.specs.Fronts.{BeginsWith}
+use Rattle.finite_map.specs.Calls.{LegalCalls, place_after}
+use Rattle.finite_map.specs.Fronts.{BeginsWith, LegalFront, OthersGoOn}
+use Rattle.key_counts.specs.Counts.{AreCounts, IsCountOf}
+use Rattle.key_counts.specs.declared.KeyCount.{KeyCount}
 use Rattle.record_words.specs.declared.layout.Layout.{Layout}
 use Rattle.record_words.specs.Leaf.{words_for}
 use Rattle.versions.specs.Trades.{AreApart, IsOneOf}
@@ -16,7 +18,7 @@ use Rattle.rowex_records.specs.Claims.{AllMissed, AllMissedFrom, HasMissedSince,
 use Rattle.rowex_writing.specs.Counts.{most_nodes}
 use Rattle.rowex_writing.specs.declared.attempts.TryFault.TheVariants.{Busy, FullLeaves, FullNodes}
 use Rattle.seat_calls.specs.Answers.{IsCause, IsNoted}
-use Rattle.seat_calls.specs.Passes.{PassView}
+use Rattle.seat_calls.specs.Passes.{AreByPasses, PassView}
 
 -- Where all leaf records are long, as in an index that `create` makes, a call that lacks one has found each of them not free, and none its
 -- own.
@@ -59,3 +61,14 @@ ReturnedBeforeBegun =
     (layout : Layout) (k j : PassView) (call : Call) (reply : Reply) (first : IsNoted layout k j call reply) (stamp : List Change) → BeginsWith stamp j.front →
     (i m : PassView) (later : Call) (answer : Reply) → BeginsWith i.front stamp → (second : IsNoted layout i m later answer) →
     place_after (record { place = first.place; call = call; reply = reply }) ≤ second.place
+
+-- The pass of this number has this count. It is changing nothing: since the changes that it has seen, only others' were made.
+abbrev pub HasCount : List Change → ℕ → KeyCount → Type 0
+HasCount front q count =
+    (p : PassView) × (p.number ≡ q) × LegalCalls p.front p.number p.notes × OthersGoOn p.number p.front front × IsCountOf p.number p.notes count
+
+-- The counts of all passes of an index, in the order of their numbers, add up to the number of its keys (`total`), if no pass is changing it.
+abbrev pub CountsAddUp : Type 0
+CountsAddUp =
+    (layout : Layout) (front : List Change) (counts : List KeyCount) → LegalFront front → AreByPasses layout front → length counts ≡ layout.passes →
+    ((q : ℕ) (count : KeyCount) → slice_get counts q ≡ Some count → HasCount front q count) → AreCounts front counts

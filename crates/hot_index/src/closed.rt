@@ -1,33 +1,46 @@
 //! Closed passes and handles: rights to use an index that take a few bytes, until they are opened.
 
 ghost use Rattle.std.specs.Prelude.{◌≡◌, IfErr, IfOk};
+ghost use Rattle.finite_map.specs.Calls.{LegalCalls};
+ghost use Rattle.key_counts.specs.Counts.{IsCountOf};
 ghost use Rattle.seat_calls.specs.Passes.{Owns};
 ghost use Rattle.hot_index.specs.Handles.{handle_at};
 
 use crate::handle::{Handle, ShowsIndex};
 use crate::index::{Index, Pass};
+use key_counts::KeyCount;
 use rowex_table::TableSeat;
 use seat_calls::new_room;
 use std::alloc::{AllocFailed, Global};
 use std::marker::Model;
 
-/// A pass without the buffers that its calls need, so it makes none. It takes two bytes, where an open one takes some 118 KB.
+/// A pass without the buffers that its calls need, so it makes none. It takes 16 bytes, where an open one takes some 118 KB.
 #[derive(Drop)]
 pub struct ClosedPass {
     pub(crate) seat: TableSeat,
+    pub(crate) count: KeyCount,
 }
 
 impl Model for ClosedPass {
-    ghost use Rattle.seat_calls.specs.Passes.{PassView, IsSettled, pass_of};
+    ghost use Rattle.seat_calls.specs.Passes.{PassView, pass_of};
+    ghost use Rattle.hot_index.specs.Passes.{IsSettledWith};
 
     ghost Value = { PassView };
 
     ghost view = { λ p. pass_of p.seat };
 
-    ghost invariant = { λ p. IsSettled p.seat.known };
+    ghost invariant = { λ p. IsSettledWith p.seat.known p.count };
 }
 
 impl ClosedPass {
+    /// As `Pass::count`.
+    pub fn count(&self) -> KeyCount
+        ensures count { IsCountOf self.now.number self.now.notes result }
+        ensures legal { LegalCalls self.now.front self.now.number self.now.notes }
+    {
+        self.count
+    }
+
     /// Opens the pass, for calls at `index`, or gives it back where memory is refused.
     pub fn open(self, alloc: Global, index: &Index) -> Result<Pass, AllocFailed<ClosedPass>>
         ensures opened { IfOk result (λ pass. pass ≡ self) }
@@ -37,6 +50,7 @@ impl ClosedPass {
             Ok(room) => Ok(Pass {
                 seat: self.seat,
                 room,
+                count: self.count,
             }),
             Err(_) => Err(AllocFailed { value: self }),
         }
@@ -48,7 +62,10 @@ impl Pass {
     pub fn close(self) -> ClosedPass
         ensures { result ≡ self }
     {
-        ClosedPass { seat: self.seat }
+        ClosedPass {
+            seat: self.seat,
+            count: self.count,
+        }
     }
 }
 
@@ -77,6 +94,14 @@ impl<I: ShowsIndex> ClosedHandle<I> {
         ensures { result ≡ handle_at (I.shown index) pass }
     {
         ClosedHandle { index, pass }
+    }
+
+    /// As `Pass::count`.
+    pub fn count(&self) -> KeyCount
+        ensures count { IsCountOf self.now.pass.number self.now.pass.notes result }
+        ensures legal { LegalCalls self.now.pass.front self.now.pass.number self.now.pass.notes }
+    {
+        self.pass.count()
     }
 
     /// Opens the handle, or gives it back where memory is refused.

@@ -10,6 +10,7 @@ ghost use Rattle.seat_calls.specs.Passes.{PassView, Owns, IsNewPass};
 
 use crate::closed::ClosedPass;
 use crate::index::{Index, Pass};
+use key_counts::KeyCount;
 use record_words::{Layout, LayoutFault, Stock};
 use rowex_table::{HotTable, TableSeat};
 use std::alloc::{AllocError, Global};
@@ -70,7 +71,7 @@ pub fn create_with(
     opened_of(alloc, Layout::with_stock(passes, stock))
 }
 
-/// Does what `create_with` does, but the passes are closed: each takes two bytes until it is opened.
+/// Does what `create_with` does, but the passes are closed: each takes 16 bytes until it is opened.
 pub fn create_closed(
     alloc: Global,
     passes: u32,
@@ -159,7 +160,8 @@ fn passes_of(
 {
     let mut passes = Vec::new(alloc);
     for seat in seats {
-        passes.push(ClosedPass { seat })?;
+        let count = KeyCount::new();
+        passes.push(ClosedPass { seat, count })?;
     }
     Ok(passes)
 }

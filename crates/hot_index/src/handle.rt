@@ -2,7 +2,9 @@
 
 ghost use Rattle.std.specs.Prelude.{◌≡◌, ◌≢◌, [], All, Err, IfOk, length, map};
 ghost use Rattle.finite_map.specs.declared.Call.TheVariants.{Add, Exchange, Get, Insert, Remove, RemoveIf, Upsert};
+ghost use Rattle.finite_map.specs.Calls.{LegalCalls};
 ghost use Rattle.finite_map.specs.Reverse.{IsLawfulReverseScan};
+ghost use Rattle.key_counts.specs.Counts.{IsCountOf};
 ghost use Rattle.rowex_table.specs.Seats.{IsShownAll};
 ghost use Rattle.seat_calls.specs.Answers.{HaveMet, IsNoted, IsUnnoted, got, range_from};
 ghost use Rattle.seat_calls.specs.Calls.{IsAwaited, IsCallTried, IsListRead, IsListReadBy, IsRangeRead, IsScanRead, IsScanReadBy, IsTried};
@@ -20,6 +22,7 @@ use crate::index::{Index, Pass};
 use epochs::Given;
 use finite_map::{Call, Reply, Scan};
 use key_bits::Key;
+use key_counts::KeyCount;
 use packed_pairs::Pairs;
 use rowex_writing::{Full, TryFault};
 use seat_calls::RecordCounts;
@@ -99,6 +102,14 @@ impl<I: ShowsIndex> Handle<I> {
         ensures { result ≡ self.now.pass.number }
     {
         self.pass.number()
+    }
+
+    /// As `Pass::count`.
+    pub fn count(&self) -> KeyCount
+        ensures count { IsCountOf self.now.pass.number self.now.pass.notes result }
+        ensures legal { LegalCalls self.now.pass.front self.now.pass.number self.now.pass.notes }
+    {
+        self.pass.count()
     }
 
     /// The value of `key`, or `None` if it is absent, as by `Index::get`.

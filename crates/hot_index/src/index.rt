@@ -2,6 +2,8 @@
 
 ghost use Rattle.std.specs.Prelude.{◌≡◌, length};
 ghost use Rattle.finite_map.specs.declared.Call.TheVariants.{Get, Insert, Remove, Upsert};
+ghost use Rattle.finite_map.specs.Calls.{LegalCalls};
+ghost use Rattle.key_counts.specs.Counts.{IsCountOf};
 ghost use Rattle.rowex_table.specs.Seats.{IsShownAll};
 ghost use Rattle.seat_calls.specs.Passes.{Owns};
 ghost use Rattle.seat_calls.specs.Answers.{IsNoted, IsUnnoted, HaveMet, got};
@@ -14,6 +16,7 @@ ghost use Rattle.hot_index.specs.Stamps.{HasSeenMore};
 use epochs::{Given, collect_round, pin, unpin};
 use finite_map::{Call, Reply};
 use key_bits::Key;
+use key_counts::KeyCount;
 use rowex_core::{Gate, NoGate};
 use rowex_reading::look_up;
 use rowex_table::{HotTable, TableSeat};
@@ -44,16 +47,18 @@ impl Model for Index {
 pub struct Pass {
     pub(crate) seat: TableSeat,
     pub(crate) room: Box<Room>,
+    pub(crate) count: KeyCount,
 }
 
 impl Model for Pass {
-    ghost use Rattle.seat_calls.specs.Passes.{PassView, IsSettled, pass_of};
+    ghost use Rattle.seat_calls.specs.Passes.{PassView, pass_of};
+    ghost use Rattle.hot_index.specs.Passes.{IsSettledWith};
 
     ghost Value = { PassView };
 
     ghost view = { λ p. pass_of p.seat };
 
-    ghost invariant = { λ p. IsSettled p.seat.known };
+    ghost invariant = { λ p. IsSettledWith p.seat.known p.count };
 }
 
 impl Pass {
@@ -62,6 +67,15 @@ impl Pass {
         ensures { result ≡ self.now.number }
     {
         self.seat.number()
+    }
+
+    /// How many keys the calls of the pass have put in, less how many they have taken out, modulo 2^64. The `total` of the counts of
+    /// all passes is the number of keys, if no pass is changing the index.
+    pub fn count(&self) -> KeyCount
+        ensures count { IsCountOf self.now.number self.now.notes result }
+        ensures legal { LegalCalls self.now.front self.now.number self.now.notes }
+    {
+        self.count
     }
 }
 
@@ -205,15 +219,18 @@ impl Index {
         ensures rest { HasSeenMore first result.0 × HasSeenMore second result.1 }
     {
         let (one, other) = (first.room, second.room);
+        let (ours, theirs) = (first.count, second.count);
         let (first, second) = self.table.meet_seats(first.seat, second.seat);
         (
             Pass {
                 seat: first,
                 room: one,
+                count: ours,
             },
             Pass {
                 seat: second,
                 room: other,
+                count: theirs,
             },
         )
     }
@@ -351,7 +368,9 @@ impl Index {
         requires { Owns self.now pass.old }
         ensures { IsTriedWith call.now result self.now G.becomes (pass.old, gate.old) (pass.new, gate.new) }
     {
-        try_change(&self.table, &mut pass.seat, gate, &mut pass.room, call)
+        let answer = try_change(&self.table, &mut pass.seat, gate, &mut pass.room, call);
+        pass.count.note_answer(&answer);
+        answer
     }
 
     /// Makes the change `call`, and reports each step to `gate`. It begins again as long as another pass is in its way, or records may
@@ -366,7 +385,9 @@ impl Index {
         requires { Owns self.now pass.old }
         ensures { IsAwaitedWith call.now result self.now G.becomes (pass.old, gate.old) (pass.new, gate.new) }
     {
-        change(rt, &self.table, &mut pass.seat, gate, &mut pass.room, call)
+        let answer = change(rt, &self.table, &mut pass.seat, gate, &mut pass.room, call);
+        pass.count.note_answer(&answer);
+        answer
     }
 }
 

@@ -1,6 +1,6 @@
 //! Laws of the index. The functions do nothing: their contracts are the laws.
 
-ghost use Rattle.hot_index.specs.Statements.{LacksAllLong, OnePassFullIsFull, OnePassIsNeverBusy, ReturnedBeforeBegun};
+ghost use Rattle.hot_index.specs.Statements.{CountsAddUp, LacksAllLong, OnePassFullIsFull, OnePassIsNeverBusy, ReturnedBeforeBegun};
 
 /// If all leaf records are long, as `create` makes them, a call refused as `FullLeaves` has found each leaf record not free. It found so
 /// after it began, and no leaf record was its pass's own.
@@ -24,4 +24,10 @@ pub fn one_pass_full_is_full()
 /// at no later place, and at an earlier one if it changed the map.
 pub fn returned_before_begun()
     ensures { ReturnedBeforeBegun }
+{}
+
+/// If no pass is changing an index, the counts of all its passes, in the order of their numbers, are those of its front. So their `total`
+/// is the number of its keys.
+pub fn counts_add_up()
+    ensures { CountsAddUp }
 {}

@@ -16,7 +16,8 @@
 //!   These forms wait while another pass is in the way. The `try_` forms return [`TryFault`] instead, after a bounded number of steps.
 //! - *Scans*: `scan`, `scan_into`, downwards `scan_reverse`, `prefix_into`, `first`, `last`, and [`Cursor`]s. A scan is no single
 //!   moment: each pair was there at a moment of it, and no key is left out that was there all along.
-//! - *Upkeep*: `collect` gives back what was retired, and `census` counts the records. Calls collect by themselves.
+//! - *Upkeep*: `collect` gives back what was retired, and `census` counts the records. Calls collect by themselves. Each pass keeps a
+//!   `count` of its keys, and [`total`] adds up these counts.
 //! - *Order in time*: passes that `meet` share one history from then on. A [`Stamp`] carries what one pass has seen to another.
 //!
 //! # What contracts say
@@ -54,6 +55,7 @@ pub use finite_map::{Call, Reply, Scan};
 pub use handle::{Handle, ShowsIndex, handles_of};
 pub use index::{Index, Pass};
 pub use key_bits::Key;
+pub use key_counts::{KeyCount, total};
 pub use key_ranges::{last_with_prefix, next_key, previous_key};
 pub use packed_pairs::Pairs;
 pub use record_words::{LayoutFault, Stock};

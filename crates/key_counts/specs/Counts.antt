@@ -1,5 +1,5 @@
 -- How many keys the calls of passes have put in and taken out.
-use Rattle.std.specs.Prelude.{◌≡◌, ℕ, ◌+◌, ◌*◌, ◌-◌, ◌^◌, ◌<◌, List, length, slice_get, sum_by, All, Some}
+use Rattle.std.specs.Prelude.{◌≡◌, ℕ, ◌+◌, ◌*◌, ◌-◌, ◌^◌, ◌<◌, List, [], ◌∷◌, ◌++◌, length, slice_get, sum_by, All, Some, Result, MatchResult}
 use Rattle.finite_map.specs.declared.Call.{Call}
 use Rattle.finite_map.specs.declared.Reply.{Reply}
 use Rattle.finite_map.specs.declared.Reply.TheVariants.{Inserted, New, Removed}
@@ -44,6 +44,15 @@ IsCountOf q notes count = IsNet (changes_of q notes) count.keys
 -- some map answers the call so
 abbrev pub MayReply : Call → Reply → Type 0
 MayReply call reply = (m : Map) × (reply ≡ reply_of m call)
+
+-- the count was that of a pass's calls, and is that of one call more, which had this reply
+abbrev pub CountsReply : Reply → KeyCount → KeyCount → Type 0
+CountsReply reply old new = (q place : ℕ) (notes : List Note) (call : Call) → MayReply call reply → IsCountOf q notes old →
+    IsCountOf q (notes ++ record { place = place; call = call; reply = reply } ∷ []) new
+
+-- the same of an answered call; a refused call leaves the count
+abbrev pub CountsAnswer : {F : Type 0} → Result Reply F → KeyCount → KeyCount → Type 0
+CountsAnswer answer old new = MatchResult answer (λ reply. CountsReply reply old new) (λ fault. new ≡ old)
 
 -- what a call with this reply puts in less what it takes out, modulo 2^64
 abbrev pub net_of : Reply → ℕ

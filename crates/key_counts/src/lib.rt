@@ -1,12 +1,10 @@
 //! How many keys a map has that passes share: by a count for each pass, which its own calls keep, and no other pass writes.
 #![tactic(auto)]
 
-ghost use Rattle.std.specs.Prelude.{◌≡◌, ◌<◌, ◌^◌, ◌++◌, ◌∷◌, [], ℕ, List, length};
-ghost use Rattle.finite_map.specs.declared.Call.{Call};
+ghost use Rattle.std.specs.Prelude.{◌≡◌, ◌<◌, ◌^◌, [], ℕ, List, length};
 ghost use Rattle.finite_map.specs.declared.Change.{Change};
-ghost use Rattle.finite_map.specs.declared.Note.{Note};
 ghost use Rattle.finite_map.specs.Fronts.{map_of};
-ghost use Rattle.key_counts.specs.Counts.{AreCounts, MayReply, IsCountOf, net_of};
+ghost use Rattle.key_counts.specs.Counts.{AreCounts, CountsAnswer, CountsReply, IsCountOf, net_of};
 
 use finite_map::Reply;
 
@@ -26,10 +24,18 @@ impl KeyCount {
 
     /// Counts a call of the pass whose reply was `reply`.
     pub fn note(&mut self, reply: Reply)
-        ensures { (q place : ℕ) (notes : List Note) (call : Call) → MayReply call reply → IsCountOf q notes self.old →
-            IsCountOf q (notes ++ record { place = place; call = call; reply = reply } ∷ []) self.new }
+        ensures { CountsReply reply self.old self.new }
     {
         self.keys = self.keys.wrapping_add(net(reply));
+    }
+
+    /// Counts a call of the pass if it was answered. A refused call leaves the count as it is.
+    pub fn note_answer<F>(&mut self, answer: &Result<Reply, F>)
+        ensures { CountsAnswer answer.now self.old self.new }
+    {
+        if let Ok(reply) = answer {
+            self.note(*reply);
+        }
     }
 }
 

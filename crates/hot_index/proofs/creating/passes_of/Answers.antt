@@ -2,6 +2,8 @@
 use Rattle.std.proofs.Common.{rules, ◌≡◌, ℕ, suc, ◌∷◌, [], ◌++◌, List, length, Some, sym, ap, subst, arith, length-append}
 use Rattle.std.specs.List.{slice_get}
 use Rattle.std.specs.Vec.Iter.{into_iter_items}
+use Rattle.key_counts.specs.Counts.{IsCountOf}
+use Rattle.rowex_core.specs.declared.known.Known.{Known}
 use Rattle.seat_calls.specs.Passes.{PassView, Owns, IsNewPass, IsSettled, pass_of}
 use Rattle.hot_index.proofs.Making.{AreFrom, all_left, first_of, rest_of, each_of_none, each_longer, new_pass}
 use Rattle.hot_index.proofs.creating.passes_of.Goals as goal
@@ -21,7 +23,10 @@ pub invariant_of-push : goal.invariant_of-push
 invariant_of-push c =
     let steps : into_iter_items c.loop-seat.seat-iterator ≡ c.in-Some.seat ∷ into_iter_items c.next.new.self = c.in-Some.ensures.steps.0 in
     let first = first_of c.args.table.now _ c.in-Some.seat _ (subst (AreFrom c.args.table.now (length c.loop-seat.passes.items)) steps c.loop-seat.invariant.left) in
-    subst IsSettled (sym first.1) (search rules)
+    record {
+      settled = subst IsSettled (sym first.1) (search rules);
+      counts = subst (λ (k : Known). IsCountOf k.pass k.notes c.new-count.result) (sym first.1) (c.new-count.ensures 0);
+    }
 
 pub loop-seat-preserved : goal.loop-seat-preserved
 loop-seat-preserved c =

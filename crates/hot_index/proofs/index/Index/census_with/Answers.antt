@@ -5,16 +5,21 @@ use Rattle.seat_calls.specs.Answers.{IsUnnoted}
 use Rattle.seat_calls.specs.Census.{HasCounted}
 use Rattle.seat_calls.specs.Passes.{PassView, pass_of}
 use Rattle.seat_calls.proofs.Counted.{counts_settled, counts_unnoted, has_counted}
+use Rattle.hot_index.proofs.Counted.{settled_on}
 use Rattle.hot_index.proofs.index.Index.census_with.Goals as goal
 
 pub invariant_of-pass : goal.invariant_of-pass
-invariant_of-pass g c = counts_settled c.count_records.ensures.steps c.self.inside.table.layout.nodes_in_range.0 (c.count_records.ensures.pin ∙ c.pass.invariant.pin) c.pass.invariant
+invariant_of-pass g c =
+    let counts = c.count_records.ensures in
+    let some = c.self.inside.table.layout.nodes_in_range.0 in
+    let settled = c.pass.invariant.settled in
+    settled_on c.self.inside.table.layout c.pass.inside.seat c.count_records.new.seat c.pass.inside.count (counts_unnoted counts.steps some settled) (counts_settled counts.steps some (counts.pin ∙ settled.pin) settled) c.pass.invariant
 
 pub returns-clause-call : goal.returns-clause-call
 returns-clause-call g c =
     subst (λ (x : TableView). IsUnnoted x.layout c.args.pass.now (pass_of c.count_records.new.seat)) c.self.view_is
     (subst (λ (z : PassView). IsUnnoted c.self.inside.table.layout z (pass_of c.count_records.new.seat)) c.pass.view_is
-    (counts_unnoted c.count_records.ensures.steps c.self.inside.table.layout.nodes_in_range.0 c.pass.invariant))
+    (counts_unnoted c.count_records.ensures.steps c.self.inside.table.layout.nodes_in_range.0 c.pass.invariant.settled))
 
 pub returns-clause-made : goal.returns-clause-made
 returns-clause-made g c =

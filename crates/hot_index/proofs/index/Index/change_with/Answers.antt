@@ -1,9 +1,12 @@
 -- What the call leaves on the seat, as the pass sees it.
 use Rattle.seat_calls.proofs.Trying.{awaited_seen}
+use Rattle.hot_index.proofs.Counted.{waited_on}
 use Rattle.hot_index.proofs.index.Index.change_with.Goals as goal
 
 pub invariant_of-pass : goal.invariant_of-pass
-invariant_of-pass g c = c.change.ensures.replied.idle.1
+invariant_of-pass g c =
+    waited_on c.self.inside.table c.args.call.now c.pass.inside.seat c.change-answer.new.seat c.pass.inside.count c.note_answer.new.self c.change-answer.result
+    c.change-answer.ensures.replied c.note_answer.ensures c.pass.invariant
 
 pub returns : goal.returns
-returns g c = awaited_seen c.self.view_is c.pass.view_is c.change.ensures.replied c.change.ensures.stepped c.change.ensures.tries
+returns g c = awaited_seen c.self.view_is c.pass.view_is c.change-answer.ensures.replied c.change-answer.ensures.stepped c.change-answer.ensures.tries

@@ -6,16 +6,20 @@ use Rattle.seat_calls.specs.Answers.{IsUnnoted}
 use Rattle.seat_calls.specs.Passes.{PassView, pass_of}
 use Rattle.seat_calls.specs.Traces.{HasCollected}
 use Rattle.seat_calls.proofs.Collected.{round_few, round_settled, round_unnoted}
+use Rattle.hot_index.proofs.Counted.{settled_on}
 use Rattle.hot_index.proofs.index.Index.collect_with.Goals as goal
 
 pub invariant_of-pass : goal.invariant_of-pass
-invariant_of-pass g c = round_settled c.collect_round-round.ensures.round c.collect_round-round.ensures.free c.pass.invariant
+invariant_of-pass g c =
+    let r = c.collect_round-round.ensures in
+    let settled = c.pass.invariant.settled in
+    settled_on c.self.inside.table.layout c.pass.inside.seat c.collect_round-round.new.seat c.pass.inside.count (round_unnoted r.round settled) (round_settled r.round r.free settled) c.pass.invariant
 
 pub returns-clause-call : goal.returns-clause-call
 returns-clause-call g c =
     subst (λ (x : TableView). IsUnnoted x.layout c.args.pass.now (pass_of c.collect_round-round.new.seat)) c.self.view_is
     (subst (λ (z : PassView). IsUnnoted c.self.inside.table.layout z (pass_of c.collect_round-round.new.seat)) c.pass.view_is
-    (round_unnoted c.collect_round-round.ensures.round c.pass.invariant))
+    (round_unnoted c.collect_round-round.ensures.round c.pass.invariant.settled))
 
 pub returns-clause-made : goal.returns-clause-made
 returns-clause-made g c =

@@ -5,7 +5,7 @@ use Rattle.seat_calls.specs.Passes.{PassView, pass_of}
 use Rattle.seat_calls.specs.Many.{AreNoted, HasGotMany, gets}
 use Rattle.seat_calls.proofs.LookedUp.{looked_on, on_same}
 use Rattle.seat_calls.proofs.Noting.{fits_then}
-use Rattle.hot_index.proofs.ManyNoted.{gets_made, gets_noted}
+use Rattle.hot_index.proofs.ManyNoted.{gets_counted, gets_made, gets_noted}
 use Rattle.hot_index.proofs.index.Index.get_many_with.Goals as goal
 
 pub end_gets-requires : goal.end_gets-requires
@@ -19,16 +19,16 @@ returns-clause-own g c =
     c.end_gets.ensures.step.seat.0 ∙ (same.0 ∙ (c.pin.ensures.fits.0 ∙ ap (λ (x : TableView). x.id) c.self.view_is))
 
 pub invariant_of-pass : goal.invariant_of-pass
-invariant_of-pass g c = (gets_noted c.args.keys.now c.look_up_each.new.found c.pin.ensures.steps c.look_up_each.ensures c.end_gets.ensures.step c.pass.invariant).1
+invariant_of-pass g c = gets_counted c.args.keys.now c.look_up_each.new.found c.pin.ensures.steps c.look_up_each.ensures c.end_gets.ensures.step c.pass.inside.count c.pass.invariant
 
 pub returns-clause-call : goal.returns-clause-call
 returns-clause-call g c =
     subst (λ (x : TableView). AreNoted x.layout c.args.pass.now (pass_of c.end_gets.new.seat) (gets c.args.keys.now c.look_up_each.new.found)) c.self.view_is
     (subst (λ (z : PassView). AreNoted c.self.inside.table.layout z (pass_of c.end_gets.new.seat) (gets c.args.keys.now c.look_up_each.new.found)) c.pass.view_is
-    (gets_noted c.args.keys.now c.look_up_each.new.found c.pin.ensures.steps c.look_up_each.ensures c.end_gets.ensures.step c.pass.invariant).0)
+    (gets_noted c.args.keys.now c.look_up_each.new.found c.pin.ensures.steps c.look_up_each.ensures c.end_gets.ensures.step c.pass.invariant.settled).0)
 
 pub returns-clause-made : goal.returns-clause-made
 returns-clause-made g c =
     subst (λ (x : TableView). HasGotMany x g.G.Gate.becomes (length c.args.keys.now) (c.args.pass.now, c.args.gate.now) (pass_of c.end_gets.new.seat, c.end_gets.new.gate)) c.self.view_is
     (subst (λ (z : PassView). HasGotMany c.self.inside.table g.G.Gate.becomes (length c.args.keys.now) (z, c.args.gate.now) (pass_of c.end_gets.new.seat, c.end_gets.new.gate)) c.pass.view_is
-    (gets_made c.args.keys.now c.look_up_each.new.found c.pin.ensures.steps c.look_up_each.ensures c.end_gets.ensures.step c.pass.invariant))
+    (gets_made c.args.keys.now c.look_up_each.new.found c.pin.ensures.steps c.look_up_each.ensures c.end_gets.ensures.step c.pass.invariant.settled))

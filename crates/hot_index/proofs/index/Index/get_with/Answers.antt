@@ -8,6 +8,7 @@ use Rattle.seat_calls.specs.Traces.{HasGot}
 use Rattle.rowex_reading.proofs.Led.{looked_at, looks_same}
 use Rattle.seat_calls.proofs.Noting.{fits_then, get_noted}
 use Rattle.seat_calls.proofs.Tracing.{has_got}
+use Rattle.hot_index.proofs.Counted.{got_on}
 use Rattle.hot_index.proofs.index.Index.get_with.Goals as goal
 
 pub returns-clause-call : goal.returns-clause-call
@@ -15,7 +16,7 @@ returns-clause-call g c =
     let s = c.look_up-found.ensures in
     subst (λ (x : TableView). IsNoted x.layout c.args.pass.now (pass_of c.end_get.new.seat) (Get c.args.key.now) (got c.look_up-found.result)) c.self.view_is
     (subst (λ (z : PassView). IsNoted c.self.inside.table.layout z (pass_of c.end_get.new.seat) (Get c.args.key.now) (got c.look_up-found.result)) c.pass.view_is
-    (get_noted c.args.key.now c.look_up-found.result c.pin.ensures.steps s.searched c.end_get.ensures.step c.pass.invariant s.found).0)
+    (get_noted c.args.key.now c.look_up-found.result c.pin.ensures.steps s.searched c.end_get.ensures.step c.pass.invariant.settled s.found).0)
 
 pub end_get-requires : goal.end_get-requires
 end_get-requires g c =
@@ -30,7 +31,8 @@ returns-clause-own g c =
 pub invariant_of-pass : goal.invariant_of-pass
 invariant_of-pass g c =
     let s = c.look_up-found.ensures in
-    (get_noted c.args.key.now c.look_up-found.result c.pin.ensures.steps s.searched c.end_get.ensures.step c.pass.invariant s.found).1
+    got_on c.self.inside.table.layout c.pass.inside.seat c.end_get.new.seat c.pass.inside.count c.args.key.now c.look_up-found.result
+    (get_noted c.args.key.now c.look_up-found.result c.pin.ensures.steps s.searched c.end_get.ensures.step c.pass.invariant.settled s.found) c.pass.invariant
 
 pub returns-clause-made : goal.returns-clause-made
 returns-clause-made g c =

@@ -9,8 +9,9 @@ use Rattle.rowex_walks.specs.Directions.{IsLawfulBy}
 use Rattle.seat_calls.specs.Calls.{IsListReadBy}
 use Rattle.seat_calls.specs.Passes.{PassView, pass_of}
 use Rattle.seat_calls.proofs.Noting.{fits_then, looked}
+use Rattle.hot_index.proofs.Counted.{settled_on}
 use Rattle.hot_index.proofs.Reading.{list_read}
-use Rattle.seat_calls.proofs.Scanned.{scan_settled}
+use Rattle.seat_calls.proofs.Scanned.{scan_refused, scan_settled}
 use Rattle.hot_index.proofs.index.Index.list_by.Goals as goal
 
 pub unpin-requires : goal.unpin-requires
@@ -20,8 +21,11 @@ unpin-requires g c =
 
 pub invariant_of-pass : goal.invariant_of-pass
 invariant_of-pass g c =
-    let s = c.scan_root-scan.ensures in
-    scan_settled c.pass.inside.seat c.unpin.new.seat c.pass.invariant (looked c.pass.invariant c.pin.ensures.steps s.looks.3) c.unpin.ensures.step.event
+    let looks = looked c.pass.invariant.settled c.pin.ensures.steps c.scan_root-scan.ensures.looks.3 in
+    let s = c.pass.inside.seat in
+    let t = c.unpin.new.seat in
+    let event = c.unpin.ensures.step.event in
+    settled_on c.self.inside.table.layout s t c.pass.inside.count (scan_refused s t c.pass.invariant.settled looks event) (scan_settled s t c.pass.invariant.settled looks event) c.pass.invariant
 
 pub returns : goal.returns
 returns g c =
@@ -30,4 +34,4 @@ returns g c =
     let direction = c.args.range.now.direction in
     subst (λ (x : TableView × PassView). IsListReadBy (IsLawfulBy direction) range c.scan_root-scan.new.pairs c.scan_root-scan.result x.0 g.G.Gate.becomes (x.1, c.args.gate.now) (pass_of c.unpin.new.seat, c.unpin.new.gate))
     (λ e. (c.self.view_is e, c.pass.view_is e))
-    (list_read c.self.inside.table g.G.Gate.becomes direction range c.scan_root-scan.new.pairs c.scan_root-scan.result c.pass.invariant c.pin.ensures.steps c.pin.ensures.fits.0 c.pin.ensures.pinned s.looks s.keys s.scanned s.part s.few c.unpin.ensures.step)
+    (list_read c.self.inside.table g.G.Gate.becomes direction range c.scan_root-scan.new.pairs c.scan_root-scan.result c.pass.invariant.settled c.pin.ensures.steps c.pin.ensures.fits.0 c.pin.ensures.pinned s.looks s.keys s.scanned s.part s.few c.unpin.ensures.step)

@@ -5,6 +5,7 @@ use Rattle.rowex_table.specs.Seats.{IsShownAll, TableView}
 use Rattle.seat_calls.specs.Answers.{HaveMet}
 use Rattle.seat_calls.specs.Passes.{PassView, pass_of}
 use Rattle.hot_index.specs.Stamps.{HasSeenMore}
+use Rattle.hot_index.proofs.Counted.{settled_on}
 use Rattle.hot_index.proofs.Meets.{first_settled, second_settled, passes_met, seen_more}
 use Rattle.hot_index.proofs.index.Index.meet.Goals as goal
 
@@ -18,10 +19,20 @@ returns-clause-rest c =
     )
 
 pub invariant_of-result : goal.invariant_of-result
-invariant_of-result c = first_settled c.self.inside.table.layout _ _ _ _ c.meet_seats-first.ensures.met c.first.invariant
+invariant_of-result c =
+    let met = c.meet_seats-first.ensures.met in
+    let one = c.first.invariant.settled in
+    let other = c.second.invariant.settled in
+    let both = passes_met c.self.inside.table.layout c.first.inside.seat c.second.inside.seat c.meet_seats-first.result.0 c.meet_seats-first.result.1 met one other in
+    settled_on c.self.inside.table.layout c.first.inside.seat c.meet_seats-first.result.0 c.first.inside.count both.first (first_settled c.self.inside.table.layout _ _ _ _ met one) c.first.invariant
 
 pub invariant_of-result-2 : goal.invariant_of-result-2
-invariant_of-result-2 c = second_settled c.self.inside.table.layout _ _ _ _ c.meet_seats-first.ensures.met c.second.invariant
+invariant_of-result-2 c =
+    let met = c.meet_seats-first.ensures.met in
+    let one = c.first.invariant.settled in
+    let other = c.second.invariant.settled in
+    let both = passes_met c.self.inside.table.layout c.first.inside.seat c.second.inside.seat c.meet_seats-first.result.0 c.meet_seats-first.result.1 met one other in
+    settled_on c.self.inside.table.layout c.second.inside.seat c.meet_seats-first.result.1 c.second.inside.count both.second (second_settled c.self.inside.table.layout _ _ _ _ met other) c.second.invariant
 
 pub returns-clause-met : goal.returns-clause-met
 returns-clause-met c =
@@ -30,7 +41,7 @@ returns-clause-met c =
     subst (λ (x : TableView). HaveMet x.layout c.args.first c.args.second (pass_of one) (pass_of other)) c.self.view_is
     (subst (λ (z : PassView). HaveMet c.self.inside.table.layout z c.args.second (pass_of one) (pass_of other)) c.first.view_is
     (subst (λ (z : PassView). HaveMet c.self.inside.table.layout (pass_of c.first.inside.seat) z (pass_of one) (pass_of other)) c.second.view_is
-    (passes_met c.self.inside.table.layout c.first.inside.seat c.second.inside.seat one other c.meet_seats-first.ensures.met c.first.invariant c.second.invariant)))
+    (passes_met c.self.inside.table.layout c.first.inside.seat c.second.inside.seat one other c.meet_seats-first.ensures.met c.first.invariant.settled c.second.invariant.settled)))
 
 pub returns-clause-steps : goal.returns-clause-steps
 returns-clause-steps c =

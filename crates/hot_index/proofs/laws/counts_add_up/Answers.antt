@@ -1,0 +1,6 @@
+-- The law counts_add_up.
+use Rattle.hot_index.proofs.Counted.{counts_add_up}
+use Rattle.hot_index.proofs.laws.counts_add_up.Goals as goal
+
+pub returns : goal.returns
+returns c = counts_add_up

@@ -1,0 +1,89 @@
+//! Handles that are opened, closed and opened again, and the counts of keys that they keep meanwhile.
+
+ghost use Rattle.std.specs.Prelude.{All};
+ghost use Rattle.seat_calls.specs.Passes.{Owns};
+
+use crate::made::*;
+use hot_index::{ClosedHandle, ClosedPass, Handle, Index, Key, Reply, Stock, create_closed, total};
+use std::alloc::Global;
+use std::process::Abort;
+use std::test::*;
+
+/// An index for eight keys, and its two passes, which are closed.
+fn closed_of(rt: &impl Abort, alloc: Global) -> (Index, Vec<ClosedPass>)
+    ensures { All (Owns result.0) result.1.items }
+{
+    match create_closed(alloc, 2, Stock::for_keys(8, 240)) {
+        Ok(made) => made,
+        Err(_) => panic!(rt; "no index"),
+    }
+}
+
+/// The handle, opened.
+fn opened<'a>(
+    rt: &impl Abort,
+    alloc: Global,
+    closed: ClosedHandle<&'a Index>,
+) -> Handle<&'a Index> {
+    match closed.open(alloc) {
+        Ok(handle) => handle,
+        Err(_) => panic!(rt; "no memory"),
+    }
+}
+
+/// An open handle of the last of the passes that are left.
+fn open_next<'a>(
+    rt: &impl Abort,
+    alloc: Global,
+    index: &'a Index,
+    passes: &mut Vec<ClosedPass>,
+) -> Handle<&'a Index>
+    requires { All (Owns index.now) passes.old.items }
+    ensures { All (Owns index.now) passes.new.items }
+{
+    match passes.pop() {
+        Some(pass) => opened(rt, alloc, ClosedHandle::new(index, pass)),
+        None => panic!(rt; "no pass"),
+    }
+}
+
+/// One handle puts in a key, the other puts in another, and finds the first one there already.
+fn put_each(
+    rt: &impl Abort,
+    first: &mut Handle<&Index>,
+    second: &mut Handle<&Index>,
+    keys: &(Key, Key),
+) {
+    assert!(rt; first.try_insert(&keys.0, 1) == Ok(Reply::Inserted));
+    assert!(rt; second.try_upsert(&keys.1, 2) == Ok(Reply::New));
+    assert!(rt; second.try_insert(&keys.0, 3) == Ok(Reply::Exists(1)));
+    assert!(rt; total(&[first.count(), second.count()]) == 2);
+}
+
+/// One handle takes both keys out, and so one more than it has put in.
+fn take_both(
+    rt: &impl Abort,
+    first: &mut Handle<&Index>,
+    second: &mut Handle<&Index>,
+    keys: &(Key, Key),
+) {
+    assert!(rt; first.get(&keys.1) == Some(2) && first.count().keys == 1);
+    assert!(rt; second.try_remove(&keys.0) == Ok(Reply::Removed(1)));
+    assert!(rt; second.try_remove_if(&keys.1, 2) == Ok(Reply::Removed(2)));
+    assert!(rt; second.try_remove(&keys.1) == Ok(Reply::Absent));
+    assert!(rt; second.count().keys == u64::MAX);
+    assert!(rt; total(&[first.count(), second.count()]) == 0);
+}
+
+#[test]
+fn a_handle_keeps_its_count_while_it_is_closed(rt: HostRuntime) {
+    let (index, mut passes) = closed_of(&rt, rt.alloc());
+    let mut first = open_next(&rt, rt.alloc(), &index, &mut passes);
+    let mut second = open_next(&rt, rt.alloc(), &index, &mut passes);
+    let keys = ends(&rt);
+    put_each(&rt, &mut first, &mut second, &keys);
+    let closed = first.close();
+    assert!(rt; closed.count().keys == 1);
+    let mut first = opened(&rt, rt.alloc(), closed);
+    take_both(&rt, &mut first, &mut second, &keys);
+}
