@@ -33,14 +33,15 @@ static void answer(hot::handle &handle, const std::string &command, const std::s
 }
 
 int main() {
-    auto handles = hot::create(4096, 16384);
+    hot::index index(10000, 24, 1); // so many keys of up to 24 bytes, handles
+    hot::handle handle = index.open();
     for (std::string line; std::getline(std::cin, line);) {
         std::istringstream words(line);
         std::string command, key;
         std::uint64_t number = 0;
         words >> command >> key >> number;
         try {
-            answer(handles.front(), command, key, number);
+            answer(handle, command, key, number);
         } catch (const std::length_error &error) {
             std::cout << "refused: " << error.what() << '\n';
         }

@@ -1,7 +1,5 @@
-from example import Index, load, stock_for_keys
+from hot import SortedMap
 
-hot = load("libhot.so")
-index = Index(hot, stock_for_keys(hot, 100_000, 24), threads=2)
-index.upsert(b"pear", 3)
-print(index.get(b"pear"), list(index.scan(b"a", b"z")))
-index.close()
+index = SortedMap(capacity=100_000)
+index["pear"] = 3
+print(index["pear"], list(index.irange("a", "z")))

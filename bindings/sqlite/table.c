@@ -3,14 +3,16 @@
  *     .load ./hot_table
  *     CREATE VIRTUAL TABLE t USING hot(keys=1000000, longest=24);
  *
- * has the columns key TEXT PRIMARY KEY and value INTEGER, and room for so many keys of at most so many bytes. More arguments:
+ * has the columns key TEXT PRIMARY KEY and value INTEGER, and room for so many keys of at most so many bytes: by default
+ * 10,000 of 24. More arguments:
  *
  *     type=blob         the keys are blobs
  *     name=words        tables of this name, in any database of the process, have one index
- *     connections=16    how many tables may have the index at a time
+ *     connections=16    how many tables may have the index at a time: by default 16
  *
  * Without a name, connections to one file have one index for a table of it; a table of a database in memory has its own. An index
- * goes with the last connection that has used it. */
+ * goes with the last connection that has used it. A table of a name whose index is there is refused if it says another number of keys=
+ * or longest=. */
 #include "index.h"
 #include <stdlib.h>
 #include <string.h>
@@ -76,6 +78,7 @@ static int refused(sqlite3_vtab *vtab, hot_status status) {
 /* What a table is made with. The name is to be freed. */
 typedef struct arguments {
     wanted_index wanted;
+    int has_keys, has_longest; /* whether it says so */
     char *name;
 } arguments;
 
@@ -110,9 +113,9 @@ static int read_number(const char *text, sqlite3_int64 least, sqlite3_int64 most
 static int read_argument(const char *text, arguments *to) {
     const char *value;
     if ((value = value_of(text, "keys")) != NULL)
-        return read_number(value, 0, UINT32_MAX, &to->wanted.keys);
+        return to->has_keys = read_number(value, 0, UINT32_MAX, &to->wanted.keys);
     if ((value = value_of(text, "longest")) != NULL)
-        return read_number(value, 0, HOT_MAX_KEY, &to->wanted.longest);
+        return to->has_longest = read_number(value, 0, HOT_MAX_KEY, &to->wanted.longest);
     if ((value = value_of(text, "connections")) != NULL)
         return read_number(value, 1, 1024, &to->wanted.handles);
     if ((value = value_of(text, "type")) != NULL) {
@@ -167,6 +170,17 @@ static void close_connection(void *of) {
     sqlite3_free(it);
 }
 
+/* Why the table can't have the index, or NULL. */
+static char *mismatch(const table *it, const arguments *made_with) {
+    const wanted_index *made_as = shared_made_as(it->in->index), *wanted = &made_with->wanted;
+    if (made_as->is_text != wanted->is_text)
+        return sqlite3_mprintf("hot: the index has keys of another type");
+    if (it->is_named && ((made_with->has_keys && made_as->keys != wanted->keys) ||
+                         (made_with->has_longest && made_as->longest != wanted->longest)))
+        return sqlite3_mprintf("hot: the index was made with keys=%lld, longest=%lld", made_as->keys, made_as->longest);
+    return NULL;
+}
+
 /* Gives the table its index, and a handle. */
 static int join(table *it, const arguments *made_with, char **error) {
     hot_status status;
@@ -176,10 +190,8 @@ static int join(table *it, const arguments *made_with, char **error) {
         return code;
     if (!(it->in = hold(it->of, index)))
         return SQLITE_NOMEM;
-    if (shared_made_as(index)->is_text != made_with->wanted.is_text) {
-        *error = sqlite3_mprintf("hot: the index has keys of another type");
+    if ((*error = mismatch(it, made_with)) != NULL)
         return SQLITE_ERROR;
-    }
     status = part_take(index, &it->in->log, &it->part);
     if (status == HOT_NO_HANDLE) {
         *error =
@@ -225,7 +237,7 @@ static int declare(sqlite3 *db, int is_text, char **error) {
 }
 
 static int connect_table(sqlite3 *db, void *of, int count, const char *const *words, sqlite3_vtab **made, char **error) {
-    arguments with = {{10000, 24, 16, 1}, NULL};
+    arguments with = {{10000, 24, 16, 1}, 0, 0, NULL};
     table *it = sqlite3_malloc(sizeof *it);
     int at, code = it ? SQLITE_OK : SQLITE_NOMEM;
     for (at = 3; at < count && code == SQLITE_OK; at++) {

@@ -97,6 +97,8 @@ UPDATE other SET value = 2;
 SELECT 'one index', one.value, other.value FROM one, other;
 CREATE VIRTUAL TABLE third USING hot(name='words');
 CREATE VIRTUAL TABLE typed USING hot(name='words', type=blob);
+CREATE VIRTUAL TABLE larger USING hot(name='words', keys=20000);
+CREATE VIRTUAL TABLE longer USING hot(name='words', keys=10000, longest=25);
 ALTER TABLE one RENAME TO first;
 SELECT 'renamed', value FROM first;
 ALTER TABLE t RENAME TO tt;

@@ -10,11 +10,11 @@
 #include <cstdio>
 #include <cstring>
 #include <fcntl.h>
+#include <future>
 #include <iostream>
 #include <mutex>
 #include <sstream>
 #include <system_error>
-#include <thread>
 #include <unistd.h>
 
 // No record goes from one block of the log into the next, so that threads can read the blocks of a log side by side.
@@ -138,16 +138,16 @@ class store {
     store(const store &) = delete;
     ~store() { ::close(file_); }
 
-    // Has each thread do its part, which is told by its number.
+    // Has each thread do its part, which is told by its number. It throws what a thread has thrown.
     template <class Work> void side_by_side(Work work) {
-        std::vector<std::thread> started;
+        std::vector<std::future<void>> started;
         for (std::size_t of = 0; of < threads_; of++)
-            started.emplace_back([this, work, of] {
+            started.push_back(std::async(std::launch::async, [this, work, of] {
                 session mine(*this);
                 work(mine, of);
-            });
-        for (std::thread &thread : started)
-            thread.join();
+            }));
+        for (std::future<void> &one : started)
+            one.get();
     }
 
     void fill(std::size_t count) {

@@ -15,7 +15,7 @@ LONGEST = 240
 def count(counts: SortedMap[bytes], text: bytes) -> None:
     """Counts the words of a part of the text."""
     for word in re.finditer(rb"[A-Za-z]+", text):
-        counts.add(word[0][:LONGEST])
+        counts.fetch_add(word[0][:LONGEST])
 
 
 def parts(text: bytes, wanted: int) -> list[bytes]:

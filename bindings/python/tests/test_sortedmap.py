@@ -148,8 +148,11 @@ class Refusals(unittest.TestCase):
                 mine.exchange("a", 1, value)
             with self.assertRaises(why):
                 mine.exchange("a", value, 1)
-        with self.assertRaises(OverflowError):
-            mine.add("a", -2)
+        for add in (mine.add, mine.fetch_add):
+            self.assertRaises(OverflowError, add, "a", -2)
+            self.assertRaises(TypeError, add, "a", 1.0)
+            self.assertRaises(TypeError, add, b"a")
+        self.assertRaises(OverflowError, mine.fetch_add, "b", -1)
         self.assertEqual(mine, {"a": 1})
         mine["b"] = 2**64 - 1
         self.assertEqual(mine["b"], 2**64 - 1)
@@ -178,6 +181,8 @@ class Refusals(unittest.TestCase):
         self.assertEqual(mine.get_many(["x" * 241, "x" * 240]), [None, 1])
         self.assertRaises(ValueError, mine.__setitem__, "x" * 241, 1)
         self.assertRaises(KeyError, mine.pop, "x" * 241)
+        self.assertRaises(KeyError, mine.add, "x" * 241)
+        self.assertRaises(ValueError, mine.fetch_add, "x" * 241)
         self.assertEqual(list(mine.irange("x" * 241)), [])
         self.assertEqual(list(mine.irange(None, "x" * 241, (True, False))), ["x" * 240])
         self.assertEqual(list(mine.prefix_items("x" * 241)), [])

@@ -32,11 +32,13 @@ class Threads(unittest.TestCase):
 
         def work(first):
             for number in range(2000):
-                mine.add(f"word {(number * 7 + first) % 50}")
+                word = f"word {(number * 7 + first) % 50}"
+                mine.fetch_add(word)
+                mine.add(word)
                 mine[f"own {first} {number}"] = number
 
         together(6, work)
-        self.assertEqual(sum(n for _, n in mine.prefix_items("word ")), 12000)
+        self.assertEqual(sum(n for _, n in mine.prefix_items("word ")), 24000)
         self.assertEqual(len(mine), 50 + 12000)
         self.assertEqual(len(list(mine)), len(mine))
 

@@ -337,17 +337,41 @@ impl Handle {
     ///
     /// ```
     /// let handle = hot::Hot::with_capacity(10, 8, 1)?.handle()?;
-    /// assert_eq!(handle.fetch_add("oak", 2), Ok(None));
+    /// assert_eq!(handle.add("oak", 2), Ok(None));
     /// handle.insert("oak", 1)?;
+    /// assert_eq!(handle.add("oak", 2), Ok(Some(1)));
+    /// assert_eq!(handle.get("oak"), Some(3));
+    /// # Ok::<(), hot::Error>(())
+    /// ```
+    pub fn add(&self, key: impl AsRef<[u8]>, delta: u64) -> Result<Option<u64>, Error> {
+        match self.lease.add(key.as_ref(), delta) {
+            (ffi::WAS, had) => Ok(Some(had)),
+            (ffi::KEY_TOO_LONG, _) => Ok(None),
+            (status, _) => Error::check(status).map(|_| None),
+        }
+    }
+
+    /// Adds to the key's value, wrapping around, and returns the one before. A key that is absent gets the value `delta`, and `None` is
+    /// returned.
+    ///
+    /// ```
+    /// let handle = hot::Hot::with_capacity(10, 8, 1)?.handle()?;
+    /// assert_eq!(handle.fetch_add("oak", 1), Ok(None));
     /// assert_eq!(handle.fetch_add("oak", 2), Ok(Some(1)));
     /// assert_eq!(handle.get("oak"), Some(3));
     /// # Ok::<(), hot::Error>(())
     /// ```
     pub fn fetch_add(&self, key: impl AsRef<[u8]>, delta: u64) -> Result<Option<u64>, Error> {
-        match self.lease.add(key.as_ref(), delta) {
-            (ffi::WAS, had) => Ok(Some(had)),
-            (ffi::KEY_TOO_LONG, _) => Ok(None),
-            (status, _) => Error::check(status).map(|_| None),
+        let key = key.as_ref();
+        loop {
+            if let Some(had) = self.add(key, delta)? {
+                return Ok(Some(had));
+            }
+            match self.try_insert(key, delta) {
+                Ok(()) => return Ok(None),
+                Err(TryInsertError::Occupied(_)) => {}
+                Err(TryInsertError::Refused(why)) => return Err(why),
+            }
         }
     }
 

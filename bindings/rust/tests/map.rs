@@ -68,7 +68,7 @@ fn change(handle: &Handle, model: &mut Model, random: &mut Random) {
         Some(had) if had == value => Ok(had),
         Some(had) => Err(CompareExchangeError::Differs(had)),
     };
-    match random.below(8) {
+    match random.below(9) {
         0 | 1 => {
             model.entry(key.clone()).or_insert(value);
             assert_eq!(
@@ -91,8 +91,12 @@ fn change(handle: &Handle, model: &mut Model, random: &mut Random) {
             }
         }
         6 => {
-            assert_eq!(handle.fetch_add(&key, new), Ok(had));
+            assert_eq!(handle.add(&key, new), Ok(had));
             model.entry(key).and_modify(|value| *value += new);
+        }
+        7 => {
+            assert_eq!(handle.fetch_add(&key, new), Ok(had));
+            *model.entry(key).or_insert(0) += new;
         }
         _ => {
             let turn = |had: Option<u64>| {
@@ -175,7 +179,8 @@ fn keys_that_are_too_long() {
     assert_eq!(handle.get(&long), None);
     assert_eq!(handle.remove(&long), Ok(None));
     assert_eq!(handle.remove_if(&long, 1), Err(CompareExchangeError::Absent));
-    assert_eq!(handle.fetch_add(&long, 1), Ok(None));
+    assert_eq!(handle.add(&long, 1), Ok(None));
+    assert_eq!(handle.fetch_add(&long, 1), Err(Error::KeyTooLong));
     assert_eq!(handle.insert(&long, 1), Err(Error::KeyTooLong));
     assert_eq!(
         handle.try_insert(&long, 1),

@@ -12,8 +12,9 @@ fn counters_lose_nothing() -> Result<(), Error> {
             scope.spawn(move || {
                 for n in 0..5000 {
                     let key = ((n * 7 + of) % 10).to_be_bytes();
+                    handle.fetch_add(key, 1).unwrap();
                     handle.fetch_update(key, |had| Some(had.unwrap_or(0) + 1)).unwrap();
-                    handle.fetch_add(key, 2).unwrap();
+                    handle.add(key, 1).unwrap();
                 }
             });
         }

@@ -204,20 +204,36 @@ class SortedMap(MutableMapping[K, int], Generic[K]):
         code, number = self._encode(key), self._number(expected)
         return self._index.change(lib.hot_remove_if, code, number)[0] == REMOVED
 
-    def add(self, key: K, number: int = 1) -> int:
-        """Adds to the key's value, or to 0 if it is absent: the new value. No other
-        thread's addition is lost."""
+    def _added(self, key: K, number: int) -> Optional[int]:
+        """Adds to the value of a key that is there: the one before, or None."""
         code, number = self._encode(key), operator.index(number)
-        had = self._find(key)
+        had: Optional[int] = self._find(key)
+        while had is not None:
+            total = self._number(had + number)
+            status, now = self._index.change(lib.hot_exchange, code, had, total)
+            if status == EXCHANGED:
+                break
+            had = now if status == DIFFERS else None
+        return had
+
+    def add(self, key: K, number: int = 1) -> int:
+        """Adds to the value of a key that is there, and returns the one before. It
+        raises KeyError if the key is absent. No other thread's addition is lost."""
+        had = self._added(key, number)
+        if had is None:
+            raise KeyError(key)
+        return had
+
+    def fetch_add(self, key: K, number: int = 1) -> int:
+        """Adds to the key's value, or to 0 if it is absent, and returns the one before.
+        No other thread's addition is lost."""
         while True:
-            total = self._number((had or 0) + number)
-            if had is None:
-                status, now = self._index.change(lib.hot_insert, code, total)
-            else:
-                status, now = self._index.change(lib.hot_exchange, code, had, total)
-            if status in (INSERTED, EXCHANGED):
-                return total
-            had = now if status in (EXISTS, DIFFERS) else None
+            had = self._added(key, number)
+            if had is not None:
+                return had
+            numbers = self._encode(key), self._number(number)
+            if self._index.change(lib.hot_insert, *numbers)[0] == INSERTED:
+                return 0
 
     # ---- Order ----
 

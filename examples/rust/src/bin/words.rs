@@ -11,7 +11,7 @@ fn count(handle: &Handle, text: &[u8]) -> Result<(), Error> {
         .split(|byte| !byte.is_ascii_alphabetic())
         .filter(|word| !word.is_empty());
     for word in words {
-        handle.fetch_update(&word[..word.len().min(MAX_KEY)], |had| Some(had.unwrap_or(0) + 1))?;
+        handle.fetch_add(&word[..word.len().min(MAX_KEY)], 1)?;
     }
     Ok(())
 }
