@@ -5,7 +5,7 @@ use Rattle.std.proofs.lemmas.List.{length-reverse, reverse-reverse}
 use Rattle.std.specs.declared.alloc.AllocError.{AllocError}
 use Rattle.finite_map.specs.declared.Scan.{Scan}
 use Rattle.record_words.specs.declared.layout.Layout.{Layout}
-use Rattle.rowex_walks.specs.Scan.{Range}
+use Rattle.version_laws.specs.Scan.{Range}
 use Rattle.seat_calls.specs.Answers.{HasFoundPair, IsListed, IsListedBy, IsUnnoted, ScanLaw, range_from}
 use Rattle.seat_calls.specs.Calls.{IsListReadBy, IsRangeRead}
 use Rattle.hot_index.specs.Handles.{HandleView, Stays}
@@ -20,7 +20,7 @@ use Rattle.hot_c.specs.Packs.{IsListedByParts}
 use Rattle.hot_c.specs.Scans.{HasFilled, ListsInto, ListsNothing}
 use Rattle.hot_c.specs.declared.opened.Opened.{Opened}
 use Rattle.hot_c.specs.declared.pairs.Order.{Order}
-use Rattle.hot_c.specs.declared.pairs.Order.TheVariants.{Rising, Falling, LastRising}
+use Rattle.hot_c.specs.declared.pairs.Order.TheVariants.{Upwards, Downwards, LastUpwards}
 use Rattle.hot_c.specs.declared.status.TheConstants.{DONE, NO_MEMORY}
 use Rattle.hot_c.proofs.Parted.{cut_falling, cut_rising}
 
@@ -47,16 +47,16 @@ module _ (layout : Layout) (k j : PassView) (range : Range) (pairs : List (List 
 -- a list has no more pairs than it was to have
 few_filled : (order : Order) (layout : Layout) (k j : PassView) (range : Range) (pairs : List (List ℕ × ℕ)) (is_more : Bool)
     → IsFilledIn order layout k j range pairs is_more → length pairs < 2 ^ 63 → length pairs ≤ range.limit
-few_filled Rising layout k j range pairs is_more h small = few_listed layout k j range pairs is_more h small
-few_filled Falling layout k j range pairs is_more h small = few_reverse_listed layout k j range pairs is_more h small
-few_filled LastRising layout k j range pairs is_more h small = few_reverse_listed layout k j range pairs is_more h small
+few_filled Upwards layout k j range pairs is_more h small = few_listed layout k j range pairs is_more h small
+few_filled Downwards layout k j range pairs is_more h small = few_reverse_listed layout k j range pairs is_more h small
+few_filled LastUpwards layout k j range pairs is_more h small = few_reverse_listed layout k j range pairs is_more h small
 
 -- what a scan left in the list is answered in this order
 pub in_its_order : (order : Order) (layout : Layout) (k j : PassView) (range : Range) (pairs : List (List ℕ × ℕ)) (is_more : Bool)
     → IsFilledIn order layout k j range pairs is_more → IsListedIn order layout k j range (in_order order pairs) is_more
-in_its_order Rising layout k j range pairs is_more h = h
-in_its_order Falling layout k j range pairs is_more h = h
-in_its_order LastRising layout k j range pairs is_more h = subst (λ (l : List (List ℕ × ℕ)). IsReverseListed layout k j range l is_more) (sym (reverse-reverse pairs)) h
+in_its_order Upwards layout k j range pairs is_more h = h
+in_its_order Downwards layout k j range pairs is_more h = h
+in_its_order LastUpwards layout k j range pairs is_more h = subst (λ (l : List (List ℕ × ℕ)). IsReverseListed layout k j range l is_more) (sym (reverse-reverse pairs)) h
 
 -- of a scan into a list, whatever part it leaves
 pub without_part : {IsLawful : ScanLaw} {range : Range} {pairs : List (List ℕ × ℕ)} {r : Result Bool AllocError} {old new : HandleView}
@@ -69,9 +69,9 @@ pub filled_as : (order other : Order) → order ≡ other → (range : Range) (p
 filled_as order other same range pairs r old new h = subst (λ (o : Order). Stays (IsRangeRead (λ layout k j. IsFilledIn o layout k j range pairs) range r) old new) (sym same) h
 
 pub as_many : (order : Order) (pairs : List (List ℕ × ℕ)) → length (in_order order pairs) ≡ length pairs
-as_many Rising pairs = refl
-as_many Falling pairs = refl
-as_many LastRising pairs = length-reverse pairs
+as_many Upwards pairs = refl
+as_many Downwards pairs = refl
+as_many LastUpwards pairs = length-reverse pairs
 
 module _ (from upto k l : List ℕ) (old new : Option Opened) (limit : ℕ) (s u : Opened) (was : old ≡ Some s) (first : (k ≡ from) × FitsInKey from) (last : (l ≡ upto) × FitsInKey upto) where
   pub filled : (order : Order) (count : ℕ) (is_more : Bool) → new ≡ Some u → u.handle.index ≡ s.handle.index → IsFilledIn order s.handle.index.layout s.handle.pass u.handle.pass (range_from k l limit) u.list is_more
@@ -182,6 +182,6 @@ falling_by_parts layout k j range pairs is_more small h = record {
 
 pub by_parts : (order : Order) (layout : Layout) (k j : PassView) (range : Range) (pairs : List (List ℕ × ℕ)) (is_more : Bool) → length pairs < 2 ^ 63 → IsFilledIn order layout k j range pairs is_more
     → IsListedByParts (IsFilledIn order) layout k j range pairs is_more
-by_parts Rising layout k j range pairs is_more small h = rising_by_parts layout k j range pairs is_more small h
-by_parts Falling layout k j range pairs is_more small h = falling_by_parts layout k j range pairs is_more small h
-by_parts LastRising layout k j range pairs is_more small h = falling_by_parts layout k j range pairs is_more small h
+by_parts Upwards layout k j range pairs is_more small h = rising_by_parts layout k j range pairs is_more small h
+by_parts Downwards layout k j range pairs is_more small h = falling_by_parts layout k j range pairs is_more small h
+by_parts LastUpwards layout k j range pairs is_more small h = falling_by_parts layout k j range pairs is_more small h

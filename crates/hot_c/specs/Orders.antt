@@ -1,12 +1,12 @@
 -- The orders in which a scan lists its pairs, and what was answered in each.
 use Rattle.std.specs.Prelude.{ℕ, List, reverse, Bool}
 use Rattle.record_words.specs.declared.layout.Layout.{Layout}
-use Rattle.rowex_walks.specs.Scan.{Range}
+use Rattle.version_laws.specs.Scan.{Range}
 use Rattle.seat_calls.specs.Answers.{IsListed}
 use Rattle.seat_calls.specs.Passes.{PassView}
 use Rattle.seat_calls.specs.Reverse.{IsReverseListed}
 use Rattle.hot_c.specs.declared.pairs.Order.{Order}
-use Rattle.hot_c.specs.declared.pairs.Order.TheVariants.{Rising, Falling, LastRising}
+use Rattle.hot_c.specs.declared.pairs.Order.TheVariants.{Upwards, Downwards, LastUpwards}
 
 -- what a scan of a range was answered: its pairs, and whether there is a further one
 abbrev pub Answer : Type 1
@@ -18,18 +18,18 @@ IsLastListed layout k j range pairs is_more = IsReverseListed layout k j range (
 
 -- a scan in this order was answered
 abbrev pub IsListedIn : Order → Answer
-IsListedIn Rising = IsListed
-IsListedIn Falling = IsReverseListed
-IsListedIn LastRising = IsLastListed
+IsListedIn Upwards = IsListed
+IsListedIn Downwards = IsReverseListed
+IsListedIn LastUpwards = IsLastListed
 
 -- the pairs in this order, of those in the order in which the scan found them
 abbrev pub in_order : Order → List (List ℕ × ℕ) → List (List ℕ × ℕ)
-in_order Rising pairs = pairs
-in_order Falling pairs = pairs
-in_order LastRising pairs = reverse pairs
+in_order Upwards pairs = pairs
+in_order Downwards pairs = pairs
+in_order LastUpwards pairs = reverse pairs
 
 -- a scan that found these pairs, one after the other, was answered
 abbrev pub IsFilledIn : Order → Answer
-IsFilledIn Rising = IsListed
-IsFilledIn Falling = IsReverseListed
-IsFilledIn LastRising = IsReverseListed
+IsFilledIn Upwards = IsListed
+IsFilledIn Downwards = IsReverseListed
+IsFilledIn LastUpwards = IsReverseListed

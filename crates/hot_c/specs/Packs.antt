@@ -5,7 +5,7 @@ use Rattle.packed_pairs.specs.Parts.{fitting, packed_head, keys_in}
 use Rattle.packed_pairs.specs.declared.pairs.Head.{Head}
 use Rattle.record_words.specs.declared.layout.Layout.{Layout}
 use Rattle.rowex_scanning.specs.Scanning.{limited}
-use Rattle.rowex_walks.specs.Scan.{Range}
+use Rattle.version_laws.specs.Scan.{Range}
 use Rattle.seat_calls.specs.Answers.{IsListed, range_from}
 use Rattle.seat_calls.specs.Passes.{PassView}
 use Rattle.seat_calls.specs.Reverse.{IsReverseListed}

@@ -1,7 +1,7 @@
 -- What the scans of a program in C say.
 use Rattle.std.specs.Prelude.{◌≡◌, ◌⊎◌, ℕ, ◌≤◌, List, length, drop, Bool, Option, Some, None, IsSome}
 use Rattle.std.specs.Int.{from_bool}
-use Rattle.rowex_walks.specs.Scan.{Range}
+use Rattle.version_laws.specs.Scan.{Range}
 use Rattle.seat_calls.specs.Answers.{HasFoundPair, IsListed, IsUnnoted, range_from}
 use Rattle.seat_calls.specs.Reverse.{IsReverseListed}
 use Rattle.seat_calls.specs.Traces.{HasGotRange, untold}

@@ -15,7 +15,7 @@ pub extern "C" fn hot_first(alloc: Global, handle: &mut Handle, from: &[u8], pai
     ensures call { FindsFirst from.now handle.old.slot.opened handle.new.slot.opened pair.old pair.new result }
 {
     let query = Query {
-        order: Order::Rising,
+        order: Order::Upwards,
         from,
         upto: &[u8::MAX; MAX_BYTES],
     };
@@ -29,7 +29,7 @@ pub extern "C" fn hot_last(alloc: Global, handle: &mut Handle, upto: &[u8], pair
     ensures call { FindsLast upto.now handle.old.slot.opened handle.new.slot.opened pair.old pair.new result }
 {
     let query = Query {
-        order: Order::Falling,
+        order: Order::Downwards,
         from: &[],
         upto,
     };

@@ -93,8 +93,8 @@ impl Opened {
             (range_from from.now upto.now limit) result) self.old.handle self.new.handle }
     {
         match order {
-            Order::Rising => self.handle.scan_into(from, upto, limit, &mut self.list),
-            Order::Falling | Order::LastRising => {
+            Order::Upwards => self.handle.scan_into(from, upto, limit, &mut self.list),
+            Order::Downwards | Order::LastUpwards => {
                 self.handle
                     .scan_reverse_into(from, upto, limit, &mut self.list)
             }

@@ -29,7 +29,7 @@ pub extern "C" fn hot_scan_packed(
 ) -> u32
     ensures call { ListsPacked from.now upto.now handle.old.slot.opened handle.new.slot.opened (packing bytes.old heads.old count.old more.old) (packing bytes.new heads.new count.new more.new) result }
 {
-    let order = Order::Rising;
+    let order = Order::Upwards;
     let query = Query { order, from, upto };
     list_packed(alloc, handle, &query, bytes, heads, count, more)
 }
@@ -49,7 +49,7 @@ pub extern "C" fn hot_scan_packed_reverse(
 ) -> u32
     ensures call { ListsPackedReverse from.now upto.now handle.old.slot.opened handle.new.slot.opened (packing bytes.old heads.old count.old more.old) (packing bytes.new heads.new count.new more.new) result }
 {
-    let order = Order::Falling;
+    let order = Order::Downwards;
     let query = Query { order, from, upto };
     list_packed(alloc, handle, &query, bytes, heads, count, more)
 }

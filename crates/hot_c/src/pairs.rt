@@ -20,11 +20,11 @@ pub struct Pair {
 #[derive(Clone, Copy)]
 pub enum Order {
     /// The first ones, in rising order.
-    Rising,
+    Upwards,
     /// The last ones, in falling order.
-    Falling,
+    Downwards,
     /// The last ones, in rising order.
-    LastRising,
+    LastUpwards,
 }
 
 /// Which pairs a scan is asked for: those with keys from one to another, both included, in this order.
@@ -42,8 +42,8 @@ pub fn write_in(order: Order, pairs: &Pairs, room: &mut [Pair])
     ensures others { drop (length pairs.now) room.new ≡ drop (length pairs.now) room.old }
 {
     match order {
-        Order::Rising | Order::Falling => write_pairs(pairs, room),
-        Order::LastRising => write_pairs_backwards(pairs, room),
+        Order::Upwards | Order::Downwards => write_pairs(pairs, room),
+        Order::LastUpwards => write_pairs_backwards(pairs, room),
     }
 }
 

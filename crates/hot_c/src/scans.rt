@@ -25,7 +25,7 @@ pub extern "C" fn hot_scan(
 ) -> u32
     ensures call { Lists from.now upto.now handle.old.slot.opened handle.new.slot.opened (listing room.old count.old more.old) (listing room.new count.new more.new) result }
 {
-    let order = Order::Rising;
+    let order = Order::Upwards;
     let query = Query { order, from, upto };
     list(alloc, handle, &query, room, count, more)
 }
@@ -44,7 +44,7 @@ pub extern "C" fn hot_scan_reverse(
 ) -> u32
     ensures call { ListsReverse from.now upto.now handle.old.slot.opened handle.new.slot.opened (listing room.old count.old more.old) (listing room.new count.new more.new) result }
 {
-    let order = Order::Falling;
+    let order = Order::Downwards;
     let query = Query { order, from, upto };
     list(alloc, handle, &query, room, count, more)
 }
@@ -63,7 +63,7 @@ pub extern "C" fn hot_scan_last(
 ) -> u32
     ensures call { ListsLast from.now upto.now handle.old.slot.opened handle.new.slot.opened (listing room.old count.old more.old) (listing room.new count.new more.new) result }
 {
-    let order = Order::LastRising;
+    let order = Order::LastUpwards;
     let query = Query { order, from, upto };
     list(alloc, handle, &query, room, count, more)
 }

@@ -5,9 +5,9 @@ use Rattle.std.specs.Option.{option_to_list}
 use Rattle.finite_map.specs.declared.Scan.{Scan}
 use Rattle.record_words.specs.declared.layout.Layout.{Layout}
 use Rattle.tries.specs.Keys.{Key}
-use Rattle.rowex_walks.specs.Directions.{IsLawfulBy}
-use Rattle.rowex_walks.specs.declared.direction.Direction.{Direction}
-use Rattle.rowex_walks.specs.declared.direction.Direction.TheVariants.{Upwards, Downwards}
+use Rattle.version_laws.specs.Directions.{IsLawfulBy}
+use Rattle.version_laws.specs.declared.direction.Direction.{Direction}
+use Rattle.version_laws.specs.declared.direction.Direction.TheVariants.{Upwards, Downwards}
 use Rattle.seat_calls.specs.Answers.{IsListedBy, range_from}
 use Rattle.seat_calls.specs.Passes.{PassView}
 

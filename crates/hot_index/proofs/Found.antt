@@ -14,13 +14,13 @@ use Rattle.rowex_core.specs.Knowing.{IsEvent}
 use Rattle.rowex_reading.proofs.Loading.{pinned_by}
 use Rattle.rowex_reading.specs.Seen.{Sure, seen, since}
 use Rattle.rowex_scanning.proofs.Scanned.{lawful_scan}
-use Rattle.rowex_walks.specs.Directions.{IsAnswer, IsLawfulBy}
+use Rattle.version_laws.specs.Directions.{IsAnswer, IsLawfulBy}
 use Rattle.rowex_scanning.specs.Scanning.{HasScanned, HasScannedPart, limited}
-use Rattle.rowex_walks.specs.declared.direction.Direction.{Direction}
-use Rattle.rowex_walks.specs.declared.direction.Direction.TheVariants.{Upwards, Downwards}
+use Rattle.version_laws.specs.declared.direction.Direction.{Direction}
+use Rattle.version_laws.specs.declared.direction.Direction.TheVariants.{Upwards, Downwards}
 use Rattle.rowex_table.specs.Runs.{silent}
 use Rattle.rowex_table.specs.Seats.{SeatView}
-use Rattle.rowex_walks.specs.Scan.{IsInRange, Pair, Range}
+use Rattle.version_laws.specs.Scan.{IsInRange, Pair, Range}
 use Rattle.tries.specs.Keys.{Key}
 use Rattle.seat_calls.specs.Answers.{GoesOn, HasFoundPair, IsListedBy}
 use Rattle.seat_calls.specs.Passes.{PassView, pass_of}

@@ -11,12 +11,12 @@ use Rattle.rowex_core.specs.declared.event.Act.TheVariants.{ClearPin}
 use Rattle.rowex_core.specs.declared.event.Event.{Event}
 use Rattle.rowex_reading.proofs.Led.{looked_at, looks_same}
 use Rattle.rowex_scanning.specs.Counts.{Scans, scan_loads}
-use Rattle.rowex_walks.specs.Directions.{IsLawfulBy}
+use Rattle.version_laws.specs.Directions.{IsLawfulBy}
 use Rattle.rowex_scanning.specs.Scanning.{HasScanned, HasScannedPart, limited}
-use Rattle.rowex_walks.specs.declared.direction.Direction.{Direction}
+use Rattle.version_laws.specs.declared.direction.Direction.{Direction}
 use Rattle.rowex_table.specs.Runs.{StepsWith, silent}
 use Rattle.rowex_table.specs.Seats.{IsSeatOf, SeatView, TableView}
-use Rattle.rowex_walks.specs.Scan.{Range}
+use Rattle.version_laws.specs.Scan.{Range}
 use Rattle.epochs.specs.Runs.{Pins}
 use Rattle.tries.specs.Keys.{Key}
 use Rattle.seat_calls.specs.Answers.{IsFoundBy, IsListedBy, IsUnnoted, ScanLaw, range_from}

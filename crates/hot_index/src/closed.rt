@@ -10,7 +10,7 @@ use crate::handle::{Handle, ShowsIndex};
 use crate::index::{Index, Pass};
 use key_counts::KeyCount;
 use rowex_table::TableSeat;
-use seat_calls::new_room;
+use seat_calls::new_scratch;
 use std::alloc::{AllocFailed, Global};
 use std::marker::Model;
 
@@ -46,10 +46,10 @@ impl ClosedPass {
         ensures opened { IfOk result (λ pass. pass ≡ self) }
         ensures kept { IfErr result (λ refused. refused.value ≡ self) }
     {
-        match new_room(alloc, index.table.layout(), self.seat.number()) {
-            Ok(room) => Ok(Pass {
+        match new_scratch(alloc, index.table.layout(), self.seat.number()) {
+            Ok(scratch) => Ok(Pass {
                 seat: self.seat,
-                room,
+                scratch,
                 count: self.count,
             }),
             Err(_) => Err(AllocFailed { value: self }),

@@ -22,7 +22,7 @@ use rowex_reading::look_up;
 use rowex_table::{HotTable, TableSeat};
 use rowex_writing::{Full, TryFault};
 use seat_calls::{
-    RecordCounts, Room, change, count_records, end_get, end_gets, look_up_each, try_change,
+    RecordCounts, Scratch, change, count_records, end_get, end_gets, look_up_each, try_change,
 };
 use std::marker::Model;
 use std::sync::Wait;
@@ -46,7 +46,7 @@ impl Model for Index {
 #[derive(Drop)]
 pub struct Pass {
     pub(crate) seat: TableSeat,
-    pub(crate) room: Box<Room>,
+    pub(crate) scratch: Box<Scratch>,
     pub(crate) count: KeyCount,
 }
 
@@ -218,18 +218,18 @@ impl Index {
         ensures shown { IsShownAll self.now.layout first.seat result.0.seat × IsShownAll self.now.layout second.seat result.1.seat }
         ensures rest { HasSeenMore first result.0 × HasSeenMore second result.1 }
     {
-        let (one, other) = (first.room, second.room);
+        let (one, other) = (first.scratch, second.scratch);
         let (ours, theirs) = (first.count, second.count);
         let (first, second) = self.table.meet_seats(first.seat, second.seat);
         (
             Pass {
                 seat: first,
-                room: one,
+                scratch: one,
                 count: ours,
             },
             Pass {
                 seat: second,
-                room: other,
+                scratch: other,
                 count: theirs,
             },
         )
@@ -368,7 +368,7 @@ impl Index {
         requires { Owns self.now pass.old }
         ensures { IsTriedWith call.now result self.now G.becomes (pass.old, gate.old) (pass.new, gate.new) }
     {
-        let answer = try_change(&self.table, &mut pass.seat, gate, &mut pass.room, call);
+        let answer = try_change(&self.table, &mut pass.seat, gate, &mut pass.scratch, call);
         pass.count.note_answer(&answer);
         answer
     }
@@ -385,7 +385,14 @@ impl Index {
         requires { Owns self.now pass.old }
         ensures { IsAwaitedWith call.now result self.now G.becomes (pass.old, gate.old) (pass.new, gate.new) }
     {
-        let answer = change(rt, &self.table, &mut pass.seat, gate, &mut pass.room, call);
+        let answer = change(
+            rt,
+            &self.table,
+            &mut pass.seat,
+            gate,
+            &mut pass.scratch,
+            call,
+        );
         pass.count.note_answer(&answer);
         answer
     }

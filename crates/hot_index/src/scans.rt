@@ -1,6 +1,6 @@
 //! Scans, of a range of keys in either direction.
 
-ghost use Rattle.rowex_walks.specs.Directions.{IsLawfulBy};
+ghost use Rattle.version_laws.specs.Directions.{IsLawfulBy};
 ghost use Rattle.rowex_scanning.specs.Scanning.{asked_range};
 ghost use Rattle.seat_calls.specs.Answers.{IsFoundBy, range_from};
 ghost use Rattle.seat_calls.specs.Calls.{IsListRead, IsListReadBy, IsListReadWith, IsRangeRead, IsScanRead, IsScanReadBy, IsScanReadWith};
@@ -124,7 +124,7 @@ impl Index {
             &self.table,
             &mut pass.seat,
             gate,
-            &mut pass.room.way,
+            &mut pass.scratch.way,
             range,
             pairs,
         );

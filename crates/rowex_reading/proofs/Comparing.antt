@@ -17,7 +17,7 @@ use Rattle.rowex_core.specs.declared.known.Known.{Known}
 use Rattle.rowex_core.specs.Knowing.{IsEvent}
 use Rattle.rowex_core.specs.Reading.{IsPacked}
 use Rattle.rowex_table.specs.Runs.{silent}
-use Rattle.rowex_walks.specs.Scan.{IsRead}
+use Rattle.version_laws.specs.Scan.{IsRead}
 use Rattle.rowex_reading.specs.Possible.{IsPossible}
 use Rattle.rowex_reading.specs.Seen.{seen, Sure, IsLedTo, IsCompared}
 use Rattle.rowex_reading.proofs.Leafing.{leaf_packed, leaf_read, leaf_stood}

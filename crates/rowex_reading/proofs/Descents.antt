@@ -24,7 +24,7 @@ use Rattle.rowex_core.specs.declared.known.Known.{Known}
 use Rattle.rowex_core.specs.Knowing.{IsPinnedSince}
 use Rattle.rowex_table.specs.Made.{IsLater}
 use Rattle.rowex_table.specs.Seats.{TableView, SeatView}
-use Rattle.rowex_walks.specs.Scan.{EntryStoodSince, IsRooted, IsPlaced, IsShaped, IsRead}
+use Rattle.version_laws.specs.Scan.{EntryStoodSince, IsRooted, IsPlaced, IsShaped, IsRead}
 use Rattle.rowex_reading.specs.Lookups.{HasFound}
 use Rattle.rowex_reading.specs.Possible.{IsPossible}
 use Rattle.rowex_reading.specs.Reads.{Reads}

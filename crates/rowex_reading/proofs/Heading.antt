@@ -27,10 +27,10 @@ use Rattle.rowex_core.specs.Knowing.{Recalls}
 use Rattle.rowex_core.proofs.Owning.{recalls}
 use Rattle.rowex_core.specs.Reading.{IsPacked}
 use Rattle.rowex_core.proofs.Reading.{head_is, node_is}
-use Rattle.rowex_walks.specs.Scan.{EntryStoodSince, IsShaped}
-use Rattle.rowex_walks.proofs.Loads.{loads_shape}
-use Rattle.rowex_walks.proofs.Search.{same_record_now}
-use Rattle.rowex_walks.proofs.Scans.{node_of as node_there, shaped}
+use Rattle.version_laws.specs.Scan.{EntryStoodSince, IsShaped}
+use Rattle.version_laws.proofs.Loads.{loads_shape}
+use Rattle.version_laws.proofs.Search.{same_record_now}
+use Rattle.version_laws.proofs.Scans.{node_of as node_there, shaped}
 use Rattle.rowex_reading.specs.Possible.{IsPossible}
 use Rattle.rowex_reading.specs.Seen.{seen, AreHeadWords, IsLedTo, shape_of}
 use Rattle.rowex_reading.proofs.Seeing.{recalls_before, seen_within, seen_past, seen_grown, seen_stable, stands_in, stands_seen}

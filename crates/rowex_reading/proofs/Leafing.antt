@@ -30,9 +30,9 @@ use Rattle.rowex_table.specs.Seats.{SeatView, TableView}
 use Rattle.rowex_core.proofs.Owning.{recalls}
 use Rattle.rowex_core.specs.Reading.{IsPacked}
 use Rattle.rowex_core.proofs.Leafing.{leaf_is, leaf_size_is}
-use Rattle.rowex_walks.specs.Scan.{EntryStoodSince, IsRead}
-use Rattle.rowex_walks.proofs.Search.{leaf_now}
-use Rattle.rowex_walks.proofs.Scans.{leaf_of}
+use Rattle.version_laws.specs.Scan.{EntryStoodSince, IsRead}
+use Rattle.version_laws.proofs.Search.{leaf_now}
+use Rattle.version_laws.proofs.Scans.{leaf_of}
 use Rattle.rowex_reading.specs.Possible.{IsPossible}
 use Rattle.rowex_reading.specs.Reads.{IsReader, Reads}
 use Rattle.rowex_reading.specs.Seen.{seen, Sure, IsLedTo}

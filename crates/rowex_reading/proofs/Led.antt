@@ -23,8 +23,8 @@ use Rattle.rowex_core.specs.Knowing.{IsEvent, IsPinnedSince, version_of}
 use Rattle.rowex_table.specs.Runs.{Runs, Steps, silent}
 use Rattle.rowex_table.specs.Seats.{TableView, SeatView, IsSame, IsSeatOf}
 use Rattle.rowex_table.proofs.Running.{runs_append, runs_one, runs_same, same_more}
-use Rattle.rowex_walks.specs.Scan.{EntryStoodSince, IsPlaced, IsShaped}
-use Rattle.rowex_walks.proofs.Loads.{placed_seen, rooted_seen}
+use Rattle.version_laws.specs.Scan.{EntryStoodSince, IsPlaced, IsShaped}
+use Rattle.version_laws.proofs.Loads.{placed_seen, rooted_seen}
 use Rattle.rowex_reading.specs.Possible.{IsPossible}
 use Rattle.rowex_reading.specs.Reads.{IsBelowRoot, IsReader, Reads, ReadsRoot, Looks, entries_in, loads_entry}
 use Rattle.rowex_reading.specs.Seen.{seen, Sure, since, IsAtRoot, IsLedTo, HasPlace}

@@ -14,8 +14,8 @@ use Rattle.tries.proofs.Tries.{has?, follows_if_has}
 use Rattle.versions.specs.State.{Past, IsSteady, IsLed, WasAbsentSince, IsHeldSince}
 use Rattle.versions.specs.declared.Rec.TheVariants.{Leaf as a_leaf}
 use Rattle.versions.proofs.States.{record_of_subtrie}
-use Rattle.rowex_walks.specs.Scan.{EntryStoodSince, IsRooted, IsBlank, IsPlaced, IsShaped, IsRead}
-use Rattle.rowex_walks.proofs.Scans.{led_placed, read_held}
+use Rattle.version_laws.specs.Scan.{EntryStoodSince, IsRooted, IsBlank, IsPlaced, IsShaped, IsRead}
+use Rattle.version_laws.proofs.Scans.{led_placed, read_held}
 use Rattle.record_words.specs.declared.TheConstants.{HEAD_WORDS, LEAF_FIELDS}
 use Rattle.rowex_core.specs.declared.event.Event.{Event}
 use Rattle.rowex_table.specs.Seats.{TableView, SeatView}

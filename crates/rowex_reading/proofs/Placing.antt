@@ -27,10 +27,10 @@ use Rattle.rowex_core.specs.Words.{record_word}
 use Rattle.rowex_core.proofs.Reading.{entry_of_word}
 use Rattle.rowex_table.specs.Rule.{HasSpot}
 use Rattle.rowex_table.specs.Runs.{silent}
-use Rattle.rowex_walks.specs.Scan.{Stood, IsPlaced}
-use Rattle.rowex_walks.proofs.Ends.{placed_falls}
-use Rattle.rowex_walks.proofs.Loads.{subtrie_at}
-use Rattle.rowex_walks.proofs.Scans.{record_node, shaped}
+use Rattle.version_laws.specs.Scan.{Stood, IsPlaced}
+use Rattle.version_laws.proofs.Ends.{placed_falls}
+use Rattle.version_laws.proofs.Loads.{subtrie_at}
+use Rattle.version_laws.proofs.Scans.{record_node, shaped}
 use Rattle.rowex_reading.specs.Possible.{IsPossible}
 use Rattle.rowex_reading.specs.Seen.{seen, Sure, HasRoom, HasPlace, IsLedTo}
 use Rattle.rowex_table.specs.Made.{IsLater}

@@ -22,8 +22,8 @@ use Rattle.versions.proofs.States.{steady, reach_later}
 use Rattle.rowex_core.specs.declared.known.Known.{Known}
 use Rattle.rowex_core.specs.Cores.{Core, IsLawful}
 use Rattle.rowex_core.specs.Knowing.{Recalls, IsPinnedSince}
-use Rattle.rowex_walks.specs.Scan.{EntryStoodSince, IsRooted, IsPlaced, IsShaped, IsRead, IsBlank}
-use Rattle.rowex_walks.proofs.Persist.{rooted_grown, placed_grown, shaped_grown, read_grown}
+use Rattle.version_laws.specs.Scan.{EntryStoodSince, IsRooted, IsPlaced, IsShaped, IsRead, IsBlank}
+use Rattle.version_laws.proofs.Persist.{rooted_grown, placed_grown, shaped_grown, read_grown}
 use Rattle.rowex_reading.specs.Seen.{seen, shape_of, Sure, HasRoom}
 use Rattle.rowex_table.specs.Made.{IsLater}
 pub use Rattle.rowex_table.proofs.ActsBefore.{later_trans, recalls_before}

@@ -9,8 +9,8 @@ use Rattle.tries.specs.Tree.{Subtrie}
 use Rattle.rowex_core.specs.declared.known.Known.{Known}
 use Rattle.rowex_core.specs.Knowing.{IsPinnedSince}
 use Rattle.rowex_core.proofs.Owning.{recalls}
-use Rattle.rowex_walks.specs.Scan.{IsShaped}
-use Rattle.rowex_walks.proofs.Scans.{shaped}
+use Rattle.version_laws.specs.Scan.{IsShaped}
+use Rattle.version_laws.proofs.Scans.{shaped}
 use Rattle.rowex_reading.specs.Possible.{IsPossible}
 use Rattle.rowex_reading.specs.Seen.{HasPlace, HasRoom, Sure, seen, shape_of}
 use Rattle.rowex_reading.proofs.Seeing.{seen_steady}

@@ -23,7 +23,7 @@ use Rattle.rowex_core.proofs.Owning.{recalls}
 use Rattle.rowex_core.specs.Reading.{IsPacked, HasWordAt}
 use Rattle.rowex_core.specs.Words.{record_word}
 use Rattle.rowex_core.proofs.Promises.{in_reach}
-use Rattle.rowex_walks.specs.Scan.{EntryStoodSince}
+use Rattle.version_laws.specs.Scan.{EntryStoodSince}
 use Rattle.rowex_reading.specs.Possible.{IsPossible}
 use Rattle.rowex_reading.specs.Seen.{seen, IsLedTo}
 use Rattle.rowex_reading.proofs.Seeing.{seen_within, stands_in}

@@ -16,8 +16,8 @@ use Rattle.tries.proofs.Places.{spot_below}
 use Rattle.rowex_core.specs.declared.known.Known.{Known}
 use Rattle.rowex_core.specs.Knowing.{IsPinnedSince}
 use Rattle.rowex_table.specs.Made.{IsLater}
-use Rattle.rowex_walks.specs.Scan.{IsPlaced, EntryStoodSince, IsShaped}
-use Rattle.rowex_walks.proofs.Scans.{node_of, shaped}
+use Rattle.version_laws.specs.Scan.{IsPlaced, EntryStoodSince, IsShaped}
+use Rattle.version_laws.proofs.Scans.{node_of, shaped}
 use Rattle.rowex_reading.specs.Turns.{AreTurnsOfKey, AreRows, AreSomeTurns, AreTips, AreTurns, IsSomeTurn, IsWayTip, IsTurn, StandsAt, turns_in}
 use Rattle.rowex_reading.specs.Seen.{HasPlace, IsLedTo, RootIs, Sure, seen, since}
 use Rattle.rowex_reading.specs.declared.along.Turn.{Turn}

@@ -11,7 +11,7 @@ use Rattle.tries.specs.Keys.{Key}
 use Rattle.tries.proofs.Places.{spot_below}
 use Rattle.rowex_core.specs.declared.known.Known.{Known}
 use Rattle.rowex_table.specs.Made.{IsLater}
-use Rattle.rowex_walks.specs.Scan.{EntryStoodSince, IsRooted, IsBlank, IsPlaced, IsShaped, IsRead}
+use Rattle.version_laws.specs.Scan.{EntryStoodSince, IsRooted, IsBlank, IsPlaced, IsShaped, IsRead}
 use Rattle.rowex_reading.specs.Seen.{HasPlace}
 use Rattle.rowex_reading.proofs.Led.{shape_place}
 use Rattle.rowex_reading.proofs.Seeing.{sure_later, since_later, seen_stable, rooted_stable, placed_stable, shaped_stable, read_stable, blank_stable}

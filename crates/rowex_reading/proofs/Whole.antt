@@ -7,7 +7,7 @@ use Rattle.record_words.specs.declared.TheConstants.{LEAF_FIELDS}
 use Rattle.record_words.specs.Leaf.{words_of_key}
 use Rattle.rowex_core.specs.declared.event.Event.{Event}
 use Rattle.rowex_table.specs.Seats.{SeatView, TableView}
-use Rattle.rowex_walks.specs.Scan.{IsRead}
+use Rattle.version_laws.specs.Scan.{IsRead}
 use Rattle.rowex_reading.specs.Reads.{IsReader, Reads, leaf_loads}
 use Rattle.rowex_reading.specs.Seen.{Sure, IsLedTo}
 use Rattle.rowex_reading.proofs.Leafing.{AreSoFar, all_counted, all_places, all_read}

@@ -11,7 +11,7 @@ use Rattle.versions.specs.State.{Past}
 use Rattle.rowex_core.specs.declared.known.Known.{Known}
 use Rattle.rowex_core.specs.Cores.{Core, IsLawful}
 use Rattle.rowex_core.specs.Knowing.{IsPinnedSince, Recalls}
-use Rattle.rowex_walks.specs.Scan.{EntryStoodSince, IsRooted, IsBlank, IsRead, IsShaped}
+use Rattle.version_laws.specs.Scan.{EntryStoodSince, IsRooted, IsBlank, IsRead, IsShaped}
 
 -- the versions that the pass has seen, of those of a core: up to the one after the changes of its front
 abbrev pub seen : Core → Known → Past

@@ -6,7 +6,7 @@ use Rattle.tries.specs.Keys.{Key}
 use Rattle.tries.specs.Place.{spot}
 use Rattle.tries.specs.Tree.{Subtrie}
 use Rattle.rowex_core.specs.declared.known.Known.{Known}
-use Rattle.rowex_walks.specs.Scan.{IsShaped}
+use Rattle.version_laws.specs.Scan.{IsShaped}
 use Rattle.rowex_reading.specs.Seen.{IsLedTo, Sure}
 use Rattle.rowex_reading.specs.declared.along.Turn.{Turn}
 

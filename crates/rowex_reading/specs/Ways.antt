@@ -13,7 +13,7 @@ use Rattle.tries.specs.Place.{spot}
 use Rattle.tries.specs.Tree.{Subtrie, first_position}
 use Rattle.rowex_core.specs.declared.known.Known.{Known}
 use Rattle.rowex_core.specs.Knowing.{IsPinnedSince}
-use Rattle.rowex_walks.specs.Scan.{EntryStoodSince, IsRooted, IsBlank, IsPlaced, IsShaped, IsRead}
+use Rattle.version_laws.specs.Scan.{EntryStoodSince, IsRooted, IsBlank, IsPlaced, IsShaped, IsRead}
 use Rattle.rowex_reading.specs.Seen.{Sure, shape_of}
 use Rattle.rowex_reading.specs.declared.descent.Found.{Found}
 use Rattle.rowex_reading.specs.declared.descent.Found.TheVariants.{Nothing, Leaf}

@@ -3,7 +3,7 @@
 ghost use Rattle.std.specs.Prelude.{◌≡◌, ◌+◌, ℕ};
 ghost use Rattle.pieces.specs.Growth.{affected_count, affected_first};
 ghost use Rattle.record_words.specs.declared.TheConstants.{HEAD_WORDS};
-ghost use Rattle.rowex_walks.specs.Scan.{IsShaped};
+ghost use Rattle.version_laws.specs.Scan.{IsShaped};
 ghost use Rattle.rowex_reading.specs.Reads.{IsReader, Reads};
 ghost use Rattle.rowex_reading.specs.Seen.{HasPlace, Sure};
 ghost use Rattle.tries.specs.Tree.{Subtrie};

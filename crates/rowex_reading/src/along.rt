@@ -4,7 +4,7 @@
 ghost use Rattle.std.specs.Prelude.{◌≡◌, ◌+◌, ◌*◌, ◌<◌, ◌≤◌, ℕ, IfSome, IsSome, ◌∷◌, [], length, take};
 ghost use Rattle.compound_node.specs.declared.entries.Entry.TheVariants.{Node as NodeEntry};
 ghost use Rattle.record_words.specs.declared.TheConstants.{HEAD_WORDS};
-ghost use Rattle.rowex_walks.specs.Scan.{IsShaped};
+ghost use Rattle.version_laws.specs.Scan.{IsShaped};
 ghost use Rattle.rowex_table.specs.Rule.{IsStartOf};
 ghost use Rattle.rowex_table.specs.Seats.{IsSeatOf};
 ghost use Rattle.versions.specs.declared.Rec.TheVariants.{Node as a_node};

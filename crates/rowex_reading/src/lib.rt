@@ -27,7 +27,7 @@
 //! reader may stand in a node that a writer has replaced. The node shows what it showed in the last version that had it, and by then
 //! the search had begun. As long as a node lives, all keys below it agree up to its first fork. So at each step the search has either
 //! followed its key in some version since it began, or the key was absent in such a version. At the end the leaf decides. The crate
-//! `rowex_walks` proves this for versions; here it is told of the words that were loaded.
+//! `version_laws` proves this for versions; here it is told of the words that were loaded.
 //!
 //! What a pass has learned by its loads is kept as facts about versions of the past, which no step of another pass makes false.
 //! So a contract says: the value was the key's at a moment between the call's load of the root and its end.

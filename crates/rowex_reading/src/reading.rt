@@ -6,7 +6,7 @@ ghost use Rattle.key_bits.specs.declared.TheConstants.{MAX_BYTES};
 ghost use Rattle.compound_node.specs.Nodes.{HeadView, IsLawfulNode, height_of, leaves, node_of};
 ghost use Rattle.compound_node.specs.declared.entries.Entry.TheVariants.{Leaf as LeafEntry, Node as NodeEntry};
 ghost use Rattle.record_words.specs.declared.TheConstants.{HEAD_WORDS, LEAF_FIELDS};
-ghost use Rattle.rowex_walks.specs.Scan.{IsShaped, IsPlaced, IsRead};
+ghost use Rattle.version_laws.specs.Scan.{IsShaped, IsPlaced, IsRead};
 ghost use Rattle.rowex_reading.specs.Reads.{IsReader, Reads, ReadsRoot, leaf_loads};
 ghost use Rattle.rowex_reading.specs.Ways.{step_at};
 ghost use Rattle.rowex_reading.specs.Seen.{Sure, RootIs, IsCompared, IsLedTo, HasPlace, AreHeadWords, shape_of};

@@ -1,10 +1,10 @@
 -- Gaps and ranges, for both directions.
 use Rattle.std.proofs.Common.{◌≡◌, ◌⊎◌, inl, inr, ℕ, suc, ◌+◌, ◌-◌, ◌<◌, ◌≤◌, List, length, refl, arith}
 use Rattle.versions.specs.State.{Past}
-use Rattle.rowex_walks.specs.Directions.{IsEarlier, IsNoLater, IsScanBy, first_gap, first_key, gap_after, gap_before, gap_behind, last_key, place_ahead, to_come}
-use Rattle.rowex_walks.specs.Scan.{Pair, Range, IsInRange, Frame as Stage}
-use Rattle.rowex_walks.specs.declared.direction.Direction.{Direction}
-use Rattle.rowex_walks.specs.declared.direction.Direction.TheVariants.{Upwards, Downwards}
+use Rattle.version_laws.specs.Directions.{IsEarlier, IsNoLater, IsScanBy, first_gap, first_key, gap_after, gap_before, gap_behind, last_key, place_ahead, to_come}
+use Rattle.version_laws.specs.Scan.{Pair, Range, IsInRange, Frame as Stage}
+use Rattle.version_laws.specs.declared.direction.Direction.{Direction}
+use Rattle.version_laws.specs.declared.direction.Direction.TheVariants.{Upwards, Downwards}
 use Rattle.rowex_scanning.specs.Scanning.{limited}
 use Rattle.tries.specs.Keys.{Key, IsBefore}
 

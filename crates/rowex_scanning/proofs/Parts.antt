@@ -5,11 +5,11 @@ use Rattle.insert_cases.specs.declared.choice.PathNode.{PathNode}
 use Rattle.tries.specs.Keys.{Key}
 use Rattle.rowex_core.specs.declared.known.Known.{Known}
 use Rattle.rowex_table.specs.Made.{IsLater}
-use Rattle.rowex_walks.proofs.Walk.{before}
-use Rattle.rowex_walks.specs.Scan.{Range, IsRead}
+use Rattle.version_laws.proofs.Walk.{before}
+use Rattle.version_laws.specs.Scan.{Range, IsRead}
 use Rattle.rowex_reading.specs.Seen.{seen, Sure, IsAtRoot, since}
 use Rattle.rowex_scanning.specs.Scanning.{HasScanned, HasScannedPart, IsLeafRefused, IsLeafTaken, IsPairRefused, limited}
-use Rattle.rowex_walks.specs.declared.direction.Direction.{Direction}
+use Rattle.version_laws.specs.declared.direction.Direction.{Direction}
 use Rattle.rowex_scanning.specs.declared.scanning.Verdict.TheVariants.{Full}
 use Rattle.rowex_scanning.proofs.Directed.{scan_limited}
 use Rattle.rowex_scanning.proofs.Walking.{IsAtEntry, IsBeforeEntry, before_with, leaf_full, length_in_order_taken, walk_full}

@@ -11,13 +11,13 @@ use Rattle.record_words.specs.declared.layout.Layout.{Layout}
 use Rattle.rowex_core.specs.declared.known.Known.{Known}
 use Rattle.rowex_table.specs.Made.{IsLater}
 use Rattle.tries.specs.Keys.{Key}
-use Rattle.rowex_walks.specs.Scan.{Range, EntryStoodSince, IsPlaced}
+use Rattle.version_laws.specs.Scan.{Range, EntryStoodSince, IsPlaced}
 use Rattle.rowex_reading.specs.Seen.{HasPlace, HasRoom, IsLedTo, Sure}
 use Rattle.rowex_reading.proofs.Seeing.{placed_stable, room_stable, seen_stable, since_later, sure_later}
 use Rattle.rowex_scanning.specs.Ahead.{AreAhead, AreTaken, HasPlaces, HavePassed, IsNodeAhead}
-use Rattle.rowex_walks.specs.Directions.{first_key, gap_after, gap_before, place_ahead, to_come}
+use Rattle.version_laws.specs.Directions.{first_key, gap_after, gap_before, place_ahead, to_come}
 use Rattle.rowex_scanning.specs.Scanning.{IsBound, IsLeafTaken, IsReached, IsWalk}
-use Rattle.rowex_walks.specs.declared.direction.Direction.{Direction}
+use Rattle.version_laws.specs.declared.direction.Direction.{Direction}
 use Rattle.rowex_scanning.specs.declared.scanning.Verdict.{Verdict}
 use Rattle.rowex_scanning.specs.declared.scanning.Verdict.TheVariants.{Further}
 use Rattle.rowex_scanning.proofs.Directed.{gap_before_place, gap_behind_place, gap_none}

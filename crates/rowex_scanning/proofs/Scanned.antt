@@ -11,12 +11,12 @@ use Rattle.versions.specs.Told.{TellChanges}
 use Rattle.rowex_core.specs.declared.event.Act.TheVariants.{ClearPin}
 use Rattle.rowex_core.specs.declared.known.Known.{Known}
 use Rattle.rowex_core.specs.Knowing.{IsEvent}
-use Rattle.rowex_walks.specs.Scan.{Range}
-use Rattle.rowex_walks.proofs.Fronts.{scan_is_lawful}
+use Rattle.version_laws.specs.Scan.{Range}
+use Rattle.version_laws.proofs.Fronts.{scan_is_lawful}
 use Rattle.rowex_reading.specs.Seen.{seen}
-use Rattle.rowex_walks.specs.Directions.{IsLawfulBy}
+use Rattle.version_laws.specs.Directions.{IsLawfulBy}
 use Rattle.rowex_scanning.specs.Scanning.{HasScanned}
-use Rattle.rowex_walks.specs.declared.direction.Direction.{Direction}
+use Rattle.version_laws.specs.declared.direction.Direction.{Direction}
 use Rattle.rowex_reading.proofs.Seeing.{seen_told, seen_steady}
 use Rattle.rowex_reading.proofs.Later.{event_recalls}
 

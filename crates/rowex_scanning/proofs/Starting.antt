@@ -27,10 +27,10 @@ use Rattle.rowex_core.specs.Cores.{Core, IsLawful}
 use Rattle.rowex_core.specs.Knowing.{IsPinnedSince, Recalls}
 use Rattle.rowex_core.specs.declared.known.Known.{Known}
 use Rattle.rowex_core.proofs.Owning.{recalls}
-use Rattle.rowex_walks.specs.Scan.{Range, IsBlank, IsRooted, IsPlaced, IsShaped, IsRead, IsStack, MayStandAt, Frame as Stage}
-use Rattle.rowex_walks.proofs.Scans.{may_stand_at_child_place, leaf_may_stand, near_may_stand, may_stand_in_order, shaped_several}
-use Rattle.rowex_walks.proofs.Starts.{at_beyond, at_on_way, fit_sole, scan_started, sides, sides_beyond, stack_at, start_fits, AreAt, affected_from, start_place}
-use Rattle.rowex_walks.proofs.Walk.{scan_skipped, stack_place}
+use Rattle.version_laws.specs.Scan.{Range, IsBlank, IsRooted, IsPlaced, IsShaped, IsRead, IsStack, MayStandAt, Frame as Stage}
+use Rattle.version_laws.proofs.Scans.{may_stand_at_child_place, leaf_may_stand, near_may_stand, may_stand_in_order, shaped_several}
+use Rattle.version_laws.proofs.Starts.{at_beyond, at_on_way, fit_sole, scan_started, sides, sides_beyond, stack_at, start_fits, AreAt, affected_from, start_place}
+use Rattle.version_laws.proofs.Walk.{scan_skipped, stack_place}
 use Rattle.rowex_reading.specs.Possible.{IsPossible}
 use Rattle.rowex_table.specs.Made.{IsLater}
 use Rattle.versions.specs.declared.Rec.TheVariants.{Leaf as a_leaf}
@@ -41,11 +41,11 @@ use Rattle.rowex_reading.proofs.Ways.{named_at, named_end, way_later}
 use Rattle.rowex_reading.specs.Ways.{IsMismatch, IsWayOf, IsWayNode, RootWas, named}
 use Rattle.rowex_reading.specs.declared.descent.Found.{Found}
 use Rattle.rowex_reading.specs.declared.descent.Found.TheVariants.{Leaf, Nothing}
-use Rattle.rowex_walks.specs.Directions.{IsNoLater, IsPastKey, IsScanBy, first_key, gap_before, gap_behind}
+use Rattle.version_laws.specs.Directions.{IsNoLater, IsPastKey, IsScanBy, first_key, gap_before, gap_behind}
 use Rattle.rowex_scanning.specs.Scanning.{ArePastKey, AreInside, IsBound, IsReached, IsWalk, frame, frames_of}
 use Rattle.rowex_scanning.specs.Starts.{IsBegun, IsFirst, IsParting, IsStart}
-use Rattle.rowex_walks.specs.declared.direction.Direction.{Direction}
-use Rattle.rowex_walks.specs.declared.direction.Direction.TheVariants.{Upwards, Downwards}
+use Rattle.version_laws.specs.declared.direction.Direction.{Direction}
+use Rattle.version_laws.specs.declared.direction.Direction.TheVariants.{Upwards, Downwards}
 use Rattle.rowex_scanning.specs.declared.start.Start.{Start}
 use Rattle.rowex_scanning.proofs.Walking.{beyond_append, walk_before, IsAtEntry}
 

@@ -22,14 +22,14 @@ use Rattle.rowex_scanning.proofs.Starting.{read_same}
 use Rattle.rowex_scanning.proofs.Walking.{beyond_parts, walk_before, walk_fits, IsBeforeEntry}
 use Rattle.rowex_scanning.specs.Scanning.{ArePastKey, IsBound, IsWalk, frame, frames_of}
 use Rattle.rowex_scanning.specs.Starts.{IsBegun, IsFirst, IsParting, IsStart, IsWalkFrom}
-use Rattle.rowex_walks.specs.declared.direction.Direction.TheVariants.{Upwards, Downwards}
+use Rattle.version_laws.specs.declared.direction.Direction.TheVariants.{Upwards, Downwards}
 use Rattle.rowex_scanning.specs.declared.start.Start.{Start}
 use Rattle.rowex_table.specs.Made.{IsLater}
-use Rattle.rowex_walks.proofs.Starts.{beyond_further, same_past, scan_started, IsWayEarlier}
-use Rattle.rowex_walks.proofs.Scans.{leaf_may_stand}
-use Rattle.rowex_walks.proofs.Walk.{scan_skipped, stack_place}
-use Rattle.rowex_walks.specs.Directions.{IsPastKey}
-use Rattle.rowex_walks.specs.Scan.{Range, IsPlaced, IsRead, Frame as Stage}
+use Rattle.version_laws.proofs.Starts.{beyond_further, same_past, scan_started, IsWayEarlier}
+use Rattle.version_laws.proofs.Scans.{leaf_may_stand}
+use Rattle.version_laws.proofs.Walk.{scan_skipped, stack_place}
+use Rattle.version_laws.specs.Directions.{IsPastKey}
+use Rattle.version_laws.specs.Scan.{Range, IsPlaced, IsRead, Frame as Stage}
 use Rattle.tries.specs.Keys.{Key, bit, AgreeBelow, IsBefore}
 
 -- what is past the key upwards, a scan downwards has passed on its way

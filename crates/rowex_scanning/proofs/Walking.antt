@@ -29,12 +29,12 @@ use Rattle.rowex_core.proofs.Owning.{recalls}
 use Rattle.record_words.specs.declared.TheConstants.{HEAD_WORDS, LEAF_FIELDS}
 use Rattle.record_words.specs.declared.layout.Layout.{Layout}
 use Rattle.insert_cases.specs.declared.choice.PathNode.{PathNode}
-use Rattle.rowex_walks.proofs.Starts.{beyond_at_place, beyond_behind, beyond_in_child, beyond_grown}
-use Rattle.rowex_walks.specs.Scan.{Pair, Range, IsRooted, IsPlaced, IsRead, IsBlank, IsShaped, IsStack, in_order_taken, Frame as Stage}
-use Rattle.rowex_walks.proofs.Scans.{leaf_may_stand, shaped_several}
-use Rattle.rowex_walks.proofs.Walk.{before, behind, scan_ended, scan_filled, scan_passed, scan_popped, scan_pushed, scan_taken, stack_shape}
-use Rattle.rowex_walks.proofs.Ends.{answer_blank, answer_nought, answer_one, answer_outside, none_between, stack_depth, stack_high, stack_low, stack_seen}
-use Rattle.rowex_walks.proofs.Persist.{rooted_grown, scan_grown}
+use Rattle.version_laws.proofs.Starts.{beyond_at_place, beyond_behind, beyond_in_child, beyond_grown}
+use Rattle.version_laws.specs.Scan.{Pair, Range, IsRooted, IsPlaced, IsRead, IsBlank, IsShaped, IsStack, in_order_taken, Frame as Stage}
+use Rattle.version_laws.proofs.Scans.{leaf_may_stand, shaped_several}
+use Rattle.version_laws.proofs.Walk.{before, behind, scan_ended, scan_filled, scan_passed, scan_popped, scan_pushed, scan_taken, stack_shape}
+use Rattle.version_laws.proofs.Ends.{answer_blank, answer_nought, answer_one, answer_outside, none_between, stack_depth, stack_high, stack_low, stack_seen}
+use Rattle.version_laws.proofs.Persist.{rooted_grown, scan_grown}
 use Rattle.rowex_table.specs.Made.{IsLater}
 use Rattle.rowex_table.specs.Seats.{SeatView, TableView}
 use Rattle.rowex_reading.specs.Lookups.{HasSearched}
@@ -48,10 +48,10 @@ use Rattle.rowex_reading.proofs.Seeing.{placed_stable, recalls_before, seen_grow
 use Rattle.rowex_scanning.specs.Counts.{AreWalkLoads, Scans, Walks, scan_loads}
 use Rattle.rowex_scanning.specs.Ahead.{HasPlaces, entries_ahead}
 use Rattle.rowex_scanning.specs.declared.ahead.Ahead.{Ahead}
-use Rattle.rowex_walks.specs.Directions.{IsAnswer, IsPastKey, IsEarlier, IsNoLater, IsScanBy, first_gap, first_key, gap_after, gap_before, gap_behind, place_ahead, to_come}
+use Rattle.version_laws.specs.Directions.{IsAnswer, IsPastKey, IsEarlier, IsNoLater, IsScanBy, first_gap, first_key, gap_after, gap_before, gap_behind, place_ahead, to_come}
 use Rattle.rowex_scanning.specs.Scanning.{ArePastKey, AreInside, HasScanned, IsBound, IsEntered, IsLeafTaken, IsPairTaken, IsReached, IsWalk, frame, frames_of}
-use Rattle.rowex_walks.specs.declared.direction.Direction.{Direction}
-use Rattle.rowex_walks.specs.declared.direction.Direction.TheVariants.{Upwards, Downwards}
+use Rattle.version_laws.specs.declared.direction.Direction.{Direction}
+use Rattle.version_laws.specs.declared.direction.Direction.TheVariants.{Upwards, Downwards}
 use Rattle.rowex_scanning.specs.declared.scanning.Verdict.{Verdict}
 use Rattle.rowex_scanning.specs.declared.scanning.Verdict.TheVariants.{Further, Past as IsPast, Full}
 use Rattle.rowex_scanning.proofs.Directed.{before_fits, behind_fits, come_after, come_behind, come_first, come_most, first_fits, gap_before_place, place_inside, out_first, out_last}

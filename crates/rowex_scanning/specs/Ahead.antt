@@ -4,12 +4,12 @@ use Rattle.compound_node.specs.declared.entries.Entry.TheVariants.{Leaf, Node}
 use Rattle.insert_cases.specs.declared.choice.PathNode.{PathNode}
 use Rattle.tries.specs.Keys.{Key}
 use Rattle.rowex_core.specs.declared.known.Known.{Known}
-use Rattle.rowex_walks.specs.Scan.{Range, IsPlaced}
+use Rattle.version_laws.specs.Scan.{Range, IsPlaced}
 use Rattle.rowex_reading.specs.Seen.{HasPlace, Sure, since}
-use Rattle.rowex_walks.specs.Directions.{first_key, gap_after, place_ahead}
+use Rattle.version_laws.specs.Directions.{first_key, gap_after, place_ahead}
 use Rattle.rowex_scanning.specs.Scanning.{HasScanned, IsBound, IsWalk}
 use Rattle.rowex_scanning.specs.declared.ahead.Ahead.{Ahead}
-use Rattle.rowex_walks.specs.declared.direction.Direction.{Direction}
+use Rattle.version_laws.specs.declared.direction.Direction.{Direction}
 use Rattle.rowex_scanning.specs.declared.scanning.Verdict.{Verdict}
 use Rattle.rowex_scanning.specs.declared.scanning.Verdict.TheVariants.{Further, Past as IsPast, Full}
 

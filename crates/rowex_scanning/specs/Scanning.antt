@@ -8,12 +8,12 @@ use Rattle.tries.specs.Tree.{Subtrie, first_position}
 use Rattle.rowex_core.specs.declared.known.Known.{Known}
 use Rattle.rowex_core.specs.Knowing.{IsPinnedSince}
 use Rattle.record_words.specs.declared.layout.Layout.{Layout}
-use Rattle.rowex_walks.specs.Scan.{Pair, Range, IsInRange, IsRead, IsShaped, in_order_taken, Frame as Stage}
+use Rattle.version_laws.specs.Scan.{Pair, Range, IsInRange, IsRead, IsShaped, in_order_taken, Frame as Stage}
 use Rattle.rowex_table.specs.Made.{IsLater}
 use Rattle.rowex_reading.specs.Possible.{IsPossible}
 use Rattle.rowex_reading.specs.Seen.{IsLedTo, Sure, since}
-use Rattle.rowex_walks.specs.Directions.{IsAnswer, IsPastKey, IsEarlier, IsNoLater, IsScanBy, first_gap, gap_behind, last_key}
-use Rattle.rowex_walks.specs.declared.direction.Direction.{Direction}
+use Rattle.version_laws.specs.Directions.{IsAnswer, IsPastKey, IsEarlier, IsNoLater, IsScanBy, first_gap, gap_behind, last_key}
+use Rattle.version_laws.specs.declared.direction.Direction.{Direction}
 use Rattle.rowex_scanning.specs.declared.scanning.Range.{Range as Asked}
 use Rattle.rowex_scanning.specs.declared.scanning.Verdict.{Verdict}
 use Rattle.rowex_scanning.specs.declared.scanning.Verdict.TheVariants.{Further, Past as IsPast, Full}

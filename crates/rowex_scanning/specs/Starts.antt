@@ -4,12 +4,12 @@ use Rattle.compound_node.specs.declared.entries.Entry.TheVariants.{Leaf}
 use Rattle.insert_cases.specs.declared.choice.PathNode.{PathNode}
 use Rattle.tries.specs.Keys.{Key, IsBefore}
 use Rattle.rowex_core.specs.declared.known.Known.{Known}
-use Rattle.rowex_walks.specs.Scan.{Range, IsPlaced, IsRead}
+use Rattle.version_laws.specs.Scan.{Range, IsPlaced, IsRead}
 use Rattle.rowex_reading.specs.Seen.{Sure}
-use Rattle.rowex_walks.specs.Directions.{IsNoLater, IsPastKey, first_key, gap_before, gap_behind}
+use Rattle.version_laws.specs.Directions.{IsNoLater, IsPastKey, first_key, gap_before, gap_behind}
 use Rattle.rowex_scanning.specs.Scanning.{ArePastKey, IsBound, IsWalk}
-use Rattle.rowex_walks.specs.declared.direction.Direction.{Direction}
-use Rattle.rowex_walks.specs.declared.direction.Direction.TheVariants.{Upwards, Downwards}
+use Rattle.version_laws.specs.declared.direction.Direction.{Direction}
+use Rattle.version_laws.specs.declared.direction.Direction.TheVariants.{Upwards, Downwards}
 use Rattle.rowex_scanning.specs.declared.start.Start.{Start}
 
 -- The leaf at which the search has ended stands at the place, with a key that does not come before this one; all that is behind it comes

@@ -6,7 +6,7 @@ ghost use Rattle.compound_node.specs.declared.entries.Entry.TheVariants.{Leaf as
 ghost use Rattle.rowex_reading.specs.Reads.{IsReader, Reads};
 ghost use Rattle.rowex_reading.specs.Seen.{IsLedTo};
 ghost use Rattle.rowex_scanning.specs.Ahead.{HasPlaces, HasSeenAhead, entries_ahead};
-ghost use Rattle.rowex_walks.specs.Directions.{to_come};
+ghost use Rattle.version_laws.specs.Directions.{to_come};
 
 use crate::direction::place_ahead;
 use crate::scanning::Scan;

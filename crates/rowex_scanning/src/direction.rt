@@ -4,11 +4,11 @@
 ghost use Rattle.std.specs.Prelude.{◌≡◌, ◌<◌, ◌≤◌, IsTrue, false};
 ghost use Rattle.key_bits.specs.Key.{IsKey};
 ghost use Rattle.tries.specs.Keys.{IsAtMost, IsBefore};
-ghost use Rattle.rowex_walks.specs.Directions.{IsEarlier, IsNoLater, gap_behind};
-ghost use Rattle.rowex_walks.specs.Directions.{first_gap as first_gap_of, gap_after as gap_after_of, place_ahead as place_ahead_of, to_come as to_come_of};
+ghost use Rattle.version_laws.specs.Directions.{IsEarlier, IsNoLater, gap_behind};
+ghost use Rattle.version_laws.specs.Directions.{first_gap as first_gap_of, gap_after as gap_after_of, place_ahead as place_ahead_of, to_come as to_come_of};
 
 use insert_cases::PathNode;
-use rowex_walks::Direction;
+use version_laws::Direction;
 
 /// How many entries are to come in the node `top`, for a walk in the direction `direction` that stands at its gap `top.at`.
 #[inline(always)]

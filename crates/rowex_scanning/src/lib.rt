@@ -7,5 +7,5 @@ mod direction;
 mod scanning;
 mod start;
 
-pub use rowex_walks::Direction;
 pub use scanning::{Range, scan_root};
+pub use version_laws::Direction;

@@ -13,8 +13,8 @@ ghost use Rattle.rowex_reading.specs.Ways.{IsWayOf};
 ghost use Rattle.rowex_reading.specs.declared.descent.Found.TheVariants.{Leaf as FoundLeaf};
 ghost use Rattle.rowex_scanning.specs.Ahead.{AreAhead, AreTakenOnWays, IsOnSomeWay};
 ghost use Rattle.rowex_scanning.specs.Counts.{Scans, Walks, scan_loads};
-ghost use Rattle.rowex_walks.specs.Directions.{IsEarlier, IsNoLater, last_key};
-ghost use Rattle.rowex_walks.specs.Directions.{first_key as first_key_of, to_come as to_come_of};
+ghost use Rattle.version_laws.specs.Directions.{IsEarlier, IsNoLater, last_key};
+ghost use Rattle.version_laws.specs.Directions.{first_key as first_key_of, to_come as to_come_of};
 ghost use Rattle.rowex_scanning.specs.Scanning.{HasScanned, HasScannedPart, IsBound, IsEntered, IsLeafRefused, IsLeafTaken, IsPairRefused, IsPairTaken, IsReached, IsWalk, asked_range};
 
 use crate::ahead::{MOST_AHEAD, look_ahead, most_together};
@@ -30,8 +30,8 @@ use rowex_reading::{
     Found, MOST_NODES, enter_node, load_places, load_places_from, load_root, search_way,
 };
 use rowex_table::{HotTable, TableSeat};
-use rowex_walks::Direction;
 use std::alloc::AllocError;
+use version_laws::Direction;
 
 /// What a scan asks for.
 #[derive(Drop)]

@@ -12,7 +12,7 @@ use key_bits::Key;
 use rowex_core::Gate;
 use rowex_reading::find_affected;
 use rowex_table::{HotTable, TableSeat};
-use rowex_walks::Direction;
+use version_laws::Direction;
 
 /// Where a scan starts on the way of the search for its first key.
 #[derive(Clone, Copy)]

@@ -14,7 +14,7 @@ use Rattle.tries.specs.Search.{seek}
 use Rattle.tries.specs.Tree.{Subtrie}
 use Rattle.versions.specs.Trades.{IsOneOf}
 use Rattle.versions.proofs.Members.{map_of}
-use Rattle.rowex_walks.specs.Spots.{AffectsOne}
+use Rattle.version_laws.specs.Spots.{AffectsOne}
 use Rattle.rowex_core.specs.declared.event.Spot.{Spot}
 use Rattle.rowex_core.specs.declared.event.Spot.TheVariants.{Root, Slot}
 use Rattle.rowex_core.specs.declared.known.Known.{Known}
@@ -23,7 +23,7 @@ use Rattle.rowex_core.specs.Reading.{node_words_of}
 use Rattle.rowex_reading.specs.Possible.{IsPossible}
 use Rattle.rowex_reading.specs.Ways.{IsWayNode, IsWayOf, named}
 use Rattle.rowex_reading.specs.declared.descent.Found.{Found}
-use Rattle.rowex_rights.specs.Spots.{HoldsAt, at_root, in_node, FitsAt, AffectsSpotAlone, IsSubtrieBelow}
+use Rattle.publish_laws.specs.Spots.{HoldsAt, at_root, in_node, FitsAt, AffectsSpotAlone, IsSubtrieBelow}
 use Rattle.rowex_writing.specs.Going.{HasLocked}
 use Rattle.rowex_writing.specs.Changes.{IsChecked}
 use Rattle.rowex_writing.specs.Locks.{HasLockedSpan}

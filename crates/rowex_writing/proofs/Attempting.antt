@@ -28,8 +28,8 @@ use Rattle.rowex_records.proofs.Claimed.{all_earlier}
 use Rattle.rowex_reading.specs.Possible.{IsPossible}
 use Rattle.rowex_reading.specs.Reads.{Looks, Reads}
 use Rattle.rowex_reading.proofs.Led.{looked_at, looks_same, reads_later, reads_same, reads_sees}
-use Rattle.rowex_rights.specs.Ending.{IsAtRest}
-use Rattle.rowex_walks.specs.Scan.{IsShaped}
+use Rattle.publish_laws.specs.Ending.{IsAtRest}
+use Rattle.version_laws.specs.Scan.{IsShaped}
 use Rattle.rowex_table.specs.Made.{IsLater}
 use Rattle.rowex_reading.specs.Lookups.{HasFound, HasSearched}
 use Rattle.rowex_core.specs.Knowing.{IsPinnedSince}

@@ -32,15 +32,15 @@ use Rattle.rowex_core.proofs.Owning.{knows_all}
 use Rattle.rowex_core.proofs.Reading.{node_is}
 use Rattle.rowex_reading.specs.Possible.{IsPossible}
 use Rattle.rowex_reading.specs.Seen.{Sure}
-use Rattle.rowex_rights.specs.Spots.{IsSpotOf}
-use Rattle.rowex_rights.specs.Rises.{HasFoundBelow}
-use Rattle.rowex_rights.specs.Stages.{IsLockedAbove, IsSure}
-use Rattle.rowex_rights.proofs.Rising.{above_goes_on}
-use Rattle.rowex_rights.proofs.Sure.{descent_begins, descent_ends, descent_finds, descent_goes_on, seen_is_sure}
-use Rattle.rowex_walks.specs.Scan.{EntryStoodSince, IsPlaced, IsShaped, IsRead}
-use Rattle.rowex_walks.specs.Ways.{IsOnWay, IsWayFrom}
-use Rattle.rowex_walks.proofs.Persist.{placed_grown, shaped_grown, read_grown}
-use Rattle.rowex_walks.proofs.Ways.{way_of_leaf}
+use Rattle.publish_laws.specs.Spots.{IsSpotOf}
+use Rattle.publish_laws.specs.Rises.{HasFoundBelow}
+use Rattle.publish_laws.specs.Stages.{IsLockedAbove, IsSure}
+use Rattle.publish_laws.proofs.Rising.{above_goes_on}
+use Rattle.publish_laws.proofs.Sure.{descent_begins, descent_ends, descent_finds, descent_goes_on, seen_is_sure}
+use Rattle.version_laws.specs.Scan.{EntryStoodSince, IsPlaced, IsShaped, IsRead}
+use Rattle.version_laws.specs.Ways.{IsOnWay, IsWayFrom}
+use Rattle.version_laws.proofs.Persist.{placed_grown, shaped_grown, read_grown}
+use Rattle.version_laws.proofs.Ways.{way_of_leaf}
 use Rattle.tries.specs.Affected.{subtrie_affected, FirstForkIsBefore, IsPartSubtrie, IsTipSubtrie}
 use Rattle.tries.specs.Keys.{Key, bit}
 use Rattle.tries.specs.Search.{seek}

@@ -35,8 +35,8 @@ use Rattle.rowex_table.specs.Runs.{silent}
 use Rattle.rowex_table.specs.Seats.{TableView, SeatView}
 use Rattle.rowex_table.proofs.ActsBefore.{entry_of_locked}
 use Rattle.rowex_table.proofs.Running.{runs_one}
-use Rattle.rowex_walks.specs.Scan.{IsPlaced, IsRooted, IsBlank}
-use Rattle.rowex_walks.proofs.Ways.{placed_same, rooted_same}
+use Rattle.version_laws.specs.Scan.{IsPlaced, IsRooted, IsBlank}
+use Rattle.version_laws.proofs.Ways.{placed_same, rooted_same}
 use Rattle.rowex_reading.specs.Possible.{IsPossible}
 use Rattle.rowex_reading.specs.Reads.{ReadsRoot}
 use Rattle.rowex_reading.specs.Seen.{seen, since, HasPlace, RootIs, Sure}
@@ -44,9 +44,9 @@ use Rattle.rowex_reading.proofs.Later.{event_knows, event_later}
 use Rattle.rowex_reading.proofs.Placing.{slot_later, slot_some, slot_placed}
 use Rattle.rowex_reading.proofs.Rooting.{root_fresh}
 use Rattle.rowex_reading.proofs.Seeing.{seen_steady, since_later, sure_later, blank_stable, placed_stable, rooted_stable, seen_stable, shaped_stable}
-use Rattle.rowex_rights.specs.Loops.{StaysLocked}
+use Rattle.publish_laws.specs.Loops.{StaysLocked}
 use Rattle.std.proofs.lemmas.List.Elements.{All-cons, All-nil}
-use Rattle.rowex_rights.proofs.Loops.{still_locked}
+use Rattle.publish_laws.proofs.Loops.{still_locked}
 use Rattle.rowex_writing.specs.Checks.{EntriesStand}
 use Rattle.rowex_writing.specs.Going.{HasLocked, IsLockedBy, ReadsOn, TriesNoLock}
 use Rattle.rowex_writing.specs.Locks.{HasLockedSpan, span_numbers}

@@ -26,19 +26,19 @@ use Rattle.rowex_core.specs.declared.event.Spot.{Spot}
 use Rattle.rowex_core.specs.declared.event.Spot.TheVariants.{Root, Slot}
 use Rattle.rowex_core.specs.declared.known.Known.{Known}
 use Rattle.rowex_core.specs.declared.known.Locked.{Locked}
-use Rattle.rowex_rights.specs.Spots.{IsSpotOf}
-use Rattle.rowex_rights.specs.Rises.{HasFoundBelow}
-use Rattle.rowex_rights.specs.Stages.{HasRisen}
-use Rattle.rowex_rights.proofs.Holding.{spot_stays}
-use Rattle.rowex_rights.proofs.Inserting.{insertion}
-use Rattle.rowex_rights.proofs.Rising.{risen_stays}
+use Rattle.publish_laws.specs.Spots.{IsSpotOf}
+use Rattle.publish_laws.specs.Rises.{HasFoundBelow}
+use Rattle.publish_laws.specs.Stages.{HasRisen}
+use Rattle.publish_laws.proofs.Holding.{spot_stays}
+use Rattle.publish_laws.proofs.Inserting.{insertion}
+use Rattle.publish_laws.proofs.Rising.{risen_stays}
 use Rattle.rowex_table.specs.Made.{IsLater, nodes_of}
 use Rattle.rowex_table.specs.Publishes.{Publishes}
 use Rattle.rowex_table.specs.Rule.{HasSpot}
 use Rattle.record_words.specs.Leaf.{words_for}
 use Rattle.insert_cases.proofs.Choosing.{some_at}
-use Rattle.rowex_rights.specs.Loops.{StaysLocked}
-use Rattle.rowex_rights.proofs.Sure.{found_stays}
+use Rattle.publish_laws.specs.Loops.{StaysLocked}
+use Rattle.publish_laws.proofs.Sure.{found_stays}
 use Rattle.tries.proofs.Places.{spot_below}
 use Rattle.rowex_writing.specs.Plans.{change}
 use Rattle.rowex_reading.specs.Ways.{IsWayOf}
@@ -47,11 +47,11 @@ use Rattle.rowex_writing.specs.declared.plan.Deed.TheVariants.{Grow}
 use Rattle.rowex_reading.specs.declared.descent.Found.{Found}
 use Rattle.rowex_writing.specs.declared.plan.Full.{Full}
 use Rattle.rowex_table.specs.Seats.{TableView, SeatView}
-use Rattle.rowex_walks.specs.Rise.{entry}
-use Rattle.rowex_walks.specs.Writer.{added_change}
+use Rattle.version_laws.specs.Rise.{entry}
+use Rattle.version_laws.specs.Writer.{added_change}
 use Rattle.rowex_core.specs.declared.event.Event.{Event}
-use Rattle.rowex_rights.specs.Ending.{IsAtRest}
-use Rattle.rowex_rights.proofs.Loops.{later_transitive}
+use Rattle.publish_laws.specs.Ending.{IsAtRest}
+use Rattle.publish_laws.proofs.Loops.{later_transitive}
 use Rattle.rowex_writing.specs.declared.plan.Full.TheVariants.{Nodes, Leaves}
 use Rattle.rowex_writing.specs.Building.{FitsAbove, HasLeafMade, IsChain, HasRisenTo, gone_unless_whole, gone_with_way}
 use Rattle.rowex_records.specs.Claims.{AllMissed, IsAnothers, IsAnothersBut}

@@ -29,14 +29,14 @@ use Rattle.versions.specs.Trades.{IsOneOf}
 use Rattle.versions.specs.declared.Rec.{Rec}
 use Rattle.versions.proofs.Members.{of_right}
 use Rattle.versions.specs.declared.Rec.TheVariants.{Node as a_node}
-use Rattle.rowex_walks.specs.Rise.{Side, body, entry}
+use Rattle.version_laws.specs.Rise.{Side, body, entry}
 use Rattle.rowex_core.specs.declared.event.Event.{Event}
 use Rattle.rowex_core.specs.Reading.{node_words_of}
 use Rattle.rowex_table.specs.Made.{Made}
 use Rattle.rowex_table.specs.Seats.{TableView, SeatView}
-use Rattle.rowex_rights.specs.Stages.{HasLeaf, HasRisen, IsLockedAbove}
-use Rattle.rowex_rights.proofs.Rising.{risen_stays, rises_pulled, rises_wrapped, rise_grows}
-use Rattle.rowex_rights.specs.Rises.{made_of_node, made_of_leaf, IsSide, anew, HasFoundBelow}
+use Rattle.publish_laws.specs.Stages.{HasLeaf, HasRisen, IsLockedAbove}
+use Rattle.publish_laws.proofs.Rising.{risen_stays, rises_pulled, rises_wrapped, rise_grows}
+use Rattle.publish_laws.specs.Rises.{made_of_node, made_of_leaf, IsSide, anew, HasFoundBelow}
 use Rattle.rowex_writing.specs.Building.{IsBuilding, IsHalfMade, IsMadeFrom, IsRaising, IsBelow, IsLevelRisen, IsLowest, IsLowRisen, IsNextTo, IsRisenAt, IsSingle, IsSplit, FitsAbove, IsChain, IsRisingOn, IsGrowing, IsGrownFrom, HasNotMade, HasRisenTo, gone_unless_whole, gone_with_way}
 use Rattle.rowex_writing.specs.Going.{WorksOn, ReadsOn, HasLocked, IsNodeOf}
 use Rattle.rowex_writing.specs.Remaking.{IsSubtrieOfTree, IsLowHalf, IsNoHigher, subtrie_with_leaf}

@@ -38,7 +38,7 @@ use Rattle.rowex_table.proofs.Running.{runs_same}
 use Rattle.rowex_records.specs.Claims.{claiming, wrapped, Misses, MissesOne, MissesNumber, HoldsOneMore, ClaimsOne, FindsNone, Claims}
 use Rattle.rowex_records.specs.Records.{fill_with, filling, load_of_word, fill_unless_found, owning, stored, stored_in, SetsAll, SetsSome, SetsWord}
 use Rattle.rowex_records.proofs.Filled.{leaf_stored, left_beside}
-use Rattle.rowex_rights.specs.Rises.{made_of_node}
+use Rattle.publish_laws.specs.Rises.{made_of_node}
 use Rattle.rowex_reading.specs.Possible.{IsPossible}
 use Rattle.rowex_reading.proofs.Later.{event_possible}
 use Rattle.rowex_writing.specs.Building.{IsBuilding, IsHalfMade, HasLeafMade, HasNotMade}

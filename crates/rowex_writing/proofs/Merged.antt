@@ -53,12 +53,12 @@ use Rattle.rowex_reading.specs.declared.descent.Found.{Found}
 use Rattle.rowex_reading.specs.declared.descent.Found.TheVariants.{Leaf}
 use Rattle.rowex_reading.proofs.Seeing.{later_trans}
 use Rattle.rowex_reading.proofs.Ways.{named_at, way_later}
-use Rattle.rowex_rights.specs.Rises.{IsSide, made_of_node, one, anew}
-use Rattle.rowex_rights.specs.Spots.{HoldsAt, FitsAt, at_root, in_node}
-use Rattle.rowex_rights.specs.Stages.{AreBeside, HasReady, merged}
-use Rattle.rowex_rights.proofs.Loops.{later_transitive}
-use Rattle.rowex_rights.proofs.Merging.{collapsed_low, merge, merged_low, merged_rises}
-use Rattle.rowex_walks.specs.Writer.{removed_change}
+use Rattle.publish_laws.specs.Rises.{IsSide, made_of_node, one, anew}
+use Rattle.publish_laws.specs.Spots.{HoldsAt, FitsAt, at_root, in_node}
+use Rattle.publish_laws.specs.Stages.{AreBeside, HasReady, merged}
+use Rattle.publish_laws.proofs.Loops.{later_transitive}
+use Rattle.publish_laws.proofs.Merging.{collapsed_low, merge, merged_low, merged_rises}
+use Rattle.version_laws.specs.Writer.{removed_change}
 use Rattle.rowex_writing.specs.Building.{AreMadePacked, HasNotMade, IsBuilding}
 use Rattle.rowex_writing.specs.Changes.{HasTakenPlan, IsTakeChange, MayPublishOnceReady}
 use Rattle.rowex_writing.specs.Growths.{HasNumber}

@@ -29,8 +29,8 @@ use Rattle.tries.proofs.Tries.{trie_within}
 use Rattle.versions.specs.declared.Rec.{Rec}
 use Rattle.versions.specs.declared.Rec.TheVariants.{Leaf as a_leaf}
 use Rattle.versions.specs.Trades.{IsOneOf}
-use Rattle.rowex_walks.specs.Scan.{IsRead}
-use Rattle.rowex_walks.specs.Writer.{added_change, replaced_change}
+use Rattle.version_laws.specs.Scan.{IsRead}
+use Rattle.version_laws.specs.Writer.{added_change, replaced_change}
 use Rattle.rowex_core.specs.declared.event.Spot.{Spot}
 use Rattle.rowex_core.specs.declared.event.Spot.TheVariants.{Root, Slot}
 use Rattle.rowex_core.specs.declared.known.Known.{Known}
@@ -44,13 +44,13 @@ use Rattle.rowex_table.specs.Seats.{TableView, SeatView}
 use Rattle.rowex_reading.specs.Seen.{Sure}
 use Rattle.rowex_reading.proofs.Seeing.{read_stable, seen_within, since_later, stands_in}
 use Rattle.rowex_reading.proofs.Standing.{led_in_table}
-use Rattle.rowex_rights.specs.Cases.{IsWord}
-use Rattle.rowex_rights.specs.Rises.{made_of_leaf, made_of_node, IsBuiltAnew, IsSide, one, anew}
-use Rattle.rowex_rights.specs.Stages.{IsLeafThere, IsSure, SpellsLeaf}
-use Rattle.rowex_rights.proofs.Inserting.{first_made, pair}
-use Rattle.rowex_rights.proofs.Loops.{later_transitive}
-use Rattle.rowex_rights.proofs.Replacing.{leaf_stays, upsert}
-use Rattle.rowex_rights.proofs.Sure.{seen_is_sure, sure_stays}
+use Rattle.publish_laws.specs.Cases.{IsWord}
+use Rattle.publish_laws.specs.Rises.{made_of_leaf, made_of_node, IsBuiltAnew, IsSide, one, anew}
+use Rattle.publish_laws.specs.Stages.{IsLeafThere, IsSure, SpellsLeaf}
+use Rattle.publish_laws.proofs.Inserting.{first_made, pair}
+use Rattle.publish_laws.proofs.Loops.{later_transitive}
+use Rattle.publish_laws.proofs.Replacing.{leaf_stays, upsert}
+use Rattle.publish_laws.proofs.Sure.{seen_is_sure, sure_stays}
 use Rattle.rowex_writing.specs.Building.{HasLeafMade, IsBuilding}
 use Rattle.rowex_writing.specs.Changes.{AreAffected, HasTakenSpan, IsPlanned, IsPutChange, MayPublishOnceReady}
 use Rattle.rowex_writing.specs.Going.{HasLocked}

@@ -24,7 +24,7 @@ use Rattle.rowex_reading.specs.declared.descent.Found.{Found}
 use Rattle.rowex_reading.specs.declared.descent.Found.TheVariants.{Leaf}
 use Rattle.rowex_table.specs.Made.{IsLater}
 use Rattle.rowex_table.specs.Seats.{TableView, SeatView}
-use Rattle.rowex_walks.specs.Writer.{added_change, removed_change}
+use Rattle.version_laws.specs.Writer.{added_change, removed_change}
 use Rattle.tries.specs.Content.{item}
 use Rattle.rowex_writing.specs.Building.{IsBuilding}
 use Rattle.rowex_writing.specs.Changes.{IsFull, IsPutChange, IsTakeChange}

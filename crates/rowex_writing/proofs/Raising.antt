@@ -22,16 +22,16 @@ use Rattle.tries.specs.Tree.{Subtrie}
 use Rattle.versions.specs.Trades.{IsOneOf}
 use Rattle.versions.specs.declared.Rec.{Rec}
 use Rattle.versions.specs.declared.Rec.TheVariants.{Node as a_node}
-use Rattle.rowex_walks.specs.Rise.{body, entry}
+use Rattle.version_laws.specs.Rise.{body, entry}
 use Rattle.versions.specs.State.{FirstForkIsFrom}
 use Rattle.rowex_core.specs.Reading.{node_words_of}
 use Rattle.std.proofs.lemmas.Bool.{le-ltb}
 use Rattle.rowex_core.specs.declared.known.Known.{Known}
 use Rattle.rowex_core.specs.declared.known.Locked.{Locked}
 use Rattle.rowex_table.specs.Made.{Made}
-use Rattle.rowex_rights.specs.Rises.{made_of_leaf, IsSide, one, anew, HasFoundBelow}
-use Rattle.rowex_rights.specs.Stages.{HasLeaf, HasRisen}
-use Rattle.rowex_rights.proofs.Rising.{rises_copied, rises_halved, rise_whole}
+use Rattle.publish_laws.specs.Rises.{made_of_leaf, IsSide, one, anew, HasFoundBelow}
+use Rattle.publish_laws.specs.Stages.{HasLeaf, HasRisen}
+use Rattle.publish_laws.proofs.Rising.{rises_copied, rises_halved, rise_whole}
 use Rattle.rowex_writing.specs.Building.{IsHalfMade, IsMadeFrom}
 
 -- a half that was made is a side

@@ -21,8 +21,8 @@ use Rattle.rowex_table.specs.Made.{Made, held_as, recs_of, HasReadied}
 use Rattle.rowex_table.specs.Runs.{silent}
 use Rattle.rowex_table.specs.Seats.{TableView, SeatView}
 use Rattle.rowex_records.specs.Records.{IsFilled, Readies}
-use Rattle.rowex_rights.specs.Stages.{HasReady}
-use Rattle.rowex_rights.proofs.Loops.{ready_next}
+use Rattle.publish_laws.specs.Stages.{HasReady}
+use Rattle.publish_laws.proofs.Loops.{ready_next}
 use Rattle.rowex_reading.specs.Possible.{IsPossible}
 use Rattle.rowex_writing.specs.Building.{AreMadePacked, IsBuilding}
 use Rattle.rowex_writing.specs.Going.{WorksOn, TriesNoLock}

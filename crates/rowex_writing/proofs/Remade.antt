@@ -36,7 +36,7 @@ use Rattle.record_words.specs.Reading.{IsSpelledBy}
 use Rattle.rowex_writing.specs.Remaking.{IsSubtrieOfTree, AffectsJust, IsLowHalf, IsNoHigher, AwaitsLeaf, subtrie_with_fork}
 use Rattle.rowex_writing.specs.declared.remaking.Fork.{Fork as NewFork}
 use Rattle.rowex_writing.specs.declared.remaking.NewLeaf.{NewLeaf}
-use Rattle.rowex_walks.proofs.Rising.{fork_parts}
+use Rattle.version_laws.proofs.Rising.{fork_parts}
 
 -- ---- a new leaf
 -- the position is one of keys, and it is not that of the part's first fork

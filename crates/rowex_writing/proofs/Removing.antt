@@ -30,8 +30,8 @@ use Rattle.rowex_core.specs.Reading.{IsPacked, node_words_of}
 use Rattle.rowex_core.specs.Sharing.{IsLocked}
 use Rattle.rowex_core.proofs.Owning.{knows_all}
 use Rattle.rowex_core.proofs.Reading.{node_is}
-use Rattle.rowex_walks.specs.Scan.{IsRead}
-use Rattle.rowex_walks.specs.Writer.{removed_change}
+use Rattle.version_laws.specs.Scan.{IsRead}
+use Rattle.version_laws.specs.Writer.{removed_change}
 use Rattle.rowex_table.specs.Made.{IsLater, Made}
 use Rattle.rowex_table.specs.Publishes.{Publishes}
 use Rattle.rowex_table.specs.Seats.{TableView, SeatView}
@@ -39,12 +39,12 @@ use Rattle.rowex_reading.specs.Possible.{IsPossible}
 use Rattle.rowex_reading.specs.Seen.{Sure}
 use Rattle.rowex_reading.proofs.Seeing.{read_stable, since_later}
 use Rattle.rowex_reading.proofs.Standing.{led_in_table}
-use Rattle.rowex_rights.specs.Loops.{StaysLocked}
-use Rattle.rowex_rights.specs.Rises.{IsSide, one, anew}
-use Rattle.rowex_rights.specs.Stages.{HasReady, IsLeafThere}
-use Rattle.rowex_rights.proofs.Loops.{later_transitive}
-use Rattle.rowex_rights.proofs.Replacing.{leaf_stays, remove, remove_the_last}
-use Rattle.rowex_rights.proofs.Sure.{seen_is_sure, sure_stays}
+use Rattle.publish_laws.specs.Loops.{StaysLocked}
+use Rattle.publish_laws.specs.Rises.{IsSide, one, anew}
+use Rattle.publish_laws.specs.Stages.{HasReady, IsLeafThere}
+use Rattle.publish_laws.proofs.Loops.{later_transitive}
+use Rattle.publish_laws.proofs.Replacing.{leaf_stays, remove, remove_the_last}
+use Rattle.publish_laws.proofs.Sure.{seen_is_sure, sure_stays}
 use Rattle.rowex_writing.specs.Building.{IsBuilding}
 use Rattle.rowex_writing.specs.Changes.{HasTakenSpan, IsPlanned, MayPublishOnceReady}
 use Rattle.rowex_writing.specs.Plans.{change, IsCase, IsNewLeafPlan, IsPlan}

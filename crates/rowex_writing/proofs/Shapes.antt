@@ -21,12 +21,12 @@ use Rattle.rowex_core.specs.Knowing.{IsPinnedSince}
 use Rattle.rowex_core.specs.Reading.{node_words_of}
 use Rattle.rowex_core.specs.Sharing.{IsLocked}
 use Rattle.rowex_core.proofs.Owning.{knows_all, recalls}
-use Rattle.rowex_walks.specs.Scan.{EntryStoodSince, IsShaped}
-use Rattle.rowex_walks.proofs.Scans.{shaped, node_of as node_named}
+use Rattle.version_laws.specs.Scan.{EntryStoodSince, IsShaped}
+use Rattle.version_laws.proofs.Scans.{shaped, node_of as node_named}
 use Rattle.rowex_reading.specs.Possible.{IsPossible}
 use Rattle.rowex_reading.specs.Seen.{seen, Sure}
 use Rattle.rowex_reading.proofs.Seeing.{seen_past, seen_stable, shaped_stable}
-use Rattle.rowex_rights.proofs.Sure.{reach_since}
+use Rattle.publish_laws.proofs.Sure.{reach_since}
 use Rattle.versions.proofs.States.{steady}
 use Rattle.rowex_writing.specs.Going.{HasLocked}
 use Rattle.rowex_writing.specs.Remaking.{AffectsJust}

@@ -6,14 +6,14 @@ use Rattle.std.proofs.lemmas.List.Elements.{All-drop, All-take, All-weaker}
 use Rattle.record_words.specs.declared.layout.Layout.{Layout}
 use Rattle.insert_cases.specs.declared.choice.PathNode.{PathNode}
 use Rattle.compound_node.specs.declared.entries.Entry.TheVariants.{Node}
-use Rattle.rowex_walks.specs.Scan.{EntryStoodSince}
+use Rattle.version_laws.specs.Scan.{EntryStoodSince}
 use Rattle.versions.specs.Trades.{IsOneOf}
 use Rattle.versions.proofs.Members.{map_of, none_of, of_map}
 use Rattle.rowex_core.specs.declared.known.Known.{Known}
 use Rattle.rowex_core.specs.declared.known.Locked.{Locked}
 use Rattle.rowex_core.specs.Having.{LocksJust}
 use Rattle.rowex_table.specs.Made.{IsLater, nodes_of}
-use Rattle.rowex_rights.proofs.Sure.{sure_stays}
+use Rattle.publish_laws.proofs.Sure.{sure_stays}
 use Rattle.rowex_writing.specs.Locks.{AreLed, AreNodes, HasJustLocked, HasMetLock, IsLedStep, LocksOne, numbers_of}
 
 -- ---- parts of a list

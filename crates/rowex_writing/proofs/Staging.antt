@@ -5,7 +5,7 @@ use Rattle.tries.specs.Content.{Item}
 use Rattle.tries.specs.Keys.{Key}
 use Rattle.tries.specs.Tree.{Subtrie}
 use Rattle.versions.specs.Trades.{IsOneOf}
-use Rattle.rowex_walks.specs.Rise.{Side}
+use Rattle.version_laws.specs.Rise.{Side}
 use Rattle.rowex_core.specs.declared.event.Act.TheVariants.{Ready}
 use Rattle.rowex_core.specs.declared.known.Known.{Known}
 use Rattle.rowex_core.specs.Cores.{Core}
@@ -13,12 +13,12 @@ use Rattle.rowex_core.specs.Knowing.{IsEvent, learned}
 use Rattle.versions.specs.declared.Rec.{Rec}
 use Rattle.rowex_table.specs.Made.{Made, HoldsMade, HasReadied}
 use Rattle.rowex_table.specs.Runs.{silent}
-use Rattle.rowex_rights.specs.Loops.{ReadiesEach}
-use Rattle.rowex_rights.specs.Stages.{IsStage, HasLeaf, HasRisen}
-use Rattle.rowex_rights.proofs.Bounding.{tree_risen}
-use Rattle.rowex_rights.proofs.Loops.{holds_rights, ready_next, readies_all}
-use Rattle.rowex_rights.proofs.Rising.{stage_earlier}
-use Rattle.rowex_rights.proofs.Stages.{stage_of}
+use Rattle.publish_laws.specs.Loops.{ReadiesEach}
+use Rattle.publish_laws.specs.Stages.{IsStage, HasLeaf, HasRisen}
+use Rattle.publish_laws.proofs.Bounding.{tree_risen}
+use Rattle.publish_laws.proofs.Loops.{holds_rights, ready_next, readies_all}
+use Rattle.publish_laws.proofs.Rising.{stage_earlier}
+use Rattle.publish_laws.proofs.Stages.{stage_of}
 use Rattle.rowex_reading.specs.Possible.{IsPossible}
 use Rattle.rowex_reading.proofs.Later.{event_possible}
 use Rattle.rowex_writing.specs.Building.{AreMadePacked}

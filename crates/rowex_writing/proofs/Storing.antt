@@ -24,8 +24,8 @@ use Rattle.rowex_table.specs.Rule.{MayStep}
 use Rattle.rowex_table.specs.Runs.{silent}
 use Rattle.rowex_table.specs.Seats.{TableView, SeatView}
 use Rattle.rowex_table.proofs.ActsLeave.{act_leaves}
-use Rattle.rowex_rights.specs.Ending.{IsAtRest}
-use Rattle.rowex_rights.specs.Stages.{HasReady}
+use Rattle.publish_laws.specs.Ending.{IsAtRest}
+use Rattle.publish_laws.specs.Stages.{HasReady}
 use Rattle.rowex_reading.specs.Possible.{IsPossible}
 use Rattle.rowex_writing.specs.Building.{IsBuilding}
 use Rattle.rowex_writing.specs.Changes.{HasChanged, MayPublishOnceReady}

@@ -18,13 +18,13 @@ use Rattle.rowex_core.proofs.Loading.{view}
 use Rattle.rowex_core.specs.Knowing.{IsPinnedSince}
 use Rattle.rowex_core.proofs.Owning.{recalls}
 use Rattle.rowex_core.specs.declared.known.Known.{Known}
-use Rattle.rowex_walks.specs.Scan.{EntryStoodSince}
-use Rattle.rowex_walks.proofs.Scans.{node_of as node_named}
+use Rattle.version_laws.specs.Scan.{EntryStoodSince}
+use Rattle.version_laws.proofs.Scans.{node_of as node_named}
 use Rattle.rowex_reading.specs.Possible.{IsPossible}
 use Rattle.rowex_reading.specs.Seen.{Sure, seen}
 use Rattle.rowex_reading.proofs.Seeing.{seen_past, seen_stable}
-use Rattle.rowex_rights.specs.Stages.{IsSure}
-use Rattle.rowex_rights.proofs.Sure.{reach_since, seen_is_sure}
+use Rattle.publish_laws.specs.Stages.{IsSure}
+use Rattle.publish_laws.proofs.Sure.{reach_since, seen_is_sure}
 use Rattle.rowex_writing.specs.Locks.{AreLed, numbers_of}
 use Rattle.rowex_reading.specs.Ways.{IsWayOf, IsWayNode, named}
 use Rattle.rowex_reading.specs.declared.descent.Found.{Found}

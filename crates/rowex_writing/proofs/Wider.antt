@@ -20,9 +20,9 @@ use Rattle.rowex_core.specs.declared.known.Locked.{Locked}
 use Rattle.compound_node.specs.declared.entries.Entry.TheVariants.{Node}
 use Rattle.rowex_reading.specs.Seen.{HasPlace}
 use Rattle.rowex_reading.proofs.Seeing.{room_stable, seen_stable, since_later, sure_later}
-use Rattle.rowex_rights.specs.Stages.{IsSure}
-use Rattle.rowex_rights.proofs.Sure.{seen_is_sure}
-use Rattle.rowex_walks.specs.Scan.{EntryStoodSince}
+use Rattle.publish_laws.specs.Stages.{IsSure}
+use Rattle.publish_laws.proofs.Sure.{seen_is_sure}
+use Rattle.version_laws.specs.Scan.{EntryStoodSince}
 use Rattle.rowex_table.specs.Made.{IsLater, nodes_of}
 use Rattle.rowex_table.specs.Rule.{MayStep}
 use Rattle.rowex_table.specs.Runs.{silent}

@@ -26,7 +26,7 @@ use Rattle.versions.specs.declared.Rec.TheVariants.{Node as a_node}
 use Rattle.versions.specs.State.{Spans}
 use Rattle.versions.specs.Core.{Fate, Free, Held, Ready, InTree, Unlinked, Marked, life_of, pin_version}
 use Rattle.compound_node.specs.declared.entries.Entry.TheVariants.{Node}
-use Rattle.rowex_walks.specs.Scan.{EntryStoodSince}
+use Rattle.version_laws.specs.Scan.{EntryStoodSince}
 use Rattle.rowex_core.specs.declared.event.Act.{Act}
 use Rattle.rowex_core.specs.declared.event.Act.TheVariants.{Lock}
 use Rattle.rowex_core.specs.declared.event.Event.{Event}
@@ -46,8 +46,8 @@ use Rattle.rowex_table.specs.Seats.{TableView, SeatView, IsSeatOf}
 use Rattle.rowex_table.proofs.ActsBefore as before
 use Rattle.rowex_table.proofs.ActsLeave as leave
 use Rattle.rowex_table.proofs.Running.{runs_same}
-use Rattle.rowex_rights.specs.Stages.{IsSure}
-use Rattle.rowex_rights.proofs.Loops.{later_if_same, later_transitive}
+use Rattle.publish_laws.specs.Stages.{IsSure}
+use Rattle.publish_laws.proofs.Loops.{later_if_same, later_transitive}
 use Rattle.rowex_writing.proofs.Runs.{plain_recalls}
 use Rattle.rowex_writing.proofs.Tried.{tries_none, tries_one, tries_more}
 use Rattle.rowex_writing.specs.Locks.{Tries, Works, HasTheSame, LoadsNoRoot, IsTakenWord, LocksOne, LocksAnchor, IsRefusedLock, NoChangeFrom, HasMadeNoChange, targets_of}

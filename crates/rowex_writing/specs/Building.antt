@@ -23,7 +23,7 @@ use Rattle.tries.specs.Affected.{subtrie_affected, IsPartSubtrie}
 use Rattle.tries.specs.Keys.{Key}
 use Rattle.tries.specs.Place.{spot}
 use Rattle.tries.specs.Tree.{Subtrie}
-use Rattle.rowex_walks.specs.Rise.{Side, entry}
+use Rattle.version_laws.specs.Rise.{Side, entry}
 use Rattle.versions.specs.declared.Rec.{Rec}
 use Rattle.versions.specs.declared.Rec.TheVariants.{Node as a_node}
 use Rattle.rowex_core.specs.Cores.{FitsIn}
@@ -31,8 +31,8 @@ use Rattle.rowex_core.specs.Reading.{IsPacked, node_words_of}
 use Rattle.rowex_table.specs.Made.{Made, recs_of, HoldsMade}
 use Rattle.rowex_table.specs.Seats.{TableView, SeatView, IsSeatOf}
 use Rattle.rowex_reading.specs.Possible.{IsPossible}
-use Rattle.rowex_rights.specs.Rises.{made_of_node, made_of_leaf, HasFoundBelow}
-use Rattle.rowex_rights.specs.Stages.{HasLeaf, HasRisen, IsLockedAbove, SpellsLeaf}
+use Rattle.publish_laws.specs.Rises.{made_of_node, made_of_leaf, HasFoundBelow}
+use Rattle.publish_laws.specs.Stages.{HasLeaf, HasRisen, IsLockedAbove, SpellsLeaf}
 use Rattle.rowex_writing.specs.Going.{HasLocked}
 use Rattle.rowex_writing.specs.Remaking.{AwaitsLeaf, IsNoHigher, subtrie_with_leaf}
 use Rattle.rowex_writing.specs.declared.plan.Span.{Span}

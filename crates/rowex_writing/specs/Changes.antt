@@ -20,7 +20,7 @@ use Rattle.rowex_core.specs.declared.event.Target.{Target}
 use Rattle.rowex_core.specs.declared.known.Failed.{Failed}
 use Rattle.rowex_core.specs.declared.known.Known.{Known}
 use Rattle.rowex_core.specs.Reading.{node_words_of}
-use Rattle.rowex_walks.specs.Scan.{IsShaped}
+use Rattle.version_laws.specs.Scan.{IsShaped}
 use Rattle.rowex_table.specs.Made.{Made, IsLater}
 use Rattle.rowex_table.specs.Publishes.{Publishes}
 use Rattle.rowex_table.specs.Seats.{TableView, SeatView, IsSeatOf}
@@ -28,8 +28,8 @@ use Rattle.rowex_table.specs.Stays.{LeavesPin}
 use Rattle.rowex_reading.specs.Possible.{IsPossible}
 use Rattle.rowex_reading.specs.Seen.{Sure}
 use Rattle.rowex_records.specs.Claims.{AllMissed, AllMissedFrom, IsAnothers}
-use Rattle.rowex_rights.specs.Ending.{IsAtRest}
-use Rattle.rowex_rights.specs.Stages.{HasReady}
+use Rattle.publish_laws.specs.Ending.{IsAtRest}
+use Rattle.publish_laws.specs.Stages.{HasReady}
 use Rattle.rowex_writing.specs.Building.{IsBuilding}
 use Rattle.rowex_writing.specs.Counts.{most_nodes}
 use Rattle.rowex_writing.specs.Going.{HasLocked}

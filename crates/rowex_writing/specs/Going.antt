@@ -13,7 +13,7 @@ use Rattle.rowex_core.specs.declared.known.Known.{Known}
 use Rattle.rowex_table.specs.Runs.{Runs}
 use Rattle.rowex_table.specs.Seats.{TableView, SeatView}
 use Rattle.rowex_table.specs.Stays.{KeepsRecall}
-use Rattle.rowex_rights.specs.Loops.{StaysLocked}
+use Rattle.publish_laws.specs.Loops.{StaysLocked}
 
 -- a step that tries no lock, and after which the pass recalls all that it did before
 abbrev pub TriesNoLock : Act → Type 0

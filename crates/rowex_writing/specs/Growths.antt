@@ -7,7 +7,7 @@ use Rattle.key_bits.specs.declared.TheConstants.{MAX_BYTES}
 use Rattle.versions.specs.declared.Rec.{Rec}
 use Rattle.tries.specs.Keys.{Key}
 use Rattle.rowex_core.specs.declared.event.Spot.{Spot}
-use Rattle.rowex_rights.specs.Spots.{IsSpotOf}
+use Rattle.publish_laws.specs.Spots.{IsSpotOf}
 use Rattle.rowex_table.specs.Rule.{HasSpot}
 use Rattle.rowex_table.specs.Seats.{TableView, SeatView}
 use Rattle.rowex_writing.specs.Building.{FitsAbove, IsGrowing}

@@ -8,7 +8,7 @@ use Rattle.record_words.specs.declared.state.Tag.TheVariants.{Locked as LockedTa
 use Rattle.record_words.specs.State.{state_word}
 use Rattle.versions.specs.declared.Pin.{Pin}
 use Rattle.versions.specs.Trades.{IsOneOf, AreApart}
-use Rattle.rowex_walks.specs.Scan.{EntryStoodSince}
+use Rattle.version_laws.specs.Scan.{EntryStoodSince}
 use Rattle.rowex_core.specs.declared.event.Act.{Act}
 use Rattle.rowex_core.specs.declared.event.Act.TheVariants.{LoadRef, Lock}
 use Rattle.rowex_core.specs.declared.event.Event.{Event}
@@ -26,7 +26,7 @@ use Rattle.rowex_table.specs.Made.{nodes_of}
 use Rattle.rowex_table.specs.Stays.{KeepsRecall}
 use Rattle.rowex_table.specs.Runs.{Runs}
 use Rattle.rowex_table.specs.Seats.{TableView, SeatView}
-use Rattle.rowex_rights.specs.Stages.{IsSure}
+use Rattle.publish_laws.specs.Stages.{IsSure}
 use Rattle.rowex_writing.specs.declared.plan.Span.{Span}
 
 -- a step that is no load of the root, and after which the pass recalls all that it did before

@@ -28,7 +28,7 @@ use Rattle.rowex_reading.specs.Possible.{IsPossible}
 use Rattle.rowex_reading.specs.Ways.{named}
 use Rattle.rowex_reading.specs.declared.descent.Found.{Found}
 use Rattle.rowex_reading.specs.declared.descent.Found.TheVariants.{Leaf}
-use Rattle.rowex_rights.specs.Loops.{StaysLocked}
+use Rattle.publish_laws.specs.Loops.{StaysLocked}
 use Rattle.rowex_writing.specs.Changes.{HasRun, HasTriedOnce, IsTakeChange, MayPublishOnceReady}
 use Rattle.rowex_writing.specs.Counts.{change_steps, level_steps}
 use Rattle.rowex_writing.specs.Going.{HasLocked}

@@ -8,7 +8,7 @@ use Rattle.rowex_core.specs.Knowing.{IsPinnedSince}
 use Rattle.rowex_table.specs.Seats.{TableView, SeatView, IsSeatOf}
 use Rattle.rowex_reading.specs.Possible.{IsPossible}
 use Rattle.rowex_reading.specs.Seen.{Sure}
-use Rattle.rowex_walks.specs.Scan.{IsRead}
+use Rattle.version_laws.specs.Scan.{IsRead}
 use Rattle.rowex_writing.specs.Changes.{HasTakenSpan}
 use Rattle.rowex_reading.specs.declared.descent.Found.TheVariants.{Leaf}
 use Rattle.rowex_writing.specs.declared.plan.Span.{Span}

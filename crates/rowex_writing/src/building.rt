@@ -5,7 +5,7 @@ ghost use Rattle.insert_cases.specs.declared.choice.PathNode.{PathNode as PathNo
 ghost use Rattle.record_words.specs.Node.{CanTakeLeaf, HasNodeWords, node_words};
 ghost use Rattle.record_words.specs.Reading.{IsSpelling};
 ghost use Rattle.rowex_table.specs.Made.{Made};
-ghost use Rattle.rowex_rights.specs.Rises.{made_of_node, IsSide};
+ghost use Rattle.publish_laws.specs.Rises.{made_of_node, IsSide};
 ghost use Rattle.rowex_writing.specs.Building.{IsBuilding, IsGrowingBy, IsHalfMade, IsLevelRisen, IsLowRisen, IsMadeFrom, IsNextTo, IsRaising, IsRisenAt, MakesGrown, Rises, GetsFork, GetsLeaf, FitsAbove, HasNotMade, HasRisenTo, gone_unless_whole, gone_with_way};
 ghost use Rattle.rowex_writing.specs.Going.{WorksOn, HasLocked, IsLockedBy, LeadsLocked};
 ghost use Rattle.rowex_writing.specs.Locks.{locks_of};
@@ -18,11 +18,11 @@ ghost use Rattle.tries.specs.Place.{subtrie_without};
 ghost use Rattle.insert_cases.specs.Risen.{subtrie_of};
 ghost use Rattle.versions.specs.declared.Rec.TheVariants.{Node as a_node};
 ghost use Rattle.rowex_core.specs.Reading.{node_words_of};
-ghost use Rattle.rowex_walks.specs.Rise.{entry};
+ghost use Rattle.version_laws.specs.Rise.{entry};
 ghost use Rattle.rowex_writing.specs.Counts.{level_steps, node_steps};
 ghost use Rattle.rowex_writing.specs.Walks.{MakesNodes, Spends, WalksOn};
 
-use crate::claims::{Supply, claim_node};
+use crate::claims::{Hint, claim_node};
 use crate::deeds::Job;
 use crate::locked::{load_words, read_locked};
 use crate::remaking::{Fork, NewLeaf, add_fork, add_leaf, full_with_fork, full_with_leaf};
@@ -52,11 +52,11 @@ pub struct Build {
     /// The records that the change unlinks, as it lists them.
     pub gone: ArrayVec<Rec, MOST_GONE>,
     /// Where claims of node records begin.
-    pub nodes: Supply,
+    pub nodes: Hint,
     /// How many node records the claims of the change may still try, but for spare ones.
     pub left_nodes: u32,
     /// Where claims of leaf records begin, for each class, the smallest first.
-    pub leaves: [Supply; LEAF_CLASSES],
+    pub leaves: [Hint; LEAF_CLASSES],
 }
 
 /// Makes a record for `node`, adds it to `build.made`, and returns its entry. `None` if no node record was free.

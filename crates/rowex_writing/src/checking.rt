@@ -5,7 +5,7 @@ ghost use Rattle.compound_node.specs.declared.entries.Entry.{Entry as EntryValue
 ghost use Rattle.record_words.specs.Entry.{HasEntryWord, entry_word};
 ghost use Rattle.tries.specs.Place.{entry_at};
 ghost use Rattle.rowex_core.specs.Reading.{node_words_of};
-ghost use Rattle.rowex_walks.specs.Scan.{IsPlaced};
+ghost use Rattle.version_laws.specs.Scan.{IsPlaced};
 ghost use Rattle.rowex_table.specs.Seats.{IsSeatOf};
 ghost use Rattle.rowex_reading.specs.Possible.{IsPossible};
 ghost use Rattle.rowex_reading.specs.Seen.{HasPlace, Sure};

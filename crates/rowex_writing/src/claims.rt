@@ -26,33 +26,33 @@ pub(crate) const MOST_SPARE: usize = 256;
 /// Where the claims of a pass begin, of node records or of the leaf records of one class. Numbers are counted from the first of these
 /// on.
 ///
-/// Whatever a supply says, a claim of a leaf record tries each that has room before it finds that none is free. All claims of node
+/// Whatever a hint says, a claim of a leaf record tries each that has room before it finds that none is free. All claims of node
 /// records in one change share one walk, which tries each of them once before it finds that.
 #[derive(Drop)]
-pub struct Supply {
+pub struct Hint {
     /// Numbers that the pass has given back: claims begin with the last of these.
     pub spare: ArrayVec<u32, MOST_SPARE>,
     /// The number after that of the record that was claimed last, but for spare ones: then claims go on from there.
     pub next: u32,
     /// How many claims of a leaf record still try these records last, since a claim found none of them free. It begins as the number of
     /// the records, so that in the long run a claim looks at one of them.
-    pub passed_by: u32,
+    pub skips: u32,
 }
 
-impl Supply {
-    /// A supply without spare numbers, whose claims begin at the number `next`.
-    pub fn begin_at(next: u32) -> Supply {
-        Supply {
+impl Hint {
+    /// A hint without spare numbers, whose claims begin at the number `next`.
+    pub fn begin_at(next: u32) -> Hint {
+        Hint {
             spare: ArrayVec::new(),
             next,
-            passed_by: 0,
+            skips: 0,
         }
     }
 
     /// Adds `number` to the spare ones, with which claims begin; if there is no place for it, it is not kept. Claims don't pass these
     /// records by then.
     pub fn give_back(&mut self, number: u32) {
-        self.passed_by = 0;
+        self.skips = 0;
         if !self.spare.is_full() {
             self.spare.push(number);
         }
@@ -61,7 +61,7 @@ impl Supply {
 
 /// Claims a record of `kind` and returns its number, or `None` if none was free.
 ///
-/// It tries the last spare number of `supply` first, which is spare no more. Then it tries each record once, from `supply.next` on. That
+/// It tries the last spare number of `hint` first, which is spare no more. Then it tries each record once, from `hint.next` on. That
 /// becomes the number after one claimed so. Inline, so that no claim asks of which kind it is.
 #[inline(always)]
 pub(crate) fn claim_next<G: Gate>(
@@ -69,7 +69,7 @@ pub(crate) fn claim_next<G: Gate>(
     seat: &mut TableSeat,
     gate: &mut G,
     kind: RecordKind,
-    supply: &mut Supply,
+    hint: &mut Hint,
 ) -> Option<u32>
     requires own { IsSeatOf table.now seat.old }
     requires kind { IsKindOf kind table.now.layout }
@@ -80,11 +80,11 @@ pub(crate) fn claim_next<G: Gate>(
         (λ number. (number < count_of kind table.now.layout) × HoldsOneMore (record_of kind number) seat.old.known seat.new.known) }
     ensures few { seat.new.known.steps ≤ seat.old.known.steps + 2 * count_of kind table.now.layout + 2 }
 {
-    if let Some(number) = claim_spare(table, seat, gate, kind, &mut supply.spare) {
+    if let Some(number) = claim_spare(table, seat, gate, kind, &mut hint.spare) {
         return Some(number);
     }
-    let number = claim_record(table, seat, gate, kind, supply.next)?;
-    supply.next = number.wrapping_add(1);
+    let number = claim_record(table, seat, gate, kind, hint.next)?;
+    hint.next = number.wrapping_add(1);
     Some(number)
 }
 
@@ -121,7 +121,7 @@ pub(crate) fn claim_leaf<G: Gate>(
     seat: &mut TableSeat,
     gate: &mut G,
     words: usize,
-    classes: &mut [Supply; LEAF_CLASSES],
+    classes: &mut [Hint; LEAF_CLASSES],
 ) -> Option<u32>
     requires own { IsSeatOf table.now seat.old }
     requires words { words ≤ LEAF_WORDS }
@@ -145,17 +145,17 @@ pub(crate) fn claim_leaf<G: Gate>(
 
 /// The number of the first leaf record, from `first` on, whose class is not to be passed by; `layout.leaves` if there is none. Each class
 /// passed by is so for one claim less afterwards.
-fn pass_by(layout: Layout, classes: &mut [Supply; LEAF_CLASSES], first: u32) -> u32
+fn pass_by(layout: Layout, classes: &mut [Hint; LEAF_CLASSES], first: u32) -> u32
     requires { first ≤ layout.leaves }
     ensures { (first ≤ result) × (result ≤ layout.leaves) }
 {
     let mut from = first;
     while from < layout.leaves {
-        let supply = &mut classes[layout.class_of(from).place()];
-        if supply.passed_by == 0 {
+        let hint = &mut classes[layout.class_of(from).place()];
+        if hint.skips == 0 {
             return from;
         }
-        supply.passed_by -= 1;
+        hint.skips -= 1;
         from = layout.class_end(from);
     }
     from
@@ -171,7 +171,7 @@ fn claim_between<G: Gate>(
     gate: &mut G,
     from: u32,
     upto: u32,
-    classes: &mut [Supply; LEAF_CLASSES],
+    classes: &mut [Hint; LEAF_CLASSES],
 ) -> Option<u32>
     requires own { IsSeatOf table.now seat.old }
     requires range { (from ≤ upto) × (upto ≤ table.now.layout.leaves) }
@@ -186,12 +186,12 @@ fn claim_between<G: Gate>(
     let mut first = from;
     while first < upto {
         let end = layout.class_end(first).min(upto);
-        let supply = &mut classes[layout.class_of(first).place()];
+        let hint = &mut classes[layout.class_of(first).place()];
         let kind = RecordKind::Leaf { first, end };
-        if let Some(number) = claim_next(table, seat, gate, kind, supply) {
+        if let Some(number) = claim_next(table, seat, gate, kind, hint) {
             return Some(first + number);
         }
-        supply.passed_by = end - first;
+        hint.skips = end - first;
         first = end;
     }
     None
@@ -242,13 +242,13 @@ fn look_at<G: Gate>(table: &HotTable, seat: &mut TableSeat, gate: &mut G, made: 
 
 /// Claims the next free node record of the walk and returns its number, or `None` if none of those left was free.
 ///
-/// It tries the last spare number of `supply` first, which is spare no more. Then it tries each record once, from `supply.next` on,
+/// It tries the last spare number of `hint` first, which is spare no more. Then it tries each record once, from `hint.next` on,
 /// `left` at most, which is then less by those that were tried.
 fn claim_left<G: Gate>(
     table: &HotTable,
     seat: &mut TableSeat,
     gate: &mut G,
-    supply: &mut Supply,
+    hint: &mut Hint,
     left: &mut u32,
 ) -> Option<u32>
     requires own { IsSeatOf table.now seat.old }
@@ -256,15 +256,15 @@ fn claim_left<G: Gate>(
     ensures claims { MatchOption result (seat.new.known.own ≡ seat.old.known.own)
         (λ number. (number < table.now.layout.nodes) × HoldsOneMore (a_node number) seat.old.known seat.new.known) }
     ensures walk { (since : ℕ) (made : List Record) → HasNoOther seat.old.known made →
-        IsClaimWalk table.now.layout a_node table.now.layout.nodes since seat.old.known made supply.old.next left.old → MatchOption result
-        ((left.new ≡ 0) × IsClaimWalk table.now.layout a_node table.now.layout.nodes since seat.new.known made supply.new.next left.new)
-        (λ number. IsClaimWalk table.now.layout a_node table.now.layout.nodes since seat.new.known (made ++ a_node number ∷ []) supply.new.next left.new) }
+        IsClaimWalk table.now.layout a_node table.now.layout.nodes since seat.old.known made hint.old.next left.old → MatchOption result
+        ((left.new ≡ 0) × IsClaimWalk table.now.layout a_node table.now.layout.nodes since seat.new.known made hint.new.next left.new)
+        (λ number. IsClaimWalk table.now.layout a_node table.now.layout.nodes since seat.new.known (made ++ a_node number ∷ []) hint.new.next left.new) }
     ensures few { seat.new.known.steps + 2 * left.new ≤ seat.old.known.steps + 2 * left.old + 2 }
 {
-    if let Some(number) = claim_spare(table, seat, gate, RecordKind::Node, &mut supply.spare) {
+    if let Some(number) = claim_spare(table, seat, gate, RecordKind::Node, &mut hint.spare) {
         return Some(number);
     }
-    let number = claim_within(table, seat, gate, RecordKind::Node, supply.next, left)?;
-    supply.next = number + 1;
+    let number = claim_within(table, seat, gate, RecordKind::Node, hint.next, left)?;
+    hint.next = number + 1;
     Some(number)
 }

@@ -3,7 +3,7 @@
 ghost use Rattle.std.specs.Prelude.{◌≡◌, ◌<◌, [], ◌≤◌, ◌+◌, length};
 ghost use Rattle.record_words.specs.declared.TheConstants.{EPOCHS};
 ghost use Rattle.rowex_records.specs.Records.{HoldsJust};
-ghost use Rattle.rowex_rights.specs.Ending.{IsAtRest};
+ghost use Rattle.publish_laws.specs.Ending.{IsAtRest};
 ghost use Rattle.rowex_table.specs.Seats.{IsSeatOf};
 ghost use Rattle.rowex_writing.specs.Locks.{AreNodes, HasLockedSpan, Works, locks_of, numbers_of};
 ghost use Rattle.rowex_writing.specs.Retiring.{AreInTable, HasJustPublished, HasToMark, IsAnchored, KeepsLocks};

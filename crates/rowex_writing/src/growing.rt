@@ -1,7 +1,7 @@
 //! A node that gets the new leaf, and what rises from it.
 
 ghost use Rattle.std.specs.Prelude.{◌≤◌, ◌+◌, ◌<◌, IfErr, IfOk, None};
-ghost use Rattle.rowex_walks.specs.Writer.{added_change};
+ghost use Rattle.version_laws.specs.Writer.{added_change};
 ghost use Rattle.tries.specs.Content.{item};
 ghost use Rattle.rowex_writing.specs.declared.plan.Deed.TheVariants.{Grow};
 ghost use Rattle.rowex_writing.specs.Changes.{HasTakenPlan};

@@ -24,7 +24,7 @@
 //!
 //! # What carries the proof
 //!
-//! A locked node's words stay as they are, so what was loaded under the locks is true at the store. `rowex_rights` has for each case of
+//! A locked node's words stay as they are, so what was loaded under the locks is true at the store. `publish_laws` has for each case of
 //! a change the law that allows the store. It leads from the words of the locked nodes and of the new records to a lawful next version,
 //! which differs by one key. A pass recalls what its loads have shown, whatever others publish elsewhere.
 //!
@@ -33,7 +33,7 @@
 //!
 //! # What is kept between calls
 //!
-//! [`Build`] has the lists that a change fills, and hints where free records are ([`Supply`]). The hints are plain numbers of which
+//! [`Build`] has the lists that a change fills, and hints where free records are ([`Hint`]). The hints are plain numbers of which
 //! no contract speaks: a claim is an exchange of the record's state, which fails if the record isn't free.
 #![tactic(auto)]
 
@@ -56,5 +56,5 @@ mod widening;
 
 pub use attempts::{TryFault, attempt};
 pub use building::Build;
-pub use claims::Supply;
+pub use claims::Hint;
 pub use plan::Full;

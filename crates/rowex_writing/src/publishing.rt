@@ -11,7 +11,7 @@ ghost use Rattle.rowex_core.specs.Reading.{entry_of};
 ghost use Rattle.rowex_table.specs.Made.{Made};
 ghost use Rattle.rowex_table.specs.Seats.{IsSeatOf};
 ghost use Rattle.rowex_reading.specs.Possible.{IsPossible};
-ghost use Rattle.rowex_rights.specs.Stages.{HasReady};
+ghost use Rattle.publish_laws.specs.Stages.{HasReady};
 ghost use Rattle.tries.specs.Content.{item};
 ghost use Rattle.rowex_writing.specs.Building.{HasLeafMade, IsBuilding};
 ghost use Rattle.rowex_writing.specs.Changes.{HasChanged, HasRun, LacksLeaves};

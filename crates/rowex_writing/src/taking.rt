@@ -1,7 +1,7 @@
 //! The end of a leaf: its node is made anew without it, or the root is empty.
 
 ghost use Rattle.std.specs.Prelude.{◌≡◌, ◌≢◌, Err, ◌<◌, ℕ, [], IfErr, IfOk, None, Some, ◌≤◌, ◌+◌, ◌*◌};
-ghost use Rattle.rowex_walks.specs.Writer.{removed_change};
+ghost use Rattle.version_laws.specs.Writer.{removed_change};
 ghost use Rattle.tries.specs.Content.{item};
 ghost use Rattle.rowex_writing.specs.Changes.{HasTakenPlan};
 ghost use Rattle.rowex_writing.specs.Counts.{deed_steps, level_steps};

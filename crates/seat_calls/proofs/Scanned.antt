@@ -16,13 +16,13 @@ use Rattle.rowex_table.specs.Runs.{StepsWith, silent}
 use Rattle.epochs.specs.Runs.{Pins}
 use Rattle.rowex_core.specs.declared.event.Event.{Event}
 use Rattle.rowex_table.specs.Seats.{SeatView, TableView}
-use Rattle.rowex_walks.specs.Scan.{Range}
+use Rattle.version_laws.specs.Scan.{Range}
 use Rattle.tries.specs.Keys.{Key}
 use Rattle.seat_calls.specs.Passes.{PassView, IsSettled, pass_of}
 use Rattle.seat_calls.specs.Answers.{IsListedBy, IsScannedBy, IsUnnoted, ScanLaw}
-use Rattle.rowex_walks.specs.Directions.{IsLawfulBy}
+use Rattle.version_laws.specs.Directions.{IsLawfulBy}
 use Rattle.rowex_scanning.specs.Scanning.{HasScanned}
-use Rattle.rowex_walks.specs.declared.direction.Direction.{Direction}
+use Rattle.version_laws.specs.declared.direction.Direction.{Direction}
 use Rattle.rowex_scanning.proofs.Scanned.{lawful_scan}
 use Rattle.seat_calls.proofs.Noting.{HasLooked, goes_on, legal_front, settles}
 use Rattle.rowex_reading.proofs.Loading.{pinned_by}

@@ -33,7 +33,7 @@ use Rattle.rowex_table.specs.Stays.{LeavesPin}
 use Rattle.rowex_table.proofs.ActsLeave.{act_leaves}
 use Rattle.rowex_table.proofs.Running.{runs_same}
 use Rattle.rowex_records.specs.Claims.{AllMissed, HasMissed, IsAnothers}
-use Rattle.rowex_rights.specs.Ending.{IsAtRest}
+use Rattle.publish_laws.specs.Ending.{IsAtRest}
 use Rattle.epochs.specs.Runs.{Pins}
 use Rattle.rowex_writing.specs.Asking.{reply_to}
 use Rattle.rowex_writing.specs.Attempts as tries

@@ -3,7 +3,7 @@ use Rattle.std.specs.Prelude.{ℕ, List, [], Bool, Option}
 use Rattle.finite_map.specs.declared.Scan.{Scan}
 use Rattle.finite_map.specs.Reverse.{IsLawfulReverseScan}
 use Rattle.record_words.specs.declared.layout.Layout.{Layout}
-use Rattle.rowex_walks.specs.Scan.{Range}
+use Rattle.version_laws.specs.Scan.{Range}
 use Rattle.tries.specs.Keys.{Key}
 use Rattle.seat_calls.specs.Answers.{IsFoundBy, IsListedBy, IsListedInPartBy, IsScannedBy}
 use Rattle.seat_calls.specs.Passes.{PassView}

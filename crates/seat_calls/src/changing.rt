@@ -1,4 +1,4 @@
-//! A call that may change the index, made with a pass's seat and room: its attempts, and the note of an answer.
+//! A call that may change the index, made with a pass's seat and scratch lists: its attempts, and the note of an answer.
 
 ghost use Rattle.std.specs.Prelude.{◌≡◌, List, Err, None, IfSome, IsSome, false};
 ghost use Rattle.finite_map.specs.declared.Note.{Note};
@@ -14,7 +14,7 @@ ghost use Rattle.seat_calls.specs.Noting.{change_notes};
 ghost use Rattle.seat_calls.specs.Passes.{pass_of};
 ghost use Rattle.seat_calls.specs.Traces.{AreAttempts, AreTries, HasStepped, IsOneAttempt, Tidies, is_full};
 
-use crate::room::Room;
+use crate::scratch::Scratch;
 use epochs::{Given, collect_round, collect_small, pin, unpin};
 use finite_map::{Call, Reply};
 use rowex_core::Gate;
@@ -29,25 +29,25 @@ pub fn try_change<G: Gate>(
     table: &HotTable,
     seat: &mut TableSeat,
     gate: &mut G,
-    room: &mut Room,
+    scratch: &mut Scratch,
     call: &Call,
 ) -> Result<Reply, TryFault>
     requires idle { IsIdle table.now seat.old }
     ensures asked { HasAsked table.now G.becomes (AreAttempts table.now G.becomes call.now result) (try_steps table.now.layout) call.now result (seat.old, gate.old) (seat.new, gate.new) }
 {
-    tidy(table, seat, gate, room);
-    try_twice(table, seat, gate, room, call)
+    tidy(table, seat, gate, scratch);
+    try_twice(table, seat, gate, scratch, call)
 }
 
 /// Makes a small round, if one is due.
-fn tidy<G: Gate>(table: &HotTable, seat: &mut TableSeat, gate: &mut G, room: &mut Room)
+fn tidy<G: Gate>(table: &HotTable, seat: &mut TableSeat, gate: &mut G, scratch: &mut Scratch)
     requires idle { IsIdle table.now seat.old }
     ensures idle { IsIdle table.now seat.new }
     ensures tidied { Tidies table.now G.becomes (seat.old, gate.old) (seat.new, gate.new) }
 {
-    if room.limbo.is_due() {
-        collect_small(table, seat, gate, &mut room.limbo);
-        room.spare_given(table.layout());
+    if scratch.limbo.is_due() {
+        collect_small(table, seat, gate, &mut scratch.limbo);
+        scratch.reuse_given(table.layout());
     }
 }
 
@@ -58,23 +58,23 @@ fn try_twice<G: Gate>(
     table: &HotTable,
     seat: &mut TableSeat,
     gate: &mut G,
-    room: &mut Room,
+    scratch: &mut Scratch,
     call: &Call,
 ) -> Result<Reply, TryFault>
     requires idle { IsIdle table.now seat.old }
     ensures asked { HasAsked table.now G.becomes (AreTries table.now G.becomes call.now result) (twice_steps table.now.layout) call.now result (seat.old, gate.old) (seat.new, gate.new) }
 {
-    let first = try_once(table, seat, gate, room, call);
+    let first = try_once(table, seat, gate, scratch, call);
     let Some(lacks) = lacked(first) else {
         return first;
     };
     let round = collect_round(table, seat, gate);
     let passes = table.layout().passes;
     let count = given_of(round.given, lacks);
-    room.is_moving = round.held_back || may_be_taken(passes, count);
-    room.pass_none_by();
+    scratch.is_moving = round.held_back || may_be_taken(passes, count);
+    scratch.skip_none();
     if has_room(passes, count) {
-        return try_once(table, seat, gate, room, call);
+        return try_once(table, seat, gate, scratch, call);
     }
     refuse_again(table, seat, gate);
     first
@@ -128,7 +128,7 @@ pub fn change<R: Wait, G: Gate>(
     table: &HotTable,
     seat: &mut TableSeat,
     gate: &mut G,
-    room: &mut Room,
+    scratch: &mut Scratch,
     call: &Call,
 ) -> Result<Reply, Full>
     requires idle { IsIdle table.now seat.old }
@@ -137,10 +137,10 @@ pub fn change<R: Wait, G: Gate>(
     ensures tries { MakesTries call.now result table.now G.becomes (pass_of seat.old, gate.old) (pass_of seat.new, gate.new) }
 {
     for _ in rt.forever() {
-        match try_change(table, seat, gate, room, call) {
+        match try_change(table, seat, gate, scratch, call) {
             Ok(reply) => return Ok(reply),
             Err(fault) => {
-                if let Some(full) = refusal(fault, room.is_moving) {
+                if let Some(full) = refusal(fault, scratch.is_moving) {
                     return Err(full);
                 }
                 thread::yield_now();
@@ -168,16 +168,23 @@ fn try_once<G: Gate>(
     table: &HotTable,
     seat: &mut TableSeat,
     gate: &mut G,
-    room: &mut Room,
+    scratch: &mut Scratch,
     call: &Call,
 ) -> Result<Reply, TryFault>
     requires idle { IsIdle table.now seat.old }
     ensures asked { HasAsked table.now G.becomes (IsOneAttempt table.now) (once_steps table.now.layout) call.now result (seat.old, gate.old) (seat.new, gate.new) }
 {
     pin(table, seat, gate);
-    let outcome = attempt(table, seat, gate, &mut room.way, &mut room.build, call);
+    let outcome = attempt(
+        table,
+        seat,
+        gate,
+        &mut scratch.way,
+        &mut scratch.build,
+        call,
+    );
     end_try(table, seat, gate, call, outcome);
-    room.keep_gone();
+    scratch.retire_later();
     outcome
 }
 

@@ -6,10 +6,10 @@ mod census;
 mod changing;
 mod getting;
 mod many;
-mod room;
+mod scratch;
 
 pub use census::{RecordCounts, StateCounts, count_records};
 pub use changing::{change, try_change};
 pub use getting::end_get;
 pub use many::{end_gets, look_up_each};
-pub use room::{Room, new_room};
+pub use scratch::{Scratch, new_scratch};

@@ -3,7 +3,7 @@ use Rattle.std.proofs.Common.{le_refl, subst, sym}
 use Rattle.std.specs.Prelude.{IfSome}
 use Rattle.compound_node.specs.declared.entries.Entry.TheVariants.{Node}
 use Rattle.record_words.specs.declared.TheConstants.{HEAD_WORDS}
-use Rattle.rowex_walks.specs.Scan.{IsShaped}
+use Rattle.version_laws.specs.Scan.{IsShaped}
 use Rattle.rowex_reading.specs.Seen.{IsLedTo, Sure}
 use Rattle.rowex_reading.specs.Turns.{IsTurn}
 use Rattle.rowex_reading.proofs.Turning.{shape_kept}

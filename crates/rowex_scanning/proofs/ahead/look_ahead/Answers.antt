@@ -7,7 +7,7 @@ use Rattle.rowex_reading.specs.Seen.{HasPlace}
 use Rattle.rowex_reading.proofs.Led.{placed_led, reader_then, reads_later, reads_none, reads_trans}
 use Rattle.rowex_reading.proofs.Seeing.{placed_stable, since_later, sure_later}
 use Rattle.rowex_scanning.specs.Ahead.{HasPlaces}
-use Rattle.rowex_walks.specs.Directions.{place_ahead}
+use Rattle.version_laws.specs.Directions.{place_ahead}
 use Rattle.rowex_scanning.proofs.Begins.{node_begins}
 use Rattle.rowex_scanning.proofs.Passing.{ahead_later, ahead_more, loaded_at, places_later}
 use Rattle.rowex_scanning.proofs.ahead.look_ahead.Given as given

@@ -2,7 +2,7 @@
 use Rattle.std.proofs.Common.{◌∙◌, ap}
 use Rattle.insert_cases.specs.declared.choice.PathNode.{PathNode}
 use Rattle.rowex_reading.specs.Ways.{step_at}
-use Rattle.rowex_walks.specs.Directions.{first_gap}
+use Rattle.version_laws.specs.Directions.{first_gap}
 use Rattle.rowex_scanning.proofs.Walking.{entered, head_size}
 use Rattle.rowex_scanning.proofs.scanning.enter.Goals as goal
 

@@ -5,7 +5,7 @@ use Rattle.compound_node.specs.declared.entries.Entry.TheVariants.{Leaf}
 use Rattle.rowex_reading.specs.Reads.{leaf_loads}
 use Rattle.rowex_reading.specs.Seen.{since}
 use Rattle.rowex_reading.proofs.Led.{reads_later, rooted_led, same_since}
-use Rattle.rowex_walks.specs.Directions.{IsEarlier, IsNoLater}
+use Rattle.version_laws.specs.Directions.{IsEarlier, IsNoLater}
 use Rattle.rowex_scanning.specs.Scanning.{asked_range}
 use Rattle.rowex_scanning.proofs.Parts.{leaf_part}
 use Rattle.rowex_scanning.proofs.Walking.{leaf_early, leaf_further, leaf_past, leaf_full}

@@ -8,7 +8,7 @@ use Rattle.rowex_reading.specs.Reads.{Reads}
 use Rattle.rowex_reading.specs.Seen.{since}
 use Rattle.rowex_reading.proofs.Led.{reader_then, reads_later, reads_none, reads_trans, same_since}
 use Rattle.rowex_scanning.specs.Ahead.{IsBoundWalk, HavePassed}
-use Rattle.rowex_walks.specs.Directions.{place_ahead}
+use Rattle.version_laws.specs.Directions.{place_ahead}
 use Rattle.rowex_scanning.specs.Scanning.{asked_range}
 use Rattle.rowex_scanning.proofs.Parts.{walk_part}
 use Rattle.rowex_scanning.proofs.Passing.{ahead_later, leaf_at, leaf_reached, passed_more, passed_none}

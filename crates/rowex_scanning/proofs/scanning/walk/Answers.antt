@@ -9,9 +9,9 @@ use Rattle.rowex_reading.specs.Seen.{since}
 use Rattle.rowex_reading.proofs.Led.{reader_then, reads_later, reads_none, reads_trans, same_since}
 use Rattle.rowex_reading.proofs.Seeing.{placed_stable, sure_later}
 use Rattle.rowex_scanning.specs.Ahead.{AreAhead, HasPlaces, IsBoundWalk, HavePassed, IsNodeAhead, entries_ahead}
-use Rattle.rowex_walks.specs.Directions.{first_key, gap_after, place_ahead, to_come}
+use Rattle.version_laws.specs.Directions.{first_key, gap_after, place_ahead, to_come}
 use Rattle.rowex_scanning.specs.Scanning.{HasScanned, IsBound, IsWalk, asked_range}
-use Rattle.rowex_walks.specs.declared.direction.Direction.{Direction}
+use Rattle.version_laws.specs.declared.direction.Direction.{Direction}
 use Rattle.rowex_scanning.proofs.Directed.{come_after, gap_before_place, place_at_gap}
 use Rattle.rowex_scanning.proofs.Passing.{ahead_first, node_at, node_later, taken_all}
 use Rattle.rowex_scanning.proofs.Walking.{IsPaid, after_less, bound_later, bound_pop, bound_push, bound_since, entered_first, entered_number, entry_led, none_popped, paid_ahead, paid_child, paid_end, paid_first, paid_last, paid_pop, pop_less, popped_is, rest_of, walk_end, walk_fits, walk_inside, walk_later, walk_places, walk_pop, walk_push, walk_push_less, walk_several, walk_short, walk_since, way_short}

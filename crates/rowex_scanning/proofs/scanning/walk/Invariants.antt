@@ -2,7 +2,7 @@
 use Rattle.std.proofs.Common.{ℕ, length}
 use Rattle.rowex_reading.specs.Reads.{IsReader, Reads}
 use Rattle.rowex_reading.specs.Seen.{since}
-use Rattle.rowex_walks.specs.Directions.{first_key}
+use Rattle.version_laws.specs.Directions.{first_key}
 use Rattle.rowex_scanning.specs.Scanning.{asked_range, IsBound, IsWalk}
 use Rattle.rowex_scanning.proofs.Walking.{IsPaid, rest_of}
 use Rattle.rowex_scanning.proofs.scanning.walk.Given as goal

@@ -5,7 +5,7 @@ use Rattle.std.proofs.lemmas.Option.{slice_get-get_or}
 use Rattle.tries.proofs.Places.{spot_below}
 use Rattle.rowex_reading.proofs.Led.{reader_then, reads_later}
 use Rattle.rowex_scanning.specs.Starts.{IsStart}
-use Rattle.rowex_walks.specs.declared.direction.Direction.TheVariants.{Downwards}
+use Rattle.version_laws.specs.declared.direction.Direction.TheVariants.{Downwards}
 use Rattle.rowex_scanning.proofs.Turning.{turns_before, turns_behind, turns_same, turns_there}
 use Rattle.rowex_scanning.proofs.start.start_from.Goals as goal
 use Rattle.rowex_scanning.proofs.start.start_from.Goals.{else-start-way-via-then-start-way+else-lowest-start, else-start-way-via-else-start-way}

@@ -2,7 +2,7 @@
 use Rattle.std.proofs.Common.{length, ap, sym, subst, ◌∙◌, arith}
 use Rattle.rowex_reading.specs.Ways.{IsWayOf}
 use Rattle.rowex_reading.proofs.Ways.{way_later}
-use Rattle.rowex_rights.proofs.Loops.{later_transitive}
+use Rattle.publish_laws.proofs.Loops.{later_transitive}
 use Rattle.rowex_writing.specs.Locks.{span_numbers}
 use Rattle.rowex_writing.proofs.Confirming.{span_later}
 use Rattle.rowex_writing.proofs.Keeping.{changed_since}

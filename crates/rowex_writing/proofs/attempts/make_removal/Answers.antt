@@ -1,7 +1,7 @@
 -- What is left is published, as one with the node beside it or alone; or all is given back.
 use Rattle.std.proofs.Common.{◌≡◌, ◌-◌, Err, Ok, sym, subst, ap, arith, length}
 use Rattle.rowex_records.specs.Records.{HoldsJust}
-use Rattle.rowex_rights.specs.Loops.{StaysLocked}
+use Rattle.publish_laws.specs.Loops.{StaysLocked}
 use Rattle.rowex_writing.specs.Changes.{IsTakeChange}
 use Rattle.rowex_writing.specs.Locks.{span_numbers}
 use Rattle.rowex_writing.specs.Retiring.{AreInTable}

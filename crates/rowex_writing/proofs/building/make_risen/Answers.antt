@@ -1,6 +1,6 @@
 -- The upper half, and then the lower one.
 use Rattle.std.proofs.Common.{ℕ, ◌+◌, ◌<◌, ◌≤◌, ◌++◌, ◌∷◌, refl, arith}
-use Rattle.rowex_rights.specs.Rises.{made_of_node}
+use Rattle.publish_laws.specs.Rises.{made_of_node}
 use Rattle.rowex_writing.proofs.Counting.{one_few, one_more, one_node, two_few, two_more, two_nodes}
 use Rattle.rowex_writing.proofs.Locking.{goes_more}
 use Rattle.rowex_writing.proofs.building.make_risen.Goals as goal

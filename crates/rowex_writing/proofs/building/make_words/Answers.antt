@@ -5,7 +5,7 @@ use Rattle.compound_node.specs.declared.entries.Entry.TheVariants.{Node}
 use Rattle.versions.specs.declared.Rec.TheVariants.{Node as a_node}
 use Rattle.record_words.proofs.Growing.{first_told}
 use Rattle.rowex_records.proofs.Claimed.{more_is_claimed}
-use Rattle.rowex_rights.specs.Rises.{made_of_node}
+use Rattle.publish_laws.specs.Rises.{made_of_node}
 use Rattle.rowex_writing.specs.Building.{IsBuilding}
 use Rattle.rowex_writing.specs.Walks.{IsClaimWalk, nodes_among}
 use Rattle.rowex_writing.proofs.Counting.{nodes_pushed}

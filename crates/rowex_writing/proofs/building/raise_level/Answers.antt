@@ -5,7 +5,7 @@ use Rattle.compound_node.specs.declared.entries.Entry.TheVariants.{Node}
 use Rattle.insert_cases.specs.declared.growth.Grown.TheVariants.{One as Single}
 use Rattle.insert_cases.specs.declared.raising.Risen.{Risen}
 use Rattle.insert_cases.specs.declared.raising.Risen.TheVariants.{Whole}
-use Rattle.rowex_rights.specs.Rises.{made_of_node}
+use Rattle.publish_laws.specs.Rises.{made_of_node}
 use Rattle.rowex_writing.specs.Building.{IsBuilding}
 use Rattle.rowex_writing.proofs.Counting.{one_more, one_node}
 use Rattle.rowex_writing.proofs.Locking.{goes_more}

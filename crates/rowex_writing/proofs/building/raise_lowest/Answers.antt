@@ -1,7 +1,7 @@
 -- The lowest node gets the leaf.
 use Rattle.std.proofs.Common.{[], ◌∷◌, refl}
 use Rattle.compound_node.specs.declared.entries.Entry.TheVariants.{Node}
-use Rattle.rowex_rights.specs.Rises.{made_of_leaf}
+use Rattle.publish_laws.specs.Rises.{made_of_leaf}
 use Rattle.rowex_writing.specs.Building.{IsBuilding}
 use Rattle.rowex_writing.specs.Remaking.{AwaitsLeaf}
 use Rattle.rowex_writing.proofs.Locking.{goes_more, words_shown}

@@ -5,7 +5,7 @@ use Rattle.compound_node.specs.Nodes.{NodeView, greatest_height, piece}
 use Rattle.versions.specs.Heap.{NodeWords}
 use Rattle.pieces.specs.Piece.{places}
 use Rattle.rowex_core.specs.Reading.{node_words_of}
-use Rattle.rowex_rights.specs.Rises.{IsSide, made_of_node, one}
+use Rattle.publish_laws.specs.Rises.{IsSide, made_of_node, one}
 use Rattle.rowex_table.specs.Made.{Made}
 use Rattle.tries.specs.Keys.{Key}
 use Rattle.tries.specs.Place.{spot, subtrie_without}

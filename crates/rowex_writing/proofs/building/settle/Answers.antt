@@ -1,7 +1,7 @@
 -- An entry is its own; a fork gets a node.
 use Rattle.std.proofs.Common.{◌∷◌, arith}
 use Rattle.record_words.specs.Node.{HasNodeWords}
-use Rattle.rowex_rights.specs.Rises.{made_of_node}
+use Rattle.publish_laws.specs.Rises.{made_of_node}
 use Rattle.rowex_writing.specs.Building.{IsBuilding, HasNotMade}
 use Rattle.rowex_writing.proofs.Lifting.{risen_fork_is_pair, settled, settled_whole, split_height, whole_height}
 use Rattle.rowex_writing.proofs.building.settle.Goals as goal

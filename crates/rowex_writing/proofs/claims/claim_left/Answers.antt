@@ -29,9 +29,9 @@ returns-in_err-number-clause-walk g c = λ since made alone w. rw c.from_residua
     (let count = w.count in let less = c.in_err-number.ensures.claims.0 in (
       omega arith,
       walk_out a_node c.args.table.now.layout.nodes c.args.table.now g.G.Gate.becomes since c.args.left.now c.claim_within.new.left (c.claim_spare.new.seat, c.claim_spare.new.gate) (c.claim_within.new.seat, c.claim_within.new.gate) made
-          c.args.supply.now.next _ (alone_still c.args.seat.now.known c.claim_spare.new.seat.known made c.in_default.ensures.claims alone)
+          c.args.hint.now.next _ (alone_still c.args.seat.now.known c.claim_spare.new.seat.known made c.in_default.ensures.claims alone)
           (none_on c.args.table.now g.G.Gate.becomes a_node _ _ _ _ _ c.in_err-number.ensures.claims.1) (omega arith) (omega arith) c.in_err-number.ensures.claims.1
-          (walk_on a_node c.args.table.now.layout.nodes c.args.table.now g.G.Gate.becomes since (c.args.seat.now, c.args.gate.now) (c.claim_spare.new.seat, c.claim_spare.new.gate) made made c.args.supply.now.next c.args.left.now
+          (walk_on a_node c.args.table.now.layout.nodes c.args.table.now g.G.Gate.becomes since (c.args.seat.now, c.args.gate.now) (c.claim_spare.new.seat, c.claim_spare.new.gate) made made c.args.hint.now.next c.args.left.now
           c.claim_spare.ensures.goes (λ r has. has) w),
     ))
 
@@ -54,9 +54,9 @@ returns-clause-claims g c = (
 pub returns-clause-walk : goal.returns-clause-walk
 returns-clause-walk g c = λ since made alone w.
     walk_claims a_node c.args.table.now.layout.nodes c.args.table.now g.G.Gate.becomes since c.args.left.now c.claim_within.new.left c.in_ok-number.number (c.claim_spare.new.seat, c.claim_spare.new.gate)
-    (c.claim_within.new.seat, c.claim_within.new.gate) made c.args.supply.now.next (alone_still c.args.seat.now.known c.claim_spare.new.seat.known made c.in_default.ensures.claims alone)
+    (c.claim_within.new.seat, c.claim_within.new.gate) made c.args.hint.now.next (alone_still c.args.seat.now.known c.claim_spare.new.seat.known made c.in_default.ensures.claims alone)
     (claim_on c.args.table.now g.G.Gate.becomes a_node _ _ _ _ _ c.in_ok-number.ensures.claims.0) c.in_ok-number.ensures.claims.0 c.in_ok-number.ensures.claims.1
-    (walk_on a_node c.args.table.now.layout.nodes c.args.table.now g.G.Gate.becomes since (c.args.seat.now, c.args.gate.now) (c.claim_spare.new.seat, c.claim_spare.new.gate) made made c.args.supply.now.next c.args.left.now
+    (walk_on a_node c.args.table.now.layout.nodes c.args.table.now g.G.Gate.becomes since (c.args.seat.now, c.args.gate.now) (c.claim_spare.new.seat, c.claim_spare.new.gate) made made c.args.hint.now.next c.args.left.now
     c.claim_spare.ensures.goes (λ r has. has) w)
 
 pub returns-clause-few : goal.returns-clause-few

@@ -37,7 +37,7 @@ returns-clause-walk g c = λ since w.
     let made = c.args.build.now.made.items in
     let (none, walk) = c.in_default.ensures.walk since made (made_alone c.args.table.now c.args.seat.now made news b) w in
     let early = walk.early in
-    walk_ends a_node c.args.table.now.layout.nodes c.args.table.now.layout since c.look_at.new.seat.known c.args.build.now.made.items c.claim_left-claimed.new.supply.next c.claim_left-claimed.new.left none
+    walk_ends a_node c.args.table.now.layout.nodes c.args.table.now.layout since c.look_at.new.seat.known c.args.build.now.made.items c.claim_left-claimed.new.hint.next c.claim_left-claimed.new.left none
     (λ r has.
     let Whose : Record → Option ℕ → Type 0 = IsAnothersBut c.args.table.now.layout c.claim_left-claimed.new.seat.known made in
     missed_as c.args.table.now.layout c.claim_left-claimed.new.seat.known c.look_at.new.seat.known made made c.look_at.new.seat.known.failed r since c.look_at.ensures.goes.stays.0.pass c.look_at.ensures.goes.stays.1 (λ h. h)
@@ -45,7 +45,7 @@ returns-clause-walk g c = λ since w.
     (subst (λ z. HasMissedSince (IsAnothersBut c.args.table.now.layout c.claim_left-claimed.new.seat.known z) c.look_at.new.seat.known.failed r c.claim_left-claimed.new.seat.known.steps) c.as_slice.ensures.value
     (c.look_at.ensures.seen r (subst (λ z. Contains z r) (sym c.as_slice.ensures.value) has)))))
     (walk_on a_node c.args.table.now.layout.nodes c.args.table.now g.G.Gate.becomes since (c.claim_left-claimed.new.seat, c.claim_left-claimed.new.gate) (c.look_at.new.seat, c.look_at.new.gate) c.args.build.now.made.items c.args.build.now.made.items
-    c.claim_left-claimed.new.supply.next c.claim_left-claimed.new.left c.look_at.ensures.goes (λ r has. has) walk)
+    c.claim_left-claimed.new.hint.next c.claim_left-claimed.new.left c.look_at.ensures.goes (λ r has. has) walk)
 
 pub returns-in-Some-clause-goes : goal.returns-in-Some-clause-goes
 returns-in-Some-clause-goes g c = c.in-Some.ensures.goes

@@ -3,12 +3,12 @@ use Rattle.std.proofs.Common.{◌≡◌, ◌≤◌, ◌+◌, ◌*◌, [], ◌∷
 use Rattle.record_words.specs.Entry.{entry_word}
 use Rattle.record_words.specs.declared.layout.Layout.{Layout}
 use Rattle.versions.specs.declared.Rec.TheVariants.{Node as a_node}
-use Rattle.rowex_rights.specs.Rises.{made_of_leaf}
+use Rattle.publish_laws.specs.Rises.{made_of_leaf}
 use Rattle.compound_node.specs.declared.entries.Entry.TheVariants.{Leaf as LeafEntry}
 use Rattle.pieces.specs.Piece.{Place}
 use Rattle.tries.specs.Affected.{subtrie_forked}
 use Rattle.tries.specs.Keys.{bit}
-use Rattle.rowex_walks.specs.Writer.{added_change}
+use Rattle.version_laws.specs.Writer.{added_change}
 use Rattle.rowex_writing.specs.Changes.{IsPutChange, MayPublishOnceReady}
 use Rattle.rowex_writing.specs.Counts.{node_steps}
 use Rattle.rowex_writing.proofs.Counting.{made_one, no_nodes}
@@ -19,7 +19,7 @@ use Rattle.rowex_writing.proofs.Lifting.{paired}
 use Rattle.rowex_writing.proofs.Locking.{goes_more}
 use Rattle.rowex_writing.proofs.Making.{steps_rise}
 use Rattle.rowex_writing.proofs.Placing.{found_is_key, leaf_at, pair_here, pair_may}
-use Rattle.rowex_walks.proofs.Leaves.{pair_tree}
+use Rattle.version_laws.proofs.Leaves.{pair_tree}
 use Rattle.rowex_writing.proofs.Walked.{walk_begins}
 use Rattle.rowex_writing.specs.declared.plan.Full.TheVariants.{Nodes}
 use Rattle.rowex_writing.proofs.deeds.push_down.Goals as goal

@@ -2,7 +2,7 @@
 use Rattle.std.proofs.Common.{ℕ, ◌≡◌, ◌∷◌, ◌+◌, ◌-◌, ◌<◌, ◌≤◌, le_trans, length, rules, true, false, refl, sym, ap, subst, ◌∙◌, arith, get_or}
 use Rattle.std.specs.Prelude.{slice_range}
 use Rattle.insert_cases.specs.declared.choice.PathNode.{PathNode}
-use Rattle.rowex_rights.proofs.Acting.{led_may_lock}
+use Rattle.publish_laws.proofs.Acting.{led_may_lock}
 use Rattle.rowex_writing.specs.Locks.{HasJustLocked, HasNotLocked, TriesNodes, numbers_of}
 use Rattle.versions.specs.Trades.{IsOneOf}
 use Rattle.rowex_writing.proofs.Counting.{numbers_few, slice_few}

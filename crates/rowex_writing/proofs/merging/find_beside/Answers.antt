@@ -1,7 +1,7 @@
 -- The rows round the place, the entry beside, and the count of what that names.
 use Rattle.std.proofs.Common.{rules, ◌<◌, ◌∙◌, arith}
 use Rattle.rowex_writing.proofs.Merged.{beside_on}
-use Rattle.rowex_rights.proofs.Merging.{beside_in_table}
+use Rattle.publish_laws.proofs.Merging.{beside_in_table}
 use Rattle.rowex_writing.specs.Merging.{upper}
 use Rattle.rowex_writing.proofs.Locking.{locked_on, reads_fixed, reads_more}
 use Rattle.rowex_writing.proofs.Beside.{column_few, found_beside, locked_node, place_shown, sibling_is, takes_on, upper_held, upper_place, upper_range, upper_within}

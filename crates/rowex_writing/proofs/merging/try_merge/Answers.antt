@@ -1,7 +1,7 @@
 -- The node beside, the wider locks, and the store under them.
 use Rattle.std.proofs.Common.{◌≡◌, true, false, refl, sym, ◌∙◌, subst, arith}
 use Rattle.rowex_reading.proofs.Seeing.{later_trans}
-use Rattle.rowex_rights.proofs.Loops.{later_if_same}
+use Rattle.publish_laws.proofs.Loops.{later_if_same}
 use Rattle.rowex_writing.specs.Changes.{IsDeedChange}
 use Rattle.rowex_writing.specs.Locks.{span_numbers}
 use Rattle.rowex_writing.specs.Merging.{TriesMore}

@@ -1,7 +1,7 @@
 -- The way has a node, or none.
 use Rattle.std.proofs.Common.{[], ◌∷◌, Some, refl, sym, ap, subst, arith, length}
 use Rattle.versions.specs.declared.Rec.TheVariants.{Leaf as a_leaf}
-use Rattle.rowex_walks.specs.Writer.{removed_change}
+use Rattle.version_laws.specs.Writer.{removed_change}
 use Rattle.rowex_writing.specs.Changes.{IsTakeChange, MayPublishOnceReady}
 use Rattle.std.proofs.lemmas.Result.{IfErr-weaker}
 use Rattle.rowex_writing.proofs.Locking.{goes_none}

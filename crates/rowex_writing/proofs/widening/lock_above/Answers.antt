@@ -3,7 +3,7 @@ use Rattle.std.proofs.Common.{◌-◌, get_or, ◌∙◌, arith}
 use Rattle.std.proofs.lemmas.Option.{slice_get-get_or}
 use Rattle.rowex_writing.specs.Merging.{no_step}
 use Rattle.rowex_writing.proofs.Confirming.{since_pinned, step_place}
-use Rattle.rowex_rights.proofs.Loops.{later_if_same}
+use Rattle.publish_laws.proofs.Loops.{later_if_same}
 use Rattle.rowex_writing.proofs.Wider.{root_above, step_above}
 use Rattle.std.proofs.Common.{refl}
 use Rattle.rowex_reading.proofs.Ways.{way_later}

@@ -1,7 +1,7 @@
 -- A node of the way is locked, and its entry is looked at.
 use Rattle.std.proofs.Common.{◌≡◌, true, false, sym, ◌∙◌, arith}
 use Rattle.rowex_reading.proofs.Seeing.{later_trans}
-use Rattle.rowex_rights.proofs.Acting.{led_may_lock}
+use Rattle.publish_laws.proofs.Acting.{led_may_lock}
 use Rattle.rowex_writing.proofs.Locking.{seat_of}
 use Rattle.rowex_writing.proofs.Onward.{run_possible}
 use Rattle.rowex_writing.proofs.Runs.{goes_run, works_run}

@@ -4,8 +4,8 @@ use Rattle.versions.specs.Trades.{IsOneOf}
 use Rattle.rowex_reading.specs.Ways.{IsWayOf}
 use Rattle.rowex_reading.proofs.Seeing.{later_trans}
 use Rattle.rowex_reading.proofs.Ways.{way_later}
-use Rattle.rowex_rights.proofs.Merging.{beside_in_table, beside_may_lock}
-use Rattle.rowex_rights.proofs.Loops.{later_if_same}
+use Rattle.publish_laws.proofs.Merging.{beside_in_table, beside_may_lock}
+use Rattle.publish_laws.proofs.Loops.{later_if_same}
 use Rattle.rowex_core.specs.declared.event.Target.TheVariants.{Node as NodeTarget}
 use Rattle.rowex_table.specs.Made.{nodes_of}
 use Rattle.rowex_table.specs.Rights.{MayLock}

@@ -2,10 +2,10 @@
 use Rattle.std.proofs.Common.{rules, sym, subst}
 use Rattle.std.specs.Prelude.{IsSome}
 use Rattle.rowex_table.specs.Seats.{TableView}
-use Rattle.rowex_walks.specs.Scan.{Range}
+use Rattle.version_laws.specs.Scan.{Range}
 use Rattle.rowex_reading.proofs.Led.{looked_at, looks_same}
 use Rattle.rowex_scanning.specs.Scanning.{asked_range}
-use Rattle.rowex_walks.specs.Directions.{IsLawfulBy}
+use Rattle.version_laws.specs.Directions.{IsLawfulBy}
 use Rattle.seat_calls.specs.Calls.{IsListReadBy}
 use Rattle.seat_calls.specs.Passes.{PassView, pass_of}
 use Rattle.seat_calls.proofs.Noting.{fits_then, looked}

@@ -1,0 +1,6 @@
+-- The law descent_finds.
+use Rattle.publish_laws.proofs.Sure.{descent_finds}
+use Rattle.publish_laws.proofs.laws.descent_finds.Goals as goal
+
+pub returns : goal.returns
+returns c = descent_finds

@@ -1,0 +1,45 @@
+-- Locks and loads under them, and what a pass recalls after an act.
+use Rattle.std.specs.Prelude.{◌≡◌, ℕ, ◌+◌, List, Some, get_or}
+use Rattle.compound_node.specs.declared.entries.Entry.TheVariants.{Node}
+use Rattle.pieces.specs.Piece.{Place}
+use Rattle.record_words.specs.declared.layout.Layout.{Layout}
+use Rattle.record_words.specs.declared.TheConstants.{HEAD_WORDS}
+use Rattle.tries.specs.Keys.{Key}
+use Rattle.tries.specs.Place.{subtrie_sibling}
+use Rattle.versions.specs.declared.Rec.TheVariants.{Node as a_node}
+use Rattle.versions.specs.Trades.{IsOneOf}
+use Rattle.version_laws.specs.Scan.{EntryStoodSince}
+use Rattle.rowex_core.specs.declared.event.Act.{Act}
+use Rattle.rowex_core.specs.declared.event.Act.TheVariants.{LoadRef, LoadFixed}
+use Rattle.rowex_core.specs.declared.event.Spot.TheVariants.{Slot}
+use Rattle.rowex_core.specs.declared.event.Target.TheVariants.{Node as NodeTarget}
+use Rattle.rowex_core.specs.declared.known.Known.{Known}
+use Rattle.rowex_core.specs.Reading.{node_words_of}
+use Rattle.rowex_core.specs.Knowing.{IsEvent, IsPinnedSince}
+use Rattle.rowex_table.specs.Rights.{MayLock}
+use Rattle.rowex_table.specs.Made.{IsLater}
+use Rattle.rowex_table.specs.Runs.{silent}
+use Rattle.rowex_table.specs.Stays.{KeepsRecall}
+use Rattle.publish_laws.specs.Stages.{IsSure}
+
+-- A node to which the pass was led since its pin it may lock.
+abbrev pub LedMayLock : Type 0
+LedMayLock =
+    (layout : Layout) (k : Known) (since n h : ℕ) → IsPinnedSince k since → IsSure k (λ s. EntryStoodSince s since (Node n h)) → MayLock layout (NodeTarget n) k
+
+-- And so the node that stands beside the key's way in one that it has locked: as the one entry on the other side of the last fork.
+abbrev pub BesideMayLock : Type 0
+BesideMayLock =
+    (layout : Layout) (k : Known) (key : Key) (o m position height : ℕ) (words : List ℕ) → IsOneOf (record { node = o; words = words }) k.locks →
+    subtrie_sibling key (node_words_of words).subtrie ≡ Some (position, Place (Node m height)) → MayLock layout (NodeTarget m) k
+
+-- What it loads of a node that it has locked is a word of those that it holds.
+abbrev pub LoadsOfLocked : Type 0
+LoadsOfLocked =
+    (layout : Layout) (k j : Known) (n : ℕ) (words : List ℕ) → IsOneOf (record { node = n; words = words }) k.locks →
+    ((i w : ℕ) → IsEvent layout (LoadRef (Slot n i) w) silent k j → w ≡ get_or words (HEAD_WORDS + i) 0) ×
+    ((i w : ℕ) → IsEvent layout (LoadFixed (a_node n) (i + 1) w) silent k j → w ≡ get_or words i 0)
+
+-- After each act but a publish, a pin or an unpin a pass recalls all that it did before.
+abbrev pub ActGoesOn : Type 0
+ActGoesOn = (layout : Layout) (k j : Known) (act : Act) → KeepsRecall act → IsEvent layout act silent k j → IsLater k j

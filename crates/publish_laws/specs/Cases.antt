@@ -1,0 +1,78 @@
+-- Each case of an insertion, an upsert and a removal: from what a pass knows to its publish, and to what it knows then.
+use Rattle.std.specs.Prelude.{◌≡◌, ◌≢◌, ◌++◌, ℕ, List, [], ◌∷◌, Some, None}
+use Rattle.compound_node.specs.Nodes.{NodeView, piece}
+use Rattle.compound_node.specs.declared.entries.Entry.{Entry}
+use Rattle.compound_node.specs.declared.entries.Entry.TheVariants.{Leaf, Node}
+use Rattle.pieces.specs.Piece.{Place}
+use Rattle.record_words.specs.declared.layout.Layout.{Layout}
+use Rattle.record_words.specs.Entry.{HasEntryWord, entry_word}
+use Rattle.tries.specs.Keys.{Key, bit, AgreeBelow}
+use Rattle.tries.specs.Search.{seek}
+use Rattle.tries.specs.Place.{subtrie_collapsed, subtrie_without}
+use Rattle.tries.specs.Content.{Item, item}
+use Rattle.tries.specs.Affected.{subtrie_forked}
+use Rattle.versions.specs.declared.Rec.TheVariants.{Node as a_node, Leaf as a_leaf}
+use Rattle.versions.specs.Trades.{IsOneOf}
+use Rattle.version_laws.specs.Writer.{added_change, replaced_change, removed_change}
+use Rattle.rowex_core.specs.declared.event.Spot.{Spot}
+use Rattle.rowex_core.specs.declared.event.Spot.TheVariants.{Root}
+use Rattle.rowex_core.specs.declared.known.Known.{Known}
+use Rattle.rowex_core.specs.declared.known.Locked.{Locked}
+use Rattle.rowex_core.specs.Reading.{node_words_of}
+use Rattle.rowex_table.specs.Made.{Made}
+use Rattle.rowex_table.specs.Publishes.{Publishes}
+use Rattle.publish_laws.specs.Stages.{AreBeside, HasReady, IsLeafThere, SpellsLeaf, merged}
+use Rattle.publish_laws.specs.Spots.{HoldsAt, FitsAt, AffectsSpotAlone}
+use Rattle.publish_laws.specs.Rises.{made_of_node, made_of_leaf, IsBuiltAnew, IsSide}
+
+-- The entry has a word, which is this one.
+abbrev pub IsWord : Entry → ℕ → Type 0
+IsWord e w = HasEntryWord (Some e) × (entry_word (Some e) ≡ w)
+
+-- The first key: where the root is empty, the new leaf.
+abbrev pub MayAddFirstKey : Type 0
+MayAddFirstKey =
+    (layout : Layout) (k : Known) (held : List Locked) (x : Item) (fresh : List ℕ) (w : ℕ) → HasReady k held (made_of_leaf x fresh ∷ []) → SpellsLeaf x fresh →
+    IsWord (Leaf x.number) w → k.anchor ≡ Some None → Publishes layout k Root w (added_change k.pass x) None []
+
+-- A pair: a new node of a leaf, which alone is affected, and the new one. In a node this is a leaf pushdown, at the root the second key.
+abbrev pub MayPair : Type 0
+MayPair =
+    (layout : Layout) (k : Known) (held : List Locked) (x : Item) (fresh : List ℕ) (p j m w value : ℕ) (l : Key) (view : NodeView) (at : Spot) →
+    HasReady k held (made_of_node m view ∷ made_of_leaf x fresh ∷ []) → SpellsLeaf x fresh →
+    (s : HoldsAt k held x.key (Leaf j) at) → AffectsSpotAlone s p → FitsAt s (Node m view.height) →
+    IsLeafThere layout k held (made_of_node m view ∷ made_of_leaf x fresh ∷ []) j l value → AgreeBelow p x.key l → bit x.key p ≢ bit l p →
+    IsBuiltAnew view → piece view ≡ subtrie_forked (bit x.key p) p (Leaf x.number) (Place (Leaf j)) → IsWord (Node m view.height) w →
+    Publishes layout k at w (added_change k.pass x) None []
+
+-- Upsert of a held key: a new leaf in the place of the old one. The old value is that of the old leaf.
+abbrev pub MayUpsert : Type 0
+MayUpsert =
+    (layout : Layout) (k : Known) (held : List Locked) (x : Item) (fresh : List ℕ) (j w value : ℕ) (at : Spot) →
+    HasReady k held (made_of_leaf x fresh ∷ []) → SpellsLeaf x fresh →
+    (s : HoldsAt k held x.key (Leaf j) at) → FitsAt s (Leaf x.number) → IsLeafThere layout k held (made_of_leaf x fresh ∷ []) j x.key value → IsWord (Leaf x.number) w →
+    Publishes layout k at w (replaced_change k.pass x) (Some value) (a_leaf j ∷ [])
+
+-- Removal: what is left of the node that names the leaf, one entry or a new node, takes its place.
+abbrev pub MayRemove : Type 0
+MayRemove =
+    (layout : Layout) (k : Known) (held : List Locked) (news : List Made) (key : Key) (n j height w value : ℕ) (e : Entry) (words : List ℕ) (at : Spot) →
+    HasReady k held news → IsSide (subtrie_without key (node_words_of words).subtrie) e news → IsOneOf (record { node = n; words = words }) held →
+    seek key (node_words_of words).subtrie ≡ Leaf j → (s : HoldsAt k held key (Node n height) at) → FitsAt s e → IsLeafThere layout k held news j key value → IsWord e w →
+    Publishes layout k at w (removed_change k.pass (item j key value)) (Some value) (a_node n ∷ a_leaf j ∷ [])
+
+-- And one that merges: what is left of the node and the node beside it become one new node z, whose entry closes the fork between them in
+-- the node o above. What is left of that, one entry or a new node, takes its place.
+abbrev pub MayMerge : Type 0
+MayMerge =
+    (layout : Layout) (k : Known) (held : List Locked) (us : List Made) (key : Key) (o n m j z height w value : ℕ) (view : NodeView) (e : Entry) (at : Spot) →
+    HasReady k held (us ++ made_of_node z view ∷ []) → (b : AreBeside held key o n m j) → IsBuiltAnew view → piece view ≡ merged b →
+    IsSide (subtrie_collapsed key (Node z view.height) (node_words_of b.upper).subtrie) e us →
+    (s : HoldsAt k held key (Node o height) at) → FitsAt s e → IsLeafThere layout k held (us ++ made_of_node z view ∷ []) j key value → IsWord e w →
+    Publishes layout k at w (removed_change k.pass (item j key value)) (Some value) (a_node o ∷ a_node n ∷ a_node m ∷ a_leaf j ∷ [])
+
+-- And of the last key.
+abbrev pub MayRemoveLast : Type 0
+MayRemoveLast =
+    (layout : Layout) (k : Known) (held : List Locked) (j value : ℕ) (key : Key) → HasReady k held [] → k.anchor ≡ Some (Some (Leaf j)) →
+    IsLeafThere layout k held [] j key value → Publishes layout k Root 0 (removed_change k.pass (item j key value)) (Some value) (a_leaf j ∷ [])

@@ -1,0 +1,63 @@
+-- Of what an insertion rises, from the lowest locked node upwards.
+use Rattle.std.specs.Prelude.{◌≡◌, ◌≢◌, ℕ, ◌+◌, List, [], ◌∷◌}
+use Rattle.compound_node.specs.Nodes.{NodeView, piece, greatest_height}
+use Rattle.compound_node.specs.declared.entries.Entry.{Entry}
+use Rattle.compound_node.specs.declared.entries.Entry.TheVariants.{Node}
+use Rattle.pieces.specs.Piece.{Place}
+use Rattle.record_words.specs.declared.layout.Layout.{Layout}
+use Rattle.record_words.specs.Node.{HasNodeWords, node_words}
+use Rattle.record_words.specs.Leaf.{HasLeafWords}
+use Rattle.tries.specs.Keys.{Key, bit, AgreeBelow}
+use Rattle.tries.specs.Tree.{Subtrie}
+use Rattle.tries.specs.Content.{Item}
+use Rattle.tries.specs.Affected.{FirstForkIsBefore}
+use Rattle.versions.specs.declared.Rec.TheVariants.{Node as a_node, Leaf as a_leaf}
+use Rattle.versions.specs.Trades.{IsOneOf}
+use Rattle.version_laws.specs.Writer.{IsWayBelow}
+use Rattle.rowex_core.specs.declared.known.Known.{Known}
+use Rattle.rowex_core.specs.declared.known.Locked.{Locked}
+use Rattle.rowex_core.specs.Reading.{node_words_of}
+use Rattle.rowex_core.specs.Cores.{Core}
+use Rattle.rowex_table.specs.Made.{Made}
+use Rattle.publish_laws.specs.Stages.{IsSure, IsStage, IsLockedAbove}
+use Rattle.rowex_core.specs.Knowing.{IsPinnedSince}
+
+-- New records
+
+-- a new node record with this node's words
+abbrev pub made_of_node : ℕ → NodeView → Made
+made_of_node m view = record { rec = a_node m; words = node_words view }
+
+-- a new leaf record with these words
+abbrev pub made_of_leaf : Item → List ℕ → Made
+made_of_leaf x words = record { rec = a_leaf x.number; words = words }
+
+-- A node that was built anew: it has words, and its height is one above the greatest of its entries.
+abbrev pub IsBuiltAnew : NodeView → Type 0
+IsBuiltAnew view = HasNodeWords view × (view.height ≡ 1 + greatest_height view.entries)
+
+-- The entry for a subtrie, and the records made for it: the one entry that the subtrie is, or a new node.
+pub data IsSide (x : Subtrie) : Entry → List Made → Type 0 where
+  one : (e : Entry) → x ≡ Place e → IsSide x e []
+  anew : (m : ℕ) (view : NodeView) → IsBuiltAnew view → piece view ≡ x → IsSide x (Node m view.height) (made_of_node m view ∷ [])
+
+-- The lowest node
+
+-- Below the locked node with these words the search for the key of x ended at a leaf with the key l, from which it differs first
+-- at p; the pass has been pinned since the version `since` or longer.
+pub record HasFoundBelow (k : Known) (held : List Locked) (since : ℕ) (x : Item) (p : ℕ) (l : Key) (n : ℕ) (words : List ℕ) : Type 0 where
+  pub leaf : HasLeafWords (x.key, x.value)
+  pub pinned : IsPinnedSince k since
+  pub locked : IsOneOf (record { node = n; words = words }) held
+  pub way : IsSure k (λ s. IsWayBelow s since x.key (node_words_of words).subtrie l)
+  pub agree : AgreeBelow p x.key l
+  pub differ : bit x.key p ≢ bit l p
+
+-- Further up
+
+-- Where an insertion at p affects no more of a locked node than the place of the one below, its own first fork is before p; so the node
+-- above that needs no other check than that its entry names it.
+abbrev pub AboveGoesOn : Type 0
+AboveGoesOn =
+    (layout : Layout) (k : Known) (held : List Locked) (news : List Made) (c : Core) → IsStage layout k held news c →
+    (key : Key) (p o n : ℕ) (a : IsLockedAbove held key p o n) → FirstForkIsBefore p (node_words_of a.upper).subtrie

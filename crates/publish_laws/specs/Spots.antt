@@ -1,0 +1,47 @@
+-- A spot of which a pass holds the lock, and the entry that stands there, by what the pass knows.
+use Rattle.std.specs.Prelude.{◌≡◌, ℕ, List, Some}
+use Rattle.compound_node.specs.declared.entries.Entry.{Entry}
+use Rattle.compound_node.specs.declared.entries.Entry.TheVariants.{Leaf, Node}
+use Rattle.pieces.specs.Piece.{Place}
+use Rattle.tries.specs.Keys.{Key}
+use Rattle.tries.specs.Tree.{Subtrie}
+use Rattle.tries.specs.Search.{seek}
+use Rattle.tries.specs.Place.{spot}
+use Rattle.tries.specs.Affected.{IsLowerSubtrie}
+use Rattle.versions.specs.Trades.{IsOneOf}
+use Rattle.version_laws.specs.Spots.{AffectsOne}
+use Rattle.rowex_core.specs.declared.event.Spot.{Spot}
+use Rattle.rowex_core.specs.declared.event.Spot.TheVariants.{Root, Slot}
+use Rattle.rowex_core.specs.declared.known.Known.{Known}
+use Rattle.rowex_core.specs.declared.known.Locked.{Locked}
+use Rattle.rowex_core.specs.Reading.{node_words_of}
+
+-- The pass holds the lock of this spot on the key's way, at which the entry d stands: the anchor's, and d is the root; or that of a
+-- node with these words, and d is its entry at the key's place.
+pub data HoldsAt (k : Known) (held : List Locked) (key : Key) (d : Entry) : Spot → Type 0 where
+  at_root : k.anchor ≡ Some (Some d) → HoldsAt k held key d Root
+  in_node : (o slot : ℕ) (words : List ℕ) → IsOneOf (record { node = o; words = words }) held → seek key (node_words_of words).subtrie ≡ d →
+      spot key (node_words_of words).subtrie ≡ slot → HoldsAt k held key d (Slot o slot)
+
+-- An entry that may stand there: in a node it is lower than the node.
+abbrev pub FitsAt : {k : Known} {held : List Locked} {key : Key} {d : Entry} {at : Spot} → HoldsAt k held key d at → Entry → Type 0
+FitsAt (at_root root) e = Unit {0}
+FitsAt (in_node o slot words has names place) e = IsLowerSubtrie (node_words_of words).fixed.height (Place e)
+
+-- What there is below an entry: the subtrie of a node, which is locked, or the one leaf.
+abbrev pub IsSubtrieBelow : List Locked → Entry → Subtrie → Type 0
+IsSubtrieBelow held (Leaf j) r = r ≡ Place (Leaf j)
+IsSubtrieBelow held (Node n h) r = (words : List ℕ) × IsOneOf (record { node = n; words = words }) held × (r ≡ (node_words_of words).subtrie)
+
+-- An insertion at p affects no more than the spot, if that is in a node.
+abbrev pub AffectsSpotAlone : {k : Known} {held : List Locked} {key : Key} {d : Entry} {at : Spot} → HoldsAt k held key d at → ℕ → Type 0
+AffectsSpotAlone (at_root root) p = Unit {0}
+AffectsSpotAlone {held = held} {key = key} {d = d} (in_node o slot words has names place) p =
+    (r : Subtrie) × IsSubtrieBelow held d r × AffectsOne p key (node_words_of words).subtrie r
+
+-- The spot of the locked node n, at which the entry e may take its place in an insertion at p.
+pub record IsSpotOf (k : Known) (held : List Locked) (key : Key) (p n : ℕ) (e : Entry) (at : Spot) : Type 0 where
+  pub height : ℕ
+  pub holds : HoldsAt k held key (Node n height) at
+  pub alone : AffectsSpotAlone holds p
+  pub fits : FitsAt holds e

@@ -1,0 +1,92 @@
+-- What a writer has before its publish, by lists of its locks and of the records that it makes.
+use Rattle.std.specs.Prelude.{◌≡◌, ℕ, List, Some, map}
+use Rattle.compound_node.specs.declared.entries.Entry.TheVariants.{Leaf, Node}
+use Rattle.pieces.specs.Piece.{Place}
+use Rattle.record_words.specs.declared.layout.Layout.{Layout}
+use Rattle.record_words.specs.Leaf.{HasLeafWords, leaf_words, up_to_key}
+use Rattle.tries.specs.Keys.{Key, bit}
+use Rattle.tries.specs.Tree.{Subtrie}
+use Rattle.tries.specs.Search.{seek}
+use Rattle.tries.specs.Place.{fork_of, subtrie_sibling, subtrie_without}
+use Rattle.tries.specs.Content.{Item}
+use Rattle.versions.specs.declared.Rec.{Rec}
+use Rattle.versions.specs.declared.Rec.TheVariants.{Leaf as a_leaf}
+use Rattle.versions.specs.State.{Past}
+use Rattle.versions.specs.Trades.{IsOneOf}
+use Rattle.version_laws.specs.Spots.{AffectsOne}
+use Rattle.version_laws.specs.Rise.{Side, IsRise, linked_by_rise, unlinked_by_rise}
+use Rattle.rowex_core.specs.declared.known.Holding.TheVariants.{Ready}
+use Rattle.rowex_core.specs.declared.known.Known.{Known}
+use Rattle.rowex_core.specs.declared.known.Locked.{Locked}
+use Rattle.rowex_core.specs.Reading.{node_words_of, leaf_of}
+use Rattle.rowex_core.specs.Cores.{Core, IsLawful, bare}
+use Rattle.rowex_core.specs.Sharing.{IsOwned, IsLocked}
+use Rattle.rowex_core.specs.Knowing.{Recalls}
+use Rattle.rowex_table.specs.Made.{Made, held_as, recs_of}
+
+-- It holds of the past of each lawful core in which what the pass recalls is true.
+abbrev pub IsSure : Known → (Past → Type 0) → Type 0
+IsSure k P = (c : Core) → IsLawful c → Recalls c k → P c.past
+
+-- A core in which what the pass recalls is true, these nodes are locked by it with these words, and these records are its own
+-- and ready, with theirs.
+pub record IsStage (layout : Layout) (k : Known) (held : List Locked) (news : List Made) (c : Core) : Type 0 where
+  pub lawful : IsLawful c
+  pub layout_is : c.layout ≡ layout
+  pub recalls : Recalls c k
+  pub locks : (l : Locked) → IsOneOf l held → IsLocked k.pass c l
+  pub made : (m : Made) → IsOneOf m news → IsOwned k.pass c (held_as Ready m)
+
+-- What the pass has is just these locks and these records, which it has made ready.
+pub record HasReady (k : Known) (held : List Locked) (news : List Made) : Type 0 where
+  pub locks : k.locks ≡ held
+  pub own : k.own ≡ map (held_as Ready) news
+
+-- the words of a leaf record spell this key and value
+abbrev pub SpellsLeaf : Item → List ℕ → Type 0
+SpellsLeaf x words = HasLeafWords (x.key, x.value) × (leaf_words (x.key, x.value) ≡ up_to_key words)
+
+-- Among the new records is the leaf with this key and value.
+abbrev pub HasLeaf : List Made → Item → Type 0
+HasLeaf news x = (words : List ℕ) × IsOneOf (record { rec = a_leaf x.number; words = words }) news × SpellsLeaf x words
+
+-- In each stage the subtrie is what comes in the place of node n's body or entry when the key is added; it links anew just the
+-- records made, the one made last first, and unlinks just those.
+abbrev pub HasRisen : Layout → Known → List Locked → List Made → ℕ → Item → ℕ → Key → Side → ℕ → Subtrie → List Rec → Type 0
+HasRisen layout k held news since x p l d n r gone = (c : Core) → IsStage layout k held news c →
+    (i : IsRise (bare c) k.pass since x p l d n r) × (linked_by_rise i ≡ recs_of news) × (unlinked_by_rise i ≡ gone)
+
+-- By their words, the locked node o's entry on the key's way names the locked node n, and an insertion at p affects no more than
+-- that place.
+pub record IsLockedAbove (held : List Locked) (key : Key) (p o n : ℕ) : Type 0 where
+  pub upper : List ℕ
+  pub lower : List ℕ
+  pub has_upper : IsOneOf (record { node = o; words = upper }) held
+  pub has_lower : IsOneOf (record { node = n; words = lower }) held
+  pub height : ℕ
+  pub entry : seek key (node_words_of upper).subtrie ≡ Node n height
+  pub path : AffectsOne p key (node_words_of upper).subtrie (node_words_of lower).subtrie
+
+-- By their words, the locked node n's entry on the key's way names leaf j, the locked node o's names node n, and the last fork on the
+-- key's way in o has on its other side just the entry of the locked node m.
+pub record AreBeside (held : List Locked) (key : Key) (o n m j : ℕ) : Type 0 where
+  pub upper : List ℕ
+  pub lower : List ℕ
+  pub other : List ℕ
+  pub has_upper : IsOneOf (record { node = o; words = upper }) held
+  pub has_lower : IsOneOf (record { node = n; words = lower }) held
+  pub has_other : IsOneOf (record { node = m; words = other }) held
+  pub leaf : seek key (node_words_of lower).subtrie ≡ Leaf j
+  pub height : ℕ
+  pub entry : seek key (node_words_of upper).subtrie ≡ Node n height
+  pub position : ℕ
+  pub other_height : ℕ
+  pub sibling : subtrie_sibling key (node_words_of upper).subtrie ≡ Some (position, Place (Node m other_height))
+
+-- what is left of node n without the leaf, and all of node m, with the fork between the two on top
+abbrev pub merged : {held : List Locked} {key : Key} {o n m j : ℕ} → AreBeside held key o n m j → Subtrie
+merged {key = key} b = fork_of (bit key b.position) b.position (subtrie_without key (node_words_of b.lower).subtrie) (node_words_of b.other).subtrie
+
+-- In each stage leaf j has this key, and this value.
+abbrev pub IsLeafThere : Layout → Known → List Locked → List Made → ℕ → Key → ℕ → Type 0
+IsLeafThere layout k held news j key value = (c : Core) → IsStage layout k held news c → leaf_of (c.words (a_leaf j)) ≡ record { key = key; value = value }

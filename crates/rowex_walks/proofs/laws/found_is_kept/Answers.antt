@@ -1,6 +1,0 @@
--- The law found_is_kept.
-use Rattle.rowex_walks.proofs.Steady.{found_kept}
-use Rattle.rowex_walks.proofs.laws.found_is_kept.Goals as goal
-
-pub returns : goal.returns
-returns c = found_kept

@@ -1,6 +1,0 @@
--- The law scan_is_lawful.
-use Rattle.rowex_walks.proofs.Fronts.{scan_is_lawful}
-use Rattle.rowex_walks.proofs.laws.scan_is_lawful.Goals as goal
-
-pub returns : goal.returns
-returns c d more s before rest m steady told g kf ku xs scan items = scan_is_lawful s before rest m steady told g kf ku xs scan items d more

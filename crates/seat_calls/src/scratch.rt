@@ -1,0 +1,108 @@
+//! Where a pass builds what it puts into the index.
+
+use arrayvec::ArrayVec;
+use epochs::Limbo;
+use insert_cases::PathNode;
+use record_words::{LEAF_CLASSES, Layout, LeafClass};
+use rowex_core::Rec;
+use rowex_reading::MOST_NODES;
+use rowex_writing::{Build, Hint};
+use std::alloc::{AllocError, Global};
+
+/// The lists that a pass's scans and changes work with. They are large, so they are made once, with the pass, and reused by each
+/// call.
+#[derive(Drop)]
+pub struct Scratch {
+    /// The nodes on the way of the last search or scan.
+    pub way: ArrayVec<PathNode, MOST_NODES>,
+    /// What the last change has built, and where the next claims begin.
+    pub build: Build,
+    /// What the pass has retired and not given back yet.
+    pub limbo: Limbo,
+    /// Whether records were moving at the last full round. They were if it saw a retired one that a pass may still reach. They were too
+    /// if it gave back some of the kind that was lacked, which other passes may have taken since.
+    pub is_moving: bool,
+}
+
+impl Scratch {
+    /// After an attempt: moves the records that it has unlinked, if any, to the end of the limbo list.
+    pub fn retire_later(&mut self) {
+        while let Some(rec) = self.build.gone.pop() {
+            self.limbo.push(rec);
+        }
+    }
+
+    /// Lets the next claims begin with what the last small round gave back.
+    pub fn reuse_given(&mut self, layout: Layout) {
+        for rec in self.limbo.given.as_slice() {
+            give_back(&mut self.build, layout, *rec);
+        }
+    }
+
+    /// After a full round: claims look at each class of leaf records again.
+    pub fn skip_none(&mut self) {
+        for place in 0..LEAF_CLASSES {
+            self.build.leaves[place].skips = 0;
+        }
+    }
+}
+
+/// Adds `rec` to the spare numbers of its kind or class, so that the next claim there begins with `rec`. With 256 kept, `rec` is not added.
+/// Either way claims pass this class by no more.
+fn give_back(build: &mut Build, layout: Layout, rec: Rec) {
+    match rec {
+        Rec::Node(number) => build.nodes.give_back(number),
+        Rec::Leaf(number) => {
+            let place = layout.class_of(number).place();
+            let first = class_begin(layout, number);
+            build.leaves[place].give_back(number.saturating_sub(first));
+        }
+    }
+}
+
+/// The number of the first leaf record of the class of leaf record `number`.
+fn class_begin(layout: Layout, number: u32) -> u32 {
+    match layout.class_of(number) {
+        LeafClass::Short => 0,
+        LeafClass::Medium => layout.medium_from,
+        LeafClass::Large => layout.large_from,
+        LeafClass::Wide => layout.wide_from,
+        LeafClass::Long => layout.long_from,
+    }
+}
+
+/// Empty scratch lists for pass `number`; an error if memory is refused. The pass's claims begin at a part of the records of its own,
+/// so that passes begin apart.
+pub fn new_scratch(alloc: Global, layout: Layout, number: u16) -> Result<Box<Scratch>, AllocError> {
+    let part = |from: u32, upto: u32| {
+        Hint::begin_at(first_claim(number, layout.passes, upto.saturating_sub(from)))
+    };
+    let build = Build {
+        made: ArrayVec::new(),
+        gone: ArrayVec::new(),
+        nodes: part(0, layout.nodes),
+        left_nodes: layout.nodes,
+        leaves: [
+            part(0, layout.medium_from),
+            part(layout.medium_from, layout.large_from),
+            part(layout.large_from, layout.wide_from),
+            part(layout.wide_from, layout.long_from),
+            part(layout.long_from, layout.leaves),
+        ],
+    };
+    let scratch = Scratch {
+        way: ArrayVec::new(),
+        build,
+        limbo: Limbo::new(),
+        is_moving: false,
+    };
+    Ok(Box::new(alloc, scratch)?)
+}
+
+/// Where the claims of pass `number` begin, if `passes` passes share `records` records.
+fn first_claim(number: u16, passes: u32, records: u32) -> u32 {
+    let first = (u64::from(number) * u64::from(records))
+        .checked_div(u64::from(passes))
+        .unwrap_or(0);
+    u32::try_from(first).unwrap_or(0)
+}

@@ -1,0 +1,88 @@
+-- The insertion cases.
+use Rattle.std.proofs.Common.{◌≡◌, inr, ℕ, refl, ap, sym, ◌∙◌, subst, Some, None}
+use Rattle.tries.specs.Keys.{Key, bit}
+use Rattle.tries.specs.Tree.{Fixed, Tree, leaf, node, fork, Has, IsTrie, IsFork, IsBuilt, Within, here, inside}
+use Rattle.compound_node.specs.declared.entries.Entry.TheVariants.{Leaf}
+use Rattle.tries.specs.Search.{Follows, child}
+use Rattle.versions.specs.State.{IsLawfulState}
+use Rattle.versions.specs.declared.Rec.TheVariants.{Node as a_node}
+use Rattle.versions.specs.Core.{InTree, BareCore, view}
+use Rattle.versions.specs.Steps.{IsVersionPublish, at_root}
+use Rattle.tries.specs.Content.{Item, added}
+use Rattle.tries.specs.Changes.{IsAdded}
+use Rattle.tries.proofs.Changes.{put}
+use Rattle.versions.specs.Told.{IsChange}
+use Rattle.version_laws.specs.Writer.{added_change, IsNewLeaf, IsFoundBelow}
+use Rattle.tries.specs.Affected.{affected, IsPart}
+use Rattle.tries.proofs.Tries.{trie_within, built_within, within_trans}
+use Rattle.versions.proofs.Heaps.{shown_within, near_refl}
+use Rattle.tries.proofs.Places.{grown, without_marks}
+use Rattle.versions.proofs.Growth.{in_tree_now}
+use Rattle.tries.proofs.Adding.{added as added_at}
+use Rattle.tries.proofs.Affected.{DifferFirstAt, part_differs_first, part_place}
+use Rattle.version_laws.proofs.Now.{built_now, shown_now, trie_now}
+use Rattle.version_laws.proofs.Descent.{way_follows}
+use Rattle.version_laws.proofs.Hands.{hand_stay, hand_put, hand_grown}
+use Rattle.version_laws.proofs.AtHand.{IsAtHand}
+
+-- The body with the new leaf at the affected part.
+abbrev pub with_leaf : Item → ℕ → Tree → Tree
+with_leaf x p b = put (part_place p x.key b).0 (grown (bit x.key p) p (affected p x.key b) x)
+
+some_same : {a b : Tree} → Some a ≡ Some b → a ≡ b
+some_same e = cc
+
+pub part_of : (b : Tree) → IsFork b → IsPart b
+part_of (leaf n k v) f = tt
+part_of (node n k v) f = elim f [ ]
+part_of (fork n k v) f = tt
+
+module _ (c : BareCore) (q : ℕ) (law : IsLawfulState (view c)) (t : Tree) (now : c.past.version c.past.now ≡ Some t) where
+  -- What a writer that has found a leaf below its lowest locked node knows of the present.
+  pub found_follows : {n : ℕ} {y : Fixed} {b : Tree} → Within (node n y b) t → (since p : ℕ) (x : Item) (l : Key) → IsFoundBelow c q since x p l n → Follows l (child x.key b)
+  found_follows v since p x l f = way_follows c law since f.reach t now v x.key l f.way
+
+  -- All keys of the affected part agree with the new key before `p` and have the other bit there.
+  pub found_away : {n : ℕ} {y : Fixed} {b : Tree} → Within (node n y b) t → (since p : ℕ) (x : Item) (l : Key) → IsFoundBelow c q since x p l n →
+      IsPart (affected p x.key b) → (k : Key) → Has (affected p x.key b) k → DifferFirstAt p x.key k
+  found_away {b = b} v since p x l f is_part =
+      part_differs_first p x.key l f.agree f.differ b (trie_within (within_trans (inside here) v) (trie_now c law t now)) is_part (found_follows v since p x l f)
+
+  -- So the node's body with the new leaf has one leaf more.
+  pub found_added : {n : ℕ} {y : Fixed} {b : Tree} → Within (node n y b) t → (since p : ℕ) (x : Item) (l : Key) → IsFoundBelow c q since x p l n →
+      IsPart (affected p x.key b) → (r : Tree) → without_marks r ≡ without_marks (with_leaf x p b) → IsAdded x p b r
+  found_added {b = b} v since p x l f is_part r e =
+      added_at (part_place p x.key b).0 x p r (trie_within (within_trans (inside here) v) (trie_now c law t now)) f.key (part_place p x.key b).2 (found_away v since p x l f is_part) e
+
+  -- The new leaf in a locked node's body is at hand.
+  pub hand_leaf_in : {n : ℕ} {y : Fixed} {b : Tree} → Within (node n y b) t → (p : ℕ) (x : Item) → IsNewLeaf c q x → IsAtHand c q b (with_leaf x p b)
+  hand_leaf_in {b = b} v p x new =
+      let place = part_place p x.key b in
+      let d = affected p x.key b in
+      let i = built_within (within_trans (inside here) v) (built_now c law t now) in
+      let j = shown_within c.heap (within_trans (inside here) v) (shown_now c law t now) in
+      hand_put c q place.0 place.1 (grown (bit x.key p) p d x) i j
+      (hand_grown c q (bit x.key p) p d d x (hand_stay c q d (built_within place.0 i) (shown_within c.heap place.0 j)) new.fate new.words)
+
+-- The first key.
+pub first_key : (c : BareCore) (q : ℕ) → IsLawfulState (view c) → c.past.version c.past.now ≡ None → (x : Item) → c.anchor ≡ Some q → IsNewLeaf c q x →
+    IsVersionPublish c q c.heap (Some (Leaf x.number)) (Some (leaf x.number x.key x.value)) (added_change q x)
+first_key c q law now x lock new = record {
+  store = at_root lock refl;
+  near = near_refl c.heap;
+  kept = λ i. inr refl;
+  own = refl;
+  next = record {
+    top = (refl, new.words);
+    tree = λ u y. subst (λ o. IsTrie o × IsBuilt o) (some_same y) (new.key, tt);
+    comes = λ r h. inr (ap c.fate h ∙ new.fate);
+    goes = λ n f e g. absurd (none_linked n f e);
+    change = subst (λ z. IsChange z (added_change q x) (Some (leaf x.number x.key x.value))) (sym now) (x.number, added);
+  };
+}
+  where
+    none_some : {u : Tree} → None ≡ Some u → ⊥
+    none_some e = cc
+
+    none_linked : (n f : ℕ) → c.fate (a_node n) ≡ InTree f → ⊥
+    none_linked n f e = let u = (in_tree_now c law n f e).1 in none_some (sym now ∙ u.is_version)

@@ -1,0 +1,6 @@
+-- The law insert_at_spot.
+use Rattle.version_laws.proofs.Rising.{insert_at_spot}
+use Rattle.version_laws.proofs.laws.insert_at_spot.Goals as goal
+
+pub returns : goal.returns
+returns c = insert_at_spot

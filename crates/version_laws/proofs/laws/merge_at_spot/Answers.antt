@@ -1,0 +1,6 @@
+-- The law merge_at_spot.
+use Rattle.version_laws.proofs.Merging.{merge_at_spot}
+use Rattle.version_laws.proofs.laws.merge_at_spot.Goals as goal
+
+pub returns : goal.returns
+returns c = merge_at_spot

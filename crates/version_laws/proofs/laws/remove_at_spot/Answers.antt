@@ -1,0 +1,6 @@
+-- The law remove_at_spot.
+use Rattle.version_laws.proofs.Taking.{remove_at_spot}
+use Rattle.version_laws.proofs.laws.remove_at_spot.Goals as goal
+
+pub returns : goal.returns
+returns c = remove_at_spot

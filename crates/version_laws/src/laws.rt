@@ -1,0 +1,150 @@
+//! The laws of walks. The functions do nothing: their contracts are the laws.
+
+ghost use Rattle.version_laws.specs.Ways.{FoundSame, OneBody, PlacedSame, RootedSame, StillGrows, StillPlaced, StillRooted, WayBegins, WayEnds, WayGoesOn, WayIsBelow, WayOfLeaf};
+ghost use Rattle.version_laws.specs.Statements.{FirstKey, FoundIsKept, GetEnds, InsertAtSpot, LedPlaced, LoadsLeaf, LoadsNone, LoadsPlace, LoadsRoot, LoadsShape, MergeAtSpot, PairAtSpot, RemoveAtSpot, RemoveLast, ScanIsLawful, UpperGoesOn, UpsertAtSpot};
+
+/// An insertion that was checked under its locks is a legal publish that adds the key, in a node or at the root.
+pub fn insert_at_spot()
+    ensures { InsertAtSpot }
+{}
+
+/// If an insertion at `p` affects only the place of the node below in a locked node, the locked node's first fork is before `p`. So the
+/// node above it needs no check but that its entry names it.
+pub fn upper_goes_on()
+    ensures { UpperGoesOn }
+{}
+
+/// A new node of a leaf and the new one, in the place of that leaf, is a legal publish that adds the key.
+pub fn pair_at_spot()
+    ensures { PairAtSpot }
+{}
+
+/// The first key at an empty root is a legal publish.
+pub fn first_key()
+    ensures { FirstKey }
+{}
+
+/// An upsert of a held key is a legal publish that replaces its value.
+pub fn upsert_at_spot()
+    ensures { UpsertAtSpot }
+{}
+
+/// A removal that leaves something of the leaf's node is a legal publish that takes the key away.
+pub fn remove_at_spot()
+    ensures { RemoveAtSpot }
+{}
+
+/// A removal that merges what is left of the leaf's node with the node beside it is a legal publish that takes the key away.
+pub fn merge_at_spot()
+    ensures { MergeAtSpot }
+{}
+
+/// The removal of the one leaf is a legal publish that leaves the index empty.
+pub fn remove_last()
+    ensures { RemoveLast }
+{}
+
+/// What a writer found below a locked node stays true while other passes go on.
+pub fn found_is_kept()
+    ensures { FoundIsKept }
+{}
+
+/// A load of the root tells its entry in a version.
+pub fn loads_root()
+    ensures { LoadsRoot }
+{}
+
+/// A load of an empty root tells that each key was absent in a version.
+pub fn loads_none()
+    ensures { LoadsNone }
+{}
+
+/// A load of an entry of a node in reach tells that it stood there in a version, and that it is lower.
+pub fn loads_place()
+    ensures { LoadsPlace }
+{}
+
+/// The loads of the fixed words of a node in reach tell its forks.
+pub fn loads_shape()
+    ensures { LoadsShape }
+{}
+
+/// The loads of the words of a leaf in reach tell its key and value.
+pub fn loads_leaf()
+    ensures { LoadsLeaf }
+{}
+
+/// A search goes from a node to the entry at its place, whatever was published between the loads.
+pub fn led_placed()
+    ensures { LedPlaced }
+{}
+
+/// A lookup that came to a leaf stands in a version since its pin.
+pub fn get_ends()
+    ensures { GetEnds }
+{}
+
+/// A scan upwards or downwards that came to its end, or was cut at its limit, is lawful.
+pub fn scan_is_lawful()
+    ensures { ScanIsLawful }
+{}
+
+/// The descent of a writer below its lock begins at a node of which it has read the forks,
+pub fn way_begins()
+    ensures { WayBegins }
+{}
+
+/// goes on by each entry that it reads, whatever is published in between,
+pub fn way_goes_on()
+    ensures { WayGoesOn }
+{}
+
+/// and ends at a leaf: before the first node's first fork its key agrees with a key that the node had.
+pub fn way_ends()
+    ensures { WayEnds }
+{}
+
+/// Or it begins and ends at a leaf.
+pub fn way_of_leaf()
+    ensures { WayOfLeaf }
+{}
+
+/// From the entry of a locked node on, it is the way below that node.
+pub fn way_is_below()
+    ensures { WayIsBelow }
+{}
+
+/// If nothing changes after a version, a search is at the root that was read since,
+pub fn still_rooted()
+    ensures { StillRooted }
+{}
+
+/// and at each entry that is read from there on,
+pub fn still_placed()
+    ensures { StillPlaced }
+{}
+
+/// and this stays true.
+pub fn still_grows()
+    ensures { StillGrows }
+{}
+
+/// In one version a node stands at one place.
+pub fn one_body()
+    ensures { OneBody }
+{}
+
+/// Two reads of the root find one entry, if nothing changes,
+pub fn rooted_same()
+    ensures { RootedSame }
+{}
+
+/// so do two reads of one place of a node,
+pub fn placed_same()
+    ensures { PlacedSame }
+{}
+
+/// and two searches for a key end at one leaf.
+pub fn found_same()
+    ensures { FoundSame }
+{}
