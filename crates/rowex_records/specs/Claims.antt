@@ -58,13 +58,13 @@ wrapped n from m = if nat_lt (from + m) n then from + m else from + m - n
 abbrev pub Misses : Rec → List Act → Type 0
 Misses r acts = (word : ℕ) × (1 ≤ word) × ((acts ≡ LoadState r word ∷ []) ⊎ (acts ≡ LoadState r 0 ∷ Claim r word ∷ []))
 
--- Whose record r may be when pass q finds it not free: a pass's of the index, or nobody's, and then it is in the tree or retired. It is not
--- q's own, unless it is one of these; and it is nobody's where it is the record of one of those nodes, which q has locked.
+-- Whose record r may be when pass q finds it not free: a pass's of the index, or nobody's, and then it is in the tree or retired. It is q's
+-- only if it is one of `own`. If it is the record of a node of `locked`, it is nobody's.
 abbrev pub IsAnothers : Layout → ℕ → (own : List Rec) → (locked : List ℕ) → Rec → Option ℕ → Type 0
 IsAnothers layout q own locked r None = Unit {0}
 IsAnothers layout q own locked r (Some by) = (by < layout.passes) × (by ≡ q → Contains own r) × ¬ (IsOneOf r (map a_node locked))
 
--- so for a pass and the nodes that it has locked, where these may be its own
+-- so for the pass that knows k, by the nodes that it has locked
 abbrev pub IsAnothersBut : Layout → Known → List Rec → Rec → Option ℕ → Type 0
 IsAnothersBut layout k own = IsAnothers layout k.pass own (nodes_of k.locks)
 

@@ -121,7 +121,7 @@ pub record HasChanged (k j : Known) (x : Change) (was : Option ℕ) : Type 0 whe
   pub was_held : value_at (map_of before) x.key ≡ was
 
 -- Pass q lacks a node record: each was found not free, at this step or a later one. Its own were at most two for each node that it had
--- locked. Each locked one was nobody's; and any other was another pass's, or nobody's, in the tree or retired.
+-- locked. Each locked one was nobody's. Any other was another pass's, or nobody's, and then in the tree or retired.
 pub record LacksNodes (layout : Layout) (q : ℕ) (failed : List Failed) (since : ℕ) : Type 0 where
   pub own : List Rec
   pub locked : List ℕ
@@ -131,8 +131,8 @@ pub record LacksNodes (layout : Layout) (q : ℕ) (failed : List Failed) (since 
   pub low : All (λ n. n < layout.nodes) locked
   pub missed : AllMissed (IsAnothers layout q own locked) a_node layout.nodes failed since
 
--- It lacks a leaf record with room for the key: each was found not free. None was its own; so another pass had it, or nobody, in the tree
--- or retired.
+-- It lacks a leaf record with room for the key: each was found not free. None was its own; so another pass had it, or nobody, and then it
+-- was in the tree or retired.
 abbrev pub LacksLeaves : Layout → Key → ℕ → List Failed → ℕ → Type 0
 LacksLeaves layout key q failed since = AllMissedFrom (IsAnothers layout q [] []) layout (words_for (length key)) failed since
 
