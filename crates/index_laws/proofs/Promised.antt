@@ -19,6 +19,7 @@ use Rattle.record_words.specs.declared.layout.Layout.{Layout}
 use Rattle.seat_calls.specs.Answers.{IsCause, MayRefuse, ScanLaw}
 use Rattle.seat_calls.specs.Many.{most_entries}
 use Rattle.hot_index.proofs.Alone.{one_pass_full_is_full, one_pass_is_never_busy}
+use Rattle.hot_index.proofs.Counted.{counts_add_up}
 use Rattle.hot_index.proofs.Stamped.{returned_before_begun}
 use Rattle.real_time.specs.Moments.{Happening, IsWholeRun, Moment}
 use Rattle.real_time.specs.Scanning.{IsScanInTime}
@@ -133,6 +134,7 @@ headline = record {
   refusals = refusals;
   full_alone = one_pass_full_is_full;
   never_refused = never_refused;
+  number_of_keys = counts_add_up;
   steps = steps;
   out_of_reach = in_reach;
   entries_in_reach = entries_in_reach;

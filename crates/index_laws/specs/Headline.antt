@@ -33,7 +33,7 @@ use Rattle.seat_calls.specs.Counts.{round_steps, try_steps}
 use Rattle.seat_calls.specs.Many.{HasGotMany, most_entries}
 use Rattle.seat_calls.specs.Passes.{PassView, pass_of}
 use Rattle.seat_calls.specs.Traces.{HasCollected, HasGot, HasGotRange, HasMade, untold}
-use Rattle.hot_index.specs.Statements.{OnePassFullIsFull, ReturnedBeforeBegun}
+use Rattle.hot_index.specs.Statements.{CountsAddUp, OnePassFullIsFull, ReturnedBeforeBegun}
 use Rattle.real_time.specs.Moments.{Happening, IsWholeRun, Moment, Pending}
 use Rattle.real_time.specs.Scanning.{IsScanInTime, map_at}
 use Rattle.index_laws.specs.Lives.{OneHistoryOfAll}
@@ -135,6 +135,8 @@ pub record Headline : Type 0 where
   -- each of them but for 4,320 at most
   pub full_alone : OnePassFullIsFull
   pub never_refused : NeverRefused
+  -- if no pass is changing the index, the counts that passes keep of their keys are those of its map
+  pub number_of_keys : CountsAddUp
   pub steps : BoundedSteps
   -- a record that a pinned pass may reach is not reused, and its words are as they were when it stood in the tree, but for its state, a node's
   -- entries, and what stands behind a leaf's key; and each entry is one that the node had when it stood last
