@@ -1,5 +1,5 @@
 -- One level up.
-use Rattle.std.proofs.Common.{◌≡◌, ℕ, ◌<◌, ◌≤◌, ◌+◌, List, [], ◌∷◌, ◌++◌, refl, sym, ap, ap₂, subst, ◌∙◌, arith, Option, Some, None, Bool, true, false, inl, inr, ◌⊎◌, append_assoc}
+use Rattle.std.proofs.Common.{◌≡◌, ℕ, ◌<◌, ◌≤◌, ◌+◌, ◌-◌, List, [], ◌∷◌, ◌++◌, refl, sym, ap, ap₂, subst, ◌∙◌, arith, Option, Some, None, Bool, true, false, inl, inr, ◌⊎◌, append_assoc}
 use Rattle.std.specs.Prelude.{MatchOption, IfSome, IsTrue, ◌↔◌, slice_get, length, map, drop, take}
 use Rattle.std.proofs.lemmas.List.{drop-append-le, drop-take, length-take-le, map-append, take_more}
 use Rattle.std.proofs.lemmas.Option.{get_or_from_slice_get, slice_get_within}
@@ -37,9 +37,10 @@ use Rattle.rowex_table.specs.Seats.{TableView, SeatView}
 use Rattle.publish_laws.specs.Stages.{HasLeaf, HasRisen, IsLockedAbove}
 use Rattle.publish_laws.proofs.Rising.{risen_stays, rises_pulled, rises_wrapped, rise_grows}
 use Rattle.publish_laws.specs.Rises.{made_of_node, made_of_leaf, IsSide, anew, HasFoundBelow}
-use Rattle.rowex_writing.specs.Building.{IsBuilding, IsHalfMade, IsMadeFrom, IsRaising, IsBelow, IsLevelRisen, IsLowest, IsLowRisen, IsNextTo, IsRisenAt, IsSingle, IsSplit, FitsAbove, IsChain, IsRisingOn, IsGrowing, IsGrownFrom, HasNotMade, HasRisenTo, gone_unless_whole, gone_with_way}
+use Rattle.rowex_writing.specs.Building.{IsBuilding, IsHalfMade, IsMadeFrom, IsRaising, IsBelow, IsLevelRisen, GetsLeaf, IsLowest, IsLowRisen, IsNextTo, IsRisenAt, IsSingle, IsSplit, FitsAbove, IsChain, IsRisingOn, IsGrowing, IsGrownFrom, HasNotMade, HasRisenTo, gone_unless_whole, gone_with_way}
 use Rattle.rowex_writing.specs.Going.{WorksOn, ReadsOn, HasLocked, IsNodeOf}
 use Rattle.rowex_writing.specs.Remaking.{IsSubtrieOfTree, IsLowHalf, IsNoHigher, subtrie_with_leaf}
+use Rattle.rowex_writing.specs.declared.plan.Span.{Span}
 use Rattle.rowex_writing.specs.declared.remaking.NewLeaf.{NewLeaf}
 use Rattle.rowex_writing.proofs.Remade.{built_low}
 use Rattle.rowex_writing.proofs.Making.{building_on}
@@ -454,8 +455,8 @@ settled_at_end table a c made after_made way key end level number risen same up 
     )
 
 -- ---- all of a span
-module _ (table : TableView) (a : SeatView) (made : List Rec) (way : List PathNode) (key : Key) (end top position took leaf : ℕ) (b : IsGrowing table a made way key end top position took leaf) (number : ℕ) (is : number ≡ b.step.number) where
-  abbrev pub low_at : IsLowest table a made key number position took leaf
+module _ (table : TableView) (a : SeatView) (made : List Rec) (way : List PathNode) (span : Span) (new : NewLeaf) (b : IsGrowing table a made way span new) (number : ℕ) (is : number ≡ b.step.number) where
+  abbrev pub low_at : GetsLeaf table a made number new
   low_at = record {
     since = b.lowest.since;
     item = b.lowest.item;
@@ -464,14 +465,14 @@ module _ (table : TableView) (a : SeatView) (made : List Rec) (way : List PathNo
     key_is = b.lowest.key_is;
     leaf_is = b.lowest.leaf_is;
     made_leaf = b.lowest.made_leaf;
-    found = subst (λ n. HasFoundBelow a.known a.known.locks b.lowest.since b.lowest.item position b.lowest.like n b.lowest.words) (sym is) b.lowest.found;
+    found = subst (λ n. HasFoundBelow a.known a.known.locks b.lowest.since b.lowest.item new.position b.lowest.like n b.lowest.words) (sym is) b.lowest.found;
     part = b.lowest.part;
     leads = b.lowest.leads;
   }
 
   abbrev pub up_first : (m : SeatView) (made_then : List Rec) (then : Risen) (stays : Bool) → m.known.locks ≡ a.known.locks → (after : List Made) →
-      IsRaising table m made_then after (gone_unless_whole stays number) b.lowest.since b.lowest.item position b.lowest.like entry number (subtrie_of then) →
-      ((words : List ℕ) → HasLocked a.known number words → IsLevelRisen words then) → IsRisingOn table m made_then way key end top then
+      IsRaising table m made_then after (gone_unless_whole stays number) b.lowest.since b.lowest.item new.position b.lowest.like entry number (subtrie_of then) →
+      ((words : List ℕ) → HasLocked a.known number words → IsLevelRisen words then) → IsRisingOn table m made_then way new.key.now span.end (span.len - 1) then
   up_first m made_then then stays locks after raising rises =
       let before : (words : List ℕ) → HasLocked m.known b.step.number words → HasLocked a.known number words =
       λ words h. subst (λ n. HasLocked a.known n words) (sym is) (subst (IsOneOf (record { node = b.step.number; words = words })) locks h) in
@@ -484,15 +485,15 @@ module _ (table : TableView) (a : SeatView) (made : List Rec) (way : List PathNo
           gone = gone_unless_whole stays number;
           since = b.lowest.since;
           item = b.lowest.item;
-          mismatch = position;
+          mismatch = new.position;
           like = b.lowest.like;
           words = b.lowest.words;
           locked = subst (IsOneOf (record { node = b.step.number; words = b.lowest.words })) (sym locks) b.lowest.found.locked;
-          raising = subst (λ n. IsRaising table m made_then after (gone_unless_whole stays number) b.lowest.since b.lowest.item position b.lowest.like entry n (subtrie_of then)) is raising;
+          raising = subst (λ n. IsRaising table m made_then after (gone_unless_whole stays number) b.lowest.since b.lowest.item new.position b.lowest.like entry n (subtrie_of then)) is raising;
         };
         key_is = b.lowest.key_is;
         low = λ other h. (rises other (before other h)).low;
         split = λ more. (rises b.lowest.words (subst (λ n. HasLocked a.known n b.lowest.words) (sym is) b.lowest.found.locked)).split (b.full more);
         single = λ other h. (rises other (before other h)).single;
-        chain = subst (λ held. IsChain table.layout.nodes held way b.lowest.item.key position end top) (sym locks) b.chain;
+        chain = subst (λ held. IsChain table.layout.nodes held way b.lowest.item.key new.position span.end (span.len - 1)) (sym locks) b.chain;
       }

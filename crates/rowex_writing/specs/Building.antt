@@ -88,8 +88,8 @@ pub record HasNotMade (table : TableView) (b : SeatView) (made : List Rec) : Typ
 
 -- What comes in the place of the node of this number, with these words, that gets a new leaf, and whether the node stays whole, with the
 -- records made for it; or none was free.
-abbrev pub MakesGrown : TableView → SeatView → List Rec → SeatView → List Rec → ℕ → List ℕ → NewLeaf → Option (Risen × Bool) → Type 0
-MakesGrown table a made b built number words new result =
+abbrev pub MakesGrown : TableView → SeatView × List Rec → SeatView × List Rec → ℕ → List ℕ → NewLeaf → Option (Risen × Bool) → Type 0
+MakesGrown table (a, made) (b, built) number words new result =
     (news : List Made) (node : NodeView) → AwaitsLeaf words node new → IsBuilding table a made news → MatchOption result (HasNotMade table b built)
     (λ r. (after : List Made) × IsGrownFrom (Node number node.height) node (subtrie_with_leaf new (piece node)) new.position r.0 r.1 news after ×
     IsBuilding table b built after)
@@ -212,19 +212,15 @@ abbrev pub HasRisenTo : (table : TableView) (a : SeatView) (made : List Rec) (wa
 HasRisenTo table a made way since x p l end gone e =
     (news : List Made) × (top : PathNode) × (slice_get way end ≡ Some top) × IsRaising table a made news gone since x p l entry top.number (Place e)
 
--- The lowest node of the span gets the new leaf, and what comes of it rises to `end`.
-pub record IsGrowing (table : TableView) (a : SeatView) (made : List Rec) (way : List PathNode) (key : Key) (end top position took leaf : ℕ) : Type 0 where
+-- The lowest node of the span gets the new leaf, and what comes of it rises to the span's topmost node.
+pub record IsGrowing (table : TableView) (a : SeatView) (made : List Rec) (way : List PathNode) (span : Span) (new : NewLeaf) : Type 0 where
   pub step : PathNode
-  pub at : slice_get way top ≡ Some step
-  pub upto : end ≤ top
+  pub at : slice_get way (span.len - 1) ≡ Some step
+  pub upto : span.end ≤ span.len - 1
   pub low : step.number < table.layout.nodes
-  pub lowest : IsLowest table a made key step.number position took leaf
-  pub full : end < top → size (node_words_of lowest.words).subtrie ≡ 32
-  pub chain : IsChain table.layout.nodes a.known.locks way lowest.item.key position end top
-
--- so for a new leaf
-abbrev pub IsGrowingBy : TableView → SeatView → List Rec → List PathNode → Span → NewLeaf → Type 0
-IsGrowingBy table a made way span new = IsGrowing table a made way new.key.now span.end (span.len - 1) new.position new.at new.number
+  pub lowest : GetsLeaf table a made step.number new
+  pub full : span.end < span.len - 1 → size (node_words_of lowest.words).subtrie ≡ 32
+  pub chain : IsChain table.layout.nodes a.known.locks way lowest.item.key new.position span.end (span.len - 1)
 
 -- so for a fork, and for what rises
 abbrev pub GetsFork : TableView → SeatView → List Rec → ℕ → Fork → Type 0

@@ -6,7 +6,7 @@ ghost use Rattle.record_words.specs.Node.{CanTakeLeaf, HasNodeWords, node_words}
 ghost use Rattle.record_words.specs.Reading.{IsSpelling};
 ghost use Rattle.rowex_table.specs.Made.{Made};
 ghost use Rattle.publish_laws.specs.Rises.{made_of_node, IsSide};
-ghost use Rattle.rowex_writing.specs.Building.{IsBuilding, IsGrowingBy, IsHalfMade, IsLevelRisen, IsLowRisen, IsMadeFrom, IsNextTo, IsRaising, IsRisenAt, MakesGrown, Rises, GetsFork, GetsLeaf, FitsAbove, HasNotMade, HasRisenTo, gone_unless_whole, gone_with_way};
+ghost use Rattle.rowex_writing.specs.Building.{IsBuilding, IsGrowing, IsHalfMade, IsLevelRisen, IsLowRisen, IsMadeFrom, IsNextTo, IsRaising, IsRisenAt, MakesGrown, Rises, GetsFork, GetsLeaf, FitsAbove, HasNotMade, HasRisenTo, gone_unless_whole, gone_with_way};
 ghost use Rattle.rowex_writing.specs.Going.{WorksOn, HasLocked, IsLockedBy, LeadsLocked};
 ghost use Rattle.rowex_writing.specs.Locks.{locks_of};
 ghost use Rattle.rowex_writing.specs.Remaking.{AwaitsLeaf, subtrie_with_leaf};
@@ -275,7 +275,7 @@ fn make_by_value<G: Gate>(
     requires takes { (node : NodeView) × AwaitsLeaf words.now node new.now }
     requires room { length build.old.made.items + 1 < MOST_MADE }
     ensures goes { WorksOn table.now G.becomes (seat.old, gate.old) (seat.new, gate.new) }
-    ensures made { MakesGrown table.now seat.old build.old.made.items seat.new build.new.made.items number words.now new.now result }
+    ensures made { MakesGrown table.now (seat.old, build.old.made.items) (seat.new, build.new.made.items) number words.now new.now result }
     ensures more { length build.new.made.items ≤ length build.old.made.items + 2 }
     ensures nodes { MakesNodes 2 build.old build.new result }
     ensures walk { WalksOn table.now.layout seat.old.known build.old seat.new.known build.new result }
@@ -311,7 +311,7 @@ fn make_grown<G: Gate>(
     requires takes { (node : NodeView) × AwaitsLeaf words.old node new.now }
     requires room { length build.old.made.items + 1 < MOST_MADE }
     ensures goes { WorksOn table.now G.becomes (seat.old, gate.old) (seat.new, gate.new) }
-    ensures made { MakesGrown table.now seat.old build.old.made.items seat.new build.new.made.items number words.old new.now result }
+    ensures made { MakesGrown table.now (seat.old, build.old.made.items) (seat.new, build.new.made.items) number words.old new.now result }
     ensures more { length build.new.made.items ≤ length build.old.made.items + 2 }
     ensures nodes { MakesNodes 2 build.old build.new result }
     ensures walk { WalksOn table.now.layout seat.old.known build.old seat.new.known build.new result }
@@ -512,11 +512,11 @@ pub(crate) fn raise_grown<G: Gate>(
     job: &Job<'_>,
     new: &NewLeaf<'_>,
 ) -> Option<(Entry, bool)>
-    requires growing { IsGrowingBy table.now seat.old build.old.made.items job.now.way.now job.now.span new.now }
+    requires growing { IsGrowing table.now seat.old build.old.made.items job.now.way.now job.now.span new.now }
     requires within { job.now.span.end < job.now.span.len }
     requires room { length build.old.made.items + 2 * (job.now.span.len - 1 - job.now.span.end) + 2 < MOST_MADE }
     ensures goes { WorksOn table.now G.becomes (seat.old, gate.old) (seat.new, gate.new) }
-    ensures made { (b : IsGrowingBy table.now seat.old build.old.made.items job.now.way.now job.now.span new.now) → MatchOption result
+    ensures made { (b : IsGrowing table.now seat.old build.old.made.items job.now.way.now job.now.span new.now) → MatchOption result
         (HasNotMade table.now seat.new build.new.made.items)
         (λ r. HasRisenTo table.now seat.new build.new.made.items job.now.way.now b.lowest.since b.lowest.item new.now.position b.lowest.like job.now.span.end
         (gone_with_way job.now.way.now job.now.span.end (job.now.span.len - 1) (gone_unless_whole r.1 b.step.number)) r.0) }
