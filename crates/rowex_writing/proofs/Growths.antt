@@ -53,7 +53,7 @@ use Rattle.rowex_core.specs.declared.event.Event.{Event}
 use Rattle.publish_laws.specs.Ending.{IsAtRest}
 use Rattle.publish_laws.proofs.Loops.{later_transitive}
 use Rattle.rowex_writing.specs.declared.plan.Full.TheVariants.{Nodes, Leaves}
-use Rattle.rowex_writing.specs.Building.{FitsAbove, HasLeafMade, IsChain, HasRisenTo, gone_unless_whole, gone_with_way}
+use Rattle.rowex_writing.specs.Building.{FitsAbove, HasLeafMade, IsChain, HasRisenTo, gone_unless_whole, gone_with_way, newcomer_of}
 use Rattle.rowex_records.specs.Claims.{AllMissed, IsAnothers, IsAnothersBut}
 use Rattle.rowex_records.proofs.Claimed.{anothers_among, missed_so}
 use Rattle.rowex_writing.specs.Changes.{HasNoRoom, HasRun, HasTakenSpan, IsChecked, IsFull, IsPlanned, IsPutChange, LacksLeaves, LacksNodes, MayPublishOnceReady}
@@ -255,7 +255,7 @@ may_grow table a b made m value way found span aim new t planned is_took stays m
       key_is = refl;
       leaf_is = refl;
       made_leaf = made_leaf;
-      found = subst (λ held. HasFoundBelow b.known held m x new.position below.0 s.number words) (sym stays.1) (found_stays a.known b.known a.known.locks m x new.position below.0 s.number words stays.0 below.1);
+      found = subst (λ held. HasFoundBelow b.known held (record { since = m; item = x; mismatch = new.position; like = below.0 }) s.number words) (sym stays.1) (found_stays a.known b.known a.known.locks (record { since = m; item = x; mismatch = new.position; like = below.0 }) s.number words stays.0 below.1);
       part = part_at table.layout a.known m new.key.now way found span t.possible t.own w t.locked t.checked new.position plan s at words held;
       leads = leads_at table.layout a.known m new.key.now way found span t.possible t.own w t.locked t.checked new.position plan s at words held ∙ is_took s (ap (slice_get way) last_is ∙ at);
     };
@@ -303,7 +303,7 @@ may_grow table a b made m value way found span aim new t planned is_took stays m
     held : HasLocked a.known s.number words
     held = (locked_at a.known way span t.locked plan.chosen.level s (omega (arith, upto)) (omega (arith, len_is)) at).1
 
-    below : (l : Key) × HasFoundBelow a.known a.known.locks m x new.position l s.number words
+    below : (l : Key) × HasFoundBelow a.known a.known.locks (record { since = m; item = x; mismatch = new.position; like = l }) s.number words
     below =
         found_below table.layout a.known m new.key.now way plan.number plan.value new.position span (subst (IsWayOf table.layout a.known m new.key.now way) plan.found_is w) (subst (λ f. IsChecked a.known new.key.now way f span) plan.found_is t.checked) new.number value made_leaf.spelled.0
         plan.chosen.level s words (omega (arith, upto)) (omega (arith, len_is)) at held
@@ -337,7 +337,7 @@ entry_has (Node n h) low is = (omega (arith, low), omega (arith, is.0), omega (a
 
 module _ (table : TableView) (a b : SeatView) (made after : List Rec) (way : List PathNode) (value : ℕ) (span : Span) (new : NewLeaf)
     (may : MayGrow table a made way value span new) (later : IsLater a.known b.known) (locks : b.known.locks ≡ a.known.locks) (anchor : b.known.anchor ≡ a.known.anchor) (e : Entry) (number : HasNumber e) (stays : Bool)
-    (risen : HasRisenTo table b after way may.growing.lowest.since may.growing.lowest.item new.position may.growing.lowest.like span.end (gone_with_way way span.end (span.len - 1) (gone_unless_whole stays may.growing.step.number)) e)
+    (risen : HasRisenTo table b after way (newcomer_of may.growing.lowest) span.end (gone_with_way way span.end (span.len - 1) (gone_unless_whole stays may.growing.step.number)) e)
     (low : (s : PathNode) (words : List ℕ) → slice_get way span.end ≡ Some s → HasLocked a.known s.number words → FitsAbove words e) where
   -- the words of the topmost node
   top_words : (words : List ℕ) × HasLocked a.known risen.1.number words
@@ -356,16 +356,16 @@ module _ (table : TableView) (a b : SeatView) (made after : List Rec) (way : Lis
         let x = may.growing.lowest.item in
         let key_is : x.key ≡ new.key.now = ap (λ (z : Item). z.key) may.item_is in
         let here : HasLocked b.known risen.1.number top_words.0 = subst (IsOneOf (record { node = risen.1.number; words = top_words.0 })) (sym locks) top_words.1 in
-        let (t, subtrie_is, trie, built) = risen_subtrie table.layout b.known risen.0 (gone_with_way way span.end (span.len - 1) (gone_unless_whole stays may.growing.step.number)) may.growing.lowest.since x new.position may.growing.lowest.like entry risen.1.number top_words.0
+        let (t, subtrie_is, trie, built) = risen_subtrie table.layout b.known risen.0 (gone_with_way way span.end (span.len - 1) (gone_unless_whole stays may.growing.step.number)) (newcomer_of may.growing.lowest) (entry risen.1.number) top_words.0
         (Place e) b_risen.building.possible b_risen.building.holds b_risen.building.packed b_risen.leaf here b_risen.risen in
-        let still : HasRisen table.layout j b.known.locks risen.0 may.growing.lowest.since x new.position may.growing.lowest.like entry risen.1.number (Place e) gone =
-        subst (HasRisen table.layout j b.known.locks risen.0 may.growing.lowest.since x new.position may.growing.lowest.like entry risen.1.number (Place e)) (sym gone_is)
-        (risen_stays table.layout b.known j on b.known.locks risen.0 (gone_with_way way span.end (span.len - 1) (gone_unless_whole stays may.growing.step.number)) may.growing.lowest.since x new.position may.growing.lowest.like entry risen.1.number (Place e)
+        let still : HasRisen table.layout j b.known.locks risen.0 (newcomer_of may.growing.lowest) (entry risen.1.number) (Place e) gone =
+        subst (HasRisen table.layout j b.known.locks risen.0 (newcomer_of may.growing.lowest) (entry risen.1.number) (Place e)) (sym gone_is)
+        (risen_stays table.layout b.known j on b.known.locks risen.0 (gone_with_way way span.end (span.len - 1) (gone_unless_whole stays may.growing.step.number)) (newcomer_of may.growing.lowest) (entry risen.1.number) (Place e)
         b_risen.risen) in
         let place : IsSpotOf j b.known.locks x.key new.position risen.1.number e spot =
         subst (λ k. IsSpotOf j b.known.locks k new.position risen.1.number e spot) (sym key_is)
         (subst (λ held. IsSpotOf j held new.key.now new.position risen.1.number e spot) (sym locks) (spot_stays a.known j a.known.locks new.key.now new.position risen.1.number e spot (same ∙ anchor) (grown_spot spot at))) in
         subst (λ y. Publishes table.layout j spot (entry_word (Some e)) y None gone) (ap₂ added_change (on.pass ∙ later.pass) may.item_is)
-        (insertion table.layout j b.known.locks risen.0 gone ready may.growing.lowest.since x new.position may.growing.lowest.like risen.1.number (entry_word (Some e)) e spot still b_risen.leaf place
+        (insertion table.layout j b.known.locks risen.0 gone ready (newcomer_of may.growing.lowest) risen.1.number (entry_word (Some e)) e spot still b_risen.leaf place
         (entry_has e number (tip_word e t subtrie_is built), refl));
   }

@@ -4,7 +4,7 @@ use Rattle.std.specs.Prelude.{slice_get}
 use Rattle.std.proofs.lemmas.Option.{get_or_from_slice_get, slice_get_within}
 use Rattle.insert_cases.specs.declared.choice.PathNode.{PathNode}
 use Rattle.versions.specs.Trades.{IsOneOf}
-use Rattle.rowex_writing.specs.Building.{HasRisenTo, gone_unless_whole, gone_with_way}
+use Rattle.rowex_writing.specs.Building.{HasRisenTo, gone_unless_whole, gone_with_way, newcomer_of}
 use Rattle.rowex_writing.proofs.Locking.{goes_more}
 use Rattle.rowex_writing.proofs.Lifting.{low_at, up_first}
 use Rattle.rowex_writing.proofs.Counting.{all_more, all_nodes, level_few, levels_few, lowest_more, lowest_nodes}
@@ -96,7 +96,7 @@ pub returns-clause-made : goal.returns-clause-made
 returns-clause-made g c = λ b.
     let (after, raising) = c.in_ok-risen.ensures.made (low_at c.args.table.now c.args.seat.now c.args.build.now.made.items c.args.job.now.way.now c.args.job.now.span c.args.new.now b (step_at c.args.job.now.way.now (c.args.job.now.span.len - 1)).number
     (number_is c.args.job.now.way.now (c.args.job.now.span.len - 1) b.step b.at)) in
-    subst (λ n. HasRisenTo c.args.table.now c.raise_on.new.seat c.raise_on.new.build.made.items c.args.job.now.way.now b.lowest.since b.lowest.item c.args.new.now.position b.lowest.like c.args.job.now.span.end (gone_with_way c.args.job.now.way.now c.args.job.now.span.end (c.args.job.now.span.len - 1) (gone_unless_whole c.in_ok-risen.stays n)) c.in_ok-entry.entry)
+    subst (λ n. HasRisenTo c.args.table.now c.raise_on.new.seat c.raise_on.new.build.made.items c.args.job.now.way.now (newcomer_of b.lowest) c.args.job.now.span.end (gone_with_way c.args.job.now.way.now c.args.job.now.span.end (c.args.job.now.span.len - 1) (gone_unless_whole c.in_ok-risen.stays n)) c.in_ok-entry.entry)
     (number_is c.args.job.now.way.now (c.args.job.now.span.len - 1) b.step b.at)
     (c.in_ok-entry.ensures.made (up_first c.args.table.now c.args.seat.now c.args.build.now.made.items c.args.job.now.way.now c.args.job.now.span c.args.new.now b (step_at c.args.job.now.way.now (c.args.job.now.span.len - 1)).number
     (number_is c.args.job.now.way.now (c.args.job.now.span.len - 1) b.step b.at) c.raise_lowest.new.seat c.raise_lowest.new.build.made.items c.in_ok-risen.risen c.in_ok-risen.stays c.in_ok-risen.ensures.goes.stays.1 after raising c.in_ok-risen.ensures.level))
