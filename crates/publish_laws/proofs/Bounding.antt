@@ -5,9 +5,7 @@ use Rattle.key_bits.specs.declared.TheConstants.{MAX_BYTES}
 use Rattle.pieces.specs.Piece.{size, places}
 use Rattle.tries.proofs.Building.{fork_of, fork_of_two_places, new_bound}
 use Rattle.record_words.specs.declared.layout.Layout.{Layout}
-use Rattle.tries.specs.Keys.{Key}
 use Rattle.tries.specs.Tree.{Subtrie, Tree, fork, subtrie, IsTrie, IsBuilt, first_position}
-use Rattle.tries.specs.Content.{Item}
 use Rattle.version_laws.specs.Rise.{IsRise, Side, body, entry}
 use Rattle.version_laws.proofs.Standing.{stands_now, newest_tree_if_node}
 use Rattle.rowex_core.specs.declared.known.Known.{Known}
@@ -15,6 +13,7 @@ use Rattle.rowex_core.specs.declared.known.Locked.{Locked}
 use Rattle.rowex_core.specs.Cores.{Core, bare}
 use Rattle.versions.specs.Trades.{IsOneOf}
 use Rattle.version_laws.proofs.Rising.{risen}
+use Rattle.version_laws.specs.Writer.{Newcomer}
 use Rattle.publish_laws.proofs.Stages.{size_is, locked_node, made_leaf}
 use Rattle.rowex_table.specs.Made.{Made}
 use Rattle.publish_laws.specs.Stages.{HasLeaf, IsStage}
@@ -31,27 +30,32 @@ bound_of v s (has, height) shows trie built =
     let first : first_position (piece v) ≡ q = ap first_position pg in
     omega (arith, height)
 
-module _ (layout : Layout) (k : Known) (held : List Locked) (news : List Made) (c : Core) (stage : IsStage layout k held news c) (since : ℕ) (x : Item) (p : ℕ) (l : Key) where
+-- the node whose body or entry it is
+abbrev pub number_of : Side → ℕ
+number_of (body n) = n
+number_of (entry n) = n
+
+module _ (layout : Layout) (k : Known) (held : List Locked) (news : List Made) (c : Core) (stage : IsStage layout k held news c) (x : Newcomer) where
   -- what has risen is the subtrie of a lawful tree
-  pub tree_risen : (d : Side) (n : ℕ) (words : List ℕ) → HasLeaf news x → IsOneOf (record { node = n; words = words }) held → (r : Subtrie) → IsRise (bare c) k.pass since x p l d n r →
+  pub tree_risen : (d : Side) (words : List ℕ) → HasLeaf news x.item → IsOneOf (record { node = number_of d; words = words }) held → (r : Subtrie) → IsRise (bare c) k.pass x d r →
       (s : Tree) × (subtrie s ≡ r) × IsTrie s × IsBuilt s
-  tree_risen body n words leaf at r i =
-      let new = made_leaf layout k held news c stage x leaf in
+  tree_risen (body n) words leaf at r i =
+      let new = made_leaf layout k held news c stage x.item leaf in
       let node = (locked_node layout k held news c stage n words at).0 in
       let (t, now) = newest_tree_if_node (bare c) stage.lawful.core.state n node.linked node.fate in
       let (b, v, pg) = stands_now (bare c) stage.lawful.core.state t now n node.linked node.fate in
-      let (s, e, g, tr) = risen (bare c) k.pass stage.lawful.core.state t now since x p l new body n r i ((bare c).heap.nodes n).fixed b v in
+      let (s, e, g, tr) = risen (bare c) k.pass stage.lawful.core.state t now x new (body n) r i ((bare c).heap.nodes n).fixed b v in
       (s, e, g.adds.trie, g.hand.built)
-  tree_risen entry n words leaf at r i =
-      let new = made_leaf layout k held news c stage x leaf in
+  tree_risen (entry n) words leaf at r i =
+      let new = made_leaf layout k held news c stage x.item leaf in
       let node = (locked_node layout k held news c stage n words at).0 in
       let (t, now) = newest_tree_if_node (bare c) stage.lawful.core.state n node.linked node.fate in
       let (b, v, pg) = stands_now (bare c) stage.lawful.core.state t now n node.linked node.fate in
-      let (s, e, g, tr) = risen (bare c) k.pass stage.lawful.core.state t now since x p l new entry n r i ((bare c).heap.nodes n).fixed b v in
+      let (s, e, g, tr) = risen (bare c) k.pass stage.lawful.core.state t now x new (entry n) r i ((bare c).heap.nodes n).fixed b v in
       (s, e, g.adds.trie, g.hand.built)
 
-  pub bound_risen : (d : Side) (n : ℕ) (words : List ℕ) → HasLeaf news x → IsOneOf (record { node = n; words = words }) held → (r : Subtrie) → IsRise (bare c) k.pass since x p l d n r →
+  pub bound_risen : (d : Side) (words : List ℕ) → HasLeaf news x.item → IsOneOf (record { node = number_of d; words = words }) held → (r : Subtrie) → IsRise (bare c) k.pass x d r →
       (v : NodeView) → IsBuiltAnew v → piece v ≡ r → v.height + first_position (piece v) ≤ 9 * MAX_BYTES
-  bound_risen d n words leaf at r i v may shows =
-      let (s, e, trie, built) = tree_risen d n words leaf at r i in
+  bound_risen d words leaf at r i v may shows =
+      let (s, e, trie, built) = tree_risen d words leaf at r i in
       bound_of v s may (shows ∙ sym e) trie built

@@ -28,19 +28,19 @@ use Rattle.publish_laws.specs.Cases.{MayAddFirstKey, MayPair}
 use Rattle.publish_laws.specs.Insertions.{Insertion}
 
 pub insertion : Insertion
-insertion layout k held news gone has since x p l n w e at risen has_leaf place word = publishes_made layout k at w (added_change k.pass x) None news gone has.own may
+insertion layout k held news gone has x n w e at risen has_leaf place word = publishes_made layout k at w (added_change k.pass x.item) None news gone has.own may
   where
-    may : MayPublish layout k at w (added_change k.pass x) None (recs_of news) gone
+    may : MayPublish layout k at w (added_change k.pass x.item) None (recs_of news) gone
     may c law layout_is known =
         let stage = stage_of layout k held news has c law layout_is known in
-        let s = stores_at layout k held news c stage known x.key (Node n place.height) at place.holds e w place.fits word in
-        let new = made_leaf layout k held news c stage x has_leaf in
+        let s = stores_at layout k held news c stage known x.item.key (Node n place.height) at place.holds e w place.fits word in
+        let new = made_leaf layout k held news c stage x.item has_leaf in
         let (i, news_are, gone_is) = risen c stage in
         let heap = heap_of (stored_words c at w) in
         let root = stored_root c at w in
-        let published = insert_at_spot (bare c) k.pass law.core.state since x p l new n place.height e i s.spot (s.alone p place.alone) s.low heap root s.stored in
-        publish_words c k.pass law known.pass at w (Some e) s.locked word.0 word.1 s.packed (added_change k.pass x) None (recs_of news) gone
-        (subst (λ z. IsPublished (bare c) k.pass heap root (added_change k.pass x) z gone) news_are (subst (λ z. IsPublished (bare c) k.pass heap root (added_change k.pass x) (linked_by_rise i) z) gone_is published))
+        let published = insert_at_spot (bare c) k.pass law.core.state x new n place.height e i s.spot (s.alone x.mismatch place.alone) s.low heap root s.stored in
+        publish_words c k.pass law known.pass at w (Some e) s.locked word.0 word.1 s.packed (added_change k.pass x.item) None (recs_of news) gone
+        (subst (λ z. IsPublished (bare c) k.pass heap root (added_change k.pass x.item) z gone) news_are (subst (λ z. IsPublished (bare c) k.pass heap root (added_change k.pass x.item) (linked_by_rise i) z) gone_is published))
         (λ f. f)
 
 pub pair : MayPair

@@ -17,43 +17,43 @@ leaf_still : (more news : List Made) (x : Item) → HasLeaf news x → HasLeaf (
 leaf_still more news x (fresh, i, h) = (fresh, of_right (made_of_leaf x fresh) more news i, h)
 
 pub normal_insert : NormalInsert
-normal_insert layout k held since x fresh p l n m w words view at has spelled found part built shows place word =
-    insertion layout k held (made_of_node m view ∷ made_of_leaf x fresh ∷ []) (a_node n ∷ []) has since x p l n w (Node m view.height) at
-    (rises_copied layout k held (made_of_leaf x fresh ∷ []) [] since x p l (fresh, inl refl, spelled) n words found.locked m view built
-    (subst (λ z. HasRisen layout k held (made_of_leaf x fresh ∷ []) since x p l body n z []) (sym shows) (rise_grows layout k held since x fresh p l n words found part)))
+normal_insert layout k held x fresh n m w words view at has spelled found part built shows place word =
+    insertion layout k held (made_of_node m view ∷ made_of_leaf x.item fresh ∷ []) (a_node n ∷ []) has x n w (Node m view.height) at
+    (rises_copied layout k held (made_of_leaf x.item fresh ∷ []) [] x (fresh, inl refl, spelled) n words found.locked m view built
+    (subst (λ z. HasRisen layout k held (made_of_leaf x.item fresh ∷ []) x (body n) z []) (sym shows) (rise_grows layout k held x fresh n words found part)))
     (fresh, inr (inl refl), spelled) place word
 
 pub overflow : Overflow
-overflow layout k held since x fresh p l n m w f words view at a b d e us vs has spelled found part cut lower upper built shows place word =
-    let first : List Made = made_of_leaf x fresh ∷ [] in
+overflow layout k held x fresh n m w f words view at a b d e us vs has spelled found part cut lower upper built shows place word =
+    let first : List Made = made_of_leaf x.item fresh ∷ [] in
     let halves : List Made = us ++ (vs ++ first) in
-    let has_leaf : HasLeaf halves x = leaf_still us (vs ++ first) x (leaf_still vs first x (fresh, inl refl, spelled)) in
-    let split = rises_halved layout k held first [] since x p l (fresh, inl refl, spelled) n words found.locked f a b d e us vs lower upper
-    (subst (λ z. HasRisen layout k held first since x p l body n z []) cut (rise_grows layout k held since x fresh p l n words found part)) in
-    insertion layout k held (made_of_node m view ∷ halves) (a_node n ∷ []) has since x p l n w (Node m view.height) at
-    (rises_wrapped layout k held halves (a_node n ∷ []) since x p l has_leaf n words found.locked m view built
-    (subst (λ z. HasRisen layout k held halves since x p l entry n z (a_node n ∷ [])) (sym shows) split)) (leaf_still (made_of_node m view ∷ []) halves x has_leaf) place word
+    let has_leaf : HasLeaf halves x.item = leaf_still us (vs ++ first) x.item (leaf_still vs first x.item (fresh, inl refl, spelled)) in
+    let split = rises_halved layout k held first [] x (fresh, inl refl, spelled) n words found.locked f a b d e us vs lower upper
+    (subst (λ z. HasRisen layout k held first x (body n) z []) cut (rise_grows layout k held x fresh n words found part)) in
+    insertion layout k held (made_of_node m view ∷ halves) (a_node n ∷ []) has x n w (Node m view.height) at
+    (rises_wrapped layout k held halves (a_node n ∷ []) x has_leaf n words found.locked m view built
+    (subst (λ z. HasRisen layout k held halves x (entry n) z (a_node n ∷ [])) (sym shows) split)) (leaf_still (made_of_node m view ∷ []) halves x.item has_leaf) place word
 
 pub stays_as_it_is : StaysWhole
-stays_as_it_is layout k held since x fresh p l n m w words view at has spelled found from built shows place word =
-    insertion layout k held (made_of_node m view ∷ made_of_leaf x fresh ∷ []) [] has since x p l n w (Node m view.height) at
-    (rises_wrapped layout k held (made_of_leaf x fresh ∷ []) [] since x p l (fresh, inl refl, spelled) n words found.locked m view built
-    (subst (λ z. HasRisen layout k held (made_of_leaf x fresh ∷ []) since x p l entry n z []) (sym shows) (rise_whole layout k held since x fresh p l n words found from)))
+stays_as_it_is layout k held x fresh n m w words view at has spelled found from built shows place word =
+    insertion layout k held (made_of_node m view ∷ made_of_leaf x.item fresh ∷ []) [] has x n w (Node m view.height) at
+    (rises_wrapped layout k held (made_of_leaf x.item fresh ∷ []) [] x (fresh, inl refl, spelled) n words found.locked m view built
+    (subst (λ z. HasRisen layout k held (made_of_leaf x.item fresh ∷ []) x (entry n) z []) (sym shows) (rise_whole layout k held x fresh n words found from)))
     (fresh, inr (inl refl), spelled) place word
 
 pub pull_up : PullUp
-pull_up layout k held news gone since x p l o n m w r view at has risen has_leaf up built shows place word =
-    insertion layout k held (made_of_node m view ∷ news) (a_node o ∷ gone) has since x p l o w (Node m view.height) at
-    (rises_copied layout k held news gone since x p l has_leaf o up.upper up.has_upper m view built
-    (subst (λ z. HasRisen layout k held news since x p l body o z gone) (sym shows) (rises_pulled layout k held news gone since x p l o n r up risen)))
-    (leaf_still (made_of_node m view ∷ []) news x has_leaf) place word
+pull_up layout k held news gone x o n m w r view at has risen has_leaf up built shows place word =
+    insertion layout k held (made_of_node m view ∷ news) (a_node o ∷ gone) has x o w (Node m view.height) at
+    (rises_copied layout k held news gone x has_leaf o up.upper up.has_upper m view built
+    (subst (λ z. HasRisen layout k held news x (body o) z gone) (sym shows) (rises_pulled layout k held news gone x o n r up risen)))
+    (leaf_still (made_of_node m view ∷ []) news x.item has_leaf) place word
 
 pub pull_up_overflow : PullUpOverflow
-pull_up_overflow layout k held news gone since x p l o n m w f r a b d e us vs view at has risen has_leaf up cut lower upper built shows place word =
+pull_up_overflow layout k held news gone x o n m w f r a b d e us vs view at has risen has_leaf up cut lower upper built shows place word =
     let halves : List Made = us ++ (vs ++ news) in
-    let still : HasLeaf halves x = leaf_still us (vs ++ news) x (leaf_still vs news x has_leaf) in
-    let split = rises_halved layout k held news gone since x p l has_leaf o up.upper up.has_upper f a b d e us vs lower upper
-    (subst (λ z. HasRisen layout k held news since x p l body o z gone) cut (rises_pulled layout k held news gone since x p l o n r up risen)) in
-    insertion layout k held (made_of_node m view ∷ halves) (a_node o ∷ gone) has since x p l o w (Node m view.height) at
-    (rises_wrapped layout k held halves (a_node o ∷ gone) since x p l still o up.upper up.has_upper m view built
-    (subst (λ z. HasRisen layout k held halves since x p l entry o z (a_node o ∷ gone)) (sym shows) split)) (leaf_still (made_of_node m view ∷ []) halves x still) place word
+    let still : HasLeaf halves x.item = leaf_still us (vs ++ news) x.item (leaf_still vs news x.item has_leaf) in
+    let split = rises_halved layout k held news gone x has_leaf o up.upper up.has_upper f a b d e us vs lower upper
+    (subst (λ z. HasRisen layout k held news x (body o) z gone) cut (rises_pulled layout k held news gone x o n r up risen)) in
+    insertion layout k held (made_of_node m view ∷ halves) (a_node o ∷ gone) has x o w (Node m view.height) at
+    (rises_wrapped layout k held halves (a_node o ∷ gone) x still o up.upper up.has_upper m view built
+    (subst (λ z. HasRisen layout k held halves x (entry o) z (a_node o ∷ gone)) (sym shows) split)) (leaf_still (made_of_node m view ∷ []) halves x.item still) place word

@@ -3,7 +3,6 @@ use Rattle.std.specs.Prelude.{List}
 use Rattle.std.proofs.Common.{◌≡◌, ℕ, ◌+◌, length, refl, ap, ◌∙◌, arith, length-append}
 use Rattle.rowex_core.specs.declared.known.Locked.{Locked}
 use Rattle.publish_laws.specs.Rises.{HasFoundBelow}
-use Rattle.tries.specs.Content.{Item}
 use Rattle.tries.specs.Keys.{Key}
 use Rattle.compound_node.specs.declared.entries.Entry.{Entry}
 use Rattle.version_laws.specs.Ways.{IsOnWay, IsWayFrom}
@@ -14,7 +13,7 @@ use Rattle.versions.specs.State.{Past, IsReach, IsSteady}
 use Rattle.versions.specs.Core.{pin_version}
 use Rattle.versions.specs.Frames.{IsGrown}
 use Rattle.versions.proofs.States.{steady}
-use Rattle.version_laws.specs.Writer.{IsWayBelow}
+use Rattle.version_laws.specs.Writer.{IsWayBelow, Newcomer}
 use Rattle.version_laws.proofs.Ways.{way_begins, way_goes_on, way_ends, way_is_below}
 use Rattle.rowex_core.specs.declared.known.Known.{Known}
 use Rattle.rowex_core.specs.Reading.{node_words_of}
@@ -63,23 +62,23 @@ pub descent_ends : (k : Known) (m r a h j : ℕ) (l : Key) (v : ℕ) → IsPinne
 descent_ends k m r a h j l v since way read c law recalls = way_ends c.past m (steady_since k m since c law recalls) r a h j l v (way c law recalls) (read c law recalls)
 
 pub descent_finds : DescentFinds
-descent_finds k held since x p l n words spelled pinned locked way agree differ = record {
+descent_finds k held x n words spelled pinned locked way agree differ = record {
   leaf = spelled;
   pinned = pinned;
   locked = locked;
-  way = λ c law recalls. way_is_below c.past since x.key (node_words_of words).subtrie l (way c law recalls);
+  way = λ c law recalls. way_is_below c.past x.since x.item.key (node_words_of words).subtrie x.like (way c law recalls);
   agree = agree;
   differ = differ;
 }
 
 -- What it has found stays found, while the pass goes on.
-pub found_stays : (k j : Known) (held : List Locked) (since : ℕ) (x : Item) (p : ℕ) (l : Key) (n : ℕ) (words : List ℕ) → IsLater k j →
-    HasFoundBelow k held since x p l n words → HasFoundBelow j held since x p l n words
-found_stays k j held since x p l n words later f = record {
+pub found_stays : (k j : Known) (held : List Locked) (x : Newcomer) (n : ℕ) (words : List ℕ) → IsLater k j →
+    HasFoundBelow k held x n words → HasFoundBelow j held x n words
+found_stays k j held x n words later f = record {
   leaf = f.leaf;
   pinned = (f.pinned.0, later.pin ∙ f.pinned.1, f.pinned.2);
   locked = f.locked;
-  way = sure_stays k j (λ s. IsWayBelow s since x.key (node_words_of words).subtrie l) later f.way;
+  way = sure_stays k j (λ s. IsWayBelow s x.since x.item.key (node_words_of words).subtrie x.like) later f.way;
   agree = f.agree;
   differ = f.differ;
 }

@@ -5,15 +5,14 @@ use Rattle.compound_node.specs.declared.entries.Entry.{Entry}
 use Rattle.compound_node.specs.declared.entries.Entry.TheVariants.{Leaf, Node}
 use Rattle.pieces.specs.Piece.{Place, Fork}
 use Rattle.record_words.specs.declared.layout.Layout.{Layout}
-use Rattle.tries.specs.Keys.{Key, bit}
+use Rattle.tries.specs.Keys.{bit}
 use Rattle.tries.specs.Tree.{Subtrie}
 use Rattle.tries.specs.Place.{with_subtrie}
-use Rattle.tries.specs.Content.{Item}
 use Rattle.tries.specs.Affected.{subtrie_affected, subtrie_forked, subtrie_grown, IsPartSubtrie}
 use Rattle.versions.specs.declared.Rec.{Rec}
 use Rattle.versions.specs.declared.Rec.TheVariants.{Node as a_node}
 use Rattle.versions.specs.State.{FirstForkIsFrom}
-use Rattle.version_laws.specs.Writer.{added_change}
+use Rattle.version_laws.specs.Writer.{added_change, Newcomer}
 use Rattle.version_laws.specs.Rise.{entry}
 use Rattle.rowex_core.specs.declared.event.Spot.{Spot}
 use Rattle.rowex_core.specs.declared.known.Known.{Known}
@@ -29,57 +28,63 @@ use Rattle.publish_laws.specs.Cases.{IsWord}
 -- What has risen from the locked node n, one entry, at its spot.
 abbrev pub Insertion : Type 0
 Insertion =
-    (layout : Layout) (k : Known) (held : List Locked) (news : List Made) (gone : List Rec) → HasReady k held news → (since : ℕ) (x : Item) (p : ℕ) (l : Key) →
-    (n w : ℕ) (e : Entry) (at : Spot) → HasRisen layout k held news since x p l entry n (Place e) gone → HasLeaf news x → IsSpotOf k held x.key p n e at → IsWord e w →
-    Publishes layout k at w (added_change k.pass x) None gone
+    (layout : Layout) (k : Known) (held : List Locked) (news : List Made) (gone : List Rec) → HasReady k held news → (x : Newcomer) →
+    (n w : ℕ) (e : Entry) (at : Spot) → HasRisen layout k held news x (entry n) (Place e) gone → HasLeaf news x.item →
+    IsSpotOf k held x.item.key x.mismatch n e at → IsWord e w →
+    Publishes layout k at w (added_change k.pass x.item) None gone
 
 -- Normal insert: a copy of the node with the new leaf. The node goes.
 abbrev pub NormalInsert : Type 0
 NormalInsert =
-    (layout : Layout) (k : Known) (held : List Locked) (since : ℕ) (x : Item) (fresh : List ℕ) (p : ℕ) (l : Key) →
+    (layout : Layout) (k : Known) (held : List Locked) (x : Newcomer) (fresh : List ℕ) →
     (n m w : ℕ) (words : List ℕ) (view : NodeView) (at : Spot) →
-    HasReady k held (made_of_node m view ∷ made_of_leaf x fresh ∷ []) → SpellsLeaf x fresh → HasFoundBelow k held since x p l n words →
-    IsPartSubtrie (subtrie_affected p x.key (node_words_of words).subtrie) →
-    IsBuiltAnew view → piece view ≡ subtrie_grown p x.key (Leaf x.number) (node_words_of words).subtrie →
-    IsSpotOf k held x.key p n (Node m view.height) at → IsWord (Node m view.height) w → Publishes layout k at w (added_change k.pass x) None (a_node n ∷ [])
+    HasReady k held (made_of_node m view ∷ made_of_leaf x.item fresh ∷ []) → SpellsLeaf x.item fresh → HasFoundBelow k held x n words →
+    IsPartSubtrie (subtrie_affected x.mismatch x.item.key (node_words_of words).subtrie) →
+    IsBuiltAnew view → piece view ≡ subtrie_grown x.mismatch x.item.key (Leaf x.item.number) (node_words_of words).subtrie →
+    IsSpotOf k held x.item.key x.mismatch n (Node m view.height) at → IsWord (Node m view.height) w →
+    Publishes layout k at w (added_change k.pass x.item) None (a_node n ∷ [])
 
 -- Overflow: the node with the new leaf is cut at its first fork, and a node of the two halves, of which each may be one entry, takes
 -- its place. That is an intermediate node, or, at the root, a new root. The old node goes.
 abbrev pub Overflow : Type 0
 Overflow =
-    (layout : Layout) (k : Known) (held : List Locked) (since : ℕ) (x : Item) (fresh : List ℕ) (p : ℕ) (l : Key) →
+    (layout : Layout) (k : Known) (held : List Locked) (x : Newcomer) (fresh : List ℕ) →
     (n m w f : ℕ) (words : List ℕ) (view : NodeView) (at : Spot) →
-    (a b : Subtrie) (d e : Entry) (us vs : List Made) → HasReady k held (made_of_node m view ∷ (us ++ (vs ++ made_of_leaf x fresh ∷ []))) →
-    SpellsLeaf x fresh → HasFoundBelow k held since x p l n words →
-    IsPartSubtrie (subtrie_affected p x.key (node_words_of words).subtrie) →
-    subtrie_grown p x.key (Leaf x.number) (node_words_of words).subtrie ≡ Fork f a b → IsSide a d us → IsSide b e vs →
+    (a b : Subtrie) (d e : Entry) (us vs : List Made) → HasReady k held (made_of_node m view ∷ (us ++ (vs ++ made_of_leaf x.item fresh ∷ []))) →
+    SpellsLeaf x.item fresh → HasFoundBelow k held x n words →
+    IsPartSubtrie (subtrie_affected x.mismatch x.item.key (node_words_of words).subtrie) →
+    subtrie_grown x.mismatch x.item.key (Leaf x.item.number) (node_words_of words).subtrie ≡ Fork f a b → IsSide a d us → IsSide b e vs →
     IsBuiltAnew view → piece view ≡ Fork f (Place d) (Place e) →
-    IsSpotOf k held x.key p n (Node m view.height) at → IsWord (Node m view.height) w → Publishes layout k at w (added_change k.pass x) None (a_node n ∷ [])
+    IsSpotOf k held x.item.key x.mismatch n (Node m view.height) at → IsWord (Node m view.height) w →
+    Publishes layout k at w (added_change k.pass x.item) None (a_node n ∷ [])
 
 -- The full node that stays whole beside the new leaf: a node of the two takes its place. None goes.
 abbrev pub StaysWhole : Type 0
 StaysWhole =
-    (layout : Layout) (k : Known) (held : List Locked) (since : ℕ) (x : Item) (fresh : List ℕ) (p : ℕ) (l : Key) →
+    (layout : Layout) (k : Known) (held : List Locked) (x : Newcomer) (fresh : List ℕ) →
     (n m w : ℕ) (words : List ℕ) (view : NodeView) (at : Spot) →
-    HasReady k held (made_of_node m view ∷ made_of_leaf x fresh ∷ []) → SpellsLeaf x fresh → HasFoundBelow k held since x p l n words →
-    FirstForkIsFrom p (node_words_of words).subtrie →
-    IsBuiltAnew view → piece view ≡ subtrie_forked (bit x.key p) p (Leaf x.number) (Place (Node n (node_words_of words).fixed.height)) →
-    IsSpotOf k held x.key p n (Node m view.height) at → IsWord (Node m view.height) w → Publishes layout k at w (added_change k.pass x) None []
+    HasReady k held (made_of_node m view ∷ made_of_leaf x.item fresh ∷ []) → SpellsLeaf x.item fresh → HasFoundBelow k held x n words →
+    FirstForkIsFrom x.mismatch (node_words_of words).subtrie →
+    IsBuiltAnew view → piece view ≡ subtrie_forked (bit x.item.key x.mismatch) x.mismatch (Leaf x.item.number) (Place (Node n (node_words_of words).fixed.height)) →
+    IsSpotOf k held x.item.key x.mismatch n (Node m view.height) at → IsWord (Node m view.height) w →
+    Publishes layout k at w (added_change k.pass x.item) None []
 
 -- Pull up: what has risen from below, over any number of levels, is pulled up into the node o above, of which there is a copy then.
 -- That goes too.
 abbrev pub PullUp : Type 0
 PullUp =
-    (layout : Layout) (k : Known) (held : List Locked) (news : List Made) (gone : List Rec) (since : ℕ) (x : Item) (p : ℕ) (l : Key) (o n m w : ℕ) →
-    (r : Subtrie) (view : NodeView) (at : Spot) → HasReady k held (made_of_node m view ∷ news) → HasRisen layout k held news since x p l entry n r gone → HasLeaf news x →
-    (up : IsLockedAbove held x.key p o n) → IsBuiltAnew view → piece view ≡ with_subtrie x.key r (node_words_of up.upper).subtrie →
-    IsSpotOf k held x.key p o (Node m view.height) at → IsWord (Node m view.height) w → Publishes layout k at w (added_change k.pass x) None (a_node o ∷ gone)
+    (layout : Layout) (k : Known) (held : List Locked) (news : List Made) (gone : List Rec) (x : Newcomer) (o n m w : ℕ) →
+    (r : Subtrie) (view : NodeView) (at : Spot) → HasReady k held (made_of_node m view ∷ news) → HasRisen layout k held news x (entry n) r gone → HasLeaf news x.item →
+    (up : IsLockedAbove held x.item.key x.mismatch o n) → IsBuiltAnew view → piece view ≡ with_subtrie x.item.key r (node_words_of up.upper).subtrie →
+    IsSpotOf k held x.item.key x.mismatch o (Node m view.height) at → IsWord (Node m view.height) w →
+    Publishes layout k at w (added_change k.pass x.item) None (a_node o ∷ gone)
 
 -- And a pull up at whose end the node above is full: that is cut, and a node of the two halves takes its place.
 abbrev pub PullUpOverflow : Type 0
 PullUpOverflow =
-    (layout : Layout) (k : Known) (held : List Locked) (news : List Made) (gone : List Rec) (since : ℕ) (x : Item) (p : ℕ) (l : Key) (o n m w f : ℕ) →
+    (layout : Layout) (k : Known) (held : List Locked) (news : List Made) (gone : List Rec) (x : Newcomer) (o n m w f : ℕ) →
     (r a b : Subtrie) (d e : Entry) (us vs : List Made) (view : NodeView) (at : Spot) → HasReady k held (made_of_node m view ∷ (us ++ (vs ++ news))) →
-    HasRisen layout k held news since x p l entry n r gone → HasLeaf news x → (up : IsLockedAbove held x.key p o n) →
-    with_subtrie x.key r (node_words_of up.upper).subtrie ≡ Fork f a b → IsSide a d us → IsSide b e vs → IsBuiltAnew view → piece view ≡ Fork f (Place d) (Place e) →
-    IsSpotOf k held x.key p o (Node m view.height) at → IsWord (Node m view.height) w → Publishes layout k at w (added_change k.pass x) None (a_node o ∷ gone)
+    HasRisen layout k held news x (entry n) r gone → HasLeaf news x.item → (up : IsLockedAbove held x.item.key x.mismatch o n) →
+    with_subtrie x.item.key r (node_words_of up.upper).subtrie ≡ Fork f a b → IsSide a d us → IsSide b e vs → IsBuiltAnew view → piece view ≡ Fork f (Place d) (Place e) →
+    IsSpotOf k held x.item.key x.mismatch o (Node m view.height) at → IsWord (Node m view.height) w →
+    Publishes layout k at w (added_change k.pass x.item) None (a_node o ∷ gone)

@@ -13,7 +13,7 @@ use Rattle.tries.specs.Content.{Item}
 use Rattle.tries.specs.Affected.{FirstForkIsBefore}
 use Rattle.versions.specs.declared.Rec.TheVariants.{Node as a_node, Leaf as a_leaf}
 use Rattle.versions.specs.Trades.{IsOneOf}
-use Rattle.version_laws.specs.Writer.{IsWayBelow}
+use Rattle.version_laws.specs.Writer.{IsWayBelow, Newcomer}
 use Rattle.rowex_core.specs.declared.known.Known.{Known}
 use Rattle.rowex_core.specs.declared.known.Locked.{Locked}
 use Rattle.rowex_core.specs.Reading.{node_words_of}
@@ -43,15 +43,14 @@ pub data IsSide (x : Subtrie) : Entry → List Made → Type 0 where
 
 -- The lowest node
 
--- Below the locked node with these words the search for the key of x ended at a leaf with the key l, from which it differs first
--- at p; the pass has been pinned since the version `since` or longer.
-pub record HasFoundBelow (k : Known) (held : List Locked) (since : ℕ) (x : Item) (p : ℕ) (l : Key) (n : ℕ) (words : List ℕ) : Type 0 where
-  pub leaf : HasLeafWords (x.key, x.value)
-  pub pinned : IsPinnedSince k since
+-- Below the locked node with these words the newcomer's search ended as that says; the pass has been pinned since its version or longer.
+pub record HasFoundBelow (k : Known) (held : List Locked) (x : Newcomer) (n : ℕ) (words : List ℕ) : Type 0 where
+  pub leaf : HasLeafWords (x.item.key, x.item.value)
+  pub pinned : IsPinnedSince k x.since
   pub locked : IsOneOf (record { node = n; words = words }) held
-  pub way : IsSure k (λ s. IsWayBelow s since x.key (node_words_of words).subtrie l)
-  pub agree : AgreeBelow p x.key l
-  pub differ : bit x.key p ≢ bit l p
+  pub way : IsSure k (λ s. IsWayBelow s x.since x.item.key (node_words_of words).subtrie x.like)
+  pub agree : AgreeBelow x.mismatch x.item.key x.like
+  pub differ : bit x.item.key x.mismatch ≢ bit x.like x.mismatch
 
 -- Further up
 

@@ -15,6 +15,7 @@ use Rattle.versions.specs.State.{Past}
 use Rattle.versions.specs.Trades.{IsOneOf}
 use Rattle.version_laws.specs.Spots.{AffectsOne}
 use Rattle.version_laws.specs.Rise.{Side, IsRise, linked_by_rise, unlinked_by_rise}
+use Rattle.version_laws.specs.Writer.{Newcomer}
 use Rattle.rowex_core.specs.declared.known.Holding.TheVariants.{Ready}
 use Rattle.rowex_core.specs.declared.known.Known.{Known}
 use Rattle.rowex_core.specs.declared.known.Locked.{Locked}
@@ -50,11 +51,11 @@ SpellsLeaf x words = HasLeafWords (x.key, x.value) × (leaf_words (x.key, x.valu
 abbrev pub HasLeaf : List Made → Item → Type 0
 HasLeaf news x = (words : List ℕ) × IsOneOf (record { rec = a_leaf x.number; words = words }) news × SpellsLeaf x words
 
--- In each stage the subtrie is what comes in the place of node n's body or entry when the key is added; it links anew just the
+-- In each stage the subtrie is what comes in the place of the node's body or entry when the key is added; it links anew just the
 -- records made, the one made last first, and unlinks just those.
-abbrev pub HasRisen : Layout → Known → List Locked → List Made → ℕ → Item → ℕ → Key → Side → ℕ → Subtrie → List Rec → Type 0
-HasRisen layout k held news since x p l d n r gone = (c : Core) → IsStage layout k held news c →
-    (i : IsRise (bare c) k.pass since x p l d n r) × (linked_by_rise i ≡ recs_of news) × (unlinked_by_rise i ≡ gone)
+abbrev pub HasRisen : Layout → Known → List Locked → List Made → Newcomer → Side → Subtrie → List Rec → Type 0
+HasRisen layout k held news x d r gone = (c : Core) → IsStage layout k held news c →
+    (i : IsRise (bare c) k.pass x d r) × (linked_by_rise i ≡ recs_of news) × (unlinked_by_rise i ≡ gone)
 
 -- By their words, the locked node o's entry on the key's way names the locked node n, and an insertion at p affects no more than
 -- that place.

@@ -1,11 +1,11 @@
 -- What a pass is sure of on its descent below a lock.
 use Rattle.std.specs.Prelude.{◌≢◌, ℕ, List}
 use Rattle.record_words.specs.Leaf.{HasLeafWords}
-use Rattle.tries.specs.Keys.{Key, bit, AgreeBelow}
+use Rattle.tries.specs.Keys.{bit, AgreeBelow}
 use Rattle.tries.specs.Search.{seek}
-use Rattle.tries.specs.Content.{Item}
 use Rattle.versions.specs.Trades.{IsOneOf}
 use Rattle.version_laws.specs.Ways.{IsWayFrom}
+use Rattle.version_laws.specs.Writer.{Newcomer}
 use Rattle.rowex_core.specs.declared.known.Known.{Known}
 use Rattle.rowex_core.specs.declared.known.Locked.{Locked}
 use Rattle.rowex_core.specs.Reading.{node_words_of}
@@ -17,6 +17,6 @@ use Rattle.publish_laws.specs.Rises.{HasFoundBelow}
 -- what an insertion asks of the lowest locked node is known.
 abbrev pub DescentFinds : Type 0
 DescentFinds =
-    (k : Known) (held : List Locked) (since : ℕ) (x : Item) (p : ℕ) (l : Key) (n : ℕ) (words : List ℕ) → HasLeafWords (x.key, x.value) → IsPinnedSince k since →
-    IsOneOf (record { node = n; words = words }) held → IsSure k (λ s. IsWayFrom s since l (seek x.key (node_words_of words).subtrie)) →
-    AgreeBelow p x.key l → bit x.key p ≢ bit l p → HasFoundBelow k held since x p l n words
+    (k : Known) (held : List Locked) (x : Newcomer) (n : ℕ) (words : List ℕ) → HasLeafWords (x.item.key, x.item.value) → IsPinnedSince k x.since →
+    IsOneOf (record { node = n; words = words }) held → IsSure k (λ s. IsWayFrom s x.since x.like (seek x.item.key (node_words_of words).subtrie)) →
+    AgreeBelow x.mismatch x.item.key x.like → bit x.item.key x.mismatch ≢ bit x.like x.mismatch → HasFoundBelow k held x n words

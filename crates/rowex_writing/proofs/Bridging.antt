@@ -469,9 +469,9 @@ module _ (layout : Layout) (k : Known) (m : ℕ) (key : Key) (way : List PathNod
 -- ---- below the chosen node
 pub found_below : (layout : Layout) (k : Known) (m : ℕ) (key : Key) (way : List PathNode) (number value p : ℕ) (span : Span) → IsWayOf layout k m key way (Leaf number value (Some p)) → IsChecked k key way (Leaf number value (Some p)) span →
     (x : ℕ) (given : ℕ) → HasLeafWords (key, given) → (i : ℕ) (s : PathNode) (words : List ℕ) → span.end ≤ i + 1 → i < span.len → slice_get way i ≡ Some s → HasLocked k s.number words →
-    (l : Key) × HasFoundBelow k k.locks m (item x key given) p l s.number words
+    (l : Key) × HasFoundBelow k k.locks (record { since = m; item = item x key given; mismatch = p; like = l }) s.number words
 found_below layout k m key way number value p span w checked x given spelled i s words low high at h =
     let (l, read, apart) = w.found_at in
     let named_is = checked.entries i s low high at words h in
     let from = way_from layout k m key number value p w.since l read way w.nodes (i + 1) (seek key (node_words_of words).subtrie) named_is in
-    (l, descent_finds k k.locks m (item x key given) p l s.number words spelled w.since h from apart.0 apart.1)
+    (l, descent_finds k k.locks (record { since = m; item = item x key given; mismatch = p; like = l }) s.number words spelled w.since h from apart.0 apart.1)

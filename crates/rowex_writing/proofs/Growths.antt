@@ -53,7 +53,7 @@ use Rattle.rowex_core.specs.declared.event.Event.{Event}
 use Rattle.publish_laws.specs.Ending.{IsAtRest}
 use Rattle.publish_laws.proofs.Loops.{later_transitive}
 use Rattle.rowex_writing.specs.declared.plan.Full.TheVariants.{Nodes, Leaves}
-use Rattle.rowex_writing.specs.Building.{FitsAbove, HasLeafMade, IsChain, HasRisenTo, gone_unless_whole, gone_with_way}
+use Rattle.rowex_writing.specs.Building.{FitsAbove, HasLeafMade, IsChain, HasRisenTo, gone_unless_whole, gone_with_way, newcomer_of}
 use Rattle.rowex_records.specs.Claims.{AllMissed, IsAnothers, IsAnothersBut}
 use Rattle.rowex_records.proofs.Claimed.{anothers_among, missed_so}
 use Rattle.rowex_writing.specs.Changes.{HasNoRoom, HasRun, HasTakenSpan, IsChecked, IsFull, IsPlanned, IsPutChange, LacksLeaves, LacksNodes, MayPublishOnceReady}
@@ -65,6 +65,7 @@ use Rattle.rowex_writing.specs.Putting.{IsSpotAbove}
 use Rattle.rowex_writing.specs.Retiring.{AreInTable}
 use Rattle.rowex_writing.specs.Walks.{nodes_among}
 use Rattle.rowex_writing.specs.declared.plan.Span.{Span}
+use Rattle.rowex_writing.specs.declared.remaking.NewLeaf.{NewLeaf}
 use Rattle.rowex_writing.proofs.Bridging.{IsGrowPlan, chain_at, found_below, grow_plan, part_at, leads_at, pulled_full, spot_of, top_within}
 use Rattle.rowex_writing.proofs.Above.{locked_at}
 use Rattle.rowex_writing.proofs.Lifting.{gone_more}
@@ -229,10 +230,10 @@ full_since layout key a b c Nodes count l =
 full_since layout key a b c Leaves count missed = λ q low room. (let (step, late, miss) = missed q low room in (step, le_trans count late, miss))
 
 -- ---- the leaf's record is made
-pub may_grow : (table : TableView) (a b : SeatView) (made : List Rec) (m : ℕ) (key : Key) (value : ℕ) (way : List PathNode) (found : Found) (span : Span) (aim : Aim) (position took leaf : ℕ) → HasTakenSpan table a m key way found span →
-    IsPlanned a.known m key way aim found (change span.len span.end (Grow position)) → ((s : PathNode) → slice_get way (span.len - 1) ≡ Some s → s.at ≡ took) → StaysLocked a.known b.known → HasLeafMade table b made (item leaf key value) →
-    MayGrow table b made way key value span position took leaf
-may_grow table a b made m key value way found span aim position took leaf t planned is_took stays made_leaf = record {
+pub may_grow : (table : TableView) (a b : SeatView) (made : List Rec) (m : ℕ) (value : ℕ) (way : List PathNode) (found : Found) (span : Span) (aim : Aim) (new : NewLeaf) → HasTakenSpan table a m new.key.now way found span →
+    IsPlanned a.known m new.key.now way aim found (change span.len span.end (Grow new.position)) → ((s : PathNode) → slice_get way (span.len - 1) ≡ Some s → s.at ≡ new.at) → StaysLocked a.known b.known → HasLeafMade table b made (item new.number new.key.now value) →
+    MayGrow table b made way value span new
+may_grow table a b made m value way found span aim new t planned is_took stays made_leaf = record {
   within = (omega (arith, upto, len_is), omega (arith, len_is, within));
   depth = w.depth;
   nodes = λ n d low. (w.nodes n (get_or way n d) (slice_get-get_or way n d low)).2.range;
@@ -254,29 +255,29 @@ may_grow table a b made m key value way found span aim position took leaf t plan
       key_is = refl;
       leaf_is = refl;
       made_leaf = made_leaf;
-      found = subst (λ held. HasFoundBelow b.known held m x position below.0 s.number words) (sym stays.1) (found_stays a.known b.known a.known.locks m x position below.0 s.number words stays.0 below.1);
-      part = part_at table.layout a.known m key way found span t.possible t.own w t.locked t.checked position plan s at words held;
-      leads = leads_at table.layout a.known m key way found span t.possible t.own w t.locked t.checked position plan s at words held ∙ is_took s (ap (slice_get way) last_is ∙ at);
+      found = subst (λ held. HasFoundBelow b.known held (record { since = m; item = x; mismatch = new.position; like = below.0 }) s.number words) (sym stays.1) (found_stays a.known b.known a.known.locks (record { since = m; item = x; mismatch = new.position; like = below.0 }) s.number words stays.0 below.1);
+      part = part_at table.layout a.known m new.key.now way found span t.possible t.own w t.locked t.checked new.position plan s at words held;
+      leads = leads_at table.layout a.known m new.key.now way found span t.possible t.own w t.locked t.checked new.position plan s at words held ∙ is_took s (ap (slice_get way) last_is ∙ at);
     };
-    full = λ more. pulled_full table.layout a.known m key way found span t.possible t.own w t.locked t.checked position plan plan.chosen.level s (omega (arith, more, len_is)) (omega arith) at words held;
-    chain = subst (λ n. IsChain table.layout.nodes b.known.locks way key position span.end n) (sym last_is)
-        (subst (λ ls. IsChain table.layout.nodes ls way key position span.end plan.chosen.level) (sym stays.1) (chain_at table.layout a.known m key way found span t.possible t.own w t.locked t.checked position plan));
+    full = λ more. pulled_full table.layout a.known m new.key.now way found span t.possible t.own w t.locked t.checked new.position plan plan.chosen.level s (omega (arith, more, len_is)) (omega arith) at words held;
+    chain = subst (λ n. IsChain table.layout.nodes b.known.locks way new.key.now new.position span.end n) (sym last_is)
+        (subst (λ ls. IsChain table.layout.nodes ls way new.key.now new.position span.end plan.chosen.level) (sym stays.1) (chain_at table.layout a.known m new.key.now way found span t.possible t.own w t.locked t.checked new.position plan));
   };
   item_is = refl;
   place = λ u us e spot there locked fits where_it_is.
       let here : HasLocked a.known u.number us = subst (IsOneOf (record { node = u.number; words = us })) stays.1 locked in
       let (on, is_slot) = place u us e there here fits spot where_it_is in
-      (subst (λ ls. IsSpotOf b.known ls key position u.number e spot) (sym stays.1) (spot_stays a.known b.known a.known.locks key position u.number e spot stays.2 on), is_slot);
+      (subst (λ ls. IsSpotOf b.known ls new.key.now new.position u.number e spot) (sym stays.1) (spot_stays a.known b.known a.known.locks new.key.now new.position u.number e spot stays.2 on), is_slot);
 }
   where
-    w : IsWayOf table.layout a.known m key way found
+    w : IsWayOf table.layout a.known m new.key.now way found
     w = t.way_of
 
-    plan : IsGrowPlan a.known m key way found span.len span.end position
-    plan = grow_plan a.known m key way span.len span.end position aim found planned
+    plan : IsGrowPlan a.known m new.key.now way found span.len span.end new.position
+    plan = grow_plan a.known m new.key.now way span.len span.end new.position aim found planned
 
     x : Item
-    x = item leaf key value
+    x = item new.number new.key.now value
 
     upto : span.end ≤ plan.chosen.level
     upto = plan.chain.upto
@@ -288,7 +289,7 @@ may_grow table a b made m key value way found span aim position took leaf t plan
     last_is = omega (arith, len_is)
 
     within : plan.chosen.level < length way
-    within = top_within table.layout a.known m key way found span t.possible t.own w t.locked t.checked position plan
+    within = top_within table.layout a.known m new.key.now way found span t.possible t.own w t.locked t.checked new.position plan
 
     s : PathNode
     s = (some_at way plan.chosen.level within).0
@@ -302,21 +303,21 @@ may_grow table a b made m key value way found span aim position took leaf t plan
     held : HasLocked a.known s.number words
     held = (locked_at a.known way span t.locked plan.chosen.level s (omega (arith, upto)) (omega (arith, len_is)) at).1
 
-    below : (l : Key) × HasFoundBelow a.known a.known.locks m x position l s.number words
+    below : (l : Key) × HasFoundBelow a.known a.known.locks (record { since = m; item = x; mismatch = new.position; like = l }) s.number words
     below =
-        found_below table.layout a.known m key way plan.number plan.value position span (subst (IsWayOf table.layout a.known m key way) plan.found_is w) (subst (λ f. IsChecked a.known key way f span) plan.found_is t.checked) leaf value made_leaf.spelled.0
+        found_below table.layout a.known m new.key.now way plan.number plan.value new.position span (subst (IsWayOf table.layout a.known m new.key.now way) plan.found_is w) (subst (λ f. IsChecked a.known new.key.now way f span) plan.found_is t.checked) new.number value made_leaf.spelled.0
         plan.chosen.level s words (omega (arith, upto)) (omega (arith, len_is)) at held
 
     in_table : (spot : Spot) → IsSpotAbove way span.end spot → HasSpot table.layout spot
     in_table Root none = tt
     in_table (Slot n i) (above, low, at_above, n_is, i_is) =
         let node = (w.nodes (span.end - 1) above at_above).2 in
-        let small = spot_below key node.forks in
+        let small = spot_below new.key.now node.forks in
         (omega (arith, n_is, node.range), omega (arith, i_is, node.at, small, node.room))
 
     place : (u : PathNode) (us : List ℕ) (e : Entry) → slice_get way span.end ≡ Some u → HasLocked a.known u.number us → FitsAbove us e → (spot : Spot) → IsSpotAbove way span.end spot →
-        IsSpotOf a.known a.known.locks key position u.number e spot × HasSpot table.layout spot
-    place u us e there locked fits spot is = (spot_of table.layout a.known m key way found span t.possible t.own w t.locked t.checked position plan u us e there locked fits spot is, in_table spot is)
+        IsSpotOf a.known a.known.locks new.key.now new.position u.number e spot × HasSpot table.layout spot
+    place u us e there locked fits spot is = (spot_of table.layout a.known m new.key.now way found span t.possible t.own w t.locked t.checked new.position plan u us e there locked fits spot is, in_table spot is)
 
 -- the change is that of a key which was absent
 pub grown_stored : (k : Known) (m : ℕ) (key : Key) (value : ℕ) (way : List PathNode) (found : Found) (span : Span) (aim : Aim) (position leaf : ℕ) →
@@ -334,37 +335,37 @@ entry_has : (e : Entry) → HasNumber e → IsEntry e → HasEntryWord (Some e)
 entry_has (LeafEntry n) low is = omega (arith, low)
 entry_has (Node n h) low is = (omega (arith, low), omega (arith, is.0), omega (arith, is.1))
 
-module _ (table : TableView) (a b : SeatView) (made after : List Rec) (way : List PathNode) (key : Key) (value : ℕ) (span : Span) (position took leaf : ℕ)
-    (may : MayGrow table a made way key value span position took leaf) (later : IsLater a.known b.known) (locks : b.known.locks ≡ a.known.locks) (anchor : b.known.anchor ≡ a.known.anchor) (e : Entry) (number : HasNumber e) (stays : Bool)
-    (risen : HasRisenTo table b after way may.growing.lowest.since may.growing.lowest.item position may.growing.lowest.like span.end (gone_with_way way span.end (span.len - 1) (gone_unless_whole stays may.growing.step.number)) e)
+module _ (table : TableView) (a b : SeatView) (made after : List Rec) (way : List PathNode) (value : ℕ) (span : Span) (new : NewLeaf)
+    (may : MayGrow table a made way value span new) (later : IsLater a.known b.known) (locks : b.known.locks ≡ a.known.locks) (anchor : b.known.anchor ≡ a.known.anchor) (e : Entry) (number : HasNumber e) (stays : Bool)
+    (risen : HasRisenTo table b after way (newcomer_of may.growing.lowest) span.end (gone_with_way way span.end (span.len - 1) (gone_unless_whole stays may.growing.step.number)) e)
     (low : (s : PathNode) (words : List ℕ) → slice_get way span.end ≡ Some s → HasLocked a.known s.number words → FitsAbove words e) where
   -- the words of the topmost node
   top_words : (words : List ℕ) × HasLocked a.known risen.1.number words
   top_words = locked_at a.known way span may.locked span.end risen.1 (omega arith) may.within.0 risen.2
 
-  pub grown_spot : (spot : Spot) → IsSpotAbove way span.end spot → IsSpotOf a.known a.known.locks key position risen.1.number e spot
+  pub grown_spot : (spot : Spot) → IsSpotAbove way span.end spot → IsSpotOf a.known a.known.locks new.key.now new.position risen.1.number e spot
   grown_spot spot at = (may.place risen.1 top_words.0 e spot risen.2 top_words.1 (low risen.1 top_words.0 risen.2 top_words.1) at).0
 
   pub grown_ends : (spot : Spot) (gone : List Rec) → IsSpotAbove way span.end spot → gone ≡ gone_with_way way span.end (span.len - 1) (gone_unless_whole stays may.growing.step.number) →
-      MayPublishOnceReady table b after spot (entry_word (Some e)) (added_change a.known.pass (item leaf key value)) None gone
+      MayPublishOnceReady table b after spot (entry_word (Some e)) (added_change a.known.pass (item new.number new.key.now value)) None gone
   grown_ends spot gone at gone_is = record {
     news = risen.0;
     building = risen.3.building;
     publishes = λ j on ready same.
         let b_risen = risen.3 in
         let x = may.growing.lowest.item in
-        let key_is : x.key ≡ key = ap (λ (z : Item). z.key) may.item_is in
+        let key_is : x.key ≡ new.key.now = ap (λ (z : Item). z.key) may.item_is in
         let here : HasLocked b.known risen.1.number top_words.0 = subst (IsOneOf (record { node = risen.1.number; words = top_words.0 })) (sym locks) top_words.1 in
-        let (t, subtrie_is, trie, built) = risen_subtrie table.layout b.known risen.0 (gone_with_way way span.end (span.len - 1) (gone_unless_whole stays may.growing.step.number)) may.growing.lowest.since x position may.growing.lowest.like entry risen.1.number top_words.0
+        let (t, subtrie_is, trie, built) = risen_subtrie table.layout b.known risen.0 (gone_with_way way span.end (span.len - 1) (gone_unless_whole stays may.growing.step.number)) (newcomer_of may.growing.lowest) (entry risen.1.number) top_words.0
         (Place e) b_risen.building.possible b_risen.building.holds b_risen.building.packed b_risen.leaf here b_risen.risen in
-        let still : HasRisen table.layout j b.known.locks risen.0 may.growing.lowest.since x position may.growing.lowest.like entry risen.1.number (Place e) gone =
-        subst (HasRisen table.layout j b.known.locks risen.0 may.growing.lowest.since x position may.growing.lowest.like entry risen.1.number (Place e)) (sym gone_is)
-        (risen_stays table.layout b.known j on b.known.locks risen.0 (gone_with_way way span.end (span.len - 1) (gone_unless_whole stays may.growing.step.number)) may.growing.lowest.since x position may.growing.lowest.like entry risen.1.number (Place e)
+        let still : HasRisen table.layout j b.known.locks risen.0 (newcomer_of may.growing.lowest) (entry risen.1.number) (Place e) gone =
+        subst (HasRisen table.layout j b.known.locks risen.0 (newcomer_of may.growing.lowest) (entry risen.1.number) (Place e)) (sym gone_is)
+        (risen_stays table.layout b.known j on b.known.locks risen.0 (gone_with_way way span.end (span.len - 1) (gone_unless_whole stays may.growing.step.number)) (newcomer_of may.growing.lowest) (entry risen.1.number) (Place e)
         b_risen.risen) in
-        let place : IsSpotOf j b.known.locks x.key position risen.1.number e spot =
-        subst (λ k. IsSpotOf j b.known.locks k position risen.1.number e spot) (sym key_is)
-        (subst (λ held. IsSpotOf j held key position risen.1.number e spot) (sym locks) (spot_stays a.known j a.known.locks key position risen.1.number e spot (same ∙ anchor) (grown_spot spot at))) in
+        let place : IsSpotOf j b.known.locks x.key new.position risen.1.number e spot =
+        subst (λ k. IsSpotOf j b.known.locks k new.position risen.1.number e spot) (sym key_is)
+        (subst (λ held. IsSpotOf j held new.key.now new.position risen.1.number e spot) (sym locks) (spot_stays a.known j a.known.locks new.key.now new.position risen.1.number e spot (same ∙ anchor) (grown_spot spot at))) in
         subst (λ y. Publishes table.layout j spot (entry_word (Some e)) y None gone) (ap₂ added_change (on.pass ∙ later.pass) may.item_is)
-        (insertion table.layout j b.known.locks risen.0 gone ready may.growing.lowest.since x position may.growing.lowest.like risen.1.number (entry_word (Some e)) e spot still b_risen.leaf place
+        (insertion table.layout j b.known.locks risen.0 gone ready (newcomer_of may.growing.lowest) risen.1.number (entry_word (Some e)) e spot still b_risen.leaf place
         (entry_has e number (tip_word e t subtrie_is built), refl));
   }

@@ -1,5 +1,5 @@
 -- One level up.
-use Rattle.std.proofs.Common.{◌≡◌, ℕ, ◌<◌, ◌≤◌, ◌+◌, List, [], ◌∷◌, ◌++◌, refl, sym, ap, ap₂, subst, ◌∙◌, arith, Option, Some, None, Bool, true, false, inl, inr, ◌⊎◌, append_assoc}
+use Rattle.std.proofs.Common.{◌≡◌, ℕ, ◌<◌, ◌≤◌, ◌+◌, ◌-◌, List, [], ◌∷◌, ◌++◌, refl, sym, ap, ap₂, subst, ◌∙◌, arith, Option, Some, None, Bool, true, false, inl, inr, ◌⊎◌, append_assoc}
 use Rattle.std.specs.Prelude.{MatchOption, IfSome, IsTrue, ◌↔◌, slice_get, length, map, drop, take}
 use Rattle.std.proofs.lemmas.List.{drop-append-le, drop-take, length-take-le, map-append, take_more}
 use Rattle.std.proofs.lemmas.Option.{get_or_from_slice_get, slice_get_within}
@@ -20,7 +20,6 @@ use Rattle.pieces.specs.Piece.{Place, Fork, size}
 use Rattle.insert_cases.specs.declared.choice.PathNode.{PathNode}
 use Rattle.tries.proofs.Building.{size-piece}
 use Rattle.tries.specs.Affected.{subtrie_grown}
-use Rattle.tries.specs.Content.{Item}
 use Rattle.tries.specs.Keys.{Key}
 use Rattle.tries.specs.Place.{spot, with_subtrie}
 use Rattle.tries.specs.Tree.{Subtrie}
@@ -30,6 +29,7 @@ use Rattle.versions.specs.declared.Rec.{Rec}
 use Rattle.versions.proofs.Members.{of_right}
 use Rattle.versions.specs.declared.Rec.TheVariants.{Node as a_node}
 use Rattle.version_laws.specs.Rise.{Side, body, entry}
+use Rattle.version_laws.specs.Writer.{Newcomer}
 use Rattle.rowex_core.specs.declared.event.Event.{Event}
 use Rattle.rowex_core.specs.Reading.{node_words_of}
 use Rattle.rowex_table.specs.Made.{Made}
@@ -37,9 +37,10 @@ use Rattle.rowex_table.specs.Seats.{TableView, SeatView}
 use Rattle.publish_laws.specs.Stages.{HasLeaf, HasRisen, IsLockedAbove}
 use Rattle.publish_laws.proofs.Rising.{risen_stays, rises_pulled, rises_wrapped, rise_grows}
 use Rattle.publish_laws.specs.Rises.{made_of_node, made_of_leaf, IsSide, anew, HasFoundBelow}
-use Rattle.rowex_writing.specs.Building.{IsBuilding, IsHalfMade, IsMadeFrom, IsRaising, IsBelow, IsLevelRisen, IsLowest, IsLowRisen, IsNextTo, IsRisenAt, IsSingle, IsSplit, FitsAbove, IsChain, IsRisingOn, IsGrowing, IsGrownFrom, HasNotMade, HasRisenTo, gone_unless_whole, gone_with_way}
+use Rattle.rowex_writing.specs.Building.{IsBuilding, IsHalfMade, IsMadeFrom, IsRaising, IsBelow, IsLevelRisen, GetsLeaf, IsLowest, IsLowRisen, IsNextTo, IsRisenAt, IsSingle, IsSplit, FitsAbove, IsChain, IsRisingOn, IsGrowing, IsGrownFrom, HasNotMade, HasRisenTo, gone_unless_whole, gone_with_way, newcomer_of}
 use Rattle.rowex_writing.specs.Going.{WorksOn, ReadsOn, HasLocked, IsNodeOf}
 use Rattle.rowex_writing.specs.Remaking.{IsSubtrieOfTree, IsLowHalf, IsNoHigher, subtrie_with_leaf}
+use Rattle.rowex_writing.specs.declared.plan.Span.{Span}
 use Rattle.rowex_writing.specs.declared.remaking.NewLeaf.{NewLeaf}
 use Rattle.rowex_writing.proofs.Remade.{built_low}
 use Rattle.rowex_writing.proofs.Making.{building_on}
@@ -69,18 +70,18 @@ made_keeps was (Two cut) (Split q z o) before after (lower, upper, is, low, high
 
 -- ---- what has risen stays
 module _ {G : Type 0} (table : TableView) (becomes : G → Event → G → Type 0) where
-  risen_on : (a m : SeatView × G) (news : List Made) (gone : List Rec) (since : ℕ) (x : Item) (p : ℕ) (l : Key) (d : Side) (n : ℕ) (r : Subtrie) → WorksOn table becomes a m →
-      HasRisen table.layout a.0.known a.0.known.locks news since x p l d n r gone → HasRisen table.layout m.0.known m.0.known.locks news since x p l d n r gone
-  risen_on a m news gone since x p l d n r goes risen =
-      subst (λ held. HasRisen table.layout m.0.known held news since x p l d n r gone) (sym goes.stays.1)
-      (risen_stays table.layout a.0.known m.0.known goes.stays.0 a.0.known.locks news gone since x p l d n r risen)
+  risen_on : (a m : SeatView × G) (news : List Made) (gone : List Rec) (x : Newcomer) (d : Side) (r : Subtrie) → WorksOn table becomes a m →
+      HasRisen table.layout a.0.known a.0.known.locks news x d r gone → HasRisen table.layout m.0.known m.0.known.locks news x d r gone
+  risen_on a m news gone x d r goes risen =
+      subst (λ held. HasRisen table.layout m.0.known held news x d r gone) (sym goes.stays.1)
+      (risen_stays table.layout a.0.known m.0.known goes.stays.0 a.0.known.locks news gone x d r risen)
 
-  pub raising_on : (a m : SeatView × G) (made : List Rec) (news : List Made) (gone : List Rec) (since : ℕ) (x : Item) (p : ℕ) (l : Key) (d : Side) (n : ℕ) (r : Subtrie) → ReadsOn table becomes a m →
-      IsRaising table a.0 made news gone since x p l d n r → IsRaising table m.0 made news gone since x p l d n r
-  raising_on a m made news gone since x p l d n r reads i = record {
+  pub raising_on : (a m : SeatView × G) (made : List Rec) (news : List Made) (gone : List Rec) (x : Newcomer) (d : Side) (r : Subtrie) → ReadsOn table becomes a m →
+      IsRaising table a.0 made news gone x d r → IsRaising table m.0 made news gone x d r
+  raising_on a m made news gone x d r reads i = record {
     building = building_on table becomes a m made news reads.goes reads.own i.building;
     leaf = i.leaf;
-    risen = risen_on a m news gone since x p l d n r reads.goes i.risen;
+    risen = risen_on a m news gone x d r reads.goes i.risen;
   }
 
   -- ---- a fork in the node above
@@ -98,13 +99,13 @@ module _ {G : Type 0} (table : TableView) (becomes : G → Event → G → Type 
     fork : Subtrie
     fork = Fork position (Place zero) (Place one)
 
-    now : IsRaising table m.0 made b.here.news b.here.gone b.here.since b.here.item b.here.mismatch b.here.like entry b.lower (Fork position (Place zero) (Place one))
-    now = raising_on a m made b.here.news b.here.gone b.here.since b.here.item b.here.mismatch b.here.like entry b.lower (Fork position (Place zero) (Place one)) reads b.here.raising
+    now : IsRaising table m.0 made b.here.news b.here.gone b.here.newcomer (entry b.lower) (Fork position (Place zero) (Place one))
+    now = raising_on a m made b.here.news b.here.gone b.here.newcomer (entry b.lower) (Fork position (Place zero) (Place one)) reads b.here.raising
 
     upper_locked : IsOneOf (record { node = above; words = b.over.upper }) m.0.known.locks
     upper_locked = subst (IsOneOf (record { node = above; words = b.over.upper })) (sym reads.goes.stays.1) b.over.has_upper
 
-    still_over : IsLockedAbove m.0.known.locks b.here.item.key b.here.mismatch above b.lower
+    still_over : IsLockedAbove m.0.known.locks b.here.newcomer.item.key b.here.newcomer.mismatch above b.lower
     still_over = record {
       upper = b.over.upper;
       lower = b.over.lower;
@@ -115,16 +116,16 @@ module _ {G : Type 0} (table : TableView) (becomes : G → Event → G → Type 
       path = b.over.path;
     }
 
-    body_risen : HasRisen table.layout m.0.known m.0.known.locks b.here.news b.here.since b.here.item b.here.mismatch b.here.like body above (with_subtrie b.here.item.key (Fork position (Place zero) (Place one)) (piece node)) b.here.gone
+    body_risen : HasRisen table.layout m.0.known m.0.known.locks b.here.news b.here.newcomer (body above) (with_subtrie b.here.newcomer.item.key (Fork position (Place zero) (Place one)) (piece node)) b.here.gone
     unfolding still_over
     body_risen =
-        subst (λ y. HasRisen table.layout m.0.known m.0.known.locks b.here.news b.here.since b.here.item b.here.mismatch b.here.like body above (with_subtrie b.here.item.key (Fork position (Place zero) (Place one)) y) b.here.gone) subtrie_is
-        (rises_pulled table.layout m.0.known m.0.known.locks b.here.news b.here.gone b.here.since b.here.item b.here.mismatch b.here.like above b.lower (Fork position (Place zero) (Place one)) still_over now.risen)
+        subst (λ y. HasRisen table.layout m.0.known m.0.known.locks b.here.news b.here.newcomer (body above) (with_subtrie b.here.newcomer.item.key (Fork position (Place zero) (Place one)) y) b.here.gone) subtrie_is
+        (rises_pulled table.layout m.0.known m.0.known.locks b.here.news b.here.gone b.here.newcomer above b.lower (Fork position (Place zero) (Place one)) still_over now.risen)
 
     pub lift_tree : IsSubtrieOfTree (with_subtrie key (Fork position (Place zero) (Place one)) (piece node))
     lift_tree =
         subst (λ k. IsSubtrieOfTree (with_subtrie k (Fork position (Place zero) (Place one)) (piece node))) (sym b.key_is)
-        (risen_subtrie table.layout m.0.known b.here.news b.here.gone b.here.since b.here.item b.here.mismatch b.here.like body above b.over.upper (with_subtrie b.here.item.key (Fork position (Place zero) (Place one)) (piece node))
+        (risen_subtrie table.layout m.0.known b.here.news b.here.gone b.here.newcomer (body above) b.over.upper (with_subtrie b.here.newcomer.item.key (Fork position (Place zero) (Place one)) (piece node))
         now.building.possible now.building.holds now.building.packed now.leaf upper_locked body_risen)
 
     pub lift_zero : height_of zero < node.height
@@ -141,16 +142,16 @@ module _ {G : Type 0} (table : TableView) (becomes : G → Event → G → Type 
         WorksOn table becomes m c →
         MatchOption answer (HasNotMade table c.0 after_made) (λ risen. (after : List Made) × IsMadeFrom was g risen b.here.news after × IsBuilding table c.0 after_made after) →
         MatchOption answer (HasNotMade table c.0 after_made)
-        (λ risen. (after : List Made) × IsRaising table c.0 after_made after (a_node above ∷ b.here.gone) b.here.since b.here.item b.here.mismatch b.here.like entry above (subtrie_of risen))
+        (λ risen. (after : List Made) × IsRaising table c.0 after_made after (a_node above ∷ b.here.gone) b.here.newcomer (entry above) (subtrie_of risen))
     lifted c after_made was g None shows fresh goes made = made
     lifted c after_made was g (Some risen) shows fresh goes (after, made, building) = (
       after,
       record {
         building = building;
         leaf = (now.leaf.0, made_keeps was g risen b.here.news after made _ now.leaf.1, now.leaf.2);
-        risen = risen_on m c after (a_node above ∷ b.here.gone) b.here.since b.here.item b.here.mismatch b.here.like entry above (subtrie_of risen) goes
-            (rises_made table.layout m.0.known m.0.known.locks b.here.news after b.here.gone b.here.since b.here.item b.here.mismatch b.here.like now.leaf above b.over.upper upper_locked node was g risen
-            (with_subtrie b.here.item.key (Fork position (Place zero) (Place one)) (piece node))
+        risen = risen_on m c after (a_node above ∷ b.here.gone) b.here.newcomer (entry above) (subtrie_of risen) goes
+            (rises_made table.layout m.0.known m.0.known.locks b.here.news after b.here.gone b.here.newcomer now.leaf above b.over.upper upper_locked node was g risen
+            (with_subtrie b.here.newcomer.item.key (Fork position (Place zero) (Place one)) (piece node))
             (subst (λ k. GrownShows node g (with_subtrie k (Fork position (Place zero) (Place one)) (piece node))) b.key_is shows) fresh made body_risen);
       },
     )
@@ -168,10 +169,10 @@ module _ {G : Type 0} (table : TableView) (becomes : G → Event → G → Type 
   low_subtrie : (node_words_of b.words).subtrie ≡ piece node
   low_subtrie = ap (λ (z : NodeWords). z.subtrie) low_node.shows
 
-  low_grown : HasRisen table.layout a.0.known a.0.known.locks (made_of_leaf b.item b.made_leaf.fresh ∷ []) b.since b.item position b.like body number (subtrie_grown position b.item.key (Leaf b.item.number) (piece node)) []
+  low_grown : HasRisen table.layout a.0.known a.0.known.locks (made_of_leaf b.item b.made_leaf.fresh ∷ []) (newcomer_of b) (body number) (subtrie_grown position b.item.key (Leaf b.item.number) (piece node)) []
   low_grown =
-      subst (λ y. HasRisen table.layout a.0.known a.0.known.locks (made_of_leaf b.item b.made_leaf.fresh ∷ []) b.since b.item position b.like body number (subtrie_grown position b.item.key (Leaf b.item.number) y) []) low_subtrie
-      (rise_grows table.layout a.0.known a.0.known.locks b.since b.item b.made_leaf.fresh position b.like number b.words b.found b.part)
+      subst (λ y. HasRisen table.layout a.0.known a.0.known.locks (made_of_leaf b.item b.made_leaf.fresh ∷ []) (newcomer_of b) (body number) (subtrie_grown position b.item.key (Leaf b.item.number) y) []) low_subtrie
+      (rise_grows table.layout a.0.known a.0.known.locks (newcomer_of b) b.made_leaf.fresh number b.words b.found b.part)
 
   low_leaf : HasLeaf (made_of_leaf b.item b.made_leaf.fresh ∷ []) b.item
   low_leaf = (b.made_leaf.fresh, inl refl, b.made_leaf.spelled)
@@ -182,7 +183,7 @@ module _ {G : Type 0} (table : TableView) (becomes : G → Event → G → Type 
   pub low_tree : IsSubtrieOfTree (subtrie_grown position key (Leaf leaf) (piece node))
   low_tree =
       subst IsSubtrieOfTree same_subtrie
-      (risen_subtrie table.layout a.0.known (made_of_leaf b.item b.made_leaf.fresh ∷ []) [] b.since b.item position b.like body number b.words (subtrie_grown position b.item.key (Leaf b.item.number) (piece node))
+      (risen_subtrie table.layout a.0.known (made_of_leaf b.item b.made_leaf.fresh ∷ []) [] (newcomer_of b) (body number) b.words (subtrie_grown position b.item.key (Leaf b.item.number) (piece node))
       b.made_leaf.building.possible b.made_leaf.building.holds b.made_leaf.building.packed low_leaf b.found.locked low_grown)
 
   pub low_leads : spot key (piece node) ≡ took
@@ -193,7 +194,7 @@ module _ {G : Type 0} (table : TableView) (becomes : G → Event → G → Type 
 
   pub lowered : (c : SeatView × G) (after_made : List Rec) (g : Grown) (stays : Bool) (risen : Risen) → GrownShows node g (subtrie_grown position key (Leaf leaf) (piece node)) → stays ≡ keeps_node g →
       (keeps_node g ≡ true → AtRootFork (λ q x y. position < q) (piece node)) → WorksOn table becomes m c → (after : List Made) → IsMadeFrom (Node number node.height) g risen (made_of_leaf b.item b.made_leaf.fresh ∷ []) after →
-      IsBuilding table c.0 after_made after → IsRaising table c.0 after_made after (gone_unless_whole stays number) b.since b.item position b.like entry number (subtrie_of risen)
+      IsBuilding table c.0 after_made after → IsRaising table c.0 after_made after (gone_unless_whole stays number) (newcomer_of b) (entry number) (subtrie_of risen)
   lowered c after_made g stays risen shows is before goes after made building = go (kept_or_not stays)
     where
       here : GrownShows node g (subtrie_grown position b.item.key (Leaf b.item.number) (piece node))
@@ -205,20 +206,20 @@ module _ {G : Type 0} (table : TableView) (becomes : G → Event → G → Type 
       leaf_stays : HasLeaf after b.item
       leaf_stays = (b.made_leaf.fresh, made_keeps (Node number node.height) g risen (made_of_leaf b.item b.made_leaf.fresh ∷ []) after made _ (inl refl), b.made_leaf.spelled)
 
-      go : (stays ≡ true) ⊎ (stays ≡ false) → IsRaising table c.0 after_made after (gone_unless_whole stays number) b.since b.item position b.like entry number (subtrie_of risen)
+      go : (stays ≡ true) ⊎ (stays ≡ false) → IsRaising table c.0 after_made after (gone_unless_whole stays number) (newcomer_of b) (entry number) (subtrie_of risen)
       go (inl whole) =
           let keeps : keeps_node g ≡ true = sym is ∙ whole in
-          let (kept, same) = rises_kept table.layout a.0.known a.0.known.locks after b.since b.item b.made_leaf.fresh position b.like number b.words b.found node low_subtrie (ap (λ (z : NodeWords). z.fixed.height) low_node.shows) g risen here keeps (before keeps) made in
-          subst (λ z. IsRaising table c.0 after_made after (gone_unless_whole z number) b.since b.item position b.like entry number (subtrie_of risen)) (sym whole)
-          (record { building = building; leaf = leaf_stays; risen = risen_on table becomes a c after [] b.since b.item position b.like entry number (subtrie_of risen) all kept })
+          let (kept, same) = rises_kept table.layout a.0.known a.0.known.locks after (newcomer_of b) b.made_leaf.fresh number b.words b.found node low_subtrie (ap (λ (z : NodeWords). z.fixed.height) low_node.shows) g risen here keeps (before keeps) made in
+          subst (λ z. IsRaising table c.0 after_made after (gone_unless_whole z number) (newcomer_of b) (entry number) (subtrie_of risen)) (sym whole)
+          (record { building = building; leaf = leaf_stays; risen = risen_on table becomes a c after [] (newcomer_of b) (entry number) (subtrie_of risen) all kept })
       go (inr cut) =
           let fresh : keeps_node g ≡ false = sym is ∙ cut in
-          subst (λ z. IsRaising table c.0 after_made after (gone_unless_whole z number) b.since b.item position b.like entry number (subtrie_of risen)) (sym cut)
+          subst (λ z. IsRaising table c.0 after_made after (gone_unless_whole z number) (newcomer_of b) (entry number) (subtrie_of risen)) (sym cut)
           (record {
             building = building;
             leaf = leaf_stays;
-            risen = risen_on table becomes a c after (a_node number ∷ []) b.since b.item position b.like entry number (subtrie_of risen) all
-                (rises_made table.layout a.0.known a.0.known.locks (made_of_leaf b.item b.made_leaf.fresh ∷ []) after [] b.since b.item position b.like low_leaf number b.words b.found.locked node (Node number node.height) g risen
+            risen = risen_on table becomes a c after (a_node number ∷ []) (newcomer_of b) (entry number) (subtrie_of risen) all
+                (rises_made table.layout a.0.known a.0.known.locks (made_of_leaf b.item b.made_leaf.fresh ∷ []) after [] (newcomer_of b) low_leaf number b.words b.found.locked node (Node number node.height) g risen
                 (subtrie_grown position b.item.key (Leaf b.item.number) (piece node)) here fresh made low_grown);
           })
 
@@ -226,7 +227,7 @@ module _ {G : Type 0} (table : TableView) (becomes : G → Event → G → Type 
   pub lowest_made : (c : SeatView × G) (after_made : List Rec) (h : ℕ) → h ≡ node.height → (answer : Option (Risen × Bool)) → WorksOn table becomes m c →
       MatchOption answer (HasNotMade table c.0 after_made)
       (λ r. (after : List Made) × IsGrownFrom (Node number h) node (subtrie_grown position key (Leaf leaf) (piece node)) position r.0 r.1 (made_of_leaf b.item b.made_leaf.fresh ∷ []) after × IsBuilding table c.0 after_made after) →
-      MatchOption answer (HasNotMade table c.0 after_made) (λ r. (after : List Made) × IsRaising table c.0 after_made after (gone_unless_whole r.1 number) b.since b.item position b.like entry number (subtrie_of r.0))
+      MatchOption answer (HasNotMade table c.0 after_made) (λ r. (after : List Made) × IsRaising table c.0 after_made after (gone_unless_whole r.1 number) (newcomer_of b) (entry number) (subtrie_of r.0))
   lowest_made c after_made h tall None goes made = made
   lowest_made c after_made h tall (Some r) goes (after, grown, building) =
       (after, lowered c after_made grown.grown r.1 r.0 grown.shows grown.keeps grown.above goes after (subst (λ z. IsMadeFrom (Node number z) grown.grown r.0 (made_of_leaf b.item b.made_leaf.fresh ∷ []) after) tall grown.made) building)
@@ -259,39 +260,39 @@ paired table a c after_made news view shown (Some e) built (m, is, has, building
 
 -- ---- the topmost node
 fork_risen : (table : TableView) (a : SeatView) (made : List Rec) (number q : ℕ) (z o : Entry) (risen : Risen) → risen ≡ Split q z o → (b : IsRisenAt table a made number risen) →
-    HasRisen table.layout a.known a.known.locks b.news b.since b.item b.mismatch b.like entry number (Fork q (Place z) (Place o)) b.gone
+    HasRisen table.layout a.known a.known.locks b.news b.newcomer (entry number) (Fork q (Place z) (Place o)) b.gone
 fork_risen table a made number q z o risen is b =
-    subst (λ (y : Risen). HasRisen table.layout a.known a.known.locks b.news b.since b.item b.mismatch b.like entry number (subtrie_of y) b.gone) is b.raising.risen
+    subst (λ (y : Risen). HasRisen table.layout a.known a.known.locks b.news b.newcomer (entry number) (subtrie_of y) b.gone) is b.raising.risen
 
 -- what a fork of two entries that has risen owes
 pub risen_fork_is_pair : (table : TableView) (a : SeatView) (made : List Rec) (number q : ℕ) (z o : Entry) (risen : Risen) → risen ≡ Split q z o → IsRisenAt table a made number risen → IsPairOf q z o
 risen_fork_is_pair table a made number q z o risen is b =
     let i = b.raising in
-    let (t, subtrie_is, trie, built) = risen_subtrie table.layout a.known b.news b.gone b.since b.item b.mismatch b.like entry number b.words (Fork q (Place z) (Place o)) i.building.possible i.building.holds i.building.packed i.leaf b.locked
+    let (t, subtrie_is, trie, built) = risen_subtrie table.layout a.known b.news b.gone b.newcomer (entry number) b.words (Fork q (Place z) (Place o)) i.building.possible i.building.holds i.building.packed i.leaf b.locked
     (fork_risen table a made number q z o risen is b) in
     pair_facts q z o t subtrie_is trie built
 
 pub settled : {G : Type 0} (table : TableView) (becomes : G → Event → G → Type 0) (a c : SeatView × G) (made after_made : List Rec) (number q : ℕ) (z o : Entry) (risen : Risen) → risen ≡ Split q z o →
     (b : IsRisenAt table a.0 made number risen) (view : NodeView) → IsBuiltFrom view (Fork q (Place z) (Place o)) → WorksOn table becomes a c → (answer : Option Entry) →
     MatchOption answer (HasNotMade table c.0 after_made) (λ e. (m : ℕ) × (e ≡ Node m view.height) × HasNodeWords view × IsBuilding table c.0 after_made (made_of_node m view ∷ b.news)) →
-    MatchOption answer (HasNotMade table c.0 after_made) (λ e. (after : List Made) × IsRaising table c.0 after_made after b.gone b.since b.item b.mismatch b.like entry number (Place e))
+    MatchOption answer (HasNotMade table c.0 after_made) (λ e. (after : List Made) × IsRaising table c.0 after_made after b.gone b.newcomer (entry number) (Place e))
 settled table becomes a c made after_made number q z o risen is b view built goes None answer = answer
 settled table becomes a c made after_made number q z o risen is b view built goes (Some e) (m, e_is, has, building) =
     let i = b.raising in
-    let here = subst (λ y. HasRisen table.layout a.0.known a.0.known.locks b.news b.since b.item b.mismatch b.like entry number y b.gone) (sym built.shows_it) (fork_risen table a.0 made number q z o risen is b) in
-    let wrapped = rises_wrapped table.layout a.0.known a.0.known.locks b.news b.gone b.since b.item b.mismatch b.like i.leaf number b.words b.locked m view (has, built.height_is) here in (
+    let here = subst (λ y. HasRisen table.layout a.0.known a.0.known.locks b.news b.newcomer (entry number) y b.gone) (sym built.shows_it) (fork_risen table a.0 made number q z o risen is b) in
+    let wrapped = rises_wrapped table.layout a.0.known a.0.known.locks b.news b.gone b.newcomer i.leaf number b.words b.locked m view (has, built.height_is) here in (
       made_of_node m view ∷ b.news,
       record {
         building = building;
         leaf = (i.leaf.0, inr i.leaf.1, i.leaf.2);
-        risen = risen_on table becomes a c (made_of_node m view ∷ b.news) b.gone b.since b.item b.mismatch b.like entry number (Place e) goes
-            (subst (λ y. HasRisen table.layout a.0.known a.0.known.locks (made_of_node m view ∷ b.news) b.since b.item b.mismatch b.like entry number (Place y) b.gone) (sym e_is) wrapped);
+        risen = risen_on table becomes a c (made_of_node m view ∷ b.news) b.gone b.newcomer (entry number) (Place e) goes
+            (subst (λ y. HasRisen table.layout a.0.known a.0.known.locks (made_of_node m view ∷ b.news) b.newcomer (entry number) (Place y) b.gone) (sym e_is) wrapped);
       },
     )
 
 pub settled_whole : (table : TableView) (a : SeatView) (made : List Rec) (number : ℕ) (e : Entry) (risen : Risen) → risen ≡ Whole e → (b : IsRisenAt table a made number risen) →
-    (after : List Made) × IsRaising table a made after b.gone b.since b.item b.mismatch b.like entry number (Place e)
-settled_whole table a made number e risen is b = (b.news, subst (λ (y : Risen). IsRaising table a made b.news b.gone b.since b.item b.mismatch b.like entry number (subtrie_of y)) is b.raising)
+    (after : List Made) × IsRaising table a made after b.gone b.newcomer (entry number) (Place e)
+settled_whole table a made number e risen is b = (b.news, subst (λ (y : Risen). IsRaising table a made b.news b.gone b.newcomer (entry number) (subtrie_of y)) is b.raising)
 
 -- ---- a full node gives a fork
 split_made : (was : Entry) (g : Grown) (risen : Risen) (before after : List Made) → ¬ (IsTrue (is_whole g)) → IsMadeFrom was g risen before after → IsSplit risen
@@ -350,19 +351,16 @@ abbrev risen_as : (table : TableView) (a : SeatView) (made : List Rec) (n m : �
 risen_as table a made n m risen then same is here = record {
   news = here.news;
   gone = here.gone;
-  since = here.since;
-  item = here.item;
-  mismatch = here.mismatch;
-  like = here.like;
+  newcomer = here.newcomer;
   words = here.words;
   locked = subst (λ k. HasLocked a.known k here.words) same here.locked;
-  raising = subst (λ (y : Risen). IsRaising table a made here.news here.gone here.since here.item here.mismatch here.like entry m (subtrie_of y)) is
-      (subst (λ k. IsRaising table a made here.news here.gone here.since here.item here.mismatch here.like entry k (subtrie_of risen)) same here.raising);
+  raising = subst (λ (y : Risen). IsRaising table a made here.news here.gone here.newcomer (entry m) (subtrie_of y)) is
+      (subst (λ k. IsRaising table a made here.news here.gone here.newcomer (entry k) (subtrie_of risen)) same here.raising);
 }
 
 module _ (table : TableView) (a : SeatView) (made : List Rec) (way : List PathNode) (key : Key) (end level : ℕ) (risen : Risen) (up : IsRisingOn table a made way key end level risen) (above : ℕ) (next : above + 1 ≡ level)
     (upto : end ≤ above) (s : PathNode) (at : slice_get way above ≡ Some s) where
-  abbrev pub up_over : (over : IsLockedAbove a.known.locks up.here.item.key up.here.mismatch s.number up.step.number) × ((node_words_of over.lower).fixed.height < (node_words_of over.upper).fixed.height)
+  abbrev pub up_over : (over : IsLockedAbove a.known.locks up.here.newcomer.item.key up.here.newcomer.mismatch s.number up.step.number) × ((node_words_of over.lower).fixed.height < (node_words_of over.upper).fixed.height)
   up_over = up.chain.above above s up.step upto (omega arith) at (ap (slice_get way) next ∙ up.at)
 
   pub up_there : s.number < table.layout.nodes
@@ -382,7 +380,7 @@ module _ (table : TableView) (a : SeatView) (made : List Rec) (way : List PathNo
       }
 
   abbrev pub up_next : (m : SeatView) (made_then : List Rec) (then : Risen) → m.known.locks ≡ a.known.locks → (after : List Made) →
-      IsRaising table m made_then after (a_node s.number ∷ up.here.gone) up.here.since up.here.item up.here.mismatch up.here.like entry s.number (subtrie_of then) →
+      IsRaising table m made_then after (a_node s.number ∷ up.here.gone) up.here.newcomer (entry s.number) (subtrie_of then) →
       ((words : List ℕ) → HasLocked a.known s.number words → IsLevelRisen words then) → IsRisingOn table m made_then way key end above then
   up_next m made_then then locks after raising rises =
       let before : (words : List ℕ) → HasLocked m.known s.number words → HasLocked a.known s.number words = λ words. subst (IsOneOf (record { node = s.number; words = words })) locks in
@@ -393,10 +391,7 @@ module _ (table : TableView) (a : SeatView) (made : List Rec) (way : List PathNo
         here = record {
           news = after;
           gone = a_node s.number ∷ up.here.gone;
-          since = up.here.since;
-          item = up.here.item;
-          mismatch = up.here.mismatch;
-          like = up.here.like;
+          newcomer = up.here.newcomer;
           words = up_over.0.upper;
           locked = subst (IsOneOf (record { node = s.number; words = up_over.0.upper })) (sym locks) up_over.0.has_upper;
           raising = raising;
@@ -405,7 +400,7 @@ module _ (table : TableView) (a : SeatView) (made : List Rec) (way : List PathNo
         low = λ other h. (rises other (before other h)).low;
         split = λ more. (rises up_over.0.upper up_over.0.has_upper).split (up.chain.full above s more (omega arith) at up_over.0.upper up_over.0.has_upper);
         single = λ other h. (rises other (before other h)).single;
-        chain = subst (λ held. IsChain table.layout.nodes held way up.here.item.key up.here.mismatch end above) (sym locks) (record {
+        chain = subst (λ held. IsChain table.layout.nodes held way up.here.newcomer.item.key up.here.newcomer.mismatch end above) (sym locks) (record {
           there = λ i u l e. up.chain.there i u (omega arith) e;
           above = λ i u v l h e f. up.chain.above i u v l (omega arith) e f;
           full = λ i u l h e. up.chain.full i u l (omega arith) e;
@@ -432,30 +427,30 @@ abbrev pub rising_on_at_end : (table : TableView) (a : SeatView) (made : List Re
     IsRisenAt table a made number risen
 rising_on_at_end table a made way key end level number risen up is = risen_as table a made up.step.number number risen risen (sym is) refl up.here
 
-pub up_done : {G : Type 0} (table : TableView) (becomes : G → Event → G → Type 0) (a m c : SeatView × G) (made : List Rec) (way : List PathNode) (since : ℕ) (x : Item) (p : ℕ) (l : Key) (end above level : ℕ) (gone : List Rec) (s : PathNode) →
+pub up_done : {G : Type 0} (table : TableView) (becomes : G → Event → G → Type 0) (a m c : SeatView × G) (made : List Rec) (way : List PathNode) (x : Newcomer) (end above level : ℕ) (gone : List Rec) (s : PathNode) →
     above + 1 ≡ level → end ≤ above → slice_get way above ≡ Some s → WorksOn table becomes a m → (answer : Option Entry) →
-    MatchOption answer (HasNotMade table c.0 made) (HasRisenTo table c.0 made way since x p l end (gone_with_way way end above (a_node s.number ∷ gone))) →
-    MatchOption answer (HasNotMade table c.0 made) (HasRisenTo table c.0 made way since x p l end (gone_with_way way end level gone))
-up_done table becomes a m c made way since x p l end above level gone s next upto at goes None answer = answer
-up_done table becomes a m c made way since x p l end above level gone s next upto at goes (Some e) answer =
-    subst (λ g. HasRisenTo table c.0 made way since x p l end g e) (gone_more way end above level gone s next upto at) answer
+    MatchOption answer (HasNotMade table c.0 made) (HasRisenTo table c.0 made way x end (gone_with_way way end above (a_node s.number ∷ gone))) →
+    MatchOption answer (HasNotMade table c.0 made) (HasRisenTo table c.0 made way x end (gone_with_way way end level gone))
+up_done table becomes a m c made way x end above level gone s next upto at goes None answer = answer
+up_done table becomes a m c made way x end above level gone s next upto at goes (Some e) answer =
+    subst (λ g. HasRisenTo table c.0 made way x end g e) (gone_more way end above level gone s next upto at) answer
 
 pub settled_at_end : (table : TableView) (a c : SeatView) (made after_made : List Rec) (way : List PathNode) (key : Key) (end level number : ℕ) (risen : Risen) (same : level ≡ end) (up : IsRisingOn table a made way key end level risen) (is : number ≡ up.step.number) → (answer : Option Entry) →
-    MatchOption answer (HasNotMade table c after_made) (λ e. (after : List Made) × IsRaising table c after_made after up.here.gone up.here.since up.here.item up.here.mismatch up.here.like entry number (Place e)) →
-    MatchOption answer (HasNotMade table c after_made) (HasRisenTo table c after_made way up.here.since up.here.item up.here.mismatch up.here.like end (gone_with_way way end level up.here.gone))
+    MatchOption answer (HasNotMade table c after_made) (λ e. (after : List Made) × IsRaising table c after_made after up.here.gone up.here.newcomer (entry number) (Place e)) →
+    MatchOption answer (HasNotMade table c after_made) (HasRisenTo table c after_made way up.here.newcomer end (gone_with_way way end level up.here.gone))
 settled_at_end table a c made after_made way key end level number risen same up is None answer = answer
 settled_at_end table a c made after_made way key end level number risen same up is (Some e) (after, raising) =
     let gone : gone_with_way way end level up.here.gone ≡ up.here.gone = ap (λ n. gone_with_way way end n up.here.gone) same ∙ gone_with_no_node way end up.here.gone in (
       after,
       up.step,
       ap (slice_get way) (sym same) ∙ up.at,
-      subst (λ n. IsRaising table c after_made after (gone_with_way way end level up.here.gone) up.here.since up.here.item up.here.mismatch up.here.like entry n (Place e)) is
-          (subst (λ y. IsRaising table c after_made after y up.here.since up.here.item up.here.mismatch up.here.like entry number (Place e)) (sym gone) raising),
+      subst (λ n. IsRaising table c after_made after (gone_with_way way end level up.here.gone) up.here.newcomer (entry n) (Place e)) is
+          (subst (λ y. IsRaising table c after_made after y up.here.newcomer (entry number) (Place e)) (sym gone) raising),
     )
 
 -- ---- all of a span
-module _ (table : TableView) (a : SeatView) (made : List Rec) (way : List PathNode) (key : Key) (end top position took leaf : ℕ) (b : IsGrowing table a made way key end top position took leaf) (number : ℕ) (is : number ≡ b.step.number) where
-  abbrev pub low_at : IsLowest table a made key number position took leaf
+module _ (table : TableView) (a : SeatView) (made : List Rec) (way : List PathNode) (span : Span) (new : NewLeaf) (b : IsGrowing table a made way span new) (number : ℕ) (is : number ≡ b.step.number) where
+  abbrev pub low_at : GetsLeaf table a made number new
   low_at = record {
     since = b.lowest.since;
     item = b.lowest.item;
@@ -464,14 +459,14 @@ module _ (table : TableView) (a : SeatView) (made : List Rec) (way : List PathNo
     key_is = b.lowest.key_is;
     leaf_is = b.lowest.leaf_is;
     made_leaf = b.lowest.made_leaf;
-    found = subst (λ n. HasFoundBelow a.known a.known.locks b.lowest.since b.lowest.item position b.lowest.like n b.lowest.words) (sym is) b.lowest.found;
+    found = subst (λ n. HasFoundBelow a.known a.known.locks (newcomer_of b.lowest) n b.lowest.words) (sym is) b.lowest.found;
     part = b.lowest.part;
     leads = b.lowest.leads;
   }
 
   abbrev pub up_first : (m : SeatView) (made_then : List Rec) (then : Risen) (stays : Bool) → m.known.locks ≡ a.known.locks → (after : List Made) →
-      IsRaising table m made_then after (gone_unless_whole stays number) b.lowest.since b.lowest.item position b.lowest.like entry number (subtrie_of then) →
-      ((words : List ℕ) → HasLocked a.known number words → IsLevelRisen words then) → IsRisingOn table m made_then way key end top then
+      IsRaising table m made_then after (gone_unless_whole stays number) (newcomer_of b.lowest) (entry number) (subtrie_of then) →
+      ((words : List ℕ) → HasLocked a.known number words → IsLevelRisen words then) → IsRisingOn table m made_then way new.key.now span.end (span.len - 1) then
   up_first m made_then then stays locks after raising rises =
       let before : (words : List ℕ) → HasLocked m.known b.step.number words → HasLocked a.known number words =
       λ words h. subst (λ n. HasLocked a.known n words) (sym is) (subst (IsOneOf (record { node = b.step.number; words = words })) locks h) in
@@ -482,17 +477,14 @@ module _ (table : TableView) (a : SeatView) (made : List Rec) (way : List PathNo
         here = record {
           news = after;
           gone = gone_unless_whole stays number;
-          since = b.lowest.since;
-          item = b.lowest.item;
-          mismatch = position;
-          like = b.lowest.like;
+          newcomer = newcomer_of b.lowest;
           words = b.lowest.words;
           locked = subst (IsOneOf (record { node = b.step.number; words = b.lowest.words })) (sym locks) b.lowest.found.locked;
-          raising = subst (λ n. IsRaising table m made_then after (gone_unless_whole stays number) b.lowest.since b.lowest.item position b.lowest.like entry n (subtrie_of then)) is raising;
+          raising = subst (λ n. IsRaising table m made_then after (gone_unless_whole stays number) (newcomer_of b.lowest) (entry n) (subtrie_of then)) is raising;
         };
         key_is = b.lowest.key_is;
         low = λ other h. (rises other (before other h)).low;
         split = λ more. (rises b.lowest.words (subst (λ n. HasLocked a.known n b.lowest.words) (sym is) b.lowest.found.locked)).split (b.full more);
         single = λ other h. (rises other (before other h)).single;
-        chain = subst (λ held. IsChain table.layout.nodes held way b.lowest.item.key position end top) (sym locks) b.chain;
+        chain = subst (λ held. IsChain table.layout.nodes held way b.lowest.item.key new.position span.end (span.len - 1)) (sym locks) b.chain;
       }

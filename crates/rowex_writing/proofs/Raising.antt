@@ -15,7 +15,6 @@ use Rattle.insert_cases.specs.declared.raising.Risen.TheVariants.{Whole, Split}
 use Rattle.pieces.specs.Changes.{AtRootFork}
 use Rattle.pieces.specs.Piece.{Place, Fork}
 use Rattle.record_words.specs.declared.layout.Layout.{Layout}
-use Rattle.tries.specs.Content.{Item}
 use Rattle.tries.specs.Affected.{subtrie_forked, subtrie_grown}
 use Rattle.tries.specs.Keys.{Key, bit}
 use Rattle.tries.specs.Tree.{Subtrie}
@@ -23,6 +22,7 @@ use Rattle.versions.specs.Trades.{IsOneOf}
 use Rattle.versions.specs.declared.Rec.{Rec}
 use Rattle.versions.specs.declared.Rec.TheVariants.{Node as a_node}
 use Rattle.version_laws.specs.Rise.{body, entry}
+use Rattle.version_laws.specs.Writer.{Newcomer}
 use Rattle.versions.specs.State.{FirstForkIsFrom}
 use Rattle.rowex_core.specs.Reading.{node_words_of}
 use Rattle.std.proofs.lemmas.Bool.{le-ltb}
@@ -52,23 +52,23 @@ sides_anew old (One e) Same a b n s = absurd cc
 sides_anew old (Many v) Same a b n s = absurd cc
 sides_anew old Same o a b n s = absurd cc
 
-module _ (layout : Layout) (k : Known) (held : List Locked) (before after : List Made) (gone : List Rec) (since : ℕ) (x : Item) (p : ℕ) (l : Key) (leaf : HasLeaf before x)
+module _ (layout : Layout) (k : Known) (held : List Locked) (before after : List Made) (gone : List Rec) (x : Newcomer) (leaf : HasLeaf before x.item)
     (n : ℕ) (words : List ℕ) (at : IsOneOf (record { node = n; words = words }) held) (old : NodeView) (was : Entry) where
   -- the node's body has records
   pub rises_made : (g : Grown) (risen : Risen) (r : Subtrie) → GrownShows old g r → keeps_node g ≡ false → IsMadeFrom was g risen before after →
-      HasRisen layout k held before since x p l body n r gone → HasRisen layout k held after since x p l entry n (subtrie_of risen) (a_node n ∷ gone)
+      HasRisen layout k held before x (body n) r gone → HasRisen layout k held after x (entry n) (subtrie_of risen) (a_node n ∷ gone)
   rises_made (Single view) (Whole e) r shows fresh (m, is, made, has) below =
-      let copied = rises_copied layout k held before gone since x p l leaf n words at m view (has, shows.height_is) (subst (λ z. HasRisen layout k held before since x p l body n z gone) (sym shows.shows_it) below) in
-      subst (λ z. HasRisen layout k held after since x p l entry n (Place z) (a_node n ∷ gone)) (sym is)
-      (subst (λ z. HasRisen layout k held z since x p l entry n (Place (Node m view.height)) (a_node n ∷ gone)) (sym made) copied)
+      let copied = rises_copied layout k held before gone x leaf n words at m view (has, shows.height_is) (subst (λ z. HasRisen layout k held before x (body n) z gone) (sym shows.shows_it) below) in
+      subst (λ z. HasRisen layout k held after x (entry n) (Place z) (a_node n ∷ gone)) (sym is)
+      (subst (λ z. HasRisen layout k held z x (entry n) (Place (Node m view.height)) (a_node n ∷ gone)) (sym made) copied)
   rises_made (Single view) (Split q z o) r shows fresh made below = elim made [ ]
   rises_made (Two cut) (Whole e) r shows fresh made below = elim made [ ]
   rises_made (Two cut) (Split q z o) (Place e) shows fresh made below = elim shows [ ]
   rises_made (Two cut) (Split q z o) (Fork f a b) shows fresh (lower, upper, is, low, high, made) below =
       let sides = sides_anew old cut.zero cut.one a b fresh shows.1 in
-      let halved = rises_halved layout k held before gone since x p l leaf n words at f a b z o lower upper (side_made was z cut.zero a lower sides.0 low) (side_made was o cut.one b upper sides.1 high) below in
-      subst (λ y. HasRisen layout k held after since x p l entry n (Fork y (Place z) (Place o)) (a_node n ∷ gone)) (sym (is ∙ shows.0))
-      (subst (λ y. HasRisen layout k held y since x p l entry n (Fork f (Place z) (Place o)) (a_node n ∷ gone)) (sym made) halved)
+      let halved = rises_halved layout k held before gone x leaf n words at f a b z o lower upper (side_made was z cut.zero a lower sides.0 low) (side_made was o cut.one b upper sides.1 high) below in
+      subst (λ y. HasRisen layout k held after x (entry n) (Fork y (Place z) (Place o)) (a_node n ∷ gone)) (sym (is ∙ shows.0))
+      (subst (λ y. HasRisen layout k held y x (entry n) (Fork f (Place z) (Place o)) (a_node n ∷ gone)) (sym made) halved)
 
 -- ---- the node stays whole
 -- before its first fork, the new one is above all of it
@@ -98,18 +98,18 @@ kept_halves u p m was old h c (One e) (Many v) same s q z o lower upper is low h
 kept_halves u p m was old h c (Many v) (One e) same s q z o lower upper is low high = absurd cc
 kept_halves u p m was old h c (Many v) (Many w) same s q z o lower upper is low high = absurd cc
 
-module _ (layout : Layout) (k : Known) (held : List Locked) (after : List Made) (since : ℕ) (x : Item) (fresh : List ℕ) (p : ℕ) (l : Key) (n : ℕ) (words : List ℕ) (found : HasFoundBelow k held since x p l n words)
+module _ (layout : Layout) (k : Known) (held : List Locked) (after : List Made) (x : Newcomer) (fresh : List ℕ) (n : ℕ) (words : List ℕ) (found : HasFoundBelow k held x n words)
     (old : NodeView) (shown : (node_words_of words).subtrie ≡ piece old) (height : (node_words_of words).fixed.height ≡ old.height) where
-  pub rises_kept : (g : Grown) (risen : Risen) → GrownShows old g (subtrie_grown p x.key (Leaf x.number) (piece old)) → keeps_node g ≡ true → AtRootFork (λ q a b. p < q) (piece old) →
-      IsMadeFrom (Node n old.height) g risen (made_of_leaf x fresh ∷ []) after → HasRisen layout k held after since x p l entry n (subtrie_of risen) [] × (after ≡ made_of_leaf x fresh ∷ [])
+  pub rises_kept : (g : Grown) (risen : Risen) → GrownShows old g (subtrie_grown x.mismatch x.item.key (Leaf x.item.number) (piece old)) → keeps_node g ≡ true → AtRootFork (λ q a b. x.mismatch < q) (piece old) →
+      IsMadeFrom (Node n old.height) g risen (made_of_leaf x.item fresh ∷ []) after → HasRisen layout k held after x (entry n) (subtrie_of risen) [] × (after ≡ made_of_leaf x.item fresh ∷ [])
   rises_kept (Single view) risen shows kept before made = absurd cc
   rises_kept (Two cut) (Whole e) shows kept before made = elim made [ ]
   rises_kept (Two cut) (Split q z o) shows kept before (lower, upper, is, low, high, made) =
-      let u = bit x.key p in
-      let all = above_all p x.key (Leaf x.number) (piece old) before in
-      let (subtrie, none, nor) = kept_halves u p x.number (Node n old.height) old before cut.position cut.zero cut.one kept
+      let u = bit x.item.key x.mismatch in
+      let all = above_all x.mismatch x.item.key (Leaf x.item.number) (piece old) before in
+      let (subtrie, none, nor) = kept_halves u x.mismatch x.item.number (Node n old.height) old before cut.position cut.zero cut.one kept
       (subst (GrownShows old (Two cut)) all.0 shows) q z o lower upper is low high in
-      let same : after ≡ made_of_leaf x fresh ∷ [] = made ∙ (ap (λ y. y ++ (upper ++ made_of_leaf x fresh ∷ [])) none ∙ ap (λ y. y ++ made_of_leaf x fresh ∷ []) nor) in
-      let whole = rise_whole layout k held since x fresh p l n words found (subst (FirstForkIsFrom p) (sym shown) all.1) in
-      let tall : subtrie_forked u p (Leaf x.number) (Place (Node n (node_words_of words).fixed.height)) ≡ Fork q (Place z) (Place o) = ap (λ h. subtrie_forked u p (Leaf x.number) (Place (Node n h))) height ∙ sym subtrie in
-      (subst (λ y. HasRisen layout k held after since x p l entry n y []) tall (subst (λ y. HasRisen layout k held y since x p l entry n (subtrie_forked u p (Leaf x.number) (Place (Node n (node_words_of words).fixed.height))) []) (sym same) whole), same)
+      let same : after ≡ made_of_leaf x.item fresh ∷ [] = made ∙ (ap (λ y. y ++ (upper ++ made_of_leaf x.item fresh ∷ [])) none ∙ ap (λ y. y ++ made_of_leaf x.item fresh ∷ []) nor) in
+      let whole = rise_whole layout k held x fresh n words found (subst (FirstForkIsFrom x.mismatch) (sym shown) all.1) in
+      let tall : subtrie_forked u x.mismatch (Leaf x.item.number) (Place (Node n (node_words_of words).fixed.height)) ≡ Fork q (Place z) (Place o) = ap (λ h. subtrie_forked u x.mismatch (Leaf x.item.number) (Place (Node n h))) height ∙ sym subtrie in
+      (subst (λ y. HasRisen layout k held after x (entry n) y []) tall (subst (λ y. HasRisen layout k held y x (entry n) (subtrie_forked u x.mismatch (Leaf x.item.number) (Place (Node n (node_words_of words).fixed.height))) []) (sym same) whole), same)

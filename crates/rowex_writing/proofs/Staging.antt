@@ -1,11 +1,10 @@
 -- The records that a pass holds, as if it had made them ready: then what has risen is the subtrie of a lawful tree.
 use Rattle.std.proofs.Common.{ℕ, List, [], ◌∷◌, ◌++◌, refl}
 use Rattle.record_words.specs.declared.layout.Layout.{Layout}
-use Rattle.tries.specs.Content.{Item}
-use Rattle.tries.specs.Keys.{Key}
 use Rattle.tries.specs.Tree.{Subtrie}
 use Rattle.versions.specs.Trades.{IsOneOf}
 use Rattle.version_laws.specs.Rise.{Side}
+use Rattle.version_laws.specs.Writer.{Newcomer}
 use Rattle.rowex_core.specs.declared.event.Act.TheVariants.{Ready}
 use Rattle.rowex_core.specs.declared.known.Known.{Known}
 use Rattle.rowex_core.specs.Cores.{Core}
@@ -15,7 +14,7 @@ use Rattle.rowex_table.specs.Made.{Made, HoldsMade, HasReadied}
 use Rattle.rowex_table.specs.Runs.{silent}
 use Rattle.publish_laws.specs.Loops.{ReadiesEach}
 use Rattle.publish_laws.specs.Stages.{IsStage, HasLeaf, HasRisen}
-use Rattle.publish_laws.proofs.Bounding.{tree_risen}
+use Rattle.publish_laws.proofs.Bounding.{number_of, tree_risen}
 use Rattle.publish_laws.proofs.Loops.{holds_rights, ready_next, readies_all}
 use Rattle.publish_laws.proofs.Rising.{stage_earlier}
 use Rattle.publish_laws.proofs.Stages.{stage_of}
@@ -50,8 +49,8 @@ module _ (layout : Layout) where
       (last.core, stage_earlier layout k j stays.0 k.locks news last.core stage)
 
   -- so what has risen is the subtrie of a lawful tree
-  pub risen_subtrie : (k : Known) (news : List Made) (gone : List Rec) (since : ℕ) (x : Item) (p : ℕ) (l : Key) (d : Side) (n : ℕ) (words : List ℕ) (r : Subtrie) → IsPossible layout k → HoldsMade k news → AreMadePacked layout news →
-      HasLeaf news x → IsOneOf (record { node = n; words = words }) k.locks → HasRisen layout k k.locks news since x p l d n r gone → IsSubtrieOfTree r
-  risen_subtrie k news gone since x p l d n words r possible holds packed leaf at risen =
+  pub risen_subtrie : (k : Known) (news : List Made) (gone : List Rec) (x : Newcomer) (d : Side) (words : List ℕ) (r : Subtrie) → IsPossible layout k → HoldsMade k news → AreMadePacked layout news →
+      HasLeaf news x.item → IsOneOf (record { node = number_of d; words = words }) k.locks → HasRisen layout k k.locks news x d r gone → IsSubtrieOfTree r
+  risen_subtrie k news gone x d words r possible holds packed leaf at risen =
       let (c, stage) = stage_of_held k news possible holds packed in
-      tree_risen layout k k.locks news c stage since x p l d n words leaf at r (risen c stage).0
+      tree_risen layout k k.locks news c stage x d words leaf at r (risen c stage).0

@@ -24,6 +24,7 @@ use Rattle.tries.specs.Keys.{Key}
 use Rattle.tries.specs.Place.{spot}
 use Rattle.tries.specs.Tree.{Subtrie}
 use Rattle.version_laws.specs.Rise.{Side, entry}
+use Rattle.version_laws.specs.Writer.{Newcomer}
 use Rattle.versions.specs.declared.Rec.{Rec}
 use Rattle.versions.specs.declared.Rec.TheVariants.{Node as a_node}
 use Rattle.rowex_core.specs.Cores.{FitsIn}
@@ -88,8 +89,8 @@ pub record HasNotMade (table : TableView) (b : SeatView) (made : List Rec) : Typ
 
 -- What comes in the place of the node of this number, with these words, that gets a new leaf, and whether the node stays whole, with the
 -- records made for it; or none was free.
-abbrev pub MakesGrown : TableView → SeatView → List Rec → SeatView → List Rec → ℕ → List ℕ → NewLeaf → Option (Risen × Bool) → Type 0
-MakesGrown table a made b built number words new result =
+abbrev pub MakesGrown : TableView → SeatView × List Rec → SeatView × List Rec → ℕ → List ℕ → NewLeaf → Option (Risen × Bool) → Type 0
+MakesGrown table (a, made) (b, built) number words new result =
     (news : List Made) (node : NodeView) → AwaitsLeaf words node new → IsBuilding table a made news → MatchOption result (HasNotMade table b built)
     (λ r. (after : List Made) × IsGrownFrom (Node number node.height) node (subtrie_with_leaf new (piece node)) new.position r.0 r.1 news after ×
     IsBuilding table b built after)
@@ -101,32 +102,28 @@ pub record HasLeafMade (table : TableView) (a : SeatView) (made : List Rec) (x :
   pub building : IsBuilding table a made (made_of_leaf x fresh ∷ [])
 
 -- ---- on the way up
--- The change adds x, of which the record is made: this is what comes in the place of node n's body or entry, and those go.
-pub record IsRaising (table : TableView) (a : SeatView) (made : List Rec) (news : List Made) (gone : List Rec) (since : ℕ) (x : Item) (p : ℕ) (l : Key)
-    (d : Side) (n : ℕ) (r : Subtrie) : Type 0 where
+-- The change adds the newcomer, of which the record is made: this is what comes in the place of the node's body or entry, and those go.
+pub record IsRaising (table : TableView) (a : SeatView) (made : List Rec) (news : List Made) (gone : List Rec) (x : Newcomer) (d : Side) (r : Subtrie) : Type 0 where
   pub building : IsBuilding table a made news
-  pub leaf : HasLeaf news x
-  pub risen : HasRisen table.layout a.known a.known.locks news since x p l d n r gone
+  pub leaf : HasLeaf news x.item
+  pub risen : HasRisen table.layout a.known a.known.locks news x d r gone
 
 -- What has risen comes in the place of the locked node's entry.
 pub record IsRisenAt (table : TableView) (a : SeatView) (made : List Rec) (number : ℕ) (risen : Risen) : Type 0 where
   pub news : List Made
   pub gone : List Rec
-  pub since : ℕ
-  pub item : Item
-  pub mismatch : ℕ
-  pub like : Key
+  pub newcomer : Newcomer
   pub words : List ℕ
   pub locked : HasLocked a.known number words
-  pub raising : IsRaising table a made news gone since item mismatch like entry number (subtrie_of risen)
+  pub raising : IsRaising table a made news gone newcomer (entry number) (subtrie_of risen)
 
 -- What has risen so far, a fork of two entries, is to take the place of the entry that names the node below, in the locked node
 -- above, which is higher than both.
 pub record IsBelow (table : TableView) (a : SeatView) (made : List Rec) (key : Key) (above position : ℕ) (zero one : Entry) : Type 0 where
   pub lower : ℕ
   pub here : IsRisenAt table a made lower (Split position zero one)
-  pub key_is : key ≡ here.item.key
-  pub over : IsLockedAbove a.known.locks here.item.key here.mismatch above lower
+  pub key_is : key ≡ here.newcomer.item.key
+  pub over : IsLockedAbove a.known.locks here.newcomer.item.key here.newcomer.mismatch above lower
   pub zero_low : height_of zero < (node_words_of over.upper).fixed.height
   pub one_low : height_of one < (node_words_of over.upper).fixed.height
 
@@ -168,9 +165,14 @@ pub record IsLowest (table : TableView) (a : SeatView) (made : List Rec) (key : 
   pub key_is : key ≡ item.key
   pub leaf_is : leaf ≡ item.number
   pub made_leaf : HasLeafMade table a made item
-  pub found : HasFoundBelow a.known a.known.locks since item position like number words
+  pub found : HasFoundBelow a.known a.known.locks (record { since = since; item = item; mismatch = position; like = like }) number words
   pub part : IsPartSubtrie (subtrie_affected position item.key (node_words_of words).subtrie)
   pub leads : spot item.key (node_words_of words).subtrie ≡ took
+
+-- so its newcomer
+abbrev pub newcomer_of : {table : TableView} {a : SeatView} {made : List Rec} {key : Key} {number position took leaf : ℕ} →
+    IsLowest table a made key number position took leaf → Newcomer
+newcomer_of {position = position} low = record { since = low.since; item = low.item; mismatch = position; like = low.like }
 
 -- so for a new leaf
 abbrev pub GetsLeaf : TableView → SeatView → List Rec → ℕ → NewLeaf → Type 0
@@ -196,35 +198,30 @@ pub record IsRisingOn (table : TableView) (a : SeatView) (made : List Rec) (way 
   pub at : slice_get way level ≡ Some step
   pub upto : end ≤ level
   pub here : IsRisenAt table a made step.number risen
-  pub key_is : key ≡ here.item.key
+  pub key_is : key ≡ here.newcomer.item.key
   pub low : (other : List ℕ) → HasLocked a.known step.number other → IsLowRisen (node_words_of other).fixed.height risen
   pub split : end < level → IsSplit risen
   pub single : (other : List ℕ) → HasLocked a.known step.number other → size (node_words_of other).subtrie < 32 → IsSingle risen
-  pub chain : IsChain table.layout.nodes a.known.locks way here.item.key here.mismatch end level
+  pub chain : IsChain table.layout.nodes a.known.locks way here.newcomer.item.key here.newcomer.mismatch end level
 
 -- the nodes of the way from `end` on, before `level`, go too
 abbrev pub gone_with_way : List PathNode → (end level : ℕ) → List Rec → List Rec
 gone_with_way way end level gone = map (λ (s : PathNode). a_node s.number) (drop end (take level way)) ++ gone
 
 -- one entry has risen to the place of the entry of the node at `end`
-abbrev pub HasRisenTo : (table : TableView) (a : SeatView) (made : List Rec) (way : List PathNode) (since : ℕ) (x : Item) (p : ℕ) (l : Key) →
-    (end : ℕ) (gone : List Rec) (e : Entry) → Type 0
-HasRisenTo table a made way since x p l end gone e =
-    (news : List Made) × (top : PathNode) × (slice_get way end ≡ Some top) × IsRaising table a made news gone since x p l entry top.number (Place e)
+abbrev pub HasRisenTo : (table : TableView) (a : SeatView) (made : List Rec) (way : List PathNode) (x : Newcomer) (end : ℕ) (gone : List Rec) (e : Entry) → Type 0
+HasRisenTo table a made way x end gone e =
+    (news : List Made) × (top : PathNode) × (slice_get way end ≡ Some top) × IsRaising table a made news gone x (entry top.number) (Place e)
 
--- The lowest node of the span gets the new leaf, and what comes of it rises to `end`.
-pub record IsGrowing (table : TableView) (a : SeatView) (made : List Rec) (way : List PathNode) (key : Key) (end top position took leaf : ℕ) : Type 0 where
+-- The lowest node of the span gets the new leaf, and what comes of it rises to the span's topmost node.
+pub record IsGrowing (table : TableView) (a : SeatView) (made : List Rec) (way : List PathNode) (span : Span) (new : NewLeaf) : Type 0 where
   pub step : PathNode
-  pub at : slice_get way top ≡ Some step
-  pub upto : end ≤ top
+  pub at : slice_get way (span.len - 1) ≡ Some step
+  pub upto : span.end ≤ span.len - 1
   pub low : step.number < table.layout.nodes
-  pub lowest : IsLowest table a made key step.number position took leaf
-  pub full : end < top → size (node_words_of lowest.words).subtrie ≡ 32
-  pub chain : IsChain table.layout.nodes a.known.locks way lowest.item.key position end top
-
--- so for a new leaf
-abbrev pub IsGrowingBy : TableView → SeatView → List Rec → List PathNode → Span → NewLeaf → Type 0
-IsGrowingBy table a made way span new = IsGrowing table a made way new.key.now span.end (span.len - 1) new.position new.at new.number
+  pub lowest : GetsLeaf table a made step.number new
+  pub full : span.end < span.len - 1 → size (node_words_of lowest.words).subtrie ≡ 32
+  pub chain : IsChain table.layout.nodes a.known.locks way lowest.item.key new.position span.end (span.len - 1)
 
 -- so for a fork, and for what rises
 abbrev pub GetsFork : TableView → SeatView → List Rec → ℕ → Fork → Type 0

@@ -6,7 +6,7 @@ ghost use Rattle.record_words.specs.Node.{CanTakeLeaf, HasNodeWords, node_words}
 ghost use Rattle.record_words.specs.Reading.{IsSpelling};
 ghost use Rattle.rowex_table.specs.Made.{Made};
 ghost use Rattle.publish_laws.specs.Rises.{made_of_node, IsSide};
-ghost use Rattle.rowex_writing.specs.Building.{IsBuilding, IsGrowingBy, IsHalfMade, IsLevelRisen, IsLowRisen, IsMadeFrom, IsNextTo, IsRaising, IsRisenAt, MakesGrown, Rises, GetsFork, GetsLeaf, FitsAbove, HasNotMade, HasRisenTo, gone_unless_whole, gone_with_way};
+ghost use Rattle.rowex_writing.specs.Building.{IsBuilding, IsGrowing, IsHalfMade, IsLevelRisen, IsLowRisen, IsMadeFrom, IsNextTo, IsRaising, IsRisenAt, MakesGrown, newcomer_of, Rises, GetsFork, GetsLeaf, FitsAbove, HasNotMade, HasRisenTo, gone_unless_whole, gone_with_way};
 ghost use Rattle.rowex_writing.specs.Going.{WorksOn, HasLocked, IsLockedBy, LeadsLocked};
 ghost use Rattle.rowex_writing.specs.Locks.{locks_of};
 ghost use Rattle.rowex_writing.specs.Remaking.{AwaitsLeaf, subtrie_with_leaf};
@@ -241,8 +241,7 @@ fn raise_level<G: Gate>(
     ensures made { (b : GetsFork table.now seat.old build.old.made.items number fork.now) → MatchOption result
         (HasNotMade table.now seat.new build.new.made.items)
         (λ risen. (after : List Made) ×
-        IsRaising table.now seat.new build.new.made.items after (a_node number ∷ b.here.gone)
-        b.here.since b.here.item b.here.mismatch b.here.like entry number (subtrie_of risen)) }
+        IsRaising table.now seat.new build.new.made.items after (a_node number ∷ b.here.gone) b.here.newcomer (entry number) (subtrie_of risen)) }
     ensures level { (words : List ℕ) → HasLocked seat.old.known number words → IfSome result (IsLevelRisen words) }
     ensures more { length build.new.made.items ≤ length build.old.made.items + 2 }
     ensures nodes { MakesNodes 2 build.old build.new result }
@@ -275,7 +274,7 @@ fn make_by_value<G: Gate>(
     requires takes { (node : NodeView) × AwaitsLeaf words.now node new.now }
     requires room { length build.old.made.items + 1 < MOST_MADE }
     ensures goes { WorksOn table.now G.becomes (seat.old, gate.old) (seat.new, gate.new) }
-    ensures made { MakesGrown table.now seat.old build.old.made.items seat.new build.new.made.items number words.now new.now result }
+    ensures made { MakesGrown table.now (seat.old, build.old.made.items) (seat.new, build.new.made.items) number words.now new.now result }
     ensures more { length build.new.made.items ≤ length build.old.made.items + 2 }
     ensures nodes { MakesNodes 2 build.old build.new result }
     ensures walk { WalksOn table.now.layout seat.old.known build.old seat.new.known build.new result }
@@ -311,7 +310,7 @@ fn make_grown<G: Gate>(
     requires takes { (node : NodeView) × AwaitsLeaf words.old node new.now }
     requires room { length build.old.made.items + 1 < MOST_MADE }
     ensures goes { WorksOn table.now G.becomes (seat.old, gate.old) (seat.new, gate.new) }
-    ensures made { MakesGrown table.now seat.old build.old.made.items seat.new build.new.made.items number words.old new.now result }
+    ensures made { MakesGrown table.now (seat.old, build.old.made.items) (seat.new, build.new.made.items) number words.old new.now result }
     ensures more { length build.new.made.items ≤ length build.old.made.items + 2 }
     ensures nodes { MakesNodes 2 build.old build.new result }
     ensures walk { WalksOn table.now.layout seat.old.known build.old seat.new.known build.new result }
@@ -341,7 +340,7 @@ fn raise_lowest<G: Gate>(
     ensures made { (b : GetsLeaf table.now seat.old build.old.made.items number new.now) → MatchOption result
         (HasNotMade table.now seat.new build.new.made.items)
         (λ r. (after : List Made) ×
-        IsRaising table.now seat.new build.new.made.items after (gone_unless_whole r.1 number) b.since b.item new.now.position b.like entry number (subtrie_of r.0)) }
+        IsRaising table.now seat.new build.new.made.items after (gone_unless_whole r.1 number) (newcomer_of b) (entry number) (subtrie_of r.0)) }
     ensures level { (words : List ℕ) → HasLocked seat.old.known number words → IfSome result (λ r. IsLevelRisen words r.0) }
     ensures more { length build.new.made.items ≤ length build.old.made.items + 2 }
     ensures nodes { MakesNodes 2 build.old build.new result }
@@ -389,7 +388,7 @@ fn settle<G: Gate>(
     ensures goes { WorksOn table.now G.becomes (seat.old, gate.old) (seat.new, gate.new) }
     ensures made { (b : IsRisenAt table.now seat.old build.old.made.items number risen) → MatchOption result
         (HasNotMade table.now seat.new build.new.made.items)
-        (λ e. (after : List Made) × IsRaising table.now seat.new build.new.made.items after b.gone b.since b.item b.mismatch b.like entry number (At e)) }
+        (λ e. (after : List Made) × IsRaising table.now seat.new build.new.made.items after b.gone b.newcomer (entry number) (At e)) }
     ensures low { (height : ℕ) → IsLowRisen height risen → IfSome result (IsNextTo height risen) }
     ensures more { length build.new.made.items ≤ length build.old.made.items + 1 }
     ensures nodes { MakesNodes 1 build.old build.new result }
@@ -436,7 +435,7 @@ fn raise_on<G: Gate>(
     ensures goes { WorksOn table.now G.becomes (seat.old, gate.old) (seat.new, gate.new) }
     ensures made { (b : Rises table.now seat.old build.old.made.items way.now rise.entry) → MatchOption result
         (HasNotMade table.now seat.new build.new.made.items)
-        (HasRisenTo table.now seat.new build.new.made.items way.now b.here.since b.here.item b.here.mismatch b.here.like rise.entry.end
+        (HasRisenTo table.now seat.new build.new.made.items way.now b.here.newcomer rise.entry.end
         (gone_with_way way.now rise.entry.end rise.entry.level b.here.gone)) }
     ensures low { (s : PathNodeView) (words : List ℕ) → slice_get way.now rise.entry.end ≡ Some s → HasLocked seat.old.known s.number words → IfSome result (FitsAbove words) }
     ensures more { length build.new.made.items ≤ length build.old.made.items + 2 * (rise.entry.level - rise.entry.end) + 1 }
@@ -467,7 +466,7 @@ fn raise_above<G: Gate>(
     ensures goes { WorksOn table.now G.becomes (seat.old, gate.old) (seat.new, gate.new) }
     ensures made { (b : Rises table.now seat.old build.old.made.items way.now rise.entry) → MatchOption result
         (HasNotMade table.now seat.new build.new.made.items)
-        (HasRisenTo table.now seat.new build.new.made.items way.now b.here.since b.here.item b.here.mismatch b.here.like rise.entry.end
+        (HasRisenTo table.now seat.new build.new.made.items way.now b.here.newcomer rise.entry.end
         (gone_with_way way.now rise.entry.end rise.entry.level b.here.gone)) }
     ensures low { (s : PathNodeView) (words : List ℕ) → slice_get way.now rise.entry.end ≡ Some s → HasLocked seat.old.known s.number words → IfSome result (FitsAbove words) }
     ensures more { length build.new.made.items ≤ length build.old.made.items + 2 * (rise.entry.level - rise.entry.end) + 1 }
@@ -512,13 +511,13 @@ pub(crate) fn raise_grown<G: Gate>(
     job: &Job<'_>,
     new: &NewLeaf<'_>,
 ) -> Option<(Entry, bool)>
-    requires growing { IsGrowingBy table.now seat.old build.old.made.items job.now.way.now job.now.span new.now }
+    requires growing { IsGrowing table.now seat.old build.old.made.items job.now.way.now job.now.span new.now }
     requires within { job.now.span.end < job.now.span.len }
     requires room { length build.old.made.items + 2 * (job.now.span.len - 1 - job.now.span.end) + 2 < MOST_MADE }
     ensures goes { WorksOn table.now G.becomes (seat.old, gate.old) (seat.new, gate.new) }
-    ensures made { (b : IsGrowingBy table.now seat.old build.old.made.items job.now.way.now job.now.span new.now) → MatchOption result
+    ensures made { (b : IsGrowing table.now seat.old build.old.made.items job.now.way.now job.now.span new.now) → MatchOption result
         (HasNotMade table.now seat.new build.new.made.items)
-        (λ r. HasRisenTo table.now seat.new build.new.made.items job.now.way.now b.lowest.since b.lowest.item new.now.position b.lowest.like job.now.span.end
+        (λ r. HasRisenTo table.now seat.new build.new.made.items job.now.way.now (newcomer_of b.lowest) job.now.span.end
         (gone_with_way job.now.way.now job.now.span.end (job.now.span.len - 1) (gone_unless_whole r.1 b.step.number)) r.0) }
     ensures low { (s : PathNodeView) (words : List ℕ) → slice_get job.now.way.now job.now.span.end ≡ Some s → HasLocked seat.old.known s.number words →
         IfSome result (λ r. FitsAbove words r.0) }

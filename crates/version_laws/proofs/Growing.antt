@@ -9,7 +9,7 @@ use Rattle.versions.specs.declared.Rec.TheVariants.{Node as a_node}
 use Rattle.versions.specs.Core.{Ready, BareCore, view}
 use Rattle.tries.specs.Content.{Item}
 use Rattle.tries.proofs.Changes.{put, IsPathBelow, IsInOwnSubtrie}
-use Rattle.version_laws.specs.Writer.{IsNewLeaf, IsFoundBelow}
+use Rattle.version_laws.specs.Writer.{IsNewLeaf, IsFoundBelow, Newcomer}
 use Rattle.tries.specs.Affected.{affected, IsPart}
 use Rattle.tries.proofs.Tries.{trie_within, built_within, within_trans}
 use Rattle.versions.proofs.Heaps.{shown_within}
@@ -81,27 +81,27 @@ module _ (c : BareCore) (q : ℕ) (x : Item) (p : ℕ) where
       IsGrowth c q x p s r → IsGrowth c q x p t (put w r)
   growth_put w f r i b s path a = record { hand = hand_put c q w f r b s a.hand; adds = added_in_whole w r x p i path a.adds }
 
-module _ (c : BareCore) (q : ℕ) (law : IsLawfulState (view c)) (t : Tree) (now : c.past.version c.past.now ≡ Some t) (since : ℕ) (x : Item) (p : ℕ) (l : Key)
-    (new : IsNewLeaf c q x) where
+module _ (c : BareCore) (q : ℕ) (law : IsLawfulState (view c)) (t : Tree) (now : c.past.version c.past.now ≡ Some t) (x : Newcomer)
+    (new : IsNewLeaf c q x.item) where
   -- The start: the lowest locked node's body with the new leaf.
-  pub growth_leaf : {n : ℕ} {y : Fixed} {b : Tree} → Within (node n y b) t → IsFoundBelow c q since x p l n → IsPart (affected p x.key b) →
-      IsGrowth c q x p b (with_leaf x p b)
+  pub growth_leaf : {n : ℕ} {y : Fixed} {b : Tree} → Within (node n y b) t → IsFoundBelow c q x n → IsPart (affected x.mismatch x.item.key b) →
+      IsGrowth c q x.item x.mismatch b (with_leaf x.item x.mismatch b)
   growth_leaf {b = b} v f is_part = record {
-    hand = hand_leaf_in c q law t now v p x new;
-    adds = found_added c q law t now v since p x l f is_part (with_leaf x p b) refl;
+    hand = hand_leaf_in c q law t now v x.mismatch x.item new;
+    adds = found_added c q law t now v x f is_part (with_leaf x.item x.mismatch b) refl;
   }
 
   -- Or the affected part alone with the new leaf beside it: of a full node that stays whole.
-  pub growth_beside : {n : ℕ} {y : Fixed} {b s : Tree} → Within (node n y b) t → IsFoundBelow c q since x p l n → IsPart (affected p x.key b) →
-      Within s t → ((k : Key) → Has s k → Has (affected p x.key b) k) → IsGrowth c q x p s (grown (bit x.key p) p s x)
+  pub growth_beside : {n : ℕ} {y : Fixed} {b s : Tree} → Within (node n y b) t → IsFoundBelow c q x n → IsPart (affected x.mismatch x.item.key b) →
+      Within s t → ((k : Key) → Has s k → Has (affected x.mismatch x.item.key b) k) → IsGrowth c q x.item x.mismatch s (grown (bit x.item.key x.mismatch) x.mismatch s x.item)
   growth_beside {b = b} {s = s} v f is_part w keys = record {
-    hand = hand_grown c q (bit x.key p) p s s x (hand_stay c q s (built_within w (built_now c law t now)) (shown_within c.heap w (shown_now c law t now))) new.fate new.words;
-    adds = added_here s x p (trie_within w (trie_now c law t now)) f.key (λ k h. found_away c q law t now v since p x l f is_part k (keys k h));
+    hand = hand_grown c q (bit x.item.key x.mismatch) x.mismatch s s x.item (hand_stay c q s (built_within w (built_now c law t now)) (shown_within c.heap w (shown_now c law t now))) new.fate new.words;
+    adds = added_here s x.item x.mismatch (trie_within w (trie_now c law t now)) f.key (λ k h. found_away c q law t now v x f is_part k (keys k h));
   }
 
   -- What the next node's body becomes.
-  pub pulled : {o n : ℕ} {z y : Fixed} {d b : Tree} → Within (node o z d) t → (u : Within (node n y b) d) → IsInOwnSubtrie u → IsPathBelow p u → (r : Tree) →
-      IsGrowth c q x p (node n y b) r → IsGrowth c q x p d (put u r)
+  pub pulled : {o n : ℕ} {z y : Fixed} {d b : Tree} → Within (node o z d) t → (u : Within (node n y b) d) → IsInOwnSubtrie u → IsPathBelow x.mismatch u → (r : Tree) →
+      IsGrowth c q x.item x.mismatch (node n y b) r → IsGrowth c q x.item x.mismatch d (put u r)
   pulled v u flat path r a =
       let i = within_trans (inside here) v in
-      growth_put c q x p u flat r (trie_within i (trie_now c law t now)) (built_within i (built_now c law t now)) (shown_within c.heap i (shown_now c law t now)) path a
+      growth_put c q x.item x.mismatch u flat r (trie_within i (trie_now c law t now)) (built_within i (built_now c law t now)) (shown_within c.heap i (shown_now c law t now)) path a

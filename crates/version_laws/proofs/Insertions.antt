@@ -12,7 +12,7 @@ use Rattle.tries.specs.Content.{Item, added}
 use Rattle.tries.specs.Changes.{IsAdded}
 use Rattle.tries.proofs.Changes.{put}
 use Rattle.versions.specs.Told.{IsChange}
-use Rattle.version_laws.specs.Writer.{added_change, IsNewLeaf, IsFoundBelow}
+use Rattle.version_laws.specs.Writer.{added_change, IsNewLeaf, IsFoundBelow, Newcomer}
 use Rattle.tries.specs.Affected.{affected, IsPart}
 use Rattle.tries.proofs.Tries.{trie_within, built_within, within_trans}
 use Rattle.versions.proofs.Heaps.{shown_within, near_refl}
@@ -39,20 +39,20 @@ part_of (fork n k v) f = tt
 
 module _ (c : BareCore) (q : ℕ) (law : IsLawfulState (view c)) (t : Tree) (now : c.past.version c.past.now ≡ Some t) where
   -- What a writer that has found a leaf below its lowest locked node knows of the present.
-  pub found_follows : {n : ℕ} {y : Fixed} {b : Tree} → Within (node n y b) t → (since p : ℕ) (x : Item) (l : Key) → IsFoundBelow c q since x p l n → Follows l (child x.key b)
-  found_follows v since p x l f = way_follows c law since f.reach t now v x.key l f.way
+  pub found_follows : {n : ℕ} {y : Fixed} {b : Tree} → Within (node n y b) t → (x : Newcomer) → IsFoundBelow c q x n → Follows x.like (child x.item.key b)
+  found_follows v x f = way_follows c law x.since f.reach t now v x.item.key x.like f.way
 
   -- All keys of the affected part agree with the new key before `p` and have the other bit there.
-  pub found_away : {n : ℕ} {y : Fixed} {b : Tree} → Within (node n y b) t → (since p : ℕ) (x : Item) (l : Key) → IsFoundBelow c q since x p l n →
-      IsPart (affected p x.key b) → (k : Key) → Has (affected p x.key b) k → DifferFirstAt p x.key k
-  found_away {b = b} v since p x l f is_part =
-      part_differs_first p x.key l f.agree f.differ b (trie_within (within_trans (inside here) v) (trie_now c law t now)) is_part (found_follows v since p x l f)
+  pub found_away : {n : ℕ} {y : Fixed} {b : Tree} → Within (node n y b) t → (x : Newcomer) → IsFoundBelow c q x n →
+      IsPart (affected x.mismatch x.item.key b) → (k : Key) → Has (affected x.mismatch x.item.key b) k → DifferFirstAt x.mismatch x.item.key k
+  found_away {b = b} v x f is_part =
+      part_differs_first x.mismatch x.item.key x.like f.agree f.differ b (trie_within (within_trans (inside here) v) (trie_now c law t now)) is_part (found_follows v x f)
 
   -- So the node's body with the new leaf has one leaf more.
-  pub found_added : {n : ℕ} {y : Fixed} {b : Tree} → Within (node n y b) t → (since p : ℕ) (x : Item) (l : Key) → IsFoundBelow c q since x p l n →
-      IsPart (affected p x.key b) → (r : Tree) → without_marks r ≡ without_marks (with_leaf x p b) → IsAdded x p b r
-  found_added {b = b} v since p x l f is_part r e =
-      added_at (part_place p x.key b).0 x p r (trie_within (within_trans (inside here) v) (trie_now c law t now)) f.key (part_place p x.key b).2 (found_away v since p x l f is_part) e
+  pub found_added : {n : ℕ} {y : Fixed} {b : Tree} → Within (node n y b) t → (x : Newcomer) → IsFoundBelow c q x n →
+      IsPart (affected x.mismatch x.item.key b) → (r : Tree) → without_marks r ≡ without_marks (with_leaf x.item x.mismatch b) → IsAdded x.item x.mismatch b r
+  found_added {b = b} v x f is_part r e =
+      added_at (part_place x.mismatch x.item.key b).0 x.item x.mismatch r (trie_within (within_trans (inside here) v) (trie_now c law t now)) f.key (part_place x.mismatch x.item.key b).2 (found_away v x f is_part) e
 
   -- The new leaf in a locked node's body is at hand.
   pub hand_leaf_in : {n : ℕ} {y : Fixed} {b : Tree} → Within (node n y b) t → (p : ℕ) (x : Item) → IsNewLeaf c q x → IsAtHand c q b (with_leaf x p b)

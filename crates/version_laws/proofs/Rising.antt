@@ -7,14 +7,13 @@ use Rattle.compound_node.specs.declared.entries.Entry.TheVariants.{Leaf, Node}
 use Rattle.pieces.specs.Piece.{Place, Fork}
 use Rattle.tries.specs.Tree.{Fixed, Subtrie, Tree, leaf, node, fork, subtrie, Has, IsTrie, IsFork, Within, here, inside, IsFit, IsBuilt}
 use Rattle.tries.specs.Search.{child}
-use Rattle.tries.specs.Content.{Item}
 use Rattle.tries.proofs.Changes.{put, IsPathBelow, IsInOwnSubtrie}
 use Rattle.tries.specs.Place.{with_subtrie}
 use Rattle.tries.specs.Affected.{affected, IsPart, subtrie_affected, subtrie_forked, subtrie_grown, IsPartSubtrie, IsLowerSubtrie, FirstForkIsBefore, IsTipSubtrie}
 use Rattle.versions.specs.Heap.{NodeWords, IsShown}
 use Rattle.versions.specs.State.{FirstForkIsFrom, IsLawfulState, Links}
 use Rattle.versions.specs.Core.{BareCore, view, Ready}
-use Rattle.version_laws.specs.Writer.{added_change, IsNewLeaf, IsFoundBelow}
+use Rattle.version_laws.specs.Writer.{added_change, IsNewLeaf, IsFoundBelow, Newcomer}
 use Rattle.version_laws.specs.Rise.{IsNewSubtrie, IsEntryFor, alone, in_node, IsUpper, Side, body, entry, IsRise, grows, pulls, copies, halves, stays_whole, wraps, linked_for_entry, linked_by_rise, unlinked_by_rise}
 use Rattle.tries.proofs.Tries.{trie_within, built_within, within_trans}
 use Rattle.tries.proofs.Affected.{affected_subtrie, part_subtrie, part_place, lower_subtrie, place_subtrie, grown_subtrie}
@@ -134,50 +133,54 @@ first_path p (leaf a k s) w i h = absurd h
 first_path p (node a k s) w i h = absurd h
 first_path p (fork a k s) w i h = path_rises_node w i (omega arith)
 
-module _ (c : BareCore) (q : ℕ) (law : IsLawfulState (view c)) (t : Tree) (now : c.past.version c.past.now ≡ Some t) (since : ℕ) (x : Item) (p : ℕ) (l : Key)
-    (new : IsNewLeaf c q x) where
+module _ (c : BareCore) (q : ℕ) (law : IsLawfulState (view c)) (t : Tree) (now : c.past.version c.past.now ≡ Some t) (x : Newcomer)
+    (new : IsNewLeaf c q x.item) where
   words_of : {n : ℕ} {y : Fixed} {b : Tree} → Within (node n y b) t → c.heap.nodes n ≡ record { fixed = y; subtrie = subtrie b }
   words_of v = (shown_within c.heap v (shown_now c law t now)).0
 
   subtrie_of : {n : ℕ} {y : Fixed} {b : Tree} → Within (node n y b) t → (c.heap.nodes n).subtrie ≡ subtrie b
   subtrie_of v = ap (λ (w : NodeWords). w.subtrie) (words_of v)
 
-  part_here : {n : ℕ} {y : Fixed} {b : Tree} → Within (node n y b) t → IsPartSubtrie (subtrie_affected p x.key (c.heap.nodes n).subtrie) → IsPart (affected p x.key b)
-  part_here {b = b} v i = part_subtrie (affected p x.key b) (subst IsPartSubtrie (ap (subtrie_affected p x.key) (subtrie_of v) ∙ sym (affected_subtrie p x.key b)) i)
+  part_here : {n : ℕ} {y : Fixed} {b : Tree} → Within (node n y b) t → IsPartSubtrie (subtrie_affected x.mismatch x.item.key (c.heap.nodes n).subtrie) → IsPart (affected x.mismatch x.item.key b)
+  part_here {b = b} v i = part_subtrie (affected x.mismatch x.item.key b) (subst IsPartSubtrie (ap (subtrie_affected x.mismatch x.item.key) (subtrie_of v) ∙ sym (affected_subtrie x.mismatch x.item.key b)) i)
 
   -- Node `n` as it stands in the body of the locked node `o` above it, and the way to it.
   abbrev IsChild : Tree → ℕ → Type 0
-  IsChild d n = (y : Fixed) × (b : Tree) × (w : Within (node n y b) d) × IsInOwnSubtrie w × IsPathBelow p w × ((r : Tree) → subtrie (put w r) ≡ with_subtrie x.key (subtrie r) (subtrie d))
+  IsChild d n = (y : Fixed) × (b : Tree) × (w : Within (node n y b) d) × IsInOwnSubtrie w × IsPathBelow x.mismatch w × ((r : Tree) → subtrie (put w r) ≡ with_subtrie x.item.key (subtrie r) (subtrie d))
 
-  child_of : {o n : ℕ} {z : Fixed} {d : Tree} → Within (node o z d) t → IsUpper c q x.key p o n → IsChild d n
-  child_of {o} {n} {z} {d} v u = go (entry_node c law t now v x.key n u.height u.entry)
+  child_of : {o n : ℕ} {z : Fixed} {d : Tree} → Within (node o z d) t → IsUpper c q x.item.key x.mismatch o n → IsChild d n
+  child_of {o} {n} {z} {d} v u = go (entry_node c law t now v x.item.key n u.height u.entry)
     where
-      go : (y : Fixed) × (b : Tree) × (child x.key d ≡ node n y b) × (c.heap.nodes n ≡ record { fixed = y; subtrie = subtrie b }) → IsChild d n
+      go : (y : Fixed) × (b : Tree) × (child x.item.key d ≡ node n y b) × (c.heap.nodes n ≡ record { fixed = y; subtrie = subtrie b }) → IsChild d n
       go (y, b, f, w) = (y, b, at.0, at.1, path u.path, at.2)
         where
-          at : IsSpot x.key d (node n y b)
-          at = subst (IsSpot x.key d) f (subtrie_spot x.key d)
+          at : IsSpot x.item.key d (node n y b)
+          at = subst (IsSpot x.item.key d) f (subtrie_spot x.item.key d)
 
           trie_d : IsTrie d
           trie_d = trie_within (within_trans (inside here) v) (trie_now c law t now)
 
-          path : FirstForkIsBefore p (c.heap.nodes n).subtrie ⊎ IsTipSubtrie (subtrie_affected p x.key (c.heap.nodes o).subtrie) → IsPathBelow p at.0
-          path (inl h) = first_path p b at.0 trie_d (subst (FirstForkIsBefore p) (ap (λ (z : NodeWords). z.subtrie) w) h)
-          path (inr h) = at.3 p (is_tip (affected p x.key d) (subst IsTipSubtrie (ap (subtrie_affected p x.key) (subtrie_of v) ∙ sym (affected_subtrie p x.key d)) h))
+          path : FirstForkIsBefore x.mismatch (c.heap.nodes n).subtrie ⊎ IsTipSubtrie (subtrie_affected x.mismatch x.item.key (c.heap.nodes o).subtrie) → IsPathBelow x.mismatch at.0
+          path (inl h) = first_path x.mismatch b at.0 trie_d (subst (FirstForkIsBefore x.mismatch) (ap (λ (z : NodeWords). z.subtrie) w) h)
+          path (inr h) = at.3 x.mismatch (is_tip (affected x.mismatch x.item.key d) (subst IsTipSubtrie (ap (subtrie_affected x.mismatch x.item.key) (subtrie_of v) ∙ sym (affected_subtrie x.mismatch x.item.key d)) h))
 
   -- What the rise of a node is the subtrie of: a tree in the place of its body, or of its entry; and what it trades.
-  abbrev HasRisen : Side → ℕ → Subtrie → List Rec → List Rec → Type 0
-  HasRisen body n r us gs = (y : Fixed) (b : Tree) → Within (node n y b) t → (s : Tree) × (subtrie s ≡ r) × IsGrowth c q x p b s × IsTrade c q b s us gs
-  HasRisen entry n r us gs = (y : Fixed) (b : Tree) → Within (node n y b) t → (s : Tree) × (subtrie s ≡ r) × IsGrowth c q x p (node n y b) s × IsTrade c q (node n y b) s us gs
+  abbrev HasRisen : Side → Subtrie → List Rec → List Rec → Type 0
+  HasRisen (body n) r us gs = (y : Fixed) (b : Tree) → Within (node n y b) t → (s : Tree) × (subtrie s ≡ r) × IsGrowth c q x.item x.mismatch b s × IsTrade c q b s us gs
+  HasRisen (entry n) r us gs = (y : Fixed) (b : Tree) → Within (node n y b) t → (s : Tree) × (subtrie s ≡ r) × IsGrowth c q x.item x.mismatch (node n y b) s × IsTrade c q (node n y b) s us gs
 
   -- The node is locked.
-  rise_locked : (d : Side) (n : ℕ) (r : Subtrie) → IsRise c q since x p l d n r → c.lock n ≡ Some q
-  rise_locked d o r (grows n found i) = found.lock
-  rise_locked d o r (pulls k n s u i) = u.locked.lock
-  rise_locked d o r (copies n s m g i z) = rise_locked body n s i
-  rise_locked d o r (halves n f a b e h i u v) = rise_locked body n (Fork f a b) i
-  rise_locked d o r (stays_whole n found i) = found.lock
-  rise_locked d o r (wraps n s m g i z) = rise_locked entry n s i
+  abbrev IsLockedSide : Side → Type 0
+  IsLockedSide (body n) = c.lock n ≡ Some q
+  IsLockedSide (entry n) = c.lock n ≡ Some q
+
+  rise_locked : (d : Side) (r : Subtrie) → IsRise c q x d r → IsLockedSide d
+  rise_locked d r (grows n found i) = found.lock
+  rise_locked d r (pulls k n s u i) = u.locked.lock
+  rise_locked d r (copies n s m g i z) = rise_locked (body n) s i
+  rise_locked d r (halves n f a b e h i u v) = rise_locked (body n) (Fork f a b) i
+  rise_locked d r (stays_whole n found i) = found.lock
+  rise_locked d r (wraps n s m g i z) = rise_locked (entry n) s i
 
   trie_in : {s : Tree} → Within s t → IsTrie s
   trie_in w = trie_within w (trie_now c law t now)
@@ -189,30 +192,30 @@ module _ (c : BareCore) (q : ℕ) (law : IsLawfulState (view c)) (t : Tree) (now
   shown_in w = shown_within c.heap w (shown_now c law t now)
 
   part_trade : {n : ℕ} {y : Fixed} (b : Tree) → Within (node n y b) t →
-      IsTrade c q (affected p x.key b) (grown (bit x.key p) p (affected p x.key b) x) (a_leaf x.number ∷ []) []
-  part_trade b v = grown_trade c q law t now x p new (affected p x.key b) (within_trans (part_place p x.key b).0 (within_trans (inside here) v))
+      IsTrade c q (affected x.mismatch x.item.key b) (grown (bit x.item.key x.mismatch) x.mismatch (affected x.mismatch x.item.key b) x.item) (a_leaf x.item.number ∷ []) []
+  part_trade b v = grown_trade c q law t now x.item x.mismatch new (affected x.mismatch x.item.key b) (within_trans (part_place x.mismatch x.item.key b).0 (within_trans (inside here) v))
 
-  rise_grows : (n : ℕ) → IsFoundBelow c q since x p l n → IsPartSubtrie (subtrie_affected p x.key (c.heap.nodes n).subtrie) →
-      HasRisen body n (subtrie_grown p x.key (Leaf x.number) (c.heap.nodes n).subtrie) (a_leaf x.number ∷ []) []
+  rise_grows : (n : ℕ) → IsFoundBelow c q x n → IsPartSubtrie (subtrie_affected x.mismatch x.item.key (c.heap.nodes n).subtrie) →
+      HasRisen (body n) (subtrie_grown x.mismatch x.item.key (Leaf x.item.number) (c.heap.nodes n).subtrie) (a_leaf x.item.number ∷ []) []
   rise_grows n found i y b v = (
-    with_leaf x p b,
-    place_subtrie p x b ∙ ap (subtrie_grown p x.key (Leaf x.number)) (sym (subtrie_of v)),
-    growth_leaf c q law t now since x p l new v found (part_here v i),
+    with_leaf x.item x.mismatch b,
+    place_subtrie x.mismatch x.item b ∙ ap (subtrie_grown x.mismatch x.item.key (Leaf x.item.number)) (sym (subtrie_of v)),
+    growth_leaf c q law t now x new v found (part_here v i),
     record {
-      trade = traded_in_whole c.heap (part_place p x.key b).0 (grown (bit x.key p) p (affected p x.key b) x) (a_leaf x.number ∷ []) [] (trie_in (within_trans (inside here) v)) (built_in (within_trans (inside here) v)) (shown_in (within_trans (inside here) v))
+      trade = traded_in_whole c.heap (part_place x.mismatch x.item.key b).0 (grown (bit x.item.key x.mismatch) x.mismatch (affected x.mismatch x.item.key b) x.item) (a_leaf x.item.number ∷ []) [] (trie_in (within_trans (inside here) v)) (built_in (within_trans (inside here) v)) (shown_in (within_trans (inside here) v))
           (part_trade b v).trade;
       ready = (part_trade b v).ready;
       apart = tt;
     },
   )
 
-  rise_pulls : (o n : ℕ) (r : Subtrie) (us gs : List Rec) → IsUpper c q x.key p o n → HasRisen entry n r us gs → HasRisen body o (with_subtrie x.key r (c.heap.nodes o).subtrie) us gs
+  rise_pulls : (o n : ℕ) (r : Subtrie) (us gs : List Rec) → IsUpper c q x.item.key x.mismatch o n → HasRisen (entry n) r us gs → HasRisen (body o) (with_subtrie x.item.key r (c.heap.nodes o).subtrie) us gs
   rise_pulls o n r us gs u f z d v =
       let (y, b, w, flat, path, subtries) = child_of v u in
       let (s, e, a, tr) = f y b (within_trans w (within_trans (inside here) v)) in (
         put w s,
-        subtries s ∙ (ap (λ z. with_subtrie x.key z (subtrie d)) e ∙ ap (with_subtrie x.key r) (sym (subtrie_of v))),
-        pulled c q law t now since x p l new v w flat path s a,
+        subtries s ∙ (ap (λ z. with_subtrie x.item.key z (subtrie d)) e ∙ ap (with_subtrie x.item.key r) (sym (subtrie_of v))),
+        pulled c q law t now x new v w flat path s a,
         record {
           trade = traded_in_whole c.heap w s us gs (trie_in (within_trans (inside here) v)) (built_in (within_trans (inside here) v)) (shown_in (within_trans (inside here) v)) tr.trade;
           ready = tr.ready;
@@ -220,17 +223,17 @@ module _ (c : BareCore) (q : ℕ) (law : IsLawfulState (view c)) (t : Tree) (now
         },
       )
 
-  rise_copies : (n : ℕ) (r : Subtrie) (m : ℕ) (g : Fixed) (us gs : List Rec) → c.lock n ≡ Some q → HasRisen body n r us gs → IsNewSubtrie c q m g r → HasRisen entry n (Place (Node m g.height)) (a_node m ∷ us) (a_node n ∷ gs)
+  rise_copies : (n : ℕ) (r : Subtrie) (m : ℕ) (g : Fixed) (us gs : List Rec) → c.lock n ≡ Some q → HasRisen (body n) r us gs → IsNewSubtrie c q m g r → HasRisen (entry n) (Place (Node m g.height)) (a_node m ∷ us) (a_node n ∷ gs)
   rise_copies n r m g us gs lock f i y b v =
       let (s, e, a, tr) = f y b v in (
         node m g s,
         refl,
-        growth_open c q x p b (node m g s) n y (growth_around c q x p b s m g a (new_node c q m g s r e i)) lock,
+        growth_open c q x.item x.mismatch b (node m g s) n y (growth_around c q x.item x.mismatch b s m g a (new_node c q m g s r e i)) lock,
         open_trade c q law t now v (node m g s) (a_node m ∷ us) gs (around_trade c q law t now b s m g us gs (within_trans (inside here) v) i.fate tr),
       )
 
-  rise_halves : (n f : ℕ) (a b : Subtrie) (d e : Entry) (us gs : List Rec) → c.lock n ≡ Some q → HasRisen body n (Fork f a b) us gs → (i : IsEntryFor c q a d) (j : IsEntryFor c q b e) →
-      HasRisen entry n (Fork f (Place d) (Place e)) (linked_for_entry i ++ (linked_for_entry j ++ us)) (a_node n ∷ gs)
+  rise_halves : (n f : ℕ) (a b : Subtrie) (d e : Entry) (us gs : List Rec) → c.lock n ≡ Some q → HasRisen (body n) (Fork f a b) us gs → (i : IsEntryFor c q a d) (j : IsEntryFor c q b e) →
+      HasRisen (entry n) (Fork f (Place d) (Place e)) (linked_for_entry i ++ (linked_for_entry j ++ us)) (a_node n ∷ gs)
   rise_halves n f a b d e us gs lock h i j y o v =
       let (s, z, k, tr) = h y o v in
       let (u, w, is, pu, pw) = fork_parts s f a b z in
@@ -238,51 +241,51 @@ module _ (c : BareCore) (q : ℕ) (law : IsLawfulState (view c)) (t : Tree) (now
       let (w', ew, hw, nw) = half_trade c q b e j w pw in (
         fork f u' w',
         ap₂ (Fork f) eu ew,
-        growth_open c q x p o (fork f u' w') n y (growth_cut c q x p o f u w u' w' (subst (IsGrowth c q x p o) is k) hu hw) lock,
+        growth_open c q x.item x.mismatch o (fork f u' w') n y (growth_cut c q x.item x.mismatch o f u w u' w' (subst (IsGrowth c q x.item x.mismatch o) is k) hu hw) lock,
         open_trade c q law t now v (fork f u' w') (linked_for_entry i ++ (linked_for_entry j ++ us)) gs
             (cut_trade c q o f u w u' w' us gs (linked_for_entry i) (linked_for_entry j) (old_now c q law t now (within_trans (inside here) v)) (subst (λ z. IsTrade c q o z us gs) is tr) nu nw),
       )
 
-  rise_whole : (n : ℕ) → IsFoundBelow c q since x p l n → FirstForkIsFrom p (c.heap.nodes n).subtrie →
-      HasRisen entry n (subtrie_forked (bit x.key p) p (Leaf x.number) (Place (Node n (c.heap.nodes n).fixed.height))) (a_leaf x.number ∷ []) []
+  rise_whole : (n : ℕ) → IsFoundBelow c q x n → FirstForkIsFrom x.mismatch (c.heap.nodes n).subtrie →
+      HasRisen (entry n) (subtrie_forked (bit x.item.key x.mismatch) x.mismatch (Leaf x.item.number) (Place (Node n (c.heap.nodes n).fixed.height))) (a_leaf x.item.number ∷ []) []
   rise_whole n found i y b v =
       let two : IsFork b = (built_within v (built_now c law t now)).0 in
-      let whole : affected p x.key b ≡ b = whole_affected p x.key b two (subst (FirstForkIsFrom p) (subtrie_of v) i) in
+      let whole : affected x.mismatch x.item.key b ≡ b = whole_affected x.mismatch x.item.key b two (subst (FirstForkIsFrom x.mismatch) (subtrie_of v) i) in
       let height : y.height ≡ (c.heap.nodes n).fixed.height = ap (λ (w : NodeWords). w.fixed.height) (sym (words_of v)) in (
-        grown (bit x.key p) p (node n y b) x,
-        grown_subtrie (bit x.key p) p (node n y b) x ∙ ap (λ h. subtrie_forked (bit x.key p) p (Leaf x.number) (Place (Node n h))) height,
-        growth_beside c q law t now since x p l new v found (subst IsPart (sym whole) (part_of b two)) v (λ k h. subst (λ u. Has u k) (sym whole) h),
-        grown_trade c q law t now x p new (node n y b) v,
+        grown (bit x.item.key x.mismatch) x.mismatch (node n y b) x.item,
+        grown_subtrie (bit x.item.key x.mismatch) x.mismatch (node n y b) x.item ∙ ap (λ h. subtrie_forked (bit x.item.key x.mismatch) x.mismatch (Leaf x.item.number) (Place (Node n h))) height,
+        growth_beside c q law t now x new v found (subst IsPart (sym whole) (part_of b two)) v (λ k h. subst (λ u. Has u k) (sym whole) h),
+        grown_trade c q law t now x.item x.mismatch new (node n y b) v,
       )
 
-  rise_wraps : (n : ℕ) (r : Subtrie) (m : ℕ) (g : Fixed) (us gs : List Rec) → HasRisen entry n r us gs → IsNewSubtrie c q m g r → HasRisen entry n (Place (Node m g.height)) (a_node m ∷ us) gs
+  rise_wraps : (n : ℕ) (r : Subtrie) (m : ℕ) (g : Fixed) (us gs : List Rec) → HasRisen (entry n) r us gs → IsNewSubtrie c q m g r → HasRisen (entry n) (Place (Node m g.height)) (a_node m ∷ us) gs
   rise_wraps n r m g us gs f i y b v =
-      let (s, e, a, tr) = f y b v in (node m g s, refl, growth_around c q x p (node n y b) s m g a (new_node c q m g s r e i), around_trade c q law t now (node n y b) s m g us gs v i.fate tr)
+      let (s, e, a, tr) = f y b v in (node m g s, refl, growth_around c q x.item x.mismatch (node n y b) s m g a (new_node c q m g s r e i), around_trade c q law t now (node n y b) s m g us gs v i.fate tr)
 
   -- The fold over the path.
-  pub risen : (d : Side) (n : ℕ) (r : Subtrie) (i : IsRise c q since x p l d n r) → HasRisen d n r (linked_by_rise i) (unlinked_by_rise i)
-  risen d o r (grows n found i) = rise_grows n found i
-  risen d o r (pulls k n s u i) = rise_pulls k n s (linked_by_rise i) (unlinked_by_rise i) u (risen entry n s i)
-  risen d o r (copies n s m g i z) = rise_copies n s m g (linked_by_rise i) (unlinked_by_rise i) (rise_locked body n s i) (risen body n s i) z
-  risen d o r (halves n f a b e h i u v) = rise_halves n f a b e h (linked_by_rise i) (unlinked_by_rise i) (rise_locked body n (Fork f a b) i) (risen body n (Fork f a b) i) u v
-  risen d o r (stays_whole n found i) = rise_whole n found i
-  risen d o r (wraps n s m g i z) = rise_wraps n s m g (linked_by_rise i) (unlinked_by_rise i) (risen entry n s i) z
+  pub risen : (d : Side) (r : Subtrie) (i : IsRise c q x d r) → HasRisen d r (linked_by_rise i) (unlinked_by_rise i)
+  risen d r (grows n found i) = rise_grows n found i
+  risen d r (pulls k n s u i) = rise_pulls k n s (linked_by_rise i) (unlinked_by_rise i) u (risen (entry n) s i)
+  risen d r (copies n s m g i z) = rise_copies n s m g (linked_by_rise i) (unlinked_by_rise i) (rise_locked (body n) s i) (risen (body n) s i) z
+  risen d r (halves n f a b e h i u v) = rise_halves n f a b e h (linked_by_rise i) (unlinked_by_rise i) (rise_locked (body n) (Fork f a b) i) (risen (body n) (Fork f a b) i) u v
+  risen d r (stays_whole n found i) = rise_whole n found i
+  risen d r (wraps n s m g i z) = rise_wraps n s m g (linked_by_rise i) (unlinked_by_rise i) (risen (entry n) s i) z
 
 -- The new leaf is among the records of a rise.
-pub leaf_linked_by_rise : {c : BareCore} {q since : ℕ} {x : Item} {p : ℕ} {l : Key} {d : Side} {n : ℕ} {r : Subtrie} (i : IsRise c q since x p l d n r) → IsOneOf (a_leaf x.number) (linked_by_rise i)
+pub leaf_linked_by_rise : {c : BareCore} {q : ℕ} {x : Newcomer} {d : Side} {r : Subtrie} (i : IsRise c q x d r) → IsOneOf (a_leaf x.item.number) (linked_by_rise i)
 leaf_linked_by_rise (grows n found i) = inl refl
 leaf_linked_by_rise (pulls o n r u i) = leaf_linked_by_rise i
 leaf_linked_by_rise (copies n r m g i z) = inr (leaf_linked_by_rise i)
-leaf_linked_by_rise {x = x} (halves n f a b d e i u v) = of_right (a_leaf x.number) (linked_for_entry u) (linked_for_entry v ++ linked_by_rise i) (of_right (a_leaf x.number) (linked_for_entry v) (linked_by_rise i) (leaf_linked_by_rise i))
+leaf_linked_by_rise {x = x} (halves n f a b d e i u v) = of_right (a_leaf x.item.number) (linked_for_entry u) (linked_for_entry v ++ linked_by_rise i) (of_right (a_leaf x.item.number) (linked_for_entry v) (linked_by_rise i) (leaf_linked_by_rise i))
 leaf_linked_by_rise (stays_whole n found i) = inl refl
 leaf_linked_by_rise (wraps n r m g i z) = inr (leaf_linked_by_rise i)
 
 -- The publish, at the spot of the node.
 pub insert_at_spot : InsertAtSpot
-insert_at_spot c q law since x p l new n h e i s only low heap root st =
+insert_at_spot c q law x new n h e i s only low heap root st =
     let (t, now) = newest_tree_if_spot_held c q law s in
-    let (y, b, at) = node_at c q law t now x.key n h s in
-    let (r, pg, a, tr) = risen c q law t now since x p l new entry n (Place e) i y b at.place in
-    let first : FirstForkIsBefore p (c.heap.nodes n).subtrie → IsPathBelow p at.place = λ f. first_path p b at.place (trie_now c law t now) (subst (FirstForkIsBefore p) (ap (λ (z : NodeWords). z.subtrie) (shown_within c.heap at.place (shown_now c law t now)).0) f) in
-    let whole = added_in_whole at.place r x p (trie_now c law t now) (at.path p first only) a.adds in
-    published_at c q law t now x.key (Node n h) s (node n y b) at r e pg low a.hand x.number (linked_by_rise i) (unlinked_by_rise i) tr (inl (leaf_linked_by_rise i)) whole.trie (added_change q x) refl (x.number, whole.more) heap root st
+    let (y, b, at) = node_at c q law t now x.item.key n h s in
+    let (r, pg, a, tr) = risen c q law t now x new (entry n) (Place e) i y b at.place in
+    let first : FirstForkIsBefore x.mismatch (c.heap.nodes n).subtrie → IsPathBelow x.mismatch at.place = λ f. first_path x.mismatch b at.place (trie_now c law t now) (subst (FirstForkIsBefore x.mismatch) (ap (λ (z : NodeWords). z.subtrie) (shown_within c.heap at.place (shown_now c law t now)).0) f) in
+    let whole = added_in_whole at.place r x.item x.mismatch (trie_now c law t now) (at.path x.mismatch first only) a.adds in
+    published_at c q law t now x.item.key (Node n h) s (node n y b) at r e pg low a.hand x.item.number (linked_by_rise i) (unlinked_by_rise i) tr (inl (leaf_linked_by_rise i)) whole.trie (added_change q x.item) refl (x.item.number, whole.more) heap root st

@@ -8,8 +8,7 @@ use Rattle.versions.specs.declared.Rec.TheVariants.{Node as a_node}
 use Rattle.versions.specs.Core.{BareCore, pin_version, view}
 use Rattle.versions.specs.declared.Pin.{Pin}
 use Rattle.versions.specs.Frames.{IsGrown}
-use Rattle.tries.specs.Content.{Item}
-use Rattle.version_laws.specs.Writer.{BeganAt, IsWayBelow, at_leaf, below, IsFoundBelow}
+use Rattle.version_laws.specs.Writer.{BeganAt, IsWayBelow, at_leaf, below, IsFoundBelow, Newcomer}
 use Rattle.versions.proofs.Growth.{stands_grown, marked_grown}
 use Rattle.versions.proofs.States.{reach_later}
 
@@ -20,13 +19,13 @@ pub way_grown : (a b : Past) → IsGrown a b → (m : ℕ) (k : Key) (x : Subtri
 way_grown a b g m k x l (at_leaf j e f) = at_leaf j e (marked_grown a b g m (λ y. y ≡ l) _ f)
 way_grown a b g m k x l (below n h r like e f i) = below n h r like e (begun_grown a b g m r like n f) i
 
-pub found_kept : (c d : BareCore) (q since p : ℕ) (x : Item) (l : Key) (n : ℕ) (pin : Pin) → IsLawfulState (view d) → IsGrown c.past d.past →
-    d.lock n ≡ Some q → d.heap.nodes n ≡ c.heap.nodes n → d.pins q ≡ Some pin → pin.version ≤ since → IsFoundBelow c q since x p l n → IsFoundBelow d q since x p l n
-found_kept c d q since p x l n pin law grown lock words pinned lo found = record {
+pub found_kept : (c d : BareCore) (q : ℕ) (x : Newcomer) (n : ℕ) (pin : Pin) → IsLawfulState (view d) → IsGrown c.past d.past →
+    d.lock n ≡ Some q → d.heap.nodes n ≡ c.heap.nodes n → d.pins q ≡ Some pin → pin.version ≤ x.since → IsFoundBelow c q x n → IsFoundBelow d q x n
+found_kept c d q x n pin law grown lock words pinned lo found = record {
   key = found.key;
-  reach = reach_later (view d) pin.version since lo (law.reach q pin.version (ap pin_version pinned));
+  reach = reach_later (view d) pin.version x.since lo (law.reach q pin.version (ap pin_version pinned));
   lock = lock;
-  way = subst (λ z. IsWayBelow d.past since x.key z l) (ap (λ (w : NodeWords). w.subtrie) (sym words)) (way_grown c.past d.past grown since x.key _ l found.way);
+  way = subst (λ z. IsWayBelow d.past x.since x.item.key z x.like) (ap (λ (w : NodeWords). w.subtrie) (sym words)) (way_grown c.past d.past grown x.since x.item.key _ x.like found.way);
   agree = found.agree;
   differ = found.differ;
 }

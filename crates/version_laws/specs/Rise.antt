@@ -6,14 +6,13 @@ use Rattle.compound_node.specs.declared.entries.Entry.TheVariants.{Leaf, Node}
 use Rattle.pieces.specs.Piece.{Place, Fork}
 use Rattle.tries.specs.Tree.{Fixed, Subtrie, IsFit}
 use Rattle.tries.specs.Search.{seek}
-use Rattle.tries.specs.Content.{Item}
 use Rattle.tries.specs.Place.{fork_of, subtrie_sibling, subtrie_without, with_subtrie}
 use Rattle.tries.specs.Affected.{subtrie_affected, subtrie_forked, subtrie_grown, IsPartSubtrie, IsLowerSubtrie, IsTipSubtrie}
 use Rattle.versions.specs.State.{FirstForkIsFrom}
 use Rattle.versions.specs.declared.Rec.{Rec}
 use Rattle.versions.specs.declared.Rec.TheVariants.{Node as a_node, Leaf as a_leaf}
 use Rattle.versions.specs.Core.{Ready, BareCore}
-use Rattle.version_laws.specs.Writer.{IsFoundBelow}
+use Rattle.version_laws.specs.Writer.{IsFoundBelow, Newcomer}
 use Rattle.version_laws.specs.Spots.{IsLockedNode, AffectsOne}
 
 -- A new node record that the pass has filled with this subtrie and made ready.
@@ -36,30 +35,30 @@ pub record IsUpper (c : BareCore) (q : ℕ) (k : Key) (p o n : ℕ) : Type 0 whe
   pub entry : seek k (c.heap.nodes o).subtrie ≡ Node n height
   pub path : AffectsOne p k (c.heap.nodes o).subtrie (c.heap.nodes n).subtrie
 
--- What an insertion makes of a locked node: of its body, or of the entry that names it.
+-- What an insertion changes of the locked node with this number: its body, or the entry that names it.
 pub data Side : Type 0 where
-  body : Side
-  entry : Side
+  body : ℕ → Side
+  entry : ℕ → Side
 
 -- From the lowest locked node upwards: the subtrie that the node's body becomes, and the subtrie, one entry or a fork of two,
 -- that takes the place of its entry.
-pub data IsRise (c : BareCore) (q since : ℕ) (x : Item) (p : ℕ) (l : Key) : Side → ℕ → Subtrie → Type 0 where
+pub data IsRise (c : BareCore) (q : ℕ) (x : Newcomer) : Side → Subtrie → Type 0 where
   -- the lowest node gets the new leaf
-  grows : (n : ℕ) → IsFoundBelow c q since x p l n → IsPartSubtrie (subtrie_affected p x.key (c.heap.nodes n).subtrie) →
-      IsRise c q since x p l body n (subtrie_grown p x.key (Leaf x.number) (c.heap.nodes n).subtrie)
+  grows : (n : ℕ) → IsFoundBelow c q x n → IsPartSubtrie (subtrie_affected x.mismatch x.item.key (c.heap.nodes n).subtrie) →
+      IsRise c q x (body n) (subtrie_grown x.mismatch x.item.key (Leaf x.item.number) (c.heap.nodes n).subtrie)
   -- the node above gets what takes the place of the node below
-  pulls : (o n : ℕ) (r : Subtrie) → IsUpper c q x.key p o n → IsRise c q since x p l entry n r →
-      IsRise c q since x p l body o (with_subtrie x.key r (c.heap.nodes o).subtrie)
+  pulls : (o n : ℕ) (r : Subtrie) → IsUpper c q x.item.key x.mismatch o n → IsRise c q x (entry n) r →
+      IsRise c q x (body o) (with_subtrie x.item.key r (c.heap.nodes o).subtrie)
   -- a body in a node of its own: a copy of the old one
-  copies : (n : ℕ) (r : Subtrie) (m : ℕ) (g : Fixed) → IsRise c q since x p l body n r → IsNewSubtrie c q m g r → IsRise c q since x p l entry n (Place (Node m g.height))
+  copies : (n : ℕ) (r : Subtrie) (m : ℕ) (g : Fixed) → IsRise c q x (body n) r → IsNewSubtrie c q m g r → IsRise c q x (entry n) (Place (Node m g.height))
   -- a body cut at its first fork
-  halves : (n f : ℕ) (a b : Subtrie) (d e : Entry) → IsRise c q since x p l body n (Fork f a b) → IsEntryFor c q a d → IsEntryFor c q b e →
-      IsRise c q since x p l entry n (Fork f (Place d) (Place e))
+  halves : (n f : ℕ) (a b : Subtrie) (d e : Entry) → IsRise c q x (body n) (Fork f a b) → IsEntryFor c q a d → IsEntryFor c q b e →
+      IsRise c q x (entry n) (Fork f (Place d) (Place e))
   -- the lowest node stays whole, and the new leaf stands beside it
-  stays_whole : (n : ℕ) → IsFoundBelow c q since x p l n → FirstForkIsFrom p (c.heap.nodes n).subtrie →
-      IsRise c q since x p l entry n (subtrie_forked (bit x.key p) p (Leaf x.number) (Place (Node n (c.heap.nodes n).fixed.height)))
+  stays_whole : (n : ℕ) → IsFoundBelow c q x n → FirstForkIsFrom x.mismatch (c.heap.nodes n).subtrie →
+      IsRise c q x (entry n) (subtrie_forked (bit x.item.key x.mismatch) x.mismatch (Leaf x.item.number) (Place (Node n (c.heap.nodes n).fixed.height)))
   -- a fork in a node of its own: an intermediate node, a new root
-  wraps : (n : ℕ) (r : Subtrie) (m : ℕ) (g : Fixed) → IsRise c q since x p l entry n r → IsNewSubtrie c q m g r → IsRise c q since x p l entry n (Place (Node m g.height))
+  wraps : (n : ℕ) (r : Subtrie) (m : ℕ) (g : Fixed) → IsRise c q x (entry n) r → IsNewSubtrie c q m g r → IsRise c q x (entry n) (Place (Node m g.height))
 
 -- The new record of such an entry, if there is one.
 abbrev pub linked_for_entry : {c : BareCore} {q : ℕ} {x : Subtrie} {e : Entry} → IsEntryFor c q x e → List Rec
@@ -67,16 +66,16 @@ linked_for_entry (alone e h) = []
 linked_for_entry (in_node m g i) = a_node m ∷ []
 
 -- The records that a rise links anew, the one made last first: of a cut the upper half is made before the lower one.
-abbrev pub linked_by_rise : {c : BareCore} {q since : ℕ} {x : Item} {p : ℕ} {l : Key} {d : Side} {n : ℕ} {r : Subtrie} → IsRise c q since x p l d n r → List Rec
-linked_by_rise {x = x} (grows n found i) = a_leaf x.number ∷ []
+abbrev pub linked_by_rise : {c : BareCore} {q : ℕ} {x : Newcomer} {d : Side} {r : Subtrie} → IsRise c q x d r → List Rec
+linked_by_rise {x = x} (grows n found i) = a_leaf x.item.number ∷ []
 linked_by_rise (pulls o n r u i) = linked_by_rise i
 linked_by_rise (copies n r m g i z) = a_node m ∷ linked_by_rise i
 linked_by_rise (halves n f a b d e i u v) = linked_for_entry u ++ (linked_for_entry v ++ linked_by_rise i)
-linked_by_rise {x = x} (stays_whole n found i) = a_leaf x.number ∷ []
+linked_by_rise {x = x} (stays_whole n found i) = a_leaf x.item.number ∷ []
 linked_by_rise (wraps n r m g i z) = a_node m ∷ linked_by_rise i
 
 -- And those that it unlinks: each node that was copied or cut, the topmost first.
-abbrev pub unlinked_by_rise : {c : BareCore} {q since : ℕ} {x : Item} {p : ℕ} {l : Key} {d : Side} {n : ℕ} {r : Subtrie} → IsRise c q since x p l d n r → List Rec
+abbrev pub unlinked_by_rise : {c : BareCore} {q : ℕ} {x : Newcomer} {d : Side} {r : Subtrie} → IsRise c q x d r → List Rec
 unlinked_by_rise (grows n found i) = []
 unlinked_by_rise (pulls o n r u i) = unlinked_by_rise i
 unlinked_by_rise (copies n r m g i z) = a_node n ∷ unlinked_by_rise i

@@ -20,7 +20,7 @@ use Rattle.versions.specs.Core.{BareCore, view}
 use Rattle.versions.specs.declared.Pin.{Pin}
 use Rattle.versions.specs.Told.{TellChanges, items_of}
 use Rattle.versions.specs.Steps.{IsVersionPublish}
-use Rattle.version_laws.specs.Writer.{added_change, replaced_change, removed_change, IsFoundBelow, IsNewLeaf}
+use Rattle.version_laws.specs.Writer.{added_change, replaced_change, removed_change, IsFoundBelow, IsNewLeaf, Newcomer}
 use Rattle.version_laws.specs.Spots.{HoldsSpot, IsLowAt, AffectsSpotAloneInCore, IsStoredAt}
 use Rattle.version_laws.specs.Rise.{IsNewSubtrie, IsEntryFor, IsUpper, IsLeafOf, IsBesideNode, subtrie_merged, entry, IsRise, linked_for_entry, linked_by_rise, unlinked_by_rise}
 use Rattle.version_laws.specs.Scan.{Pair, Range, in_order_taken, IsRooted, IsPlaced, IsShaped, IsRead, EntryStoodSince}
@@ -41,9 +41,9 @@ pub record IsPublished (c : BareCore) (q : ℕ) (heap : Heap) (root : Option Ent
 -- or a new root, where each that was pulled up below is in it.
 abbrev pub InsertAtSpot : Type 0
 InsertAtSpot =
-    (c : BareCore) (q : ℕ) → IsLawfulState (view c) → (since : ℕ) (x : Item) (p : ℕ) (l : Key) → IsNewLeaf c q x → (n h : ℕ) (e : Entry) →
-    (i : IsRise c q since x p l entry n (Place e)) → (s : HoldsSpot c q x.key (Node n h)) → AffectsSpotAloneInCore s p → IsLowAt s e →
-    (heap : Heap) (root : Option Entry) → IsStoredAt s heap root e → IsPublished c q heap root (added_change q x) (linked_by_rise i) (unlinked_by_rise i)
+    (c : BareCore) (q : ℕ) → IsLawfulState (view c) → (x : Newcomer) → IsNewLeaf c q x.item → (n h : ℕ) (e : Entry) →
+    (i : IsRise c q x (entry n) (Place e)) → (s : HoldsSpot c q x.item.key (Node n h)) → AffectsSpotAloneInCore s x.mismatch → IsLowAt s e →
+    (heap : Heap) (root : Option Entry) → IsStoredAt s heap root e → IsPublished c q heap root (added_change q x.item) (linked_by_rise i) (unlinked_by_rise i)
 
 -- Where a locked node's place of the node below is all that an insertion at p affects, its own first fork is before p: so the node
 -- above it needs no other check than that its entry names it.
@@ -145,5 +145,5 @@ LedPlaced =
 -- that the node had, and its pin.
 abbrev pub FoundIsKept : Type 0
 FoundIsKept =
-    (c d : BareCore) (q since p : ℕ) (x : Item) (l : Key) (n : ℕ) (pin : Pin) → IsLawfulState (view d) → IsGrown c.past d.past →
-    d.lock n ≡ Some q → d.heap.nodes n ≡ c.heap.nodes n → d.pins q ≡ Some pin → pin.version ≤ since → IsFoundBelow c q since x p l n → IsFoundBelow d q since x p l n
+    (c d : BareCore) (q : ℕ) (x : Newcomer) (n : ℕ) (pin : Pin) → IsLawfulState (view d) → IsGrown c.past d.past →
+    d.lock n ≡ Some q → d.heap.nodes n ≡ c.heap.nodes n → d.pins q ≡ Some pin → pin.version ≤ x.since → IsFoundBelow c q x n → IsFoundBelow d q x n

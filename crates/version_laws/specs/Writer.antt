@@ -34,12 +34,20 @@ pub record IsNewLeaf (c : BareCore) (q : ℕ) (x : Item) : Type 0 where
   pub fate : c.fate (a_leaf x.number) ≡ Ready q
   pub words : c.heap.leaves x.number ≡ record { key = x.key; value = x.value }
 
--- What a writer knows: it has locked node `n`, from there on the way that was read since version `since` ended at a leaf with the key
--- `l`, from which the new key differs first at `p`, and what has stood in the tree since then is still in that life.
-pub record IsFoundBelow (c : BareCore) (q since : ℕ) (x : Item) (p : ℕ) (l : Key) (n : ℕ) : Type 0 where
-  pub key : IsKey x.key
-  pub reach : IsReach (view c) since
+-- What is to be inserted, and what its search found: since version `since` it led to a leaf with the key `like`, from which the item's
+-- key differs first at bit `mismatch`.
+pub record Newcomer : Type 0 where
+  pub since : ℕ
+  pub item : Item
+  pub mismatch : ℕ
+  pub like : Key
+
+-- What a writer knows: it has locked node `n`, from there on the newcomer's search ended as that says, and what has stood in the tree
+-- since then is still in that life.
+pub record IsFoundBelow (c : BareCore) (q : ℕ) (x : Newcomer) (n : ℕ) : Type 0 where
+  pub key : IsKey x.item.key
+  pub reach : IsReach (view c) x.since
   pub lock : c.lock n ≡ Some q
-  pub way : IsWayBelow c.past since x.key (c.heap.nodes n).subtrie l
-  pub agree : AgreeBelow p x.key l
-  pub differ : bit x.key p ≢ bit l p
+  pub way : IsWayBelow c.past x.since x.item.key (c.heap.nodes n).subtrie x.like
+  pub agree : AgreeBelow x.mismatch x.item.key x.like
+  pub differ : bit x.item.key x.mismatch ≢ bit x.like x.mismatch

@@ -107,7 +107,7 @@ pub raise_above-returns-clause-made : goal.raise_above-returns-clause-made
 raise_above-returns-clause-made g t c = λ up.
     let (after, raising) = c.in_ok-next-in-Split.ensures.made (up_below c.args.table.now c.args.seat.now c.args.build.now.made.items c.args.way.now c.args.rise.key.now c.args.rise.end c.args.rise.level c.args.rise.risen up (c.args.rise.level - 1)
     (next c.args.rise.level c.args.rise.end c.requires.above up.upto) (upto c.args.rise.level c.args.rise.end c.requires.above up.upto) (step_at c.args.way.now (c.args.rise.level - 1)) (there c.args.way.now c.args.rise.level c.args.rise.end up.step up.at) c.in-Split.position c.in-Split.zero c.in-Split.one c.in-Split.is) in
-    up_done c.args.table.now g.G.Gate.becomes (c.args.seat.now, c.args.gate.now) (c.raise_level.new.seat, c.raise_level.new.gate) (c.raise_on.new.seat, c.raise_on.new.gate) c.raise_on.new.build.made.items c.args.way.now up.here.since up.here.item up.here.mismatch up.here.like c.args.rise.end
+    up_done c.args.table.now g.G.Gate.becomes (c.args.seat.now, c.args.gate.now) (c.raise_level.new.seat, c.raise_level.new.gate) (c.raise_on.new.seat, c.raise_on.new.gate) c.raise_on.new.build.made.items c.args.way.now up.here.newcomer c.args.rise.end
     (c.args.rise.level - 1) c.args.rise.level up.here.gone (step_at c.args.way.now (c.args.rise.level - 1)) (next c.args.rise.level c.args.rise.end c.requires.above up.upto) (upto c.args.rise.level c.args.rise.end c.requires.above up.upto)
     (there c.args.way.now c.args.rise.level c.args.rise.end up.step up.at) c.in_ok-next-in-Split.ensures.goes c.raise_on.result
     (c.raise_on.ensures.made (up_next c.args.table.now c.args.seat.now c.args.build.now.made.items c.args.way.now c.args.rise.key.now c.args.rise.end c.args.rise.level c.args.rise.risen up (c.args.rise.level - 1)

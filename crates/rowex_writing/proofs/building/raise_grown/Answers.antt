@@ -4,7 +4,7 @@ use Rattle.std.specs.Prelude.{slice_get}
 use Rattle.std.proofs.lemmas.Option.{get_or_from_slice_get, slice_get_within}
 use Rattle.insert_cases.specs.declared.choice.PathNode.{PathNode}
 use Rattle.versions.specs.Trades.{IsOneOf}
-use Rattle.rowex_writing.specs.Building.{HasRisenTo, gone_unless_whole, gone_with_way}
+use Rattle.rowex_writing.specs.Building.{HasRisenTo, gone_unless_whole, gone_with_way, newcomer_of}
 use Rattle.rowex_writing.proofs.Locking.{goes_more}
 use Rattle.rowex_writing.proofs.Lifting.{low_at, up_first}
 use Rattle.rowex_writing.proofs.Counting.{all_more, all_nodes, level_few, levels_few, lowest_more, lowest_nodes}
@@ -36,7 +36,7 @@ pub raise_lowest-requires-clause-range : goal.raise_lowest-requires-clause-range
 raise_lowest-requires-clause-range g c = subst (λ n. n < c.args.table.now.layout.nodes) (sym (number_is c.args.job.now.way.now (c.args.job.now.span.len - 1) c.requires.growing.step c.requires.growing.at)) c.requires.growing.low
 
 pub raise_lowest-requires-clause-lowest : goal.raise_lowest-requires-clause-lowest
-raise_lowest-requires-clause-lowest g c = low_at c.args.table.now c.args.seat.now c.args.build.now.made.items c.args.job.now.way.now c.args.new.now.key.now c.args.job.now.span.end (c.args.job.now.span.len - 1) c.args.new.now.position c.args.new.now.at c.args.new.now.number c.requires.growing (step_at c.args.job.now.way.now (c.args.job.now.span.len - 1)).number
+raise_lowest-requires-clause-lowest g c = low_at c.args.table.now c.args.seat.now c.args.build.now.made.items c.args.job.now.way.now c.args.job.now.span c.args.new.now c.requires.growing (step_at c.args.job.now.way.now (c.args.job.now.span.len - 1)).number
     (number_is c.args.job.now.way.now (c.args.job.now.span.len - 1) c.requires.growing.step c.requires.growing.at)
 
 pub returns-in_err-risen-clause-goes : goal.returns-in_err-risen-clause-goes
@@ -67,15 +67,15 @@ pub returns-clause-few : goal.returns-clause-few
 returns-clause-few g c = levels_few _ _ _ _ _ c.args.job.now.span.end c.args.job.now.span.len c.requires.within c.in_ok-risen.ensures.few c.in_ok-entry.ensures.few
 
 pub returns-in_err-risen-clause-made : goal.returns-in_err-risen-clause-made
-returns-in_err-risen-clause-made g c = λ b. rw c.from_residual.ensures (c.in_err-risen.ensures.made (low_at c.args.table.now c.args.seat.now c.args.build.now.made.items c.args.job.now.way.now c.args.new.now.key.now c.args.job.now.span.end (c.args.job.now.span.len - 1) c.args.new.now.position c.args.new.now.at c.args.new.now.number b (step_at c.args.job.now.way.now (c.args.job.now.span.len - 1)).number
+returns-in_err-risen-clause-made g c = λ b. rw c.from_residual.ensures (c.in_err-risen.ensures.made (low_at c.args.table.now c.args.seat.now c.args.build.now.made.items c.args.job.now.way.now c.args.job.now.span c.args.new.now b (step_at c.args.job.now.way.now (c.args.job.now.span.len - 1)).number
     (number_is c.args.job.now.way.now (c.args.job.now.span.len - 1) b.step b.at)))
 
 pub raise_on-requires-clause-up : goal.raise_on-requires-clause-up
 raise_on-requires-clause-up g c =
     let b = c.requires.growing in
-    let (after, raising) = c.in_ok-risen.ensures.made (low_at c.args.table.now c.args.seat.now c.args.build.now.made.items c.args.job.now.way.now c.args.new.now.key.now c.args.job.now.span.end (c.args.job.now.span.len - 1) c.args.new.now.position c.args.new.now.at c.args.new.now.number b (step_at c.args.job.now.way.now (c.args.job.now.span.len - 1)).number
+    let (after, raising) = c.in_ok-risen.ensures.made (low_at c.args.table.now c.args.seat.now c.args.build.now.made.items c.args.job.now.way.now c.args.job.now.span c.args.new.now b (step_at c.args.job.now.way.now (c.args.job.now.span.len - 1)).number
     (number_is c.args.job.now.way.now (c.args.job.now.span.len - 1) b.step b.at)) in
-    up_first c.args.table.now c.args.seat.now c.args.build.now.made.items c.args.job.now.way.now c.args.new.now.key.now c.args.job.now.span.end (c.args.job.now.span.len - 1) c.args.new.now.position c.args.new.now.at c.args.new.now.number b (step_at c.args.job.now.way.now (c.args.job.now.span.len - 1)).number
+    up_first c.args.table.now c.args.seat.now c.args.build.now.made.items c.args.job.now.way.now c.args.job.now.span c.args.new.now b (step_at c.args.job.now.way.now (c.args.job.now.span.len - 1)).number
     (number_is c.args.job.now.way.now (c.args.job.now.span.len - 1) b.step b.at) c.raise_lowest.new.seat c.raise_lowest.new.build.made.items c.in_ok-risen.risen c.in_ok-risen.stays c.in_ok-risen.ensures.goes.stays.1 after raising c.in_ok-risen.ensures.level
 
 pub returns-in_err-entry-clause-goes : goal.returns-in_err-entry-clause-goes
@@ -83,10 +83,10 @@ returns-in_err-entry-clause-goes g c = goes_more c.args.table.now g.G.Gate.becom
 
 pub returns-in_err-entry-clause-made : goal.returns-in_err-entry-clause-made
 returns-in_err-entry-clause-made g c = λ b.
-    let (after, raising) = c.in_ok-risen.ensures.made (low_at c.args.table.now c.args.seat.now c.args.build.now.made.items c.args.job.now.way.now c.args.new.now.key.now c.args.job.now.span.end (c.args.job.now.span.len - 1) c.args.new.now.position c.args.new.now.at c.args.new.now.number b (step_at c.args.job.now.way.now (c.args.job.now.span.len - 1)).number
+    let (after, raising) = c.in_ok-risen.ensures.made (low_at c.args.table.now c.args.seat.now c.args.build.now.made.items c.args.job.now.way.now c.args.job.now.span c.args.new.now b (step_at c.args.job.now.way.now (c.args.job.now.span.len - 1)).number
     (number_is c.args.job.now.way.now (c.args.job.now.span.len - 1) b.step b.at)) in
     rw c.from_residual-in_err-entry.ensures
-    (c.in_err-entry.ensures.made (up_first c.args.table.now c.args.seat.now c.args.build.now.made.items c.args.job.now.way.now c.args.new.now.key.now c.args.job.now.span.end (c.args.job.now.span.len - 1) c.args.new.now.position c.args.new.now.at c.args.new.now.number b (step_at c.args.job.now.way.now (c.args.job.now.span.len - 1)).number
+    (c.in_err-entry.ensures.made (up_first c.args.table.now c.args.seat.now c.args.build.now.made.items c.args.job.now.way.now c.args.job.now.span c.args.new.now b (step_at c.args.job.now.way.now (c.args.job.now.span.len - 1)).number
     (number_is c.args.job.now.way.now (c.args.job.now.span.len - 1) b.step b.at) c.raise_lowest.new.seat c.raise_lowest.new.build.made.items c.in_ok-risen.risen c.in_ok-risen.stays c.in_ok-risen.ensures.goes.stays.1 after raising c.in_ok-risen.ensures.level))
 
 pub returns-clause-goes : goal.returns-clause-goes
@@ -94,11 +94,11 @@ returns-clause-goes g c = goes_more c.args.table.now g.G.Gate.becomes _ _ _ c.in
 
 pub returns-clause-made : goal.returns-clause-made
 returns-clause-made g c = λ b.
-    let (after, raising) = c.in_ok-risen.ensures.made (low_at c.args.table.now c.args.seat.now c.args.build.now.made.items c.args.job.now.way.now c.args.new.now.key.now c.args.job.now.span.end (c.args.job.now.span.len - 1) c.args.new.now.position c.args.new.now.at c.args.new.now.number b (step_at c.args.job.now.way.now (c.args.job.now.span.len - 1)).number
+    let (after, raising) = c.in_ok-risen.ensures.made (low_at c.args.table.now c.args.seat.now c.args.build.now.made.items c.args.job.now.way.now c.args.job.now.span c.args.new.now b (step_at c.args.job.now.way.now (c.args.job.now.span.len - 1)).number
     (number_is c.args.job.now.way.now (c.args.job.now.span.len - 1) b.step b.at)) in
-    subst (λ n. HasRisenTo c.args.table.now c.raise_on.new.seat c.raise_on.new.build.made.items c.args.job.now.way.now b.lowest.since b.lowest.item c.args.new.now.position b.lowest.like c.args.job.now.span.end (gone_with_way c.args.job.now.way.now c.args.job.now.span.end (c.args.job.now.span.len - 1) (gone_unless_whole c.in_ok-risen.stays n)) c.in_ok-entry.entry)
+    subst (λ n. HasRisenTo c.args.table.now c.raise_on.new.seat c.raise_on.new.build.made.items c.args.job.now.way.now (newcomer_of b.lowest) c.args.job.now.span.end (gone_with_way c.args.job.now.way.now c.args.job.now.span.end (c.args.job.now.span.len - 1) (gone_unless_whole c.in_ok-risen.stays n)) c.in_ok-entry.entry)
     (number_is c.args.job.now.way.now (c.args.job.now.span.len - 1) b.step b.at)
-    (c.in_ok-entry.ensures.made (up_first c.args.table.now c.args.seat.now c.args.build.now.made.items c.args.job.now.way.now c.args.new.now.key.now c.args.job.now.span.end (c.args.job.now.span.len - 1) c.args.new.now.position c.args.new.now.at c.args.new.now.number b (step_at c.args.job.now.way.now (c.args.job.now.span.len - 1)).number
+    (c.in_ok-entry.ensures.made (up_first c.args.table.now c.args.seat.now c.args.build.now.made.items c.args.job.now.way.now c.args.job.now.span c.args.new.now b (step_at c.args.job.now.way.now (c.args.job.now.span.len - 1)).number
     (number_is c.args.job.now.way.now (c.args.job.now.span.len - 1) b.step b.at) c.raise_lowest.new.seat c.raise_lowest.new.build.made.items c.in_ok-risen.risen c.in_ok-risen.stays c.in_ok-risen.ensures.goes.stays.1 after raising c.in_ok-risen.ensures.level))
 
 pub returns-clause-low : goal.returns-clause-low

@@ -26,7 +26,8 @@ grow_with-requires g c =
     let job = c.args.job.now in
     let (m, aim, t, planned) = c.requires.taken in
     record {
-      may = may_grow c.args.table.now c.args.seat.now c.make_leaf.new.seat c.make_leaf.new.build.made.items m job.key.now job.value job.way.now job.found job.span aim c.args.position (get_or job.way.now (job.span.len - 1) no_step).at c.in-Some.number t planned
+      may = may_grow c.args.table.now c.args.seat.now c.make_leaf.new.seat c.make_leaf.new.build.made.items m job.value job.way.now job.found job.span aim
+          (record { key = job.key; number = c.in-Some.number; position = c.args.position; at = (get_or job.way.now (job.span.len - 1) no_step).at }) t planned
           (λ s there. ap (λ (z : PathNode). z.at) (sym (get_or_from_slice_get job.way.now (job.span.len - 1) s no_step there)))
           c.in-Some.ensures.goes.stays c.in-Some.ensures.made;
     }

@@ -52,7 +52,7 @@ returns-clause-raised g c =
       most = low.2;
       leaf = none_in_table c.args.table.now.layout;
       ends = λ spot over.
-          grown_ends c.args.table.now c.args.seat.now c.raise_grown.new.seat c.args.build.now.made.items c.raise_grown.new.build.made.items job.way.now c.args.new.now.key.now job.value job.span c.args.new.now.position c.args.new.now.at c.args.new.now.number may
+          grown_ends c.args.table.now c.args.seat.now c.raise_grown.new.seat c.args.build.now.made.items c.raise_grown.new.build.made.items job.way.now job.value job.span c.args.new.now may
           goes.stays.0 goes.stays.1 goes.stays.2 c.in-Some.entry c.has_number.ensures c.in-Some.stays (c.in-Some.ensures.made may.growing) c.in-Some.ensures.low spot _ over gone;
       few = omega (arith, made_one may.growing.lowest.made_leaf.building, c.raise_grown.ensures.more, may.within.0);
     }
