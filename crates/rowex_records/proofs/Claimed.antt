@@ -380,87 +380,94 @@ module _ {G : Type 0} (table : TableView) (becomes : G → Event → G → Type 
       subst (λ l. HasMissedSince Whose l (kind q) a.0.known.steps) (sym none.failed) (missed_among Whose none.missed a.0.known.failed (kind q) a.0.known.steps
       (subst (λ z. HasMissedSince Whose none.missed (kind z) a.0.known.steps) turn.2 (none.each turn.0 turn.1)))
 
-  -- A row of records: none yet, one more, and one that was free
-
-  pub row_none : (kind : ℕ → Rec) (n number : ℕ) (b : SeatView × G) → GoesOnTrying table becomes kind n number 0 None b b
-  row_none kind n number b a from m low fits is none = subst (λ z. FindsNone table becomes kind n from z a b) (sym (add-zero m)) none
-
-  row_at : (n from m number index count : ℕ) → number ≡ wrapped n from m → from < n → m + count ≤ n → index < count → number + count ≤ n → number + index ≡ wrapped n from (m + index)
-  row_at n from m number index count is low fits below few = ap (λ z. z + index) is ∙ turned_by n from m index low (omega arith) (rw (← is) (omega arith))
-
-  pub row_more : (kind : ℕ → Rec) (n number index : ℕ) (a i b : SeatView × G) → number + (index + 1) ≤ n → GoesOnTrying table becomes kind n number index None a i
-      → MissesOne table becomes (kind (number + index)) i b → GoesOnTrying table becomes kind n number (index + 1) None a b
-  row_more kind n number index a i b few tries one c from m low fits is none =
-      let next : m + index + 1 ≡ m + (index + 1) = omega arith in
-      subst (λ z. FindsNone table becomes kind n from z c b) next
-      (finds_more kind n from (m + index) (number + index) c i b (row_at n from m number index (index + 1) is low fits (omega arith) few) (tries c from m low (omega arith) is none) one)
-
-  pub row_claims : (kind : ℕ → Rec) (n number index count : ℕ) (a i b : SeatView × G) → index < count → number + count ≤ n → GoesOnTrying table becomes kind n number index None a i
-      → ClaimsOne table becomes (kind (number + index)) i b → GoesOnTrying table becomes kind n number count (Some index) a b
-  row_claims kind n number index count a i b below few tries one c from m low fits is none = (
-    below,
-    record { tried = m + index; low = omega arith; number_is = row_at n from m number index count is low fits below few; before = i; none = tries c from m low (omega arith) is none; one = one },
-    refl,
-  )
-
-  -- Tries of so many at most: there are none, the first is free, and it is not
-
-  pub tries_none : (kind : ℕ → Rec) (n begin most : ℕ) (a : SeatView × G) → most ≡ 0 → TriesSome table becomes kind n begin most None 0 a a
-  tries_none kind n begin most a is = (sym is, subst (λ z. FindsNone table becomes kind n begin z a a) (sym is) (finds_none kind n begin a))
-
-  module _ (kind : ℕ → Rec) (n from number most : ℕ) (low : number < n) (is : number ≡ begin_of n from) where
-    pub tries_first : (a b : SeatView × G) → ClaimsOne table becomes (kind number) a b → TriesSome table becomes kind n (begin_of n from) most (Some number) 1 a b
-    tries_first a b one = subst (λ z. TriesSome table becomes kind n z most (Some number) 1 a b) is
-        (record { tried = 0; low = omega (arith, low); number_is = first_turn n number low; before = a; none = finds_none kind n number a; one = one }, refl)
-
-    pub tries_behind : (a i b : SeatView × G) (answer : Option ℕ) (tried : ℕ) → MissesOne table becomes (kind number) a i →
-        GoesOnBehind table becomes kind n number most answer tried i b → TriesSome table becomes kind n (begin_of n from) most answer tried a b
-    tries_behind a i b answer tried one behind = subst (λ z. TriesSome table becomes kind n z most answer tried a b) is
-        (behind a (finds_more kind n number 0 number a a i (first_turn n number low) (finds_none kind n number a) one))
-
-  -- Rows behind the first record: none yet, one more, and one that has a free record
-
-  pub behind_none : (kind : ℕ → Rec) (n begin : ℕ) (b : SeatView × G) → GoesOnBehind table becomes kind n begin 1 None 1 b b
-  behind_none kind n begin b a none = (refl, none)
-
-  module _ (kind : ℕ → Rec) (n begin tried number count : ℕ) (b i c : SeatView × G) (low : begin < n) (fits : tried + count ≤ n)
-      (is : number ≡ wrapped n begin tried) (behind : GoesOnBehind table becomes kind n begin tried None tried b i) where
-    pub behind_row : GoesOnTrying table becomes kind n number count None i c → GoesOnBehind table becomes kind n begin (tried + count) None (tried + count) b c
-    behind_row row a none = (refl, row a begin tried low fits is (behind a none).1)
-
-    pub behind_claims : (index most : ℕ) → GoesOnTrying table becomes kind n number count (Some index) i c →
-        GoesOnBehind table becomes kind n begin most (Some (number + index)) (tried + index + 1) b c
-    behind_claims index most row a none =
-        let (below, claims, at) = row a begin tried low fits is (behind a none).1 in (claims, ap (λ z. z + 1) at)
-
-  -- what is left then, and where as many may be tried as there are, all are tried
-  module _ (kind : ℕ → Rec) (n from left less : ℕ) (a b : SeatView × G) where
-    abbrev HasTried : Option ℕ → Type 0
-    HasTried answer = MatchOption answer ((less + min n left ≡ left) × FindsNone table becomes kind n (begin_of n from) (min n left) a b)
-        (λ number. (claims : Claims table becomes kind n (begin_of n from) number a b) × (less + claims.tried + 1 ≡ left))
-
-    pub has_tried : (answer : Option ℕ) (most tried : ℕ) → most ≡ min n left → less + tried ≡ left → TriesSome table becomes kind n (begin_of n from) most answer tried a b → HasTried answer
-    has_tried None most tried is sum (at, none) = (omega (arith, is, sum, at), subst (λ z. FindsNone table becomes kind n (begin_of n from) z a b) is none)
-    has_tried (Some number) most tried is sum (claims, at) = (claims, omega (arith, sum, at))
-
-    pub claims_whole : (answer : Option ℕ) → left ≡ n → HasTried answer →
-        MatchOption answer (FindsNone table becomes kind n (begin_of n from) n a b) (λ number. Claims table becomes kind n (begin_of n from) number a b)
-    claims_whole None all tried = let same : min n left ≡ n = omega arith in subst (λ z. FindsNone table becomes kind n (begin_of n from) z a b) same tried.1
-    claims_whole (Some number) all tried = tried.0
-
-    pub none_whole : (answer : Option ℕ) → left ≡ n → HasTried answer → IfNone answer (AllMissed (IsAnothersTo table.layout a.0.known) kind n b.0.known.failed a.0.known.steps)
-    none_whole None all tried = λ q low. all_missed kind n (begin_of n from) a b (begins_low n from (omega arith)) (claims_whole None all tried) q low
-    none_whole (Some number) all tried = tt
-
   pub claims_holds : (kind : ℕ → Rec) (n from number : ℕ) (a b : SeatView × G) → Claims table becomes kind n from number a b → HoldsOneMore (kind number) a.0.known b.0.known
   claims_holds kind n from number a b claims = more_since (kind number) a.0.known claims.before.0.known b.0.known claims.none.own claims.one.holds
 
   pub claims_gives : (kind : ℕ → Rec) (n from number : ℕ) (a b : SeatView × G) → Claims table becomes kind n from number a b → IsClaimed b.0.known (kind number)
   claims_gives kind n from number a b claims = more_is_claimed (kind number) claims.before.0.known b.0.known claims.one.holds
 
-  pub tries_held : (kind : ℕ → Rec) (n from most : ℕ) (answer : Option ℕ) (tried : ℕ) (a b : SeatView × G) → TriesSome table becomes kind n (begin_of n from) most answer tried a b →
-      IfSome answer (λ number. (number < n) × IsClaimed b.0.known (kind number))
-  tries_held kind n from most None tried a b tries = tt
-  tries_held kind n from most (Some number) tried a b (claims, at) =
-      let some : 0 < n = let low = claims.low in omega arith in
-      (rw claims.number_is (turned_low n (begin_of n from) claims.tried (begins_low n from some) claims.low), claims_gives kind n (begin_of n from) number a b claims)
+  row_at : (n from m number index count : ℕ) → number ≡ wrapped n from m → from < n → m + count ≤ n → index < count → number + count ≤ n → number + index ≡ wrapped n from (m + index)
+  row_at n from m number index count is low fits below few = ap (λ z. z + index) is ∙ turned_by n from m index low (omega arith) (rw (← is) (omega arith))
+
+  module _ (kind : RecordKind) where
+    abbrev n : ℕ
+    n = count_of kind table.layout
+
+    abbrev rec : ℕ → Rec
+    rec = record_of kind
+
+    -- A row of records: none yet, one more, and one that was free
+
+    pub row_none : (number : ℕ) (b : SeatView × G) → GoesOnTrying table becomes kind number 0 None b b
+    row_none number b a from m low fits is none = subst (λ z. FindsNone table becomes rec n from z a b) (sym (add-zero m)) none
+
+    pub row_more : (number index : ℕ) (a i b : SeatView × G) → number + (index + 1) ≤ n → GoesOnTrying table becomes kind number index None a i
+        → MissesOne table becomes (rec (number + index)) i b → GoesOnTrying table becomes kind number (index + 1) None a b
+    row_more number index a i b few tries one c from m low fits is none =
+        let next : m + index + 1 ≡ m + (index + 1) = omega arith in
+        subst (λ z. FindsNone table becomes rec n from z c b) next
+        (finds_more rec n from (m + index) (number + index) c i b (row_at n from m number index (index + 1) is low fits (omega arith) few) (tries c from m low (omega arith) is none) one)
+
+    pub row_claims : (number index count : ℕ) (a i b : SeatView × G) → index < count → number + count ≤ n → GoesOnTrying table becomes kind number index None a i
+        → ClaimsOne table becomes (rec (number + index)) i b → GoesOnTrying table becomes kind number count (Some index) a b
+    row_claims number index count a i b below few tries one c from m low fits is none = (
+      below,
+      record { tried = m + index; low = omega arith; number_is = row_at n from m number index count is low fits below few; before = i; none = tries c from m low (omega arith) is none; one = one },
+      refl,
+    )
+
+    -- Tries of so many at most: there are none, the first is free, and it is not
+
+    pub tries_none : (begin most : ℕ) (a : SeatView × G) → most ≡ 0 → TriesSome table becomes kind begin most (None, 0) a a
+    tries_none begin most a is = (sym is, subst (λ z. FindsNone table becomes rec n begin z a a) (sym is) (finds_none rec n begin a))
+
+    module _ (from number most : ℕ) (low : number < n) (is : number ≡ begin_of n from) where
+      pub tries_first : (a b : SeatView × G) → ClaimsOne table becomes (rec number) a b → TriesSome table becomes kind (begin_of n from) most (Some number, 1) a b
+      tries_first a b one = subst (λ z. TriesSome table becomes kind z most (Some number, 1) a b) is
+          (record { tried = 0; low = omega (arith, low); number_is = first_turn n number low; before = a; none = finds_none rec n number a; one = one }, refl)
+
+      pub tries_behind : (a i b : SeatView × G) (answer : Option ℕ × ℕ) → MissesOne table becomes (rec number) a i →
+          GoesOnBehind table becomes kind number most answer i b → TriesSome table becomes kind (begin_of n from) most answer a b
+      tries_behind a i b answer one behind = subst (λ z. TriesSome table becomes kind z most answer a b) is
+          (behind a (finds_more rec n number 0 number a a i (first_turn n number low) (finds_none rec n number a) one))
+
+    -- Rows behind the first record: none yet, one more, and one that has a free record
+
+    pub behind_none : (begin : ℕ) (b : SeatView × G) → GoesOnBehind table becomes kind begin 1 (None, 1) b b
+    behind_none begin b a none = (refl, none)
+
+    module _ (begin tried number count : ℕ) (b i c : SeatView × G) (low : begin < n) (fits : tried + count ≤ n)
+        (is : number ≡ wrapped n begin tried) (behind : GoesOnBehind table becomes kind begin tried (None, tried) b i) where
+      pub behind_row : GoesOnTrying table becomes kind number count None i c → GoesOnBehind table becomes kind begin (tried + count) (None, tried + count) b c
+      behind_row row a none = (refl, row a begin tried low fits is (behind a none).1)
+
+      pub behind_claims : (index most : ℕ) → GoesOnTrying table becomes kind number count (Some index) i c →
+          GoesOnBehind table becomes kind begin most (Some (number + index), tried + index + 1) b c
+      behind_claims index most row a none =
+          let (below, claims, at) = row a begin tried low fits is (behind a none).1 in (claims, ap (λ z. z + 1) at)
+
+    -- what is left then, and where as many may be tried as there are, all are tried
+    module _ (from left less : ℕ) (a b : SeatView × G) where
+      abbrev HasTried : Option ℕ → Type 0
+      HasTried answer = MatchOption answer ((less + min n left ≡ left) × FindsNone table becomes rec n (begin_of n from) (min n left) a b)
+          (λ number. (claims : Claims table becomes rec n (begin_of n from) number a b) × (less + claims.tried + 1 ≡ left))
+
+      pub has_tried : (answer : Option ℕ) (most tried : ℕ) → most ≡ min n left → less + tried ≡ left → TriesSome table becomes kind (begin_of n from) most (answer, tried) a b → HasTried answer
+      has_tried None most tried is sum (at, none) = (omega (arith, is, sum, at), subst (λ z. FindsNone table becomes rec n (begin_of n from) z a b) is none)
+      has_tried (Some number) most tried is sum (claims, at) = (claims, omega (arith, sum, at))
+
+      pub claims_whole : (answer : Option ℕ) → left ≡ n → HasTried answer →
+          MatchOption answer (FindsNone table becomes rec n (begin_of n from) n a b) (λ number. Claims table becomes rec n (begin_of n from) number a b)
+      claims_whole None all tried = let same : min n left ≡ n = omega arith in subst (λ z. FindsNone table becomes rec n (begin_of n from) z a b) same tried.1
+      claims_whole (Some number) all tried = tried.0
+
+      pub none_whole : (answer : Option ℕ) → left ≡ n → HasTried answer → IfNone answer (AllMissed (IsAnothersTo table.layout a.0.known) rec n b.0.known.failed a.0.known.steps)
+      none_whole None all tried = λ q low. all_missed rec n (begin_of n from) a b (begins_low n from (omega arith)) (claims_whole None all tried) q low
+      none_whole (Some number) all tried = tt
+
+    pub tries_held : (from most : ℕ) (answer : Option ℕ) (tried : ℕ) (a b : SeatView × G) → TriesSome table becomes kind (begin_of n from) most (answer, tried) a b →
+        IfSome answer (λ number. (number < n) × IsClaimed b.0.known (rec number))
+    tries_held from most None tried a b tries = tt
+    tries_held from most (Some number) tried a b (claims, at) =
+        let some : 0 < n = let low = claims.low in omega arith in
+        (rw claims.number_is (turned_low n (begin_of n from) claims.tried (begins_low n from some) claims.low), claims_gives rec n (begin_of n from) number a b claims)

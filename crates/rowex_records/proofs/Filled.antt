@@ -1,7 +1,7 @@
 -- What filling a record comes to, making it ready, and giving it up.
 use Rattle.std.proofs.Common.{◌≡◌, ◌≢◌, ℕ, zero, suc, ◌+◌, ◌-◌, ◌<◌, ◌≤◌, List, [], ◌∷◌, ◌++◌, length, map, take, set, get_or, Bool, true, false, if◌then◌else◌, refl, sym, ap, subst, ◌∙◌, arith, add-one, get_or-take}
 use Rattle.std.specs.Prelude.{All, Contains, not}
-use Rattle.std.proofs.lemmas.List.{get_or-set_other, length-set, take_all, take_more, take_more_set}
+use Rattle.std.proofs.lemmas.List.{length-set, take_all, take_more, take_more_set}
 use Rattle.std.proofs.lemmas.List.Elements.{All-head, All-tail, All-weaker}
 use Rattle.record_words.specs.declared.TheConstants.{LEAF_FIELDS}
 use Rattle.record_words.specs.Leaf.{HasLeafWords, leaf_words, up_to_key, words_for}

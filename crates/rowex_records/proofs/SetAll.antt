@@ -225,6 +225,12 @@ module _ {G : Type 0} (table : TableView) (becomes : G → Event → G → Type 
             (ap (λ w. map (with_filled_word r (i + 1) w) (map (stored_in r words i) a.0.known.own)) is ∙ twice (with_filled_word r (i + 1) (get_or words i 0)) (stored_in r words i) (stored_in r words (i + 1)) (stored_more r words i) a.0.known.own));
       }
 
+  -- one more of those that come to stand behind the first ones
+  pub more_sets : (r : Rec) (words : List ℕ) (i count word : ℕ) (a m b : SeatView × G) → SetsMore table becomes r words i count a m → word ≡ get_or words (i + count) 0 → Sets table becomes r (i + count + 1) word m b → SetsMore table becomes r words i (count + 1) a b
+  more_sets r words i count word a m b more is sets c some =
+      let next : i + count + 1 ≡ i + (count + 1) = omega arith in
+      subst (λ z. SetsSome table becomes r words z c b) next (sets_more r words (i + count) word c m b (more c some) is sets)
+
   -- the first word, and seven times eight more
   pub sets_eights : (r : Rec) (words : List ℕ) (word : ℕ) (a b b₁ b₂ b₃ b₄ b₅ b₆ b₇ : SeatView × G) → IsClaimed a.0.known r → word ≡ get_or words 0 0 → Sets table becomes r 1 word a b →
       SetsMore table becomes r words 1 8 b b₁ → SetsMore table becomes r words 9 8 b₁ b₂ → SetsMore table becomes r words 17 8 b₂ b₃ → SetsMore table becomes r words 25 8 b₃ b₄ →

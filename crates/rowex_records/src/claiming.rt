@@ -146,8 +146,7 @@ fn claim_of<G: Gate>(
     requires kind { IsKindOf kind table.now.layout }
     requires few { most ≤ count_of kind table.now.layout }
     ensures few { result.1 ≤ most }
-    ensures tries { let n = count_of kind table.now.layout in
-        TriesSome table.now G.becomes (record_of kind) n (begin_of n from) most result.0 result.1 (seat.old, gate.old) (seat.new, gate.new) }
+    ensures tries { TriesSome table.now G.becomes kind (begin_of (count_of kind table.now.layout) from) most result (seat.old, gate.old) (seat.new, gate.new) }
 {
     if most == 0 {
         return (None, 0);
@@ -176,8 +175,7 @@ fn claim_behind<G: Gate>(
     requires some { 1 ≤ most }
     requires few { most ≤ count_of kind table.now.layout }
     ensures few { result.1 ≤ most }
-    ensures tries { let n = count_of kind table.now.layout in
-        GoesOnBehind table.now G.becomes (record_of kind) n begin most result.0 result.1 (seat.old, gate.old) (seat.new, gate.new) }
+    ensures tries { GoesOnBehind table.now G.becomes kind begin most result (seat.old, gate.old) (seat.new, gate.new) }
 {
     let layout = table.layout();
     let all = kind.count(layout);
@@ -212,7 +210,7 @@ fn claim_in_row<G: Gate>(
     requires row { IsRow kind table.now.layout number count size }
     ensures own { IsSeatOf table.now seat.new }
     ensures low { IfSome result (λ index. index < count) }
-    ensures tries { GoesOnTrying table.now G.becomes (record_of kind) (count_of kind table.now.layout) number count result (seat.old, gate.old) (seat.new, gate.new) }
+    ensures tries { GoesOnTrying table.now G.becomes kind number count result (seat.old, gate.old) (seat.new, gate.new) }
 {
     let mut start = kind.start_at(&table.layout(), number);
     for index in 0..count {

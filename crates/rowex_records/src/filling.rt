@@ -20,6 +20,13 @@ use record_words::{FIRST_ENTRY, FIRST_ROWS, HEAD_WORDS, NODE_FIELDS, key_word_at
 use rowex_core::{Gate, Rec};
 use rowex_table::{HotTable, TableSeat};
 
+/// A node record: its number, and the word at which it begins.
+#[derive(Clone, Copy)]
+pub struct NodeAt {
+    pub number: u32,
+    pub start: usize,
+}
+
 /// Fills the claimed leaf record `number`, which has room for `key`. It stores `value`, and the words of `key` up to its end, in a step
 /// each. But the key's length is loaded first, and stored only if another stands there. What stands behind the key stays.
 pub fn fill_leaf<G: Gate>(
@@ -118,123 +125,98 @@ pub fn fill_words<G: Gate>(
     let positions = 1 + (columns + 3) / 4;
     let rows = FIRST_ROWS + (entries + 1) / 2;
     let leads = HEAD_WORDS + entries;
-    set_node_word(table, seat, gate, number, start, 1, words[0], true);
-    set_eight(table, seat, gate, number, start, words, 1, positions);
-    set_eight(table, seat, gate, number, start, words, 9, rows);
-    set_eight(table, seat, gate, number, start, words, 17, rows);
-    set_eight(table, seat, gate, number, start, words, 25, leads);
-    set_eight(table, seat, gate, number, start, words, 33, leads);
-    set_eight(table, seat, gate, number, start, words, 41, leads);
-    set_eight(table, seat, gate, number, start, words, 49, leads);
+    table.fill_from(seat, gate, Rec::Node(number), start, 1, words[0]);
+    let node = NodeAt { number, start };
+    set_eight(table, seat, gate, node, words, 1, positions);
+    set_eight(table, seat, gate, node, words, 9, rows);
+    set_eight(table, seat, gate, node, words, 17, rows);
+    set_eight(table, seat, gate, node, words, 25, leads);
+    set_eight(table, seat, gate, node, words, 33, leads);
+    set_eight(table, seat, gate, node, words, 41, leads);
+    set_eight(table, seat, gate, node, words, 49, leads);
 }
 
-/// Makes the claimed node record `number`, which begins at word `start`, have the eight words from `words[first]` on. The node has
-/// something in those before `words[end]` and nothing in the others. Where it has something in all, none is tested. Inline, so that it is
-/// known where each stands.
+/// Makes the claimed node record `node` have the eight words from `words[first]` on. The node has something in those before `words[end]`
+/// and nothing in the others. Where it has something in all, none is tested. Inline, so that it is known where each stands.
 #[inline(always)]
 fn set_eight<G: Gate>(
     table: &HotTable,
     seat: &mut TableSeat,
     gate: &mut G,
-    number: u32,
-    start: usize,
+    node: NodeAt,
     words: &[u64; NODE_FIELDS],
     first: usize,
     end: usize,
 )
     requires own { IsSeatOf table.now seat.old }
-    requires range { (number < table.now.layout.nodes) × (first + 8 ≤ NODE_FIELDS) }
-    requires start { IsStartOf table.now.layout (a_node number) start }
-    requires held { IsClaimed seat.old.known (a_node number) }
+    requires range { (node.number < table.now.layout.nodes) × (first + 8 ≤ NODE_FIELDS) }
+    requires start { IsStartOf table.now.layout (a_node node.number) node.start }
+    requires held { IsClaimed seat.old.known (a_node node.number) }
     requires have { HaveBelow words.now first end }
     ensures own { IsSeatOf table.now seat.new }
-    ensures held { IsClaimed seat.new.known (a_node number) }
-    ensures sets { SetsMore table.now G.becomes (a_node number) words.now first 8 (seat.old, gate.old) (seat.new, gate.new) }
+    ensures held { IsClaimed seat.new.known (a_node node.number) }
+    ensures sets { SetsMore table.now G.becomes (a_node node.number) words.now first 8 (seat.old, gate.old) (seat.new, gate.new) }
 {
     if first + 8 <= end {
-        set_each(table, seat, gate, number, start, words, first, first + 8);
+        set_each(table, seat, gate, node, words, first, first + 8);
     } else {
-        set_each(table, seat, gate, number, start, words, first, end);
+        set_each(table, seat, gate, node, words, first, end);
     }
 }
 
-/// Does what [`set_eight`] does, one word after the other, with a test of each for whether it stands before `words[end]`.
+/// Does what [`set_eight`] does, one word after the other, with a test of each for whether it stands before `words[end]`. The node has
+/// something in one that does, and it is stored. Any other is loaded, and stored only if another word stands there.
 #[inline(always)]
 fn set_each<G: Gate>(
     table: &HotTable,
     seat: &mut TableSeat,
     gate: &mut G,
-    number: u32,
-    start: usize,
+    node: NodeAt,
     words: &[u64; NODE_FIELDS],
     first: usize,
     end: usize,
 )
     requires own { IsSeatOf table.now seat.old }
-    requires range { (number < table.now.layout.nodes) × (first + 8 ≤ NODE_FIELDS) }
-    requires start { IsStartOf table.now.layout (a_node number) start }
-    requires held { IsClaimed seat.old.known (a_node number) }
+    requires range { (node.number < table.now.layout.nodes) × (first + 8 ≤ NODE_FIELDS) }
+    requires start { IsStartOf table.now.layout (a_node node.number) node.start }
+    requires held { IsClaimed seat.old.known (a_node node.number) }
     requires have { HaveBelow words.now first end }
     ensures own { IsSeatOf table.now seat.new }
-    ensures held { IsClaimed seat.new.known (a_node number) }
-    ensures sets { SetsMore table.now G.becomes (a_node number) words.now first 8 (seat.old, gate.old) (seat.new, gate.new) }
+    ensures held { IsClaimed seat.new.known (a_node node.number) }
+    ensures sets { SetsMore table.now G.becomes (a_node node.number) words.now first 8 (seat.old, gate.old) (seat.new, gate.new) }
 {
+    let rec = Rec::Node(node.number);
     for place in 0..8 {
         let index = first + place;
         let offset = index as u8 + 1;
-        let used = index < end;
-        set_node_word(table, seat, gate, number, start, offset, words[index], used);
+        if index < end {
+            table.fill_from(seat, gate, rec, node.start, offset, words[index]);
+        } else {
+            clear_node_word(table, seat, gate, node, offset);
+        }
     }
 }
 
-/// Makes the word at `offset` of the claimed node record `number`, which begins at word `start`, be `word`. If `used`, the node has
-/// something in the word, and it is stored. Else it is loaded, and stored only if another stands there.
-#[inline(always)]
-fn set_node_word<G: Gate>(
-    table: &HotTable,
-    seat: &mut TableSeat,
-    gate: &mut G,
-    number: u32,
-    start: usize,
-    offset: u8,
-    word: u64,
-    used: bool,
-)
-    requires own { IsSeatOf table.now seat.old }
-    requires range { (number < table.now.layout.nodes) × IsOffset (a_node number) offset }
-    requires start { IsStartOf table.now.layout (a_node number) start }
-    requires held { IsClaimed seat.old.known (a_node number) }
-    requires used { used ≡ true → word ≢ unused_word offset }
-    requires unused { used ≡ false → word ≡ unused_word offset }
-    ensures { Sets table.now G.becomes (a_node number) offset word (seat.old, gate.old) (seat.new, gate.new) }
-{
-    if used {
-        table.fill_from(seat, gate, Rec::Node(number), start, offset, word);
-    } else {
-        clear_node_word(table, seat, gate, number, start, offset);
-    }
-}
-
-/// Makes the word at `offset` of the claimed node record `number`, which begins at word `start`, be the one where a node has nothing. It
-/// is loaded, and stored only if another stands there.
+/// Makes the word at `offset` of the claimed node record `node` be the one where a node has nothing. It is loaded, and stored only if
+/// another stands there.
 #[inline(always)]
 fn clear_node_word<G: Gate>(
     table: &HotTable,
     seat: &mut TableSeat,
     gate: &mut G,
-    number: u32,
-    start: usize,
+    node: NodeAt,
     offset: u8,
 )
     requires own { IsSeatOf table.now seat.old }
-    requires range { (number < table.now.layout.nodes) × IsOffset (a_node number) offset }
-    requires start { IsStartOf table.now.layout (a_node number) start }
-    requires held { IsClaimed seat.old.known (a_node number) }
-    ensures { Sets table.now G.becomes (a_node number) offset (unused_word offset) (seat.old, gate.old) (seat.new, gate.new) }
+    requires range { (node.number < table.now.layout.nodes) × IsOffset (a_node node.number) offset }
+    requires start { IsStartOf table.now.layout (a_node node.number) node.start }
+    requires held { IsClaimed seat.old.known (a_node node.number) }
+    ensures { Sets table.now G.becomes (a_node node.number) offset (unused_word offset) (seat.old, gate.old) (seat.new, gate.new) }
 {
     let unused = unused_in_node(offset);
-    if load_node_word(table, seat, gate, number, start, offset) != unused {
-        table.fill_from(seat, gate, Rec::Node(number), start, offset, unused);
+    if load_node_word(table, seat, gate, node, offset) != unused {
+        let rec = Rec::Node(node.number);
+        table.fill_from(seat, gate, rec, node.start, offset, unused);
     }
 }
 
@@ -250,26 +232,25 @@ fn unused_in_node(offset: u8) -> u64
     }
 }
 
-/// Loads the word at `offset` of node record `number`, which begins at word `start`. The offset is not that of the state.
+/// Loads the word at `offset` of node record `node`. The offset is not that of the state.
 #[inline(always)]
 fn load_node_word<G: Gate>(
     table: &HotTable,
     seat: &mut TableSeat,
     gate: &mut G,
-    number: u32,
-    start: usize,
+    node: NodeAt,
     offset: u8,
 ) -> u64
     requires own { IsSeatOf table.now seat.old }
-    requires range { (number < table.now.layout.nodes) × IsOffset (a_node number) offset }
-    requires start { IsStartOf table.now.layout (a_node number) start }
-    ensures { Steps table.now G.becomes (load_of_word (a_node number) offset result) (seat.old, gate.old) (seat.new, gate.new) }
+    requires range { (node.number < table.now.layout.nodes) × IsOffset (a_node node.number) offset }
+    requires start { IsStartOf table.now.layout (a_node node.number) node.start }
+    ensures { Steps table.now G.becomes (load_of_word (a_node node.number) offset result) (seat.old, gate.old) (seat.new, gate.new) }
 {
     if (offset as usize) < FIRST_ENTRY {
-        table.load_fixed_from(seat, gate, Rec::Node(number), start, offset)
+        table.load_fixed_from(seat, gate, Rec::Node(node.number), node.start, offset)
     } else {
         let entry = offset - FIRST_ENTRY as u8;
-        table.load_slot_from(seat, gate, number, start, entry)
+        table.load_slot_from(seat, gate, node.number, node.start, entry)
     }
 }
 

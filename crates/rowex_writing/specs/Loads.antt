@@ -23,7 +23,7 @@ pub record AreRead {G : Type 0} (table : TableView) (becomes : G → Event → G
 abbrev pub IsReadTo : {G : Type 0} → TableView → (G → Event → G → Type 0) → (a b : SeatView × G) → (number : ℕ) → (loaded : List ℕ) → (upto end : ℕ) → Type 0
 IsReadTo table becomes a b number loaded upto end = (n : ℕ) × AreRead table becomes a b number loaded n × (n ≤ upto) × ((n ≡ upto) ⊎ (end ≤ n))
 
--- the pass goes on so for eight words more
-abbrev pub ReadsEight : {G : Type 0} → TableView → (G → Event → G → Type 0) → (b c : SeatView × G) → (number : ℕ) → (old new : List ℕ) → (first end : ℕ) → Type 0
-ReadsEight {G} table becomes b c number old new first end =
+-- the pass goes on so, with the words loaded so far, for eight words more
+abbrev pub ReadsEight : {G : Type 0} → TableView → (G → Event → G → Type 0) → (number first end : ℕ) → (SeatView × G) × List ℕ → (SeatView × G) × List ℕ → Type 0
+ReadsEight {G} table becomes number first end (b, old) (c, new) =
     (a : SeatView × G) → IsReadTo table becomes a b number old first end → IsReadTo table becomes a c number new (first + 8) end

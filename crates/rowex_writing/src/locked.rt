@@ -19,6 +19,7 @@ use record_words::{
     FIRST_ROWS, HEAD_WORDS, MAX_ENTRIES, NODE_FIELDS, position_of, read_node, read_some, row_of,
 };
 use rowex_core::{Gate, Rec, Spot};
+use rowex_records::NodeAt;
 use rowex_table::{HotTable, TableSeat};
 
 /// Loads the words of the locked node `number`, all but its state, into `words`, which are 0 before. Words of entries are loaded by
@@ -40,39 +41,38 @@ pub(crate) fn load_words<G: Gate>(
     ensures few { seat.new.known.steps ≤ seat.old.known.steps + NODE_FIELDS }
 {
     let start = table.start_of(Rec::Node(number));
+    let node = NodeAt { number, start };
     for index in 0..HEAD_WORDS {
-        words[index] = load_word(table, seat, gate, number, start, index);
+        words[index] = load_word(table, seat, gate, node, index);
     }
     let end = HEAD_WORDS + (words[0] % 256) as usize;
-    load_eight(table, seat, gate, number, start, words, 25, end);
-    load_eight(table, seat, gate, number, start, words, 33, end);
-    load_eight(table, seat, gate, number, start, words, 41, end);
-    load_eight(table, seat, gate, number, start, words, 49, end);
+    load_eight(table, seat, gate, node, words, 25, end);
+    load_eight(table, seat, gate, node, words, 33, end);
+    load_eight(table, seat, gate, node, words, 41, end);
+    load_eight(table, seat, gate, node, words, 49, end);
 }
 
-/// Loads the sparse partial key at place `at` of the locked node `number`, whose record begins at `start`. It is 4,294,967,295 past the
-/// last one.
+/// Loads the sparse partial key at place `at` of the locked node `node`. It is 4,294,967,295 past the last one.
 #[inline(always)]
 fn load_row<G: Gate>(
     table: &HotTable,
     seat: &mut TableSeat,
     gate: &mut G,
-    number: u32,
-    start: usize,
+    node: NodeAt,
     at: u8,
 ) -> u32
     requires own { IsSeatOf table.now seat.old }
-    requires start { IsStartOf table.now.layout (a_node number) start }
+    requires start { IsStartOf table.now.layout (a_node node.number) node.start }
     ensures own { IsSeatOf table.now seat.new }
     ensures reads { ReadsOn table.now G.becomes (seat.old, gate.old) (seat.new, gate.new) }
-    ensures row { (words : List ℕ) → HasLocked seat.old.known number words → (node : NodeView) → IsNodeOf words node → result ≡ row_at node.rows at }
+    ensures row { (words : List ℕ) → HasLocked seat.old.known node.number words → (view : NodeView) → IsNodeOf words view → result ≡ row_at view.rows at }
     ensures few { seat.new.known.steps ≤ seat.old.known.steps + 1 }
 {
     if at as usize >= MAX_ENTRIES {
         return u32::MAX;
     }
     let index = FIRST_ROWS + at as usize / 2;
-    row_of(load_word(table, seat, gate, number, start, index), at)
+    row_of(load_word(table, seat, gate, node, index), at)
 }
 
 /// The place beside place `at` of the locked node `number`, and the column of the fork between the two. `None` if the other side of the
@@ -92,10 +92,11 @@ pub(crate) fn load_beside<G: Gate>(
     ensures few { seat.new.known.steps ≤ seat.old.known.steps + 4 }
 {
     let start = table.start_of(Rec::Node(number));
-    let before = load_row(table, seat, gate, number, start, at.saturating_sub(1));
-    let own = load_row(table, seat, gate, number, start, at);
-    let after = load_row(table, seat, gate, number, start, at + 1);
-    let second = load_row(table, seat, gate, number, start, at + 2);
+    let node = NodeAt { number, start };
+    let before = load_row(table, seat, gate, node, at.saturating_sub(1));
+    let own = load_row(table, seat, gate, node, at);
+    let after = load_row(table, seat, gate, node, at + 1);
+    let second = load_row(table, seat, gate, node, at + 2);
     place_beside(at, before, own, after, second)
 }
 
@@ -115,8 +116,9 @@ pub(crate) fn load_position<G: Gate>(
     ensures few { seat.new.known.steps ≤ seat.old.known.steps + 1 }
 {
     let start = table.start_of(Rec::Node(number));
+    let node = NodeAt { number, start };
     let index = 1 + column as usize / 4;
-    position_of(load_word(table, seat, gate, number, start, index), column)
+    position_of(load_word(table, seat, gate, node, index), column)
 }
 
 /// Loads the entry at `place` of the locked node `number`, which has that place.
@@ -142,29 +144,28 @@ pub(crate) fn load_place<G: Gate>(
     read_some(table.load_ref(seat, gate, spot))
 }
 
-/// Loads eight words of the locked node `number`, whose record begins at `start`, into `words` from index `first` on. If `first` isn't
-/// before `end`, where the words of the node's entries end, none is loaded. Inline, so that it is known where each stands.
+/// Loads eight words of the locked node `node` into `words` from index `first` on. If `first` isn't before `end`, where the words of the
+/// node's entries end, none is loaded. Inline, so that it is known where each stands.
 #[inline(always)]
 fn load_eight<G: Gate>(
     table: &HotTable,
     seat: &mut TableSeat,
     gate: &mut G,
-    number: u32,
-    start: usize,
+    node: NodeAt,
     words: &mut [u64; NODE_FIELDS],
     first: usize,
     end: usize,
 )
     requires own { IsSeatOf table.now seat.old }
-    requires start { IsStartOf table.now.layout (a_node number) start }
+    requires start { IsStartOf table.now.layout (a_node node.number) node.start }
     requires range { first + 8 ≤ NODE_FIELDS }
     ensures own { IsSeatOf table.now seat.new }
-    ensures reads { ReadsEight table.now G.becomes (seat.old, gate.old) (seat.new, gate.new) number words.old words.new first end }
+    ensures reads { ReadsEight table.now G.becomes node.number first end ((seat.old, gate.old), words.old) ((seat.new, gate.new), words.new) }
 {
     if first < end {
         for place in 0..8 {
             let index = first + place;
-            words[index] = load_word(table, seat, gate, number, start, index);
+            words[index] = load_word(table, seat, gate, node, index);
         }
     }
 }
@@ -188,28 +189,29 @@ pub(crate) fn read_locked<G: Gate>(
     read_node(&words)
 }
 
-/// Loads the word at `index` of the locked node `number`, counted from 0 behind its state. The record begins at `start`. Inline, so that
-/// neither loop over the words tests which they are.
+/// Loads the word at `index` of the locked node `node`, counted from 0 behind its state. Inline, so that neither loop over the words tests
+/// which they are.
 #[inline(always)]
 fn load_word<G: Gate>(
     table: &HotTable,
     seat: &mut TableSeat,
     gate: &mut G,
-    number: u32,
-    start: usize,
+    node: NodeAt,
     index: usize,
 ) -> u64
     requires own { IsSeatOf table.now seat.old }
-    requires start { IsStartOf table.now.layout (a_node number) start }
+    requires start { IsStartOf table.now.layout (a_node node.number) node.start }
     requires index { index < NODE_FIELDS }
     ensures reads { ReadsOn table.now G.becomes (seat.old, gate.old) (seat.new, gate.new) }
-    ensures word { (words : List ℕ) → HasLocked seat.old.known number words → result ≡ get_or words index 0 }
-    ensures spelled { (words : List ℕ) → HasLocked seat.old.known number words → (view : NodeView) × IsNodeOf words view }
+    ensures word { (words : List ℕ) → HasLocked seat.old.known node.number words → result ≡ get_or words index 0 }
+    ensures spelled { (words : List ℕ) → HasLocked seat.old.known node.number words → (view : NodeView) × IsNodeOf words view }
     ensures few { seat.new.known.steps ≤ seat.old.known.steps + 1 }
 {
     if index < HEAD_WORDS {
-        table.load_fixed_from(seat, gate, Rec::Node(number), start, index as u8 + 1)
+        let offset = index as u8 + 1;
+        table.load_fixed_from(seat, gate, Rec::Node(node.number), node.start, offset)
     } else {
-        table.load_slot_from(seat, gate, number, start, (index - HEAD_WORDS) as u8)
+        let entry = (index - HEAD_WORDS) as u8;
+        table.load_slot_from(seat, gate, node.number, node.start, entry)
     }
 }

@@ -1,7 +1,7 @@
 -- None of the row yet, one more that is not free, and one that is.
 use Rattle.std.proofs.Common.{rules, arith, ◌≡◌, ◌+◌, ◌∙◌, ap, sym, subst, add-zero}
 use Rattle.std.specs.Prelude.{None}
-use Rattle.rowex_records.specs.Claims.{GoesOnTrying, count_of, record_of}
+use Rattle.rowex_records.specs.Claims.{GoesOnTrying}
 use Rattle.rowex_records.proofs.Claimed.{has_index, row_none, row_more, row_claims, starts_at}
 use Rattle.rowex_records.proofs.claiming.claim_in_row.Goals as goal
 
@@ -9,7 +9,7 @@ pub loop-index-init : goal.loop-index-init
 loop-index-init g c = record {
   own = search rules;
   start = rw (add-zero c.args.number) (rw c.layout.ensures at c.start_at-start.ensures);
-  tries = row_none _ _ _ _ _ _;
+  tries = row_none _ _ c.args.kind _ _;
 }
 
 pub record_at-rec-requires : goal.record_at-rec-requires
@@ -23,15 +23,15 @@ pub loop-index-preserved : goal.loop-index-preserved
 loop-index-preserved g c = record {
   own = (c.try_record.ensures.missed c.if-try_record.false).does.seat.0 ∙ c.loop-index.invariant.own;
   start = ap (λ z. z + c.args.size) c.loop-index.invariant.start ∙ sym (c.requires.row c.loop-index.index c.loop-index-test.true);
-  tries = row_more _ _ _ _ _ _ _ _ _ (omega (arith, c.requires.few, c.loop-index-test.true)) c.loop-index.invariant.tries (rw c.record_at-rec.ensures at (c.try_record.ensures.missed c.if-try_record.false));
+  tries = row_more _ _ c.args.kind _ _ _ _ _ (omega (arith, c.requires.few, c.loop-index-test.true)) c.loop-index.invariant.tries (rw c.record_at-rec.ensures at (c.try_record.ensures.missed c.if-try_record.false));
 }
 
 pub returns-then-try_record-clause-tries : goal.returns-then-try_record-clause-tries
 returns-then-try_record-clause-tries g c =
-    row_claims _ _ _ _ _ _ _ _ _ _ c.loop-index-test.true c.requires.few c.loop-index.invariant.tries (rw c.record_at-rec.ensures at (c.try_record.ensures.claimed c.if-try_record.true))
+    row_claims _ _ c.args.kind _ _ _ _ _ _ c.loop-index-test.true c.requires.few c.loop-index.invariant.tries (rw c.record_at-rec.ensures at (c.try_record.ensures.claimed c.if-try_record.true))
 
 pub returns-clause-tries : goal.returns-clause-tries
 returns-clause-tries g c =
     let done : c.loop-index.index ≡ c.args.count = omega arith in
-    subst (λ z. GoesOnTrying c.args.table.now g.G.Gate.becomes (record_of c.args.kind) (count_of c.args.kind c.args.table.now.layout) c.args.number z None (c.args.seat.now, c.args.gate.now) (c.loop-index.seat, c.loop-index.gate)) done
+    subst (λ z. GoesOnTrying c.args.table.now g.G.Gate.becomes c.args.kind c.args.number z None (c.args.seat.now, c.args.gate.now) (c.loop-index.seat, c.loop-index.gate)) done
     c.loop-index.invariant.tries

@@ -1,7 +1,7 @@
 -- The records of the row below the index are not free, and the next begins where it says.
 use Rattle.std.specs.Prelude.{◌≡◌, ◌+◌, None}
 use Rattle.rowex_table.specs.Seats.{IsSeatOf}
-use Rattle.rowex_records.specs.Claims.{GoesOnTrying, count_of, record_of}
+use Rattle.rowex_records.specs.Claims.{GoesOnTrying}
 use Rattle.rowex_records.specs.Starts.{first_word}
 use Rattle.rowex_records.proofs.claiming.claim_in_row.Given as goal
 
@@ -9,5 +9,5 @@ abbrev pub invariant-loop-index : goal.invariant-loop-index
 invariant-loop-index g l = record {
   own : IsSeatOf l.table l.seat;
   start : l.start ≡ first_word l.kind l.table.layout (l.number + l.index);
-  tries : GoesOnTrying l.table g.G.Gate.becomes (record_of l.kind) (count_of l.kind l.table.layout) l.number l.index None (l.fn.seat, l.fn.gate) (l.seat, l.gate);
+  tries : GoesOnTrying l.table g.G.Gate.becomes l.kind l.number l.index None (l.fn.seat, l.fn.gate) (l.seat, l.gate);
 }

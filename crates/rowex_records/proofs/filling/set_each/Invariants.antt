@@ -8,6 +8,6 @@ use Rattle.rowex_records.proofs.filling.set_each.Given as goal
 abbrev pub invariant-loop-place : goal.invariant-loop-place
 invariant-loop-place g l = record {
   own : IsSeatOf l.table l.seat;
-  held : IsClaimed l.seat.known (Node l.number);
-  sets : SetsMore l.table g.G.Gate.becomes (Node l.number) l.words l.first l.place (l.fn.seat, l.fn.gate) (l.seat, l.gate);
+  held : IsClaimed l.seat.known (Node l.node.number);
+  sets : SetsMore l.table g.G.Gate.becomes (Node l.node.number) l.words l.first l.place (l.fn.seat, l.fn.gate) (l.seat, l.gate);
 }
