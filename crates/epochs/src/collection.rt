@@ -132,13 +132,13 @@ fn find_bound<G: Gate>(table: &HotTable, seat: &mut TableSeat, gate: &mut G) -> 
     for pass in 0..table.layout().passes {
         let of = pass as u16;
         let word = table.load_pin(seat, gate, of);
-        bound = lowered(bound, word);
+        bound = lower_to(bound, word);
     }
     bound
 }
 
 /// The lower of `bound` and `word`, a pin's word; `bound` if `word` is 0, which is no pin.
-fn lowered(bound: u64, word: u64) -> u64
+fn lower_to(bound: u64, word: u64) -> u64
     ensures none { word ≡ 0 → result ≡ bound }
     ensures pinned { 1 ≤ word → result ≡ min bound word }
 {
@@ -158,7 +158,7 @@ fn visit_nodes<G: Gate>(table: &HotTable, seat: &mut TableSeat, gate: &mut G, bo
     for number in 0..layout.nodes {
         let start = layout.node(number);
         let seen = visit(table, seat, gate, Rec::Node(number), start, bound);
-        tally = counted(tally, seen);
+        tally = count_visit(tally, seen);
     }
     tally
 }
@@ -208,14 +208,14 @@ fn visit_class<G: Gate>(
     let mut tally = before;
     for number in first..end {
         let seen = visit(table, seat, gate, Rec::Leaf(number), start, bound);
-        tally = counted(tally, seen);
+        tally = count_visit(tally, seen);
         start += size;
     }
     tally
 }
 
 /// `tally` with one more visit, which came to `seen`.
-fn counted(tally: Tally, seen: Visited) -> Tally
+fn count_visit(tally: Tally, seen: Visited) -> Tally
     requires { tally.given + 1 < 2 ^ 32 }
     ensures given { result.given ≡ tally.given + (if is_given seen then 1 else 0) }
 {
@@ -308,14 +308,14 @@ fn visit<G: Gate>(
 {
     let word = table.load_state_from(seat, gate, rec, start);
     let Some(epoch) = epoch_below(word, bound) else {
-        return unripe(word);
+        return tell_unripe(word);
     };
     let found = table.give_back_from(seat, gate, rec, start, epoch);
-    given_if(found == word)
+    tell_given(found == word)
 }
 
 /// What a visit came to that tried to give its record back: `Given` if it did, `Other` if another pass had done so.
-fn given_if(given: bool) -> Visited
+fn tell_given(given: bool) -> Visited
     ensures { is_given result ≡ given }
 {
     if given {
@@ -326,7 +326,7 @@ fn given_if(given: bool) -> Visited
 }
 
 /// What a visit came to of a record with the state `word`, not to be given back: `Waits` if it is obsolete, else `Other`.
-fn unripe(word: u64) -> Visited
+fn tell_unripe(word: u64) -> Visited
     ensures { is_given result ≡ false }
 {
     match unpack_state(word) {

@@ -22,8 +22,8 @@ use Rattle.seat_calls.specs.Passes.{AreByPasses, PassView}
 
 -- Where all leaf records are long, as in an index that `create` makes, a call that lacks one has found each of them not free, and none its
 -- own.
-abbrev pub LacksAllLong : Type 0
-LacksAllLong =
+abbrev pub AllLongFullIsFull : Type 0
+AllLongFullIsFull =
     (layout : Layout) (key : Key) (k j : PassView) → layout.long_from ≡ 0 → IsKey key → IsCause layout key k j FullLeaves →
     AllMissed (IsAnothers layout j.number [] []) a_leaf layout.leaves j.failed k.steps
 

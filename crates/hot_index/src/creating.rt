@@ -31,7 +31,7 @@ pub enum IndexFault {
 /// its passes in the order of their numbers. It checks the three numbers first, in this order, and the fault names the first that is out
 /// of range; `Memory` if memory is refused.
 ///
-/// All leaf records are long. So a call that lacks one has found each of them taken (`laws::lacks_all_long`).
+/// All leaf records are long. So a call that lacks one has found each of them taken (`laws::all_long_full_is_full`).
 pub fn create(
     alloc: Global,
     passes: u32,
@@ -47,7 +47,7 @@ pub fn create(
     ensures leaves { (result ≡ Err (IndexFault.Layout LayoutFault.Leaves)) ↔ (IsPassCount passes × IsNodeCount nodes × ¬ IsLeafCount leaves) }
     ensures memory { result ≡ Err IndexFault.Memory → IsPassCount passes × IsNodeCount nodes × IsLeafCount leaves }
 {
-    opened_of(alloc, Layout::of(passes, nodes, leaves))
+    make_opened(alloc, Layout::of(passes, nodes, leaves))
 }
 
 /// Makes an empty index with this number of passes (1 to 1,024) and this stock of records. A stock has 1 to 4,294,967,295 node records,
@@ -68,7 +68,7 @@ pub fn create_with(
     ensures leaves { (result ≡ Err (IndexFault.Layout LayoutFault.Leaves)) ↔ (IsStockPassCount passes × IsRecordCount stock.nodes × ¬ IsRecordCount (leaves_of stock)) }
     ensures memory { result ≡ Err IndexFault.Memory → IsStockPassCount passes × IsRecordCount stock.nodes × IsRecordCount (leaves_of stock) }
 {
-    opened_of(alloc, Layout::with_stock(passes, stock))
+    make_opened(alloc, Layout::with_stock(passes, stock))
 }
 
 /// Does what `create_with` does, but the passes are closed: each takes 16 bytes until it is opened.
@@ -85,11 +85,11 @@ pub fn create_closed(
     ensures leaves { (result ≡ Err (IndexFault.Layout LayoutFault.Leaves)) ↔ (IsStockPassCount passes × IsRecordCount stock.nodes × ¬ IsRecordCount (leaves_of stock)) }
     ensures memory { result ≡ Err IndexFault.Memory → IsStockPassCount passes × IsRecordCount stock.nodes × IsRecordCount (leaves_of stock) }
 {
-    made_of(alloc, Layout::with_stock(passes, stock))
+    make_closed(alloc, Layout::with_stock(passes, stock))
 }
 
 /// The index of the layout `found`, and its passes, opened. If `found` is a fault, that is returned; `Memory` if memory is refused.
-fn opened_of(
+fn make_opened(
     alloc: Global,
     found: Result<Layout, LayoutFault>,
 ) -> Result<(Index, Vec<Pass>), IndexFault>
@@ -99,7 +99,7 @@ fn opened_of(
     ensures fault { (fault : LayoutFault) → (result ≡ Err (IndexFault.Layout fault)) ↔ (found ≡ Err fault) }
     ensures memory { result ≡ Err IndexFault.Memory → IsOk found }
 {
-    let (index, closed) = match made_of(alloc, found) {
+    let (index, closed) = match make_closed(alloc, found) {
         Ok(made) => made,
         Err(fault) => return Err(fault),
     };
@@ -121,7 +121,7 @@ fn open_each(alloc: Global, index: &Index, closed: Vec<ClosedPass>) -> Result<Ve
 }
 
 /// The index of the layout `found`, and its passes, closed. If `found` is a fault, that is returned; `Memory` if memory is refused.
-fn made_of(
+fn make_closed(
     alloc: Global,
     found: Result<Layout, LayoutFault>,
 ) -> Result<(Index, Vec<ClosedPass>), IndexFault>
@@ -132,13 +132,13 @@ fn made_of(
     ensures memory { result ≡ Err IndexFault.Memory → IsOk found }
 {
     match found {
-        Ok(layout) => made(alloc, layout).map_err(|_| IndexFault::Memory),
+        Ok(layout) => make_index(alloc, layout).map_err(|_| IndexFault::Memory),
         Err(fault) => Err(IndexFault::Layout(fault)),
     }
 }
 
 /// The index of `layout`, and its passes, closed; an error if memory is refused.
-fn made(alloc: Global, layout: Layout) -> Result<(Index, Vec<ClosedPass>), AllocError>
+fn make_index(alloc: Global, layout: Layout) -> Result<(Index, Vec<ClosedPass>), AllocError>
     ensures layout { IfOk result (λ made. made.0.layout ≡ layout) }
     ensures count { IfOk result (λ made. length made.1.items ≡ layout.passes) }
     ensures each { IfOk result (λ made. (q : ℕ) (p : PassView) → slice_get made.1.items q ≡ Some p → Owns made.0 p × IsNewPass q p) }

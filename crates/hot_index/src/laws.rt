@@ -1,11 +1,11 @@
 //! Laws of the index. The functions do nothing: their contracts are the laws.
 
-ghost use Rattle.hot_index.specs.Statements.{CountsAddUp, LacksAllLong, OnePassFullIsFull, OnePassIsNeverBusy, ReturnedBeforeBegun};
+ghost use Rattle.hot_index.specs.Statements.{AllLongFullIsFull, CountsAddUp, OnePassFullIsFull, OnePassIsNeverBusy, ReturnedBeforeBegun};
 
 /// If all leaf records are long, as `create` makes them, a call refused as `FullLeaves` has found each leaf record not free. It found so
 /// after it began, and no leaf record was its pass's own.
-pub fn lacks_all_long()
-    ensures { LacksAllLong }
+pub fn all_long_full_is_full()
+    ensures { AllLongFullIsFull }
 {}
 
 /// A call is busy only because of another pass of the index. In an index of one pass no call is.

@@ -10,7 +10,7 @@ ghost use Rattle.plain_records.specs.Heights.{KeepsHeights};
 ghost use Rattle.plain_records.specs.Rising.{records};
 
 use crate::leaf::LeafRecord;
-use crate::rising::{lifted, raised};
+use crate::rising::{lift, raise};
 use compound_node::{Entry, Node};
 use insert_cases::Risen;
 use key_bits::{Key, mismatch};
@@ -37,7 +37,7 @@ pub enum Addition {
 ///
 /// The search goes down to a leaf once. It searches the node that takes the new leaf, and at times that node's child, again. A node whose
 /// first position is below the one at which the key differs takes the new leaf. Each node above it takes what took its child's place.
-pub fn added(
+pub fn add_below(
     nodes: &mut Vec<Node>,
     leaves: &mut Vec<LeafRecord>,
     entry: Entry,
@@ -56,22 +56,22 @@ pub fn added(
         (vec_len leaves.old) (vec_capacity leaves.old) (vec_capacity leaves.new) count result }
 {
     match entry {
-        Entry::Leaf(number) => added_beside(nodes, leaves, number, key, value, count),
+        Entry::Leaf(number) => add_beside(nodes, leaves, number, key, value, count),
         Entry::Node { number, height } => {
             let node = &nodes[number as usize];
             let at = node.search(key);
             prove!(at < node.count());
             let child = node.entry(at);
-            match added(nodes, leaves, child, key, value, count) {
+            match add_below(nodes, leaves, child, key, value, count) {
                 Addition::Above { position, leaf } => {
                     if nodes[number as usize].first_position() < position {
-                        Addition::Below(raised(nodes, entry, key, position, leaf))
+                        Addition::Below(raise(nodes, entry, key, position, leaf))
                     } else {
                         Addition::Above { position, leaf }
                     }
                 }
                 Addition::Below(risen) => {
-                    Addition::Below(lifted(nodes, number, height, at, child, risen))
+                    Addition::Below(lift(nodes, number, height, at, child, risen))
                 }
                 Addition::Held(leaf) => Addition::Held(leaf),
                 Addition::Refused => Addition::Refused,
@@ -82,7 +82,7 @@ pub fn added(
 
 /// Adds a leaf with `value` for `key`, whose search ends at leaf `number`, and makes room for `count` nodes. `Held` if that leaf has the
 /// key, `Refused` if there is no room, and else `Above`.
-fn added_beside(
+fn add_beside(
     nodes: &mut Vec<Node>,
     leaves: &mut Vec<LeafRecord>,
     number: u32,

@@ -5,13 +5,13 @@
 //!
 //! # How a key is added
 //!
-//! 1. [`added`] searches for the key, down to a leaf. If that has another key, room is made for all that may be needed
+//! 1. [`add_below`] searches for the key, down to a leaf. If that has another key, room is made for all that may be needed
 //!    ([`make_room`]): a leaf, and a node for each height.
-//! 2. On the way back it finds the lowest node whose first position is before the mismatch. [`raised`] adds the leaf there,
+//! 2. On the way back it finds the lowest node whose first position is before the mismatch. [`raise`] adds the leaf there,
 //!    by the case that `choose` of `insert_cases` names: beside an entry of the node, in a new node with a leaf, or in a child. A full
 //!    node is cut in two.
 //! 3. What a node was cut into rises: [`place`] says whether it goes into the node above (pulling it up), into a node of its own between
-//!    the two, or into a new root ([`rooted`]).
+//!    the two, or into a new root ([`make_root`]).
 //!
 //! A node above stays as it is where the entry that it has for its child stays.
 //!
@@ -27,9 +27,9 @@ mod places;
 mod raising;
 mod rising;
 
-pub use adding::{Addition, added, make_room};
+pub use adding::{Addition, add_below, make_room};
 pub use gathering::{Progress, Range, gather, pairs_of};
 pub use leaf::LeafRecord;
 pub use overflow::place;
 pub use places::Place;
-pub use rising::{raised, rooted};
+pub use rising::{make_root, raise};

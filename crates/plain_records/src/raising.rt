@@ -16,7 +16,7 @@ use insert_cases::{Grown, Risen};
 
 /// Stores `grown` in place of node `number`, whose height was `height`, and returns what takes its place. Of two halves that are nodes
 /// the first takes the old one's record, and the other a new one.
-pub fn stored(nodes: &mut Vec<Node>, number: u32, height: u16, grown: Grown) -> Risen
+pub fn store_grown(nodes: &mut Vec<Node>, number: u32, height: u16, grown: Grown) -> Risen
     requires number { number < vec_len nodes.old }
     requires room { vec_len nodes.old < vec_capacity nodes.old }
     requires small { vec_len nodes.old < 2 ^ 32 }
@@ -35,7 +35,7 @@ pub fn stored(nodes: &mut Vec<Node>, number: u32, height: u16, grown: Grown) -> 
     ensures capacity { vec_capacity nodes.new ≡ vec_capacity nodes.old }
 {
     match grown {
-        Grown::One(node) => Risen::Whole(kept(nodes, number, node)),
+        Grown::One(node) => Risen::Whole(put_node(nodes, number, node)),
         Grown::Two(cut) => split(nodes, number, height, cut),
     }
 }
@@ -64,7 +64,7 @@ fn split(nodes: &mut Vec<Node>, number: u32, height: u16, cut: Cut) -> Risen
     } = cut;
     match zero {
         Half::One(zero) => {
-            let one = half_kept(nodes, number, height, one);
+            let one = keep_half(nodes, number, height, one);
             Risen::Split {
                 position,
                 zero,
@@ -72,8 +72,8 @@ fn split(nodes: &mut Vec<Node>, number: u32, height: u16, cut: Cut) -> Risen
             }
         }
         zero => {
-            let one = half_pushed(nodes, number, height, one);
-            let zero = half_kept(nodes, number, height, zero);
+            let one = push_half(nodes, number, height, one);
+            let zero = keep_half(nodes, number, height, zero);
             Risen::Split {
                 position,
                 zero,
@@ -84,7 +84,7 @@ fn split(nodes: &mut Vec<Node>, number: u32, height: u16, cut: Cut) -> Risen
 }
 
 /// The entry of `half`: a new node takes record `number`, and the node as it was, of the height `height`, keeps it.
-fn half_kept(nodes: &mut Vec<Node>, number: u32, height: u16, half: Half) -> Entry
+fn keep_half(nodes: &mut Vec<Node>, number: u32, height: u16, half: Half) -> Entry
     requires { number < vec_len nodes.old }
     ensures nodes { nodes.new.items ≡ kept_nodes nodes.old.items number half }
     ensures entry { result ≡ kept_entry number (Entry.Node number height) half }
@@ -93,13 +93,13 @@ fn half_kept(nodes: &mut Vec<Node>, number: u32, height: u16, half: Half) -> Ent
 {
     match half {
         Half::One(entry) => entry,
-        Half::Many(node) => kept(nodes, number, node),
+        Half::Many(node) => put_node(nodes, number, node),
         Half::Same => Entry::Node { number, height },
     }
 }
 
 /// The entry of `half`: a new node gets a new record, and the node as it was, of the height `height`, keeps record `number`.
-fn half_pushed(nodes: &mut Vec<Node>, number: u32, height: u16, half: Half) -> Entry
+fn push_half(nodes: &mut Vec<Node>, number: u32, height: u16, half: Half) -> Entry
     requires room { vec_len nodes.old < vec_capacity nodes.old }
     requires small { vec_len nodes.old < 2 ^ 32 }
     ensures nodes { nodes.new.items ≡ pushed_nodes nodes.old.items half }
@@ -110,13 +110,13 @@ fn half_pushed(nodes: &mut Vec<Node>, number: u32, height: u16, half: Half) -> E
 {
     match half {
         Half::One(entry) => entry,
-        Half::Many(node) => pushed(nodes, node),
+        Half::Many(node) => push_node(nodes, node),
         Half::Same => Entry::Node { number, height },
     }
 }
 
 /// Puts `node` into record `number`, and returns its entry.
-pub fn kept(nodes: &mut Vec<Node>, number: u32, node: Node) -> Entry
+pub fn put_node(nodes: &mut Vec<Node>, number: u32, node: Node) -> Entry
     requires { number < vec_len nodes.old }
     ensures nodes { nodes.new.items ≡ slice_set nodes.old.items number node }
     ensures entry { result ≡ Entry.Node number node.height }
@@ -129,7 +129,7 @@ pub fn kept(nodes: &mut Vec<Node>, number: u32, node: Node) -> Entry
 }
 
 /// Puts `node` into a new record behind the others, and returns its entry.
-fn pushed(nodes: &mut Vec<Node>, node: Node) -> Entry
+fn push_node(nodes: &mut Vec<Node>, node: Node) -> Entry
     requires room { vec_len nodes.old < vec_capacity nodes.old }
     requires small { vec_len nodes.old < 2 ^ 32 }
     ensures nodes { nodes.new.items ≡ nodes.old.items ++ node ∷ [] }
@@ -146,7 +146,7 @@ fn pushed(nodes: &mut Vec<Node>, node: Node) -> Entry
 }
 
 /// The entry of a new node of `zero` and `one` with a fork at `position`, in a new record behind the others.
-pub fn settled(nodes: &mut Vec<Node>, position: u16, zero: Entry, one: Entry) -> Entry
+pub fn push_pair(nodes: &mut Vec<Node>, position: u16, zero: Entry, one: Entry) -> Entry
     requires room { vec_len nodes.old < vec_capacity nodes.old }
     requires small { vec_len nodes.old < 2 ^ 32 }
     requires position { position < 65535 }
@@ -156,5 +156,5 @@ pub fn settled(nodes: &mut Vec<Node>, position: u16, zero: Entry, one: Entry) ->
     ensures len { vec_len nodes.new ≡ vec_len nodes.old + 1 }
     ensures capacity { vec_capacity nodes.new ≡ vec_capacity nodes.old }
 {
-    pushed(nodes, Node::pair(position, zero, one))
+    push_node(nodes, Node::pair(position, zero, one))
 }

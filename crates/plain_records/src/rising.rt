@@ -21,7 +21,7 @@ ghost use Rattle.plain_records.specs.declared.leaf.LeafRecord.{LeafRecord};
 use crate::choosing::{choice_at, step_at, takes_leaf};
 use crate::overflow::place;
 use crate::places::Place;
-use crate::raising::{kept, settled, stored};
+use crate::raising::{push_pair, put_node, store_grown};
 use compound_node::{Entry, Node};
 use insert_cases::{Case, Choice, Risen, grow_full, pull_up};
 use key_bits::Key;
@@ -32,7 +32,7 @@ use key_bits::Key;
 /// The search goes down until `choose` gives the new leaf to the node where it stands, or to a leaf. A node above leaves alone takes the
 /// new leaf beside one of them. Below a higher node a leaf counts as a child of height 0 that gave way to a fork of itself and the new
 /// one. Each node on the way back takes what took its child's place, and stays as it is where that is the child's own entry.
-pub fn raised(nodes: &mut Vec<Node>, entry: Entry, key: &Key, position: u16, leaf: u32) -> Risen
+pub fn raise(nodes: &mut Vec<Node>, entry: Entry, key: &Key, position: u16, leaf: u32) -> Risen
     requires place { (leaves : List LeafRecord) × (value : ℕ) × (t : Tree) × IsAddable nodes.old.items leaves (item leaf key.now value) position entry t }
     requires position { position < 65535 }
     requires room { vec_len nodes.old + height_of entry ≤ vec_capacity nodes.old }
@@ -58,7 +58,7 @@ pub fn raised(nodes: &mut Vec<Node>, entry: Entry, key: &Key, position: u16, lea
             let step = step_at(node, number, at);
             let choice = choice_at(nodes, step, child, key, first, last);
             if takes_leaf(choice) {
-                return grown_at(
+                return grow_at(
                     nodes,
                     number,
                     height,
@@ -68,8 +68,8 @@ pub fn raised(nodes: &mut Vec<Node>, entry: Entry, key: &Key, position: u16, lea
                     leaf,
                 );
             }
-            let risen = raised(nodes, child, key, position, leaf);
-            lifted(nodes, number, height, at, child, risen)
+            let risen = raise(nodes, child, key, position, leaf);
+            lift(nodes, number, height, at, child, risen)
         }
     }
 }
@@ -95,7 +95,7 @@ fn beside(old: Entry, position: u16, bit: bool, new: Entry) -> Risen
 
 /// What takes the place of node `number` when leaf `leaf` is put beside its entries from `choice.first` to `choice.last`. It is the node,
 /// or a fork of two if the node was full and is cut.
-fn grown_at(
+fn grow_at(
     nodes: &mut Vec<Node>,
     number: u32,
     height: u16,
@@ -140,7 +140,7 @@ fn grown_at(
             let node = &nodes[number as usize];
             prove!(node.count() == 32);
             let grown = grow_full(node, first, last, position, bit, new);
-            stored(nodes, number, height, grown)
+            store_grown(nodes, number, height, grown)
         }
         Case::LeafPushdown => unreachable!(),
     }
@@ -148,7 +148,7 @@ fn grown_at(
 
 /// What takes the place of node `number` when `risen` takes that of `child`, its entry at `at`. If `risen` is the child's own entry, the
 /// node stays as it is. A fork goes into the node if the node is one higher than the child, and into a new child otherwise.
-pub fn lifted(
+pub fn lift(
     nodes: &mut Vec<Node>,
     number: u32,
     height: u16,
@@ -178,17 +178,17 @@ pub fn lifted(
             if entry == child {
                 return Risen::Whole(Entry::Node { number, height });
             }
-            Risen::Whole(replaced(nodes, number, at, entry))
+            Risen::Whole(replace_entry(nodes, number, at, entry))
         }
         Risen::Split {
             position,
             zero,
             one,
         } => match place(child.height(), Some(height)) {
-            Place::PullUp => forked_at(nodes, number, height, at, position, zero, one),
+            Place::PullUp => fork_at(nodes, number, height, at, position, zero, one),
             _ => {
-                let entry = settled(nodes, position, zero, one);
-                Risen::Whole(replaced(nodes, number, at, entry))
+                let entry = push_pair(nodes, position, zero, one);
+                Risen::Whole(replace_entry(nodes, number, at, entry))
             }
         },
     }
@@ -196,7 +196,7 @@ pub fn lifted(
 
 /// What takes the place of node `number` that gets a fork of `zero` and `one` at `position` in place of its entry `at`. It is the node,
 /// or a fork of two if the node was full and is cut.
-fn forked_at(
+fn fork_at(
     nodes: &mut Vec<Node>,
     number: u32,
     height: u16,
@@ -224,11 +224,11 @@ fn forked_at(
     let node = &nodes[number as usize];
     prove!(at < node.count());
     let grown = pull_up(node, at, position, zero, one);
-    stored(nodes, number, height, grown)
+    store_grown(nodes, number, height, grown)
 }
 
 /// The root's entry when `risen` takes the place of the one before: that entry, or for a fork the entry of a new node.
-pub fn rooted(nodes: &mut Vec<Node>, risen: Risen) -> Entry
+pub fn make_root(nodes: &mut Vec<Node>, risen: Risen) -> Entry
     requires place { (ns : List NodeView) × (leaves : List LeafRecord) × (x : Item) × (p : ℕ) × (t : Tree) × (h : ℕ) ×
         IsRaised ns nodes.old.items leaves x p t h (subtrie_of risen) }
     requires room { vec_len nodes.old < vec_capacity nodes.old }
@@ -246,12 +246,12 @@ pub fn rooted(nodes: &mut Vec<Node>, risen: Risen) -> Entry
             position,
             zero,
             one,
-        } => settled(nodes, position, zero, one),
+        } => push_pair(nodes, position, zero, one),
     }
 }
 
 /// Puts `entry` at place `at` of node `number`, in its own record, and returns the node's entry.
-fn replaced(nodes: &mut Vec<Node>, number: u32, at: u8, entry: Entry) -> Entry
+fn replace_entry(nodes: &mut Vec<Node>, number: u32, at: u8, entry: Entry) -> Entry
     requires { (old : NodeView) × (slice_get nodes.old.items number ≡ Some old) × (at < size (piece old)) × StandsBelow old.height entry }
     ensures shows { (old : NodeView) → slice_get nodes.old.items number ≡ Some old → IsNamed nodes.new.items old result (grafted at (At entry) (piece old)) }
     ensures fields { (old : NodeView) → slice_get nodes.old.items number ≡ Some old →
@@ -264,5 +264,5 @@ fn replaced(nodes: &mut Vec<Node>, number: u32, at: u8, entry: Entry) -> Entry
     let node = &nodes[number as usize];
     prove!(at < node.count());
     let node = node.replace(at, entry);
-    kept(nodes, number, node)
+    put_node(nodes, number, node)
 }

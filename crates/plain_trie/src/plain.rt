@@ -13,7 +13,7 @@ mod scan;
 use compound_node::{Entry, Node};
 use finite_map::Reply;
 use key_bits::Key;
-use plain_records::{Addition, LeafRecord, added, make_room, raised, rooted};
+use plain_records::{Addition, LeafRecord, add_below, make_room, make_root, raise};
 use std::alloc::{AllocError, Global};
 use std::marker::Model;
 
@@ -173,16 +173,16 @@ impl PlainTrie {
             return Ok(None);
         };
         let count = usize::from(top.height()) + 1;
-        match added(&mut self.nodes, &mut self.leaves, top, key, value, count) {
+        match add_below(&mut self.nodes, &mut self.leaves, top, key, value, count) {
             Addition::Held(leaf) => Ok(Some(leaf as usize)),
             Addition::Refused => Err(AllocError),
             Addition::Above { position, leaf } => {
-                let risen = raised(&mut self.nodes, top, key, position, leaf);
-                self.top = Some(rooted(&mut self.nodes, risen));
+                let risen = raise(&mut self.nodes, top, key, position, leaf);
+                self.top = Some(make_root(&mut self.nodes, risen));
                 Ok(None)
             }
             Addition::Below(risen) => {
-                self.top = Some(rooted(&mut self.nodes, risen));
+                self.top = Some(make_root(&mut self.nodes, risen));
                 Ok(None)
             }
         }
@@ -229,7 +229,7 @@ impl PlainTrie {
             match entry {
                 Entry::Leaf(number) => return number as usize,
                 Entry::Node { number, .. } => {
-                    entry = sought(&self.nodes[number as usize], key);
+                    entry = find_entry(&self.nodes[number as usize], key);
                 }
             }
         }
@@ -237,7 +237,7 @@ impl PlainTrie {
 }
 
 /// The entry of `node` to which the search for `key` leads.
-fn sought(node: &Node, key: &Key) -> Entry
+fn find_entry(node: &Node, key: &Key) -> Entry
     ensures { result ≡ seek key.now (piece node.now) }
 {
     let at = node.search(key);

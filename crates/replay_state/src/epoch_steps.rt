@@ -35,7 +35,7 @@ impl State {
             return false;
         }
         let version = self.changes.len() as u64;
-        let loaded = self.own(pass).loaded(self.epoch, version);
+        let loaded = self.own(pass).enter_round(self.epoch, version);
         put(&mut self.passes, pass as usize, loaded);
         true
     }

@@ -35,7 +35,7 @@ impl PassState {
     }
 
     /// The pass when it has loaded `epoch` at `version`.
-    pub(crate) fn loaded(self, epoch: u64, version: u64) -> PassState
+    pub(crate) fn enter_round(self, epoch: u64, version: u64) -> PassState
         ensures { result ≡ in_round self epoch version }
     {
         PassState {

@@ -8,7 +8,7 @@ ghost use Rattle.rowex_core.specs.Reading.{entry_of};
 ghost use Rattle.replay_state.specs.Publishing.{IsPublishJudged};
 ghost use Rattle.replay_state.specs.States.{HasLock, IsStepped};
 
-use crate::records::{filled, is_node};
+use crate::records::{fill_word, is_node};
 use crate::state::State;
 use compound_node::Entry;
 use record_words::{HEAD_WORDS, MAX_ENTRIES};
@@ -76,7 +76,7 @@ impl State {
         let Some(before) = self.records.node(node) else {
             return Ok(false);
         };
-        let after = filled(before, HEAD_WORDS + entry as usize, word);
+        let after = fill_word(before, HEAD_WORDS + entry as usize, word);
         if !is_node(&after) {
             return Ok(false);
         }

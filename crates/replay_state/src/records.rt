@@ -50,11 +50,11 @@ impl Records {
     {
         Ok(Records {
             layout,
-            nodes: repeated(alloc, [0; NODE_FIELDS], layout.nodes)?,
-            leaves: repeated(alloc, [0; LEAF_FIELDS], layout.leaves)?,
-            node_fates: repeated(alloc, Fate::Free, layout.nodes)?,
-            leaf_fates: repeated(alloc, Fate::Free, layout.leaves)?,
-            locks: repeated(alloc, None, layout.nodes)?,
+            nodes: repeat_item(alloc, [0; NODE_FIELDS], layout.nodes)?,
+            leaves: repeat_item(alloc, [0; LEAF_FIELDS], layout.leaves)?,
+            node_fates: repeat_item(alloc, Fate::Free, layout.nodes)?,
+            leaf_fates: repeat_item(alloc, Fate::Free, layout.leaves)?,
+            locks: repeat_item(alloc, None, layout.nodes)?,
         })
     }
 
@@ -233,12 +233,16 @@ impl Records {
         match rec {
             Rec::Node(number) => {
                 if let Some(words) = self.nodes.get(number as usize).copied() {
-                    put(&mut self.nodes, number as usize, filled(words, at, word));
+                    put(&mut self.nodes, number as usize, fill_word(words, at, word));
                 }
             }
             Rec::Leaf(number) => {
                 if let Some(words) = self.leaves.get(number as usize).copied() {
-                    put(&mut self.leaves, number as usize, filled(words, at, word));
+                    put(
+                        &mut self.leaves,
+                        number as usize,
+                        fill_word(words, at, word),
+                    );
                 }
             }
         }
@@ -294,7 +298,7 @@ impl Records {
 }
 
 /// A list of `count` copies of `item`; an error if memory is refused.
-pub(crate) fn repeated<T: Copy>(alloc: Global, item: T, count: u32) -> Result<Vec<T>, AllocError>
+pub(crate) fn repeat_item<T: Copy>(alloc: Global, item: T, count: u32) -> Result<Vec<T>, AllocError>
     ensures { IfOk result (λ copies. copies.items ≡ replicate count item) }
 {
     let mut copies = Vec::with_capacity(alloc, count as usize)?;
@@ -314,7 +318,7 @@ pub(crate) fn put<T: Copy>(items: &mut Vec<T>, at: usize, item: T)
 }
 
 /// `words` with `word` at place `at`. Past the last place, they are as they were.
-pub(crate) fn filled<const N: usize>(words: [u64; N], at: usize, word: u64) -> [u64; N]
+pub(crate) fn fill_word<const N: usize>(words: [u64; N], at: usize, word: u64) -> [u64; N]
     ensures { result ≡ set words.entry at word }
 {
     let mut filled = words;

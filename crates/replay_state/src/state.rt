@@ -4,7 +4,7 @@ ghost use Rattle.std.specs.Prelude.{◌≡◌, ◌<◌, IfOk, OnErr, OnOk, lengt
 
 use crate::fault::ReplayFault;
 use crate::passes::PassState;
-use crate::records::{Records, repeated};
+use crate::records::{Records, repeat_item};
 use compound_node::Entry;
 use finite_map::Change;
 use key_bits::Key;
@@ -57,7 +57,7 @@ impl State {
         Ok(State {
             alloc,
             records: Records::new(alloc, layout)?,
-            passes: repeated(alloc, PassState::new(), layout.passes)?,
+            passes: repeat_item(alloc, PassState::new(), layout.passes)?,
             anchor: None,
             root: None,
             epoch: 1,
@@ -79,7 +79,7 @@ impl State {
         if event.pass as usize >= self.passes.len() {
             return Err(ReplayFault::Illegal);
         }
-        match self.made(event.pass, event.act) {
+        match self.make(event.pass, event.act) {
             Ok(true) => Ok(()),
             Ok(false) => Err(ReplayFault::Illegal),
             Err(_) => Err(ReplayFault::Memory),
@@ -88,7 +88,7 @@ impl State {
 
     /// Makes the act `act` of `pass`, if it is legal, and returns whether it was; if not, nothing changes. An error, which changes
     /// nothing, if memory is refused.
-    fn made(&mut self, pass: u16, act: Act) -> Result<bool, AllocError>
+    fn make(&mut self, pass: u16, act: Act) -> Result<bool, AllocError>
         requires { pass < length self.old.passes }
         ensures ok { IfOk result (λ made. IsStepped made self.old self.new pass act) }
         ensures err { OnErr result (IsLockedPublish self.old pass act) }

@@ -26,18 +26,24 @@ fn change_at(pass: u16, gone: &[Item], come: &[Item]) -> Option<Change>
 {
     match (gone.split_first(), come.split_first()) {
         (None, None) => None,
-        (None, Some((y, rest))) => made(pass, y, Kind::Added, gone, rest),
-        (Some((x, rest)), None) => made(pass, x, Kind::Removed, rest, come),
+        (None, Some((y, rest))) => make_change(pass, y, Kind::Added, gone, rest),
+        (Some((x, rest)), None) => make_change(pass, x, Kind::Removed, rest, come),
         (Some((x, gone_rest)), Some((y, come_rest))) => match x.key.cmp(&y.key) {
-            Ordering::Less => made(pass, x, Kind::Removed, gone_rest, come),
-            Ordering::Equal => made(pass, y, Kind::Replaced, gone_rest, come_rest),
-            Ordering::Greater => made(pass, y, Kind::Added, gone, come_rest),
+            Ordering::Less => make_change(pass, x, Kind::Removed, gone_rest, come),
+            Ordering::Equal => make_change(pass, y, Kind::Replaced, gone_rest, come_rest),
+            Ordering::Greater => make_change(pass, y, Kind::Added, gone, come_rest),
         },
     }
 }
 
 /// The change of the kind `kind` that `item` tells, if the other leaves, `before` and `after`, are the same; else `None`.
-fn made(pass: u16, item: &Item, kind: Kind, before: &[Item], after: &[Item]) -> Option<Change>
+fn make_change(
+    pass: u16,
+    item: &Item,
+    kind: Kind,
+    before: &[Item],
+    after: &[Item],
+) -> Option<Change>
     ensures { IsMade (map read_item before.now) (map read_item after.now) (record { pass = pass; key = item.now.key; value = item.now.value; kind = kind }) result }
 {
     if before.len() == after.len() && same_front(before, after) == before.len() {

@@ -39,7 +39,7 @@ impl Fixed {
         Ok(Fixed {
             count: (meta % 256) as u8,
             height: (meta / 65_536) as u16,
-            columns: copied(used),
+            columns: copy_columns(used),
             sparse: rows_of_words(&words[9..HEAD_WORDS]),
         })
     }
@@ -77,7 +77,7 @@ fn is_unused(positions: &[u16]) -> bool
 }
 
 /// The list of `columns`, 31 at most.
-fn copied(columns: &[u16]) -> ArrayVec<u16, 31>
+fn copy_columns(columns: &[u16]) -> ArrayVec<u16, 31>
     requires { length columns.now ≤ 31 }
     ensures { result.items ≡ columns.now }
 {

@@ -114,7 +114,7 @@ pub(crate) fn publish_change<G: Gate>(
     let way = job.way;
     let span = job.span;
     name_gone(build, &way[span.end..raised.low], raised.leaf);
-    let kept = kept_steps(way, span, raised.low);
+    let kept = list_kept(way, span, raised.low);
     let spot = spot_above(way, span.end);
     ready_all(table, seat, gate, &mut build.made);
     table.publish(seat, gate, spot, stored_word(raised.entry));
@@ -144,7 +144,7 @@ fn name_gone(build: &mut Build, steps: &[PathNode], leaf: Option<u32>)
 }
 
 /// The locked nodes that a change keeps: the one above the span, if there is one; and the span's lowest, if `low` is its index.
-fn kept_steps(way: &[PathNode], span: Span, low: usize) -> ArrayVec<PathNode, 2>
+fn list_kept(way: &[PathNode], span: Span, low: usize) -> ArrayVec<PathNode, 2>
     requires { (span.end ≤ low) × (low ≤ span.len) × (span.len ≤ low + 1) × (span.len ≤ length way.now) }
     ensures { result.items ≡ slice_range way.now (span.end - 1) span.end ++ slice_range way.now low span.len }
 {

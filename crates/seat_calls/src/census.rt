@@ -77,7 +77,7 @@ fn count_nodes<G: Gate>(table: &HotTable, seat: &mut TableSeat, gate: &mut G) ->
     let mut counts = none();
     for number in 0..table.layout().nodes {
         let word = table.load_state(seat, gate, Rec::Node(number));
-        counts = counted(counts, word);
+        counts = count_state(counts, word);
     }
     counts
 }
@@ -98,7 +98,7 @@ fn count_leaves<G: Gate>(
     let mut counts = none();
     for number in first..behind {
         let word = table.load_state(seat, gate, Rec::Leaf(number));
-        counts = counted(counts, word);
+        counts = count_state(counts, word);
     }
     counts
 }
@@ -116,7 +116,7 @@ fn none() -> StateCounts
 }
 
 /// `counts` with one more record, whose state word is `word`.
-fn counted(counts: StateCounts, word: u64) -> StateCounts
+fn count_state(counts: StateCounts, word: u64) -> StateCounts
     requires few { counts.free + counts.held + counts.live + counts.obsolete + 1 < 2 ^ 32 }
     requires state { IsSpelling HasStateWord state_word word }
     ensures { (tag : Found) → HasStateWord tag → state_word tag ≡ word → result ≡ with_tag tag counts }

@@ -65,23 +65,23 @@ fn try_twice<G: Gate>(
     ensures asked { HasAsked table.now G.becomes (AreTries table.now G.becomes call.now result) (twice_steps table.now.layout) call.now result (seat.old, gate.old) (seat.new, gate.new) }
 {
     let first = try_once(table, seat, gate, scratch, call);
-    let Some(lacks) = lacked(first) else {
+    let Some(lacks) = find_lack(first) else {
         return first;
     };
     let round = collect_round(table, seat, gate);
     let passes = table.layout().passes;
-    let count = given_of(round.given, lacks);
+    let count = count_given(round.given, lacks);
     scratch.is_moving = round.held_back || may_be_taken(passes, count);
     scratch.skip_none();
     if has_room(passes, count) {
         return try_once(table, seat, gate, scratch, call);
     }
-    refuse_again(table, seat, gate);
+    attempt_nothing(table, seat, gate);
     first
 }
 
 /// The kind of records of which none was free, if `answer` is a refusal for that; else `None`.
-fn lacked(answer: Result<Reply, TryFault>) -> Option<Full>
+fn find_lack(answer: Result<Reply, TryFault>) -> Option<Full>
     ensures some { IfSome result (λ full. answer ≡ Err (fault_of full)) }
     ensures none { result ≡ None → is_full answer ≡ false }
 {
@@ -93,7 +93,7 @@ fn lacked(answer: Result<Reply, TryFault>) -> Option<Full>
 }
 
 /// How many records of the kind `kind` a round gave back, by its counts `given`.
-fn given_of(given: Given, kind: Full) -> u32 {
+fn count_given(given: Given, kind: Full) -> u32 {
     match kind {
         Full::Nodes => given.nodes,
         Full::Leaves => given.leaves,
@@ -113,7 +113,7 @@ fn may_be_taken(passes: u32, given: u32) -> bool {
 
 /// Makes an attempt that does nothing: pins the pass and clears the pin, in three steps. No note is added, and what was found not free
 /// stays known.
-fn refuse_again<G: Gate>(table: &HotTable, seat: &mut TableSeat, gate: &mut G)
+fn attempt_nothing<G: Gate>(table: &HotTable, seat: &mut TableSeat, gate: &mut G)
     requires idle { IsIdle table.now seat.old }
     ensures rested { HasRested table.now G.becomes (seat.old, gate.old) (seat.new, gate.new) }
 {

@@ -21,8 +21,8 @@ loop-number-preserved g c = record {
   start =
       next_start c.args.table.now.layout c.loop-number.number c.loop-number.start c.leaf_size-size.result c.loop-number.invariant.start
       (rw c.layout-layout.ensures at c.leaf_size-size.ensures.size ∙ sym (c.requires.class c.loop-number.number c.loop-number.auto.number c.loop-number-test.true));
-  few = omega (arith, c.counted-tally.ensures.given, one_most (is_given c.visit-seen.result));
-  steps = λ a all. visits_more _ _ _ a_leaf _ _ _ _ _ _ _ (c.loop-number.invariant.steps a all) c.visit-seen.ensures.steps c.counted-tally.ensures.given;
+  few = omega (arith, c.count_visit-tally.ensures.given, one_most (is_given c.visit-seen.result));
+  steps = λ a all. visits_more _ _ _ a_leaf _ _ _ _ _ _ _ (c.loop-number.invariant.steps a all) c.visit-seen.ensures.steps c.count_visit-tally.ensures.given;
 }
 
 pub returns-clause-steps : goal.returns-clause-steps

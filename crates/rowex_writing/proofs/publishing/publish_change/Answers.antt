@@ -67,7 +67,7 @@ retire-requires-clause-records g c =
 pub retire-requires-clause-nodes : goal.retire-requires-clause-nodes
 retire-requires-clause-nodes g c =
     let (m, w) = c.requires.held.from in
-    subst (AreNodes c.args.table.now.layout) (sym (c.as_slice-2.ensures.value ∙ c.kept_steps-kept.ensures))
+    subst (AreNodes c.args.table.now.layout) (sym (c.as_slice-2.ensures.value ∙ c.list_kept-kept.ensures))
     (kept_nodes c.args.job.now.way.now c.args.job.now.span c.args.raised c.args.table.now.layout (step_nodes c.args.table.now.layout c.args.seat.now.known m c.args.job.now.key.now c.args.job.now.way.now c.args.job.now.found w))
 
 pub retire-requires-clause-published : goal.retire-requires-clause-published
@@ -75,7 +75,7 @@ retire-requires-clause-published g c =
     let (x, was, may) = c.requires.may in
     let m = may.ends c.spot_above-spot.result c.spot_above-spot.ensures in
     let (kept, apart) = kept_raised c.args.job.now.way.now c.args.job.now.span c.args.raised c.args.seat.now.known c.requires.held.locked may.from may.upto in
-    subst (λ z. HasJustPublished c.publish.new.seat.known c.as_slice.result.now (numbers_of z)) (sym (c.as_slice-2.ensures.value ∙ c.kept_steps-kept.ensures))
+    subst (λ z. HasJustPublished c.publish.new.seat.known c.as_slice.result.now (numbers_of z)) (sym (c.as_slice-2.ensures.value ∙ c.list_kept-kept.ensures))
     (subst (λ z. HasJustPublished c.publish.new.seat.known z (numbers_of (kept_of_span c.args.job.now.way.now c.args.job.now.span c.args.raised))) (sym (c.as_slice.ensures.value ∙ c.name_gone.ensures.gone))
     (just_published c.args.table.now g.G.Gate.becomes (c.args.seat.now, c.args.gate.now) (c.ready_all.new.seat, c.ready_all.new.gate) c.args.build.now.made.items c.spot_above-spot.result (entry_word c.args.raised.entry)
     (gone_of_span c.args.job.now.way.now c.args.job.now.span c.args.raised) c.ready_all.ensures.goes x was m
@@ -119,7 +119,7 @@ returns-clause-few g c =
     let (x, was, may) = c.requires.may in
     let made = ap length c.name_gone.ensures.made in
     let gone = ap length (c.as_slice.ensures.value ∙ c.name_gone.ensures.gone) in
-    let kept = ap length (c.as_slice-2.ensures.value ∙ c.kept_steps-kept.ensures) in
+    let kept = ap length (c.as_slice-2.ensures.value ∙ c.list_kept-kept.ensures) in
     let nodes = gone_few c.args.job.now.way.now c.args.job.now.span c.args.raised in
     let stored = (act_leaves c.args.table.now.layout c.ready_all.new.seat.known c.publish.new.seat.known (Publish c.spot_above-spot.result c.stored_word.result) c.publish.ensures.event).steps in
     let stay = kept_few c.args.job.now.way.now c.args.job.now.span c.args.raised in

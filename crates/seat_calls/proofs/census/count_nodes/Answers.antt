@@ -10,11 +10,11 @@ loop-number-init g c = record { pin = search rules; steps = counts_none c.none-c
 pub loop-number-preserved : goal.loop-number-preserved
 loop-number-preserved g c = record {
   pin = search rules;
-  steps = counts_more {kind = a_node} c.loop-number.invariant.steps c.load_state-word.ensures c.counted-counts.ensures;
+  steps = counts_more {kind = a_node} c.loop-number.invariant.steps c.load_state-word.ensures c.count_state-counts.ensures;
 }
 
-pub counted-counts-requires-clause-few : goal.counted-counts-requires-clause-few
-counted-counts-requires-clause-few g c = omega (arith, counts_few c.loop-number.invariant.steps, c.loop-number-test.true)
+pub count_state-counts-requires-clause-few : goal.count_state-counts-requires-clause-few
+count_state-counts-requires-clause-few g c = omega (arith, counts_few c.loop-number.invariant.steps, c.loop-number-test.true)
 
-pub counted-counts-requires-clause-state : goal.counted-counts-requires-clause-state
-counted-counts-requires-clause-state g c = found_tag c.load_state-word.ensures
+pub count_state-counts-requires-clause-state : goal.count_state-counts-requires-clause-state
+count_state-counts-requires-clause-state g c = found_tag c.load_state-word.ensures

@@ -26,12 +26,12 @@ pub try_once-requires : goal.try_once-requires
 try_once-requires g c =
     let round = c.collect_round-round.ensures in record { idle = does_idle round.round.does round.free c.try_once-first.ensures.asked.replied.idle }
 
-pub refuse_again-requires : goal.refuse_again-requires
-refuse_again-requires g c =
+pub attempt_nothing-requires : goal.attempt_nothing-requires
+attempt_nothing-requires g c =
     let round = c.collect_round-round.ensures in record { idle = does_idle round.round.does round.free c.try_once-first.ensures.asked.replied.idle }
 
 pub returns-in_default : goal.returns-in_default
-returns-in_default g c = record { asked = once_asked c.args.call.now c.try_once-first.result (c.lacked.ensures.none c.in_default.is) c.try_once-first.ensures.asked }
+returns-in_default g c = record { asked = once_asked c.args.call.now c.try_once-first.result (c.find_lack.ensures.none c.in_default.is) c.try_once-first.ensures.asked }
 
 pub returns-then-has_room : goal.returns-then-has_room
 returns-then-has_room g c =
@@ -61,16 +61,16 @@ returns g c =
     let fault = fault_of c.in-Some.lacks in
     let first = subst (λ (z : Result Reply TryFault). HasAsked table g.G.Gate.becomes (IsOneAttempt table) (once_steps table.layout) call z (c.args.seat.now, c.args.gate.now) (c.try_once-first.new.seat, c.try_once-first.new.gate)) c.in-Some.ensures.some c.try_once-first.ensures.asked in
     let round = c.collect_round-round.ensures.round in
-    let again = c.refuse_again.ensures.rested in
+    let again = c.attempt_nothing.ensures.rested in
     let unnoted = first.replied.refused.unnoted in
     let later = round_later k (c.try_once-first.new.seat, c.try_once-first.new.gate) (c.collect_round-round.new.seat, c.collect_round-round.new.gate) unnoted first.later first.replied.idle.1 round in
     let collected = then_collected k (c.try_once-first.new.seat, c.try_once-first.new.gate) (c.collect_round-round.new.seat, c.collect_round-round.new.gate) unnoted first.later first.replied.idle.1 round in
-    let cause = cause_still (key_of call) k (c.try_once-first.new.seat, c.try_once-first.new.gate) (c.collect_round-round.new.seat, c.collect_round-round.new.gate) (c.refuse_again.new.seat, c.refuse_again.new.gate) round again.failed again.unnoted.number fault (lacked_full c.in-Some.lacks) first.replied.refused.cause in
-    let whole : HasAsked table g.G.Gate.becomes (AreTries table g.G.Gate.becomes call (Err fault)) (twice_steps table.layout) call (Err fault) (c.args.seat.now, c.args.gate.now) (c.refuse_again.new.seat, c.refuse_again.new.gate) = record {
+    let cause = cause_still (key_of call) k (c.try_once-first.new.seat, c.try_once-first.new.gate) (c.collect_round-round.new.seat, c.collect_round-round.new.gate) (c.attempt_nothing.new.seat, c.attempt_nothing.new.gate) round again.failed again.unnoted.number fault (lacked_full c.in-Some.lacks) first.replied.refused.cause in
+    let whole : HasAsked table g.G.Gate.becomes (AreTries table g.G.Gate.becomes call (Err fault)) (twice_steps table.layout) call (Err fault) (c.args.seat.now, c.args.gate.now) (c.attempt_nothing.new.seat, c.attempt_nothing.new.gate) = record {
       replied = record {
         idle = again.idle;
         noted = tt;
-        refused = record { unnoted = unnoted_then table.layout k (pass_of c.collect_round-round.new.seat) (pass_of c.refuse_again.new.seat) collected later again.unnoted; cause = cause };
+        refused = record { unnoted = unnoted_then table.layout k (pass_of c.collect_round-round.new.seat) (pass_of c.attempt_nothing.new.seat) collected later again.unnoted; cause = cause };
         leafless = first.replied.leafless;
         loaded = subst (λ (z : Fresh). c.args.seat.now.known.steps ≤ z.step) (sym (again.fresh ∙ ap (λ (z : Known). z.fresh) round.does.rest)) first.replied.loaded;
       };
@@ -78,4 +78,4 @@ returns g c =
       later = omega (arith, later, again.steps);
       few = (let count = round_few round in omega (arith, first.few, count, again.steps));
     } in
-    record { asked = subst (λ (z : Result Reply TryFault). HasAsked table g.G.Gate.becomes (AreTries table g.G.Gate.becomes call z) (twice_steps table.layout) call z (c.args.seat.now, c.args.gate.now) (c.refuse_again.new.seat, c.refuse_again.new.gate)) (sym c.in-Some.ensures.some) whole }
+    record { asked = subst (λ (z : Result Reply TryFault). HasAsked table g.G.Gate.becomes (AreTries table g.G.Gate.becomes call z) (twice_steps table.layout) call z (c.args.seat.now, c.args.gate.now) (c.attempt_nothing.new.seat, c.attempt_nothing.new.gate)) (sym c.in-Some.ensures.some) whole }

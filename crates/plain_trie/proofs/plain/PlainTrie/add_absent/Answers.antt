@@ -19,7 +19,7 @@ use Rattle.plain_records.proofs.Heights.{heights_then}
 use Rattle.plain_trie.proofs.Inserting.{Becomes, tree_standing, kept_plain, same_view, absent_value, raised_becomes}
 use Rattle.plain_trie.proofs.Trees.{IsTree, plain_tree}
 use Rattle.plain_trie.proofs.plain.PlainTrie.add_absent.Goals as goal
-use Rattle.plain_trie.proofs.plain.PlainTrie.add_absent.Goals.{After-rooted, After-rooted-in-Below}
+use Rattle.plain_trie.proofs.plain.PlainTrie.add_absent.Goals.{After-make_root, After-make_root-in-Below}
 use Rattle.tries.specs.Content.{item}
 use Rattle.tries.specs.Search.{found}
 use Rattle.tries.specs.Tree.{Tree}
@@ -39,16 +39,16 @@ module _ (i : Inside) (e : Entry) (is : i.top ≡ Some e) (plain : ShowsSoundTre
       ShowsSoundTree (record { nodes = ms; leaves = us; top = i.top; node_capacity = a; leaf_capacity = b })
   still a b same = let (t, tree, s) = tree_with same in kept_plain i.nodes.items _ i.leaves.items _ i.top (vec_capacity i.nodes) (vec_capacity i.leaves) a b s.0 s.1 plain
 
-pub added-requires-clause-place : goal.added-requires-clause-place
-added-requires-clause-place c =
+pub add_below-requires-clause-place : goal.add_below-requires-clause-place
+add_below-requires-clause-place c =
     let (t, i, s) = tree_with c.self.inside c.in-Some.top c.in-Some.is c.self.invariant (λ t s. s) in (t, s)
 
 -- ---- no record changed
 pub invariant_of-self : goal.invariant_of-self
-invariant_of-self c = still c.self.inside c.in-Some.top c.in-Some.is c.self.invariant (vec_capacity c.added.new.nodes) (vec_capacity c.added.new.leaves) c.in-Held.ensures.adds
+invariant_of-self c = still c.self.inside c.in-Some.top c.in-Some.is c.self.invariant (vec_capacity c.add_below.new.nodes) (vec_capacity c.add_below.new.leaves) c.in-Held.ensures.adds
 
 pub invariant_of-self-in-Refused : goal.invariant_of-self-in-Refused
-invariant_of-self-in-Refused c = still c.self.inside c.in-Some.top c.in-Some.is c.self.invariant (vec_capacity c.added.new.nodes) (vec_capacity c.added.new.leaves) c.in-Refused.ensures.adds
+invariant_of-self-in-Refused c = still c.self.inside c.in-Some.top c.in-Some.is c.self.invariant (vec_capacity c.add_below.new.nodes) (vec_capacity c.add_below.new.leaves) c.in-Refused.ensures.adds
 
 -- ---- the key is there
 pub returns-in-Held-clause-ok : goal.returns-in-Held-clause-ok
@@ -71,49 +71,49 @@ returns-in-Refused-clause-err c =
       subst (λ u. value_at (trie_map u) c.args.key.now ≡ None) c.self.view_is (absent_value v c.args.key.now c.in-Some.top t i refused.2),
       search rules,
       same_view _ _ _ _ _ _ _ _ refused.0 refused.1 c.in-Refused.ensures.memory.0 ∙
-          ap (λ (u : PlainView). let w : PlainView = record u { leaf_capacity = vec_capacity c.added.new.leaves } in w) c.self.view_is,
+          ap (λ (u : PlainView). let w : PlainView = record u { leaf_capacity = vec_capacity c.add_below.new.leaves } in w) c.self.view_is,
     )
 
 -- ---- the new leaf belongs to the root, or above it
-pub raised-risen-requires-clause-place : goal.raised-risen-requires-clause-place
-raised-risen-requires-clause-place c =
+pub raise-risen-requires-clause-place : goal.raise-risen-requires-clause-place
+raise-risen-requires-clause-place c =
     let (t, i, left) = tree_with c.self.inside c.in-Some.top c.in-Some.is c.self.invariant c.in-Above.ensures.adds in
-    let us = c.added.new.leaves.items in
+    let us = c.add_below.new.leaves.items in
     (us, c.args.value, t, subst (λ xs. IsAddable xs us (item c.in-Above.leaf c.args.key.now c.args.value) c.in-Above.position c.in-Some.top t) (sym left.nodes) left.addable)
 
-pub raised-risen-requires-clause-position : goal.raised-risen-requires-clause-position
-raised-risen-requires-clause-position c =
+pub raise-risen-requires-clause-position : goal.raise-risen-requires-clause-position
+raise-risen-requires-clause-position c =
     let (t, i, left) = tree_with c.self.inside c.in-Some.top c.in-Some.is c.self.invariant c.in-Above.ensures.adds in left.bound
 
-pub rooted-requires-clause-place : goal.rooted-requires-clause-place
-rooted-requires-clause-place c =
+pub make_root-requires-clause-place : goal.make_root-requires-clause-place
+make_root-requires-clause-place c =
     let (t, i, left) = tree_with c.self.inside c.in-Some.top c.in-Some.is c.self.invariant c.in-Above.ensures.adds in
-    let us = c.added.new.leaves.items in
+    let us = c.add_below.new.leaves.items in
     let x = item c.in-Above.leaf c.args.key.now c.args.value in
-    let up = c.raised-risen.ensures.raised us c.args.value t (subst (λ xs. IsAddable xs us x c.in-Above.position c.in-Some.top t) (sym left.nodes) left.addable) in
-    (c.added.new.nodes.items, us, x, c.in-Above.position, t, suc (height_of c.in-Some.top), up)
+    let up = c.raise-risen.ensures.raised us c.args.value t (subst (λ xs. IsAddable xs us x c.in-Above.position c.in-Some.top t) (sym left.nodes) left.addable) in
+    (c.add_below.new.nodes.items, us, x, c.in-Above.position, t, suc (height_of c.in-Some.top), up)
 
-above : (c : After-rooted) → Becomes (view c.self.inside) (record { nodes = c.rooted.new.nodes.items; leaves = c.added.new.leaves.items; top = Some c.rooted.result; node_capacity = vec_capacity c.rooted.new.nodes; leaf_capacity = vec_capacity c.added.new.leaves }) c.args.key.now c.args.value ×
+above : (c : After-make_root) → Becomes (view c.self.inside) (record { nodes = c.make_root.new.nodes.items; leaves = c.add_below.new.leaves.items; top = Some c.make_root.result; node_capacity = vec_capacity c.make_root.new.nodes; leaf_capacity = vec_capacity c.add_below.new.leaves }) c.args.key.now c.args.value ×
     (value_at (trie_map (view c.self.inside)) c.args.key.now ≡ None)
 above c =
     let v = view c.self.inside in
     let (t, i, left) = tree_with c.self.inside c.in-Some.top c.in-Some.is c.self.invariant c.in-Above.ensures.adds in
-    let ns = c.added.new.nodes.items in
-    let us = c.added.new.leaves.items in
+    let ns = c.add_below.new.nodes.items in
+    let us = c.add_below.new.leaves.items in
     let x = item c.in-Above.leaf c.args.key.now c.args.value in
-    let up = c.raised-risen.ensures.raised us c.args.value t (subst (λ xs. IsAddable xs us x c.in-Above.position c.in-Some.top t) (sym left.nodes) left.addable) in
-    let w : PlainView = record { nodes = c.rooted.new.nodes.items; leaves = us; top = Some c.rooted.result; node_capacity = vec_capacity c.rooted.new.nodes; leaf_capacity = vec_capacity c.added.new.leaves } in (
-      raised_becomes v w ns c.in-Some.top c.rooted.result t x c.in-Above.position (suc (suc (height_of c.in-Some.top))) i refl
-          (c.rooted.ensures.raised ns us x c.in-Above.position t (suc (height_of c.in-Some.top)) up),
+    let up = c.raise-risen.ensures.raised us c.args.value t (subst (λ xs. IsAddable xs us x c.in-Above.position c.in-Some.top t) (sym left.nodes) left.addable) in
+    let w : PlainView = record { nodes = c.make_root.new.nodes.items; leaves = us; top = Some c.make_root.result; node_capacity = vec_capacity c.make_root.new.nodes; leaf_capacity = vec_capacity c.add_below.new.leaves } in (
+      raised_becomes v w ns c.in-Some.top c.make_root.result t x c.in-Above.position (suc (suc (height_of c.in-Some.top))) i refl
+          (c.make_root.ensures.raised ns us x c.in-Above.position t (suc (height_of c.in-Some.top)) up),
       absent_value v c.args.key.now c.in-Some.top t i (record { position = c.in-Above.position; differ = left.addable.differ }),
     )
 
 pub invariant_of-self-in-Above : goal.invariant_of-self-in-Above
-invariant_of-self-in-Above c = (above (goal.at.invariant_of-self-in-Above c).After-rooted).0.0
+invariant_of-self-in-Above c = (above (goal.at.invariant_of-self-in-Above c).After-make_root).0.0
 
 pub returns-in-Above-clause-ok : goal.returns-in-Above-clause-ok
 returns-in-Above-clause-ok c =
-    let a = above (goal.at.returns-in-Above-clause-ok c).After-rooted in (
+    let a = above (goal.at.returns-in-Above-clause-ok c).After-make_root in (
       subst (λ u. value_at (trie_map u) c.args.key.now ≡ None) c.self.view_is a.1,
       a.0.1 ∙ ap (λ (u : PlainView). with_value (trie_map u) c.args.key.now c.args.value) c.self.view_is,
     )
@@ -121,45 +121,45 @@ returns-in-Above-clause-ok c =
 pub returns-in-Above-clause-heights : goal.returns-in-Above-clause-heights
 returns-in-Above-clause-heights c =
     let (t, i, left) = tree_with c.self.inside c.in-Some.top c.in-Some.is c.self.invariant c.in-Above.ensures.adds in
-    let us = c.rooted.new.nodes.items in
+    let us = c.make_root.new.nodes.items in
     subst (λ vs. KeepsHeights vs us) (left.nodes ∙ ap (λ (u : PlainView). u.nodes) c.self.view_is)
-    (heights_then c.added.new.nodes.items c.raised-risen.new.nodes.items us c.raised-risen.ensures.heights c.rooted.ensures.heights c.rooted.ensures.all)
+    (heights_then c.add_below.new.nodes.items c.raise-risen.new.nodes.items us c.raise-risen.ensures.heights c.make_root.ensures.heights c.make_root.ensures.all)
 
 -- ---- the new leaf has risen to the root
-pub rooted-requires-in-Below-clause-place : goal.rooted-requires-in-Below-clause-place
-rooted-requires-in-Below-clause-place c =
+pub make_root-requires-in-Below-clause-place : goal.make_root-requires-in-Below-clause-place
+make_root-requires-in-Below-clause-place c =
     let v = view c.self.inside in
     let (t, i, r) = tree_with c.self.inside c.in-Some.top c.in-Some.is c.self.invariant c.in-Below.ensures.adds in
-    (v.nodes, c.added.new.leaves.items, item (length v.leaves) c.args.key.now c.args.value, r.position, t, suc (height_of c.in-Some.top), r.raised)
+    (v.nodes, c.add_below.new.leaves.items, item (length v.leaves) c.args.key.now c.args.value, r.position, t, suc (height_of c.in-Some.top), r.raised)
 
-below : (c : After-rooted-in-Below) → Becomes (view c.self.inside) (record { nodes = c.rooted-in-Below.new.nodes.items; leaves = c.added.new.leaves.items; top = Some c.rooted-in-Below.result; node_capacity = vec_capacity c.rooted-in-Below.new.nodes; leaf_capacity = vec_capacity c.added.new.leaves }) c.args.key.now c.args.value ×
+below : (c : After-make_root-in-Below) → Becomes (view c.self.inside) (record { nodes = c.make_root-in-Below.new.nodes.items; leaves = c.add_below.new.leaves.items; top = Some c.make_root-in-Below.result; node_capacity = vec_capacity c.make_root-in-Below.new.nodes; leaf_capacity = vec_capacity c.add_below.new.leaves }) c.args.key.now c.args.value ×
     (value_at (trie_map (view c.self.inside)) c.args.key.now ≡ None)
 below c =
     let v = view c.self.inside in
     let (t, i, r) = tree_with c.self.inside c.in-Some.top c.in-Some.is c.self.invariant c.in-Below.ensures.adds in
-    let us = c.added.new.leaves.items in
+    let us = c.add_below.new.leaves.items in
     let x = item (length v.leaves) c.args.key.now c.args.value in
-    let w : PlainView = record { nodes = c.rooted-in-Below.new.nodes.items; leaves = us; top = Some c.rooted-in-Below.result; node_capacity = vec_capacity c.rooted-in-Below.new.nodes; leaf_capacity = vec_capacity c.added.new.leaves } in (
-      raised_becomes v w v.nodes c.in-Some.top c.rooted-in-Below.result t x r.position (suc (suc (height_of c.in-Some.top))) i refl
-          (c.rooted-in-Below.ensures.raised v.nodes us x r.position t (suc (height_of c.in-Some.top)) r.raised),
+    let w : PlainView = record { nodes = c.make_root-in-Below.new.nodes.items; leaves = us; top = Some c.make_root-in-Below.result; node_capacity = vec_capacity c.make_root-in-Below.new.nodes; leaf_capacity = vec_capacity c.add_below.new.leaves } in (
+      raised_becomes v w v.nodes c.in-Some.top c.make_root-in-Below.result t x r.position (suc (suc (height_of c.in-Some.top))) i refl
+          (c.make_root-in-Below.ensures.raised v.nodes us x r.position t (suc (height_of c.in-Some.top)) r.raised),
       absent_value v c.args.key.now c.in-Some.top t i (record { position = r.position; differ = r.addable.differ }),
     )
 
 pub invariant_of-self-in-Below : goal.invariant_of-self-in-Below
-invariant_of-self-in-Below c = (below (goal.at.invariant_of-self-in-Below c).After-rooted-in-Below).0.0
+invariant_of-self-in-Below c = (below (goal.at.invariant_of-self-in-Below c).After-make_root-in-Below).0.0
 
 pub returns-in-Below-clause-ok : goal.returns-in-Below-clause-ok
 returns-in-Below-clause-ok c =
-    let a = below (goal.at.returns-in-Below-clause-ok c).After-rooted-in-Below in (
+    let a = below (goal.at.returns-in-Below-clause-ok c).After-make_root-in-Below in (
       subst (λ u. value_at (trie_map u) c.args.key.now ≡ None) c.self.view_is a.1,
       a.0.1 ∙ ap (λ (u : PlainView). with_value (trie_map u) c.args.key.now c.args.value) c.self.view_is,
     )
 
 pub returns-in-Below-clause-heights : goal.returns-in-Below-clause-heights
 returns-in-Below-clause-heights c =
-    let us = c.rooted-in-Below.new.nodes.items in
+    let us = c.make_root-in-Below.new.nodes.items in
     subst (λ vs. KeepsHeights vs us) (ap (λ (u : PlainView). u.nodes) c.self.view_is)
-    (heights_then c.self.inside.nodes.items c.added.new.nodes.items us c.added.ensures.heights c.rooted-in-Below.ensures.heights c.rooted-in-Below.ensures.all)
+    (heights_then c.self.inside.nodes.items c.add_below.new.nodes.items us c.add_below.ensures.heights c.make_root-in-Below.ensures.heights c.make_root-in-Below.ensures.all)
 
 -- ---- which case it was
 pub returns-in-Above-clause-case : goal.returns-in-Above-clause-case
@@ -169,18 +169,18 @@ returns-in-Above-clause-case c =
     let k = c.args.key.now in
     let p = c.in-Above.position in
     let n = length v.leaves in
-    let us = c.added.new.leaves.items in
-    let last = c.rooted.new.nodes.items in
-    let w : PlainView = record { nodes = last; leaves = us; top = Some c.rooted.result; node_capacity = vec_capacity c.rooted.new.nodes; leaf_capacity = vec_capacity c.added.new.leaves } in
-    let mid = c.raised-risen.new.nodes.items in
-    let d = c.raised-risen.ensures.case us c.args.value t (subst (λ xs. IsAddable xs us (item c.in-Above.leaf k c.args.value) p c.in-Some.top t) (sym left.nodes) left.addable) in
-    let up = is_split c.raised-risen.result in
+    let us = c.add_below.new.leaves.items in
+    let last = c.make_root.new.nodes.items in
+    let w : PlainView = record { nodes = last; leaves = us; top = Some c.make_root.result; node_capacity = vec_capacity c.make_root.new.nodes; leaf_capacity = vec_capacity c.add_below.new.leaves } in
+    let mid = c.raise-risen.new.nodes.items in
+    let d = c.raise-risen.ensures.case us c.args.value t (subst (λ xs. IsAddable xs us (item c.in-Above.leaf k c.args.value) p c.in-Some.top t) (sym left.nodes) left.addable) in
+    let up = is_split c.raise-risen.result in
     let e = subst (λ m. AddsByCase v.nodes mid k p m t up) left.number (subst (λ xs. AddsByCase xs mid k p c.in-Above.leaf t up) left.nodes d) in
-    let rooted : MakesRoot v w up = λ split. new_node (length v.nodes) (vec_len c.raised-risen.new.nodes) c.rooted.result
-    (omega (arith, ap length left.nodes, c.raised-risen.ensures.heights.longer, c.raised-risen.new.nodes.ok.0)) (c.rooted.ensures.new split) in
+    let rooted : MakesRoot v w up = λ split. new_node (length v.nodes) (vec_len c.raise-risen.new.nodes) c.make_root.result
+    (omega (arith, ap length left.nodes, c.raise-risen.ensures.heights.longer, c.raise-risen.new.nodes.ok.0)) (c.make_root.ensures.new split) in
     let f : TakesCase v w k = λ s is.
     subst (λ z. (q : ℕ) × IsFirstDifference k (found k z).key q × ((o : Bool) × AddsByCase v.nodes last k q n z o × MakesRoot v w o)) (some_injective (sym i.is ∙ is))
-    (p, left.addable.differ, (up, later_by_case v.nodes mid last k p n t up c.rooted.ensures.all e, rooted)) in
+    (p, left.addable.differ, (up, later_by_case v.nodes mid last k p n t up c.make_root.ensures.all e, rooted)) in
     λ none. subst (λ u. TakesCase u w k) c.self.view_is f
 
 pub returns-in-Below-clause-case : goal.returns-in-Below-clause-case
@@ -189,15 +189,15 @@ returns-in-Below-clause-case c =
     let v = view c.self.inside in
     let k = c.args.key.now in
     let n = length v.leaves in
-    let us = c.added.new.leaves.items in
-    let last = c.rooted-in-Below.new.nodes.items in
-    let w : PlainView = record { nodes = last; leaves = us; top = Some c.rooted-in-Below.result; node_capacity = vec_capacity c.rooted-in-Below.new.nodes; leaf_capacity = vec_capacity c.added.new.leaves } in
-    let mid = c.added.new.nodes.items in
+    let us = c.add_below.new.leaves.items in
+    let last = c.make_root-in-Below.new.nodes.items in
+    let w : PlainView = record { nodes = last; leaves = us; top = Some c.make_root-in-Below.result; node_capacity = vec_capacity c.make_root-in-Below.new.nodes; leaf_capacity = vec_capacity c.add_below.new.leaves } in
+    let mid = c.add_below.new.nodes.items in
     let up = is_split c.in-Below.risen in
     let e = adds_by_case v.nodes mid k r.position n t up r.by_case in
-    let rooted : MakesRoot v w up = λ split. new_node (length v.nodes) (vec_len c.added.new.nodes) c.rooted-in-Below.result
-    (omega (arith, c.added.ensures.heights.longer, c.added.new.nodes.ok.0)) (c.rooted-in-Below.ensures.new split) in
+    let rooted : MakesRoot v w up = λ split. new_node (length v.nodes) (vec_len c.add_below.new.nodes) c.make_root-in-Below.result
+    (omega (arith, c.add_below.ensures.heights.longer, c.add_below.new.nodes.ok.0)) (c.make_root-in-Below.ensures.new split) in
     let f : TakesCase v w k = λ s is.
     subst (λ z. (q : ℕ) × IsFirstDifference k (found k z).key q × ((o : Bool) × AddsByCase v.nodes last k q n z o × MakesRoot v w o)) (some_injective (sym i.is ∙ is))
-    (r.position, r.addable.differ, (up, later_by_case v.nodes mid last k r.position n t up c.rooted-in-Below.ensures.all e, rooted)) in
+    (r.position, r.addable.differ, (up, later_by_case v.nodes mid last k r.position n t up c.make_root-in-Below.ensures.all e, rooted)) in
     λ none. subst (λ u. TakesCase u w k) c.self.view_is f

@@ -47,7 +47,7 @@ loop-entry-smaller c =
     let nodes = c.self.inside.nodes.items in
     let leaves = c.self.inside.leaves.items in
     let d = on_way_down nodes leaves c.args.key.now i.0 c.in-Node.number c.in-Node.height (subst (IsOnWay nodes leaves c.args.key.now i.0) c.in-Node.is i.2)
-    c.index.result.now c.sought-entry.result c.index.ensures c.sought-entry.ensures in
+    c.index.result.now c.find_entry-entry.result c.index.ensures c.find_entry-entry.ensures in
     omega (arith, d.1, ap height_of c.in-Node.is)
 
 pub loop-entry-preserved : goal.loop-entry-preserved
@@ -56,5 +56,5 @@ loop-entry-preserved c =
     let nodes = c.self.inside.nodes.items in
     let leaves = c.self.inside.leaves.items in
     let d = on_way_down nodes leaves c.args.key.now i.0 c.in-Node.number c.in-Node.height (subst (IsOnWay nodes leaves c.args.key.now i.0) c.in-Node.is i.2)
-    c.index.result.now c.sought-entry.result c.index.ensures c.sought-entry.ensures in
+    c.index.result.now c.find_entry-entry.result c.index.ensures c.find_entry-entry.ensures in
     (i.0, i.1, d.0)

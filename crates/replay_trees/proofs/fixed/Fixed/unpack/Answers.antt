@@ -25,7 +25,7 @@ pub returns : goal.returns
 returns c =
     let positions = c.positions_of_words-positions in
     let n : ℕ = get_or c.args.words.now 0 0 / 256 % 256 in
-    let columns : c.copied.result.items ≡ take n positions.result = c.copied.ensures ∙ c.split_at.ensures.front in
+    let columns : c.copy_columns.result.items ≡ take n positions.result = c.copy_columns.ensures ∙ c.split_at.ensures.front in
     let unused : EachIndex (drop n positions.result) (λ i. get_or (drop n positions.result) i 0 ≡ 65535) =
     rw c.split_at.ensures.back at (c.is_unused.ensures.0 c.if-not-is_unused.false) in
     reads_fixed _ c.args.words.now

@@ -20,8 +20,8 @@ use Rattle.plain_records.proofs.Heights.{heights_same, heights_over}
 use Rattle.plain_records.proofs.Lifting.{not_below, old_stays}
 use Rattle.plain_records.proofs.Searching.{read_at}
 use Rattle.tries.proofs.Fitting.{lower_positive}
-use Rattle.plain_records.proofs.adding.+added.Goals as goal
-use Rattle.plain_records.proofs.adding.+added.Goals.{After-entry-child}
+use Rattle.plain_records.proofs.adding.+add_below.Goals as goal
+use Rattle.plain_records.proofs.adding.+add_below.Goals.{After-entry-child}
 use Rattle.tries.specs.Content.{item}
 
 pub index-node-requires : goal.index-node-requires
@@ -35,9 +35,9 @@ here : (t : ℕ) (c : After-entry-child t) (tree : Tree) → IsStanding c.args.n
 here t c tree stands =
     search_at c.in-Node.is stands c.args.key.now c.index-node.result.now c.index-node.ensures c.search-at.result c.entry-child.result c.count.ensures.lawful c.search-at.ensures.leads c.entry-child.ensures.entry
 
-pub added-requires : goal.added-requires
-added-requires t c =
-    let a = here t (goal.at.added-requires t c).After-entry-child c.requires.place.0 c.requires.place.1 in
+pub add_below-requires : goal.add_below-requires
+add_below-requires t c =
+    let a = here t (goal.at.add_below-requires t c).After-entry-child c.requires.place.0 c.requires.place.1 in
     let low = child_lower a.whole a.node c.args.key.now c.entry-child.result a.is in
     let high = ap height_of c.in-Node.is in
     (omega (arith, c.decreases), ((child c.args.key.now a.node.body, a.below), (omega (arith, c.requires.enough), c.requires.few)))
@@ -46,30 +46,30 @@ pub index-requires : goal.index-requires
 index-requires t c =
     let a = here t (goal.at.index-requires t c).After-entry-child c.requires.place.0 c.requires.place.1 in
     let left = c.in-Above.ensures.adds _ a.below in
-    omega (arith, slice_get_within c.args.nodes.now.items c.in-Node.number a.node.stored.view a.node.stored.at, ap length left.nodes, c.added.new.nodes.ok.0)
+    omega (arith, slice_get_within c.args.nodes.now.items c.in-Node.number a.node.stored.view a.node.stored.at, ap length left.nodes, c.add_below.new.nodes.ok.0)
 
-pub raised-requires-clause-place : goal.raised-requires-clause-place
-raised-requires-clause-place t c =
+pub raise-requires-clause-place : goal.raise-requires-clause-place
+raise-requires-clause-place t c =
     let (tree, stands) = c.requires.place in
-    let a = here t (goal.at.raised-requires-clause-place t c).After-entry-child tree stands in
+    let a = here t (goal.at.raise-requires-clause-place t c).After-entry-child tree stands in
     let k = c.args.key.now in
-    let us = c.added.new.leaves.items in
+    let us = c.add_below.new.leaves.items in
     let left = c.in-Above.ensures.adds _ a.below in
     let i = addable_above a.whole a.node us k c.args.value c.in-Above.leaf c.in-Above.position left.leaves c.entry-child.result left.addable in
     (us, c.args.value, tree, subst (λ xs. IsAddable xs us (item c.in-Above.leaf k c.args.value) c.in-Above.position (Node c.in-Node.number c.in-Node.height) tree) (sym left.nodes) i)
 
-pub raised-requires-clause-position : goal.raised-requires-clause-position
-raised-requires-clause-position t c =
-    let a = here t (goal.at.raised-requires-clause-position t c).After-entry-child c.requires.place.0 c.requires.place.1 in
+pub raise-requires-clause-position : goal.raise-requires-clause-position
+raise-requires-clause-position t c =
+    let a = here t (goal.at.raise-requires-clause-position t c).After-entry-child c.requires.place.0 c.requires.place.1 in
     (c.in-Above.ensures.adds _ a.below).bound
 
-pub lifted-requires-clause-place : goal.lifted-requires-clause-place
-lifted-requires-clause-place t c =
-    let a = here t (goal.at.lifted-requires-clause-place t c).After-entry-child c.requires.place.0 c.requires.place.1 in
+pub lift-requires-clause-place : goal.lift-requires-clause-place
+lift-requires-clause-place t c =
+    let a = here t (goal.at.lift-requires-clause-place t c).After-entry-child c.requires.place.0 c.requires.place.1 in
     let k = c.args.key.now in
     let v = c.index-node.result.now in
     let ls = c.args.leaves.now.items in
-    let us = c.added.new.leaves.items in
+    let us = c.add_below.new.leaves.items in
     let r = c.in-Below.ensures.adds _ a.below in
     let u = here_above a.whole a.node us k c.args.value (length ls) r.position r.leaves c.entry-child.result r.addable in (
       c.args.nodes.now.items,
@@ -78,61 +78,61 @@ lifted-requires-clause-place t c =
       r.position,
       u.fixed,
       u.body,
-      here_lifting u c.search-at.result (height_of c.entry-child.result) c.entry-child.result c.added.new.nodes.items (subtrie_of c.in-Below.risen)
+      here_lifting u c.search-at.result (height_of c.entry-child.result) c.entry-child.result c.add_below.new.nodes.items (subtrie_of c.in-Below.risen)
           (way_above a.whole a.node us k c.args.value (length ls) r.position r.leaves c.entry-child.result r.addable r.behind) (here_spot u v c.index-node.ensures c.search-at.result c.search-at.ensures.leads) a.is refl r.raised,
     )
 
-pub lifted-requires-clause-child : goal.lifted-requires-clause-child
-lifted-requires-clause-child t c = λ old at.
-    let a = here t (goal.at.lifted-requires-clause-child t c).After-entry-child c.requires.place.0 c.requires.place.1 in
+pub lift-requires-clause-child : goal.lift-requires-clause-child
+lift-requires-clause-child t c = λ old at.
+    let a = here t (goal.at.lift-requires-clause-child t c).After-entry-child c.requires.place.0 c.requires.place.1 in
     let k = c.args.key.now in
     let v = c.index-node.result.now in
-    let us = c.added.new.leaves.items in
+    let us = c.add_below.new.leaves.items in
     let n = length c.args.leaves.now.items in
     let r = c.in-Below.ensures.adds _ a.below in
     let u = here_above a.whole a.node us k c.args.value n r.position r.leaves c.entry-child.result r.addable in
-    let l = here_lifting u c.search-at.result (height_of c.entry-child.result) c.entry-child.result c.added.new.nodes.items (subtrie_of c.in-Below.risen)
+    let l = here_lifting u c.search-at.result (height_of c.entry-child.result) c.entry-child.result c.add_below.new.nodes.items (subtrie_of c.in-Below.risen)
     (way_above a.whole a.node us k c.args.value n r.position r.leaves c.entry-child.result r.addable r.behind) (here_spot u v c.index-node.ensures c.search-at.result c.search-at.ensures.leads) a.is refl r.raised in
-    child_held c.args.nodes.now.items c.added.new.nodes.items c.in-Node.number c.search-at.result l.shown.0.view v old c.entry-child.result
+    child_held c.args.nodes.now.items c.add_below.new.nodes.items c.in-Node.number c.search-at.result l.shown.0.view v old c.entry-child.result
     l.shown.0.at c.index-node.ensures (old_at l) at c.count.ensures.lawful c.entry-child.ensures.entry
 
-pub lifted-requires-clause-room : goal.lifted-requires-clause-room
-lifted-requires-clause-room t c =
-    let a = here t (goal.at.lifted-requires-clause-room t c).After-entry-child c.requires.place.0 c.requires.place.1 in
+pub lift-requires-clause-room : goal.lift-requires-clause-room
+lift-requires-clause-room t c =
+    let a = here t (goal.at.lift-requires-clause-room t c).After-entry-child c.requires.place.0 c.requires.place.1 in
     omega (arith, child_lower a.whole a.node c.args.key.now c.entry-child.result a.is, ap height_of c.in-Node.is, c.requires.enough, c.in-Below.ensures.room)
 
-pub lifted-requires-clause-small : goal.lifted-requires-clause-small
-lifted-requires-clause-small t c =
-    let a = here t (goal.at.lifted-requires-clause-small t c).After-entry-child c.requires.place.0 c.requires.place.1 in
+pub lift-requires-clause-small : goal.lift-requires-clause-small
+lift-requires-clause-small t c =
+    let a = here t (goal.at.lift-requires-clause-small t c).After-entry-child c.requires.place.0 c.requires.place.1 in
     omega (arith, child_lower a.whole a.node c.args.key.now c.entry-child.result a.is, ap height_of c.in-Node.is, c.requires.enough, c.in-Below.ensures.room)
 
 pub returns-in-Leaf-clause-heights : goal.returns-in-Leaf-clause-heights
-returns-in-Leaf-clause-heights t c = subst (KeepsHeights c.args.nodes.now.items) (sym c.added_beside.ensures.same) (heights_same c.args.nodes.now.items)
+returns-in-Leaf-clause-heights t c = subst (KeepsHeights c.args.nodes.now.items) (sym c.add_beside.ensures.same) (heights_same c.args.nodes.now.items)
 
 pub returns-then-first_position-position-clause-adds : goal.returns-then-first_position-position-clause-adds
 returns-then-first_position-position-clause-adds t c = λ tree stands.
     let a = here t (goal.at.returns-then-first_position-position-clause-adds t c).After-entry-child tree stands in
     let k = c.args.key.now in
     let ns = c.args.nodes.now.items in
-    let us = c.added.new.leaves.items in
+    let us = c.add_below.new.leaves.items in
     let p = c.in-Above.position in
     let n = c.in-Above.leaf in
     let left = c.in-Above.ensures.adds _ a.below in
     let i = addable_above a.whole a.node us k c.args.value n p left.leaves c.entry-child.result left.addable in
-    let new = read_at c.added.new.nodes.items c.in-Node.number a.node.stored.view c.index.result.now (ap (λ xs. slice_get xs c.in-Node.number) left.nodes ∙ a.node.stored.at) c.index.ensures in
+    let new = read_at c.add_below.new.nodes.items c.in-Node.number a.node.stored.view c.index.result.now (ap (λ xs. slice_get xs c.in-Node.number) left.nodes ∙ a.node.stored.at) c.index.ensures in
     let root = subst (AtRootFork (λ r zero one. c.first_position.result ≡ r)) (ap piece new ∙ a.node.stored.shows) c.first_position.ensures.root in
     let behind : HasForkBefore p tree = subst (HasForkBefore p) (sym a.node.is) (behind_first p c.in-Node.number c.first_position.result a.node.fixed a.node.body a.node.built.0 root c.if-first_position-position.true) in
     let there = subst (λ xs. IsAddable xs us (item n k c.args.value) p (Node c.in-Node.number c.in-Node.height) tree) (sym left.nodes) i in
-    let up = c.raised.ensures.raised us c.args.value tree there in
+    let up = c.raise.ensures.raised us c.args.value tree there in
     let high = let w = a.node.built.1 in lower_positive a.node.fixed.height a.node.body w in
-    let by_case = node_by_case c.added.new.nodes.items c.raised.new.nodes.items k p n (Node c.in-Node.number c.in-Node.height) tree (is_split c.raised.result) there.head (omega (arith, high, a.node.high)) (c.raised.ensures.case us c.args.value tree there) in
-    risen_here ns c.added.new.nodes.items c.raised.new.nodes.items c.args.leaves.now.items us k c.args.value n p c.args.entry tree c.raised.result left.nodes left.leaves left.number (addable_to (sym c.in-Node.is) i) behind
-    (subst (λ e. IsRaised c.added.new.nodes.items c.raised.new.nodes.items us (item n k c.args.value) p tree (suc (height_of e)) (subtrie_of c.raised.result)) (sym c.in-Node.is) up) by_case
+    let by_case = node_by_case c.add_below.new.nodes.items c.raise.new.nodes.items k p n (Node c.in-Node.number c.in-Node.height) tree (is_split c.raise.result) there.head (omega (arith, high, a.node.high)) (c.raise.ensures.case us c.args.value tree there) in
+    risen_here ns c.add_below.new.nodes.items c.raise.new.nodes.items c.args.leaves.now.items us k c.args.value n p c.args.entry tree c.raise.result left.nodes left.leaves left.number (addable_to (sym c.in-Node.is) i) behind
+    (subst (λ e. IsRaised c.add_below.new.nodes.items c.raise.new.nodes.items us (item n k c.args.value) p tree (suc (height_of e)) (subtrie_of c.raise.result)) (sym c.in-Node.is) up) by_case
 
 pub returns-then-first_position-position-clause-heights : goal.returns-then-first_position-position-clause-heights
 returns-then-first_position-position-clause-heights t c =
     let a = here t (goal.at.returns-then-first_position-position-clause-heights t c).After-entry-child c.requires.place.0 c.requires.place.1 in
-    subst (λ xs. KeepsHeights xs c.raised.new.nodes.items) (c.in-Above.ensures.adds _ a.below).nodes c.raised.ensures.heights
+    subst (λ xs. KeepsHeights xs c.raise.new.nodes.items) (c.in-Above.ensures.adds _ a.below).nodes c.raise.ensures.heights
 
 pub returns-else-first_position-position-clause-adds : goal.returns-else-first_position-position-clause-adds
 returns-else-first_position-position-clause-adds t c = λ tree stands.
@@ -144,7 +144,7 @@ returns-else-first_position-position-clause-adds t c = λ tree stands.
       leaves = left.leaves;
       number = left.number;
       bound = left.bound;
-      addable = addable_to (sym c.in-Node.is) (addable_above a.whole a.node c.added.new.leaves.items k c.args.value c.in-Above.leaf c.in-Above.position left.leaves c.entry-child.result left.addable);
+      addable = addable_to (sym c.in-Node.is) (addable_above a.whole a.node c.add_below.new.leaves.items k c.args.value c.in-Above.leaf c.in-Above.position left.leaves c.entry-child.result left.addable);
     }
 
 pub returns-in-Below-clause-adds : goal.returns-in-Below-clause-adds
@@ -153,34 +153,34 @@ returns-in-Below-clause-adds t c = λ tree stands.
     let k = c.args.key.now in
     let v = c.index-node.result.now in
     let ns = c.args.nodes.now.items in
-    let ms = c.lifted.new.nodes.items in
-    let us = c.added.new.leaves.items in
+    let ms = c.lift.new.nodes.items in
+    let us = c.add_below.new.leaves.items in
     let n = length c.args.leaves.now.items in
     let r = c.in-Below.ensures.adds _ a.below in
     let x = item n k c.args.value in
     let u = here_above a.whole a.node us k c.args.value n r.position r.leaves c.entry-child.result r.addable in
-    let l = here_lifting u c.search-at.result (height_of c.entry-child.result) c.entry-child.result c.added.new.nodes.items (subtrie_of c.in-Below.risen)
+    let l = here_lifting u c.search-at.result (height_of c.entry-child.result) c.entry-child.result c.add_below.new.nodes.items (subtrie_of c.in-Below.risen)
     (way_above a.whole a.node us k c.args.value n r.position r.leaves c.entry-child.result r.addable r.behind) (here_spot u v c.index-node.ensures c.search-at.result c.search-at.ensures.leads) a.is refl r.raised in
-    let up = c.lifted.ensures.raised ns us x r.position u.fixed u.body l in
+    let up = c.lift.ensures.raised ns us x r.position u.fixed u.body l in
     let way = way_above a.whole a.node us k c.args.value n r.position r.leaves c.entry-child.result r.addable r.behind in
-    let still : slice_get c.added.new.nodes.items c.in-Node.number ≡ Some a.node.stored.view =
-    old_stays ns us c.in-Node.number u.fixed u.body u.trie u.built u.shown c.added.new.nodes.items x r.position (suc (height_of c.entry-child.result)) (subtrie_of c.in-Below.risen) way r.raised
+    let still : slice_get c.add_below.new.nodes.items c.in-Node.number ≡ Some a.node.stored.view =
+    old_stays ns us c.in-Node.number u.fixed u.body u.trie u.built u.shown c.add_below.new.nodes.items x r.position (suc (height_of c.entry-child.result)) (subtrie_of c.in-Below.risen) way r.raised
     (omega (arith, child_lower a.whole a.node k c.entry-child.result a.is, a.node.high)) in
-    let takes = c.lifted.ensures.takes a.node.stored.view still in
-    let does : IsLevelDone (height_of (seek k (subtrie a.node.body))) (is_split c.in-Below.risen) a.node.stored.view takes.0 (spot k (subtrie a.node.body)) (is_split c.lifted.result) =
-    subst (λ d. IsLevelDone (height_of d) (is_split c.in-Below.risen) a.node.stored.view takes.0 (spot k (subtrie a.node.body)) (is_split c.lifted.result)) a.is
-    (subst (λ j. IsLevelDone (height_of c.entry-child.result) (is_split c.in-Below.risen) a.node.stored.view takes.0 j (is_split c.lifted.result))
+    let takes = c.lift.ensures.takes a.node.stored.view still in
+    let does : IsLevelDone (height_of (seek k (subtrie a.node.body))) (is_split c.in-Below.risen) a.node.stored.view takes.0 (spot k (subtrie a.node.body)) (is_split c.lift.result) =
+    subst (λ d. IsLevelDone (height_of d) (is_split c.in-Below.risen) a.node.stored.view takes.0 (spot k (subtrie a.node.body)) (is_split c.lift.result)) a.is
+    (subst (λ j. IsLevelDone (height_of c.entry-child.result) (is_split c.in-Below.risen) a.node.stored.view takes.0 j (is_split c.lift.result))
     (here_spot u v c.index-node.ensures c.search-at.result c.search-at.ensures.leads) takes.2) in
     record {
       leaves = r.leaves;
       position = r.position;
       addable = addable_to (sym c.in-Node.is) (addable_above a.whole a.node us k c.args.value n r.position r.leaves c.entry-child.result r.addable);
       behind = behind_within r.position (within_standing a.whole a.node k) r.behind;
-      raised = subst (λ h. IsRaised ns ms us x r.position tree (suc h) (subtrie_of c.lifted.result)) (sym (ap height_of c.in-Node.is))
-          (subst (λ y. IsRaised ns ms us x r.position y (suc c.in-Node.height) (subtrie_of c.lifted.result)) (sym a.node.is) up);
-      by_case = subst (λ y. IsByCase ns ms k r.position n y (is_split c.lifted.result)) (sym a.node.is)
-          (above_by_case ns c.added.new.nodes.items ms k r.position n c.in-Node.number a.node.fixed a.node.body (is_split c.in-Below.risen) (is_split c.lifted.result)
-          (not_below ns us c.in-Node.number u.fixed u.body u.trie u.built u.shown) way c.lifted.ensures.others
+      raised = subst (λ h. IsRaised ns ms us x r.position tree (suc h) (subtrie_of c.lift.result)) (sym (ap height_of c.in-Node.is))
+          (subst (λ y. IsRaised ns ms us x r.position y (suc c.in-Node.height) (subtrie_of c.lift.result)) (sym a.node.is) up);
+      by_case = subst (λ y. IsByCase ns ms k r.position n y (is_split c.lift.result)) (sym a.node.is)
+          (above_by_case ns c.add_below.new.nodes.items ms k r.position n c.in-Node.number a.node.fixed a.node.body (is_split c.in-Below.risen) (is_split c.lift.result)
+          (not_below ns us c.in-Node.number u.fixed u.body u.trie u.built u.shown) way c.lift.ensures.others
           (record { before = a.node.stored.view; after = takes.0; old_at = a.node.stored.at; new_at = takes.1; does = does }) r.by_case);
     }
 
@@ -189,21 +189,21 @@ returns-in-Below-clause-heights t c =
     let a = here t (goal.at.returns-in-Below-clause-heights t c).After-entry-child c.requires.place.0 c.requires.place.1 in
     let k = c.args.key.now in
     let v = c.index-node.result.now in
-    let us = c.added.new.leaves.items in
+    let us = c.add_below.new.leaves.items in
     let n = length c.args.leaves.now.items in
     let r = c.in-Below.ensures.adds _ a.below in
     let u = here_above a.whole a.node us k c.args.value n r.position r.leaves c.entry-child.result r.addable in
-    let l = here_lifting u c.search-at.result (height_of c.entry-child.result) c.entry-child.result c.added.new.nodes.items (subtrie_of c.in-Below.risen)
+    let l = here_lifting u c.search-at.result (height_of c.entry-child.result) c.entry-child.result c.add_below.new.nodes.items (subtrie_of c.in-Below.risen)
     (way_above a.whole a.node us k c.args.value n r.position r.leaves c.entry-child.result r.addable r.behind) (here_spot u v c.index-node.ensures c.search-at.result c.search-at.ensures.leads) a.is refl r.raised in
-    heights_over c.args.nodes.now.items c.added.new.nodes.items c.lifted.new.nodes.items c.added.ensures.heights c.lifted.ensures.heights
-    c.in-Node.number l.shown.0.view l.shown.0.at (old_at l) c.lifted.ensures.others
+    heights_over c.args.nodes.now.items c.add_below.new.nodes.items c.lift.new.nodes.items c.add_below.ensures.heights c.lift.ensures.heights
+    c.in-Node.number l.shown.0.view l.shown.0.at (old_at l) c.lift.ensures.others
 
 pub returns-in-Below-clause-room : goal.returns-in-Below-clause-room
 returns-in-Below-clause-room t c =
     let a = here t (goal.at.returns-in-Below-clause-room t c).After-entry-child c.requires.place.0 c.requires.place.1 in
     let low = child_lower a.whole a.node c.args.key.now c.entry-child.result a.is in
     let high = ap height_of c.in-Node.is in
-    (omega (arith, c.in-Below.ensures.room, c.lifted.ensures.len, c.lifted.ensures.capacity), omega (arith, c.in-Below.ensures.room, c.lifted.ensures.len))
+    (omega (arith, c.in-Below.ensures.room, c.lift.ensures.len, c.lift.ensures.capacity), omega (arith, c.in-Below.ensures.room, c.lift.ensures.len))
 
 pub returns-in-Held-clause-adds : goal.returns-in-Held-clause-adds
 returns-in-Held-clause-adds t c = λ tree stands.

@@ -8,7 +8,7 @@ use Rattle.plain_records.specs.Adding.{with_leaf}
 use Rattle.plain_records.specs.Store.{item_record}
 use Rattle.plain_records.proofs.Below.{standing_leaf, leaf_addable}
 use Rattle.plain_records.proofs.Searching.{read_at, leaf_number}
-use Rattle.plain_records.proofs.adding.added_beside.Goals as goal
+use Rattle.plain_records.proofs.adding.add_beside.Goals as goal
 use Rattle.tries.specs.Search.{found}
 
 pub index-requires : goal.index-requires

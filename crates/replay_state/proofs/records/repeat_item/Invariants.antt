@@ -1,6 +1,6 @@
--- What stays true in the loop of `repeated`.
+-- What stays true in the loop of `repeat_item`.
 use Rattle.std.proofs.Common.{◌≡◌, replicate}
-use Rattle.replay_state.proofs.records.repeated.Given as goal
+use Rattle.replay_state.proofs.records.repeat_item.Given as goal
 
 abbrev pub invariant-loop : goal.invariant-loop
 invariant-loop g l = l.copies.items ≡ replicate l.counter l.item

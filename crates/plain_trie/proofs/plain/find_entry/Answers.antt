@@ -1,6 +1,6 @@
 -- The entry at the place to which the search leads.
 use Rattle.plain_records.proofs.Searching.{sought_entry}
-use Rattle.plain_trie.proofs.plain.sought.Goals as goal
+use Rattle.plain_trie.proofs.plain.find_entry.Goals as goal
 
 pub returns : goal.returns
 returns c = sought_entry c.args.key.now c.args.node.now c.search-at.result c.entry.result c.count.ensures.lawful c.search-at.ensures.leads c.entry.ensures.entry

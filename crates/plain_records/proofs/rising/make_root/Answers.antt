@@ -9,10 +9,10 @@ use Rattle.insert_cases.specs.Risen.{subtrie_of}
 use Rattle.insert_cases.proofs.Pairs.{pair_facts}
 use Rattle.plain_records.proofs.Climbing.{raised_in_new_node}
 use Rattle.plain_records.proofs.Keeping.{lower_more}
-use Rattle.plain_records.proofs.rising.rooted.Goals as goal
+use Rattle.plain_records.proofs.rising.make_root.Goals as goal
 
-pub settled-requires : goal.settled-requires
-settled-requires c =
+pub push_pair-requires : goal.push_pair-requires
+push_pair-requires c =
     let u = c.requires.place.6 in
     let p = pair_facts c.in-Split.position c.in-Split.zero c.in-Split.one u.tree (u.begins ∙ ap subtrie_of c.in-Split.is) u.adds.trie u.built in
     record { room = c.requires.room; small = c.requires.small; position = omega (arith, p.position); zero = p.zero; one = p.one }
@@ -30,11 +30,11 @@ returns-in-Whole-clause-raised c = λ ns leaves x p t h u. record {
 
 pub returns-in-Split-clause-raised : goal.returns-in-Split-clause-raised
 returns-in-Split-clause-raised c = λ ns leaves x p t h u.
-    raised_in_new_node ns c.args.nodes.now.items c.settled.new.nodes.items leaves x p t h c.in-Split.position c.in-Split.zero c.in-Split.one c.settled.result
-    (subst (IsRaised ns c.args.nodes.now.items leaves x p t h) (ap subtrie_of c.in-Split.is) u) c.settled.ensures.new
+    raised_in_new_node ns c.args.nodes.now.items c.push_pair.new.nodes.items leaves x p t h c.in-Split.position c.in-Split.zero c.in-Split.one c.push_pair.result
+    (subst (IsRaised ns c.args.nodes.now.items leaves x p t h) (ap subtrie_of c.in-Split.is) u) c.push_pair.ensures.new
 
 pub returns-in-Whole-clause-new : goal.returns-in-Whole-clause-new
 returns-in-Whole-clause-new c = λ up. absurd (false≢true (subst (λ (r : Risen). is_split r ≡ true) c.in-Whole.is up))
 
 pub returns-in-Split-clause-new : goal.returns-in-Split-clause-new
-returns-in-Split-clause-new c = λ up. subst (IsNewNode (vec_len c.args.nodes.now)) (sym c.settled.ensures.new.is) (omega (arith, c.args.nodes.now.ok.0))
+returns-in-Split-clause-new c = λ up. subst (IsNewNode (vec_len c.args.nodes.now)) (sym c.push_pair.ensures.new.is) (omega (arith, c.args.nodes.now.ok.0))

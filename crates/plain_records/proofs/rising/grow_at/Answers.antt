@@ -15,7 +15,7 @@ use Rattle.plain_records.proofs.Steady.{add_steady, full_steady}
 use Rattle.plain_records.proofs.Storing.{set_other, set_same}
 use Rattle.plain_records.specs.Cases.{IsCaseDone, is_overflow}
 use Rattle.tries.proofs.Building.{size-piece}
-use Rattle.plain_records.proofs.rising.grown_at.Goals as goal
+use Rattle.plain_records.proofs.rising.grow_at.Goals as goal
 
 pub returns-in-NormalInsert-clause-heights : goal.returns-in-NormalInsert-clause-heights
 returns-in-NormalInsert-clause-heights c =
@@ -31,7 +31,7 @@ returns-in-Overflow-clause-shows c = λ old at.
     let o = c.requires.place in
     let same : c.index-node.result.now ≡ old = read_at c.args.nodes.now.items c.args.number old c.index-node.result.now at c.index-node.ensures in
     let high : old.height ≡ c.args.height = ap (λ (w : NodeView). w.height) (some_injective (sym at ∙ o.1)) ∙ o.2 in
-    c.stored.ensures.shows old _ at high (subst IsLawfulNode same c.count-in-Overflow.ensures.lawful) (rw same at c.grow_full-grown.ensures.shows)
+    c.store_grown.ensures.shows old _ at high (subst IsLawfulNode same c.count-in-Overflow.ensures.lawful) (rw same at c.grow_full-grown.ensures.shows)
 
 pub returns-in-Overflow-clause-heights : goal.returns-in-Overflow-clause-heights
 returns-in-Overflow-clause-heights c =
@@ -42,7 +42,7 @@ returns-in-Overflow-clause-heights c =
     let same : v ≡ o.0 = read_at c.args.nodes.now.items c.args.number o.0 v o.1 c.index-node.ensures in
     let lawful = subst IsLawfulNode same c.count-in-Overflow.ensures.lawful in
     let shows : GrownShows o.0 g (grown c.args.position c.args.bit (Leaf c.args.leaf) first (piece o.0)) = rw same at c.grow_full-grown.ensures.shows in
-    c.stored.ensures.heights o.0 _ o.1 shows
+    c.store_grown.ensures.heights o.0 _ o.1 shows
     (full_steady o.0 lawful c.args.position c.args.bit (Leaf c.args.leaf) first c.args.choice.last o.3 g shows c.grow_full-grown.ensures.whole (rw same at c.grow_full-grown.ensures.same))
 
 -- ---- what was done
@@ -65,11 +65,11 @@ returns-in-Overflow-clause-does c = λ old at.
     let same : v ≡ old = read_at c.args.nodes.now.items c.args.number old v at c.index-node.ensures in
     let lawful = subst IsLawfulNode same c.count-in-Overflow.ensures.lawful in
     let big : 2 < size P = omega (arith, size-grown c.args.position c.args.bit (Leaf c.args.leaf) first (piece old), size-piece old lawful, lawful.several) in
-    let s = c.stored.ensures.side old P at (rw same at c.grow_full-grown.ensures.shows) c.grow_full-grown.ensures.whole big in
+    let s = c.store_grown.ensures.side old P at (rw same at c.grow_full-grown.ensures.shows) c.grow_full-grown.ensures.whole big in
     (s.0, s.1, subst (λ (d : Case). IsCaseDone d old s.0 first P) (sym c.in-Overflow.is) s.2)
 
 pub returns-in-Overflow-clause-up : goal.returns-in-Overflow-clause-up
-returns-in-Overflow-clause-up c = c.stored.ensures.up c.grow_full-grown.ensures.whole ∙ ap is_overflow (sym c.in-Overflow.is)
+returns-in-Overflow-clause-up c = c.store_grown.ensures.up c.grow_full-grown.ensures.whole ∙ ap is_overflow (sym c.in-Overflow.is)
 
 pub returns-in-NormalInsert-clause-up : goal.returns-in-NormalInsert-clause-up
 returns-in-NormalInsert-clause-up c = ap is_overflow (sym c.in-NormalInsert.is)

@@ -10,7 +10,7 @@ use Rattle.insert_cases.proofs.Choosing.{some_injective}
 use Rattle.tries.proofs.Building.{size-piece}
 use Rattle.plain_records.proofs.Searching.{read_at}
 use Rattle.plain_records.proofs.Steady.{pull_steady, size-grafted}
-use Rattle.plain_records.proofs.rising.forked_at.Goals as goal
+use Rattle.plain_records.proofs.rising.fork_at.Goals as goal
 
 pub prove-unreachable-requires : goal.prove-unreachable-requires
 prove-unreachable-requires c =
@@ -27,8 +27,8 @@ pull_up-grown-requires-clause-path c =
     let same : v ≡ o.0 = read_at c.args.nodes.now.items c.args.number o.0 v o.1 c.index-node.ensures in
     subst (λ (w : NodeView). IsAbovePath c.args.position c.args.at (piece w)) (sym same) o.4
 
-pub stored-requires-clause-number : goal.stored-requires-clause-number
-stored-requires-clause-number c =
+pub store_grown-requires-clause-number : goal.store_grown-requires-clause-number
+store_grown-requires-clause-number c =
     let o = c.requires.place in
     omega (arith, slice_get_within c.args.nodes.now.items c.args.number o.0 o.1, c.args.nodes.now.ok.0)
 
@@ -38,7 +38,7 @@ returns-clause-shows c = λ old at.
     let v = c.index-node.result.now in
     let same : v ≡ old = read_at c.args.nodes.now.items c.args.number old v at c.index-node.ensures in
     let high : old.height ≡ c.args.height = ap (λ (w : NodeView). w.height) (some_injective (sym at ∙ o.1)) ∙ o.2 in
-    c.stored.ensures.shows old _ at high (subst IsLawfulNode same c.count.ensures.lawful) (rw same at c.pull_up-grown.ensures.shows)
+    c.store_grown.ensures.shows old _ at high (subst IsLawfulNode same c.count.ensures.lawful) (rw same at c.pull_up-grown.ensures.shows)
 
 pub returns-clause-heights : goal.returns-clause-heights
 returns-clause-heights c =
@@ -48,7 +48,7 @@ returns-clause-heights c =
     let same : v ≡ o.0 = read_at c.args.nodes.now.items c.args.number o.0 v o.1 c.index-node.ensures in
     let lawful = subst IsLawfulNode same c.count.ensures.lawful in
     let shows : GrownShows o.0 g (grafted c.args.at (Fork c.args.position (Place c.args.zero) (Place c.args.one)) (piece o.0)) = rw same at c.pull_up-grown.ensures.shows in
-    c.stored.ensures.heights o.0 _ o.1 shows (pull_steady o.0 lawful c.args.position c.args.at c.args.zero c.args.one o.4 g shows)
+    c.store_grown.ensures.heights o.0 _ o.1 shows (pull_steady o.0 lawful c.args.position c.args.at c.args.zero c.args.one o.4 g shows)
 
 pub returns-clause-takes : goal.returns-clause-takes
 returns-clause-takes c = λ old at.
@@ -62,7 +62,7 @@ returns-clause-takes c = λ old at.
     elim (cases_Bool (is_whole g)) [
       | inl o ↦
           let low = c.pull_up-grown.ensures.whole.0 o in
-          let s = c.stored.ensures.whole old P shows o in (
+          let s = c.store_grown.ensures.whole old P shows o in (
             s.0,
             s.1,
             record {
@@ -74,13 +74,13 @@ returns-clause-takes c = λ old at.
             },
           )
       | inr o ↦
-          let up = c.stored.ensures.up o in
+          let up = c.store_grown.ensures.up o in
           let high : 32 ≤ length v.entries = elim (cases_lt (length v.entries) 32) [
             | inl l ↦ absurd (false≢true (sym o ∙ c.pull_up-grown.ensures.whole.1 l))
             | inr h ↦ h
           ] in
           let big : 2 < size P = omega (arith, size-grafted c.args.position c.args.zero c.args.one c.args.at (piece old), size-piece old lawful, high, counts) in
-          let s = c.stored.ensures.side old P at shows o big in (
+          let s = c.store_grown.ensures.side old P at shows o big in (
             s.0,
             s.1,
             record {

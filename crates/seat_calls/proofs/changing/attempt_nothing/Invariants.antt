@@ -1,6 +1,6 @@
 -- No note comes with the step.
 use Rattle.rowex_table.specs.Runs.{silent}
-use Rattle.seat_calls.proofs.changing.refuse_again.Given as goal
+use Rattle.seat_calls.proofs.changing.attempt_nothing.Given as goal
 
 abbrev pub ghost-unpin : goal.ghost-unpin
 ghost-unpin g a = silent
