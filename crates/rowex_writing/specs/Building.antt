@@ -37,7 +37,7 @@ use Rattle.publish_laws.specs.Stages.{HasLeaf, HasRisen, IsLockedAbove, SpellsLe
 use Rattle.rowex_writing.specs.Going.{HasLocked}
 use Rattle.rowex_writing.specs.Remaking.{AwaitsLeaf, IsNoHigher, subtrie_with_leaf}
 use Rattle.rowex_writing.specs.declared.plan.Span.{Span}
-use Rattle.rowex_writing.specs.declared.building.Rise.{Rise}
+use Rattle.rowex_writing.specs.declared.rising.Rise.{Rise}
 use Rattle.rowex_writing.specs.declared.remaking.Fork.{Fork}
 use Rattle.rowex_writing.specs.declared.remaking.NewLeaf.{NewLeaf}
 

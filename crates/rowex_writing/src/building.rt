@@ -1,39 +1,24 @@
-//! Records for what takes a node's place.
+//! Records for what takes a node's place: of one node, or of both halves of a cut.
 
-ghost use Rattle.std.specs.Prelude.{◌≡◌, ◌≢◌, ◌<◌, ◌≤◌, ◌+◌, ◌-◌, ◌*◌, ◌++◌, ◌∷◌, [], List, ℕ, length, slice_get, IfSome, MatchOption, None, Some};
-ghost use Rattle.insert_cases.specs.declared.choice.PathNode.{PathNode as PathNodeView};
+ghost use Rattle.std.specs.Prelude.{◌≡◌, ◌<◌, ◌≤◌, ◌+◌, ◌-◌, ◌*◌, ◌++◌, ◌∷◌, List, ℕ, length, MatchOption, None, Some};
 ghost use Rattle.record_words.specs.Node.{CanTakeLeaf, HasNodeWords, node_words};
 ghost use Rattle.record_words.specs.Reading.{IsSpelling};
 ghost use Rattle.rowex_table.specs.Made.{Made};
-ghost use Rattle.publish_laws.specs.Rises.{made_of_node, IsSide};
-ghost use Rattle.rowex_writing.specs.Building.{IsBuilding, IsGrowing, IsHalfMade, IsLevelRisen, IsLowRisen, IsMadeFrom, IsNextTo, IsRaising, IsRisenAt, MakesGrown, newcomer_of, Rises, GetsFork, GetsLeaf, FitsAbove, HasNotMade, HasRisenTo, gone_unless_whole, gone_with_way};
-ghost use Rattle.rowex_writing.specs.Going.{WorksOn, HasLocked, IsLockedBy, LeadsLocked};
-ghost use Rattle.rowex_writing.specs.Locks.{locks_of};
+ghost use Rattle.publish_laws.specs.Rises.{made_of_node};
+ghost use Rattle.rowex_writing.specs.Building.{IsBuilding, IsHalfMade, IsMadeFrom, HasNotMade};
+ghost use Rattle.rowex_writing.specs.Going.{WorksOn};
 ghost use Rattle.rowex_writing.specs.Remaking.{AwaitsLeaf, subtrie_with_leaf};
-ghost use Rattle.compound_node.specs.Nodes.{IsBuiltFrom, NodeView, height_of, piece};
-ghost use Rattle.insert_cases.specs.Grown.{keeps_node, is_same as is_the_same};
-ghost use Rattle.pieces.specs.Piece.{Place as At};
-ghost use Rattle.tries.specs.Keys.{Key as KeyValue};
-ghost use Rattle.tries.specs.Place.{subtrie_without};
-ghost use Rattle.insert_cases.specs.Risen.{subtrie_of};
-ghost use Rattle.versions.specs.declared.Rec.TheVariants.{Node as a_node};
-ghost use Rattle.rowex_core.specs.Reading.{node_words_of};
+ghost use Rattle.compound_node.specs.Nodes.{IsBuiltFrom, NodeView, piece};
 ghost use Rattle.version_laws.specs.Rise.{entry};
-ghost use Rattle.rowex_writing.specs.Counts.{level_steps, node_steps};
+ghost use Rattle.rowex_writing.specs.Counts.{node_steps};
 ghost use Rattle.rowex_writing.specs.Walks.{MakesNodes, Spends, WalksOn};
 
 use crate::claims::{Hint, claim_node};
-use crate::deeds::Job;
-use crate::locked::{load_words, read_locked};
-use crate::remaking::{Fork, NewLeaf, add_fork, add_leaf, full_with_fork, full_with_leaf};
+use crate::remaking::{NewLeaf, add_leaf};
 use arrayvec::ArrayVec;
 use compound_node::{Entry, Half, Node};
-use insert_cases::{Grown, PathNode, Risen};
-use key_bits::Key;
-use record_words::{
-    HEAD_WORDS, LEAF_CLASSES, NODE_FIELDS, affected_in, can_take_leaf, drop_entry, pack_node,
-    read_node,
-};
+use insert_cases::{Grown, Risen};
+use record_words::{HEAD_WORDS, LEAF_CLASSES, NODE_FIELDS, affected_in, pack_node};
 use rowex_core::{Gate, Rec};
 use rowex_records::fill_words;
 use rowex_table::{HotTable, TableSeat};
@@ -117,7 +102,7 @@ pub(crate) fn make_words<G: Gate>(
 }
 
 /// The entry that names `node`, which is in node record `number`.
-fn entry_of(number: u32, node: &Node) -> Entry
+pub(crate) fn entry_of(number: u32, node: &Node) -> Entry
     ensures { result ≡ Entry.Node number node.now.height }
 {
     Entry::Node {
@@ -129,7 +114,7 @@ fn entry_of(number: u32, node: &Node) -> Entry
 /// Makes a record for the node that `words` spell with the leaf `new`, adds it to `build.made`, and returns its entry. `None` if no node
 /// record was free. The node has leaves alone and room for one more. `words` become those of the record, so that no node is read and none
 /// is packed.
-fn make_low<G: Gate>(
+pub(crate) fn make_low<G: Gate>(
     table: &HotTable,
     seat: &mut TableSeat,
     gate: &mut G,
@@ -186,7 +171,7 @@ fn make_half<G: Gate>(
 
 /// Makes what takes the place of a node with the entry `old` that became `grown`: one entry, or a fork of two for a cut. Each new node gets
 /// a record, that of a cut's 1 side first. `None` if no node record was free: one made by then stays in `build.made`.
-fn make_risen<G: Gate>(
+pub(crate) fn make_risen<G: Gate>(
     table: &HotTable,
     seat: &mut TableSeat,
     gate: &mut G,
@@ -220,357 +205,4 @@ fn make_risen<G: Gate>(
             })
         }
     }
-}
-
-/// Makes what takes the place of the locked node `number` when `fork` takes the place of the entry to which its key leads. It is one
-/// entry, or a fork of two if the node was full. `None` if no node record was free.
-///
-/// A node with room gets the fork where it stands, so that no whole node is moved.
-fn raise_level<G: Gate>(
-    table: &HotTable,
-    seat: &mut TableSeat,
-    gate: &mut G,
-    build: &mut Build,
-    number: u32,
-    fork: &Fork<'_>,
-) -> Option<Risen>
-    requires range { number < table.now.layout.nodes }
-    requires below { GetsFork table.now seat.old build.old.made.items number fork.now }
-    requires room { length build.old.made.items + 1 < MOST_MADE }
-    ensures goes { WorksOn table.now G.becomes (seat.old, gate.old) (seat.new, gate.new) }
-    ensures made { (b : GetsFork table.now seat.old build.old.made.items number fork.now) → MatchOption result
-        (HasNotMade table.now seat.new build.new.made.items)
-        (λ risen. (after : List Made) ×
-        IsRaising table.now seat.new build.new.made.items after (a_node number ∷ b.here.gone) b.here.newcomer (entry number) (subtrie_of risen)) }
-    ensures level { (words : List ℕ) → HasLocked seat.old.known number words → IfSome result (IsLevelRisen words) }
-    ensures more { length build.new.made.items ≤ length build.old.made.items + 2 }
-    ensures nodes { MakesNodes 2 build.old build.new result }
-    ensures walk { WalksOn table.now.layout seat.old.known build.old seat.new.known build.new result }
-    ensures few { Spends level_steps seat.old.known build.old seat.new.known build.new result }
-{
-    let mut node = read_locked(table, seat, gate, number);
-    if node.count() == 32 {
-        let old = entry_of(number, &node);
-        let grown = full_with_fork(&node, fork);
-        return make_risen(table, seat, gate, build, old, &grown);
-    }
-    add_fork(&mut node, fork);
-    let entry = make_node(table, seat, gate, build, &node)?;
-    Some(Risen::Whole(entry))
-}
-
-/// Makes what [`make_grown`] makes, by a value of the node that is read from `words`. A node with room gets the leaf where it stands, so
-/// that no whole node is moved.
-fn make_by_value<G: Gate>(
-    table: &HotTable,
-    seat: &mut TableSeat,
-    gate: &mut G,
-    build: &mut Build,
-    number: u32,
-    words: &[u64; NODE_FIELDS],
-    new: &NewLeaf<'_>,
-) -> Option<(Risen, bool)>
-    requires building { (news : List Made) × IsBuilding table.now seat.old build.old.made.items news }
-    requires takes { (node : NodeView) × AwaitsLeaf words.now node new.now }
-    requires room { length build.old.made.items + 1 < MOST_MADE }
-    ensures goes { WorksOn table.now G.becomes (seat.old, gate.old) (seat.new, gate.new) }
-    ensures made { MakesGrown table.now (seat.old, build.old.made.items) (seat.new, build.new.made.items) number words.now new.now result }
-    ensures more { length build.new.made.items ≤ length build.old.made.items + 2 }
-    ensures nodes { MakesNodes 2 build.old build.new result }
-    ensures walk { WalksOn table.now.layout seat.old.known build.old seat.new.known build.new result }
-    ensures few { Spends (2 * node_steps) seat.old.known build.old seat.new.known build.new result }
-{
-    let mut node = read_node(words);
-    if node.count() == 32 {
-        let old = entry_of(number, &node);
-        let grown = full_with_leaf(&node, new);
-        let stays = stays_whole(&grown);
-        let risen = make_risen(table, seat, gate, build, old, &grown)?;
-        return Some((risen, stays));
-    }
-    add_leaf(&mut node, new);
-    let entry = make_node(table, seat, gate, build, &node)?;
-    Some((Risen::Whole(entry), false))
-}
-
-/// Makes what takes the place of node `number`, with the words `words`, that gets the leaf `new`: one entry, or a fork of two if full.
-/// The flag tells whether the node stays, as one side of that fork. `None` if no node record was free.
-///
-/// A node of leaves alone with room gets the leaf in `words`. So no node is read or packed, and no place for one is made.
-fn make_grown<G: Gate>(
-    table: &HotTable,
-    seat: &mut TableSeat,
-    gate: &mut G,
-    build: &mut Build,
-    number: u32,
-    words: &mut [u64; NODE_FIELDS],
-    new: &NewLeaf<'_>,
-) -> Option<(Risen, bool)>
-    requires building { (news : List Made) × IsBuilding table.now seat.old build.old.made.items news }
-    requires takes { (node : NodeView) × AwaitsLeaf words.old node new.now }
-    requires room { length build.old.made.items + 1 < MOST_MADE }
-    ensures goes { WorksOn table.now G.becomes (seat.old, gate.old) (seat.new, gate.new) }
-    ensures made { MakesGrown table.now (seat.old, build.old.made.items) (seat.new, build.new.made.items) number words.old new.now result }
-    ensures more { length build.new.made.items ≤ length build.old.made.items + 2 }
-    ensures nodes { MakesNodes 2 build.old build.new result }
-    ensures walk { WalksOn table.now.layout seat.old.known build.old seat.new.known build.new result }
-    ensures few { Spends (2 * node_steps) seat.old.known build.old seat.new.known build.new result }
-{
-    if can_take_leaf(words) {
-        let entry = make_low(table, seat, gate, build, words, new)?;
-        return Some((Risen::Whole(entry), false));
-    }
-    make_by_value(table, seat, gate, build, number, words, new)
-}
-
-/// Makes what takes the place of a span's lowest node that gets a new leaf: one entry, or a fork of two if the node was full. The flag
-/// tells whether the node stays as it is, as one side of that fork. Nothing if no node record was free.
-fn raise_lowest<G: Gate>(
-    table: &HotTable,
-    seat: &mut TableSeat,
-    gate: &mut G,
-    build: &mut Build,
-    number: u32,
-    new: &NewLeaf<'_>,
-) -> Option<(Risen, bool)>
-    requires range { number < table.now.layout.nodes }
-    requires lowest { GetsLeaf table.now seat.old build.old.made.items number new.now }
-    requires room { length build.old.made.items + 1 < MOST_MADE }
-    ensures goes { WorksOn table.now G.becomes (seat.old, gate.old) (seat.new, gate.new) }
-    ensures made { (b : GetsLeaf table.now seat.old build.old.made.items number new.now) → MatchOption result
-        (HasNotMade table.now seat.new build.new.made.items)
-        (λ r. (after : List Made) ×
-        IsRaising table.now seat.new build.new.made.items after (gone_unless_whole r.1 number) (newcomer_of b) (entry number) (subtrie_of r.0)) }
-    ensures level { (words : List ℕ) → HasLocked seat.old.known number words → IfSome result (λ r. IsLevelRisen words r.0) }
-    ensures more { length build.new.made.items ≤ length build.old.made.items + 2 }
-    ensures nodes { MakesNodes 2 build.old build.new result }
-    ensures walk { WalksOn table.now.layout seat.old.known build.old seat.new.known build.new result }
-    ensures few { Spends level_steps seat.old.known build.old seat.new.known build.new result }
-{
-    let mut words = [0; NODE_FIELDS];
-    load_words(table, seat, gate, number, &mut words);
-    make_grown(table, seat, gate, build, number, &mut words, new)
-}
-
-/// Whether one side of `grown` is the node that was cut, as it was; `false` if `grown` is one node.
-fn stays_whole(grown: &Grown) -> bool
-    ensures { result ≡ keeps_node grown.now }
-{
-    match grown {
-        Grown::One(_) => false,
-        Grown::Two(cut) => is_same(&cut.zero) || is_same(&cut.one),
-    }
-}
-
-/// Whether `half`, a side of a cut, is the whole old node (`Half::Same`). `false` for one entry and for a new node.
-fn is_same(half: &Half) -> bool
-    ensures { result ≡ is_the_same half.now }
-{
-    match half {
-        Half::Same => true,
-        _ => false,
-    }
-}
-
-/// The one entry for `risen`: the entry itself, or that of a new node of two for a fork. `None` if no node record was free. Inline, for
-/// mostly it is the entry already.
-#[inline(always)]
-fn settle<G: Gate>(
-    table: &HotTable,
-    seat: &mut TableSeat,
-    gate: &mut G,
-    build: &mut Build,
-    number: u32,
-    risen: Risen,
-) -> Option<Entry>
-    requires risen { IsRisenAt table.now seat.old build.old.made.items number risen }
-    requires room { length build.old.made.items < MOST_MADE }
-    ensures goes { WorksOn table.now G.becomes (seat.old, gate.old) (seat.new, gate.new) }
-    ensures made { (b : IsRisenAt table.now seat.old build.old.made.items number risen) → MatchOption result
-        (HasNotMade table.now seat.new build.new.made.items)
-        (λ e. (after : List Made) × IsRaising table.now seat.new build.new.made.items after b.gone b.newcomer (entry number) (At e)) }
-    ensures low { (height : ℕ) → IsLowRisen height risen → IfSome result (IsNextTo height risen) }
-    ensures more { length build.new.made.items ≤ length build.old.made.items + 1 }
-    ensures nodes { MakesNodes 1 build.old build.new result }
-    ensures walk { WalksOn table.now.layout seat.old.known build.old seat.new.known build.new result }
-    ensures few { Spends node_steps seat.old.known build.old seat.new.known build.new result }
-{
-    match risen {
-        Risen::Whole(entry) => Some(entry),
-        Risen::Split {
-            position,
-            zero,
-            one,
-        } => {
-            let node = Node::pair(position, zero, one);
-            make_node(table, seat, gate, build, &node)
-        }
-    }
-}
-
-/// What has risen to the node at place `level` of a way, for the key of its search. It is to rise on to the node at `end`, which is
-/// `level` or less.
-#[derive(Drop)]
-pub(crate) struct Rise<'a> {
-    pub key: &'a Key,
-    pub end: usize,
-    pub level: usize,
-    pub risen: Risen,
-}
-
-/// The one entry that takes the place of the node at `rise.end` of `way`, when `rise.risen` takes the place of the one at `rise.level`.
-/// `None` if no node record was free. Inline, for mostly these are one node.
-#[inline(always)]
-#[cycle(raising)]
-fn raise_on<G: Gate>(
-    table: &HotTable,
-    seat: &mut TableSeat,
-    gate: &mut G,
-    build: &mut Build,
-    way: &[PathNode],
-    rise: Rise<'_>,
-) -> Option<Entry>
-    requires up { Rises table.now seat.old build.old.made.items way.now rise }
-    requires room { length build.old.made.items + 2 * (rise.level - rise.end) < MOST_MADE }
-    ensures goes { WorksOn table.now G.becomes (seat.old, gate.old) (seat.new, gate.new) }
-    ensures made { (b : Rises table.now seat.old build.old.made.items way.now rise.entry) → MatchOption result
-        (HasNotMade table.now seat.new build.new.made.items)
-        (HasRisenTo table.now seat.new build.new.made.items way.now b.here.newcomer rise.entry.end
-        (gone_with_way way.now rise.entry.end rise.entry.level b.here.gone)) }
-    ensures low { (s : PathNodeView) (words : List ℕ) → slice_get way.now rise.entry.end ≡ Some s → HasLocked seat.old.known s.number words → IfSome result (FitsAbove words) }
-    ensures more { length build.new.made.items ≤ length build.old.made.items + 2 * (rise.entry.level - rise.entry.end) + 1 }
-    ensures nodes { MakesNodes (2 * (rise.entry.level - rise.entry.end) + 1) build.old build.new result }
-    ensures walk { WalksOn table.now.layout seat.old.known build.old seat.new.known build.new result }
-    ensures few { Spends ((rise.entry.level - rise.entry.end + 1) * level_steps) seat.old.known build.old seat.new.known build.new result }
-{
-    let level = rise.level;
-    if level == rise.end {
-        return settle(table, seat, gate, build, way[level].number, rise.risen);
-    }
-    raise_above(table, seat, gate, build, way, rise)
-}
-
-/// What [`raise_on`] returns where `rise.end` is above `rise.level`. There a fork has risen, which goes into the next node above.
-#[cycle(raising)]
-fn raise_above<G: Gate>(
-    table: &HotTable,
-    seat: &mut TableSeat,
-    gate: &mut G,
-    build: &mut Build,
-    way: &[PathNode],
-    rise: Rise<'_>,
-) -> Option<Entry>
-    requires up { Rises table.now seat.old build.old.made.items way.now rise }
-    requires above { rise.level ≢ rise.end }
-    requires room { length build.old.made.items + 2 * (rise.level - rise.end) < MOST_MADE }
-    ensures goes { WorksOn table.now G.becomes (seat.old, gate.old) (seat.new, gate.new) }
-    ensures made { (b : Rises table.now seat.old build.old.made.items way.now rise.entry) → MatchOption result
-        (HasNotMade table.now seat.new build.new.made.items)
-        (HasRisenTo table.now seat.new build.new.made.items way.now b.here.newcomer rise.entry.end
-        (gone_with_way way.now rise.entry.end rise.entry.level b.here.gone)) }
-    ensures low { (s : PathNodeView) (words : List ℕ) → slice_get way.now rise.entry.end ≡ Some s → HasLocked seat.old.known s.number words → IfSome result (FitsAbove words) }
-    ensures more { length build.new.made.items ≤ length build.old.made.items + 2 * (rise.entry.level - rise.entry.end) + 1 }
-    ensures nodes { MakesNodes (2 * (rise.entry.level - rise.entry.end) + 1) build.old build.new result }
-    ensures walk { WalksOn table.now.layout seat.old.known build.old seat.new.known build.new result }
-    ensures few { Spends ((rise.entry.level - rise.entry.end + 1) * level_steps) seat.old.known build.old seat.new.known build.new result }
-{
-    match rise.risen {
-        Risen::Whole(_) => unreachable!(),
-        Risen::Split {
-            position,
-            zero,
-            one,
-        } => {
-            let above = rise.level - 1;
-            let number = way[above].number;
-            let fork = Fork {
-                key: rise.key,
-                position,
-                zero,
-                one,
-            };
-            let next = raise_level(table, seat, gate, build, number, &fork)?;
-            let rest = Rise {
-                key: rise.key,
-                end: rise.end,
-                level: above,
-                risen: next,
-            };
-            raise_on(table, seat, gate, build, way, rest)
-        }
-    }
-}
-
-/// The one entry that takes the place of the topmost node of `job`'s span, when the lowest gets the leaf `new`. The flag tells whether
-/// the lowest node stays as it is. `None` if no node record was free, as in [`make_node`].
-pub(crate) fn raise_grown<G: Gate>(
-    table: &HotTable,
-    seat: &mut TableSeat,
-    gate: &mut G,
-    build: &mut Build,
-    job: &Job<'_>,
-    new: &NewLeaf<'_>,
-) -> Option<(Entry, bool)>
-    requires growing { IsGrowing table.now seat.old build.old.made.items job.now.way.now job.now.span new.now }
-    requires within { job.now.span.end < job.now.span.len }
-    requires room { length build.old.made.items + 2 * (job.now.span.len - 1 - job.now.span.end) + 2 < MOST_MADE }
-    ensures goes { WorksOn table.now G.becomes (seat.old, gate.old) (seat.new, gate.new) }
-    ensures made { (b : IsGrowing table.now seat.old build.old.made.items job.now.way.now job.now.span new.now) → MatchOption result
-        (HasNotMade table.now seat.new build.new.made.items)
-        (λ r. HasRisenTo table.now seat.new build.new.made.items job.now.way.now (newcomer_of b.lowest) job.now.span.end
-        (gone_with_way job.now.way.now job.now.span.end (job.now.span.len - 1) (gone_unless_whole r.1 b.step.number)) r.0) }
-    ensures low { (s : PathNodeView) (words : List ℕ) → slice_get job.now.way.now job.now.span.end ≡ Some s → HasLocked seat.old.known s.number words →
-        IfSome result (λ r. FitsAbove words r.0) }
-    ensures more { length build.new.made.items ≤ length build.old.made.items + 2 * (job.now.span.len - 1 - job.now.span.end) + 3 }
-    ensures nodes { MakesNodes (2 * (job.now.span.len - 1 - job.now.span.end) + 3) build.old build.new result }
-    ensures walk { WalksOn table.now.layout seat.old.known build.old seat.new.known build.new result }
-    ensures few { Spends (locks_of job.now.span * level_steps) seat.old.known build.old seat.new.known build.new result }
-{
-    let way = job.way;
-    let end = job.span.end;
-    let top = job.span.len - 1;
-    let (risen, stays) = raise_lowest(table, seat, gate, build, way[top].number, new)?;
-    let rise = Rise {
-        key: new.key,
-        end,
-        level: top,
-        risen,
-    };
-    let entry = raise_on(table, seat, gate, build, way, rise)?;
-    Some((entry, stays))
-}
-
-/// The entry for what is left of the locked node `number` without the leaf at place `at`: a new record's, or the only one left. `None` if
-/// no node record was free, as in [`make_node`].
-///
-/// Some key's search leads to the place. The node's words become those of the record, so that no node is read, searched or packed.
-pub(crate) fn raise_without<G: Gate>(
-    table: &HotTable,
-    seat: &mut TableSeat,
-    gate: &mut G,
-    build: &mut Build,
-    number: u32,
-    at: u8,
-) -> Option<Entry>
-    requires building { IsBuilding table.now seat.old build.old.made.items [] }
-    requires range { number < table.now.layout.nodes }
-    requires locked { IsLockedBy seat.old.known number }
-    requires place { (key : KeyValue) × LeadsLocked seat.old.known number key at }
-    requires room { length build.old.made.items < MOST_MADE }
-    ensures goes { WorksOn table.now G.becomes (seat.old, gate.old) (seat.new, gate.new) }
-    ensures made { (key : KeyValue) (words : List ℕ) → LeadsLocked seat.old.known number key at → HasLocked seat.old.known number words → MatchOption result
-        (HasNotMade table.now seat.new build.new.made.items)
-        (λ e. (news : List Made) × IsSide (subtrie_without key (node_words_of words).subtrie) e news × IsBuilding table.now seat.new build.new.made.items news) }
-    ensures low { (words : List ℕ) → HasLocked seat.old.known number words → IfSome result (λ e. height_of e ≤ (node_words_of words).fixed.height) }
-    ensures more { length build.new.made.items ≤ length build.old.made.items + 1 }
-    ensures nodes { MakesNodes 1 build.old build.new result }
-    ensures walk { WalksOn table.now.layout seat.old.known build.old seat.new.known build.new result }
-    ensures few { Spends level_steps seat.old.known build.old seat.new.known build.new result }
-{
-    let mut words = [0; NODE_FIELDS];
-    load_words(table, seat, gate, number, &mut words);
-    if let Some(entry) = drop_entry(&mut words, at) {
-        return Some(entry);
-    }
-    make_words(table, seat, gate, build, &words)
 }

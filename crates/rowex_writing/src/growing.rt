@@ -11,11 +11,12 @@ ghost use Rattle.rowex_writing.specs.Going.{WorksOn};
 ghost use Rattle.rowex_writing.specs.Growths.{HasNumber, MayTake};
 ghost use Rattle.rowex_writing.specs.Locks.{locks_of};
 
-use crate::building::{Build, raise_grown};
+use crate::building::Build;
 use crate::deeds::{Job, Raised};
 use crate::plan::Full;
 use crate::publishing::make_leaf;
 use crate::remaking::NewLeaf;
+use crate::rising::raise_grown;
 use compound_node::Entry;
 use rowex_core::Gate;
 use rowex_table::{HotTable, TableSeat};

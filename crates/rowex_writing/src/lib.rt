@@ -13,7 +13,7 @@
 //!    root. Each is tried once. A node that is locked or obsolete makes the attempt busy, after all locks are given back.
 //! 4. *Check* (`checking`): one entry of each locked node is loaded and compared with what the search found. If all are the same,
 //!    the path still stands, since nobody else changes a locked node.
-//! 5. *Build* (`deeds`, `building`, `remaking`, `claims`): records are claimed and filled with what takes the place of the span.
+//! 5. *Build* (`deeds`, `rising`, `building`, `remaking`, `claims`): records are claimed and filled with what takes the place of the span.
 //!    Nobody else can reach them yet. If no record is free, all is given up and undone.
 //! 6. *Merge* (`merging`, `widening`): a removal whose node has another above it looks at the last fork on the path there. If its
 //!    other side is one node, and what is left fits into one node with it, that node and what names the upper one are locked, too,
@@ -51,6 +51,7 @@ mod merging;
 mod plan;
 mod publishing;
 mod remaking;
+mod rising;
 mod taking;
 mod widening;
 

@@ -11,9 +11,10 @@ ghost use Rattle.rowex_writing.specs.Locks.{locks_of};
 ghost use Rattle.rowex_writing.specs.Taking.{HasLeafBelow};
 ghost use Rattle.rowex_writing.specs.declared.plan.Deed.TheVariants.{Take};
 
-use crate::building::{Build, raise_without};
+use crate::building::Build;
 use crate::deeds::{Job, Raised};
 use crate::plan::Full;
+use crate::rising::raise_without;
 use rowex_core::Gate;
 use rowex_reading::Found;
 use rowex_table::{HotTable, TableSeat};

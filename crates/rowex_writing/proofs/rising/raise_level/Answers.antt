@@ -11,7 +11,7 @@ use Rattle.rowex_writing.proofs.Counting.{one_more, one_node}
 use Rattle.rowex_writing.proofs.Locking.{goes_more}
 use Rattle.rowex_writing.proofs.Lifting.{lift_tree, lift_zero, lift_one, lift_building, lifted, fork_level}
 use Rattle.rowex_writing.proofs.Walked.{walks_later}
-use Rattle.rowex_writing.proofs.building.raise_level.Goals as goal
+use Rattle.rowex_writing.proofs.rising.raise_level.Goals as goal
 
 pub full_with_fork-grown-requires-clause-tree : goal.full_with_fork-grown-requires-clause-tree
 full_with_fork-grown-requires-clause-tree g c = lift_tree _ _ c.read_locked-node.ensures.reads c.requires.below c.read_locked-node.ensures.node

@@ -1,6 +1,6 @@
 -- The level falls.
 use Rattle.std.proofs.Common.{◌+◌, ◌*◌}
-use Rattle.rowex_writing.proofs.building.+raising.Given as goal
+use Rattle.rowex_writing.proofs.rising.+raising.Given as goal
 
 abbrev pub decreases-raise_on : goal.decreases-raise_on
 decreases-raise_on g l = 2 * l.rise.level + 1

@@ -7,7 +7,7 @@ use Rattle.rowex_writing.specs.Remaking.{AwaitsLeaf}
 use Rattle.rowex_writing.proofs.Locking.{goes_more, words_shown}
 use Rattle.rowex_writing.proofs.Lifting.{low_tree, low_leads, low_building, lowest_made, leaf_level}
 use Rattle.rowex_writing.proofs.Walked.{walks_later}
-use Rattle.rowex_writing.proofs.building.raise_lowest.Goals as goal
+use Rattle.rowex_writing.proofs.rising.raise_lowest.Goals as goal
 
 pub make_grown-requires-clause-takes : goal.make_grown-requires-clause-takes
 make_grown-requires-clause-takes g c =

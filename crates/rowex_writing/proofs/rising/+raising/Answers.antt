@@ -11,7 +11,7 @@ use Rattle.rowex_writing.specs.Going.{HasLocked}
 use Rattle.rowex_writing.proofs.Locking.{goes_more}
 use Rattle.rowex_writing.proofs.Lifting.{fits_above, up_there, up_below, up_next, rising_on_at_end, settled_at_end, up_done}
 use Rattle.rowex_writing.proofs.Counting.{entry_few, entry_more, entry_nodes, level_few, level_more, level_nodes, levels_few, levels_more, levels_nodes}
-use Rattle.rowex_writing.proofs.building.+raising.Goals as goal
+use Rattle.rowex_writing.proofs.rising.+raising.Goals as goal
 
 abbrev no_step : PathNode
 no_step = record { number = 0; height = 0; first_position = 0; count = 0; at = 0 }

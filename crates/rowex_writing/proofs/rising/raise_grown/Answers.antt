@@ -8,7 +8,7 @@ use Rattle.rowex_writing.specs.Building.{HasRisenTo, gone_unless_whole, gone_wit
 use Rattle.rowex_writing.proofs.Locking.{goes_more}
 use Rattle.rowex_writing.proofs.Lifting.{low_at, up_first}
 use Rattle.rowex_writing.proofs.Counting.{all_more, all_nodes, level_few, levels_few, lowest_more, lowest_nodes}
-use Rattle.rowex_writing.proofs.building.raise_grown.Goals as goal
+use Rattle.rowex_writing.proofs.rising.raise_grown.Goals as goal
 
 abbrev no_step : PathNode
 no_step = record { number = 0; height = 0; first_position = 0; count = 0; at = 0 }

@@ -19,7 +19,7 @@ use Rattle.rowex_writing.proofs.Lifting.{left_over, left_low}
 use Rattle.rowex_writing.proofs.Making.{building_on}
 use Rattle.rowex_writing.proofs.Remade.{built_low, left_subtrie, left_under}
 use Rattle.rowex_writing.proofs.Walked.{walks_later}
-use Rattle.rowex_writing.proofs.building.raise_without.Goals as goal
+use Rattle.rowex_writing.proofs.rising.raise_without.Goals as goal
 
 -- the place in the node that the words under the lock spell
 leads_there : {words : List ℕ} (key : Key) (at : ℕ) (view : NodeView) → IsNodeOf words view → spot key (node_words_of words).subtrie ≡ at → spot key (piece view) ≡ at

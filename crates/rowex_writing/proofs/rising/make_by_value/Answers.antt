@@ -5,7 +5,7 @@ use Rattle.rowex_writing.specs.Building.{IsMadeFrom}
 use Rattle.rowex_writing.proofs.Counting.{one_few, one_more, one_node}
 use Rattle.rowex_writing.proofs.Lifting.{grown_for}
 use Rattle.rowex_writing.proofs.Remade.{takes_read, takes_same}
-use Rattle.rowex_writing.proofs.building.make_by_value.Goals as goal
+use Rattle.rowex_writing.proofs.rising.make_by_value.Goals as goal
 
 pub read_node-node-requires : goal.read_node-node-requires
 read_node-node-requires g c = let (node, takes) = c.requires.takes in (node, takes.is.has, takes.is.spells)

@@ -6,7 +6,7 @@ use Rattle.record_words.specs.Node.{CanTakeLeaf}
 use Rattle.rowex_writing.specs.Remaking.{subtrie_with_leaf}
 use Rattle.rowex_writing.proofs.Counting.{one_few, one_more, one_node}
 use Rattle.rowex_writing.proofs.Remade.{built_low, leaf_low}
-use Rattle.rowex_writing.proofs.building.make_grown.Goals as goal
+use Rattle.rowex_writing.proofs.rising.make_grown.Goals as goal
 
 pub make_low-requires-clause-takes : goal.make_low-requires-clause-takes
 make_low-requires-clause-takes g c =

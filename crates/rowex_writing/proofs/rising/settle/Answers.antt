@@ -4,7 +4,7 @@ use Rattle.record_words.specs.Node.{HasNodeWords}
 use Rattle.publish_laws.specs.Rises.{made_of_node}
 use Rattle.rowex_writing.specs.Building.{IsBuilding, HasNotMade}
 use Rattle.rowex_writing.proofs.Lifting.{risen_fork_is_pair, settled, settled_whole, split_height, whole_height}
-use Rattle.rowex_writing.proofs.building.settle.Goals as goal
+use Rattle.rowex_writing.proofs.rising.settle.Goals as goal
 
 pub pair-node-requires-clause-below : goal.pair-node-requires-clause-below
 pair-node-requires-clause-below g c =
