@@ -46,7 +46,7 @@ impl Opened {
             return Ok(None);
         };
         let refused = match closed.open(alloc) {
-            Ok(handle) => match boxed(alloc, handle) {
+            Ok(handle) => match box_handle(alloc, handle) {
                 Ok(opened) => return Ok(Some(opened)),
                 Err(handle) => handle.close(),
             },
@@ -130,7 +130,7 @@ impl Opened {
 }
 
 /// `handle` in a box, open, with an empty list, which keeps no other; or the handle again, if memory is refused.
-fn boxed(
+fn box_handle(
     alloc: Global,
     handle: Handle<Arc<Index, Global>>,
 ) -> Result<Box<Opened, Global>, Handle<Arc<Index, Global>>>
