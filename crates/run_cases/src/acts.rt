@@ -91,7 +91,7 @@ fn place(spot: Spot) -> Thing {
     }
 }
 
-fn locked(target: Target) -> Thing {
+fn target_of(target: Target) -> Thing {
     match target {
         Target::Anchor => Thing::Anchor,
         Target::Node(number) => Thing::Node(number),
@@ -107,8 +107,8 @@ fn line_of(act: &Act) -> Line {
         Act::Release { rec } => Line::on("release", record(rec)),
         Act::LoadRef { spot, word } => Line::found("load_ref", place(spot), word),
         Act::LoadFixed { rec, offset, word } => Line::word("load_fixed", rec, offset, word),
-        Act::Lock { target, found } => Line::found("lock", locked(target), found),
-        Act::Unlock { target } => Line::on("unlock", locked(target)),
+        Act::Lock { target, found } => Line::found("lock", target_of(target), found),
+        Act::Unlock { target } => Line::on("unlock", target_of(target)),
         Act::Publish { spot, word } => Line::found("publish", place(spot), word),
         Act::Mark { rec, epoch } => Line {
             detail: Some(("in", epoch)),

@@ -5,7 +5,7 @@ ghost use Rattle.seat_calls.specs.Passes.{Owns};
 
 use crate::cases::{Case, Deed, two_of};
 use crate::guests::{Guest, does, lowest, open};
-use crate::judge::{Stopper, seated, verdict};
+use crate::judge::{Stopper, seat_guest, verdict};
 use finite_map::Call;
 use hot_index::{Index, Pass};
 use key_bits::Key;
@@ -57,7 +57,7 @@ pub fn run_turns<R: Print + AllocGlobal>(rt: &R, case: &Case, text: &str) -> io:
 fn wrong_in(case: &Case, index: &Index, passes: Vec<Pass>, seed: u32, turns: u32) -> io::Result<u64>
     requires { All (Owns index.now) passes.items }
 {
-    let (mut guest, mut gate) = seated(case, index, passes)?;
+    let (mut guest, mut gate) = seat_guest(case, index, passes)?;
     take_turns(case, &mut guest, &mut gate, seed, turns)
 }
 

@@ -99,7 +99,7 @@ impl<'a> Gate for Stopper<'a> {
 
 /// Pass 0 of an index of two passes that was just made for a case, once it has done what is done beforehand; and its gate, which
 /// stops it for pass 1.
-pub fn seated<'a>(
+pub fn seat_guest<'a>(
     case: &Case,
     index: &'a Index,
     mut passes: Vec<Pass>,

@@ -6,7 +6,7 @@ ghost use Rattle.seat_calls.specs.Passes.{Owns};
 use crate::acts::push_act;
 use crate::cases::{Case, Deed, bad_line, deeds_of};
 use crate::guests::{Guest, does, open};
-use crate::judge::{Stopper, seated, verdict};
+use crate::judge::{Stopper, seat_guest, verdict};
 use hot_index::{Event, Index, Pass};
 use std::alloc::AllocError;
 use std::{io, mem};
@@ -32,7 +32,7 @@ fn push_steps(
 ) -> io::Result<()>
     requires { All (Owns index.now) passes.items }
 {
-    let (mut guest, mut gate) = seated(case, index, passes)?;
+    let (mut guest, mut gate) = seat_guest(case, index, passes)?;
     push_lines(case, &mut guest, &mut gate, text, lines)
 }
 
@@ -161,7 +161,7 @@ fn stop_on(
 ) -> io::Result<Stop>
     requires { All (Owns index.now) passes.items }
 {
-    let (mut guest, mut gate) = seated(case, index, passes)?;
+    let (mut guest, mut gate) = seat_guest(case, index, passes)?;
     make_stop(case, &mut guest, &mut gate, deeds, other, step, said)
 }
 
