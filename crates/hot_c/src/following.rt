@@ -5,8 +5,8 @@ ghost use Rattle.hot_c.specs.Following.{AreAtOneIndex, SeesLeader};
 use crate::handle::Handle;
 use crate::status::{CLOSED, DONE};
 
-/// Lets `handle` see all changes that `leader`, another handle at the same index, has seen: `DONE`. `CLOSED` if either is closed.
-/// `c/hot.c` compares the indexes.
+/// Lets `handle` see all changes that `leader`, another handle at the same index, has seen, and returns `DONE`. If either is closed,
+/// returns `CLOSED`, and nothing changes. `c/hot.c` ensures that both are at one index.
 #[unsafe(no_mangle)]
 pub extern "C" fn hot_see(handle: &mut Handle, leader: &mut Handle) -> u32
     requires { AreAtOneIndex handle.old.slot.opened leader.old.slot.opened }

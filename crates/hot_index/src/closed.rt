@@ -33,7 +33,7 @@ impl Model for ClosedPass {
 }
 
 impl ClosedPass {
-    /// As `Pass::count`.
+    /// How many keys the calls of the pass have put in, less how many they have taken out, modulo 2^64, as `Pass::count` returns.
     pub fn count(&self) -> KeyCount
         ensures count { IsCountOf self.now.number self.now.notes result }
         ensures legal { LegalCalls self.now.front self.now.number self.now.notes }
@@ -96,7 +96,7 @@ impl<I: ShowsIndex> ClosedHandle<I> {
         ClosedHandle { index, pass }
     }
 
-    /// As `Pass::count`.
+    /// How many keys the calls of the pass have put in, less how many they have taken out, modulo 2^64, as `Pass::count` returns.
     pub fn count(&self) -> KeyCount
         ensures count { IsCountOf self.now.pass.number self.now.pass.notes result }
         ensures legal { LegalCalls self.now.pass.front self.now.pass.number self.now.pass.notes }

@@ -47,7 +47,8 @@ impl Index {
     /// Compare and exchange: gives `key` the value `value` if it has the value `expected` (`Exchanged`). Else it changes nothing, and
     /// returns `Differs` with the key's value, or `Absent`.
     ///
-    /// It begins again where `try_exchange` would return `Busy`, and is refused for the same reasons as `insert`.
+    /// Where `try_exchange` would return `Busy`, or records may come back, the call begins again, as `insert` does. It is refused for the
+    /// same reasons as `insert`.
     pub fn exchange<R: Wait>(
         &self,
         rt: &R,
@@ -100,7 +101,8 @@ impl Index {
     /// Removes `key` if it has the value `expected` (`Removed` with that value). Else it changes nothing, and returns `Differs` with the
     /// key's value, or `Absent`.
     ///
-    /// It begins again where `try_remove_if` would return `Busy`, and is refused for the same reasons as `remove`.
+    /// Where `try_remove_if` would return `Busy`, or records may come back, the call begins again, as `insert` does. It is refused only
+    /// with `Full::Nodes`: a removal needs no leaf record.
     pub fn remove_if<R: Wait>(
         &self,
         rt: &R,

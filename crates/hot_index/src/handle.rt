@@ -104,7 +104,7 @@ impl<I: ShowsIndex> Handle<I> {
         self.pass.number()
     }
 
-    /// As `Pass::count`.
+    /// How many keys the calls of the pass have put in, less how many they have taken out, modulo 2^64, as `Pass::count` returns.
     pub fn count(&self) -> KeyCount
         ensures count { IsCountOf self.now.pass.number self.now.pass.notes result }
         ensures legal { LegalCalls self.now.pass.front self.now.pass.number self.now.pass.notes }
@@ -230,7 +230,7 @@ impl<I: ShowsIndex> Handle<I> {
             .try_remove_if(&mut self.pass, key, expected)
     }
 
-    /// Tries to make `call`, and returns what `Index::try_call` does.
+    /// Tries to make `call`, and returns the reply, or why the call was refused, as `Index::try_call` does. A get is never refused.
     pub fn try_call(&mut self, call: &Call) -> Result<Reply, TryFault>
         ensures { Stays (IsCallTried call.now result) self.old self.new }
     {
@@ -252,8 +252,8 @@ impl<I: ShowsIndex> Handle<I> {
             .scan(alloc, &mut self.pass, from, upto, limit)
     }
 
-    /// Lists the first `limit` pairs from `from` to `upto` in `pairs`, as `Index::scan_into` does, and returns whether there are more. An
-    /// error if memory is refused.
+    /// Replaces what `pairs` holds with the first `limit` pairs from `from` to `upto`, and returns whether there are more. If memory is
+    /// refused, an error: `pairs` then holds the first of these pairs, fewer than `limit`. As `Index::scan_into`.
     pub fn scan_into(
         &mut self,
         from: &Key,
@@ -268,8 +268,8 @@ impl<I: ShowsIndex> Handle<I> {
             .scan_into(&mut self.pass, from, upto, limit, pairs)
     }
 
-    /// Lists the first `limit` pairs whose keys begin with `prefix` in `pairs`, as `Index::prefix_into` does, and returns whether there
-    /// are more. An error if memory is refused.
+    /// Replaces what `pairs` holds with the first `limit` pairs whose keys begin with `prefix`, and returns whether there are more. If
+    /// memory is refused, an error: `pairs` then holds the first of these pairs, fewer than `limit`. As `Index::prefix_into`.
     pub fn prefix_into(
         &mut self,
         prefix: &Key,
@@ -283,8 +283,8 @@ impl<I: ShowsIndex> Handle<I> {
             .prefix_into(&mut self.pass, prefix, limit, pairs)
     }
 
-    /// Lists the last `limit` pairs from `from` to `upto` in `pairs`, downwards, as `Index::scan_reverse_into` does, and returns whether
-    /// there are more. An error if memory is refused.
+    /// Replaces what `pairs` holds with the last `limit` pairs from `from` to `upto`, downwards, and returns whether there are more. If
+    /// memory is refused, an error: `pairs` then holds the first of these pairs, fewer than `limit`. As `Index::scan_reverse_into`.
     pub fn scan_reverse_into(
         &mut self,
         from: &Key,

@@ -195,8 +195,8 @@ impl Index {
 
     /// Removes `key`: `Removed` with the value that it had, or `Absent`.
     ///
-    /// It begins again where `try_remove` would return `Busy`, and is refused for the same reasons as `insert`. It needs no leaf record,
-    /// so it never returns `Full::Leaves`.
+    /// Where `try_remove` would return `Busy`, or records may come back, the call begins again, as `insert` does. It is refused only with
+    /// `Full::Nodes`: a removal needs no leaf record.
     pub fn remove<R: Wait>(&self, rt: &R, pass: &mut Pass, key: &Key) -> Result<Reply, Full>
         requires { Owns self.now pass.old }
         ensures { IsAwaited (Remove key.now) result self.now pass.old pass.new }

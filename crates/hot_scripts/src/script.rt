@@ -58,7 +58,7 @@ impl Script {
         self.longest
     }
 
-    /// Its commands, from the first one on.
+    /// All commands of the script, in the order of its lines. Each is read from the text again when `next_command` returns it.
     pub fn commands(&self) -> Commands<'_>
         ensures { commands_left result ≡ script_commands self.now }
     {

@@ -215,10 +215,11 @@ fn forked(node: &Node, at: u8, position: u16, zero: Entry, one: Entry) -> Node
     grown
 }
 
-/// Puts a fork of `zero` and `one` at `position` in the place of entry `at` of a node with room. The height is built anew.
+/// Puts a fork of `zero` and `one` at `position` in the place of entry `at` of `node`, which has fewer than 32 entries. `position` is above
+/// those of all forks on the path to `at`. The height is built anew.
 ///
 /// A leaf stands there first, so that the old entry's height does not count. The higher entry is added before the lower one takes the
-/// leaf's place.
+/// leaf's place, so the height that is built is above both.
 pub fn put_fork(node: &mut Node, at: u8, position: u16, zero: Entry, one: Entry)
     requires room { length node.old.entries < 32 }
     requires place { at < length node.old.entries }

@@ -130,7 +130,8 @@ impl Columns {
         dense_lanes(lanes_of(&self.positions), self.count, key)
     }
 
-    /// Puts `position`, which is no column, in as one, in order, and returns its index.
+    /// Makes `position` a column, and returns its index among the columns. `position` is no column yet and below 65,535, and there are
+    /// fewer than 31 columns.
     pub fn add_position(&mut self, position: u16) -> u8
         requires room { length self.old < 31 }
         requires below { position < 65535 }

@@ -33,7 +33,7 @@ fn key_in(call: &Call) -> &Key
     }
 }
 
-/// What a map answers a call that holds this value for its key, or none.
+/// The reply of a map to `call`, if its key has the value `held` there; `None` stands for an absent key.
 fn reply_where(call: &Call, held: Option<u64>) -> Reply
     ensures { (m : Map) → result ≡ (step_where held m call.now).1 }
 {

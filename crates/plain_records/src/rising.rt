@@ -146,8 +146,9 @@ fn grow_at(
     }
 }
 
-/// What takes the place of node `number` when `risen` takes that of `child`, its entry at `at`. If `risen` is the child's own entry, the
-/// node stays as it is. A fork goes into the node if the node is one higher than the child, and into a new child otherwise.
+/// Puts `risen` in the place of `child`, entry `at` of node `number`, and returns the node's entry; a `risen` equal to `child` changes
+/// nothing. A fork goes into the node if `height` is one above the child's, else into a new child. A full node that takes in the fork is
+/// cut, and the fork of its sides is returned.
 pub fn lift(
     nodes: &mut Vec<Node>,
     number: u32,
@@ -227,7 +228,8 @@ fn fork_at(
     store_grown(nodes, number, height, grown)
 }
 
-/// The root's entry when `risen` takes the place of the one before: that entry, or for a fork the entry of a new node.
+/// Returns the root's entry when `risen` takes the old root's place. One entry is returned as it is. A fork becomes a new node, added to
+/// `nodes`.
 pub fn make_root(nodes: &mut Vec<Node>, risen: Risen) -> Entry
     requires place { (ns : List NodeView) × (leaves : List LeafRecord) × (x : Item) × (p : ℕ) × (t : Tree) × (h : ℕ) ×
         IsRaised ns nodes.old.items leaves x p t h (subtrie_of risen) }

@@ -55,39 +55,39 @@ pub fn insertion()
     ensures { Insertion }
 {}
 
-/// A normal insert: the node is copied with the new leaf, and goes.
+/// A pass may publish a normal insert: a copy of the node with the new leaf takes the node's place, and the node is unlinked.
 pub fn normal_insert()
     ensures { NormalInsert }
 {}
 
-/// An overflow: the node is cut, and an intermediate node, or a new root, of its halves takes its place.
+/// A pass may publish an overflow: the node is cut, and an intermediate node, or a new root, of its halves takes its place.
 pub fn overflow()
     ensures { Overflow }
 {}
 
-/// An overflow in which the full node stays whole beside the new leaf.
+/// A pass may publish an overflow in which the full node stays whole beside the new leaf.
 pub fn stays_whole()
     ensures { StaysWhole }
 {}
 
-/// A pull up, over any number of levels, that ends in a copy of the node above.
+/// A pass may publish a pull up, over any number of levels, that ends in a copy of the node above.
 pub fn pull_up()
     ensures { PullUp }
 {}
 
-/// A pull up at whose end the node above is full, and is cut in its turn.
+/// A pass may publish a pull up at whose end the node above is full, and is cut in its turn.
 pub fn pull_up_overflow()
     ensures { PullUpOverflow }
 {}
 
-/// A pair: a node of the old leaf and the new one takes the old one's place, in a node or at the root.
+/// A pass may publish a pair: a node of the old leaf and the new one takes the old one's place, in a node or at the root.
 pub fn pair()
     ensures { MayPair }
 {}
 
 // Upsert and removal
 
-/// An upsert of a held key: the new leaf takes the old one's place, and the value that was held is known.
+/// A pass may publish an upsert of a held key: the new leaf takes the old one's place, and the value that was held is known.
 pub fn upsert()
     ensures { MayUpsert }
 {}
@@ -105,7 +105,7 @@ pub fn merge()
     ensures { MayMerge }
 {}
 
-/// The removal of the last key leaves the root empty.
+/// A pass may publish the removal of the last key, which leaves the root empty.
 pub fn remove_last()
     ensures { MayRemoveLast }
 {}
@@ -122,17 +122,17 @@ pub fn end_begins()
     ensures { EndBegins }
 {}
 
-/// Then each record that was unlinked may be marked, and is the pass's no more.
+/// At the end of a publish each record that was unlinked may be marked, and is the pass's no more.
 pub fn end_marks()
     ensures { EndMarks }
 {}
 
-/// Each node that stays may be unlocked.
+/// At the end of a publish each node that stays may be unlocked.
 pub fn end_unlocks()
     ensures { EndUnlocks }
 {}
 
-/// The anchor may be unlocked.
+/// At the end of a publish the anchor may be unlocked.
 pub fn end_unlocks_anchor()
     ensures { EndUnlocksAnchor }
 {}
@@ -142,7 +142,7 @@ pub fn end_in_any_order()
     ensures { EndInAnyOrder }
 {}
 
-/// With none left the pass has nothing of its own and no lock.
+/// With no mark and no unlock left the pass has nothing of its own and no lock.
 pub fn end_rests()
     ensures { EndRests }
 {}

@@ -37,7 +37,8 @@ pub fn search_in(words: &[u64; ROW_WORDS], dense: u32) -> u8
     search_rows(rows_in(words), dense)
 }
 
-/// The sparse partial keys as lanes, and 4,294,967,295 at the unused places, of each node whose head ends with `words`.
+/// The sparse partial keys of a node whose head ends with `words`, as lanes: lane `i` is that of entry `i`. Lanes past the last entry are
+/// 4,294,967,295.
 #[inline(always)]
 pub(crate) fn rows_in(words: &[u64]) -> u32x32
     requires { length words.now ≡ ROW_WORDS }

@@ -38,8 +38,8 @@ pub fn load_root<G: Gate>(table: &HotTable, seat: &mut TableSeat, gate: &mut G) 
     read_entry(word)
 }
 
-/// Loads all words of the head of node `number` into `words`. Which of them have something is not asked first, so nothing waits for the
-/// numbers.
+/// Loads all words of the head of node `number` into `words`, those of unused places too. So no load waits for the numbers of entries and
+/// columns.
 #[inline(always)]
 pub(crate) fn load_head_words<G: Gate>(
     table: &HotTable,

@@ -111,7 +111,8 @@ pub(crate) fn look_ahead<G: Gate>(
     Ahead { count, node: None }
 }
 
-/// Loads a word of the record of leaf `number`, so that its line is at hand when the leaf is read. `origins` are those of the table.
+/// Loads a word of the record of leaf `number` and ignores it, so that its cache line is there when the leaf is read. `origins` are those
+/// of `table`.
 #[inline(always)]
 fn touch<G: Gate>(
     table: &HotTable,

@@ -291,7 +291,8 @@ fn take_leaves<G: Gate>(
     Ok(Verdict::Further)
 }
 
-/// The step of a walk at node `number` that begins at the gap before its first entry in this direction: loads the node's head.
+/// Loads the head of node `number`, and returns the walk's step there. The step is at the gap before the first entry in the direction
+/// `direction`.
 fn enter<G: Gate>(
     table: &HotTable,
     seat: &mut TableSeat,
@@ -309,8 +310,8 @@ fn enter<G: Gate>(
     step
 }
 
-/// Loads leaf `number`, whose key does not come before the range, and takes its pair, as [`take_pair`] does. The key's bytes go to
-/// `places`. Inline, as the two that it calls are.
+/// Loads leaf `number`, whose key does not come before `scan.range`, and adds its pair to `pairs`, as [`take_pair`] does. Returns what
+/// becomes of the scan; an error if memory is refused. `places` is room for the key's bytes.
 #[inline(always)]
 fn read_leaf<G: Gate>(
     scan: &Scan,

@@ -73,7 +73,7 @@ fn aim_where(expected: u64, held: Option<u64>, aim: Aim) -> Option<Aim>
     }
 }
 
-/// The reply to `call` when its key has the value `held` before it, or is absent (`None`).
+/// The reply to `call` if its key has the value `held` when the call is made; `None` stands for an absent key.
 pub(crate) fn reply_to(call: &Call, held: Option<u64>) -> Reply
     ensures { result ≡ the_reply call.now held }
 {

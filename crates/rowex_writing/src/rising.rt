@@ -31,10 +31,8 @@ use record_words::{NODE_FIELDS, can_take_leaf, drop_entry, read_node};
 use rowex_core::Gate;
 use rowex_table::{HotTable, TableSeat};
 
-/// Makes what takes the place of the locked node `number` when `fork` takes the place of the entry to which its key leads. It is one
-/// entry, or a fork of two if the node was full. `None` if no node record was free.
-///
-/// A node with room gets the fork where it stands, so that no whole node is moved.
+/// Makes what replaces the locked node `number` when `fork` goes in: one entry, or a fork of two if the node was full. `None` if no node
+/// record was free: one made by then stays in `build.made`. The node is changed in a local copy, and the locked record stays.
 fn raise_level<G: Gate>(
     table: &HotTable,
     seat: &mut TableSeat,

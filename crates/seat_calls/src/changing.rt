@@ -80,7 +80,7 @@ fn try_twice<G: Gate>(
     first
 }
 
-/// The kind of records of which none was free, if `answer` is a refusal for that; else `None`.
+/// The kind of record of which none was free, if `answer` is a refusal for that. `None` for a reply, and for `Busy`.
 fn find_lack(answer: Result<Reply, TryFault>) -> Option<Full>
     ensures some { IfSome result (λ full. answer ≡ Err (fault_of full)) }
     ensures none { result ≡ None → is_full answer ≡ false }

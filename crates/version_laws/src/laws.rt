@@ -89,42 +89,42 @@ pub fn scan_is_lawful()
     ensures { ScanIsLawful }
 {}
 
-/// The descent of a writer below its lock begins at a node of which it has read the forks,
+/// The descent of a writer below its lock begins at a node of which it has read the forks.
 pub fn way_begins()
     ensures { WayBegins }
 {}
 
-/// goes on by each entry that it reads, whatever is published in between,
+/// The descent goes on by each entry that it reads, whatever is published in between.
 pub fn way_goes_on()
     ensures { WayGoesOn }
 {}
 
-/// and ends at a leaf: before the first node's first fork its key agrees with a key that the node had.
+/// The descent ends at a leaf. Before the first node's first fork, the leaf's key agrees with a key that the node had.
 pub fn way_ends()
     ensures { WayEnds }
 {}
 
-/// Or it begins and ends at a leaf.
+/// Or the descent begins and ends at a leaf.
 pub fn way_of_leaf()
     ensures { WayOfLeaf }
 {}
 
-/// From the entry of a locked node on, it is the way below that node.
+/// From the entry of a locked node on, the descent is the way below that node.
 pub fn way_is_below()
     ensures { WayIsBelow }
 {}
 
-/// If nothing changes after a version, a search is at the root that was read since,
+/// If no change was made since a version, each search in the newest tree begins at the root's entry that was read since.
 pub fn still_rooted()
     ensures { StillRooted }
 {}
 
-/// and at each entry that is read from there on,
+/// If no change was made since a version, a search in the newest tree goes on by each entry that was read since, from there on.
 pub fn still_placed()
     ensures { StillPlaced }
 {}
 
-/// and this stays true.
+/// What is so known of the entry to which a search comes stays true as more versions are known.
 pub fn still_grows()
     ensures { StillGrows }
 {}
@@ -134,17 +134,17 @@ pub fn one_body()
     ensures { OneBody }
 {}
 
-/// Two reads of the root find one entry, if nothing changes,
+/// Two reads of the root find one entry, if no change was made in between.
 pub fn rooted_same()
     ensures { RootedSame }
 {}
 
-/// so do two reads of one place of a node,
+/// Two reads of one place of a node find one entry, if no change was made in between.
 pub fn placed_same()
     ensures { PlacedSame }
 {}
 
-/// and two searches for a key end at one leaf.
+/// Two searches for a key end at one leaf, if no change was made in between.
 pub fn found_same()
     ensures { FoundSame }
 {}
