@@ -1,5 +1,5 @@
 -- Executions by contracts alone, and the order of calls by traces.
-use Rattle.std.proofs.Common.{◌≡◌, ◌⊎◌, ◌<◌, ◌≤◌, inl, inr, ⊎_elim, ℕ, zero, suc, List, [], ◌∷◌, ◌++◌, Bool, true, false, if◌then◌else◌, nat_eq, Option, None, refl, sym, ap, subst, ◌∙◌, arith}
+use Rattle.std.proofs.Common.{◌≡◌, ◌⊎◌, ◌<◌, ◌≤◌, inl, inr, ⊎_elim, ℕ, zero, suc, List, [], ◌∷◌, ◌++◌, Bool, true, false, if◌then◌else◌, nat_eq, Option, None, refl, sym, ap, subst, ◌∙◌, arith, append_assoc}
 use Rattle.std.proofs.lemmas.Bool.{cases_lt, eq-eqb}
 use Rattle.std.proofs.lemmas.List.Elements.{All-head, All-tail}
 use Rattle.std.specs.Prelude.{All}
@@ -38,7 +38,7 @@ use Rattle.seat_calls.proofs.Noting.{longer}
 use Rattle.real_time.specs.Moments.{Happening, IsCallTurn, IsMomentStep, IsNewIndex, IsShowing, IsSoundMoment, Moment, Pending, invokes, refuses, responds, shows, steps}
 use Rattle.real_time.proofs.Growing.{runs_stay_sound}
 use Rattle.index_laws.specs.Executions.{IsExecution, LeadsOn}
-use Rattle.index_laws.specs.Traced.{CallsMakeNoAsides, ContractsLeadOn, EndedBeforeLoaded, EndedOrLoadedBefore, Instant, IsSeatShowing, IsSeatStep, IsSeatTurn, IsShownItself, IsShownSteps, IsTracedExecution, LoadsSeeAll, MetAreOfOneRun, TracedAreExecutions, core_led_to, moment_of}
+use Rattle.index_laws.specs.Traced.{CallsMakeNoAsides, ContractsLeadOn, EndedBeforeLoaded, EndedOrLoadedBefore, EndedOrShownBefore, Instant, IsSeatShowing, IsSeatStep, IsSeatTurn, IsShownItself, IsShownSteps, IsTracedExecution, LoadsRootBehind, LoadsSeeAll, MetAreOfOneRun, TracedAreExecutions, core_led_to, moment_of}
 use Rattle.index_laws.proofs.Timed.{executions_are_runs, opening_is_new}
 
 -- The core to which steps lead
@@ -257,6 +257,13 @@ ended_or_loaded_before index s t call reply first acts last said ends u v later 
     ⊎_elim (λ (begins : RunBeginsWith before t.trace). inl (ended_before_loaded index s t call reply first acts last said ends u v later answer second loads before load begins))
     (λ (has : RunBeginsWith t.trace (before ++ l ∷ [])). inr (load.0, has))
     (before_or_with t.trace before one.0 with_load.0 l (sym one.1 ∙ with_load.1))
+
+pub ended_or_shown_before : EndedOrShownBefore
+ended_or_shown_before index s t call reply first acts last said ends u v later answer second loads run one other =
+    let l : Event = root_load u.known.pass loads.root in
+    let behind : LoadsRootBehind u.known.pass v.trace loads.run = (loads.root, (loads.rest, loads.until ∙ sym (append_assoc loads.run (l ∷ []) loads.rest))) in
+    ⊎_elim (λ (begins : RunBeginsWith loads.run t.trace). inl (ended_before_loaded index s t call reply first acts last said ends u v later answer second loads loads.run behind begins)) inr
+    (of_one_run run t.trace loads.run one other)
 
 pub met_are_of_one_run : MetAreOfOneRun
 met_are_of_one_run layout s t u v first second same one other begins begun =

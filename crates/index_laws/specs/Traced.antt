@@ -161,6 +161,16 @@ EndedOrLoadedBefore =
     LoadsRootBehind u.known.pass v.trace before →
     (place_after (record { place = first.place; call = call; reply = reply }) ≤ second.place) ⊎ LoadsRootBehind u.known.pass t.trace before
 
+-- And where one run has the first one's trace and the steps before the later one's load, be that load in it or not, either the two calls stand
+-- so, or the first pass knew at the end of its call of all steps before that load.
+abbrev pub EndedOrShownBefore : Type 0
+EndedOrShownBefore =
+    (index : TableView) (s t : SeatView) (call : Call) (reply : Reply) (first : IsNoted index.layout (pass_of s) (pass_of t) call reply) →
+    (acts : List Act) (last : Act) (said : Known → List Note) → Ends index untold acts last said (s, tt) (t, tt) →
+    (u v : SeatView) (later : Call) (answer : Reply) (second : IsNoted index.layout (pass_of u) (pass_of v) later answer) →
+    (loads : SeesAllOfRun index.layout u v) (run : List Event) → RunBeginsWith run t.trace → RunBeginsWith run loads.run →
+    (place_after (record { place = first.place; call = call; reply = reply }) ≤ second.place) ⊎ RunBeginsWith t.trace loads.run
+
 -- By contracts two passes are of one run where they have met, as the clauses `shown` and `traces` of a meeting say. Of the steps of which the
 -- one knew at any time before, and the other, the ones begin with the others.
 abbrev pub MetAreOfOneRun : Type 0

@@ -2,7 +2,7 @@
 ghost use Rattle.index_laws.specs.Headline.{Headline};
 ghost use Rattle.index_laws.specs.Statements.{AGetReturns, Responses};
 ghost use Rattle.index_laws.specs.Steps.{StepsAreMoments, StepsFollow};
-ghost use Rattle.index_laws.specs.Traced.{AGetIsTraced, CallsMakeNoAsides, EndedBeforeLoaded, EndedOrLoadedBefore, LoadsAreMoments, LoadsSeeAll, MetAreOfOneRun, TracedAreExecutions};
+ghost use Rattle.index_laws.specs.Traced.{AGetIsTraced, CallsMakeNoAsides, EndedBeforeLoaded, EndedOrLoadedBefore, EndedOrShownBefore, LoadsAreMoments, LoadsSeeAll, MetAreOfOneRun, TracedAreExecutions};
 
 /// A run may begin where an index has just been made, and a call that has ended does so in it as its contract says.
 pub fn responses()
@@ -58,6 +58,12 @@ pub fn ended_before_loaded()
 /// Of two such calls in one run of the table the one stands first, or the other's load of the root came no later than the one's last step.
 pub fn ended_or_loaded_before()
     ensures { EndedOrLoadedBefore }
+{}
+
+/// Of two such calls the one stands first, or its pass knew at its end of all steps before the other's load of the root. It is enough that
+/// one run has the one's trace and these steps.
+pub fn ended_or_shown_before()
+    ensures { EndedOrShownBefore }
 {}
 
 /// Two passes that have met are of one run of the table.
