@@ -6,12 +6,11 @@ use crate::handle::Handle;
 use crate::pairs::{Order, Pair, Query, tell_first};
 use crate::scans::fill;
 use key_bits::MAX_BYTES;
-use std::alloc::Global;
 
 /// Writes the first pair whose key is `from` or above to `pair`: `FOUND`, or `ABSENT` if there is none. `CLOSED`, `KEY_TOO_LONG` or
 /// `NO_MEMORY` says why there was no scan. Only `FOUND` writes.
 #[unsafe(no_mangle)]
-pub extern "C" fn hot_first(alloc: Global, handle: &mut Handle, from: &[u8], pair: &mut Pair) -> u32
+pub extern "C" fn hot_first(handle: &mut Handle, from: &[u8], pair: &mut Pair) -> u32
     ensures call { FindsFirst from.now handle.old.slot.opened handle.new.slot.opened pair.old pair.new result }
 {
     let query = Query {
@@ -19,13 +18,13 @@ pub extern "C" fn hot_first(alloc: Global, handle: &mut Handle, from: &[u8], pai
         from,
         upto: &[u8::MAX; MAX_BYTES],
     };
-    find(alloc, handle, &query, pair)
+    find(handle, &query, pair)
 }
 
 /// Writes the last pair whose key is `upto` or below to `pair`: `FOUND`, or `ABSENT` if there is none. `CLOSED`, `KEY_TOO_LONG` or
 /// `NO_MEMORY` says why there was no scan. Only `FOUND` writes.
 #[unsafe(no_mangle)]
-pub extern "C" fn hot_last(alloc: Global, handle: &mut Handle, upto: &[u8], pair: &mut Pair) -> u32
+pub extern "C" fn hot_last(handle: &mut Handle, upto: &[u8], pair: &mut Pair) -> u32
     ensures call { FindsLast upto.now handle.old.slot.opened handle.new.slot.opened pair.old pair.new result }
 {
     let query = Query {
@@ -33,19 +32,19 @@ pub extern "C" fn hot_last(alloc: Global, handle: &mut Handle, upto: &[u8], pair
         from: &[],
         upto,
     };
-    find(alloc, handle, &query, pair)
+    find(handle, &query, pair)
 }
 
 /// Writes the pair that a scan for one pair of `query` finds to `pair`: `FOUND`, or `ABSENT` if it finds none. Another status says why
 /// there was no scan.
-fn find(alloc: Global, handle: &mut Handle, query: &Query, pair: &mut Pair) -> u32
+fn find(handle: &mut Handle, query: &Query, pair: &mut Pair) -> u32
     ensures { FindsIn query.now.order query.now.from.now query.now.upto.now handle.old.slot.opened handle.new.slot.opened pair.old pair.new result }
 {
-    match fill(alloc, handle, query, 1) {
+    match fill(handle, query, 1) {
         Ok(_) => {
             let opened = handle.slot.lend();
             let status = tell_first(&opened.list, pair);
-            opened.empty_list(alloc);
+            opened.empty_list();
             status
         }
         Err(status) => status,

@@ -122,10 +122,10 @@ impl Opened {
     }
 
     /// Empties the list, and gives its memory back if it has grown large.
-    pub fn empty_list(&mut self, alloc: Global)
+    pub fn empty_list(&mut self)
         ensures { self.new.handle ≡ self.old.handle }
     {
-        self.list.let_go(alloc, MOST_KEPT);
+        self.list.let_go(MOST_KEPT);
     }
 }
 

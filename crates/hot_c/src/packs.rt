@@ -10,7 +10,6 @@ use crate::pairs::{Order, Query};
 use crate::scans::fill;
 use crate::status::DONE;
 use packed_pairs::{Head, Pairs};
-use std::alloc::Global;
 
 /// Lists the first pairs whose keys are from `from` to `upto`, both included, in key order, packed. The bytes of their keys go to
 /// `bytes`, one after another, and a head for each to `heads`. It lists as many as `heads` has places, and only those whose keys together
@@ -18,7 +17,6 @@ use std::alloc::Global;
 /// as it was.
 #[unsafe(no_mangle)]
 pub extern "C" fn hot_scan_packed(
-    alloc: Global,
     handle: &mut Handle,
     from: &[u8],
     upto: &[u8],
@@ -31,14 +29,13 @@ pub extern "C" fn hot_scan_packed(
 {
     let order = Order::Upwards;
     let query = Query { order, from, upto };
-    list_packed(alloc, handle, &query, bytes, heads, count, more)
+    list_packed(handle, &query, bytes, heads, count, more)
 }
 
 /// Lists the last pairs whose keys are from `from` to `upto`, both included, in falling key order, packed as by `hot_scan_packed`.
 /// `count` becomes their number, and `more` 1 if the range has more below them, else 0. A status other than `DONE` leaves all as it was.
 #[unsafe(no_mangle)]
 pub extern "C" fn hot_scan_packed_reverse(
-    alloc: Global,
     handle: &mut Handle,
     from: &[u8],
     upto: &[u8],
@@ -51,12 +48,11 @@ pub extern "C" fn hot_scan_packed_reverse(
 {
     let order = Order::Downwards;
     let query = Query { order, from, upto };
-    list_packed(alloc, handle, &query, bytes, heads, count, more)
+    list_packed(handle, &query, bytes, heads, count, more)
 }
 
 /// Lists the pairs of a range in the order `order`, packed as by `hot_scan_packed`. A status other than `DONE` leaves all as it was.
 fn list_packed(
-    alloc: Global,
     handle: &mut Handle,
     query: &Query,
     bytes: &mut [u8],
@@ -67,14 +63,14 @@ fn list_packed(
     ensures { ListsPackedBy (IsFilledIn query.now.order) query.now.from.now query.now.upto.now handle.old.slot.opened handle.new.slot.opened
         (packing bytes.old heads.old count.old more.old) (packing bytes.new heads.new count.new more.new) result }
 {
-    match fill(alloc, handle, query, heads.len()) {
+    match fill(handle, query, heads.len()) {
         Ok((found, is_more)) => {
             let opened = handle.slot.lend();
             opened.list.fit(bytes.len());
             *count = opened.list.len();
             *more = u32::from(is_more || *count < found);
             write_packed(&opened.list, bytes, heads);
-            opened.empty_list(alloc);
+            opened.empty_list();
             DONE
         }
         Err(status) => status,

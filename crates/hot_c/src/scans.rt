@@ -9,13 +9,11 @@ use crate::handle::Handle;
 use crate::pairs::{Order, Pair, Query, write_in};
 use crate::status::{CLOSED, DONE, KEY_TOO_LONG, NO_MEMORY};
 use key_bits::Key;
-use std::alloc::Global;
 
 /// Lists the first pairs whose keys are from `from` to `upto`, both included, in key order: as many as `room` has places. `count` becomes
 /// their number, and `more` 1 if the range has more, else 0. A status other than `DONE` leaves all as it was.
 #[unsafe(no_mangle)]
 pub extern "C" fn hot_scan(
-    alloc: Global,
     handle: &mut Handle,
     from: &[u8],
     upto: &[u8],
@@ -27,14 +25,13 @@ pub extern "C" fn hot_scan(
 {
     let order = Order::Upwards;
     let query = Query { order, from, upto };
-    list(alloc, handle, &query, room, count, more)
+    list(handle, &query, room, count, more)
 }
 
 /// Lists the last pairs whose keys are from `from` to `upto`, both included, in falling key order: as many as `room` has places. `count`
 /// becomes their number, and `more` 1 if the range has more below, else 0. A status other than `DONE` leaves all as it was.
 #[unsafe(no_mangle)]
 pub extern "C" fn hot_scan_reverse(
-    alloc: Global,
     handle: &mut Handle,
     from: &[u8],
     upto: &[u8],
@@ -46,14 +43,13 @@ pub extern "C" fn hot_scan_reverse(
 {
     let order = Order::Downwards;
     let query = Query { order, from, upto };
-    list(alloc, handle, &query, room, count, more)
+    list(handle, &query, room, count, more)
 }
 
 /// Lists the last pairs whose keys are from `from` to `upto`, both included, in rising key order: as many as `room` has places. `count`
 /// becomes their number, and `more` 1 if the range has more below, else 0. A status other than `DONE` leaves all as it was.
 #[unsafe(no_mangle)]
 pub extern "C" fn hot_scan_last(
-    alloc: Global,
     handle: &mut Handle,
     from: &[u8],
     upto: &[u8],
@@ -65,13 +61,12 @@ pub extern "C" fn hot_scan_last(
 {
     let order = Order::LastUpwards;
     let query = Query { order, from, upto };
-    list(alloc, handle, &query, room, count, more)
+    list(handle, &query, room, count, more)
 }
 
 /// Lists pairs of `query`, in its order: as many as `room` has places. `count` becomes their number, and `more` 1 if the range has
 /// more, else 0. A status other than `DONE` leaves all as it was.
 fn list(
-    alloc: Global,
     handle: &mut Handle,
     query: &Query,
     room: &mut [Pair],
@@ -81,13 +76,13 @@ fn list(
     ensures { ListsBy (IsListedIn query.now.order) query.now.from.now query.now.upto.now handle.old.slot.opened handle.new.slot.opened
         (listing room.old count.old more.old) (listing room.new count.new more.new) result }
 {
-    match fill(alloc, handle, query, room.len()) {
+    match fill(handle, query, room.len()) {
         Ok((found, is_more)) => {
             let opened = handle.slot.lend();
             *count = found;
             *more = u32::from(is_more);
             write_in(query.order, &opened.list, room);
-            opened.empty_list(alloc);
+            opened.empty_list();
             DONE
         }
         Err(status) => status,
@@ -96,12 +91,7 @@ fn list(
 
 /// Scans a range into the handle's list. Returns how many pairs it found and whether there are more; or the status that says why it found
 /// none.
-pub fn fill(
-    alloc: Global,
-    handle: &mut Handle,
-    query: &Query,
-    limit: usize,
-) -> Result<(usize, bool), u32>
+pub fn fill(handle: &mut Handle, query: &Query, limit: usize) -> Result<(usize, bool), u32>
     ensures ok { IfOk result (λ found. HasFilled (IsFilledIn query.now.order) (range_from query.now.from.now query.now.upto.now limit)
         handle.old.slot.opened handle.new.slot.opened found.0 found.1) }
     ensures short { IfOk result (λ found. found.0 < 2 ^ 63) }
@@ -119,7 +109,7 @@ pub fn fill(
     match opened.scan(query.order, &first, &last, limit) {
         Ok(is_more) => Ok((opened.list.len(), is_more)),
         Err(_) => {
-            opened.empty_list(alloc);
+            opened.empty_list();
             Err(NO_MEMORY)
         }
     }

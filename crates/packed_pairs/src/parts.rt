@@ -4,7 +4,6 @@ ghost use Rattle.std.specs.Prelude.{◌≡◌, [], length, map, pred, take};
 ghost use Rattle.packed_pairs.specs.Parts.{fitting, packed_head, keys_in};
 
 use crate::pairs::{Head, Pairs};
-use std::alloc::Global;
 
 impl Pairs {
     /// The heads of the list's pairs, and the bytes of their keys, one after another.
@@ -41,11 +40,11 @@ impl Pairs {
     }
 
     /// Takes out all pairs. The list keeps its memory only if neither the heads nor the bytes of keys have more than `most` bytes of it.
-    pub fn let_go(&mut self, alloc: Global, most: usize)
+    pub fn let_go(&mut self, most: usize)
         ensures { self.new ≡ [] }
     {
         if self.bytes.capacity() > most || self.heads.capacity() > most / 16 {
-            *self = Pairs::new(alloc);
+            *self = Pairs::new(*self.bytes.allocator());
         } else {
             self.clear();
         }
