@@ -18,7 +18,7 @@ fn first_index(separator: u8, text: &[u8]) -> Option<usize>
 }
 
 /// The part of `text` before the first `separator`, and what follows that; if there is none, all of `text`, and `None`.
-pub fn cut(separator: u8, text: &[u8]) -> (&[u8], Option<&[u8]>)
+pub fn split_first(separator: u8, text: &[u8]) -> (&[u8], Option<&[u8]>)
     ensures parts { slice_split (λ b. b == separator) text.now ≡ result.0.now ∷ parts_left separator result.1 }
     ensures left { text_len result.1 ≤ length text.now }
 {
@@ -38,22 +38,22 @@ enum Words<'a> {
 }
 
 /// The words of `line`, parted by single spaces: `Other` for one word, or more than four.
-fn words_in(line: &[u8]) -> Words<'_>
+fn split_words(line: &[u8]) -> Words<'_>
     ensures { AreWords result (line_words line.now) }
 {
-    let (name, rest) = cut(b' ', line);
+    let (name, rest) = split_first(b' ', line);
     let Some(rest) = rest else {
         return Words::Other;
     };
-    let (first, rest) = cut(b' ', rest);
+    let (first, rest) = split_first(b' ', rest);
     let Some(rest) = rest else {
         return Words::Two(name, first);
     };
-    let (second, rest) = cut(b' ', rest);
+    let (second, rest) = split_first(b' ', rest);
     let Some(rest) = rest else {
         return Words::Three(name, first, second);
     };
-    let (third, rest) = cut(b' ', rest);
+    let (third, rest) = split_first(b' ', rest);
     match rest {
         None => Words::Four(name, first, second, third),
         Some(_) => Words::Other,
@@ -61,14 +61,14 @@ fn words_in(line: &[u8]) -> Words<'_>
 }
 
 /// The command `name` for a key alone, or what is wrong with its words.
-fn with_key(version: Version, name: &[u8], key: &[u8]) -> Result<Command, Reason>
+fn parse_with_key(version: Version, name: &[u8], key: &[u8]) -> Result<Command, Reason>
     ensures { result ≡ command_of version (name.now ∷ key.now ∷ []) }
 {
     if name == b"get".as_slice() {
-        let key = word::key(version, key)?;
+        let key = word::parse_key(version, key)?;
         Ok(Command::Call(Call::Get(key)))
     } else if name == b"remove".as_slice() {
-        let key = word::key(version, key)?;
+        let key = word::parse_key(version, key)?;
         Ok(Command::Call(Call::Remove(key)))
     } else {
         Err(Reason::Command)
@@ -76,16 +76,21 @@ fn with_key(version: Version, name: &[u8], key: &[u8]) -> Result<Command, Reason
 }
 
 /// The command `name` for a key and a value, or what is wrong with its words.
-fn with_value(version: Version, name: &[u8], key: &[u8], value: &[u8]) -> Result<Command, Reason>
+fn parse_with_value(
+    version: Version,
+    name: &[u8],
+    key: &[u8],
+    value: &[u8],
+) -> Result<Command, Reason>
     ensures { result ≡ command_of version (name.now ∷ key.now ∷ value.now ∷ []) }
 {
     if name == b"insert".as_slice() {
-        let key = word::key(version, key)?;
-        let value = word::value(value)?;
+        let key = word::parse_key(version, key)?;
+        let value = word::parse_value(value)?;
         Ok(Command::Call(Call::Insert(key, value)))
     } else if name == b"upsert".as_slice() {
-        let key = word::key(version, key)?;
-        let value = word::value(value)?;
+        let key = word::parse_key(version, key)?;
+        let value = word::parse_value(value)?;
         Ok(Command::Call(Call::Upsert(key, value)))
     } else {
         Err(Reason::Command)
@@ -93,7 +98,7 @@ fn with_value(version: Version, name: &[u8], key: &[u8], value: &[u8]) -> Result
 }
 
 /// The command `name` for a range and a limit, or what is wrong with its words.
-fn with_range(
+fn parse_with_range(
     version: Version,
     name: &[u8],
     from: &[u8],
@@ -103,9 +108,9 @@ fn with_range(
     ensures { result ≡ command_of version (name.now ∷ from.now ∷ upto.now ∷ limit.now ∷ []) }
 {
     if name == b"scan".as_slice() {
-        let from = word::key(version, from)?;
-        let upto = word::key(version, upto)?;
-        let limit = word::limit(limit)?;
+        let from = word::parse_key(version, from)?;
+        let upto = word::parse_key(version, upto)?;
+        let limit = word::parse_limit(limit)?;
         Ok(Command::Scan(Range { from, upto, limit }))
     } else {
         Err(Reason::Command)
@@ -113,25 +118,25 @@ fn with_range(
 }
 
 /// The command of `line`, or what is wrong with its words.
-fn command(version: Version, line: &[u8]) -> Result<Command, Reason>
+fn parse_command(version: Version, line: &[u8]) -> Result<Command, Reason>
     ensures { result ≡ command_of version (line_words line.now) }
 {
-    match words_in(line) {
-        Words::Two(name, key) => with_key(version, name, key),
-        Words::Three(name, key, value) => with_value(version, name, key, value),
-        Words::Four(name, from, upto, limit) => with_range(version, name, from, upto, limit),
+    match split_words(line) {
+        Words::Two(name, key) => parse_with_key(version, name, key),
+        Words::Three(name, key, value) => parse_with_value(version, name, key, value),
+        Words::Four(name, from, upto, limit) => parse_with_range(version, name, from, upto, limit),
         Words::Other => Err(Reason::Command),
     }
 }
 
 /// The command of `line` in a script of `version`. `Ok(None)` if `line` is empty or begins with `#`. `Err` with the reason if `line` is
 /// anything else.
-pub fn reading(version: Version, line: &[u8]) -> Result<Option<Command>, Reason>
+pub fn parse_line(version: Version, line: &[u8]) -> Result<Option<Command>, Reason>
     ensures { result ≡ reading_of version line.now }
 {
     if line.is_empty() || line[0] == b'#' {
         return Ok(None);
     }
-    let command = command(version, line)?;
+    let command = parse_command(version, line)?;
     Ok(Some(command))
 }

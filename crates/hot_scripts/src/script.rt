@@ -8,7 +8,7 @@ ghost use Rattle.hot_scripts.specs.Words.{text_len};
 
 use crate::command::{Command, Version};
 use crate::fault::{Reason, RunFault};
-use crate::line::{cut, reading};
+use crate::line::{parse_line, split_first};
 use finite_map::Call;
 use key_bits::Key;
 
@@ -75,9 +75,9 @@ impl<'a> Commands<'a> {
         ensures { Gives (commands_left self.old) result (commands_left self.new) }
     {
         while let Some(text) = self.left {
-            let (line, rest) = cut(b'\n', text);
+            let (line, rest) = split_first(b'\n', text);
             self.left = rest;
-            if let Ok(Some(command)) = reading(self.version, line) {
+            if let Ok(Some(command)) = parse_line(self.version, line) {
                 return Some(command);
             }
         }
@@ -89,7 +89,7 @@ impl<'a> Commands<'a> {
     fn opening(script: &'a [u8]) -> (u32, Commands<'a>)
         ensures { IsOpening script.now result.0 result.1 }
     {
-        let (first, rest) = cut(b'\n', script);
+        let (first, rest) = split_first(b'\n', script);
         if first == b"hot 2".as_slice() {
             let version = Version::Second;
             (
@@ -119,8 +119,8 @@ impl<'a> Commands<'a> {
         let mut left = self.left;
         let mut longest = 0;
         while let Some(text) = left {
-            let (line, rest) = cut(b'\n', text);
-            match reading(self.version, line) {
+            let (line, rest) = split_first(b'\n', text);
+            match parse_line(self.version, line) {
                 Ok(command) => longest = larger(longest, key_bytes(&command)),
                 Err(reason) => return Err((number, reason)),
             }

@@ -18,11 +18,11 @@ const MAX_LIMIT: u64 = 1_000_000;
 
 /// The key that `word` stands for: hexadecimal digits, or a dash for the empty key. `Reason::Key` if it is none, or has too many digits
 /// for `version`.
-pub fn key(version: Version, word: &[u8]) -> Result<Key, Reason>
+pub fn parse_key(version: Version, word: &[u8]) -> Result<Key, Reason>
     ensures { result ≡ parsed_key version word.now }
 {
     if word == b"-".as_slice() {
-        return from_bytes(&[]);
+        return make_key(&[]);
     }
     if word.len() < 2 || version.most_digits() < word.len() {
         return Err(Reason::Key);
@@ -30,13 +30,13 @@ pub fn key(version: Version, word: &[u8]) -> Result<Key, Reason>
     let mut room = [0u8; MAX_BYTES];
     let bytes = &mut room[..word.len() / 2];
     match hex::decode_to_slice(word, bytes) {
-        Ok(()) => from_bytes(bytes),
+        Ok(()) => make_key(bytes),
         Err(_) => Err(Reason::Key),
     }
 }
 
 /// The key of `bytes`, `MAX_BYTES` at most.
-fn from_bytes(bytes: &[u8]) -> Result<Key, Reason>
+fn make_key(bytes: &[u8]) -> Result<Key, Reason>
     requires { length bytes.now ≤ MAX_BYTES }
     ensures { result ≡ Ok bytes.now }
 {
@@ -61,7 +61,7 @@ fn are_digits(word: &[u8]) -> bool
 }
 
 /// The number that `word` stands for; `None` if it is no number, or one above 2^64 - 1.
-fn number(word: &[u8]) -> Option<u64>
+fn parse_number(word: &[u8]) -> Option<u64>
     ensures { result ≡ number_of word.now }
 {
     if !is_number(word) {
@@ -74,17 +74,17 @@ fn number(word: &[u8]) -> Option<u64>
 }
 
 /// The value that `word` stands for; `Reason::Value` if it is none.
-pub fn value(word: &[u8]) -> Result<u64, Reason>
+pub fn parse_value(word: &[u8]) -> Result<u64, Reason>
     ensures { result ≡ parsed_value word.now }
 {
-    number(word).ok_or(Reason::Value)
+    parse_number(word).ok_or(Reason::Value)
 }
 
 /// The limit that `word` stands for; `Reason::Limit` if it is no number from 1 to `MAX_LIMIT`.
-pub fn limit(word: &[u8]) -> Result<usize, Reason>
+pub fn parse_limit(word: &[u8]) -> Result<usize, Reason>
     ensures { result ≡ limit_of word.now }
 {
-    match number(word) {
+    match parse_number(word) {
         Some(n) if 1 <= n && n <= MAX_LIMIT => Ok(n as usize),
         _ => Err(Reason::Limit),
     }

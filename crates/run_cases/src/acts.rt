@@ -49,6 +49,7 @@ struct Line {
 }
 
 impl Line {
+    /// A line with no detail and nothing found.
     fn on(name: &'static str, thing: Thing) -> Line {
         Line {
             name,
@@ -58,40 +59,43 @@ impl Line {
         }
     }
 
+    /// A line with a number that was found or loaded.
     fn found(name: &'static str, thing: Thing, number: u64) -> Line {
         Line {
-            name,
-            thing,
-            detail: None,
             found: Found::Number(number),
+            ..Line::on(name, thing)
         }
     }
 
+    /// A line on a word of a record, at this offset.
     fn word(name: &'static str, rec: Rec, offset: u8, word: u64) -> Line {
         Line {
             name,
-            thing: record(rec),
+            thing: thing_of_record(rec),
             detail: Some(("offset", u64::from(offset))),
             found: Found::Word(word),
         }
     }
 }
 
-fn record(rec: Rec) -> Thing {
+/// What a step on a record is on.
+fn thing_of_record(rec: Rec) -> Thing {
     match rec {
         Rec::Node(number) => Thing::Node(number),
         Rec::Leaf(number) => Thing::Leaf(number),
     }
 }
 
-fn place(spot: Spot) -> Thing {
+/// What a step on an entry word is on.
+fn thing_of_spot(spot: Spot) -> Thing {
     match spot {
         Spot::Root => Thing::Root,
         Spot::Slot { node, entry } => Thing::Entry(node, entry),
     }
 }
 
-fn target_of(target: Target) -> Thing {
+/// What a step on a lock is on.
+fn thing_of_target(target: Target) -> Thing {
     match target {
         Target::Anchor => Thing::Anchor,
         Target::Node(number) => Thing::Node(number),
@@ -101,34 +105,34 @@ fn target_of(target: Target) -> Thing {
 /// The line of a step.
 fn line_of(act: &Act) -> Line {
     match *act {
-        Act::Claim { rec, found } => Line::found("claim", record(rec), found),
+        Act::Claim { rec, found } => Line::found("claim", thing_of_record(rec), found),
         Act::Fill { rec, offset, word } => Line::word("fill", rec, offset, word),
-        Act::Ready { rec } => Line::on("ready", record(rec)),
-        Act::Release { rec } => Line::on("release", record(rec)),
-        Act::LoadRef { spot, word } => Line::found("load_ref", place(spot), word),
+        Act::Ready { rec } => Line::on("ready", thing_of_record(rec)),
+        Act::Release { rec } => Line::on("release", thing_of_record(rec)),
+        Act::LoadRef { spot, word } => Line::found("load_ref", thing_of_spot(spot), word),
         Act::LoadFixed { rec, offset, word } => Line::word("load_fixed", rec, offset, word),
-        Act::Lock { target, found } => Line::found("lock", target_of(target), found),
-        Act::Unlock { target } => Line::on("unlock", target_of(target)),
-        Act::Publish { spot, word } => Line::found("publish", place(spot), word),
+        Act::Lock { target, found } => Line::found("lock", thing_of_target(target), found),
+        Act::Unlock { target } => Line::on("unlock", thing_of_target(target)),
+        Act::Publish { spot, word } => Line::found("publish", thing_of_spot(spot), word),
         Act::Mark { rec, epoch } => Line {
             detail: Some(("in", epoch)),
-            ..Line::on("mark", record(rec))
+            ..Line::on("mark", thing_of_record(rec))
         },
         Act::LoadEpoch { word } => Line::found("load_epoch", Thing::Nothing, word),
         Act::Advance { expected, found } => Line::found("advance", Thing::Number(expected), found),
         Act::SetPin { word } => Line::found("set_pin", Thing::Nothing, word),
         Act::ClearPin => Line::on("clear_pin", Thing::Nothing),
         Act::LoadPin { of, word } => Line::found("load_pin", Thing::Number(u64::from(of)), word),
-        Act::LoadState { rec, word } => Line::found("load_state", record(rec), word),
+        Act::LoadState { rec, word } => Line::found("load_state", thing_of_record(rec), word),
         Act::GiveBack { rec, epoch, found } => Line {
             detail: Some(("of", epoch)),
-            ..Line::found("give_back", record(rec), found)
+            ..Line::found("give_back", thing_of_record(rec), found)
         },
     }
 }
 
-/// Adds a step: its name, on what it is, and the word that it stored, loaded or found.
-pub fn push_act(text: &mut String, act: &Act) -> Result<(), AllocError> {
+/// Adds a step to `text`: its name, on what it is, and the word that it stored, loaded or found.
+pub fn write_act(text: &mut String, act: &Act) -> Result<(), AllocError> {
     let line = line_of(act);
     write!(text, "{}{}", line.name, line.thing)?;
     if let Some((word, number)) = line.detail {

@@ -31,6 +31,7 @@ pub struct Case<'a> {
 }
 
 impl<'a> Case<'a> {
+    /// A case on an index of one node and one leaf, with nothing to do.
     pub fn new(alloc: Global) -> Case<'a> {
         Case {
             alloc,
@@ -42,9 +43,9 @@ impl<'a> Case<'a> {
         }
     }
 
-    /// Begins a new case, on an index of so many nodes and leaves.
+    /// Begins a new case, on an index of as many nodes and leaves as the two numbers of `text` say.
     pub fn begin(&mut self, text: &str) -> io::Result<()> {
-        (self.nodes, self.leaves) = two_of(text)?;
+        (self.nodes, self.leaves) = parse_two(text)?;
         self.before.clear();
         self.others.clear();
         self.keys.clear();
@@ -57,46 +58,48 @@ pub fn bad_line() -> io::Error {
     io::Error::from(ErrorKind::InvalidInput)
 }
 
-/// The two numbers of a text.
-pub fn two_of(text: &str) -> io::Result<(u32, u32)> {
+/// The two numbers of a text, with a blank between them.
+pub fn parse_two(text: &str) -> io::Result<(u32, u32)> {
     match text.split_once(' ') {
-        Some((first, second)) => Ok((count(first)?, count(second)?)),
+        Some((first, second)) => Ok((parse_count(first)?, parse_count(second)?)),
         None => Err(bad_line()),
     }
 }
 
 /// The number that a word stands for.
-fn number(word: &str) -> io::Result<u64> {
+fn parse_number(word: &str) -> io::Result<u64> {
     word.parse::<u64>().map_err(|_| bad_line())
 }
 
 /// The number that a word stands for, if it is of 32 bits.
-fn count(word: &str) -> io::Result<u32> {
+fn parse_count(word: &str) -> io::Result<u32> {
     word.parse::<u32>().map_err(|_| bad_line())
 }
 
-/// Adds the deeds of a line, which commas part.
-pub fn deeds_of(deeds: &mut Vec<Deed>, text: &str) -> io::Result<()> {
+/// Adds the deeds of a line, which are parted by commas. A word that says nothing fails.
+pub fn parse_deeds(deeds: &mut Vec<Deed>, text: &str) -> io::Result<()> {
     let alloc = *deeds.allocator();
     for part in text.split(',') {
         let words: Vec<&str> = part.split_whitespace().collect(alloc)?;
-        push_deeds(deeds, &words)?;
+        parse_deed(deeds, &words)?;
     }
     Ok(())
 }
 
 /// Adds the deed that these words stand for: of a call, one for each of its keys.
-fn push_deeds(deeds: &mut Vec<Deed>, words: &[&str]) -> io::Result<()> {
+fn parse_deed(deeds: &mut Vec<Deed>, words: &[&str]) -> io::Result<()> {
     let (name, word, value) = match *words {
         ["collect"] => return Ok(deeds.push(Deed::Collect)?),
-        ["scan", limit] => return Ok(deeds.push(Deed::List(count(limit)? as usize))?),
-        ["scan_reverse", limit] => return Ok(deeds.push(Deed::ListDown(count(limit)? as usize))?),
+        ["scan", limit] => return Ok(deeds.push(Deed::List(parse_count(limit)? as usize))?),
+        ["scan_reverse", limit] => return Ok(deeds.push(Deed::ListDown(
+            parse_count(limit)? as usize,
+        ))?),
         [name, word] => (name, word, 0),
-        [name, word, value] => (name, word, number(value)?),
+        [name, word, value] => (name, word, parse_number(value)?),
         _ => return Err(bad_line()),
     };
     let mut keys = Vec::new(*deeds.allocator());
-    push_keys(&mut keys, word)?;
+    parse_keys(&mut keys, word)?;
     for key in keys {
         deeds.push(Deed::Make(call_of(name, key, value)?))?;
     }
@@ -119,29 +122,30 @@ fn call_of(name: &str, key: Key, value: u64) -> io::Result<Call> {
 
 /// Adds the keys that these words stand for, each in hexadecimal digits, or a dash where it is empty. Two bytes with two dots
 /// between them stand for all keys of one byte from the first to the last.
-pub fn push_keys(keys: &mut Vec<Key>, text: &str) -> io::Result<()> {
+pub fn parse_keys(keys: &mut Vec<Key>, text: &str) -> io::Result<()> {
     for word in text.split_whitespace() {
         match word.split_once("..") {
             Some((first, last)) => {
-                let (first, last) = (byte_of(first)?, byte_of(last)?);
+                let (first, last) = (parse_byte(first)?, parse_byte(last)?);
                 for byte in first..=last {
                     keys.push(key_of(&[byte])?)?;
                 }
             }
-            None => keys.push(key(word)?)?,
+            None => keys.push(parse_key(word)?)?,
         }
     }
     Ok(())
 }
 
-fn byte_of(word: &str) -> io::Result<u8> {
+/// The byte of two hexadecimal digits.
+fn parse_byte(word: &str) -> io::Result<u8> {
     let mut room = [0u8; 1];
     hex::decode_to_slice(word, &mut room).map_err(|_| bad_line())?;
     Ok(room[0])
 }
 
 /// The key of a word of hexadecimal digits.
-fn key(word: &str) -> io::Result<Key> {
+fn parse_key(word: &str) -> io::Result<Key> {
     if word == "-" {
         return key_of(&[]);
     }
@@ -154,6 +158,7 @@ fn key(word: &str) -> io::Result<Key> {
     key_of(bytes)
 }
 
+/// The key of these bytes, of which there are 240 at most.
 fn key_of(bytes: &[u8]) -> io::Result<Key> {
     Key::from_bytes(bytes).map_err(|_| bad_line())
 }

@@ -3,8 +3,8 @@
 ghost use Rattle.std.specs.Prelude.{All};
 ghost use Rattle.seat_calls.specs.Passes.{Owns};
 
-use crate::cases::{Case, Deed, two_of};
-use crate::guests::{Guest, does, lowest, open};
+use crate::cases::{Case, Deed, parse_two};
+use crate::guests::{Guest, do_deeds, lowest, open};
 use crate::judge::{Stopper, seat_guest, verdict};
 use finite_map::Call;
 use hot_index::{Index, Pass};
@@ -17,8 +17,8 @@ use std::io;
 pub struct Chance(pub u64);
 
 impl Chance {
-    /// A number below the bound, or 0 where that is 0.
-    pub fn below(&mut self, bound: u64) -> u64 {
+    /// The next number, below `bound`; or 0 if that is 0.
+    pub fn next_below(&mut self, bound: u64) -> u64 {
         self.0 = self
             .0
             .wrapping_mul(6_364_136_223_846_793_005)
@@ -26,10 +26,10 @@ impl Chance {
         (self.0 >> 33).checked_rem(bound).unwrap_or(0)
     }
 
-    /// A deed with one of the keys, and with this value where it takes one.
-    pub fn deed(&mut self, keys: &[Key], value: u64) -> Deed {
-        let kind = self.below(16);
-        let key = match keys.get(self.below(keys.len() as u64) as usize) {
+    /// The next deed: with one of these keys, and with this value if it takes one.
+    pub fn next_deed(&mut self, keys: &[Key], value: u64) -> Deed {
+        let kind = self.next_below(16);
+        let key = match keys.get(self.next_below(keys.len() as u64) as usize) {
             Some(key) => key.copy(),
             None => lowest(),
         };
@@ -45,23 +45,29 @@ impl Chance {
     }
 }
 
-/// Runs turns on the index of a case: from a seed, so many.
+/// Makes as many turns on a new index as `text` says behind the seed, and prints whether all were lawful.
 pub fn run_turns<R: Print + AllocGlobal>(rt: &R, case: &Case, text: &str) -> io::Result<()> {
-    let (seed, turns) = two_of(text)?;
+    let (seed, turns) = parse_two(text)?;
     let (index, passes) = open(case.alloc, 2, case.nodes, case.leaves)?;
-    let wrong = wrong_in(case, &index, passes, seed, turns)?;
+    let wrong = count_wrong(case, &index, passes, seed, turns)?;
     println!(rt; "{turns} turns from {seed}: {}", verdict(wrong))
 }
 
 /// How often something was wrong in so many turns from a seed on this index, which was just made.
-fn wrong_in(case: &Case, index: &Index, passes: Vec<Pass>, seed: u32, turns: u32) -> io::Result<u64>
+fn count_wrong(
+    case: &Case,
+    index: &Index,
+    passes: Vec<Pass>,
+    seed: u32,
+    turns: u32,
+) -> io::Result<u64>
     requires { All (Owns index.now) passes.items }
 {
     let (mut guest, mut gate) = seat_guest(case, index, passes)?;
     take_turns(case, &mut guest, &mut gate, seed, turns)
 }
 
-/// Takes so many turns from a seed. Answers how often something was wrong.
+/// Takes so many turns from a seed. Returns how often something was wrong.
 fn take_turns(
     case: &Case,
     guest: &mut Guest,
@@ -84,12 +90,12 @@ fn take_turn(
     chance: &mut Chance,
     turn: u64,
 ) -> Result<(), AllocError> {
-    let deed = chance.deed(&case.keys, turn);
+    let deed = chance.next_deed(&case.keys, turn);
     gate.deeds.clear();
-    gate.deeds.push(chance.deed(&case.keys, turn))?;
-    gate.left = chance.below(160).wrapping_add(1);
+    gate.deeds.push(chance.next_deed(&case.keys, turn))?;
+    gate.left = chance.next_below(160).wrapping_add(1);
     let mut said = String::new(case.alloc);
-    does(guest, &[deed], gate, &mut said)?;
+    do_deeds(guest, &[deed], gate, &mut said)?;
     if turn % 32 == 0 {
         gate.left = 0;
         gate.said.clear();

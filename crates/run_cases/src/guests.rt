@@ -9,7 +9,7 @@ use key_bits::Key;
 use std::alloc::{AllocError, Global};
 use std::io;
 
-/// An index of so many passes, nodes and leaves, and its passes.
+/// A new index of so many passes, node records and leaf records, and its passes. A size that no index has fails.
 pub fn open(alloc: Global, passes: u32, nodes: u32, leaves: u32) -> io::Result<(Index, Vec<Pass>)>
     ensures { IfOk result (λ made. All (Owns made.0) made.1.items) }
 {
@@ -22,7 +22,7 @@ pub fn open(alloc: Global, passes: u32, nodes: u32, leaves: u32) -> io::Result<(
 /// A pass at its index.
 pub type Guest<'a> = Handle<&'a Index>;
 
-/// The last of the passes that are left, at its index.
+/// Takes the last of the passes that are left, at its index. It fails if none is left.
 pub fn next_guest<'a>(index: &'a Index, passes: &mut Vec<Pass>) -> io::Result<Guest<'a>>
     requires { All (Owns index.now) passes.old.items }
     ensures { All (Owns index.now) passes.new.items }
@@ -33,8 +33,8 @@ pub fn next_guest<'a>(index: &'a Index, passes: &mut Vec<Pass>) -> io::Result<Gu
     }
 }
 
-/// Does all this, with a gate that is told each step, and adds what was answered, each time behind a semicolon.
-pub fn does<G: Gate>(
+/// Does these deeds, with a gate that is told each step. Adds to `said` what each was answered, behind a semicolon.
+pub fn do_deeds<G: Gate>(
     guest: &mut Guest,
     deeds: &[Deed],
     gate: &mut G,
@@ -44,15 +44,15 @@ pub fn does<G: Gate>(
         write!(said, "; ")?;
         match deed {
             Deed::Make(call) => {
-                say(said, guest.index.try_call_with(&mut guest.pass, call, gate))?;
+                write_reply(said, guest.index.try_call_with(&mut guest.pass, call, gate))?;
             }
             Deed::List(limit) => {
-                let scan = list(guest, *said.allocator(), *limit, gate)?;
-                say_scan(said, &scan)?;
+                let scan = scan_up(guest, *said.allocator(), *limit, gate)?;
+                write_scan(said, &scan)?;
             }
             Deed::ListDown(limit) => {
-                let scan = list_down(guest, *said.allocator(), *limit, gate)?;
-                say_scan(said, &scan)?;
+                let scan = scan_down(guest, *said.allocator(), *limit, gate)?;
+                write_scan(said, &scan)?;
             }
             Deed::Collect => {
                 let given = guest.index.collect_with(&mut guest.pass, gate);
@@ -63,8 +63,8 @@ pub fn does<G: Gate>(
     Ok(())
 }
 
-/// So many pairs from the lowest key on.
-pub fn list<G: Gate>(
+/// Scans for the first `limit` pairs of the index. `gate` is told each step.
+pub fn scan_up<G: Gate>(
     guest: &mut Guest,
     alloc: Global,
     limit: usize,
@@ -74,8 +74,8 @@ pub fn list<G: Gate>(
     index.scan_with(alloc, pass, &lowest(), &highest(), limit, gate)
 }
 
-/// So many pairs from the highest key downwards.
-pub fn list_down<G: Gate>(
+/// Scans for the last `limit` pairs of the index, in falling order. `gate` is told each step.
+pub fn scan_down<G: Gate>(
     guest: &mut Guest,
     alloc: Global,
     limit: usize,
@@ -102,15 +102,15 @@ fn highest() -> Key {
 }
 
 /// Adds the values of the pairs that were listed, and whether there are more.
-fn say_scan(said: &mut String, scan: &Scan) -> Result<(), AllocError> {
+fn write_scan(said: &mut String, scan: &Scan) -> Result<(), AllocError> {
     for (_, value) in scan.pairs.iter() {
         write!(said, "{value} ")?;
     }
     said.push_str(if scan.more { "and more" } else { "listed" })
 }
 
-/// Adds what a call was answered.
-fn say(said: &mut String, told: Result<Reply, TryFault>) -> Result<(), AllocError> {
+/// Adds the words for what a call was answered, and for the value that it told.
+fn write_reply(said: &mut String, told: Result<Reply, TryFault>) -> Result<(), AllocError> {
     match told {
         Ok(Reply::Inserted) => said.push_str("inserted"),
         Ok(Reply::Exists(value)) => write!(said, "exists {value}"),

@@ -4,7 +4,7 @@ ghost use Rattle.std.specs.Prelude.{All};
 ghost use Rattle.seat_calls.specs.Passes.{Owns};
 
 use crate::cases::{Case, Deed, bad_line};
-use crate::guests::{Guest, does, list, list_down, next_guest};
+use crate::guests::{Guest, do_deeds, next_guest, scan_down, scan_up};
 use hot_index::{Event, Gate, Index, Pass, Scan};
 use record_words::Layout;
 use rowex_replay::Replay;
@@ -30,17 +30,17 @@ impl Judge {
         })
     }
 
-    /// Holds what a scan of all keys finds, and one downwards, against what the steps so far have made.
+    /// Compares a scan of all keys, and one downwards, with the map that the steps so far have made. It counts each that differs.
     pub fn compare(&mut self, alloc: Global, guest: &mut Guest) -> Result<(), AllocError> {
-        let up = list(guest, alloc, usize::MAX, self)?;
-        self.expect(alloc, &up)?;
-        let mut down = list_down(guest, alloc, usize::MAX, self)?;
+        let up = scan_up(guest, alloc, usize::MAX, self)?;
+        self.compare_scan(alloc, &up)?;
+        let mut down = scan_down(guest, alloc, usize::MAX, self)?;
         down.pairs.reverse();
-        self.expect(alloc, &down)
+        self.compare_scan(alloc, &down)
     }
 
-    /// Holds what a scan of all keys finds against what the steps so far have made.
-    fn expect(&mut self, alloc: Global, scan: &Scan) -> Result<(), AllocError> {
+    /// Counts something wrong if `scan` has not just the pairs of the map that the steps so far have made.
+    fn compare_scan(&mut self, alloc: Global, scan: &Scan) -> Result<(), AllocError> {
         let content = self.replay.content(alloc)?;
         if scan.more || scan.pairs != content {
             self.wrong = self.wrong.wrapping_add(1);
@@ -59,7 +59,7 @@ impl Gate for Judge {
     }
 }
 
-/// How the runs of a line went.
+/// How the runs of a line went: `lawful` if nothing was wrong.
 pub fn verdict(wrong: u64) -> &'static str {
     if wrong == 0 { "lawful" } else { "WRONG" }
 }
@@ -83,7 +83,7 @@ impl<'a> Gate for Stopper<'a> {
     fn at(&mut self, event: &Event) {
         self.judge.at(event);
         if self.left == 1 {
-            let done = does(
+            let done = do_deeds(
                 &mut self.other,
                 &self.deeds,
                 &mut self.judge,
@@ -117,6 +117,6 @@ pub fn seat_guest<'a>(
         said: String::new(alloc),
     };
     let mut said = String::new(alloc);
-    does(&mut guest, &case.before, &mut gate, &mut said)?;
+    do_deeds(&mut guest, &case.before, &mut gate, &mut said)?;
     Ok((guest, gate))
 }

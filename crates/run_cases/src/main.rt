@@ -19,7 +19,7 @@ mod judge;
 mod stops;
 mod turns;
 
-use crate::cases::{Case, deeds_of, push_keys};
+use crate::cases::{Case, parse_deeds, parse_keys};
 use std::rt::{Env, Files};
 use std::thread::Threads;
 use std::{fs, io};
@@ -58,9 +58,9 @@ where
     match word {
         "" | "#" => Ok(()),
         "index" => case.begin(rest),
-        "before" => deeds_of(&mut case.before, rest),
+        "before" => parse_deeds(&mut case.before, rest),
         "other" => Ok(case.others.push(rest)?),
-        "keys" => push_keys(&mut case.keys, rest),
+        "keys" => parse_keys(&mut case.keys, rest),
         "steps" => stops::print_steps(rt, case, rest),
         "stop" => stops::stop_for_each(rt, case, rest, false),
         "tell" => stops::stop_for_each(rt, case, rest, true),

@@ -3,9 +3,9 @@
 ghost use Rattle.std.specs.Prelude.{All};
 ghost use Rattle.seat_calls.specs.Passes.{Owns};
 
-use crate::cases::{Case, two_of};
+use crate::cases::{Case, parse_two};
 use crate::chance::Chance;
-use crate::guests::{Guest, does, next_guest, open};
+use crate::guests::{Guest, do_deeds, next_guest, open};
 use crate::judge::{Judge, verdict};
 use hot_index::{Event, Gate, Handle, Index, Pass};
 use std::alloc::{AllocError, Global};
@@ -47,10 +47,10 @@ impl Rota {
         self.lost.fetch_add(1, Ordering::SeqCst);
     }
 
-    /// Gives the turn to a thread by chance, of those that have begun and not ended; answers to which.
+    /// Gives the turn to a thread by chance, of those that have begun and not ended. Returns to which, or `FREE` if there is none.
     fn pass_on(&self, step: u64) -> u64 {
         let begun = self.begun.load(Ordering::SeqCst);
-        let mut next = Chance(self.seed ^ step).below(4);
+        let mut next = Chance(self.seed ^ step).next_below(4);
         for _ in 0..3 {
             if begun & bit(next) == 0 {
                 next = next.wrapping_add(1) & 3;
@@ -81,7 +81,7 @@ impl<'a> Gate for Turns<'a> {
     fn at(&mut self, event: &Event) {
         let step = self.rota.steps.fetch_add(1, Ordering::SeqCst);
         let _ = self.told.push((step, *event));
-        if Chance(self.rota.seed.wrapping_add(step)).below(4) == 0
+        if Chance(self.rota.seed.wrapping_add(step)).next_below(4) == 0
             && self.rota.pass_on(step) != self.number
         {
             self.rota.wait(self.number);
@@ -89,8 +89,8 @@ impl<'a> Gate for Turns<'a> {
     }
 }
 
-/// What a thread does, by chance. Answers its steps.
-fn work(case: &Case, rota: &Rota, index: &Index, pass: Pass) -> Vec<(u64, Event)>
+/// What a thread does, by chance. Returns its steps.
+fn run_thread(case: &Case, rota: &Rota, index: &Index, pass: Pass) -> Vec<(u64, Event)>
     requires { Owns index.now pass }
 {
     let mut guest = Handle::new(index, pass);
@@ -102,8 +102,8 @@ fn work(case: &Case, rota: &Rota, index: &Index, pass: Pass) -> Vec<(u64, Event)
     rota.begun.fetch_add(bit(number), Ordering::SeqCst);
     rota.wait(number);
     for turn in 0..DEEDS {
-        let deed = chance.deed(&case.keys, turn);
-        if does(&mut guest, &[deed], &mut gate, &mut said).is_err() {
+        let deed = chance.next_deed(&case.keys, turn);
+        if do_deeds(&mut guest, &[deed], &mut gate, &mut said).is_err() {
             rota.lost.fetch_add(1, Ordering::SeqCst);
         }
     }
@@ -125,7 +125,7 @@ fn judge_all(
     }
     let mut order = vec![in alloc; None; total]?;
     for steps in told.iter() {
-        put_all(&mut order, steps);
+        order_steps(&mut order, steps);
     }
     for event in order.iter() {
         judge_one(judge, event);
@@ -133,8 +133,8 @@ fn judge_all(
     judge.compare(alloc, last)
 }
 
-/// Puts a thread's steps in their places.
-fn put_all(order: &mut [Option<Event>], steps: &[(u64, Event)]) {
+/// Puts each step of a thread into `order`, at its number.
+fn order_steps(order: &mut [Option<Event>], steps: &[(u64, Event)]) {
     for (step, event) in steps.iter() {
         if let Some(place) = order.get_mut(*step as usize) {
             *place = Some(*event);
@@ -150,7 +150,7 @@ fn judge_one(judge: &mut Judge, event: &Option<Event>) {
     }
 }
 
-/// Lets so many threads step in an order made from the seed. Answers how often something was wrong.
+/// Lets so many threads step in an order made from the seed. Returns how often something was wrong.
 fn run_seed<R: AllocGlobal + Threads + Sync>(
     rt: &R,
     case: &Case,
@@ -159,7 +159,7 @@ fn run_seed<R: AllocGlobal + Threads + Sync>(
 ) -> io::Result<u64> {
     let passes = threads.wrapping_add(1);
     let (index, seats) = open(case.alloc, passes, case.nodes, case.leaves)?;
-    wrong_on(rt, case, &index, seats, passes, seed)
+    run_threads(rt, case, &index, seats, passes, seed)
 }
 
 /// `run_seed`, on this index that was just made, with all its passes.
@@ -175,7 +175,7 @@ fn wrong_on<R: AllocGlobal + Threads + Sync>(
 {
     let mut last = next_guest(index, &mut seats)?;
     let (told, lost) = step_all(rt, case, index, seats, seed)?;
-    wrong_of(case, passes, &mut last, &told, lost)
+    count_wrong(case, passes, &mut last, &told, lost)
 }
 
 /// The steps of threads, one for each of these passes, and how many gave up.
@@ -197,13 +197,13 @@ fn step_all<R: AllocGlobal + Threads + Sync>(
     };
     let step_in_turn = |pass: Pass| -> Vec<(u64, Event)>
         requires { Owns index.now pass }
-    { work(case, &rota, index, pass) };
+    { run_thread(case, &rota, index, pass) };
     let told = map_vec(rt, seats, &step_in_turn)?;
     Ok((told, rota.lost.load(Ordering::SeqCst)))
 }
 
 /// How often something was wrong in the steps of threads of which so many gave up.
-fn wrong_of(
+fn count_wrong(
     case: &Case,
     passes: u32,
     last: &mut Guest,
@@ -220,7 +220,7 @@ pub fn run_seeds<R>(rt: &R, case: &Case, text: &str) -> io::Result<()>
 where
     R: Print + AllocGlobal + Threads + Sync,
 {
-    let (threads, orders) = two_of(text)?;
+    let (threads, orders) = parse_two(text)?;
     let mut wrong = 0u64;
     for seed in 0..u64::from(orders) {
         wrong = wrong.wrapping_add(run_seed(rt, case, threads, seed << 20)?);

@@ -1,8 +1,8 @@
--- Why `number` meets its contract.
+-- Why `parse_number` meets its contract.
 use Rattle.std.proofs.Common.{◌≡◌, true, rules, ◌∙◌}
 use Rattle.hot_scripts.specs.Grammar.{is_number}
 use Rattle.hot_scripts.proofs.Numbers.{IsUtf8-number, parsed_number}
-use Rattle.hot_scripts.proofs.word.number.Goals as goal
+use Rattle.hot_scripts.proofs.word.parse_number.Goals as goal
 
 pub returns-in-Err : goal.returns-in-Err
 returns-in-Err c =
