@@ -1,6 +1,9 @@
 //! A finite map from keys to numbers, and histories of it: the calls, what they answer, and what makes the calls of many passes legal together.
 #![tactic(auto)]
 
+ghost use Rattle.std.specs.Prelude.{◌≡◌};
+ghost use Rattle.finite_map.specs.Maps.{Map, key_of, step_where};
+
 use key_bits::Key;
 
 /// A call on the map.
@@ -20,6 +23,42 @@ pub enum Call {
     Remove(Key),
     /// Removes the key if it has the value.
     RemoveIf(Key, u64),
+}
+
+impl Call {
+    /// The key that the call is about.
+    pub fn key(&self) -> &Key
+        ensures { result.now ≡ key_of self.now }
+    {
+        match self {
+            Call::Insert(key, _) | Call::Upsert(key, _) | Call::Exchange(key, _, _) => key,
+            Call::Add(key, _) | Call::Get(key) | Call::Remove(key) | Call::RemoveIf(key, _) => key,
+        }
+    }
+
+    /// The reply of a map in which the call's key has the value `held`; `None` stands for an absent key.
+    pub fn reply(&self, held: Option<u64>) -> Reply
+        ensures { (m : Map) → result ≡ (step_where held m self.now).1 }
+    {
+        match (self, held) {
+            (Call::Insert(..), None) => Reply::Inserted,
+            (Call::Insert(..), Some(held)) => Reply::Exists(held),
+            (Call::Upsert(..), None) => Reply::New,
+            (Call::Upsert(..), Some(held)) => Reply::Was(held),
+            (Call::Exchange(..), None) => Reply::Absent,
+            (Call::Exchange(_, expected, _), Some(held)) if held == *expected => Reply::Exchanged,
+            (Call::Exchange(..), Some(held)) => Reply::Differs(held),
+            (Call::Add(..), None) => Reply::Absent,
+            (Call::Add(..), Some(held)) => Reply::Was(held),
+            (Call::Get(_), None) => Reply::Absent,
+            (Call::Get(_), Some(held)) => Reply::Value(held),
+            (Call::Remove(_), None) => Reply::Absent,
+            (Call::Remove(_), Some(held)) => Reply::Removed(held),
+            (Call::RemoveIf(..), None) => Reply::Absent,
+            (Call::RemoveIf(_, expected), Some(held)) if held == *expected => Reply::Removed(held),
+            (Call::RemoveIf(..), Some(held)) => Reply::Differs(held),
+        }
+    }
 }
 
 /// What a call answers.

@@ -26,7 +26,7 @@ pub fn push_answer(text: &mut Vec<u8>, answer: Answer) -> Result<(), AllocError>
 
 /// The answers to the scripts of `files`, each below its heading, and then `last`, those to the last script: texts that follow one
 /// another. They are taken from `files`. An error if memory is refused.
-pub fn sections(
+pub fn make_sections(
     alloc: Global,
     files: &mut [Done<'_>],
     last: Vec<u8>,

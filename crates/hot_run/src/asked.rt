@@ -20,7 +20,7 @@ use std::thread::Threads;
 
 /// Makes the run that `words` ask for: the reader's script alone, or after the scripts in the files that they name. It is an `Ending` if
 /// the usage is wrong, or the run has a fault.
-pub fn answer<T, S, R, W>(
+pub fn run_command_line<T, S, R, W>(
     rt: &T,
     system: &S,
     words: &[String],
@@ -42,12 +42,12 @@ where
     ensures nothing { IfErr result (λ ending. ending ≢ Fault WriteFault → writer.new ≡ writer.old) }
 {
     let request = parse(rt.alloc(), words)?;
-    answer_request(rt, system, &request, reader, writer)?;
+    run_request(rt, system, &request, reader, writer)?;
     Ok(())
 }
 
 /// Makes the run that `request` asks for, and writes its answers. A fault says why there are none.
-fn answer_request<T: AllocGlobal + Wait + Threads + Sync, S: FileSystem, R: Read, W: Write>(
+fn run_request<T: AllocGlobal + Wait + Threads + Sync, S: FileSystem, R: Read, W: Write>(
     rt: &T,
     system: &S,
     request: &Request<'_>,

@@ -44,7 +44,7 @@ fn make_call<C: Caller, G: Gate>(
 
 /// Makes a scan of `range` into `pairs`, with a gate that is told each of its steps. Its lines go to the end of `text`. An error if
 /// memory is refused.
-fn answer_scan<G: Gate>(
+fn run_scan<G: Gate>(
     handle: &mut Handle<&Index>,
     range: &Range,
     gate: &mut G,
@@ -68,7 +68,7 @@ fn answer_scan<G: Gate>(
 
 /// Makes `command`, with a gate that is told each of its steps. The lines of its answer go to the end of `text`, and the pairs of a scan
 /// into `pairs`. An error if memory is refused.
-fn answer_command<C: Caller, G: Gate>(
+fn run_command<C: Caller, G: Gate>(
     caller: &C,
     handle: &mut Handle<&Index>,
     command: &Command,
@@ -86,13 +86,13 @@ fn answer_command<C: Caller, G: Gate>(
             let answer = make_call(caller, handle, call, gate);
             push_answer(text, answer)
         }
-        Command::Scan(range) => answer_scan(handle, range, gate, pairs, text),
+        Command::Scan(range) => run_scan(handle, range, gate, pairs, text),
     }
 }
 
 /// Makes the commands of `script` one after another, with a gate that is told each of their steps, and returns their answers. An error if
 /// memory is refused.
-pub fn run<C: Caller, G: Gate>(
+pub fn run_script<C: Caller, G: Gate>(
     caller: &C,
     alloc: Global,
     handle: &mut Handle<&Index>,
@@ -108,7 +108,7 @@ pub fn run<C: Caller, G: Gate>(
     let mut pairs = Pairs::new(alloc);
     let mut commands = script.commands();
     while let Some(command) = commands.next_command() {
-        answer_command(caller, handle, &command, gate, &mut pairs, &mut text)?;
+        run_command(caller, handle, &command, gate, &mut pairs, &mut text)?;
     }
     Ok(text)
 }

@@ -30,7 +30,7 @@ pub struct Records {
 
 /// An empty index for `script`, and its only pass; an error if memory is refused. All leaf records are of the smallest class with room
 /// for the keys of the script's calls: so they are close together, and a scan takes less time.
-pub fn index_for(
+pub fn create_for_script(
     alloc: Global,
     records: Records,
     script: &Script,
@@ -38,7 +38,7 @@ pub fn index_for(
     ensures sized { IfOk result (λ made. IsSizedFor (script_commands script.now) 1 records.nodes records.leaves made.0) }
     ensures pass { IfOk result (λ made. IsNewPassOf made.0 0 made.1) }
 {
-    let stock = stock_for(records, script.longest_key());
+    let stock = choose_stock(records, script.longest_key());
     let (index, mut passes) = match create_with(alloc, 1, stock) {
         Ok(made) => made,
         Err(IndexFault::Memory) => return Err(AllocError),
@@ -51,7 +51,7 @@ pub fn index_for(
 }
 
 /// A stock of `records`, with leaf records all of the smallest class with room for keys of `longest` bytes.
-fn stock_for(records: Records, longest: usize) -> Stock
+fn choose_stock(records: Records, longest: usize) -> Stock
     ensures nodes { result.nodes ≡ records.nodes }
     ensures leaves { leaves_of result ≡ records.leaves }
     ensures room { (layout : Layout) (leaf bytes : ℕ) → HasStock layout result → leaf < layout.leaves →
@@ -62,7 +62,7 @@ fn stock_for(records: Records, longest: usize) -> Stock
 
 /// An empty index, the passes for `files` files, in the order of their numbers from 0 on, and the pass of the last script. An error if
 /// memory is refused.
-pub fn new_index(
+pub fn create_for_files(
     alloc: Global,
     files: u32,
     records: Records,

@@ -12,7 +12,7 @@ mod together;
 #[cfg(test)]
 mod waiting;
 
-use asked::answer;
+use asked::run_command_line;
 use hot_command_line::arguments::words;
 use hot_command_line::ending::Ending;
 use hot_command_line::files::Disk;
@@ -29,7 +29,7 @@ where
 {
     let words = words(rt)?;
     let (mut reader, mut writer) = (rt.reader(), io::writer(rt));
-    answer(rt, &Disk { rt }, &words, &mut reader, &mut writer)
+    run_command_line(rt, &Disk { rt }, &words, &mut reader, &mut writer)
 }
 
 /// The program. Its exit status is 0, or else that of the `Ending`, whose text goes to standard error.

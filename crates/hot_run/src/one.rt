@@ -11,8 +11,8 @@ ghost use Rattle.hot_run.specs.Progress.{HasRunCommands};
 ghost use Rattle.hot_run.specs.Runs.{AreAnswered, IsAnsweredScript, MayEndBy};
 
 use crate::callers::Alone;
-use crate::engine::run;
-use crate::indexes::{Records, index_for};
+use crate::engine::run_script;
+use crate::indexes::{Records, create_for_script};
 use hot_index::{Handle, Index, NoGate, Pass};
 use hot_scripts::fault::RunFault;
 use hot_scripts::script::Script;
@@ -47,20 +47,20 @@ pub fn run_one<R: Read, W: Write>(
 {
     let bytes = read_script(alloc, reader)?;
     let script = Script::parse(bytes)?;
-    let text = answer_one(alloc, Records { nodes, leaves }, &script)?;
+    let text = run_on_new_index(alloc, Records { nodes, leaves }, &script)?;
     write_answers(writer, &text)
 }
 
 /// The answers to `script` on a new index with `records`; an error if memory is refused.
-fn answer_one(alloc: Global, records: Records, script: &Script) -> Result<Vec<u8>, AllocError>
+fn run_on_new_index(alloc: Global, records: Records, script: &Script) -> Result<Vec<u8>, AllocError>
     ensures { IfOk result (λ text. AreAnswered records.nodes records.leaves (script_commands script.now) text.items) }
 {
-    let (index, pass) = index_for(alloc, records, script)?;
-    answer_alone(alloc, &index, pass, script)
+    let (index, pass) = create_for_script(alloc, records, script)?;
+    run_alone(alloc, &index, pass, script)
 }
 
 /// The answers to `script` on `index`, whose only pass is `pass`; an error if memory is refused.
-fn answer_alone(
+fn run_alone(
     alloc: Global,
     index: &Index,
     pass: Pass,
@@ -71,5 +71,5 @@ fn answer_alone(
     ensures { IfOk result (λ text. (after : PassView) × HasRunCommands index.now untold (pass, tt) (script_commands script.now) (after, tt) text.items) }
 {
     let mut handle = Handle::new(index, pass);
-    run(&Alone, alloc, &mut handle, script, &mut NoGate)
+    run_script(&Alone, alloc, &mut handle, script, &mut NoGate)
 }

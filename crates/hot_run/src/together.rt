@@ -10,10 +10,10 @@ ghost use Rattle.hot_scripts.specs.Parses.{script_commands};
 ghost use Rattle.hot_run.specs.Progress.{AllThree, AreAt, AreReady, HasAnsweredLast, HasKept, HaveAnswered, IsDone, IsOrderOf, MeetInTurn};
 ghost use Rattle.hot_run.specs.Scripts.{AreAllAnswered};
 
-use crate::answer::sections;
+use crate::answer::make_sections;
 use crate::callers::Waits;
-use crate::engine::run;
-use crate::indexes::{Records, new_index};
+use crate::engine::run_script;
+use crate::indexes::{Records, create_for_files};
 use core::mem::replace_with;
 use hot_index::{Gate, Handle, Index, NoGate, Pass, handles_of};
 use hot_scripts::script::Script;
@@ -59,7 +59,7 @@ impl<'a, G: Gate> Promise<Result<(Done<'a>, G), AllocError>> for Order<'a, G> {
 /// Makes an index of `records` and runs scripts on it. Those of files, `scripts`, run at the same time, each in a thread with its gate;
 /// `last` runs when they have ended. Returns all answers, and the gates in the order of `scripts`; an error if memory is refused, or a
 /// thread can't be started.
-pub fn answer_all<T: AllocGlobal + Threads + Wait + Sync, G: Gate + Send + Drop>(
+pub fn run_all<T: AllocGlobal + Threads + Wait + Sync, G: Gate + Send + Drop>(
     rt: &T,
     records: Records,
     scripts: &[Script],
@@ -72,13 +72,13 @@ pub fn answer_all<T: AllocGlobal + Threads + Wait + Sync, G: Gate + Send + Drop>
     ensures answered { IfOk result (λ results. AreAllAnswered records.nodes records.leaves G.becomes (zip gates.items results.gates.items)
         (map script_commands scripts.now) (script_commands last.now) (flat_map (λ t. t.items) results.texts.items)) }
 {
-    let (index, passes, pass) = new_index(rt.alloc(), scripts.len() as u32, records)?;
-    answer_by(rt, Handle::new(&index, pass), passes, scripts, gates, last)
+    let (index, passes, pass) = create_for_files(rt.alloc(), scripts.len() as u32, records)?;
+    run_by(rt, Handle::new(&index, pass), passes, scripts, gates, last)
 }
 
 /// Answers `scripts`, those of files, by `passes`, and then, when the pass of `handle` has met them, `last` by that. Returns all answers
 /// as texts that follow one another, and the gates in the order of `scripts`; an error if memory is refused, or a thread can't be started.
-fn answer_by<'a, T: AllocGlobal + Threads + Wait + Sync, G: Gate + Send + Drop>(
+fn run_by<'a, T: AllocGlobal + Threads + Wait + Sync, G: Gate + Send + Drop>(
     rt: &T,
     handle: Handle<&'a Index>,
     passes: Vec<Pass>,
@@ -94,15 +94,15 @@ fn answer_by<'a, T: AllocGlobal + Threads + Wait + Sync, G: Gate + Send + Drop>(
 {
     let alloc = rt.alloc();
     let ended = run_files(rt, alloc, handle.index, passes, scripts, gates)?;
-    let (mut ran, gates) = part(alloc, ended)?;
+    let (mut ran, gates) = split_gates(alloc, ended)?;
     let done: &mut [Done] = &mut ran;
     let handle = meet_all(handle, done);
-    let texts = answer_last(rt, alloc, handle, done, last)?;
+    let texts = run_last(rt, alloc, handle, done, last)?;
     Ok(Results { texts, gates })
 }
 
 /// The scripts that have run, and their gates.
-fn part<'a, G: Drop>(
+fn split_gates<'a, G: Drop>(
     alloc: Global,
     ran: Vec<(Done<'a>, G)>,
 ) -> Result<(Vec<Done<'a>>, Vec<G>), AllocError>
@@ -120,7 +120,7 @@ fn part<'a, G: Drop>(
 
 /// Answers the last script by `handle`, whose pass has met those of the others and meets them again. Returns the answers of all as texts
 /// that follow one another; an error if memory is refused.
-fn answer_last<'a, T: Wait>(
+fn run_last<'a, T: Wait>(
     rt: &T,
     alloc: Global,
     handle: Handle<&'a Index>,
@@ -135,7 +135,7 @@ fn answer_last<'a, T: Wait>(
     let _pass = &handle.pass;
     let (done, _gate) = run_file(rt, alloc, handle, last, NoGate)?;
     meet_all(done.handle, met);
-    sections(alloc, met, done.text)
+    make_sections(alloc, met, done.text)
 }
 
 /// Runs each of `scripts` in a thread with its own pass of `index` and its own gate, all at the same time, and joins them. Returns each
@@ -175,13 +175,13 @@ fn run_within<'a: 's, 's, E, T: Threads + Wait + Sync + 's, G: Gate + Send + Dro
     requires { AreReady handles.items scripts.now gates.items }
     ensures { IfOk result (λ done. AllThree (IsDone G.becomes) (zip handles.entry.items gates.items) (map script_commands scripts.entry.now) done.items) }
 {
-    let running = start_all(threads, rt, alloc, handles, scripts, gates)?;
-    join_all(rt, alloc, running)
+    let running = start_files(threads, rt, alloc, handles, scripts, gates)?;
+    join_files(rt, alloc, running)
 }
 
 /// Starts the thread of each of `scripts`, with the handle and the gate of its place. An error if memory is refused, or a thread can't be
 /// started.
-fn start_all<'a: 's, 's, E, T: Threads + Wait + Sync + 's, G: Gate + Send + Drop + 's>(
+fn start_files<'a: 's, 's, E, T: Threads + Wait + Sync + 's, G: Gate + Send + Drop + 's>(
     threads: &Scope<'s, E>,
     rt: &'s T,
     alloc: Global,
@@ -203,13 +203,13 @@ fn start_all<'a: 's, 's, E, T: Threads + Wait + Sync + 's, G: Gate + Send + Drop
         let Some(gate) = gates.next() else {
             unreachable!();
         };
-        running.push(start(threads, rt, alloc, handle, script, gate)?)?;
+        running.push(start_file(threads, rt, alloc, handle, script, gate)?)?;
     }
     Ok(running)
 }
 
 /// Joins the threads `running`, one after another, and returns what they ran. An error if memory was refused to one of them.
-fn join_all<'a, T: Threads + Wait, G: Gate + Drop>(
+fn join_files<'a, T: Threads + Wait, G: Gate + Drop>(
     rt: &T,
     alloc: Global,
     running: Vec<Running<'a, G>>,
@@ -224,7 +224,7 @@ fn join_all<'a, T: Threads + Wait, G: Gate + Drop>(
 }
 
 /// Starts the thread of `script`. An error if it can't be started.
-fn start<'a: 's, 's, E, T: Threads + Wait + Sync + 's, G: Gate + Send + Drop + 's>(
+fn start_file<'a: 's, 's, E, T: Threads + Wait + Sync + 's, G: Gate + Send + Drop + 's>(
     threads: &Scope<'s, E>,
     rt: &'s T,
     alloc: Global,
@@ -261,7 +261,7 @@ fn run_file<'a, T: Wait, G: Gate + Drop>(
 {
     let mut handle = handle;
     let mut gate = gate;
-    match run(&Waits { rt }, alloc, &mut handle, script, &mut gate) {
+    match run_script(&Waits { rt }, alloc, &mut handle, script, &mut gate) {
         Ok(text) => Ok((Done { handle, text }, gate)),
         Err(refused) => Err(refused),
     }
@@ -276,13 +276,13 @@ fn meet_all<'a>(handle: Handle<&'a Index>, done: &mut [Done<'a>]) -> Handle<&'a 
 {
     let mut last = handle;
     for script in done.iter_mut() {
-        last = meet(last, script);
+        last = meet_script(last, script);
     }
     last
 }
 
 /// The handle's pass meets that of `done`, a script that has run. Returns the handle.
-fn meet<'a>(handle: Handle<&'a Index>, done: &mut Done<'a>) -> Handle<&'a Index>
+fn meet_script<'a>(handle: Handle<&'a Index>, done: &mut Done<'a>) -> Handle<&'a Index>
     requires { done.old.handle.index ≡ handle.index }
     ensures index { (result.index ≡ handle.entry.index) × (done.new.handle.index ≡ handle.entry.index) }
     ensures met { HaveMet handle.entry.index.layout handle.entry.pass done.old.handle.pass result.pass done.new.handle.pass }

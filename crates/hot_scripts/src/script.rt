@@ -1,7 +1,6 @@
 //! A whole script: the check of its lines, and its commands, each read again where it is asked for.
 
 ghost use Rattle.std.specs.Prelude.{◌≡◌, ◌+◌, ◌^◌, ◌<◌, ◌≤◌, All, IfErr, IfOk, IfSome, None, Some, filter_map, length, vec_len};
-ghost use Rattle.finite_map.specs.Maps.{key_of};
 ghost use Rattle.key_bits.specs.declared.TheConstants.{MAX_BYTES};
 ghost use Rattle.hot_scripts.specs.Grammar.{HasKeyUpTo, asked, commands_of, first_bad, lines_of, readings_of};
 ghost use Rattle.hot_scripts.specs.Words.{text_len};
@@ -10,7 +9,6 @@ use crate::command::{Command, Version};
 use crate::fault::{Reason, RunFault};
 use crate::line::{parse_line, split_first};
 use finite_map::Call;
-use key_bits::Key;
 
 /// The most bytes that a script may have.
 pub const MAX_SCRIPT: usize = 1_048_576;
@@ -137,18 +135,8 @@ fn key_bytes(command: &Option<Command>) -> usize
     ensures few { result ≤ MAX_BYTES }
 {
     match command {
-        Some(Command::Call(call)) => key_of(call).as_bytes().len(),
+        Some(Command::Call(call)) => call.key().as_bytes().len(),
         Some(Command::Scan(_)) | None => 0,
-    }
-}
-
-/// The key of `call`.
-fn key_of(call: &Call) -> &Key
-    ensures { result.now ≡ key_of call.now }
-{
-    match call {
-        Call::Insert(key, _) | Call::Upsert(key, _) | Call::Exchange(key, _, _) => key,
-        Call::Add(key, _) | Call::Get(key) | Call::Remove(key) | Call::RemoveIf(key, _) => key,
     }
 }
 

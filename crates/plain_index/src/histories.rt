@@ -1,7 +1,7 @@
 //! Whether calls are legal in a front, decided from the values.
 ghost use Rattle.std.specs.Prelude.{◌≡◌, ◌↔◌, IsTrue, slice_get};
 ghost use Rattle.finite_map.specs.declared.Change.{Change};
-ghost use Rattle.finite_map.specs.Maps.{Map, key_of, step_where, value_at};
+ghost use Rattle.finite_map.specs.Maps.{value_at};
 ghost use Rattle.finite_map.specs.Fronts.{FitsKind, LegalFront, map_of};
 ghost use Rattle.finite_map.specs.Calls.{LegalCalls, RisesFrom, StandsIn, change_of, changes_of, effect_of, is_change, own_changes};
 
@@ -16,45 +16,6 @@ pub fn are_legal(front: &[Change], pass: u16, notes: &[Note]) -> bool
         && notes.iter().all(|note| stands_in(front, pass, note))
         && rises_from(0, notes)
         && owns(front, pass, notes)
-}
-
-/// The key that a call is about.
-fn key_in(call: &Call) -> &Key
-    ensures { result.now ≡ key_of call.now }
-{
-    match call {
-        Call::Insert(key, _) => key,
-        Call::Upsert(key, _) => key,
-        Call::Exchange(key, _, _) => key,
-        Call::Add(key, _) => key,
-        Call::Get(key) => key,
-        Call::Remove(key) => key,
-        Call::RemoveIf(key, _) => key,
-    }
-}
-
-/// The reply of a map to `call`, if its key has the value `held` there; `None` stands for an absent key.
-fn reply_where(call: &Call, held: Option<u64>) -> Reply
-    ensures { (m : Map) → result ≡ (step_where held m call.now).1 }
-{
-    match (call, held) {
-        (Call::Insert(..), None) => Reply::Inserted,
-        (Call::Insert(..), Some(value)) => Reply::Exists(value),
-        (Call::Upsert(..), None) => Reply::New,
-        (Call::Upsert(..), Some(value)) => Reply::Was(value),
-        (Call::Exchange(..), None) => Reply::Absent,
-        (Call::Exchange(_, expected, _), Some(value)) if value == *expected => Reply::Exchanged,
-        (Call::Exchange(..), Some(value)) => Reply::Differs(value),
-        (Call::Add(..), None) => Reply::Absent,
-        (Call::Add(..), Some(value)) => Reply::Was(value),
-        (Call::Get(_), None) => Reply::Absent,
-        (Call::Get(_), Some(value)) => Reply::Value(value),
-        (Call::Remove(_), None) => Reply::Absent,
-        (Call::Remove(_), Some(value)) => Reply::Removed(value),
-        (Call::RemoveIf(..), None) => Reply::Absent,
-        (Call::RemoveIf(_, expected), Some(value)) if value == *expected => Reply::Removed(value),
-        (Call::RemoveIf(..), Some(value)) => Reply::Differs(value),
-    }
 }
 
 /// The kind and the value of the change that a call made, if it has this reply.
@@ -131,7 +92,7 @@ fn tells_of(note: &Note, pass: u16, change: &Change) -> bool
         None => false,
         Some((kind, value)) => {
             change.pass == pass
-                && change.key == *key_in(&note.call)
+                && change.key == *note.call.key()
                 && change.value == value
                 && change.kind == kind
         }
@@ -158,8 +119,8 @@ fn stands_in(front: &[Change], pass: u16, note: &Note) -> bool
     if note.place > front.len() as u64 {
         return false;
     }
-    let held = held_value(&front[..note.place as usize], key_in(&note.call));
-    note.reply == reply_where(&note.call, held) && names_change(front, pass, note)
+    let held = held_value(&front[..note.place as usize], note.call.key());
+    note.reply == note.call.reply(held) && names_change(front, pass, note)
 }
 
 /// Whether the places are in order from `low` on.

@@ -7,8 +7,8 @@ use Rattle.hot_run.specs.declared.together.Done.{Done}
 use Rattle.hot_run.specs.Progress.{MeetInTurn}
 use Rattle.hot_run.proofs.together.meet_all.Goals as goal
 
-pub meet-last-requires : goal.meet-last-requires
-meet-last-requires c =
+pub meet_script-last-requires : goal.meet_script-last-requires
+meet_script-last-requires c =
     let was = c.loop-script.invariant in
     All-get_or (λ (d : Done). d.handle.index ≡ c.args.handle.index) c.loop-script.done c.loop-script.script-index c.script-item.result (omega (arith, c.loop-script-test.true, c.loop-script.auto.done)) was.at.1 ∙ sym was.at.0
 
@@ -17,17 +17,17 @@ loop-script-preserved c =
     let index = c.args.handle.index in
     let done = c.loop-script.done in
     let i = c.loop-script.script-index in
-    let made = c.meet-last.new.done in
+    let made = c.meet_script-last.new.done in
     let low : i < length done = omega (arith, c.loop-script-test.true, c.loop-script.auto.done) in
     let was = c.loop-script.invariant in
     record {
-      at = (c.meet-last.ensures.index.0 ∙ was.at.0, All-set (λ (d : Done). d.handle.index ≡ index) done i made (c.meet-last.ensures.index.1 ∙ was.at.0) was.at.1);
+      at = (c.meet_script-last.ensures.index.0 ∙ was.at.0, All-set (λ (d : Done). d.handle.index ≡ index) done i made (c.meet_script-last.ensures.index.1 ∙ was.at.0) was.at.1);
       completes = λ j rest others.
-          let met : HaveMet index.layout c.loop-script.last.pass (get_or done i c.script-item.result).handle.pass c.meet-last.result.pass made.handle.pass =
-          rw was.at.0 at c.meet-last.ensures.met in
+          let met : HaveMet index.layout c.loop-script.last.pass (get_or done i c.script-item.result).handle.pass c.meet_script-last.result.pass made.handle.pass =
+          rw was.at.0 at c.meet_script-last.ensures.met in
           let left = rw (drop-set-lt (i + 1) done i made (omega arith)) at others in
           let whole : MeetInTurn index c.loop-script.last.pass (get_or done i c.script-item.result ∷ drop (i + 1) done) j (made ∷ rest) =
-          (c.meet-last.result.pass, met, c.meet-last.ensures.text, left) in
+          (c.meet_script-last.result.pass, met, c.meet_script-last.ensures.text, left) in
           rw (take_more_set done i made low, append_assoc) (was.completes j (made ∷ rest) (rw (drop_more done i c.script-item.result low) whole));
     }
 

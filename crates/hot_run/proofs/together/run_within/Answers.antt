@@ -13,5 +13,5 @@ returns g c =
     let seats = zip c.args.handles.items c.args.gates.items in
     let scripts = map script_commands c.args.scripts.now in
     let orders = map (λ t. t.promise) c.in_ok-running.running.items in
-    IfOk-weaker c.join_all.result (λ (done : _). AllZip (HasKept becomes) orders done.items) (λ (done : _). AllThree (IsDone becomes) seats scripts done.items)
-    (λ done kept. all_joined becomes seats scripts orders done.items c.in_ok-running.ensures kept) c.join_all.ensures
+    IfOk-weaker c.join_files.result (λ (done : _). AllZip (HasKept becomes) orders done.items) (λ (done : _). AllThree (IsDone becomes) seats scripts done.items)
+    (λ done kept. all_joined becomes seats scripts orders done.items c.in_ok-running.ensures kept) c.join_files.ensures
