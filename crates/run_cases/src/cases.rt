@@ -11,8 +11,8 @@ use std::io::ErrorKind;
 #[derive(Drop)]
 pub enum Deed {
     Make(Call),
-    List(usize),
-    ListDown(usize),
+    Scan(usize),
+    ScanReverse(usize),
     Collect,
 }
 
@@ -90,8 +90,8 @@ pub fn parse_deeds(deeds: &mut Vec<Deed>, text: &str) -> io::Result<()> {
 fn parse_deed(deeds: &mut Vec<Deed>, words: &[&str]) -> io::Result<()> {
     let (name, word, value) = match *words {
         ["collect"] => return Ok(deeds.push(Deed::Collect)?),
-        ["scan", limit] => return Ok(deeds.push(Deed::List(parse_count(limit)? as usize))?),
-        ["scan_reverse", limit] => return Ok(deeds.push(Deed::ListDown(
+        ["scan", limit] => return Ok(deeds.push(Deed::Scan(parse_count(limit)? as usize))?),
+        ["scan_reverse", limit] => return Ok(deeds.push(Deed::ScanReverse(
             parse_count(limit)? as usize,
         ))?),
         [name, word] => (name, word, 0),

@@ -39,7 +39,7 @@ impl Chance {
             8 => Deed::Make(Call::Add(key, value)),
             9..=12 => Deed::Make(Call::Remove(key)),
             13 => Deed::Make(Call::Get(key)),
-            14 => Deed::List(4),
+            14 => Deed::Scan(4),
             _ => Deed::Collect,
         }
     }

@@ -46,12 +46,12 @@ pub fn do_deeds<G: Gate>(
             Deed::Make(call) => {
                 write_reply(said, guest.index.try_call_with(&mut guest.pass, call, gate))?;
             }
-            Deed::List(limit) => {
-                let scan = scan_up(guest, *said.allocator(), *limit, gate)?;
+            Deed::Scan(limit) => {
+                let scan = scan_from_lowest(guest, *said.allocator(), *limit, gate)?;
                 write_scan(said, &scan)?;
             }
-            Deed::ListDown(limit) => {
-                let scan = scan_down(guest, *said.allocator(), *limit, gate)?;
+            Deed::ScanReverse(limit) => {
+                let scan = scan_from_highest(guest, *said.allocator(), *limit, gate)?;
                 write_scan(said, &scan)?;
             }
             Deed::Collect => {
@@ -64,7 +64,7 @@ pub fn do_deeds<G: Gate>(
 }
 
 /// Scans for the first `limit` pairs of the index. `gate` is told each step.
-pub fn scan_up<G: Gate>(
+pub fn scan_from_lowest<G: Gate>(
     guest: &mut Guest,
     alloc: Global,
     limit: usize,
@@ -75,7 +75,7 @@ pub fn scan_up<G: Gate>(
 }
 
 /// Scans for the last `limit` pairs of the index, in falling order. `gate` is told each step.
-pub fn scan_down<G: Gate>(
+pub fn scan_from_highest<G: Gate>(
     guest: &mut Guest,
     alloc: Global,
     limit: usize,

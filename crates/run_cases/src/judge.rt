@@ -4,7 +4,7 @@ ghost use Rattle.std.specs.Prelude.{All};
 ghost use Rattle.seat_calls.specs.Passes.{Owns};
 
 use crate::cases::{Case, Deed, bad_line};
-use crate::guests::{Guest, do_deeds, next_guest, scan_down, scan_up};
+use crate::guests::{Guest, do_deeds, next_guest, scan_from_highest, scan_from_lowest};
 use hot_index::{Event, Gate, Index, Pass, Scan};
 use record_words::Layout;
 use rowex_replay::Replay;
@@ -32,9 +32,9 @@ impl Judge {
 
     /// Compares a scan of all keys, and one downwards, with the map that the steps so far have made. It counts each that differs.
     pub fn compare(&mut self, alloc: Global, guest: &mut Guest) -> Result<(), AllocError> {
-        let up = scan_up(guest, alloc, usize::MAX, self)?;
+        let up = scan_from_lowest(guest, alloc, usize::MAX, self)?;
         self.compare_scan(alloc, &up)?;
-        let mut down = scan_down(guest, alloc, usize::MAX, self)?;
+        let mut down = scan_from_highest(guest, alloc, usize::MAX, self)?;
         down.pairs.reverse();
         self.compare_scan(alloc, &down)
     }
