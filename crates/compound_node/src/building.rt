@@ -10,11 +10,11 @@ use super::nodes::Node;
 use arrayvec::ArrayVec;
 use partial_keys::Columns;
 
-/// The node of `columns`, `rows` and `entries`, which fit together. Its height is one above the highest entry's.
-pub(crate) fn built(columns: Columns, rows: &[u32], entries: ArrayVec<Entry, 32>) -> Node
+/// The node of `columns`, `rows` and `entries`, which fit together. Its height is one above the greatest of the entries'.
+pub(crate) fn build(columns: Columns, rows: &[u32], entries: ArrayVec<Entry, 32>) -> Node
     requires { FitTogether columns rows.now entries.items }
     ensures { IsBuiltFrom result (piece_of (LeafEntry 0) columns rows.now entries.items) }
 {
-    let head = Head::over(height_over(entries.as_slice()), columns, rows);
+    let head = Head::from_rows(height_over(entries.as_slice()), columns, rows);
     Node::of(head, entries)
 }

@@ -8,8 +8,8 @@ ghost use Rattle.compound_node.specs.Nodes.{IsEntry, StandsBelow, greatest_heigh
 
 use arrayvec::ArrayVec;
 
-/// What a node has at a place: a leaf record by its number, or a child node by its number and its
-/// stored height. In a node the height of a child is from 1 to 65,534.
+/// What a node has in a slot: a leaf record by its number, or a child node by its number and its stored height. In a node the height of a
+/// child is from 1 to 65,534.
 #[derive(Clone, Copy, PartialEq, Eq)]
 pub enum Entry {
     Leaf(u32),
@@ -21,6 +21,7 @@ impl Default for Entry {
 
     ghost is_default = { λ entry. entry ≡ LeafEntry 0 };
 
+    /// The leaf of record 0, for the unused places of a list.
     fn default() -> Self {
         Entry::Leaf(0)
     }
@@ -30,7 +31,7 @@ impl Entry {
     ghost use Rattle.std.specs.Prelude.{◌≡◌};
     ghost use Rattle.compound_node.specs.Nodes.{height_of};
 
-    /// The height of a child node; 0 for a leaf.
+    /// The stored height of a child node; 0 for a leaf.
     pub fn height(&self) -> u16
         ensures { result ≡ height_of self.now }
     {
@@ -41,7 +42,7 @@ impl Entry {
     }
 }
 
-/// The height of a new node over `entries`: one above the highest of theirs.
+/// The height of a new node over `entries`: one above the greatest of theirs.
 pub(crate) fn height_over(entries: &[Entry]) -> u16
     requires { All IsEntry entries.now }
     ensures { result ≡ 1 + greatest_height entries.now }
@@ -53,7 +54,7 @@ pub(crate) fn height_over(entries: &[Entry]) -> u16
     1 + greatest
 }
 
-/// The height of a new node over `entries`. These are `entry` and others that stood in a node of the height `height`.
+/// The height of a new node over `entries`, which are `entry` and those of a node of the height `height`.
 pub(crate) fn height_with(entries: &[Entry], entry: Entry, height: u16) -> u16
     requires children { All IsEntry entries.now }
     requires leaves { height ≡ 1 → greatest_height entries.now ≡ height_of entry }
@@ -89,16 +90,16 @@ pub(crate) fn all_stand_below(entries: &[Entry], height: u16) -> bool
 }
 
 /// The list of `entries`, 32 at most.
-pub(crate) fn listed(entries: &[Entry]) -> ArrayVec<Entry, 32>
+pub(crate) fn list_entries(entries: &[Entry]) -> ArrayVec<Entry, 32>
     requires { length entries.now ≤ 32 }
     ensures { result.items ≡ entries.now }
 {
     let mut list = ArrayVec::new();
-    append(&mut list, entries);
+    append_entries(&mut list, entries);
     list
 }
 
-/// Puts `entry` into `entries`: with `bit` straight after place `last`, else straight before place `first`.
+/// Puts `entry` into `entries`: straight after slot `last` if `bit` is 1, else straight before slot `first`.
 pub(crate) fn insert_beside(
     entries: &mut ArrayVec<Entry, 32>,
     first: usize,
@@ -115,30 +116,30 @@ pub(crate) fn insert_beside(
     entries.insert(at, entry);
 }
 
-/// The list of `entries` without the one at place `at`.
-pub(crate) fn removed(entries: &[Entry], at: usize) -> ArrayVec<Entry, 32>
+/// The list of `entries` without that in slot `at`.
+pub(crate) fn list_without(entries: &[Entry], at: usize) -> ArrayVec<Entry, 32>
     requires room { length entries.now ≤ 32 }
     requires in_range { at < length entries.now }
     ensures { result.items ≡ remove entries.now at }
 {
     let mut list = ArrayVec::new();
-    append(&mut list, &entries[..at]);
-    append(&mut list, &entries[at + 1..]);
+    append_entries(&mut list, &entries[..at]);
+    append_entries(&mut list, &entries[at + 1..]);
     list
 }
 
-/// The list of the entries `zero` and behind them those of `one`, 32 at most.
-pub(crate) fn both(zero: &[Entry], one: &[Entry]) -> ArrayVec<Entry, 32>
+/// The list of the entries `zero`, and behind them of the entries `one`, 32 at most.
+pub(crate) fn concatenate_entries(zero: &[Entry], one: &[Entry]) -> ArrayVec<Entry, 32>
     requires { length zero.now + length one.now ≤ 32 }
     ensures { result.items ≡ zero.now ++ one.now }
 {
-    let mut list = listed(zero);
-    append(&mut list, one);
+    let mut list = list_entries(zero);
+    append_entries(&mut list, one);
     list
 }
 
 /// Adds `entries` to the end of `list`, which has room for them.
-fn append(list: &mut ArrayVec<Entry, 32>, entries: &[Entry])
+fn append_entries(list: &mut ArrayVec<Entry, 32>, entries: &[Entry])
     requires { array_vec_len list.old + length entries.now ≤ 32 }
     ensures { list.new.items ≡ list.old.items ++ entries.now }
 {

@@ -1,4 +1,4 @@
-//! Nodes cut at their root fork, and nodes with a place less.
+//! Nodes cut at their root fork, and nodes with an entry less.
 
 ghost use Rattle.std.specs.List.{All};
 ghost use Rattle.std.specs.Prelude.{◌<◌, ◌≤◌, length};
@@ -10,10 +10,12 @@ ghost use Rattle.partial_keys.specs.Shown.{piece_of};
 ghost use Rattle.partial_keys.specs.Shows.{Covers};
 ghost use Rattle.pieces.specs.Changes.{without};
 
-use super::building::built;
-use super::entries::{Entry, listed, removed};
+use super::building::build;
+use super::entries::{Entry, list_entries, list_without};
 use super::nodes::Node;
-use super::rows::{cleared, front_len, joined, listed_rows, squeeze_all, without_row};
+use super::rows::{
+    clear_first_column, count_zero_side, list_rows, or_rows, squeeze_rows, without_row,
+};
 use arrayvec::ArrayVec;
 use partial_keys::Columns;
 
@@ -33,7 +35,8 @@ pub struct Cut {
     pub one: Half,
 }
 
-/// What the rows `rows` with their entries show, without the columns that none of them uses: one entry, or a node of many.
+/// The half of `entries`, whose rows over `columns` are `rows`: one entry, or a new node of many. The node has only the columns that the
+/// rows use.
 fn half_of(columns: &Columns, rows: ArrayVec<u32, 32>, entries: ArrayVec<Entry, 32>) -> Half
     requires some { 0 < length entries.items }
     requires room { length entries.items ≤ 32 }
@@ -47,25 +50,25 @@ fn half_of(columns: &Columns, rows: ArrayVec<u32, 32>, entries: ArrayVec<Entry, 
     }
     let mut rows = rows;
     let mut used_columns = *columns;
-    let used = joined(rows.as_slice());
+    let used = or_rows(rows.as_slice());
     used_columns.drop_unused(used);
-    squeeze_all(rows.as_mut_slice(), used, columns.count());
-    Half::Many(built(used_columns, rows.as_slice(), entries))
+    squeeze_rows(rows.as_mut_slice(), used, columns.count());
+    Half::Many(build(used_columns, rows.as_slice(), entries))
 }
 
-/// The root fork, with its two sides, of the node of `columns`, `rows` and `entries`.
+/// The node of `columns`, `rows` and `entries` cut at its root fork.
 pub(crate) fn cut_of(columns: &Columns, rows: &[u32], entries: &[Entry]) -> Cut
     requires { FitTogether columns.now rows.now entries.now }
     ensures { CutShows result (piece_of (LeafEntry 0) columns.now rows.now entries.now) }
 {
-    let front = front_len(rows);
-    let rest = cleared(&rows[front..]);
+    let front = count_zero_side(rows);
+    let rest = clear_first_column(&rows[front..]);
     let zero = half_of(
         columns,
-        listed_rows(&rows[..front]),
-        listed(&entries[..front]),
+        list_rows(&rows[..front]),
+        list_entries(&entries[..front]),
     );
-    let one = half_of(columns, rest, listed(&entries[front..]));
+    let one = half_of(columns, rest, list_entries(&entries[front..]));
     Cut {
         position: columns.first(),
         zero,
@@ -73,13 +76,13 @@ pub(crate) fn cut_of(columns: &Columns, rows: &[u32], entries: &[Entry]) -> Cut
     }
 }
 
-/// What is left without the entry at place `at` of the node of `columns`, `rows` and `entries`.
+/// What is left of the node of `columns`, `rows` and `entries` without the entry in slot `at`.
 pub(crate) fn rest_of(columns: &Columns, rows: &[u32], entries: &[Entry], at: usize) -> Half
     requires fit { FitTogether columns.now rows.now entries.now }
     requires in_range { at < length entries.now }
     ensures { HalfShows result (without at (piece_of (LeafEntry 0) columns.now rows.now entries.now)) }
 {
     let rest_rows = without_row(rows, at);
-    let rest_entries = removed(entries, at);
+    let rest_entries = list_without(entries, at);
     half_of(columns, rest_rows, rest_entries)
 }

@@ -10,16 +10,15 @@ ghost use Rattle.pieces.specs.Kept.{kept};
 ghost use Rattle.pieces.specs.Positions.{front_below, has, with_position};
 
 use super::rows::{
-    are_sparse_keys, fork_rows, is_padded, joined, padded, run_end, run_start, spread_all,
-    squeeze_all, take_row,
+    are_sparse_keys, fork_rows, is_padded, or_rows, remove_row, run_end, run_start, spread_rows,
+    squeeze_rows,
 };
 use key_bits::Key;
-use partial_keys::{Columns, search_lanes};
+use partial_keys::{Columns, pad, search_lanes};
 use std::marker::Model;
 use std::simd::prelude::*;
 
-/// A node without its entries: its stored height, its columns, and a sparse partial key for each
-/// entry. A search reads no more.
+/// A node without its entries: its stored height, its columns, and a sparse partial key for each entry. A search reads no more.
 #[derive(Drop)]
 pub struct Head {
     height: u16,
@@ -50,8 +49,8 @@ impl Head {
     ghost use Rattle.pieces.specs.Growth.{IsAffected, affected_count, affected_first, grown};
     ghost use Rattle.pieces.specs.Piece.{leads_to};
 
-    /// The head of these fields, if some node has it, else `None`. It has `count` entries, and 4,294,967,295 at the unused sparse partial
-    /// keys.
+    /// The head of a node of `count` entries with these fields; `None` if no node has them. The sparse partial keys of unused slots are
+    /// 4,294,967,295.
     pub fn from_parts(count: u8, height: u16, columns: &[u16], sparse: &[u32; 32]) -> Option<Head>
         ensures some { IsSome result ↔ IsHead count height columns.now sparse.now }
         ensures head { IfSome result (λ head. head ≡ record { height = height; columns = columns.now; rows = take count sparse.now }) }
@@ -68,7 +67,8 @@ impl Head {
         }
     }
 
-    /// The head of these fields, which some node has. It has `count` entries, and 4,294,967,295 at the unused places of `sparse`.
+    /// The head of a node of `count` entries with these fields, which some node has. The sparse partial keys of unused slots are
+    /// 4,294,967,295.
     pub fn of(count: u8, height: u16, columns: Columns, sparse: [u32; 32]) -> Head
         requires { IsHead count height columns sparse }
         ensures { result ≡ record { height = height; columns = columns; rows = take count sparse } }
@@ -96,12 +96,12 @@ impl Head {
         self.height
     }
 
-    /// The place to which the forks lead by the bits of `key`, in each node that has this head.
+    /// The slot to which the forks lead by the bits of `key`, in each node that has this head.
     pub fn search(&self, key: &Key) -> u8
         ensures leads { InEachNode self.now (λ node. result ≡ leads_to (bit_of key.now) (piece node)) }
         ensures in_range { result < length self.now.rows }
     {
-        search_lanes(&self.sparse, self.columns.dense(key))
+        search_lanes(&self.sparse, self.columns.extract(key))
     }
 
     /// The position of the root fork, in each node that has this head.
@@ -113,11 +113,12 @@ impl Head {
         self.columns.first()
     }
 
-    /// The places of the first and the last of the entries that agree with the one at `found` in all columns below `position`. A new fork
-    /// at `position` concerns these, in each node that has this head.
+    /// The first and the last of the affected slots, in each node that has this head. Their entries agree with that in slot `found` in all
+    /// columns below `position`.
     pub fn affected(&self, found: u8, position: u16) -> (u8, u8)
         requires { found < length self.now.rows }
-        ensures range { InEachNode self.now (λ node. (k : ℕ) → k < length node.entries → AgreeBefore node position found k ↔ ((result.0 ≤ k) × (k ≤ result.1))) }
+        ensures range { InEachNode self.now (λ node. (k : ℕ) → k < length node.entries →
+            AgreeBefore node position found k ↔ ((result.0 ≤ k) × (k ≤ result.1))) }
 
         // In terms of the piece: the part below the forks before the position, on the way to entry `found`.
         ensures from { InEachNode self.now (λ node. affected_first position found (piece node) ≡ result.0) }
@@ -131,8 +132,8 @@ impl Head {
         )
     }
 
-    /// The head of the height `height` with `columns` and `rows`, which fit together.
-    pub(crate) fn over(height: u16, columns: Columns, rows: &[u32]) -> Head
+    /// The head of these fields, which some node has; `rows` are those of its entries alone.
+    pub(crate) fn from_rows(height: u16, columns: Columns, rows: &[u32]) -> Head
         requires { IsLawfulNode (node_of (record { height = height; columns = columns; rows = rows.now }) (leaves (length rows.now))) }
         ensures { result ≡ record { height = height; columns = columns; rows = rows.now } }
     {
@@ -140,13 +141,20 @@ impl Head {
             height,
             count: rows.len() as u8,
             columns,
-            sparse: padded(rows),
+            sparse: pad(rows, u32::MAX),
         }
     }
 
-    /// Puts a new fork at `position` in over the entries from `first` to `last`, for one more entry. With `bit` that stands straight
-    /// after them, else straight before. The height is `height` then.
-    pub(crate) fn add(&mut self, height: u16, position: u16, first: usize, last: usize, bit: bool)
+    /// Puts a new fork at `position` in over the slots from `first` to `last`, for one more entry. That stands straight after them if `bit`
+    /// is 1, else straight before. The stored height becomes `height`.
+    pub(crate) fn add_fork(
+        &mut self,
+        height: u16,
+        position: u16,
+        first: usize,
+        last: usize,
+        bit: bool,
+    )
         requires room { length self.old.rows < 32 }
         requires range { first ≤ last }
         requires in_range { last < length self.old.rows }
@@ -155,15 +163,15 @@ impl Head {
         ensures { self.new ≡ forked_head height position first last bit self.old }
     {
         let count = self.count as usize;
-        let below = make_column(&mut self.columns, &mut self.sparse, count, position);
+        let below = ensure_column(&mut self.columns, &mut self.sparse, count, position);
         let rows = u32x32::from_array(self.sparse);
         self.sparse = fork_rows(rows, first, last, 1 << (31 - below), bit).to_array();
         self.count += 1;
         self.height = height;
     }
 
-    /// Puts a new fork at `position` in over the entries from `first` to `last`, as `Node::add` does, for a new leaf. The node has leaves
-    /// alone.
+    /// Puts a new fork at `position` in over the slots from `first` to `last`, for a new leaf. That stands straight after them if `bit` is
+    /// 1, else straight before. All entries are leaves.
     pub fn add_leaf(&mut self, first: u8, last: u8, position: u16, bit: bool)
         requires room { length self.old.rows < 32 }
         requires low { self.old.height ≡ 1 }
@@ -173,11 +181,11 @@ impl Head {
         ensures built { InEachNode self.old (λ node. IsAffected (piece node) position first last → (leaf : ℕ) →
             IsBuiltFrom (node_of self.new (insert node.entries (if bit then last + 1 else first) (LeafEntry leaf))) (grown position bit (LeafEntry leaf) first (piece node))) }
     {
-        self.add(1, position, first as usize, last as usize, bit);
+        self.add_fork(1, position, first as usize, last as usize, bit);
     }
 
-    /// Takes the entry at place `at` out, as `Node::without` does, of a node with more than two. The height is `height` then.
-    pub fn take_out(&mut self, at: u8, height: u16)
+    /// Takes out the entry in slot `at`, as `Node::without` does, where there are more than two. The stored height becomes `height`.
+    pub fn remove_entry(&mut self, at: u8, height: u16)
         requires several { 2 < length self.old.rows }
         requires in_range { at < length self.old.rows }
         requires height { 0 < height }
@@ -185,7 +193,7 @@ impl Head {
             IsBuiltFrom (node_of self.new (remove node.entries at)) (without at (piece node))) }
     {
         let count = self.count as usize;
-        take_row(&mut self.sparse, count, at as usize);
+        remove_row(&mut self.sparse, count, at as usize);
         drop_unused(&mut self.columns, &mut self.sparse, count - 1);
         self.count -= 1;
         self.height = height;
@@ -210,22 +218,22 @@ impl Head {
         &self.columns
     }
 
-    /// The sparse partial keys of the entries, in their order.
+    /// The sparse partial keys of the entries, in the order of the slots.
     pub(crate) fn rows(&self) -> &[u32]
         ensures { result.now ≡ self.now.rows }
     {
         &self.sparse[..self.count as usize]
     }
 
-    /// The rows at the first of 32 places, and 4,294,967,295 at the unused ones.
-    pub fn places(&self) -> &[u32; 32]
+    /// The sparse partial keys of the entries, and 4,294,967,295 for the unused ones of 32 slots.
+    pub fn padded_rows(&self) -> &[u32; 32]
         ensures { result.now ≡ with_unused self.now.rows }
     {
         &self.sparse
     }
 
-    /// The sparse partial key at place `at`, or 4,294,967,295 at an unused place.
-    pub(crate) fn word(&self, at: u8) -> u32
+    /// The sparse partial key of slot `at`; 4,294,967,295 if the slot is unused.
+    pub(crate) fn row(&self, at: u8) -> u32
         requires { at < 32 }
         ensures used { at < length self.now.rows → result ≡ slice_index self.now.rows at }
         ensures unused { length self.now.rows ≤ at → result ≡ 4294967295 }
@@ -234,9 +242,8 @@ impl Head {
     }
 }
 
-/// Makes `position` a column, if it is none: the first `count` rows have 0 in it. Returns how many columns are below it. If it was one,
-/// all stays.
-pub(crate) fn make_column(
+/// Adds a column at `position`, in which the first `count` rows get 0, and returns its index. If there was one, all stays.
+pub(crate) fn ensure_column(
     columns: &mut Columns,
     rows: &mut [u32; 32],
     count: usize,
@@ -253,13 +260,13 @@ pub(crate) fn make_column(
 {
     let below = columns.below(position);
     if !columns.is_column_at(below, position) {
-        columns.put(below, position);
-        spread_all(rows, count, below);
+        columns.insert_at(below, position);
+        spread_rows(rows, count, below);
     }
     below
 }
 
-/// Drops the columns in which each of the first `count` rows has 0, and their bits of these rows. One column at least is left.
+/// Drops the columns in which each of the first `count` rows has 0, and their bits of these rows. At least one column stays.
 fn drop_unused(columns: &mut Columns, rows: &mut [u32; 32], count: usize)
     requires columns { length columns.old ≤ 31 }
     requires few { count ≤ 32 }
@@ -269,15 +276,15 @@ fn drop_unused(columns: &mut Columns, rows: &mut [u32; 32], count: usize)
     ensures columns { columns.new ≡ kept (used_bits (or_all (take count rows.old))) columns.old }
     ensures rows { rows.new ≡ map (squeezed (or_all (take count rows.old))) (take count rows.old) ++ drop count rows.old }
 {
-    let used = joined(&rows[..count]);
+    let used = or_rows(&rows[..count]);
     let before = columns.count();
     if used != !(u32::MAX >> before) {
         columns.drop_unused(used);
-        squeeze_all(&mut rows[..count], used, before);
+        squeeze_rows(&mut rows[..count], used, before);
     }
 }
 
-/// Whether a head of some height has `count` entries, the columns `columns` and the sparse partial keys `sparse`.
+/// Whether some node of `count` entries has `columns` and the sparse partial keys `sparse`, with 4,294,967,295 for the unused slots.
 fn fits(count: u8, columns: &[u16], sparse: &[u32; 32]) -> bool
     ensures { IsTrue result ↔ FitsWords count columns.now sparse.now }
 {

@@ -5,29 +5,33 @@ ghost use Rattle.compound_node.specs.Joining.{IsWidened};
 ghost use Rattle.partial_keys.specs.Spread.{spread_row};
 ghost use Rattle.pieces.specs.Positions.{front_below, has, with_position};
 
-use super::rows::{listed_rows, spread_lanes};
+use super::rows::{list_rows, spread_lanes};
 use arrayvec::ArrayVec;
 use partial_keys::Columns;
 use std::simd::prelude::*;
 
-/// Makes `position` and the columns `others` columns, where they are none, and each row has 0 in the new ones. There are 31 columns at
-/// most then.
-pub(crate) fn widen(columns: &mut Columns, rows: &mut [u32; 32], position: u16, others: &Columns)
+/// Adds `position` and each of `others` that is no column yet to `columns`. Each row gets 0 in the new ones.
+pub(crate) fn ensure_columns(
+    columns: &mut Columns,
+    rows: &mut [u32; 32],
+    position: u16,
+    others: &Columns,
+)
     requires small { position < 65535 }
     requires room { length columns.old + length others.now < 31 }
     ensures { (count : ℕ) → IsWidened count (position ∷ others.now) columns.old rows.old columns.new rows.new }
 {
-    let mut lanes = with_column(columns, u32x32::from_array(*rows), position);
+    let mut lanes = ensure_column_of_lanes(columns, u32x32::from_array(*rows), position);
     for other in others.as_slice() {
-        lanes = with_column(columns, lanes, *other);
+        lanes = ensure_column_of_lanes(columns, lanes, *other);
     }
     *rows = lanes.to_array();
 }
 
-/// Makes `position` a column, if it is none, and returns the rows with 0 in it; else returns `rows`. Inline, so that they stay vectors
-/// from one column to the next.
+/// Adds a column at `position`, and returns `rows` with 0 in it; if it was one, all stays. Inline, so that the rows stay vectors from one
+/// column to the next.
 #[inline(always)]
-fn with_column(columns: &mut Columns, rows: u32x32, position: u16) -> u32x32
+fn ensure_column_of_lanes(columns: &mut Columns, rows: u32x32, position: u16) -> u32x32
     requires columns { length columns.old ≤ 31 }
     requires room { has columns.old position ≡ false → length columns.old < 31 }
     requires small { position < 65535 }
@@ -38,16 +42,16 @@ fn with_column(columns: &mut Columns, rows: u32x32, position: u16) -> u32x32
     if columns.is_column_at(below, position) {
         return rows;
     }
-    columns.put(below, position);
+    columns.insert_at(below, position);
     spread_lanes(rows, below)
 }
 
-/// The rows `zero`, and behind them the rows `one`, each joined with `bit`.
-pub(crate) fn both_rows(zero: &[u32], one: &[u32], bit: u32) -> ArrayVec<u32, 32>
+/// The list of the rows `zero`, and behind them of the rows `one`, each with `bit` set.
+pub(crate) fn concatenate_rows(zero: &[u32], one: &[u32], bit: u32) -> ArrayVec<u32, 32>
     requires { length zero.now + length one.now ≤ 32 }
     ensures { result.items ≡ zero.now ++ map (λ row. bit_or row bit) one.now }
 {
-    let mut rows = listed_rows(zero);
+    let mut rows = list_rows(zero);
     for row in one {
         rows.push(*row | bit);
     }

@@ -1,10 +1,12 @@
 //! Compound nodes.
 
-use super::building::built;
-use super::entries::{Entry, all_stand_below, both, height_with, insert_beside, listed};
+use super::building::build;
+use super::entries::{
+    Entry, all_stand_below, concatenate_entries, height_with, insert_beside, list_entries,
+};
 use super::halves::{Cut, Half, cut_of, rest_of};
 use super::heads::Head;
-use super::joining::{both_rows, widen};
+use super::joining::{concatenate_rows, ensure_columns};
 use super::rows::place_beside;
 use arrayvec::ArrayVec;
 use key_bits::Key;
@@ -41,8 +43,7 @@ impl Node {
     ghost use Rattle.pieces.specs.Growth.{IsAffected, affected_count, affected_first, grown};
     ghost use Rattle.pieces.specs.Piece.{Fork, Place, RisesFrom, leads_to};
 
-    /// The node of these fields, if they fit together, else `None`. The columns are 1 to 31 positions that rise strictly, and the sparse
-    /// partial keys show a piece over them. The unused ones are 4,294,967,295, and the entries can stand in a node of this height.
+    /// The node of these fields; `None` if no node has them. The sparse partial keys of unused slots are 4,294,967,295.
     pub fn from_parts(
         height: u16,
         columns: &[u16],
@@ -56,7 +57,7 @@ impl Node {
             return None;
         }
         let head = Head::from_parts(entries.len() as u8, height, columns, sparse)?;
-        Some(Node::of(head, listed(entries)))
+        Some(Node::of(head, list_entries(entries)))
     }
 
     /// The node of `head` and `entries`, which fit together.
@@ -67,7 +68,7 @@ impl Node {
         Node { head, entries }
     }
 
-    /// The node of two entries with a fork at `position`. The height is one above the higher of them.
+    /// The node of two entries, the sides of a fork at `position`. Its height is one above the greater of theirs.
     pub fn pair(position: u16, zero: Entry, one: Entry) -> Node
         requires below { position < 65535 }
         requires zero { IsEntry zero }
@@ -77,24 +78,24 @@ impl Node {
         let mut entries = ArrayVec::new();
         entries.push(zero);
         entries.push(one);
-        built(Columns::of(&[position]), &[0, 1 << 31], entries)
+        build(Columns::of(&[position]), &[0, 1 << 31], entries)
     }
 
-    /// The node of all entries of `zero` and `one`, 32 at most, with a fork at `position` above them. The height is built anew.
+    /// The node of all entries of `zero` and `one`, the sides of a fork at `position`. Its height is one above the greatest of the entries'.
     pub fn join(position: u16, zero: &Node, one: &Node) -> Node
         requires room { length zero.now.entries + length one.now.entries ≤ 32 }
         requires after { RisesFrom 0 (Fork position (piece zero.now) (piece one.now)) }
         ensures { IsBuiltFrom result (Fork position (piece zero.now) (piece one.now)) }
     {
         let (zero_count, one_count) = (zero.count() as usize, one.count() as usize);
-        let (mut columns, mut zero_rows) = (*zero.columns(), *zero.sparse_places());
-        widen(&mut columns, &mut zero_rows, position, one.columns());
-        let (mut same_columns, mut one_rows) = (*one.columns(), *one.sparse_places());
-        widen(&mut same_columns, &mut one_rows, position, zero.columns());
+        let (mut columns, mut zero_rows) = (*zero.columns(), *zero.padded_rows());
+        ensure_columns(&mut columns, &mut zero_rows, position, one.columns());
+        let (mut same_columns, mut one_rows) = (*one.columns(), *one.padded_rows());
+        ensure_columns(&mut same_columns, &mut one_rows, position, zero.columns());
         let bit = 1 << (31 - columns.below(position));
-        let rows = both_rows(&zero_rows[..zero_count], &one_rows[..one_count], bit);
-        let entries = both(zero.entries.as_slice(), one.entries.as_slice());
-        built(columns, rows.as_slice(), entries)
+        let rows = concatenate_rows(&zero_rows[..zero_count], &one_rows[..one_count], bit);
+        let entries = concatenate_entries(zero.entries.as_slice(), one.entries.as_slice());
+        build(columns, rows.as_slice(), entries)
     }
 
     /// How many entries there are, 2 to 32.
@@ -119,23 +120,23 @@ impl Node {
         self.head.columns()
     }
 
-    /// The sparse partial key of entry `i`, or 4,294,967,295 at an unused place; `i` is below 32.
+    /// The sparse partial key of slot `i`, which is below 32; 4,294,967,295 if the slot is unused.
     pub fn sparse(&self, i: u8) -> u32
         requires { i < 32 }
         ensures used { i < length self.now.rows → result ≡ slice_index self.now.rows i }
         ensures unused { length self.now.rows ≤ i → result ≡ 4294967295 }
     {
-        self.head.word(i)
+        self.head.row(i)
     }
 
-    /// The sparse partial keys at the first of 32 places, and 4,294,967,295 at the unused ones.
-    pub fn sparse_places(&self) -> &[u32; 32]
+    /// The sparse partial keys of the entries, and 4,294,967,295 for the unused ones of 32 slots.
+    pub fn padded_rows(&self) -> &[u32; 32]
         ensures { result.now ≡ with_unused self.now.rows }
     {
-        self.head.places()
+        self.head.padded_rows()
     }
 
-    /// The entry at place `i`.
+    /// The entry in slot `i`.
     pub fn entry(&self, i: u8) -> Entry
         requires { i < length self.now.entries }
         ensures entry { slice_get self.now.entries i ≡ Some result }
@@ -144,11 +145,18 @@ impl Node {
         self.entries[i as usize]
     }
 
-    /// The node without its entries.
+    /// A copy of the node without its entries.
     pub fn head(&self) -> Head
         ensures { result ≡ head_of self.now }
     {
         self.head.copy()
+    }
+
+    /// The node without its entries, in its place.
+    pub fn as_head(&self) -> &Head
+        ensures { result.now ≡ head_of self.now }
+    {
+        &self.head
     }
 
     /// The position of the root fork.
@@ -159,7 +167,7 @@ impl Node {
         self.head.first_position()
     }
 
-    /// The place to which the forks lead by the bits of `key`. Each key leads to a place, held or not.
+    /// The slot to which the forks lead by the bits of `key`. Each key leads to a slot, held or not.
     pub fn search(&self, key: &Key) -> u8
         ensures leads { result ≡ leads_to (bit_of key.now) (piece self.now) }
         ensures in_range { result < length self.now.entries }
@@ -167,8 +175,7 @@ impl Node {
         self.head.search(key)
     }
 
-    /// The places of the first and the last of the entries that agree with the one at `found` in all columns below `position`. A new fork
-    /// at `position` concerns these.
+    /// The first and the last of the affected slots: their entries agree with that in slot `found` in all columns below `position`.
     pub fn affected(&self, found: u8, position: u16) -> (u8, u8)
         requires { found < length self.now.entries }
         ensures range { (k : ℕ) → k < length self.now.entries → AgreeBefore self.now position found k ↔ ((result.0 ≤ k) × (k ≤ result.1)) }
@@ -180,8 +187,8 @@ impl Node {
         self.head.affected(found, position)
     }
 
-    /// The place beside place `at`, and the position of the fork between the two. `None` if the other side of the last fork on the path
-    /// to `at` has several places.
+    /// The slot that is alone on the other side of the last fork on the path to slot `at`, and the position of that fork. `None` if that
+    /// side has several slots.
     pub fn beside(&self, at: u8) -> Option<(u8, u16)>
         requires { at < length self.now.entries }
         ensures { result ≡ beside at (piece self.now) }
@@ -195,19 +202,15 @@ impl Node {
         }
     }
 
-    /// The sparse partial key at place `at`, or 4,294,967,295 past the last one.
+    /// The sparse partial key of slot `at`; 4,294,967,295 past the last entry.
     fn row(&self, at: u8) -> u32
         ensures { result ≡ slice_index_or self.now.rows at 4294967295 }
     {
-        if at < 32 {
-            self.head.word(at)
-        } else {
-            u32::MAX
-        }
+        if at < 32 { self.head.row(at) } else { u32::MAX }
     }
 
-    /// The node with a new fork at `position` over the entries from `first` to `last`, where they part from `entry`. With `bit` that
-    /// stands straight after them, else straight before. The height is built anew.
+    /// The node with `entry`, and with a new fork at `position` over the slots from `first` to `last`, which are affected. The entry stands
+    /// straight after them if `bit` is 1, else straight before. The height is one above the greatest of the entries'.
     pub fn insert(&self, first: u8, last: u8, position: u16, bit: bool, entry: Entry) -> Node
         requires room { length self.now.entries < 32 }
         requires range { IsAffected (piece self.now) position first last }
@@ -220,7 +223,7 @@ impl Node {
         node
     }
 
-    /// Puts a new fork at `position` and `entry` into the node, as `insert` does in a copy.
+    /// Puts `entry` and a new fork at `position` into this node, as `insert` does into a copy.
     pub fn add(&mut self, first: u8, last: u8, position: u16, bit: bool, entry: Entry)
         requires room { length self.old.entries < 32 }
         requires range { IsAffected (piece self.old) position first last }
@@ -231,7 +234,7 @@ impl Node {
         let (first, last) = (first as usize, last as usize);
         insert_beside(&mut self.entries, first, last, bit, entry);
         let height = height_with(self.entries.as_slice(), entry, self.head.height());
-        self.head.add(height, position, first, last, bit);
+        self.head.add_fork(height, position, first, last, bit);
     }
 
     /// A copy of the node.
@@ -240,11 +243,11 @@ impl Node {
     {
         Node {
             head: self.head.copy(),
-            entries: listed(self.entries.as_slice()),
+            entries: list_entries(self.entries.as_slice()),
         }
     }
 
-    /// A copy of the node with this entry at place `i`. The stored height stays.
+    /// A copy of the node with `entry` in slot `i`. The stored height stays.
     pub fn replace(&self, i: u8, entry: Entry) -> Node
         requires in_range { i < length self.now.entries }
         requires stands { StandsBelow self.now.height entry }
@@ -257,7 +260,7 @@ impl Node {
         node
     }
 
-    /// Puts `entry` at place `i`, as `replace` does in a copy.
+    /// Puts `entry` into slot `i` of this node, as `replace` does in a copy.
     pub fn set(&mut self, i: u8, entry: Entry)
         requires in_range { i < length self.old.entries }
         requires stands { StandsBelow self.old.height entry }
@@ -268,8 +271,8 @@ impl Node {
         self.entries[i as usize] = entry;
     }
 
-    /// The two sides of the root fork, each without the columns that it doesn't use and with its
-    /// height built anew. Neither is `Same`.
+    /// The node cut at its root fork. A side has only the columns that it uses, and its height is one above the greatest of its entries'.
+    /// Neither side is `Same`.
     pub fn cut(&self) -> Cut
         ensures { CutShows result (piece self.now) }
     {
@@ -280,8 +283,8 @@ impl Node {
         )
     }
 
-    /// The node without the entry at place `i`, and without the last fork on the path to it: the fork's other side takes its place. It is
-    /// never `Same`.
+    /// What is left without the entry in slot `i`, and without the last fork on the path to it. That fork's other side stands in its stead.
+    /// The result is never `Same`.
     pub fn without(&self, i: u8) -> Half
         requires { i < length self.now.entries }
         ensures { HalfShows result (without i (piece self.now)) }

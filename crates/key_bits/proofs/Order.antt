@@ -76,19 +76,15 @@ module _ (a b : List ℕ) (ka : IsKey a) (kb : IsKey b) where
   slice_cmp-first p d = ⊎_elim (λ e. absurd (d.differ (ap (λ key. bit_of key p) e)))
       (λ at. at.1.order ∙ ap (λ q. order_by (bit_of a q)) (first-unique a b at.0 p at.1.first d)) (parted a b ka.are_bytes kb.are_bytes)
 
+  by_bit : (bit : Bool) → slice_cmp nat_cmp a b ≡ order_by bit → ((slice_cmp nat_cmp a b ≡ Less) ↔ (bit ≡ false)) × ((slice_cmp nat_cmp a b ≡ Greater) ↔ (bit ≡ true))
+  by_bit true e = ((λ h. cc, λ h. cc), (λ h. refl, λ h. e))
+  by_bit false e = ((λ h. refl, λ h. e), (λ h. cc, λ h. cc))
+
   pub less_by_first : (p : ℕ) → IsFirstDifference a b p → (slice_cmp nat_cmp a b ≡ Less) ↔ (bit_of a p ≡ false)
-  less_by_first p d = by_bit (bit_of a p) (slice_cmp-first p d)
-    where
-      by_bit : (bit : Bool) → slice_cmp nat_cmp a b ≡ order_by bit → (slice_cmp nat_cmp a b ≡ Less) ↔ (bit ≡ false)
-      by_bit true e = (λ h. cc, λ h. cc)
-      by_bit false e = (λ h. refl, λ h. e)
+  less_by_first p d = (by_bit (bit_of a p) (slice_cmp-first p d)).0
 
   pub greater_by_first : (p : ℕ) → IsFirstDifference a b p → (slice_cmp nat_cmp a b ≡ Greater) ↔ (bit_of a p ≡ true)
-  greater_by_first p d = by_bit (bit_of a p) (slice_cmp-first p d)
-    where
-      by_bit : (bit : Bool) → slice_cmp nat_cmp a b ≡ order_by bit → (slice_cmp nat_cmp a b ≡ Greater) ↔ (bit ≡ true)
-      by_bit true e = (λ h. refl, λ h. e)
-      by_bit false e = (λ h. cc, λ h. cc)
+  greater_by_first p d = (by_bit (bit_of a p) (slice_cmp-first p d)).1
 
   -- one key is smaller exactly where it has 0 and the other 1 at a first difference
   pub less_iff_first : (slice_cmp nat_cmp a b ≡ Less) ↔ ((p : ℕ) × IsFirstDifference a b p × (bit_of a p ≡ false))

@@ -52,7 +52,7 @@ impl Model for Key {
 }
 
 impl Key {
-    /// The key of `bytes`; `TooLong` exactly if there are more than `MAX_BYTES`.
+    /// The key of `bytes`; `Err(TooLong)` exactly if there are more than `MAX_BYTES`.
     pub fn from_bytes(bytes: &[u8]) -> Result<Key, KeyFault>
         ensures fits { IsOk result ↔ (length bytes.now ≤ MAX_BYTES) }
         ensures ok { IfOk result (λ key. key ≡ bytes.now) }
@@ -75,9 +75,9 @@ impl Key {
         }
     }
 
-    /// Makes this the key of `bytes`; `TooLong` exactly if there are more than `MAX_BYTES`, and then the key stays as it was.
+    /// Makes this the key of `bytes`. `Err(TooLong)` exactly if there are more than `MAX_BYTES`, and then the key stays as it was.
     ///
-    /// A key that is made so where it is used isn't moved, as the one in the result of [`Key::from_bytes`] is.
+    /// A key that is set where it is used isn't moved, as the one in the result of `Key::from_bytes` is.
     #[inline(always)]
     pub fn set_bytes(&mut self, bytes: &[u8]) -> Result<(), KeyFault>
         ensures fits { IsOk result ↔ (length bytes.now ≤ MAX_BYTES) }
@@ -93,7 +93,7 @@ impl Key {
         Ok(())
     }
 
-    /// The key of the first `count` of `bytes`; all others are 0.
+    /// The key of the first `count` of `bytes`, where all others are 0.
     pub fn of_places(bytes: [u8; MAX_BYTES], count: usize) -> Key
         requires { HoldsKey bytes count }
         ensures { result ≡ take count bytes }
@@ -109,15 +109,15 @@ impl Key {
         &self.bytes[..self.count]
     }
 
-    /// The key's bytes, with 0 at the unused ones of `MAX_BYTES` places.
-    pub fn places(&self) -> &[u8; MAX_BYTES]
-        ensures places { result.now ≡ with_zeros self.now }
+    /// The key's bytes, and 0 behind them up to `MAX_BYTES`.
+    pub fn padded_bytes(&self) -> &[u8; MAX_BYTES]
+        ensures bytes { result.now ≡ with_zeros self.now }
         ensures key { IsKey self.now }
     {
         &self.bytes
     }
 
-    /// A second key of the same bytes.
+    /// A copy of the key.
     pub fn copy(&self) -> Key
         ensures same { result ≡ self.now }
         ensures key { IsKey self.now }
@@ -128,8 +128,8 @@ impl Key {
         }
     }
 
-    /// The bit at `position`: byte `i` gives nine bits at `9 * i` on, a 1 and then its own bits, the highest first. Each bit past the
-    /// last byte is 0.
+    /// The bit at `position`. Byte `i` gives the nine bits from `9 * i` on: a 1, and then its own bits, the highest first. Each bit past
+    /// the last byte is 0.
     pub fn bit(&self, position: u16) -> bool
         ensures { result ≡ bit_of self.now position }
     {
@@ -137,16 +137,16 @@ impl Key {
     }
 }
 
-/// Writes `bytes` to the first of `places`; the others stay. Keys of eight bytes are common, and are written as one word.
+/// Writes `bytes` to the front of `array`; what is behind them stays. Keys of eight bytes are common, and are written as one word.
 #[inline(always)]
-fn write_front(places: &mut [u8; MAX_BYTES], bytes: &[u8])
+fn write_front(array: &mut [u8; MAX_BYTES], bytes: &[u8])
     requires { length bytes.now ≤ MAX_BYTES }
-    ensures { places.new ≡ bytes.now ++ drop (length bytes.now) places.old }
+    ensures { array.new ≡ bytes.now ++ drop (length bytes.now) array.old }
 {
     if bytes.len() == 8 {
-        places[..8].copy_from_slice(&bytes[..8]);
+        array[..8].copy_from_slice(&bytes[..8]);
     } else {
-        places[..bytes.len()].copy_from_slice(bytes);
+        array[..bytes.len()].copy_from_slice(bytes);
     }
 }
 
@@ -159,6 +159,7 @@ impl PartialEq for Key {
 
     ghost laws = { partial_equiv_from_equiv nat_list_eq_equiv };
 
+    /// Whether both keys have the same bytes.
     fn eq(&self, other: &Key) -> bool
         ensures same { IsTrue result ↔ (self.now ≡ other.now) }
         ensures pointwise { result ≡ pointwise nat_eq self.now other.now }
@@ -182,6 +183,7 @@ impl PartialOrd for Key {
 
     ghost laws = { texts_po };
 
+    /// The order of the two keys by bytes, which each two keys have: never `None`.
     fn partial_cmp(&self, other: &Key) -> Option<Ordering> {
         Some(self.cmp(other))
     }
@@ -201,6 +203,7 @@ impl Ord for Key {
 
     ghost matches_eq = { texts_ties };
 
+    /// The order of the two keys by bytes, a prefix first. It is also their order by bits.
     fn cmp(&self, other: &Key) -> Ordering
         ensures bytes { result ≡ slice_cmp nat_cmp self.now other.now }
         ensures equal { (result ≡ Ordering.Equal) ↔ (self.now ≡ other.now) }
@@ -222,6 +225,7 @@ impl Hash for Key {
 
     ghost respects_eq = { Prim.search (hashing, rules) };
 
+    /// Feeds the key's bytes to `state`, as a slice of bytes does.
     fn hash<H: Hasher>(&self, state: &mut H) {
         self.as_bytes().hash(state);
     }
@@ -249,7 +253,7 @@ pub fn mismatch_in(xs: &[u8], ys: &[u8]) -> Option<u16>
     ensures order { IfSome result (λ p. (slice_cmp nat_cmp xs.now ys.now ≡ Ordering.Less) ↔ (bit_of xs.now p ≡ false)) }
 {
     let common = xs.len().min(ys.len());
-    let begin = 8 * same_eights(xs, ys, common / 8);
+    let begin = 8 * count_same_eights(xs, ys, common / 8);
     for i in begin..common {
         if xs[i] != ys[i] {
             return Some(9 * i as u16 + 1 + byte_mismatch(xs[i], ys[i]) as u16);
@@ -262,11 +266,12 @@ pub fn mismatch_in(xs: &[u8], ys: &[u8]) -> Option<u16>
     }
 }
 
-/// How many of the first `count` eights of bytes of `xs` and `ys` are the same, before the first that differs.
-fn same_eights(xs: &[u8], ys: &[u8], count: usize) -> usize
+/// How many groups of eight bytes are the same in `xs` and `ys`, before the first group that differs; at most `count`.
+fn count_same_eights(xs: &[u8], ys: &[u8], count: usize) -> usize
     requires { (8 * count ≤ length xs.now) × (8 * count ≤ length ys.now) }
     ensures few { result ≤ count }
     ensures same { take (8 * result) xs.now ≡ take (8 * result) ys.now }
+    ensures next { result < count → take 8 (drop (8 * result) xs.now) ≢ take 8 (drop (8 * result) ys.now) }
 {
     for j in 0..count {
         if eight_at(xs, j) != eight_at(ys, j) {
@@ -276,7 +281,7 @@ fn same_eights(xs: &[u8], ys: &[u8], count: usize) -> usize
     count
 }
 
-/// The eight bytes from byte `8 * j` on as a number, the first of them highest.
+/// The eight bytes from byte `8 * j` on as a number, whose highest byte is the first of them.
 #[inline(always)]
 fn eight_at(bytes: &[u8], j: usize) -> u64
     requires { 8 * j + 8 ≤ length bytes.now }
@@ -287,7 +292,7 @@ fn eight_at(bytes: &[u8], j: usize) -> u64
     u64::from_be_bytes(eight)
 }
 
-/// How many bits stand before the first at which `x` and `y` differ, counted from the highest.
+/// How many bits of the bytes `x` and `y`, which differ, stand before the first that differs, from the highest on.
 fn byte_mismatch(x: u8, y: u8) -> u32
     requires { x ≢ y }
     ensures bound { result < 8 }
@@ -309,7 +314,7 @@ pub fn extract(key: &Key, positions: &[u16]) -> u32
     bits << (31 - positions.len()) << 1
 }
 
-/// The bit at `position` of the key with the bytes `bytes`, as 0 or 1.
+/// The bit at `position` of the key of `bytes`, as 0 or 1.
 fn bit_in(bytes: &[u8], position: u16) -> u32
     ensures { result ≡ (if bit_of bytes.now position then 1 else 0) }
 {

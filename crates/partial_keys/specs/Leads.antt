@@ -1,7 +1,8 @@
--- The place to which the forks of a shown piece lead.
-use Rattle.std.specs.Prelude.{Bool, List, ℕ, ◌≡◌}
-use Rattle.partial_keys.specs.Rows.{dense_of, with_unused, dense_bit}
+-- What a search of sparse partial keys finds: the place to which the forks of a shown piece lead.
+use Rattle.std.specs.Prelude.{Bool, List, ℕ, ◌%◌, ◌≡◌}
+use Rattle.partial_keys.specs.Rows.{IsHighest, complies, dense_bit, dense_of, with_unused}
 use Rattle.partial_keys.specs.Shows.{ShowsPiece}
+use Rattle.pieces.specs.Highest.{highest}
 use Rattle.pieces.specs.Piece.{Piece, leads_to}
 
 -- for each piece whose rows these words are, with the unused places: place i is where its forks lead by the dense key
@@ -15,3 +16,10 @@ abbrev pub IsPlaceForKey : List ℕ → ℕ → ℕ → Type 0
 IsPlaceForKey sparse dense i =
     (columns rows entries : List ℕ) (piece : Piece ℕ) (bit : ℕ → Bool) → ShowsPiece columns rows entries piece → sparse ≡ with_unused rows →
     dense ≡ dense_of columns bit → i ≡ leads_to bit piece
+
+-- i is the highest index at which a word complies, so it is where the forks lead
+pub record IsFound (sparse : List ℕ) (dense i : ℕ) : Type 0 where
+  pub value : i ≡ highest (complies dense) sparse
+  pub highest : IsHighest sparse dense i
+  pub leads : dense % 2 ≡ 0 → IsPlaceForDense sparse dense i
+  pub leads_key : IsPlaceForKey sparse dense i

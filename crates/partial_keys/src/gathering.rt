@@ -11,10 +11,10 @@ ghost use Rattle.partial_keys.specs.Windows.{bit_within, byte_lane, mask_lane, m
 use key_bits::{Key, MAX_BYTES};
 use std::simd::prelude::*;
 
-/// At each fraction of nine, in sixteenths, that a position can have: its bit in its byte, and none for the first of the nine bits.
+/// The bit of a position in its byte, at the index `position % 9 * 16 / 9`; 0 for the first of the nine bits.
 const MASKS: [u8; 16] = [0, 128, 0, 64, 0, 32, 0, 16, 8, 8, 4, 0, 2, 0, 1, 0];
 
-/// The number of the byte that has the bit at each of `positions`. For a position behind all bytes of a key, it is no byte of a key.
+/// For each of `positions` the index of the byte of a key that has its bit. It is above each index of a byte where no key has the bit.
 #[inline(always)]
 fn bytes_at(positions: u16x32) -> u8x32
     ensures { result ≡ map byte_lane positions }
@@ -24,18 +24,18 @@ fn bytes_at(positions: u16x32) -> u8x32
     bytes.simd_min(u16x32::splat(255)).cast::<u8>()
 }
 
-/// The bit of each of `positions` in its byte, as a mask; 0 for the first of a byte's nine bits.
+/// For each of `positions` a mask of its bit in its byte; 0 for the first of a byte's nine bits.
 #[inline(always)]
 fn masks_at(positions: u16x32) -> u8x32
     ensures { result ≡ map mask_lane positions }
 {
     let parts = (positions * u16x32::splat(7282)) >> u16x32::splat(12);
-    doubled(u8x16::from_array(MASKS)).swizzle_dyn_within::<16>(parts.cast::<u8>())
+    repeat_lanes(u8x16::from_array(MASKS)).swizzle_dyn_within::<16>(parts.cast::<u8>())
 }
 
 /// The sixteen lanes `lanes`, twice.
 #[inline(always)]
-fn doubled(lanes: u8x16) -> u8x32
+fn repeat_lanes(lanes: u8x16) -> u8x32
     ensures { (i : ℕ) → i < 32 → slice_index result i ≡ slice_index lanes (i % 16) }
 {
     lanes.swizzle::<32>([
@@ -44,19 +44,20 @@ fn doubled(lanes: u8x16) -> u8x32
     ])
 }
 
-/// Sixteen places of `key` from byte `first` on, twice. Places past the key's end are 0.
+/// The sixteen bytes of `key` from byte `first` on, twice. Past the key's end they are 0.
 #[inline(always)]
 fn window_at(key: &Key, first: usize) -> u8x32
     requires { first + 16 ≤ MAX_BYTES }
     ensures { (i : ℕ) → i < 32 → slice_index result i ≡ slice_index (with_zeros key.now) (first + i % 16) }
 {
-    doubled(u8x16::from_slice(&key.places()[first..]))
+    repeat_lanes(u8x16::from_slice(&key.padded_bytes()[first..]))
 }
 
-/// For each lane the bits of its mask in `masks` that its byte lacks, where `bytes` says which byte that is. The sixteen bytes from
-/// `first` on stand in `window`. A lane whose byte is behind `last` has some bit anyhow.
+/// For each lane the bits of its mask in `masks` that its byte lacks; not 0 if that byte is behind byte `last`.
+///
+/// `bytes` says which byte each lane has. `window` has the sixteen bytes from byte `first` on.
 #[inline(always)]
-fn missed(bytes: u8x32, masks: u8x32, window: u8x32, first: u8, last: u8) -> u8x32
+fn find_missing(bytes: u8x32, masks: u8x32, window: u8x32, first: u8, last: u8) -> u8x32
     requires lanes { (length bytes ≡ 32) × (length masks ≡ 32) × (length window ≡ 32) }
     ensures whole { length result ≡ 32 }
     ensures each { (i : ℕ) → i < 32 → slice_index result i ≡ missed_lane window first last i (slice_index bytes i) (slice_index masks i) }
@@ -66,21 +67,21 @@ fn missed(bytes: u8x32, masks: u8x32, window: u8x32, first: u8, last: u8) -> u8x
     masks & !there | bytes.saturating_sub(u8x32::splat(last))
 }
 
-/// Bit 31-i is set exactly if lane i is 0.
+/// A mask whose bit 31-i is set exactly if lane i is 0.
 #[inline(always)]
-fn zeros(lanes: u8x32) -> u32
+fn mark_zeros(lanes: u8x32) -> u32
     requires { length lanes ≡ 32 }
     ensures { result ≡ gathered (λ x. eqb x 0) lanes }
 {
     lanes.reverse().simd_eq(u8x32::splat(0)).to_bitmask() as u32
 }
 
-/// The bits of `key` at the columns in the first `count` lanes: the bit of column j is bit 31-j.
+/// The dense partial key of `key` for the columns in the first `count` of `lanes`: the bit of column j is bit 31-j.
 ///
-/// By vectors, if the sixteen bytes from the first column's on have all bits at columns that the key has: seldom are columns further
-/// apart. A position p is bit p%9 of byte p/9, and p*7282/65536 is p/9 as long as p is below 9 * 3640.
+/// Mostly sixteen bytes of the key have all its bits at columns, and then they are read at once. A position p is bit p%9 of byte p/9, and
+/// p*7282/65536 is p/9 as long as p is below 9 * 3640.
 #[inline(always)]
-pub fn dense_lanes(lanes: u16x32, count: u8, key: &Key) -> u32
+pub fn extract_by_lanes(lanes: u16x32, count: u8, key: &Key) -> u32
     requires { AreColumnLanes lanes count }
     ensures { result ≡ dense_of (take count lanes) (bit_of key.now) }
 {
@@ -89,14 +90,14 @@ pub fn dense_lanes(lanes: u16x32, count: u8, key: &Key) -> u32
     let bytes = bytes_at(lanes);
     if is_near(bytes, first, key_length) {
         let (masks, window) = (masks_at(lanes), window_at(key, first));
-        zeros(missed(bytes, masks, window, first as u8, (key_length - 1) as u8))
+        mark_zeros(find_missing(bytes, masks, window, first as u8, (key_length - 1) as u8))
     } else {
-        dense_far(lanes, count, key)
+        extract_far(lanes, count, key)
     }
 }
 
-/// Whether the sixteen bytes from byte `first` on have all bits at columns that a key of `key_length` bytes has. `bytes` has the byte of
-/// each column.
+/// Whether the sixteen bytes from byte `first` on have all bits at columns that a key of `key_length` bytes has. `bytes` says in which
+/// byte each column has its bit. Where they have all, it may be false.
 #[inline(always)]
 fn is_near(bytes: u8x32, first: usize, key_length: usize) -> bool
     requires lanes { length bytes ≡ 32 }
@@ -109,7 +110,7 @@ fn is_near(bytes: u8x32, first: usize, key_length: usize) -> bool
         && (key_length <= first + 16 || has_none_between(bytes, first as u8 + 16, key_length as u8))
 }
 
-/// Whether each of `bytes` is below `from`, or not below `to`.
+/// Whether each of `bytes` is below `from`, or not below `to`. False says nothing.
 #[inline(always)]
 fn has_none_between(bytes: u8x32, from: u8, to: u8) -> bool
     requires lanes { length bytes ≡ 32 }
@@ -122,10 +123,10 @@ fn has_none_between(bytes: u8x32, from: u8, to: u8) -> bool
         == 0
 }
 
-/// The bits that [`dense_lanes`] returns, gathered from sixteen bytes of the key after the other. Never inline: so the lanes go into
+/// The dense partial key that `extract_by_lanes` returns, from sixteen bytes of the key at a time. Never inline: so the lanes go into
 /// memory only where columns are far apart.
 #[inline(never)]
-fn dense_far(lanes: u16x32, count: u8, key: &Key) -> u32
+fn extract_far(lanes: u16x32, count: u8, key: &Key) -> u32
     requires { AreColumnLanes lanes count }
     ensures { result ≡ dense_of (take count lanes) (bit_of key.now) }
 {
@@ -133,15 +134,15 @@ fn dense_far(lanes: u16x32, count: u8, key: &Key) -> u32
     let parts = (key.as_bytes().len().saturating_sub(first) + 15) / 16;
     let mut missing = u8x32::splat(255);
     for part in 0..parts {
-        missing = missing.simd_min(missed_from(lanes, first + 16 * part, key));
+        missing = missing.simd_min(find_missing_from(lanes, first + 16 * part, key));
     }
-    zeros(missing)
+    mark_zeros(missing)
 }
 
-/// For each lane 0 exactly if `key` has its bit, in one of the sixteen places from `from` on. If those would be past the last place, the
-/// last sixteen count instead.
+/// For each lane 0 exactly if `key` has a 1 at its position, in one of the sixteen bytes from `from` on. Past byte `MAX_BYTES - 16`, the
+/// last sixteen of `MAX_BYTES` count instead.
 #[inline(always)]
-fn missed_from(lanes: u16x32, from: usize, key: &Key) -> u8x32
+fn find_missing_from(lanes: u16x32, from: usize, key: &Key) -> u8x32
     requires lanes { length lanes ≡ 32 }
     requires some { from < length key.now }
     ensures whole { length result ≡ 32 }
@@ -150,19 +151,19 @@ fn missed_from(lanes: u16x32, from: usize, key: &Key) -> u8x32
     let first = from.min(MAX_BYTES - 16);
     let last = (first + 15).min(key.as_bytes().len() - 1);
     let bytes = bytes_at(lanes);
-    let missed = missed(
+    let missed = find_missing(
         bytes,
         masks_at(lanes),
         window_at(key, first),
         first as u8,
         last as u8,
     );
-    missed | before(bytes, first as u8)
+    missed | count_before(bytes, first as u8)
 }
 
-/// How many bytes each of `bytes` is before byte `first`; 0 if it isn't before.
+/// For each of `bytes` by how much it is below `first`; 0 if it isn't below.
 #[inline(always)]
-fn before(bytes: u8x32, first: u8) -> u8x32
+fn count_before(bytes: u8x32, first: u8) -> u8x32
     requires { length bytes ≡ 32 }
     ensures whole { length result ≡ 32 }
     ensures each { (i : ℕ) → i < 32 → slice_index result i ≡ first - slice_index bytes i }
@@ -170,7 +171,7 @@ fn before(bytes: u8x32, first: u8) -> u8x32
     u8x32::splat(first).saturating_sub(bytes)
 }
 
-/// The 31 positions as lanes, and 65,535 behind them.
+/// The 31 `positions` as lanes, and 65,535 in the last lane.
 #[inline(always)]
 pub(crate) fn lanes_of(positions: &[u16; 31]) -> u16x32
     ensures { result ≡ positions.now ++ 65535 ∷ [] }

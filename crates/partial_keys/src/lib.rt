@@ -1,19 +1,18 @@
 //! Columns of a compound node, HOT's discriminative bits, and the search of its sparse partial keys (Binna and others, SIGMOD 2018).
 #![tactic(auto)]
 
-ghost use Rattle.std.specs.Prelude.{◌≡◌, ◌%◌, ◌+◌, ◌-◌, ◌++◌, ◌∷◌, ◌<◌, ◌≤◌, drop, insert, length, map, remove, replicate, slice_index, take};
+ghost use Rattle.std.specs.Prelude.{◌≡◌, ◌+◌, ◌-◌, ◌++◌, ◌∷◌, ◌<◌, ◌≤◌, drop, insert, length, map, remove, replicate, slice_index, take};
 ghost use Rattle.pieces.specs.Kept.{kept};
-ghost use Rattle.pieces.specs.Highest.{highest};
 ghost use Rattle.pieces.specs.Positions.{front_below};
 ghost use Rattle.partial_keys.specs.Columns.{with_free};
-ghost use Rattle.partial_keys.specs.Leads.{IsPlaceForDense, IsPlaceForKey};
-ghost use Rattle.partial_keys.specs.Rows.{IsHighest, complies};
+ghost use Rattle.partial_keys.specs.Leads.{IsFound};
+ghost use Rattle.partial_keys.specs.Rows.{complies};
 ghost use Rattle.partial_keys.specs.Squeezed.{used_bits};
 ghost use lib.Lanes.{mask_l};
 
 mod gathering;
 
-pub use gathering::dense_lanes;
+pub use gathering::extract_by_lanes;
 use gathering::lanes_of;
 use key_bits::Key;
 use std::marker::Model;
@@ -51,19 +50,19 @@ impl Columns {
     ghost use Rattle.partial_keys.specs.Rows.{dense_of};
     ghost use Rattle.partial_keys.specs.Squeezed.{used_bits};
 
-    /// The columns at `positions`, which are 1 to 31 and rise.
+    /// The columns at `positions`, which are 1 to 31 and rise strictly, each below 65,535.
     pub fn of(positions: &[u16]) -> Columns
         requires { IsColumns positions.now }
         ensures { result ≡ positions.now }
     {
         Columns {
-            positions: filled(positions),
+            positions: pad(positions, u16::MAX),
             count: positions.len() as u8,
         }
     }
 
-    /// The columns at the first `count` of `positions`; all others are 65,535.
-    pub fn of_places(positions: [u16; 31], count: u8) -> Columns
+    /// The columns at the first `count` of `positions`, which rise strictly. All others are 65,535.
+    pub fn from_padded(positions: [u16; 31], count: u8) -> Columns
         requires { HoldsColumns positions count }
         ensures { result ≡ take count positions }
     {
@@ -78,8 +77,8 @@ impl Columns {
         &self.positions[..self.count as usize]
     }
 
-    /// The positions at the first of 31 places, and 65,535 at the unused ones.
-    pub fn places(&self) -> &[u16; 31]
+    /// The positions, and 65,535 behind them up to 31.
+    pub fn padded(&self) -> &[u16; 31]
         ensures { result.now ≡ with_free self.now }
     {
         &self.positions
@@ -107,7 +106,7 @@ impl Columns {
         self.positions[j as usize]
     }
 
-    /// How many columns are below `position`. If `position` is a column, that is its index.
+    /// How many columns have a position below `position`. If `position` is a column, that is its index.
     pub fn below(&self, position: u16) -> u8
         ensures value { result ≡ front_below position self.now }
         ensures within { result ≤ length self.now }
@@ -115,7 +114,7 @@ impl Columns {
         count_below(lanes_of(&self.positions), position)
     }
 
-    /// Whether `position` is a column, where `below` columns are below it.
+    /// Whether `position` is a column; `below` says how many columns are below it.
     pub fn is_column_at(&self, below: u8, position: u16) -> bool
         requires { below ≡ front_below position self.now }
         ensures { result ≡ has self.now position }
@@ -123,15 +122,14 @@ impl Columns {
         below < self.count && self.positions[below as usize] == position
     }
 
-    /// The bits of `key` at the columns: the bit of column j is bit 31-j.
-    pub fn dense(&self, key: &Key) -> u32
+    /// The dense partial key of `key`: its bits at the columns. The bit of column j is bit 31-j, and all others are 0.
+    pub fn extract(&self, key: &Key) -> u32
         ensures { result ≡ dense_of self.now (bit_of key.now) }
     {
-        dense_lanes(lanes_of(&self.positions), self.count, key)
+        extract_by_lanes(lanes_of(&self.positions), self.count, key)
     }
 
-    /// Makes `position` a column, and returns its index among the columns. `position` is no column yet and below 65,535, and there are
-    /// fewer than 31 columns.
+    /// Adds a column at `position`, which is none yet, and returns its index among the columns.
     pub fn add_position(&mut self, position: u16) -> u8
         requires room { length self.old < 31 }
         requires below { position < 65535 }
@@ -140,24 +138,24 @@ impl Columns {
         ensures columns { self.new ≡ with_position position self.old }
     {
         let at = self.below(position);
-        self.put(at, position);
+        self.insert_at(at, position);
         at
     }
 
-    /// Puts `position`, which is no column, in as one, where `below` columns are below it.
-    pub fn put(&mut self, below: u8, position: u16)
+    /// Adds a column at `position`, which is none yet; `below` says how many columns are below it.
+    pub fn insert_at(&mut self, below: u8, position: u16)
         requires room { length self.old < 31 }
         requires small { position < 65535 }
         requires new { has self.old position ≡ false }
-        requires place { below ≡ front_below position self.old }
+        requires index { below ≡ front_below position self.old }
         ensures { self.new ≡ with_position position self.old }
     {
         let count = self.count as usize;
-        put_in(&mut self.positions, count, below as usize, position);
+        insert_in(&mut self.positions, count, below as usize, position);
         self.count += 1;
     }
 
-    /// Keeps the columns j whose bit 31-j is set in `used`.
+    /// Drops each column j whose bit 31-j is 0 in `used`. At least one stays.
     pub fn drop_unused(&mut self, used: u32)
         requires some { 0 < length (kept (used_bits used) self.old) }
         ensures { self.new ≡ kept (used_bits used) self.old }
@@ -167,19 +165,19 @@ impl Columns {
     }
 }
 
-/// The positions at the first of 31 places, and 65,535 at the unused ones.
-fn filled(positions: &[u16]) -> [u16; 31]
-    requires { length positions.now ≤ 31 }
-    ensures { result ≡ with_free positions.now }
+/// An array that begins with `items`, and has `unused` in each place behind them.
+pub fn pad<T: Copy, const N: usize>(items: &[T], unused: T) -> [T; N]
+    requires { length items.now ≤ N }
+    ensures { result ≡ items.now ++ replicate (N - length items.now) unused }
 {
-    let mut places = [u16::MAX; 31];
-    for (j, position) in positions.iter().enumerate() {
-        places[j] = *position;
+    let mut padded = [unused; N];
+    for (i, item) in items.iter().enumerate() {
+        padded[i] = *item;
     }
-    places
+    padded
 }
 
-/// How many lanes stand before the first that is not below `bound`.
+/// How many of `lanes` stand before the first that is not below `bound`.
 #[inline(always)]
 pub fn count_below(lanes: u16x32, bound: u16) -> u8
     ensures { result ≡ front_below bound lanes }
@@ -188,57 +186,53 @@ pub fn count_below(lanes: u16x32, bound: u16) -> u8
     reached.trailing_zeros() as u8
 }
 
-/// Puts `element` in among the first `count` places, at place `at`: those from there on move up by one, over the element behind them.
-pub fn put_in<T: Copy>(places: &mut [T], count: usize, at: usize, element: T)
-    requires place { at ≤ count }
-    requires room { count < length places.old }
-    ensures { places.new ≡ insert (take count places.old) at element ++ drop (count + 1) places.old }
+/// Puts `element` in at index `at` among the first `count` of `items`. Those from there on move up by one, over the element behind them.
+pub fn insert_in<T: Copy>(items: &mut [T], count: usize, at: usize, element: T)
+    requires in_range { at ≤ count }
+    requires room { count < length items.old }
+    ensures { items.new ≡ insert (take count items.old) at element ++ drop (count + 1) items.old }
 {
-    places.copy_within(at..count, at + 1);
-    places[at] = element;
+    items.copy_within(at..count, at + 1);
+    items[at] = element;
 }
 
-/// Takes the element at place `at` out of the first `count`: those behind it move down by one, and `fill` comes behind them.
-pub fn take_out<T: Copy>(places: &mut [T], count: usize, at: usize, fill: T)
-    requires place { at < count }
-    requires room { count ≤ length places.old }
-    ensures { places.new ≡ remove (take count places.old) at ++ fill ∷ drop count places.old }
+/// Takes the element at index `at` out of the first `count` of `items`. Those behind it move down by one, and `fill` comes behind them.
+pub fn remove_in<T: Copy>(items: &mut [T], count: usize, at: usize, fill: T)
+    requires in_range { at < count }
+    requires room { count ≤ length items.old }
+    ensures { items.new ≡ remove (take count items.old) at ++ fill ∷ drop count items.old }
 {
     for i in at..count - 1 {
-        places[i] = places[i + 1];
+        items[i] = items[i + 1];
     }
-    places[count - 1] = fill;
+    items[count - 1] = fill;
 }
 
-/// Keeps of the first `count` positions those j whose bit 31-j is set in `used`, in front of unused places. Returns how many these are.
-fn keep_used(places: &mut [u16; 31], count: usize, used: u32) -> usize
+/// Moves those of the first `count` positions whose bit 31-j is set in `used` to the front, where j is their index. Returns how many
+/// these are. All behind them are 65,535 then.
+fn keep_used(positions: &mut [u16; 31], count: usize, used: u32) -> usize
     requires few { count ≤ 31 }
-    requires unused { drop count places.old ≡ replicate (31 - count) 65535 }
-    ensures count { result ≡ length (kept (used_bits used) (take count places.old)) }
-    ensures places { places.new ≡ with_free (kept (used_bits used) (take count places.old)) }
+    requires unused { drop count positions.old ≡ replicate (31 - count) 65535 }
+    ensures count { result ≡ length (kept (used_bits used) (take count positions.old)) }
+    ensures positions { positions.new ≡ with_free (kept (used_bits used) (take count positions.old)) }
 {
     let mut found = 0;
     for j in 0..count {
         if used >> (31 - j) & 1 == 1 {
-            places[found] = places[j];
+            positions[found] = positions[j];
             found += 1;
         }
     }
     for j in found..count {
-        places[j] = u16::MAX;
+        positions[j] = u16::MAX;
     }
     found
 }
 
-/// The place of the highest entry whose sparse partial key complies with `dense`: `dense & sparse[i] == sparse[i]`.
+/// The highest index i at which the sparse partial key complies with the dense one: `dense & sparse[i] == sparse[i]`.
 pub fn search_plain(sparse: &[u32; 32], dense: u32) -> u8
     requires { slice_index sparse.now 0 ≡ 0 }
-    ensures value { result ≡ highest (complies dense) sparse.now }
-    ensures highest { IsHighest sparse.now dense result }
-
-    // Where the words are the rows of a shown piece and the unused places, it is the place to which the forks lead.
-    ensures leads { dense % 2 ≡ 0 → IsPlaceForDense sparse.now dense result }
-    ensures leads_key { IsPlaceForKey sparse.now dense result }
+    ensures { IsFound sparse.now dense result }
 {
     let mut best = 0;
     for i in 1..32 {
@@ -249,32 +243,26 @@ pub fn search_plain(sparse: &[u32; 32], dense: u32) -> u8
     best
 }
 
-/// The place that `search_plain` returns, by one comparison of all 32 words as lanes of a vector.
+/// The index that `search_plain` returns, by one comparison of all 32 sparse partial keys as lanes of a vector.
 pub fn search_lanes(sparse: &[u32; 32], dense: u32) -> u8
     requires { slice_index sparse.now 0 ≡ 0 }
-    ensures value { result ≡ highest (complies dense) sparse.now }
-    ensures highest { IsHighest sparse.now dense result }
-    ensures leads { dense % 2 ≡ 0 → IsPlaceForDense sparse.now dense result }
-    ensures leads_key { IsPlaceForKey sparse.now dense result }
+    ensures { IsFound sparse.now dense result }
 {
     search_rows(u32x32::from_array(*sparse), dense)
 }
 
-/// The place that `search_plain` returns, of words that are lanes already.
+/// The index that `search_plain` returns, where the sparse partial keys are lanes already.
 #[inline(always)]
 pub fn search_rows(sparse: u32x32, dense: u32) -> u8
     requires { slice_index sparse 0 ≡ 0 }
-    ensures value { result ≡ highest (complies dense) sparse }
-    ensures highest { IsHighest sparse dense result }
-    ensures leads { dense % 2 ≡ 0 → IsPlaceForDense sparse dense result }
-    ensures leads_key { IsPlaceForKey sparse dense result }
+    ensures { IsFound sparse dense result }
 {
-    (63 - complying_lanes(sparse, dense).leading_zeros()) as u8
+    (63 - mark_complying(sparse, dense).leading_zeros()) as u8
 }
 
-/// Bit i is set exactly if lane i complies with `dense`: it has no bit that `dense` lacks.
+/// A mask whose bit i is set exactly if lane i complies with `dense`: it has no bit that `dense` lacks.
 #[inline(always)]
-fn complying_lanes(lanes: u32x32, dense: u32) -> u64
+fn mark_complying(lanes: u32x32, dense: u32) -> u64
     ensures { result ≡ mask_l (map (complies dense) lanes) }
 {
     (u32x32::splat(!dense) & lanes)

@@ -15,7 +15,7 @@ use Rattle.partial_keys.specs.Rows.{with_unused}
 use Rattle.partial_keys.specs.Spread.{forked_rows, spread_row}
 use Rattle.pieces.specs.Growth.{edited, grown}
 use Rattle.pieces.specs.Positions.{front_below, has, with_position}
-use Rattle.record_words.specs.Node.{CanGrowAt, HasFork, head_words}
+use Rattle.record_words.specs.Node.{CanGrowAt, HasHead, head_words}
 use Rattle.record_words.specs.Packed.{meta_word, position_word, row_at, row_word}
 use Rattle.record_words.proofs.Fixing.{AreFixed, fixed_words_parts}
 use Rattle.record_words.proofs.Lanes.{column_lanes, has-unused, place_lanes_read}
@@ -121,7 +121,7 @@ module _ {words : List ℕ} {node : NodeView} {position first last : ℕ} (growi
 
       -- the words with the new rows are those of the head with the fork
       pub has_fork : (out : List ℕ) → length out ≡ 57 → get_or out 0 0 ≡ get_or words 0 0 + 1 → ((k : ℕ) → 0 < k → (k < 9) ⊎ (25 ≤ k) → get_or out k 0 ≡ get_or words k 0) →
-          ((k : ℕ) → k < 16 → get_or out (9 + k) 0 ≡ row_word rows k) → HasFork words out node position first last bit
+          ((k : ℕ) → k < 16 → get_or out (9 + k) 0 ≡ row_word rows k) → HasHead words out (forked_head 1 position first last bit (head_of node))
       has_fork out whole numbers others in_rows = ext_get_or 0 out new (whole ∙ sym (length-with_head (length next.rows) 1 next.columns next.rows words long)) each
         where
           head : AreFixed (length next.rows) 1 next.columns next.rows (head_words next)

@@ -127,7 +127,11 @@ pub one_more_read : (entries before after : List Entry) (i : ℕ) (entry : Entry
 one_more_read entries before after i entry this inside so_far pushed =
     pushed ∙ (ap (λ front. front ++ entry ∷ []) so_far ∙ (ap (λ x. take i entries ++ x ∷ []) this ∙ (sym (take-suc entries i (Leaf 0) inside) ∙ ap (λ n. take n entries) (let e : suc i ≡ i + 1 = omega arith in e))))
 
--- the first word says how many there are
+-- the first word is the head's
+pub first_word : (node : NodeView) (words : List ℕ) → node_words node ≡ words → get_or (head_words (head_of node)) 0 0 ≡ get_or words 0 0
+first_word node words same = ap (λ all. get_or all 0 0) (head_part node words same) ∙ get_or-take 25 words 0 0 (lit< tt)
+
+-- and says how many there are
 pub entries_counted : (node : NodeView) (words : List ℕ) → HasNodeWords node → node_words node ≡ words → get_or words 0 0 % 256 ≡ length node.entries
 entries_counted node words has same =
     ap (λ word. word % 256) (sym (get_or-take 25 words 0 0 (lit< tt))) ∙ (count_read node has.lawful (take 25 words) (head_part node words same) ∙ same_count node has.lawful)

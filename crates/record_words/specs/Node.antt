@@ -1,8 +1,7 @@
 -- The words of a node record.
 use Rattle.std.specs.List.{All, range_with_len}
-use Rattle.std.specs.Prelude.{ℕ, ◌≡◌, ◌<◌, ◌≤◌, ◌++◌, Bool, List, Option, Some, None, drop, length, map, slice_get}
+use Rattle.std.specs.Prelude.{ℕ, ◌≡◌, ◌<◌, ◌≤◌, ◌++◌, List, Option, Some, None, drop, length, map, slice_get}
 use Rattle.compound_node.specs.declared.entries.Entry.{Entry}
-use Rattle.compound_node.specs.Forking.{forked_head}
 use Rattle.compound_node.specs.Nodes.{NodeView, HeadView, IsBuiltFrom, IsEntry, IsLawfulNode, StandsBelow, head_of, piece}
 use Rattle.pieces.specs.Changes.{beside}
 use Rattle.pieces.specs.Growth.{IsAffected}
@@ -53,9 +52,9 @@ pub record CanGrowAt (words : List ℕ) (node : NodeView) (position first last :
   pub takes : CanTakeLeaf node
   pub range : IsAffected (piece node) position first last
 
--- the words of the head are those with the fork, and the words behind them are as before
-abbrev pub HasFork : (old new : List ℕ) → NodeView → (position first last : ℕ) → Bool → Type 0
-HasFork old new node position first last bit = new ≡ head_words (forked_head 1 position first last bit (head_of node)) ++ drop HEAD_WORDS old
+-- the front of the words is that of this head, and the words behind it are as before
+abbrev pub HasHead : (old new : List ℕ) → HeadView → Type 0
+HasHead old new head = new ≡ head_words head ++ drop HEAD_WORDS old
 
 -- the words are those of a node that was built anew to show this piece
 pub record SpellBuilt (words : List ℕ) (shown : Piece Entry) : Type 0 where

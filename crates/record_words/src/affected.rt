@@ -7,14 +7,14 @@ ghost use Rattle.record_words.specs.Node.{HasHeadWords, InNodesOf, head_words};
 ghost use Rattle.record_words.specs.Packed.{row_at};
 ghost use Rattle.record_words.specs.Reading.{IsSpelling};
 
-use crate::numbers::row_of;
+use crate::numbers::{read_numbers, row_of};
 use crate::search::{quarters, rows_in};
 use crate::{FIRST_ROWS, HEAD_WORDS};
 use partial_keys::count_below;
 use std::simd::prelude::*;
 
-/// The places of the first and the last of the entries that agree with the one at `found` in all columns below `position`. A new fork at
-/// `position` concerns these, in each node whose head has `words`. No head is made: the words are compared as vectors as they stand.
+/// The first and the last of the affected slots, in each node whose head has `words`. Their entries agree with that in slot `found` in all
+/// columns below `position`. No head is made: the words are compared as vectors as they stand.
 ///
 /// The sparse partial keys rise. So those that agree in the first columns are a run, from the least number with these bits in front up to
 /// the greatest.
@@ -26,16 +26,16 @@ pub fn affected_in(words: &[u64], found: u8, position: u16) -> (u8, u8)
     ensures from { InNodesOf words.now (λ node. affected_first position found (piece node) ≡ result.0) }
     ensures upto { InNodesOf words.now (λ node. affected_count position found (piece node) + result.0 ≡ result.1 + 1) }
 {
-    let places = quarters(u64x8::from_slice(&words[1..]));
-    let rest = u32::MAX >> count_below(places, position);
+    let positions = quarters(u64x8::from_slice(&words[1..]));
+    let rest = u32::MAX >> count_below(positions, position);
     let row = row_in(words, found);
     let rows = rows_in(&words[FIRST_ROWS..]);
     let first = rows_below(rows, row & !rest);
-    let end = rows_upto(rows, row | rest).min((words[0] % 256) as u32);
+    let end = rows_upto(rows, row | rest).min(read_numbers(words[0]).count as u32);
     (first as u8, (end - 1) as u8)
 }
 
-/// The sparse partial key at place `at` of each node whose head has `words`; 4,294,967,295 past the last one.
+/// The sparse partial key of slot `at` of each node whose head has `words`; 4,294,967,295 past the last entry.
 #[inline(always)]
 fn row_in(words: &[u64], at: u8) -> u32
     requires { (length words.now ≡ HEAD_WORDS) × (at < 32) }

@@ -7,7 +7,7 @@ ghost use Rattle.record_words.specs.Reading.{IsSpelledBy, IsSpelling};
 use crate::HEIGHT_BIT;
 use compound_node::Entry;
 
-/// The word of `entry`, and 0 for `None`; a node's height is at least 1.
+/// The word of `entry`; 0 for `None`. A node's height is at least 1.
 pub fn pack_entry(entry: Option<Entry>) -> u64
     requires { HasEntryWord entry }
     ensures { result ≡ entry_word entry }
@@ -21,7 +21,7 @@ pub fn pack_entry(entry: Option<Entry>) -> u64
     }
 }
 
-/// The entry whose word is `word`, and `None` for 0; `word` is one of these.
+/// The entry whose word is `word`; `None` for 0.
 pub fn read_entry(word: u64) -> Option<Entry>
     requires { IsSpelling HasEntryWord entry_word word }
     ensures { IsSpelledBy HasEntryWord entry_word word result }
@@ -32,7 +32,7 @@ pub fn read_entry(word: u64) -> Option<Entry>
     }
 }
 
-/// The entry whose word is `word`, which is that of an entry. A leaf's word has no height.
+/// The entry whose word is `word`, which isn't 0. A leaf's word has no height.
 pub fn read_some(word: u64) -> Entry
     requires { IsSpelling (λ entry. HasEntryWord (Some entry)) (λ entry. entry_word (Some entry)) word }
     ensures { IsSpelledBy (λ entry. HasEntryWord (Some entry)) (λ entry. entry_word (Some entry)) word result }

@@ -77,7 +77,7 @@ impl LeafClass {
         }
     }
 
-    /// Its place among the classes, the smallest first, from 0 on.
+    /// Its index among the classes, the smallest first.
     pub fn place(self) -> usize
         ensures { result < LEAF_CLASSES }
     {
@@ -226,8 +226,8 @@ impl Layout {
         self.class_of(number).words()
     }
 
-    /// The number of the first leaf record with at least `words` words: those below have fewer, and those behind have enough. It is the
-    /// number of leaf records if the table has none of a class so large. If no class is so large, it is where the long ones begin.
+    /// The first leaf record of a class with at least `words` words, or where it would be: those below have fewer, and those behind have
+    /// enough. If no class is so large, it is the first long one.
     pub fn first_with(&self, words: usize) -> u32
         ensures below { (q : ℕ) → q < result → leaf_size self.now q < words }
         ensures from { words ≤ LEAF_WORDS → (q : ℕ) → result ≤ q → words ≤ leaf_size self.now q }
@@ -246,7 +246,7 @@ impl Layout {
         }
     }
 
-    /// The number behind the last leaf record of the class of leaf record `number`.
+    /// The number behind the last leaf record of the class that leaf record `number` has.
     pub fn class_end(&self, number: u32) -> u32
         requires { number < self.now.leaves }
         ensures upto { (number < result) × (result ≤ self.now.leaves) }
@@ -331,7 +331,7 @@ impl Layout {
         }
     }
 
-    /// The location of the word with the number `word`, which is one of a leaf record.
+    /// The location of the word with the number `word`, a word of a leaf record.
     fn leaf_location(&self, word: usize) -> Location
         requires { (leaf_start self.now 0 ≤ word) × (word < word_count self.now) }
         ensures here { address self.now result ≡ word }

@@ -8,7 +8,7 @@ ghost use Rattle.record_words.specs.Leaf.{HasLeafWords, key_word, leaf_words, wo
 use crate::{KEY_WORDS, LEAF_FIELDS};
 use key_bits::{Key, MAX_BYTES};
 
-/// How many words of a leaf have bytes of its key, which has `length` bytes.
+/// How many words the bytes of a key of `length` bytes take in a leaf.
 pub fn key_words(length: u64) -> usize
     requires { length ≤ MAX_BYTES }
     ensures { result ≡ words_of_key length }
@@ -24,18 +24,17 @@ pub fn words_for(key: &Key) -> usize
     3 + key_words(key.as_bytes().len() as u64)
 }
 
-/// The word that a leaf has of the eight bytes of `key` from byte `8 * j` on, the first in its highest bits. Bytes past the key's end are
-/// 0.
+/// The word of the eight bytes of `key` from byte `8 * j` on, the first in its highest bits. Bytes past the key's end are 0.
 pub fn key_word_at(key: &Key, j: usize) -> u64
     requires { j < KEY_WORDS }
     ensures { result ≡ key_word key.now j }
 {
     let mut eight = [0; 8];
-    eight.copy_from_slice(&key.places()[8 * j..8 * j + 8]);
+    eight.copy_from_slice(&key.padded_bytes()[8 * j..8 * j + 8]);
     u64::from_be_bytes(eight)
 }
 
-/// The words of a leaf record from offset 1 on: `value`, the length of `key` and its bytes; 0 behind these.
+/// The words of a leaf record from offset 1 on: `value`, the length of `key` and its bytes, and 0 behind these.
 pub fn pack_leaf(key: &Key, value: u64) -> [u64; LEAF_FIELDS]
     ensures words { result ≡ leaf_words (key.now, value) }
     ensures fits { HasLeafWords (key.now, value) }
@@ -50,7 +49,7 @@ pub fn pack_leaf(key: &Key, value: u64) -> [u64; LEAF_FIELDS]
     words
 }
 
-/// Writes the eight bytes of `word` to `bytes` from byte `8 * j` on, the highest first, as a key has them.
+/// Writes the eight bytes of `word` to `bytes` from byte `8 * j` on, the highest first. All other bytes stay.
 pub fn write_word(bytes: &mut [u8; MAX_BYTES], j: usize, word: u64)
     requires { j < KEY_WORDS }
     ensures written { key_word bytes.new j ≡ word }

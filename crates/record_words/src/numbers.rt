@@ -1,13 +1,38 @@
-//! Single numbers of a node's head, each read of the word that it shares with others.
+//! Numbers of a node's head, each read of the word that it shares with others.
 
-ghost use Rattle.std.specs.Prelude.{◌≡◌, ◌+◌, ◌/◌, ◌<◌, slice_index};
+ghost use Rattle.std.specs.Prelude.{◌≡◌, ◌+◌, ◌/◌, ◌%◌, ◌<◌, length, slice_index};
 ghost use Rattle.compound_node.specs.Nodes.{IsLawfulNode, NodeView, head_of};
 ghost use Rattle.record_words.specs.Node.{head_words};
 ghost use Rattle.record_words.specs.Packed.{position_at, row_at};
 ghost use Rattle.record_words.specs.declared.TheConstants.{FIRST_ROWS};
 
-/// The sparse partial key at place `at`, in each node whose head has `word` at `FIRST_ROWS + at / 2`. It is 4,294,967,295 past the last
-/// one.
+/// The numbers in the first word of a head.
+#[derive(Clone, Copy)]
+pub struct HeadNumbers {
+    /// How many entries the node has.
+    pub count: u8,
+    /// How many columns it has.
+    pub columns: u8,
+    /// Its stored height.
+    pub height: u16,
+}
+
+/// The numbers of each node whose head begins with `word`.
+#[inline(always)]
+pub fn read_numbers(word: u64) -> HeadNumbers
+    ensures parts { (result.count ≡ word % 256) × (result.columns ≡ word / 256 % 256) × (result.height ≡ word / 65536 % 65536) }
+    ensures node { (node : NodeView) → IsLawfulNode node → slice_index (head_words (head_of node)) 0 ≡ word →
+        (result.count ≡ length node.entries) × (result.columns ≡ length node.columns) × (result.height ≡ node.height) }
+{
+    HeadNumbers {
+        count: (word % 256) as u8,
+        columns: (word / 256 % 256) as u8,
+        height: (word / 65_536 % 65_536) as u16,
+    }
+}
+
+/// The sparse partial key of slot `at`, in each node whose head has `word` at index `FIRST_ROWS + at / 2`. It is 4,294,967,295 past the
+/// last entry.
 #[inline(always)]
 pub fn row_of(word: u64, at: u8) -> u32
     requires { at < 32 }
@@ -16,7 +41,7 @@ pub fn row_of(word: u64, at: u8) -> u32
     (word >> (32 * (at % 2)) & 0xffff_ffff) as u32
 }
 
-/// The position of column `column`, in each node whose head has `word` at `1 + column / 4`. It is 65,535 past the last one.
+/// The position of column `column`, in each node whose head has `word` at index `1 + column / 4`. It is 65,535 past the last column.
 #[inline(always)]
 pub fn position_of(word: u64, column: u8) -> u16
     requires { column < 31 }

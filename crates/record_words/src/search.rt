@@ -10,24 +10,25 @@ ghost use Rattle.record_words.specs.HeadParts.{back_words, front_words};
 ghost use Rattle.record_words.specs.Node.{HasHeadWords};
 ghost use Rattle.record_words.specs.Reading.{IsSpelling};
 
+use crate::numbers::read_numbers;
 use crate::{FIRST_ROWS, ROW_WORDS};
 use key_bits::Key;
-use partial_keys::{dense_lanes, search_rows};
+use partial_keys::{extract_by_lanes, search_rows};
 use std::simd::prelude::*;
 
-/// The bits of `key` at the columns of each node whose head begins with `words`: the bit of column j is bit 31-j. The positions are read
-/// as a vector as they stand. With the words behind these `search_in` searches; so a caller can load those later.
+/// The dense partial key of `key` for each node whose head begins with `words`: the bit of column j is bit 31-j. The positions are read
+/// as a vector as they stand. `search_in` needs the words behind these alone, so a caller can load those later.
 #[inline(always)]
 pub fn dense_in(words: &[u64; FIRST_ROWS], key: &Key) -> u32
     requires { IsSpelling HasHeadWords front_words words.now }
     ensures { (node : NodeView) → IsLawfulNode node → front_words (head_of node) ≡ words.now → result ≡ dense_of node.columns (bit_of key.now) }
 {
-    let places = quarters(u64x8::from_slice(&words[1..]));
-    dense_lanes(places, (words[0] / 256 % 256) as u8, key)
+    let positions = quarters(u64x8::from_slice(&words[1..]));
+    extract_by_lanes(positions, read_numbers(words[0]).columns, key)
 }
 
-/// The place to which the forks lead, in each node whose head ends with `words` and at whose columns the bits are `dense`. As
-/// `Head::search`, but no head is made: the sparse partial keys are searched as a vector as they stand.
+/// The slot to which the forks lead, in each node whose head ends with `words`, by the dense partial key `dense`. As `Head::search`, but
+/// no head is made: the sparse partial keys are searched as a vector as they stand.
 #[inline(always)]
 pub fn search_in(words: &[u64; ROW_WORDS], dense: u32) -> u8
     requires { IsSpelling HasHeadWords back_words words.now }
@@ -37,7 +38,7 @@ pub fn search_in(words: &[u64; ROW_WORDS], dense: u32) -> u8
     search_rows(rows_in(words), dense)
 }
 
-/// The sparse partial keys of a node whose head ends with `words`, as lanes: lane `i` is that of entry `i`. Lanes past the last entry are
+/// The sparse partial keys of each node whose head ends with `words`: lane `i` is that of slot `i`. Lanes past the last entry are
 /// 4,294,967,295.
 #[inline(always)]
 pub(crate) fn rows_in(words: &[u64]) -> u32x32
@@ -55,7 +56,7 @@ pub(crate) fn rows_in(words: &[u64]) -> u32x32
     )
 }
 
-/// The four 16-bit quarters of each of `words`, that with the lowest bits first.
+/// The four quarters of 16 bits of each of `words`, that with the lowest bits first.
 #[inline(always)]
 pub(crate) fn quarters(words: u64x8) -> u16x32
     ensures whole { length result ≡ 32 }
@@ -72,7 +73,7 @@ pub(crate) fn has_lane(lanes: u16x32, number: u16) -> bool
     lanes.simd_eq(u16x32::splat(number)).to_bitmask() != 0
 }
 
-/// The two 32-bit halves of each of `words`, the low one first.
+/// The two halves of 32 bits of each of `words`, the low one first.
 #[inline(always)]
 pub(crate) fn halves(words: u64x8) -> u32x16
     ensures whole { length result ≡ 16 }

@@ -1,6 +1,7 @@
 //! The state word of a record.
 
-ghost use Rattle.std.specs.Prelude.{◌≡◌};
+ghost use Rattle.std.specs.Prelude.{◌≡◌, ◌<◌};
+ghost use Rattle.record_words.specs.declared.state.Tag.TheVariants.{Obsolete};
 ghost use Rattle.record_words.specs.State.{HasStateWord, state_word};
 ghost use Rattle.record_words.specs.Reading.{IsReading};
 
@@ -31,11 +32,19 @@ pub fn pack_state(tag: Tag) -> u64
         Tag::Held => 1,
         Tag::Live => 2,
         Tag::Locked => 3,
-        Tag::Obsolete(epoch) => 8 * epoch + 4,
+        Tag::Obsolete(epoch) => obsolete_word(epoch),
     }
 }
 
-/// The tag whose state word is `word`; `WordFault::Bad` if no tag has it.
+/// The state word of a record that was retired in `epoch`.
+pub fn obsolete_word(epoch: u64) -> u64
+    requires { epoch < EPOCHS }
+    ensures { result ≡ state_word (Obsolete epoch) }
+{
+    8 * epoch + 4
+}
+
+/// The tag whose state word is `word`; `Err(Bad)` if no tag has it.
 pub fn unpack_state(word: u64) -> Result<Tag, WordFault>
     ensures { IsReading HasStateWord state_word word result }
 {

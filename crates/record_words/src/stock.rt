@@ -14,7 +14,7 @@ use crate::{
 use key_bits::MAX_BYTES;
 
 impl LeafClass {
-    /// The smallest class with room for a key of `bytes` bytes; the long one for any number above 240, which no key has.
+    /// The smallest class with room for a key of `bytes` bytes; more than 240, which no key has, count as 240.
     pub fn for_key(bytes: usize) -> LeafClass
         ensures { result ≡ class_for bytes }
     {

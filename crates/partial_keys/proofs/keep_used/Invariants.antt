@@ -8,11 +8,11 @@ use Rattle.partial_keys.proofs.keep_used.Given as goal
 abbrev pub invariant-loop-j : goal.invariant-loop-j
 invariant-loop-j l = record {
   few : l.found ≤ l.j;
-  long : length l.places ≡ 31;
-  front : take l.found l.places ≡ kept (used_bits l.used) (take l.j l.initial.places);
-  counted : l.found ≡ length (kept (used_bits l.used) (take l.j l.initial.places));
-  behind : drop l.j l.places ≡ drop l.j l.initial.places;
+  long : length l.positions ≡ 31;
+  front : take l.found l.positions ≡ kept (used_bits l.used) (take l.j l.initial.positions);
+  counted : l.found ≡ length (kept (used_bits l.used) (take l.j l.initial.positions));
+  behind : drop l.j l.positions ≡ drop l.j l.initial.positions;
 }
 
 abbrev pub invariant-loop-j-2 : goal.invariant-loop-j-2
-invariant-loop-j-2 l = l.places ≡ paste l.initial.places l.found (replicate (l.j - l.found) 65535) (l.j - l.found)
+invariant-loop-j-2 l = l.positions ≡ paste l.initial.positions l.found (replicate (l.j - l.found) 65535) (l.j - l.found)

@@ -15,25 +15,25 @@ use Rattle.compound_node.proofs.halves.half_of.Goals.{After-as_slice-2}
 
 pub drop_unused-requires : goal.drop_unused-requires
 drop_unused-requires c = record {
-  some = rw (c.joined-used.ensures, c.as_slice.ensures.value) (some_used c.args.columns.now c.args.rows.items c.args.entries.items _ c.requires.covers (omega (arith, c.requires.some, c.if-len-eq1.false, c.len.ensures.value)));
+  some = rw (c.or_rows-used.ensures, c.as_slice.ensures.value) (some_used c.args.columns.now c.args.rows.items c.args.entries.items _ c.requires.covers (omega (arith, c.requires.some, c.if-len-eq1.false, c.len.ensures.value)));
 }
 
-pub squeeze_all-requires-clause-used : goal.squeeze_all-requires-clause-used
-squeeze_all-requires-clause-used c = rw (c.count.ensures, c.joined-used.ensures, c.as_slice.ensures.value) (used_over c.args.columns.now c.args.rows.items c.args.entries.items _ c.requires.covers)
+pub squeeze_rows-requires-clause-used : goal.squeeze_rows-requires-clause-used
+squeeze_rows-requires-clause-used c = rw (c.count.ensures, c.or_rows-used.ensures, c.as_slice.ensures.value) (used_over c.args.columns.now c.args.rows.items c.args.entries.items _ c.requires.covers)
 
-pub squeeze_all-requires-clause-rows : goal.squeeze_all-requires-clause-rows
-squeeze_all-requires-clause-rows c = rw (c.count.ensures, c.as_mut_slice.ensures.value) (rows_over c.args.columns.now c.args.rows.items c.args.entries.items _ c.requires.covers)
+pub squeeze_rows-requires-clause-rows : goal.squeeze_rows-requires-clause-rows
+squeeze_rows-requires-clause-rows c = rw (c.count.ensures, c.as_mut_slice.ensures.value) (rows_over c.args.columns.now c.args.rows.items c.args.entries.items _ c.requires.covers)
 
 -- the rows that are left
 left : (c : After-as_slice-2) → c.as_slice-2.result.now ≡ map (squeezed (or_all c.args.rows.items)) c.args.rows.items
 left c =
-    let used : c.joined-used.result ≡ or_all c.args.rows.items = c.joined-used.ensures ∙ ap or_all c.as_slice.ensures.value in
-    let all : c.squeeze_all.new.rows ≡ map (squeezed c.joined-used.result) c.args.rows.items = c.squeeze_all.ensures ∙ ap (map (squeezed c.joined-used.result)) c.as_mut_slice.ensures.value in
-    let long : length c.squeeze_all.new.rows ≡ length c.args.rows.items = ap length all ∙ length-map c.args.rows.items (squeezed c.joined-used.result) in
-    c.as_slice-2.ensures.value ∙ refill_same c.args.rows.items c.squeeze_all.new.rows long ∙ all ∙ ap (λ u. map (squeezed u) c.args.rows.items) used
+    let used : c.or_rows-used.result ≡ or_all c.args.rows.items = c.or_rows-used.ensures ∙ ap or_all c.as_slice.ensures.value in
+    let all : c.squeeze_rows.new.rows ≡ map (squeezed c.or_rows-used.result) c.args.rows.items = c.squeeze_rows.ensures ∙ ap (map (squeezed c.or_rows-used.result)) c.as_mut_slice.ensures.value in
+    let long : length c.squeeze_rows.new.rows ≡ length c.args.rows.items = ap length all ∙ length-map c.args.rows.items (squeezed c.or_rows-used.result) in
+    c.as_slice-2.ensures.value ∙ refill_same c.args.rows.items c.squeeze_rows.new.rows long ∙ all ∙ ap (λ u. map (squeezed u) c.args.rows.items) used
 
-pub built-requires : goal.built-requires
-built-requires c = rw (c.drop_unused.ensures, left c, c.joined-used.ensures, c.as_slice.ensures.value)
+pub build-requires : goal.build-requires
+build-requires c = rw (c.drop_unused.ensures, left c, c.or_rows-used.ensures, c.as_slice.ensures.value)
     (fit_used c.args.columns.now c.args.rows.items c.args.entries.items _ c.requires.covers (omega (arith, c.requires.some, c.if-len-eq1.false, c.len.ensures.value)) c.requires.room c.requires.positions c.requires.children)
 
 pub returns-then-len-eq1 : goal.returns-then-len-eq1
@@ -44,7 +44,7 @@ returns-then-len-eq1 c = rw c.deref.ensures.0 (
 
 pub returns : goal.returns
 returns c =
-    subst (IsBuiltFrom c.built.result)
-    (rw (c.drop_unused.ensures, left (goal.at.returns c).After-as_slice-2, c.joined-used.ensures, c.as_slice.ensures.value)
+    subst (IsBuiltFrom c.build.result)
+    (rw (c.drop_unused.ensures, left (goal.at.returns c).After-as_slice-2, c.or_rows-used.ensures, c.as_slice.ensures.value)
     (piece_of_shown (Leaf 0) _ _ _ _ (half_shows c.args.columns.now c.args.rows.items c.args.entries.items _ c.requires.covers)))
-    c.built.ensures
+    c.build.ensures

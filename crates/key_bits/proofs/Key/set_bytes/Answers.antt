@@ -6,11 +6,11 @@ use Rattle.key_bits.specs.Key.{HoldsKey, with_zeros}
 use Rattle.key_bits.proofs.Key.set_bytes.Goals as goal
 use Rattle.key_bits.proofs.Key.set_bytes.Goals.{After-write_front}
 
-placed : (c : After-write_front) → c.write_front.new.places ≡ with_zeros c.args.bytes.now
+placed : (c : After-write_front) → c.write_front.new.array ≡ with_zeros c.args.bytes.now
 placed c = c.write_front.ensures ∙ written c.args.bytes.now
 
-held : (c : After-write_front) → HoldsKey c.write_front.new.places (length c.args.bytes.now)
-held c = holds c.args.bytes.now c.write_front.new.places (key_of c.args.bytes.now c.if-bytes-gt-MAX_BYTES.false (λ i. (c.type_inv.bytes i).fits)) (placed c)
+held : (c : After-write_front) → HoldsKey c.write_front.new.array (length c.args.bytes.now)
+held c = holds c.args.bytes.now c.write_front.new.array (key_of c.args.bytes.now c.if-bytes-gt-MAX_BYTES.false (λ i. (c.type_inv.bytes i).fits)) (placed c)
 
 pub write_front-requires : goal.write_front-requires
 write_front-requires c = c.if-bytes-gt-MAX_BYTES.false

@@ -9,4 +9,4 @@ pub swizzle : goal.swizzle
 swizzle c = parts_ok c.args.positions c.fits-positions.0
 
 pub returns : goal.returns
-returns c = masks_lanes c.args.positions c.doubled.result c.fits-positions.0 c.doubled.ensures
+returns c = masks_lanes c.args.positions c.repeat_lanes.result c.fits-positions.0 c.repeat_lanes.ensures

@@ -36,7 +36,7 @@ module _ (c : After-min-end) (node : NodeView) (lawful : IsLawfulNode node) (sam
   row = get_or node.rows c.args.found 0
 
   below : n ≡ front_below c.args.position node.columns
-  below = columns_are c.args.words.now c.quarters-places.result c.args.position n c.ranges.position.fits c.count_below.ensures c.quarters-places.ensures.whole c.quarters-places.ensures.each
+  below = columns_are c.args.words.now c.quarters-positions.result c.args.position n c.ranges.position.fits c.count_below.ensures c.quarters-positions.ensures.whole c.quarters-positions.ensures.each
       node lawful same
 
   few : n ≤ 31
@@ -75,7 +75,7 @@ module _ (c : After-min-end) (node : NodeView) (lawful : IsLawfulNode node) (sam
   end_is =
       c.min-end.ensures ∙ ap₂ min
       (c.rows_upto.ensures ∙ (ap (λ b. count_by (λ x. nat_lt x b) c.rows_in-rows.result) most_is ∙ rows_in_front node lawful _ c.rows_in-rows.result rows_are))
-      (count_read node lawful c.args.words.now same)
+      (c.read_numbers.ensures.parts.0 ∙ count_read node lawful c.args.words.now same)
 
   some : 1 ≤ c.min-end.result
   some = end_some node lawful c.args.position c.args.found n c.rows_below-first.result c.min-end.result here below first_is end_is
@@ -86,8 +86,8 @@ module _ (c : After-min-end) (node : NodeView) (lawful : IsLawfulNode node) (sam
 pub overflow_shr-rest : goal.overflow_shr-rest
 overflow_shr-rest c =
     let words = c.args.words.now in let given = c.requires.spelling in
-    let below = columns_are words c.quarters-places.result c.args.position c.count_below.result c.ranges.position.fits c.count_below.ensures
-    c.quarters-places.ensures.whole c.quarters-places.ensures.each (its words given) (lawful_its words given) (same_its words given) in
+    let below = columns_are words c.quarters-positions.result c.args.position c.count_below.result c.ranges.position.fits c.count_below.ensures
+    c.quarters-positions.ensures.whole c.quarters-positions.ensures.each (its words given) (lawful_its words given) (same_its words given) in
     omega (arith, below, few_below (its words given) (lawful_its words given) c.args.position)
 
 pub overflow_sub-result : goal.overflow_sub-result

@@ -1,5 +1,5 @@
 -- The head's words are those of the head with the fork, and the leaf's word stands among those of the other entries.
-use Rattle.std.proofs.Common.{rules, arith, insert, length, refl, ◌≡◌, ◌+◌}
+use Rattle.std.proofs.Common.{rules, arith, insert, length, refl, ◌≡◌, ◌+◌, ◌∙◌}
 use Rattle.std.specs.Prelude.{if◌then◌else◌}
 use Rattle.compound_node.specs.Forking.{forked_head}
 use Rattle.compound_node.specs.Nodes.{IsBuiltFrom, NodeView, head_of, node_of, piece}
@@ -11,19 +11,19 @@ use Rattle.record_words.proofs.Spelled.{entries_counted}
 use Rattle.record_words.proofs.node.add_leaf.Goals as goal
 use Rattle.record_words.proofs.node.add_leaf.Goals.{then-bit, else-bit}
 
-pub put_in-requires-clause-place : goal.put_in-requires-clause-place
-put_in-requires-clause-place c =
+pub insert_in-requires-clause-in_range : goal.insert_in-requires-clause-in_range
+insert_in-requires-clause-in_range c =
     let (node, g) = c.requires.growing in
-    let counted = entries_counted node c.args.words.now g.has g.spells in
+    let counted = c.read_numbers.ensures.parts.0 ∙ entries_counted node c.args.words.now g.has g.spells in
     let within = place_within g c.requires.below c.args.bit in
     let at : c.if-bit.at ≡ (if c.args.bit then c.args.last + 1 else c.args.first) =
     elim c.if-bit.branch [ then-bit w ↦ rw w.if-bit.true w.at-is | else-bit w ↦ rw w.if-bit.false w.at-is ] in
     omega (arith, counted, within, at)
 
-pub put_in-requires-clause-room : goal.put_in-requires-clause-room
-put_in-requires-clause-room c =
+pub insert_in-requires-clause-room : goal.insert_in-requires-clause-room
+insert_in-requires-clause-room c =
     let (node, g) = c.requires.growing in
-    let counted = entries_counted node c.args.words.now g.has g.spells in
+    let counted = c.read_numbers.ensures.parts.0 ∙ entries_counted node c.args.words.now g.has g.spells in
     let long : length c.add_fork.new.words ≡ 57 = search rules in
     omega (arith, counted, long, g.takes.1)
 
@@ -37,7 +37,7 @@ returns c = λ node g.
     record {
       node = after;
       has = has_words node after _ c.args.leaf few refl g.has.entries c.ranges.leaf.fits built.lawful;
-      spells = words_grown node after _ c.args.leaf few refl g.takes.1 c.args.words.now c.add_fork.new.words c.put_in.new.places _ c.if-bit.at c.pack_entry.result g.spells
-          (c.add_fork.ensures node g) (entries_counted node c.args.words.now g.has g.spells) at c.pack_entry.ensures c.put_in.ensures;
+      spells = words_grown node after _ c.args.leaf few refl g.takes.1 c.args.words.now c.add_fork.new.words c.insert_in.new.items _ c.if-bit.at c.pack_entry.result g.spells
+          (c.add_fork.ensures node g) (c.read_numbers.ensures.parts.0 ∙ entries_counted node c.args.words.now g.has g.spells) at c.pack_entry.ensures c.insert_in.ensures;
       built = built;
     }

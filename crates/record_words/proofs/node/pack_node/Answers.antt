@@ -1,17 +1,15 @@
 -- The words of the entries follow those of the head.
 use Rattle.std.proofs.Common.{◌∙◌, ◌+◌, ◌++◌, arith, ap, drop, sym, below_more, replicate}
-use Rattle.compound_node.proofs.Lawful.{same_count}
-use Rattle.compound_node.specs.Nodes.{head_of}
 use Rattle.record_words.proofs.Nodes.{length-node_words, node_words-entry}
+use Rattle.record_words.specs.Node.{head_words}
 use Rattle.record_words.proofs.Unused.{zero_in}
-use Rattle.record_words.proofs.Written.{one_more, all_so_far, head_put, head_so_far, no_entry_word, entries_fit}
+use Rattle.record_words.proofs.Written.{one_more, all_so_far, head_so_far, no_entry_word, entries_fit}
 use Rattle.record_words.proofs.node.pack_node.Goals as goal
 
 pub loop-i-init : goal.loop-i-init
 loop-i-init c =
     let node = c.args.node.now in (
-      head_so_far node c.put_head.new.words (c.put_head.ensures ∙ ap (λ front. front ++ drop 25 (replicate 57 0))
-          (head_put (head_of node) _ _ _ _ (c.count.ensures.count ∙ sym (same_count node c.count.ensures.lawful)) c.height.ensures c.columns-columns.ensures c.sparse_places.ensures)),
+      head_so_far node c.put_head.new.words (c.put_head.ensures ∙ ap (λ head. head_words head ++ drop 25 (replicate 57 0)) c.as_head.ensures),
       λ k none. absurd (omega arith),
     )
 
@@ -33,6 +31,6 @@ returns-clause-words c =
 
 pub returns-clause-fits : goal.returns-clause-fits
 returns-clause-fits c = record {
-  lawful = c.count.ensures.lawful;
-  entries = entries_fit c.args.node.now.entries c.loop-i.i c.count.ensures.lawful.room (omega (arith, c.count-i-end.ensures.count)) c.loop-i.invariant.1;
+  lawful = c.count-i-end.ensures.lawful;
+  entries = entries_fit c.args.node.now.entries c.loop-i.i c.count-i-end.ensures.lawful.room (omega (arith, c.count-i-end.ensures.count)) c.loop-i.invariant.1;
 }

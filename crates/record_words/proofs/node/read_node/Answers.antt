@@ -9,36 +9,36 @@ use Rattle.record_words.proofs.node.read_node.Goals as goal
 use Rattle.record_words.proofs.node.read_node.Goals.{After-loop-i}
 
 pub bounds-words-i : goal.bounds-words-i
-bounds-words-i c = omega (arith, entries_counted c.requires.0 c.args.words.now c.requires.1 c.requires.2, c.requires.1.entries.room)
+bounds-words-i c = omega (arith, c.read_numbers-i-end.ensures.parts.0, entries_counted c.requires.0 c.args.words.now c.requires.1 c.requires.2, c.requires.1.entries.room)
 
 pub read_some-requires : goal.read_some-requires
 read_some-requires c =
     let node = c.requires.0 in
     let words = c.args.words.now in
-    let spelled = entry_spelled node words c.loop-i.i c.requires.1 c.requires.2 (omega (arith, entries_counted node words c.requires.1 c.requires.2)) in
+    let spelled = entry_spelled node words c.loop-i.i c.requires.1 c.requires.2 (omega (arith, c.read_numbers-i-end.ensures.parts.0, entries_counted node words c.requires.1 c.requires.2)) in
     (get_or node.entries c.loop-i.i (Leaf 0), spelled.0, spelled.1)
 
 pub loop-i-preserved : goal.loop-i-preserved
 loop-i-preserved c = λ node has same.
-    let inside : c.loop-i.i < length node.entries = omega (arith, entries_counted node c.args.words.now has same) in
+    let inside : c.loop-i.i < length node.entries = omega (arith, c.read_numbers-i-end.ensures.parts.0, entries_counted node c.args.words.now has same) in
     let spelled = entry_spelled node c.args.words.now c.loop-i.i has same inside in
     one_more_read node.entries c.loop-i.entries.items _ c.loop-i.i c.read_some.result
     (c.read_some.ensures.only (get_or node.entries c.loop-i.i (Leaf 0)) spelled.0 spelled.1) inside (c.loop-i.invariant node has same) c.push.ensures.items
 
-pub head_of_words-requires : goal.head_of_words-requires
-head_of_words-requires c = (head_of c.requires.0, (c.requires.0, c.requires.1.lawful, refl), head_part c.requires.0 c.args.words.now c.requires.2)
+pub read_head-requires : goal.read_head-requires
+read_head-requires c = (head_of c.requires.0, (c.requires.0, c.requires.1.lawful, refl), head_part c.requires.0 c.args.words.now c.requires.2)
 
 -- all entries have been read
 all_read : (c : After-loop-i) → c.loop-i.entries.items ≡ c.requires.0.entries
 all_read c =
     let node = c.requires.0 in
-    c.loop-i.invariant node c.requires.1 c.requires.2 ∙ take_all c.loop-i.i node.entries (omega (arith, entries_counted node c.args.words.now c.requires.1 c.requires.2))
+    c.loop-i.invariant node c.requires.1 c.requires.2 ∙ take_all c.loop-i.i node.entries (omega (arith, c.read_numbers-i-end.ensures.parts.0, entries_counted node c.args.words.now c.requires.1 c.requires.2))
 
 pub of-requires : goal.of-requires
 of-requires c =
-    rw (both_read c.requires.0 c.args.words.now c.head_of_words.result c.loop-i.entries.items c.requires.1 c.requires.2 c.head_of_words.ensures (all_read (goal.at.of-requires c).After-loop-i)) c.requires.1.lawful
+    rw (both_read c.requires.0 c.args.words.now c.read_head.result c.loop-i.entries.items c.requires.1 c.requires.2 c.read_head.ensures (all_read (goal.at.of-requires c).After-loop-i)) c.requires.1.lawful
 
 pub returns : goal.returns
 returns c =
     spells_node c.requires.0 c.of.result c.args.words.now c.requires.1 c.requires.2
-    (c.of.ensures ∙ both_read c.requires.0 c.args.words.now c.head_of_words.result c.loop-i.entries.items c.requires.1 c.requires.2 c.head_of_words.ensures (all_read (goal.at.returns c).After-loop-i))
+    (c.of.ensures ∙ both_read c.requires.0 c.args.words.now c.read_head.result c.loop-i.entries.items c.requires.1 c.requires.2 c.read_head.ensures (all_read (goal.at.returns c).After-loop-i))

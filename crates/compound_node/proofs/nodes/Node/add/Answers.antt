@@ -6,7 +6,7 @@ use Rattle.compound_node.proofs.Lawful.{same_count}
 use Rattle.compound_node.specs.Nodes.{IsBuiltFrom, IsEntry, NodeView, greatest_height, node_of, piece}
 use Rattle.pieces.specs.Growth.{edited, forked_places, grown}
 use Rattle.compound_node.proofs.nodes.Node.add.Goals as goal
-use Rattle.compound_node.proofs.nodes.Node.add.Goals.{After-add, After-add-arg-1, After-height, After-insert_beside-arg-1}
+use Rattle.compound_node.proofs.nodes.Node.add.Goals.{After-add_fork, After-add_fork-arg-1, After-height, After-insert_beside-arg-1}
 
 pub insert_beside-requires-clause-range : goal.insert_beside-requires-clause-range
 insert_beside-requires-clause-range c =
@@ -26,34 +26,34 @@ height_with-height-requires-clause-leaves c = λ one. ap greatest_height (c.as_s
     (sym c.height.ensures ∙ one)
 
 -- the fork, where the height is known
-fork : (c : After-add-arg-1) → NewFork (node_of c.self.inside.head c.self.inside.entries.items) c.args.position c.args.first c.args.last c.args.bit c.args.entry
+fork : (c : After-add_fork-arg-1) → NewFork (node_of c.self.inside.head c.self.inside.entries.items) c.args.position c.args.first c.args.last c.args.bit c.args.entry
 fork c = new_fork (node_of c.self.inside.head c.self.inside.entries.items) c.self.invariant c.args.self.now c.self.view_is c.args.position c.args.first c.args.last c.args.bit c.args.entry c.requires.range c.requires.room c.requires.below c.requires.entry
 
-height_is : (c : After-add-arg-1) → c.height_with-height.result ≡ 1 + greatest_height (edited c.args.first (c.args.last + 1 - c.args.first) (forked_places c.args.bit c.args.entry) c.self.inside.entries.items)
+height_is : (c : After-add_fork-arg-1) → c.height_with-height.result ≡ 1 + greatest_height (edited c.args.first (c.args.last + 1 - c.args.first) (forked_places c.args.bit c.args.entry) c.self.inside.entries.items)
 height_is c = c.height_with-height.ensures ∙ ap (λ es. 1 + greatest_height es) (c.as_slice.ensures.value ∙ c.insert_beside.ensures)
 
-pub add-requires-clause-room : goal.add-requires-clause-room
-add-requires-clause-room c =
+pub add_fork-requires-clause-room : goal.add_fork-requires-clause-room
+add_fork-requires-clause-room c =
     let room : length c.self.inside.entries.items < 32 = subst (λ (v : NodeView). length v.entries < 32) (sym c.self.view_is) c.requires.room in
     omega (arith, room, same_count (node_of c.self.inside.head c.self.inside.entries.items) c.self.invariant)
 
-pub add-requires-clause-range : goal.add-requires-clause-range
-add-requires-clause-range c = (fork c).ordered
+pub add_fork-requires-clause-range : goal.add_fork-requires-clause-range
+add_fork-requires-clause-range c = (fork c).ordered
 
-pub add-requires-clause-in_range : goal.add-requires-clause-in_range
-add-requires-clause-in_range c = omega (arith, (fork c).in_range, same_count (node_of c.self.inside.head c.self.inside.entries.items) c.self.invariant)
+pub add_fork-requires-clause-in_range : goal.add_fork-requires-clause-in_range
+add_fork-requires-clause-in_range c = omega (arith, (fork c).in_range, same_count (node_of c.self.inside.head c.self.inside.entries.items) c.self.invariant)
 
-pub add-requires-clause-lawful : goal.add-requires-clause-lawful
-add-requires-clause-lawful c = rw (height_is c) (fork c).leaves_fit
+pub add_fork-requires-clause-lawful : goal.add_fork-requires-clause-lawful
+add_fork-requires-clause-lawful c = rw (height_is c) (fork c).leaves_fit
 
 -- the node after
-built : (c : After-add) → IsBuiltFrom (node_of c.add.new.self c.insert_beside.new.entries.items) (grown c.args.position c.args.bit c.args.entry c.args.first (piece c.args.self.now))
+built : (c : After-add_fork) → IsBuiltFrom (node_of c.add_fork.new.self c.insert_beside.new.entries.items) (grown c.args.position c.args.bit c.args.entry c.args.first (piece c.args.self.now))
 built c =
     let fork : NewFork (node_of c.self.inside.head c.self.inside.entries.items) c.args.position c.args.first c.args.last c.args.bit c.args.entry =
     new_fork (node_of c.self.inside.head c.self.inside.entries.items) c.self.invariant c.args.self.now c.self.view_is c.args.position c.args.first c.args.last c.args.bit c.args.entry c.requires.range c.requires.room c.requires.below c.requires.entry in
     let height : c.height_with-height.result ≡ 1 + greatest_height (edited c.args.first (c.args.last + 1 - c.args.first) (forked_places c.args.bit c.args.entry) c.self.inside.entries.items) =
     c.height_with-height.ensures ∙ ap (λ es. 1 + greatest_height es) (c.as_slice.ensures.value ∙ c.insert_beside.ensures) in
-    rw (c.add.ensures, height, c.insert_beside.ensures, ← c.self.view_is) fork.built
+    rw (c.add_fork.ensures, height, c.insert_beside.ensures, ← c.self.view_is) fork.built
 
 pub invariant_of-self : goal.invariant_of-self
 invariant_of-self c = (built c).lawful

@@ -1,7 +1,0 @@
--- The rows so far are below the bit.
-use Rattle.std.proofs.Common.{◌≡◌, ◌+◌, ◌^◌, drop}
-use Rattle.pieces.specs.Positions.{front_below}
-use Rattle.compound_node.proofs.rows.front_len.Given as goal
-
-abbrev pub invariant-loop-i : goal.invariant-loop-i
-invariant-loop-i l = l.i + front_below (2 ^ 31) (drop l.i l.rows) ≡ front_below (2 ^ 31) l.rows

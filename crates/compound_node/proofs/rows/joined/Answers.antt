@@ -1,8 +1,0 @@
--- One row more is joined.
-use Rattle.std.proofs.Common.{◌-◌, get_or, ap, ◌∙◌, arith}
-use Rattle.std.specs.Prelude.{bit_or}
-use Rattle.partial_keys.proofs.Squeezing.{or_all_step}
-use Rattle.compound_node.proofs.rows.joined.Goals as goal
-
-pub loop-i-preserved : goal.loop-i-preserved
-loop-i-preserved c = ap (λ m. bit_or m (get_or c.args.rows.now (c.loop-i.i - 1) 0)) c.loop-i.invariant ∙ or_all_step c.args.rows.now c.loop-i.i (omega arith) (omega arith)

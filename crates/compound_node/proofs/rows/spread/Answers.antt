@@ -1,6 +1,0 @@
--- The two masks part the row at the column.
-use Rattle.compound_node.proofs.Spreading.{spread_is}
-use Rattle.compound_node.proofs.rows.spread.Goals as goal
-
-pub returns : goal.returns
-returns c = spread_is c.args.row c.args.j c.ranges.row.fits c.requires

@@ -1,7 +1,0 @@
--- The rows so far, spread.
-use Rattle.std.proofs.Common.{◌≡◌, ◌++◌, drop, map, take}
-use Rattle.partial_keys.specs.Spread.{spread_row}
-use Rattle.compound_node.proofs.rows.spread_all.Given as goal
-
-abbrev pub invariant-loop-i : goal.invariant-loop-i
-invariant-loop-i l = l.rows ≡ map (spread_row l.j) (take l.i l.initial.rows) ++ drop l.i l.initial.rows

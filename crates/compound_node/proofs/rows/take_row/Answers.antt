@@ -1,9 +1,0 @@
--- The rows behind lose the bit, and the row goes.
-use Rattle.std.proofs.Common.{arith}
-use Rattle.compound_node.proofs.Clearing.{row_taken}
-use Rattle.compound_node.proofs.rows.take_row.Goals as goal
-
-pub returns : goal.returns
-returns c =
-    row_taken c.args.rows.now c.clear_front.new.rows c.take_out.new.places c.args.count c.args.at c.sibling_bit-bit.result 4294967295 c.requires.in_range (omega (arith, c.told-rows, c.requires.room))
-    c.sibling_bit-bit.ensures c.clear_front.ensures c.take_out.ensures
