@@ -1,18 +1,21 @@
 //! Rounds of collection: records that no pinned pass can reach are given back.
 
-ghost use Rattle.std.specs.Prelude.{◌≡◌, ◌≢◌, ℕ, ◌+◌, ◌^◌, ◌<◌, ◌≤◌, List, None, true, false, length, min, if◌then◌else◌, IfSome, MatchOption};
+ghost use Rattle.std.specs.Prelude.{◌≡◌, ◌≢◌, ℕ, ◌+◌, ◌^◌, ◌<◌, ◌≤◌, List, None, true, false, length, min, if◌then◌else◌, MatchOption};
 ghost use Rattle.record_words.specs.declared.state.Tag.TheVariants.{Obsolete};
 ghost use Rattle.record_words.specs.Layout.{leaf_size};
 ghost use Rattle.record_words.specs.State.{state_word};
 ghost use Rattle.versions.specs.declared.Rec.TheVariants.{Node as a_node, Leaf as a_leaf};
+ghost use Rattle.rowex_core.specs.Cores.{HasRecord};
 ghost use Rattle.rowex_table.specs.Rule.{IsStartOf};
 ghost use Rattle.rowex_table.specs.Seats.{IsSeatOf};
 ghost use Rattle.epochs.specs.Rounds.{AdvancesEpoch, BeginsRound, FindsBound, HasBound, IsRound, IsSmallRound, VisitsAll, GoesOnVisiting, VisitsOne, VisitsSome, is_given};
+ghost use Rattle.epochs.specs.declared.collection.Visited.TheVariants.{Waits};
 
 use crate::limbo::{Limbo, MOST_VISITED};
-use record_words::{EPOCHS, Tag, unpack_state};
+use record_words::{EPOCHS, Layout, Tag, unpack_state};
 use rowex_core::{Gate, Rec};
-use rowex_table::{HotTable, TableSeat};
+use rowex_table::{HotTable, RecordAt, TableSeat};
+use std::ops::Range;
 
 /// How many records a round of collection gave back.
 #[derive(Clone, Copy, PartialEq, Eq)]
@@ -48,8 +51,8 @@ struct Tally {
     held_back: bool,
 }
 
-/// What no visits came to.
-const UNVISITED: Tally = Tally {
+/// The tally of no visits.
+const NO_VISITS: Tally = Tally {
     given: 0,
     held_back: false,
 };
@@ -92,7 +95,7 @@ pub fn collect_small<G: Gate>(
     ensures free { seat.new.known.pin ≡ None }
     ensures round { IsSmallRound table.now G.becomes MOST_VISITED (seat.old, gate.old) (seat.new, gate.new) }
 {
-    limbo.begin();
+    limbo.begin_round();
     let bound = begin_round(table, seat, gate);
     visit_limbo(table, seat, gate, limbo, bound);
 }
@@ -121,7 +124,7 @@ fn advance_epoch<G: Gate>(table: &HotTable, seat: &mut TableSeat, gate: &mut G)
     }
 }
 
-/// Loads the epoch and each pin; returns the least of that epoch and of the pins that are not 0.
+/// Loads the epoch and each pin. Returns the least of that epoch and of the pins that are not 0. The pass's own pin stays.
 fn find_bound<G: Gate>(table: &HotTable, seat: &mut TableSeat, gate: &mut G) -> u64
     requires { IsSeatOf table.now seat.old }
     ensures pin { seat.new.known.pin ≡ seat.old.known.pin }
@@ -132,13 +135,13 @@ fn find_bound<G: Gate>(table: &HotTable, seat: &mut TableSeat, gate: &mut G) -> 
     for pass in 0..table.layout().passes {
         let of = pass as u16;
         let word = table.load_pin(seat, gate, of);
-        bound = lower_to(bound, word);
+        bound = lower_bound(bound, word);
     }
     bound
 }
 
 /// The lower of `bound` and `word`, a pin's word; `bound` if `word` is 0, which is no pin.
-fn lower_to(bound: u64, word: u64) -> u64
+fn lower_bound(bound: u64, word: u64) -> u64
     ensures none { word ≡ 0 → result ≡ bound }
     ensures pinned { 1 ≤ word → result ≡ min bound word }
 {
@@ -153,11 +156,11 @@ fn visit_nodes<G: Gate>(table: &HotTable, seat: &mut TableSeat, gate: &mut G, bo
     ensures same { (seat.new.known.pin ≡ seat.old.known.pin) × (seat.new.known.round ≡ seat.old.known.round) }
     ensures steps { VisitsAll table.now G.becomes bound a_node table.now.layout.nodes result.given (seat.old, gate.old) (seat.new, gate.new) }
 {
-    let mut tally = UNVISITED;
-    let layout = table.layout();
-    for number in 0..layout.nodes {
-        let start = layout.node(number);
-        let seen = visit(table, seat, gate, Rec::Node(number), start, bound);
+    let mut tally = NO_VISITS;
+    for number in 0..table.layout().nodes {
+        let rec = Rec::Node(number);
+        let start = table.start_of(rec);
+        let seen = visit_record(table, seat, gate, RecordAt { rec, start }, bound);
         tally = count_visit(tally, seen);
     }
     tally
@@ -171,43 +174,44 @@ fn visit_leaves<G: Gate>(table: &HotTable, seat: &mut TableSeat, gate: &mut G, b
     ensures same { (seat.new.known.pin ≡ seat.old.known.pin) × (seat.new.known.round ≡ seat.old.known.round) }
     ensures steps { VisitsAll table.now G.becomes bound a_leaf table.now.layout.leaves result.given (seat.old, gate.old) (seat.new, gate.new) }
 {
-    let mut tally = UNVISITED;
+    let mut tally = NO_VISITS;
     let layout = table.layout();
     let mut first = 0;
     while first < layout.leaves {
         let end = layout.class_end(first);
-        tally = visit_class(table, seat, gate, bound, first, end, tally);
+        tally = visit_class(table, seat, gate, bound, first..end, tally);
         first = end;
     }
     tally
 }
 
-/// Visits the leaf records from number `first` on and below `end`, all of one class, so each begins equally far behind the one before.
-/// Returns the tally `before` with these visits.
+/// Visits the leaf records of these numbers, all of one class, so each begins equally far behind the one before. `bound` is the bound of the
+/// round. Returns the tally `before` with these visits.
 fn visit_class<G: Gate>(
     table: &HotTable,
     seat: &mut TableSeat,
     gate: &mut G,
     bound: u64,
-    first: u32,
-    end: u32,
+    numbers: Range<u32>,
     before: Tally,
 ) -> Tally
     requires own { IsSeatOf table.now seat.old }
     requires bound { HasBound table.now.layout.passes bound seat.old.known }
-    requires range { (first ≤ end) × (end ≤ table.now.layout.leaves) }
-    requires class { (q : ℕ) → first ≤ q → q < end → leaf_size table.now.layout q ≡ leaf_size table.now.layout first }
-    requires few { before.given ≤ first }
+    requires range { (numbers.start ≤ numbers.end) × (numbers.end ≤ table.now.layout.leaves) }
+    requires class { (q : ℕ) → numbers.start ≤ q → q < numbers.end → leaf_size table.now.layout q ≡ leaf_size table.now.layout numbers.start }
+    requires few { before.given ≤ numbers.start }
     ensures same { (seat.new.known.pin ≡ seat.old.known.pin) × (seat.new.known.round ≡ seat.old.known.round) }
-    ensures few { result.given ≤ end }
-    ensures steps { GoesOnVisiting table.now G.becomes bound a_leaf (first, before.given) (end, result.given) (seat.old, gate.old) (seat.new, gate.new) }
+    ensures few { result.given ≤ numbers.end }
+    ensures steps { GoesOnVisiting table.now G.becomes bound a_leaf (numbers.start, before.given) (numbers.end, result.given)
+        (seat.old, gate.old) (seat.new, gate.new) }
 {
     let layout = table.layout();
-    let size = layout.leaf_size(first);
-    let mut start = layout.leaf(first);
+    let size = layout.leaf_size(numbers.start);
+    let mut start = layout.leaf(numbers.start);
     let mut tally = before;
-    for number in first..end {
-        let seen = visit(table, seat, gate, Rec::Leaf(number), start, bound);
+    for number in numbers.start..numbers.end {
+        let rec = Rec::Leaf(number);
+        let seen = visit_record(table, seat, gate, RecordAt { rec, start }, bound);
         tally = count_visit(tally, seen);
         start += size;
     }
@@ -218,6 +222,8 @@ fn visit_class<G: Gate>(
 fn count_visit(tally: Tally, seen: Visited) -> Tally
     requires { tally.given + 1 < 2 ^ 32 }
     ensures given { result.given ≡ tally.given + (if is_given seen then 1 else 0) }
+    ensures waits { seen ≡ Waits → result.held_back ≡ true }
+    ensures held_back { seen ≢ Waits → result.held_back ≡ tally.held_back }
 {
     match seen {
         Visited::Given => Tally {
@@ -232,7 +238,8 @@ fn count_visit(tally: Tally, seen: Visited) -> Tally
     }
 }
 
-/// Visits the oldest records of `limbo`, at most `MOST_VISITED` and up to the first that has to wait. Those before it leave the list.
+/// Visits the oldest records of `limbo`, at most `MOST_VISITED` and up to the first that has to wait. Those before it leave the list. `bound`
+/// is the bound of the round.
 fn visit_limbo<G: Gate>(
     table: &HotTable,
     seat: &mut TableSeat,
@@ -246,76 +253,74 @@ fn visit_limbo<G: Gate>(
     ensures steps { VisitsSome table.now G.becomes bound MOST_VISITED (seat.old, gate.old) (seat.new, gate.new) }
 {
     let count = limbo.count().min(MOST_VISITED);
-    for place in 0..count {
-        if !visit_waiting(table, seat, gate, limbo, bound, place) {
-            limbo.leave(place);
+    for index in 0..count {
+        if !visit_waiting(table, seat, gate, limbo, bound, index) {
+            limbo.drop_oldest(index);
             return;
         }
     }
-    limbo.leave(count);
+    limbo.drop_oldest(count);
 }
 
-/// Visits the record that waits at `place` in `limbo`, and returns whether it leaves the list: not if it has to wait. One that the table
-/// hasn't leaves the list without a visit.
+/// Visits the record that waits at `index` in `limbo`, counted from 0 at the oldest. Returns whether it leaves the list: not if it has to
+/// wait. One that the table hasn't leaves the list without a visit. `bound` is the bound of the round.
 fn visit_waiting<G: Gate>(
     table: &HotTable,
     seat: &mut TableSeat,
     gate: &mut G,
     limbo: &mut Limbo,
     bound: u64,
-    place: usize,
+    index: usize,
 ) -> bool
     requires own { IsSeatOf table.now seat.old }
     requires bound { HasBound table.now.layout.passes bound seat.old.known }
     ensures same { (seat.new.known.pin ≡ seat.old.known.pin) × (seat.new.known.round ≡ seat.old.known.round) }
     ensures steps { VisitsSome table.now G.becomes bound 1 (seat.old, gate.old) (seat.new, gate.new) }
 {
-    let rec = limbo.waiting_at(place);
-    let Some(start) = start_within(table, rec) else {
+    let rec = limbo.waiting_at(index);
+    if !has_record(table.layout(), rec) {
         return true;
-    };
-    let seen = visit(table, seat, gate, rec, start, bound);
-    limbo.settle(rec, seen)
+    }
+    let seen = visit_record(table, seat, gate, table.locate(rec), bound);
+    limbo.take_visit(rec, seen)
 }
 
-/// The word at which `rec` begins; `None` if the table has no such record.
-fn start_within(table: &HotTable, rec: Rec) -> Option<usize>
-    ensures { IfSome result (λ start. IsStartOf table.now.layout rec start) }
+/// Whether a table of `layout` has the record `rec`.
+fn has_record(layout: Layout, rec: Rec) -> bool
+    ensures has { result ≡ true → HasRecord layout rec }
+    ensures has_not { result ≡ false → ¬ (HasRecord layout rec) }
 {
-    let layout = table.layout();
     match rec {
-        Rec::Node(number) if number < layout.nodes => Some(table.start_of(rec)),
-        Rec::Leaf(number) if number < layout.leaves => Some(table.start_of(rec)),
-        _ => None,
+        Rec::Node(number) => number < layout.nodes,
+        Rec::Leaf(number) => number < layout.leaves,
     }
 }
 
-/// Loads the state of `rec`, which begins at word `start`, and, where it is obsolete in an epoch below `bound`, tries to make it free.
-/// Returns what that came to.
-fn visit<G: Gate>(
+/// Loads the state of the record `at`, and tries to make the record free where it is obsolete in an epoch below `bound`. Returns what that
+/// came to.
+fn visit_record<G: Gate>(
     table: &HotTable,
     seat: &mut TableSeat,
     gate: &mut G,
-    rec: Rec,
-    start: usize,
+    at: RecordAt,
     bound: u64,
 ) -> Visited
     requires own { IsSeatOf table.now seat.old }
-    requires start { IsStartOf table.now.layout rec start }
+    requires start { IsStartOf table.now.layout at.rec at.start }
     requires bound { HasBound table.now.layout.passes bound seat.old.known }
     ensures same { (seat.new.known.pin ≡ seat.old.known.pin) × (seat.new.known.round ≡ seat.old.known.round) }
-    ensures steps { VisitsOne table.now G.becomes bound rec (is_given result) (seat.old, gate.old) (seat.new, gate.new) }
+    ensures steps { VisitsOne table.now G.becomes bound at.rec (is_given result) (seat.old, gate.old) (seat.new, gate.new) }
 {
-    let word = table.load_state_from(seat, gate, rec, start);
+    let word = table.load_state_from(seat, gate, at);
     let Some(epoch) = epoch_below(word, bound) else {
-        return tell_unripe(word);
+        return outcome_of_state(word);
     };
-    let found = table.give_back_from(seat, gate, rec, start, epoch);
-    tell_given(found == word)
+    let found = table.give_back_from(seat, gate, at, epoch);
+    outcome_of_try(found == word)
 }
 
-/// What a visit came to that tried to give its record back: `Given` if it did, `Other` if another pass had done so.
-fn tell_given(given: bool) -> Visited
+/// What a visit came to that tried to give its record back: `Given` if it did, `Other` if another pass had done so. `given` says which.
+fn outcome_of_try(given: bool) -> Visited
     ensures { is_given result ≡ given }
 {
     if given {
@@ -326,7 +331,7 @@ fn tell_given(given: bool) -> Visited
 }
 
 /// What a visit came to of a record with the state `word`, not to be given back: `Waits` if it is obsolete, else `Other`.
-fn tell_unripe(word: u64) -> Visited
+fn outcome_of_state(word: u64) -> Visited
     ensures { is_given result ≡ false }
 {
     match unpack_state(word) {

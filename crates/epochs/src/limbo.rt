@@ -1,5 +1,8 @@
 //! Limbo: the records that a pass has retired and not given back yet.
 
+ghost use Rattle.std.specs.Prelude.{◌≡◌, ◌≢◌, ◌≤◌, ◌<◌, ◌+◌, ◌-◌, ◌^◌, min, true, false};
+ghost use Rattle.epochs.specs.declared.collection.Visited.TheVariants.{Waits};
+
 use crate::collection::Visited;
 use arrayvec::ArrayVec;
 use rowex_core::Rec;
@@ -32,8 +35,10 @@ pub struct Limbo {
 }
 
 impl Limbo {
-    /// An empty list.
-    pub fn new() -> Limbo {
+    /// An empty list of a pass that has retired no record.
+    pub fn new() -> Limbo
+        ensures { (result.count ≡ 0) × (result.retired ≡ 0) }
+    {
         Limbo {
             waiting: [Rec::Node(0); MOST_WAITING],
             first: 0,
@@ -45,7 +50,11 @@ impl Limbo {
 
     /// Puts a record that the pass has just retired at the end of the list. If the list is full, the record is left to full rounds.
     /// Either way it counts towards the next small round.
-    pub fn push(&mut self, rec: Rec) {
+    pub fn push(&mut self, rec: Rec)
+        ensures retired { self.new.retired ≡ min (self.old.retired + 1) (2 ^ 32 - 1) }
+        ensures room { self.old.count < MOST_WAITING → self.new.count ≡ self.old.count + 1 }
+        ensures full { MOST_WAITING ≤ self.old.count → self.new.count ≡ self.old.count }
+    {
         self.retired = self.retired.saturating_add(1);
         if self.count < MOST_WAITING {
             self.waiting[self.first.wrapping_add(self.count) % MOST_WAITING] = rec;
@@ -54,28 +63,40 @@ impl Limbo {
     }
 
     /// Whether a small round is due: the pass has retired at least `DUE` records since its last one.
-    pub fn is_due(&self) -> bool {
+    pub fn is_due(&self) -> bool
+        ensures due { result ≡ true → DUE ≤ self.now.retired }
+        ensures early { result ≡ false → self.now.retired < DUE }
+    {
         self.retired >= DUE
     }
 
-    /// Begins a small round: `given` is empty, and no record counts towards the next one yet.
-    pub(crate) fn begin(&mut self) {
+    /// Begins a small round: `given` is empty, and no record counts towards the next one yet. The records that wait stay.
+    pub(crate) fn begin_round(&mut self)
+        ensures { (self.new.retired ≡ 0) × (self.new.count ≡ self.old.count) }
+    {
         self.retired = 0;
         self.given.clear();
     }
 
     /// How many records wait.
-    pub(crate) fn count(&self) -> usize {
+    pub(crate) fn count(&self) -> usize
+        ensures { result ≡ self.now.count }
+    {
         self.count
     }
 
-    /// The record that waits at `place`, which is below `count` and counted from 0 at the oldest.
-    pub(crate) fn waiting_at(&self, place: usize) -> Rec {
-        self.waiting[self.first.wrapping_add(place) % MOST_WAITING]
+    /// The record that waits at `index`, which is below `count` and counted from 0 at the oldest.
+    pub(crate) fn waiting_at(&self, index: usize) -> Rec {
+        self.waiting[self.first.wrapping_add(index) % MOST_WAITING]
     }
 
-    /// Adds `rec` to `given`, if a visit gave it back. Returns whether the record leaves the list, as it does unless it has to wait.
-    pub(crate) fn settle(&mut self, rec: Rec, seen: Visited) -> bool {
+    /// Adds `rec` to `given`, if `seen`, what its visit came to, says that it was given back. Returns whether the record leaves the list, as
+    /// it does unless it has to wait.
+    pub(crate) fn take_visit(&mut self, rec: Rec, seen: Visited) -> bool
+        ensures waits { seen ≡ Waits → result ≡ false }
+        ensures leaves { seen ≢ Waits → result ≡ true }
+        ensures same { (self.new.count ≡ self.old.count) × (self.new.retired ≡ self.old.retired) }
+    {
         match seen {
             Visited::Waits => return false,
             Visited::Given if !self.given.is_full() => self.given.push(rec),
@@ -85,7 +106,9 @@ impl Limbo {
     }
 
     /// Takes the oldest `count` records out of the list.
-    pub(crate) fn leave(&mut self, count: usize) {
+    pub(crate) fn drop_oldest(&mut self, count: usize)
+        ensures { (self.new.count ≡ self.old.count - count) × (self.new.retired ≡ self.old.retired) }
+    {
         self.first = self.first.wrapping_add(count) % MOST_WAITING;
         self.count = self.count.saturating_sub(count);
     }

@@ -1,8 +1,8 @@
 -- A record's words put in place one by one, where a word that is looked at and stands there already is not stored again.
-use Rattle.std.proofs.Common.{◌≡◌, ◌≢◌, inl, inr, ℕ, zero, suc, ◌+◌, ◌*◌, ◌-◌, ◌≤◌, nat_eq, nat_lt, List, [], ◌∷◌, ◌++◌, length, map, set, get_or, Bool, true, false, refl, sym, ap, subst, ◌∙◌, arith, length-append, ap₂}
+use Rattle.std.proofs.Common.{◌≡◌, ◌≢◌, inl, inr, ℕ, zero, suc, ◌+◌, ◌*◌, ◌-◌, ◌<◌, ◌≤◌, nat_eq, nat_lt, List, [], ◌∷◌, ◌++◌, length, map, set, get_or, Bool, true, false, refl, sym, ap, subst, ◌∙◌, arith, length-append, ap₂}
 use Rattle.std.specs.Prelude.{All, Contains}
 use Rattle.std.proofs.lemmas.List.{append-nil, length-set, set-get_or}
-use Rattle.std.proofs.lemmas.Bool.{eq-eqb, eqb-true, ltb-false}
+use Rattle.std.proofs.lemmas.Bool.{eq-eqb, eqb-true, lt-ltb, ltb-false}
 use Rattle.std.proofs.lemmas.List.Elements.{All-head, All-tail}
 use Rattle.finite_map.specs.declared.Change.{Change}
 use Rattle.finite_map.specs.declared.Note.{Note}
@@ -20,7 +20,8 @@ use Rattle.rowex_core.specs.declared.known.Fact.{Fact}
 use Rattle.rowex_core.specs.declared.known.Holding.TheVariants.{Held}
 use Rattle.rowex_core.specs.declared.known.Owned.{Owned}
 use Rattle.rowex_core.specs.declared.known.Known.{Known}
-use Rattle.record_words.specs.Leaf.{HasLeafWords, leaf_words, words_for}
+use Rattle.record_words.specs.Leaf.{HasLeafWords, key_word, leaf_words, words_for}
+use Rattle.record_words.proofs.Leaves.{leaf_words_parts}
 use Rattle.rowex_core.specs.Cores.{Core, word_count_of}
 use Rattle.rowex_core.specs.Events.{IsFixedOffset}
 use Rattle.rowex_core.specs.Words.{record_word}
@@ -32,7 +33,7 @@ use Rattle.rowex_table.specs.Made.{IsLater}
 use Rattle.rowex_table.specs.Rights.{OwnsAs, IsClaimed}
 use Rattle.rowex_table.specs.Runs.{silent, Steps, Runs, Does, InTurn}
 use Rattle.rowex_table.specs.Stays.{KeepsRecall}
-use Rattle.rowex_table.specs.Seats.{TableView, SeatView}
+use Rattle.rowex_table.specs.Seats.{TableView, SeatView, IsSeatOf}
 use Rattle.rowex_table.proofs.ActsBefore.{later_trans, recalls_on, same_later}
 use Rattle.rowex_table.proofs.Rights.{mapped}
 use Rattle.rowex_table.proofs.Running as running
@@ -81,6 +82,10 @@ looks P w fixed slot (a_node n) offset = go (nat_lt offset FIRST_ENTRY) refl
         let past : FIRST_ENTRY ≤ offset = ltb-false offset FIRST_ENTRY e in
         let at : FIRST_ENTRY + (offset - FIRST_ENTRY) ≡ offset = omega (arith, past) in
         rw e (subst (λ o. P (a_node n) o (LoadRef (Slot n (offset - FIRST_ENTRY)) w)) at (slot n (offset - FIRST_ENTRY)))
+
+pub fixed_is_load : (r : Rec) (offset w : ℕ) → IsFixedOffset r offset → load_of_word r offset w ≡ LoadFixed r offset w
+fixed_is_load (a_leaf n) offset w fixed = refl
+fixed_is_load (a_node n) offset w fixed = rw (lt-ltb offset FIRST_ENTRY fixed.1) refl
 
 -- the word of an entry
 entry_word : (c : Core) (n i : ℕ) → record_word c (a_node n) (FIRST_ENTRY + i) ≡ get_or (c.words (a_node n)) (25 + i) 0
@@ -227,16 +232,19 @@ module _ {G : Type 0} (table : TableView) (becomes : G → Event → G → Type 
 
   -- one more of those that come to stand behind the first ones
   pub more_sets : (r : Rec) (words : List ℕ) (i count word : ℕ) (a m b : SeatView × G) → SetsMore table becomes r words i count a m → word ≡ get_or words (i + count) 0 → Sets table becomes r (i + count + 1) word m b → SetsMore table becomes r words i (count + 1) a b
-  more_sets r words i count word a m b more is sets c some =
-      let next : i + count + 1 ≡ i + (count + 1) = omega arith in
-      subst (λ z. SetsSome table becomes r words z c b) next (sets_more r words (i + count) word c m b (more c some) is sets)
+  more_sets r words i count word a m b (own, held, more) is sets =
+      let next : i + count + 1 ≡ i + (count + 1) = omega arith in (
+        sets.does.seat.0 ∙ own,
+        set_claimed r (i + count + 1) word m b sets held,
+        λ c some. subst (λ z. SetsSome table becomes r words z c b) next (sets_more r words (i + count) word c m b (more c some) is sets),
+      )
 
   -- the first word, and seven times eight more
   pub sets_eights : (r : Rec) (words : List ℕ) (word : ℕ) (a b b₁ b₂ b₃ b₄ b₅ b₆ b₇ : SeatView × G) → IsClaimed a.0.known r → word ≡ get_or words 0 0 → Sets table becomes r 1 word a b →
       SetsMore table becomes r words 1 8 b b₁ → SetsMore table becomes r words 9 8 b₁ b₂ → SetsMore table becomes r words 17 8 b₂ b₃ → SetsMore table becomes r words 25 8 b₃ b₄ →
       SetsMore table becomes r words 33 8 b₄ b₅ → SetsMore table becomes r words 41 8 b₅ b₆ → SetsMore table becomes r words 49 8 b₆ b₇ → SetsSome table becomes r words 57 a b₇
   sets_eights r words word a b b₁ b₂ b₃ b₄ b₅ b₆ b₇ held is first one two three four five six seven =
-      seven a (six a (five a (four a (three a (two a (one a (sets_more r words 0 word a a b (sets_none r words a held) is first)))))))
+      seven.2 a (six.2 a (five.2 a (four.2 a (three.2 a (two.2 a (one.2 a (sets_more r words 0 word a a b (sets_none r words a held) is first)))))))
 
   -- a pass that makes a step knows of each of its records as many words as it has
   runs_sized : (acts : List Act) (a b : SeatView × G) → 1 ≤ length acts → Runs table becomes acts a b → AreSized a.0.known.own
@@ -266,6 +274,24 @@ module _ {G : Type 0} (table : TableView) (becomes : G → Event → G → Type 
       let o : Owned = record { rec = r; holding = Held; words = words } in
       let with : fill_with r words (record { rec = r; holding = Held; words = old }) ≡ o = rw (same_rec_refl r) refl in
       subst (λ l. Contains l o) (sym sets.own) (subst (Contains (map (fill_with r words) a.0.known.own)) with (mapped (fill_with r words) a.0.known.own (record { rec = r; holding = Held; words = old }) has))
+
+  -- the value of a leaf and the length of its key, and one more word of the key
+  pub sets_leaf_head : (n size : ℕ) (leaf : List ℕ × ℕ) (a m b : SeatView × G) → IsClaimed a.0.known (a_leaf n) → size ≡ length leaf.0 → Sets table becomes (a_leaf n) 1 leaf.1 a m → Sets table becomes (a_leaf n) 2 size m b →
+      SetsSome table becomes (a_leaf n) (leaf_words leaf) 2 a b
+  sets_leaf_head n size leaf a m b held is first second =
+      let parts = leaf_words_parts leaf (leaf_words leaf) refl in
+      let one = sets_more (a_leaf n) (leaf_words leaf) 0 leaf.1 a a m (sets_none (a_leaf n) (leaf_words leaf) a held) (sym parts.value) first in
+      sets_more (a_leaf n) (leaf_words leaf) 1 size a m b one (is ∙ sym parts.size) second
+
+  pub sets_leaf_more : (n i word : ℕ) (leaf : List ℕ × ℕ) (a m b : SeatView × G) → i < 30 → word ≡ key_word leaf.0 i → SetsSome table becomes (a_leaf n) (leaf_words leaf) (i + 2) a m → Sets table becomes (a_leaf n) (i + 3) word m b →
+      SetsSome table becomes (a_leaf n) (leaf_words leaf) (i + 1 + 2) a b
+  sets_leaf_more n i word leaf a m b low is some sets =
+      let at : 2 + i ≡ i + 2 = omega arith in
+      let here : i + 3 ≡ i + 2 + 1 = omega arith in
+      let next : i + 2 + 1 ≡ i + 1 + 2 = omega arith in
+      let bytes = (leaf_words_parts leaf (leaf_words leaf) refl).bytes i low in
+      subst (λ k. SetsSome table becomes (a_leaf n) (leaf_words leaf) k a b) next
+      (sets_more (a_leaf n) (leaf_words leaf) (i + 2) word a m b some (is ∙ (sym bytes ∙ ap (λ i. get_or (leaf_words leaf) i 0) at)) (subst (λ o. Sets table becomes (a_leaf n) o word m b) here sets))
 
   -- a leaf has its words up to the end of its key
   pub sets_leaf : (n : ℕ) (leaf : List ℕ × ℕ) (a b : SeatView × G) → HasLeafWords leaf → SetsSome table becomes (a_leaf n) (leaf_words leaf) (words_for (length leaf.0) - 1) a b → IsClaimed a.0.known (a_leaf n) → IsFilledLeaf b.0.known n leaf

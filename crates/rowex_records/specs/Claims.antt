@@ -141,26 +141,26 @@ pub record Claims {G : Type 0} (table : TableView) (becomes : G → Event → G 
   pub none : FindsNone table becomes kind n from tried a before
   pub one : ClaimsOne table becomes (kind number) before b
 
--- The pass goes on, after tries that found none free, with so many records of the kind from this number on, which follow those; it
--- answers none, or how many it tried of these before the one that it has claimed.
+-- The pass goes on, after tries that found none free, with so many records of the kind from this number on, which follow those. The result is
+-- none, or how many it tried of these before the one that it has claimed.
 abbrev pub GoesOnTrying : {G : Type 0} → TableView → (G → Event → G → Type 0) → RecordKind → (number count : ℕ) → Option ℕ → SeatView × G → SeatView × G → Type 0
-GoesOnTrying {G = G} table becomes kind number count answer b c =
+GoesOnTrying {G = G} table becomes kind number count result b c =
     let n = count_of kind table.layout in
     (a : SeatView × G) (from m : ℕ) → from < n → m + count ≤ n → number ≡ wrapped n from m → FindsNone table becomes (record_of kind) n from m a b →
-    MatchOption answer (FindsNone table becomes (record_of kind) n from (m + count) a c)
+    MatchOption result (FindsNone table becomes (record_of kind) n from (m + count) a c)
     (λ index. (index < count) × (claims : Claims table becomes (record_of kind) n from (number + index) a c) × (claims.tried ≡ m + index))
 
--- Of the records of the kind the pass tries so many at most, from this one on; it answers none, or the number of the one that it has
+-- Of the records of the kind the pass tries so many at most, from this one on. The result is none, or the number of the one that it has
 -- claimed, and how many it tried with that.
 abbrev pub TriesSome : {G : Type 0} → TableView → (G → Event → G → Type 0) → RecordKind → (begin most : ℕ) → Option ℕ × ℕ → SeatView × G → SeatView × G → Type 0
-TriesSome table becomes kind begin most (answer, tried) a b =
-    MatchOption answer ((tried ≡ most) × FindsNone table becomes (record_of kind) (count_of kind table.layout) begin most a b)
+TriesSome table becomes kind begin most (result, tried) a b =
+    MatchOption result ((tried ≡ most) × FindsNone table becomes (record_of kind) (count_of kind table.layout) begin most a b)
     (λ number. (claims : Claims table becomes (record_of kind) (count_of kind table.layout) begin number a b) × (claims.tried + 1 ≡ tried))
 
 -- the pass does so by going on behind the first of them, which it has found not free
 abbrev pub GoesOnBehind : {G : Type 0} → TableView → (G → Event → G → Type 0) → RecordKind → (begin most : ℕ) → Option ℕ × ℕ → SeatView × G → SeatView × G → Type 0
-GoesOnBehind {G = G} table becomes kind begin most answer b c =
-    (a : SeatView × G) → FindsNone table becomes (record_of kind) (count_of kind table.layout) begin 1 a b → TriesSome table becomes kind begin most answer a c
+GoesOnBehind {G = G} table becomes kind begin most result b c =
+    (a : SeatView × G) → FindsNone table becomes (record_of kind) (count_of kind table.layout) begin 1 a b → TriesSome table becomes kind begin most result a c
 
 -- each of the n records of the kind was found not free by one of these, at this step or a later one, and whose it was
 abbrev pub AllMissed : (Rec → Option ℕ → Type 0) → (ℕ → Rec) → ℕ → List Failed → ℕ → Type 0

@@ -18,7 +18,7 @@ use Rattle.rowex_core.specs.Reading.{IsPacked}
 use Rattle.rowex_table.specs.Made.{IsLater}
 use Rattle.rowex_table.specs.Rights.{OwnsAs, IsClaimed}
 use Rattle.rowex_table.specs.Runs.{Does, InTurn}
-use Rattle.rowex_table.specs.Seats.{TableView, SeatView}
+use Rattle.rowex_table.specs.Seats.{TableView, SeatView, IsSeatOf}
 use Rattle.versions.specs.Trades.{AreApart}
 
 -- of what a pass knows, its own records may change
@@ -96,9 +96,10 @@ pub record SetsSome {G : Type 0} (table : TableView) (becomes : G → Event → 
   pub held : IsClaimed b.0.known r
   pub own : b.0.known.own ≡ map (stored_in r words i) a.0.known.own
 
--- the pass goes on so, where the first i words stand, with so many more
+-- Where the first i words stand so, the pass goes on with so many more. Its seat is one of this table still, and the record stays claimed.
 abbrev pub SetsMore : {G : Type 0} → TableView → (G → Event → G → Type 0) → Rec → List ℕ → (i count : ℕ) → SeatView × G → SeatView × G → Type 0
-SetsMore {G = G} table becomes r words i count b c = (a : SeatView × G) → SetsSome table becomes r words i a b → SetsSome table becomes r words (i + count) a c
+SetsMore {G = G} table becomes r words i count b c =
+    IsSeatOf table c.0 × IsClaimed c.0.known r × ((a : SeatView × G) → SetsSome table becomes r words i a b → SetsSome table becomes r words (i + count) a c)
 
 -- The words come to stand from offset 1 on, one after the other; one that is looked at and stands there already is not stored again. Of the
 -- pass's own records this one has them then, and the others are as they were.

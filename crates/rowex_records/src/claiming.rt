@@ -11,7 +11,7 @@ ghost use Rattle.rowex_records.specs.Records.{GivesUp, GivesUpAll, HoldsJust};
 
 use record_words::{Layout, NODE_WORDS};
 use rowex_core::{Gate, Rec};
-use rowex_table::{HotTable, TableSeat};
+use rowex_table::{HotTable, RecordAt, TableSeat};
 
 /// A kind of records.
 #[derive(Clone, Copy)]
@@ -21,8 +21,16 @@ pub enum RecordKind {
     Leaf { first: u32, end: u32 },
 }
 
+/// `count` records of a kind, from number `number` on. Each begins `size` words behind the one before.
+#[derive(Clone, Copy)]
+struct Row {
+    number: u32,
+    count: u32,
+    size: usize,
+}
+
 impl RecordKind {
-    /// The record of this kind with the number `number`, counted from 0 at the first of the kind.
+    /// The record of this kind with the number `number`, which is counted from 0 at the first of the kind.
     fn record_at(self, number: u32) -> Rec
         requires { HasIndex self number }
         ensures { result ≡ record_of self number }
@@ -33,8 +41,8 @@ impl RecordKind {
         }
     }
 
-    /// The word at which the record of this kind with the number `number` begins. If `number` is their count, it is where one more would
-    /// begin.
+    /// The number of the word at which the record of this kind with the number `number` begins. If `number` is their count, it is where one
+    /// more would begin.
     fn start_at(self, layout: &Layout, number: u32) -> usize
         requires { number ≤ count_of self layout.now }
         ensures { result ≡ first_word self layout.now number }
@@ -45,20 +53,25 @@ impl RecordKind {
         }
     }
 
-    /// The records of this kind from `number` on that are as large as the first of them. Returns the number behind the last, and how many
-    /// words each has.
-    fn row_at(self, layout: &Layout, number: u32) -> (u32, usize)
+    /// The row of the records of this kind from number `number` on that are as large as the first of them.
+    fn row_at(self, layout: &Layout, number: u32) -> Row
         requires kind { IsKindOf self layout.now }
         requires low { number < count_of self layout.now }
-        ensures upto { (number < result.0) × (result.0 ≤ count_of self layout.now) }
-        ensures row { IsRow self layout.now number (result.0 - number) result.1 }
+        ensures number { result.number ≡ number }
+        ensures count { (0 < result.count) × (number + result.count ≤ count_of self layout.now) }
+        ensures row { IsRow self layout.now number result.count result.size }
     {
         match self {
-            RecordKind::Node => (layout.nodes, NODE_WORDS),
-            RecordKind::Leaf { first, end } => {
-                let upto = layout.class_end(first + number).min(end);
-                (upto - first, layout.leaf_size(first + number))
-            }
+            RecordKind::Node => Row {
+                number,
+                count: layout.nodes - number,
+                size: NODE_WORDS,
+            },
+            RecordKind::Leaf { first, end } => Row {
+                number,
+                count: layout.class_end(first + number).min(end) - first - number,
+                size: layout.leaf_size(first + number),
+            },
         }
     }
 
@@ -126,7 +139,7 @@ pub fn claim_within<G: Gate>(
     ensures held { IfSome result (λ number. (number < count_of kind table.now.layout) × IsClaimed seat.new.known (record_of kind number)) }
 {
     let most = kind.count(table.layout()).min(*left);
-    let (claimed, tried) = claim_of(table, seat, gate, kind, from, most);
+    let (claimed, tried) = claim_and_count(table, seat, gate, kind, from, most);
     *left -= tried;
     claimed
 }
@@ -134,7 +147,7 @@ pub fn claim_within<G: Gate>(
 /// Claims the first record of `kind` that it finds free, of the next `most` from number `from` on. Returns its number, or `None` if none
 /// of them was free, and how many it tried.
 #[inline(always)]
-fn claim_of<G: Gate>(
+fn claim_and_count<G: Gate>(
     table: &HotTable,
     seat: &mut TableSeat,
     gate: &mut G,
@@ -151,9 +164,9 @@ fn claim_of<G: Gate>(
     if most == 0 {
         return (None, 0);
     }
-    let begin = first(from, kind.count(table.layout()));
-    let rec = kind.record_at(begin);
-    if try_record(table, seat, gate, rec, table.start_of(rec)) {
+    let begin = first_number(from, kind.count(table.layout()));
+    let at = table.locate(kind.record_at(begin));
+    if try_claim(table, seat, gate, at) {
         return (Some(begin), 1);
     }
     claim_behind(table, seat, gate, kind, begin, most)
@@ -179,46 +192,44 @@ fn claim_behind<G: Gate>(
 {
     let layout = table.layout();
     let all = kind.count(layout);
-    let mut number = first(begin + 1, all);
+    let mut number = first_number(begin + 1, all);
     let mut tried = 1;
     while tried < most {
-        let (end, size) = kind.row_at(&layout, number);
-        let count = (end - number).min(most - tried);
-        if let Some(index) = claim_in_row(table, seat, gate, kind, number, count, size) {
+        let row = kind.row_at(&layout, number);
+        let count = row.count.min(most - tried);
+        if let Some(index) = claim_in_row(table, seat, gate, kind, Row { count, ..row }) {
             return (Some(number + index), tried + index + 1);
         }
         tried += count;
-        number = first(number + count, all);
+        number = first_number(number + count, all);
     }
     (None, most)
 }
 
-/// Claims the first record of `kind` that it finds free, of `count` from number `number` on. Each of these begins `size` words behind the
-/// one before. Returns how many it tried before that one; `None` if none was free.
+/// Claims the first record of `row`, of records of `kind`, that it finds free. Returns how many it tried before that one; `None` if none
+/// was free.
 fn claim_in_row<G: Gate>(
     table: &HotTable,
     seat: &mut TableSeat,
     gate: &mut G,
     kind: RecordKind,
-    number: u32,
-    count: u32,
-    size: usize,
+    row: Row,
 ) -> Option<u32>
     requires own { IsSeatOf table.now seat.old }
     requires kind { IsKindOf kind table.now.layout }
-    requires few { number + count ≤ count_of kind table.now.layout }
-    requires row { IsRow kind table.now.layout number count size }
+    requires few { row.number + row.count ≤ count_of kind table.now.layout }
+    requires row { IsRow kind table.now.layout row.number row.count row.size }
     ensures own { IsSeatOf table.now seat.new }
-    ensures low { IfSome result (λ index. index < count) }
-    ensures tries { GoesOnTrying table.now G.becomes kind number count result (seat.old, gate.old) (seat.new, gate.new) }
+    ensures low { IfSome result (λ index. index < row.count) }
+    ensures tries { GoesOnTrying table.now G.becomes kind row.number row.count result (seat.old, gate.old) (seat.new, gate.new) }
 {
-    let mut start = kind.start_at(&table.layout(), number);
-    for index in 0..count {
-        let rec = kind.record_at(number + index);
-        if try_record(table, seat, gate, rec, start) {
+    let mut start = kind.start_at(&table.layout(), row.number);
+    for index in 0..row.count {
+        let rec = kind.record_at(row.number + index);
+        if try_claim(table, seat, gate, RecordAt { rec, start }) {
             return Some(index);
         }
-        start += size;
+        start += row.size;
     }
     None
 }
@@ -243,32 +254,25 @@ pub fn claim_numbered<G: Gate>(
     if number >= kind.count(table.layout()) {
         return false;
     }
-    let rec = kind.record_at(number);
-    try_record(table, seat, gate, rec, table.start_of(rec))
+    let at = table.locate(kind.record_at(number));
+    try_claim(table, seat, gate, at)
 }
 
-/// Loads the state of `rec`, which begins at word `start`, and claims the record if the state is free. Returns whether the pass has it
-/// now.
-fn try_record<G: Gate>(
-    table: &HotTable,
-    seat: &mut TableSeat,
-    gate: &mut G,
-    rec: Rec,
-    start: usize,
-) -> bool
+/// Loads the state of the record `at`, and claims the record if the state is free. Returns whether the pass has it now.
+fn try_claim<G: Gate>(table: &HotTable, seat: &mut TableSeat, gate: &mut G, at: RecordAt) -> bool
     requires own { IsSeatOf table.now seat.old }
-    requires start { IsStartOf table.now.layout rec start }
-    ensures missed { result ≡ false → MissesOne table.now G.becomes rec (seat.old, gate.old) (seat.new, gate.new) }
-    ensures claimed { result ≡ true → ClaimsOne table.now G.becomes rec (seat.old, gate.old) (seat.new, gate.new) }
+    requires start { IsStartOf table.now.layout at.rec at.start }
+    ensures missed { result ≡ false → MissesOne table.now G.becomes at.rec (seat.old, gate.old) (seat.new, gate.new) }
+    ensures claimed { result ≡ true → ClaimsOne table.now G.becomes at.rec (seat.old, gate.old) (seat.new, gate.new) }
 {
-    if table.load_state_from(seat, gate, rec, start) != 0 {
+    if table.load_state_from(seat, gate, at) != 0 {
         return false;
     }
-    table.claim_from(seat, gate, rec, start) == 0
+    table.claim_from(seat, gate, at) == 0
 }
 
 /// The number to begin at, of `all` records: `from`, or 0 if `from` is out of range.
-fn first(from: u32, all: u32) -> u32
+fn first_number(from: u32, all: u32) -> u32
     ensures begin { result ≡ begin_of all from }
     ensures low { 0 < all → result < all }
     ensures few { result ≤ all }

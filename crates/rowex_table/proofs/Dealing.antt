@@ -23,7 +23,7 @@ use Rattle.rowex_core.proofs.Promises.{opening_is_lawful}
 use Rattle.rowex_table.specs.declared.traces.Trace.{Trace}
 use Rattle.rowex_table.specs.declared.traces.TracedView.{TracedView}
 use Rattle.rowex_table.specs.declared.traces.TracedView.TheVariants.{Spent, Dealer, Pass, Pair}
-use Rattle.rowex_table.specs.Rule.{Ruled, IsTrueOf, opening_of, next_dealer, dealt, paired, first_of_two, second_of_two, with_front, SeatsHaveMet, TracesHaveMet, Meeting, met}
+use Rattle.rowex_table.specs.Rule.{Ruled, IsTrueOf, opening_of, next_dealer, dealt, paired, first_of_two, second_of_two, with_front, IsShown, SeatsHaveMet, Meeting, met, IsSomeSeats}
 use Rattle.rowex_table.specs.Traces.{HasTraces, IsShownRun, OthersStepOn, untraced, view_of}
 use Rattle.rowex_table.specs.Seats.{TableView, SeatView, IsNewSeatOf, IsNewSeat}
 use Rattle.rowex_table.proofs.Keeping.{Apart, apart_set, each_set, set_at}
@@ -75,6 +75,46 @@ at_end [] a b (suc j) e = absurd (some-ne-none b (sym e))
 at_end (x ∷ xs) a b zero e = inl e
 at_end (x ∷ xs) a b (suc j) e = ⊎_elim inl (λ t. inr (ap suc t.0, t.1)) (at_end xs a b j e)
 
+-- The rule is kept where the words stay, and the views of seats are true, apart and of each number.
+still_ruled : {S : Type 0} (layout : Layout) (s t : State S TracedView) (r : Ruled layout s) → t.words ≡ s.words → ((i : ℕ) (v : TracedView) → get_elem? t.views i ≡ some v → IsTrueOf r.core r.run v) → Apart t.views →
+    ((q : ℕ) → q < layout.passes → IsSomeSeats t.views q) → Ruled layout t
+still_ruled layout s t r same knows apart each = record {
+  core = r.core;
+  lawful = r.lawful;
+  layout_is = r.layout_is;
+  shows = subst (Shows r.core) (sym same) r.shows;
+  run = r.run;
+  led = r.led;
+  knows = knows;
+  apart = apart;
+  each = each;
+}
+
+-- The seat's view becomes another by a load, which is true and has the same numbers, and of both views `Then` holds.
+pub allows_view : {S : Type 0} (layout : Layout) (of : Option Layout) → of ≡ Some layout → (slots id i : ℕ) (me : Me S TracedView) (v : TracedView) → me ≡ (v, []) → (Then : Option Layout → TracedView → TracedView → Type 0) →
+    ((s : State S TracedView) (r : Ruled layout s) → get_elem? s.views id ≡ some v → (new : TracedView) × IsTrueOf r.core r.run new ×
+    ((q : ℕ) → IsViewOf (view_of new) q → IsViewOf (view_of v) q) × ((q : ℕ) → IsViewOf (view_of v) q → IsViewOf (view_of new) q) × Then (Some layout) v new) →
+    Allows {S = S} {V = TracedView} (Ruled layout) slots id me i (λ n. n) (λ told m'. (m'.1 ≡ me.1) × Then of me.0 m'.0)
+allows_view {S = S} layout of is_of slots id i me v is Then becomes =
+    subst (λ (o : Option Layout). Allows {S = S} {V = TracedView} (Ruled layout) slots id me i (λ n. n) (λ told m'. (m'.1 ≡ me.1) × Then o me.0 m'.0)) (sym is_of)
+    (subst (λ (m : Me S TracedView). Allows {S = S} {V = TracedView} (Ruled layout) slots id m i (λ n. n) (λ told m'. (m'.1 ≡ m.1) × Then (Some layout) m.0 m'.0)) (sym is) go)
+  where
+    go : Allows {S = S} {V = TracedView} (Ruled layout) slots id (v, []) i (λ n. n) (λ told m'. (m'.1 ≡ []) × Then (Some layout) v m'.0)
+    go s r deep here low =
+        let (new, is_true, owns, keeps, holds) = becomes s r here in (
+          new,
+          table.keeps,
+          tt,
+          still_ruled layout s _ r (set-get_or s.words i 0)
+              (λ m w e. ⊎_elim
+              (λ (h : (m ≡ id) × (new ≡ w)). subst (IsTrueOf r.core r.run) h.1 is_true)
+              (λ (h : (m ≢ id) × (get_elem? s.views m ≡ some w)). r.knows m w h.1)
+              (at_set s.views id m new w e))
+              (apart_set s.views id v new here owns r.apart)
+              (λ q low. each_set s.views id q v new here (keeps q) (r.each q low)),
+          (refl, holds),
+        )
+
 module _ {S : Type 0} (layout : Layout) (id : ℕ) (v left right : TracedView) where
   -- each part keeps to the numbers and the knowledge of the whole, and they have no number in common
   pub splits : ((c : Core) (run : List Event) → c.layout ≡ layout → IsTrueOf c run v → IsTrueOf c run left × IsTrueOf c run right) → ((q : ℕ) → IsViewOf (view_of left) q → IsViewOf (view_of v) q) → ((q : ℕ) → IsViewOf (view_of right) q → IsViewOf (view_of v) q) → ((q : ℕ) → IsViewOf (view_of left) q → IsViewOf (view_of right) q → ⊥) → ((q : ℕ) → IsViewOf (view_of v) q → IsViewOf (view_of left) q ⊎ IsViewOf (view_of right) q)
@@ -87,31 +127,25 @@ module _ {S : Type 0} (layout : Layout) (id : ℕ) (v left right : TracedView) w
       (λ (t : (i ≡ id) × (left ≡ w)). lr q (subst (λ z. IsViewOf (view_of z) q) (sym t.1) ow) oright)
       (λ (t : (i ≢ id) × (get_elem? s.views i ≡ some w)). t.0 (r.apart i id q w v t.1 here ow (ro q oright)))
       (at_set s.views id i left w e) in
-      record {
-        core = r.core;
-        lawful = r.lawful;
-        layout_is = r.layout_is;
-        shows = r.shows;
-        run = r.run;
-        led = r.led;
-        knows = λ i w e. ⊎_elim
-            (λ old. ⊎_elim (λ (t : (i ≡ id) × (left ≡ w)). subst (IsTrueOf r.core r.run) t.1 parts.0) (λ (t : (i ≢ id) × (get_elem? s.views i ≡ some w)). r.knows i w t.1) (at_set s.views id i left w old))
-            (λ (t : (i ≡ length views) × (right ≡ w)). subst (IsTrueOf r.core r.run) t.1 parts.1)
-            (at_end views right w i e);
-        apart = λ i j q x y a b ox oy. ⊎_elim
-            (λ (olda : get_elem? views i ≡ some x). ⊎_elim (λ (oldb : get_elem? views j ≡ some y). apart i j q x y olda oldb ox oy) (λ (t : (j ≡ length views) × (right ≡ y)). absurd (alone i q x olda ox (subst (λ z. IsViewOf (view_of z) q) (sym t.1) oy))) (at_end views right y j b))
-            (λ (t : (i ≡ length views) × (right ≡ x)). ⊎_elim (λ (oldb : get_elem? views j ≡ some y). absurd (alone j q y oldb oy (subst (λ z. IsViewOf (view_of z) q) (sym t.1) ox))) (λ (u : (j ≡ length views) × (right ≡ y)). t.0 ∙ sym u.0) (at_end views right y j b))
-            (at_end views right x i a);
-        each = λ q low. let seat = r.each q low in ⊎_elim
-            (λ (e : (eqb seat.0 id ≡ true) × (seat.0 ≡ id)). ⊎_elim
-            (λ (o : IsViewOf (view_of left) q). (id, left, at_longer views (right ∷ []) id left (set_at s.views id left v here), o))
-            (λ (o : IsViewOf (view_of right) q). (length views, right, at_last views right (length views) refl, o))
-            (vs q (subst (λ z. IsViewOf (view_of z) q) (some-injective seat.1 v (sym seat.2 ∙ (ap (λ n. get_elem? s.views n) e.1 ∙ here))) seat.3)))
-            (λ (n : (eqb seat.0 id ≡ false) × (seat.0 ≢ id)). (seat.0, seat.1, at_longer views (right ∷ []) seat.0 seat.1 (set_else s.views id seat.0 left n.1 ∙ seat.2), seat.3))
-            (eqb_tells seat.0 id);
-      }
+      still_ruled layout s _ r refl
+      (λ i w e. ⊎_elim
+      (λ old. ⊎_elim (λ (t : (i ≡ id) × (left ≡ w)). subst (IsTrueOf r.core r.run) t.1 parts.0) (λ (t : (i ≢ id) × (get_elem? s.views i ≡ some w)). r.knows i w t.1) (at_set s.views id i left w old))
+      (λ (t : (i ≡ length views) × (right ≡ w)). subst (IsTrueOf r.core r.run) t.1 parts.1)
+      (at_end views right w i e))
+      (λ i j q x y a b ox oy. ⊎_elim
+      (λ (olda : get_elem? views i ≡ some x). ⊎_elim (λ (oldb : get_elem? views j ≡ some y). apart i j q x y olda oldb ox oy) (λ (t : (j ≡ length views) × (right ≡ y)). absurd (alone i q x olda ox (subst (λ z. IsViewOf (view_of z) q) (sym t.1) oy))) (at_end views right y j b))
+      (λ (t : (i ≡ length views) × (right ≡ x)). ⊎_elim (λ (oldb : get_elem? views j ≡ some y). absurd (alone j q y oldb oy (subst (λ z. IsViewOf (view_of z) q) (sym t.1) ox))) (λ (u : (j ≡ length views) × (right ≡ y)). t.0 ∙ sym u.0) (at_end views right y j b))
+      (at_end views right x i a))
+      (λ q low. let seat = r.each q low in ⊎_elim
+      (λ (e : (eqb seat.0 id ≡ true) × (seat.0 ≡ id)). ⊎_elim
+      (λ (o : IsViewOf (view_of left) q). (id, left, at_longer views (right ∷ []) id left (set_at s.views id left v here), o))
+      (λ (o : IsViewOf (view_of right) q). (length views, right, at_last views right (length views) refl, o))
+      (vs q (subst (λ z. IsViewOf (view_of z) q) (some-injective seat.1 v (sym seat.2 ∙ (ap (λ n. get_elem? s.views n) e.1 ∙ here))) seat.3)))
+      (λ (n : (eqb seat.0 id ≡ false) × (seat.0 ≢ id)). (seat.0, seat.1, at_longer views (right ∷ []) seat.0 seat.1 (set_else s.views id seat.0 left n.1 ∙ seat.2), seat.3))
+      (eqb_tells seat.0 id))
 
-new_knows : (c : Core) (m : ℕ) → m < c.layout.passes → IsUntouched c m → Knows c (opening_of m)
+-- what a new pass knows is true where it has made no step
+pub new_knows : (c : Core) (m : ℕ) → m < c.layout.passes → IsUntouched c m → Knows c (opening_of m)
 new_knows c m low h = record {
   pass = low;
   counted = record { loaded = omega arith; failed = All-from_recursion (λ f. f.step < 1) [] tt };
@@ -158,36 +192,29 @@ module _ {S : Type 0} (layout : Layout) (id other : ℕ) (v w both : TracedView)
       (λ (p : IsViewOf (view_of v) q). a (r.apart i id q x v e here o p))
       (λ (p : IsViewOf (view_of w) q). b (r.apart i other q x w e second o p))
       own in
-      record {
-        core = r.core;
-        lawful = r.lawful;
-        layout_is = r.layout_is;
-        shows = r.shows;
-        run = r.run;
-        led = r.led;
-        knows = λ i x e. ⊎_elim
-            (λ (t : (i ≡ other) × (Spent ≡ x)). subst (IsTrueOf r.core r.run) t.1 (tt, tt))
-            (λ (t : (i ≢ other) × (get_elem? views i ≡ some x)). ⊎_elim
-            (λ (u : (i ≡ id) × (both ≡ x)). subst (IsTrueOf r.core r.run) u.1 (knowing r.core r.run (r.knows id v here) (r.knows other w second) (λ q o p. ne (r.apart other id q w v second here p o))))
-            (λ (u : (i ≢ id) × (get_elem? s.views i ≡ some x)). r.knows i x u.1)
-            (at_set s.views id i both x t.1))
-            (at_set views other i Spent x e);
-        apart = λ i l q x y a b ox oy. ⊎_elim
-            (λ s1. ⊎_elim (λ s2. s1.0 ∙ sym s2.0) (λ s2. absurd (clash l q y s2.0 s2.1 s2.2 oy s1.1)) (from l q y b oy))
-            (λ s1. ⊎_elim (λ s2. absurd (clash i q x s1.0 s1.1 s1.2 ox s2.1)) (λ s2. r.apart i l q x y s1.2 s2.2 ox oy) (from l q y b oy))
-            (from i q x a ox);
-        each = λ q low. let seat = r.each q low in ⊎_elim
-            (λ (e : (eqb seat.0 other ≡ true) × (seat.0 ≡ other)).
-            let is : IsViewOf (view_of w) q = subst (λ z. IsViewOf (view_of z) q) (some-injective seat.1 w (sym seat.2 ∙ (ap (λ n. get_elem? s.views n) e.1 ∙ second))) seat.3 in
-            (id, both, set_else views other id Spent (λ same. ne (sym same)) ∙ set_at s.views id both v here, to_both q (inr is)))
-            (λ (n : (eqb seat.0 other ≡ false) × (seat.0 ≢ other)). ⊎_elim
-            (λ (e : (eqb seat.0 id ≡ true) × (seat.0 ≡ id)).
-            let is : IsViewOf (view_of v) q = subst (λ z. IsViewOf (view_of z) q) (some-injective seat.1 v (sym seat.2 ∙ (ap (λ m. get_elem? s.views m) e.1 ∙ here))) seat.3 in
-            (id, both, set_else views other id Spent (λ same. ne (sym same)) ∙ set_at s.views id both v here, to_both q (inl is)))
-            (λ (m : (eqb seat.0 id ≡ false) × (seat.0 ≢ id)). (seat.0, seat.1, set_else views other seat.0 Spent n.1 ∙ (set_else s.views id seat.0 both m.1 ∙ seat.2), seat.3))
-            (eqb_tells seat.0 id))
-            (eqb_tells seat.0 other);
-      }
+      still_ruled layout s _ r refl
+      (λ i x e. ⊎_elim
+      (λ (t : (i ≡ other) × (Spent ≡ x)). subst (IsTrueOf r.core r.run) t.1 (tt, tt))
+      (λ (t : (i ≢ other) × (get_elem? views i ≡ some x)). ⊎_elim
+      (λ (u : (i ≡ id) × (both ≡ x)). subst (IsTrueOf r.core r.run) u.1 (knowing r.core r.run (r.knows id v here) (r.knows other w second) (λ q o p. ne (r.apart other id q w v second here p o))))
+      (λ (u : (i ≢ id) × (get_elem? s.views i ≡ some x)). r.knows i x u.1)
+      (at_set s.views id i both x t.1))
+      (at_set views other i Spent x e))
+      (λ i l q x y a b ox oy. ⊎_elim
+      (λ s1. ⊎_elim (λ s2. s1.0 ∙ sym s2.0) (λ s2. absurd (clash l q y s2.0 s2.1 s2.2 oy s1.1)) (from l q y b oy))
+      (λ s1. ⊎_elim (λ s2. absurd (clash i q x s1.0 s1.1 s1.2 ox s2.1)) (λ s2. r.apart i l q x y s1.2 s2.2 ox oy) (from l q y b oy))
+      (from i q x a ox))
+      (λ q low. let seat = r.each q low in ⊎_elim
+      (λ (e : (eqb seat.0 other ≡ true) × (seat.0 ≡ other)).
+      let is : IsViewOf (view_of w) q = subst (λ z. IsViewOf (view_of z) q) (some-injective seat.1 w (sym seat.2 ∙ (ap (λ n. get_elem? s.views n) e.1 ∙ second))) seat.3 in
+      (id, both, set_else views other id Spent (λ same. ne (sym same)) ∙ set_at s.views id both v here, to_both q (inr is)))
+      (λ (n : (eqb seat.0 other ≡ false) × (seat.0 ≢ other)). ⊎_elim
+      (λ (e : (eqb seat.0 id ≡ true) × (seat.0 ≡ id)).
+      let is : IsViewOf (view_of v) q = subst (λ z. IsViewOf (view_of z) q) (some-injective seat.1 v (sym seat.2 ∙ (ap (λ m. get_elem? s.views m) e.1 ∙ here))) seat.3 in
+      (id, both, set_else views other id Spent (λ same. ne (sym same)) ∙ set_at s.views id both v here, to_both q (inl is)))
+      (λ (m : (eqb seat.0 id ≡ false) × (seat.0 ≢ id)). (seat.0, seat.1, set_else views other seat.0 Spent n.1 ∙ (set_else s.views id seat.0 both m.1 ∙ seat.2), seat.3))
+      (eqb_tells seat.0 id))
+      (eqb_tells seat.0 other))
 
 pub joins : {S : Type 0} (layout : Layout) (id other : ℕ) (v w : TracedView) (j : Known) (t : Trace) (k : Known) (u : Trace) → v ≡ Pass j t → w ≡ Pass k u →
     Joins {S = S} {V = TracedView} (Ruled layout) id v other w (paired v w) Spent
@@ -221,46 +248,26 @@ shown_run layout s r k t others = record { core = r.core; led = r.led; changes =
 
 pub meets : {S : Type 0} (layout : Layout) (of : Option Layout) → of ≡ Some layout → (slots id i : ℕ) (me : Me S TracedView) (j : Known) (t : Trace) (k : Known) (u : Trace) → me ≡ (Pair j t k u, [])
     → Allows {S = S} {V = TracedView} (Ruled layout) slots id me i (λ n. n) (met of (table.step slots i 0 0 none) me)
-meets {S = S} layout of is_of slots id i me j t k u is =
-    subst (λ (o : Option Layout). Allows {S = S} {V = TracedView} (Ruled layout) slots id me i (λ n. n) (met o (table.step slots i 0 0 none) me)) (sym is_of)
-    (subst (λ (m : Me S TracedView). Allows {S = S} {V = TracedView} (Ruled layout) slots id m i (λ n. n) (met (Some layout) (table.step slots i 0 0 none) m)) (sym is) go)
-  where
-    go : Allows {S = S} {V = TracedView} (Ruled layout) slots id (Pair j t k u, []) i (λ n. n) (met (Some layout) (table.step slots i 0 0 none) (Pair j t k u, []))
-    go s r deep here low =
-        let c : Core = r.core in
-        let both = (r.knows id (Pair j t k u) here).0 in
-        let traces = (r.knows id (Pair j t k u) here).1 in
-        let new : TracedView = Pair (with_front c.changes j) (shown r.run t) (with_front c.changes k) (shown r.run u) in (
-          new,
-          table.keeps,
-          tt,
-          record {
-            core = c;
-            lawful = r.lawful;
-            layout_is = r.layout_is;
-            shows = subst (Shows c) (sym (set-get_or s.words i 0)) r.shows;
-            run = r.run;
-            led = r.led;
-            knows = λ m v e. ⊎_elim
-                (λ (h : (m ≡ id) × (new ≡ v)). subst (IsTrueOf c r.run) h.1 ((met_knows c j both.0, met_knows c k both.1, both.2), (others_none j.pass r.run, others_none k.pass r.run)))
-                (λ (h : (m ≢ id) × (get_elem? s.views m ≡ some v)). r.knows m v h.1)
-                (at_set s.views id m new v e);
-            apart = apart_set s.views id (Pair j t k u) new here (λ q o. o) r.apart;
-            each = λ q low. each_set s.views id q (Pair j t k u) new here (λ o. o) (r.each q low);
-          },
-          (
-            refl,
-            (
-              with_front c.changes j,
-              shown r.run t,
-              with_front c.changes k,
-              shown r.run u,
-              refl,
-              (c.changes, refl, refl, r.lawful.core.told.legal, both.0.seen.front, both.1.seen.front, both.2, subst (λ (z : Layout). All (λ x. x.pass < z.passes) c.changes) r.layout_is r.lawful.makers),
-              (refl, shown_run layout s r j t traces.0, shown_run layout s r k u traces.1, refl, refl),
-            ),
-          ),
-        )
+meets layout of is_of slots id i me j t k u is = allows_view layout of is_of slots id i me (Pair j t k u) is Meeting (λ s r here.
+    let c : Core = r.core in
+    let both = (r.knows id (Pair j t k u) here).0 in
+    let traces = (r.knows id (Pair j t k u) here).1 in (
+      Pair (with_front c.changes j) (shown r.run t) (with_front c.changes k) (shown r.run u),
+      ((met_knows c j both.0, met_knows c k both.1, both.2), (others_none j.pass r.run, others_none k.pass r.run)),
+      (λ q o. o),
+      (λ q o. o),
+      (
+        with_front c.changes j,
+        shown r.run t,
+        with_front c.changes k,
+        shown r.run u,
+        refl,
+        (c.changes, refl, refl, r.lawful.core.told.legal, both.0.seen.front, both.1.seen.front, both.2, subst (λ (z : Layout). All (λ x. x.pass < z.passes) c.changes) r.layout_is r.lawful.makers),
+        refl,
+        (shown_run layout s r j t traces.0, refl),
+        (shown_run layout s r k u traces.1, refl),
+      ),
+    ))
 
 -- one more at the end of a list
 pub each_longer : {A : Type 0} (P : ℕ → A → Type 0) (xs : List A) (x : A) (n : ℕ) → length xs ≡ n → ((q : ℕ) (h : A) → get_elem? xs q ≡ some h → P q h) → P n x → (q : ℕ) (h : A) → get_elem? (xs ++ x ∷ []) q ≡ some h → P q h
@@ -272,10 +279,10 @@ pub paired_me : {S : Type 0} (me a b : Me S TracedView) (j : Known) (t : Trace) 
 paired_me {S = S} me a b j t k u e is was = e ∙ (λ i. (paired (is i).0 (was i).0, (is i).1))
 
 pub meeting : {S : Type 0} (layout : Layout) (of : Option Layout) → of ≡ Some layout → (me m' : Me S TracedView) (j : Known) (t : Trace) (k : Known) (u : Trace) → me ≡ (Pair j t k u, []) → (m'.1 ≡ me.1) × Meeting of me.0 m'.0
-    → (j' : Known) × (t' : Trace) × (k' : Known) × (u' : Trace) × (m' ≡ (Pair j' t' k' u', [])) × SeatsHaveMet layout j k j' k' × TracesHaveMet layout j t k u j' t' k' u'
+    → (j' : Known) × (t' : Trace) × (k' : Known) × (u' : Trace) × (m' ≡ (Pair j' t' k' u', [])) × SeatsHaveMet layout j k j' k' × (t'.events ≡ u'.events) × IsShown layout j t j' t' × IsShown layout k u k' u'
 meeting {S = S} layout of is_of me m' j t k u is h =
     let met = subst (λ (v : TracedView). Meeting (Some layout) v m'.0) (ap (λ (z : Me S TracedView). z.0) is) (subst (λ (o : Option Layout). Meeting o me.0 m'.0) is_of h.1) in
-    (met.0, met.1, met.2, met.3, (λ i. (met.4 i, (h.0 ∙ ap (λ (z : Me S TracedView). z.1) is) i)), met.5, met.6)
+    (met.0, met.1, met.2, met.3, (λ i. (met.4 i, (h.0 ∙ ap (λ (z : Me S TracedView). z.1) is) i)), met.5, met.6, met.7, met.8)
 
 -- those who have met have different numbers
 pub apart_met : (layout : Layout) (j k j' k' : Known) → SeatsHaveMet layout j k j' k' → j'.pass ≢ k'.pass

@@ -1,5 +1,5 @@
 -- A step that its pass may make keeps the rule.
-use Rattle.std.proofs.Common.{◌≡◌, ◌≢◌, ℕ, zero, suc, eqb, List, [], ◌∷◌, ◌++◌, set, get_or, Bool, true, false, nat_eq, if◌then◌else◌, Option, Some, None, refl, sym, ap, subst, ◌∙◌, ⊎_elim}
+use Rattle.std.proofs.Common.{◌≡◌, ◌≢◌, ℕ, zero, suc, ◌<◌, eqb, List, [], ◌∷◌, ◌++◌, set, get_or, Bool, true, false, nat_eq, if◌then◌else◌, Option, Some, None, refl, sym, ap, subst, ◌∙◌, ⊎_elim}
 use mathlib.Core.Option.{none, some, some-injective, some-ne-none}
 use lib.ListN.{get_elem?}
 use Rattle.atomic_table.specs.Seated.{TableId}
@@ -8,8 +8,10 @@ use Rattle.atomic_table.specs.Table as table
 use Rattle.atomic_table.proofs.Lists.{at_set, set_else}
 use Rattle.std.proofs.lemmas.Bool.Decides.{eqb_tells}
 use Rattle.finite_map.specs.declared.Note.{Note}
-use Rattle.record_words.specs.Layout.{address}
+use Rattle.record_words.specs.Layout.{address, word_count}
 use Rattle.record_words.specs.declared.layout.Layout.{Layout}
+use Rattle.record_words.specs.declared.layout.Location.{Location}
+use Rattle.record_words.proofs.Locations.{address-below}
 use Rattle.versions.specs.declared.Rec.{Rec}
 use Rattle.versions.specs.Core.{Fate, Free, Held, Ready as ReadyBy, InTree, Unlinked, Marked}
 use Rattle.rowex_core.specs.declared.event.Act.{Act}
@@ -30,7 +32,7 @@ use Rattle.rowex_core.proofs.Writing.{step_writes, writes_one, in_table}
 use Rattle.rowex_table.specs.declared.traces.Trace.{Trace}
 use Rattle.rowex_table.specs.declared.traces.TracedView.{TracedView}
 use Rattle.rowex_table.specs.declared.traces.TracedView.TheVariants.{Pass}
-use Rattle.rowex_table.specs.Rule.{Happens, IsTrueOf, Ruled, IsSomeSeats, did, MayStep, found_by, known_of, trace_of}
+use Rattle.rowex_table.specs.Rule.{Happens, IsAddressOf, IsTrueOf, Ruled, IsSomeSeats, did, MayStep, found_by, known_of, trace_of}
 use Rattle.rowex_table.specs.Runs.{StepsWith}
 use Rattle.rowex_table.specs.Seats.{SeatView, TableView}
 use Rattle.rowex_table.specs.Traces.{IsNextStep, view_of}
@@ -82,43 +84,30 @@ renoted c k notes h = record { pass = h.pass; counted = h.counted; seen = h.seen
 
 -- The word that an act finds changes neither its place nor what it writes
 
+found_same : (q : ℕ) (act : Act) (w x : ℕ) → (location_of q (found_by act w) ≡ location_of q act) × (writes (found_by act w) x ≡ writes act x)
+found_same q (Claim r found) w x = (refl, refl)
+found_same q (Fill r offset y) w x = (refl, refl)
+found_same q (Ready r) w x = (refl, refl)
+found_same q (Release r) w x = (refl, refl)
+found_same q (LoadRef spot y) w x = (refl, refl)
+found_same q (LoadFixed r offset y) w x = (refl, refl)
+found_same q (Lock target found) w x = (refl, refl)
+found_same q (Unlock target) w x = (refl, refl)
+found_same q (Publish spot y) w x = (refl, refl)
+found_same q (Mark r epoch) w x = (refl, refl)
+found_same q (LoadEpoch y) w x = (refl, refl)
+found_same q (Advance expected found) w x = (refl, refl)
+found_same q (SetPin y) w x = (refl, refl)
+found_same q ClearPin w x = (refl, refl)
+found_same q (LoadPin o y) w x = (refl, refl)
+found_same q (LoadState r y) w x = (refl, refl)
+found_same q (GiveBack r epoch found) w x = (refl, refl)
+
 pub found_place : (q : ℕ) (act : Act) (w : ℕ) → location_of q (found_by act w) ≡ location_of q act
-found_place q (Claim r found) w = refl
-found_place q (Fill r offset x) w = refl
-found_place q (Ready r) w = refl
-found_place q (Release r) w = refl
-found_place q (LoadRef spot x) w = refl
-found_place q (LoadFixed r offset x) w = refl
-found_place q (Lock target found) w = refl
-found_place q (Unlock target) w = refl
-found_place q (Publish spot x) w = refl
-found_place q (Mark r epoch) w = refl
-found_place q (LoadEpoch x) w = refl
-found_place q (Advance expected found) w = refl
-found_place q (SetPin x) w = refl
-found_place q ClearPin w = refl
-found_place q (LoadPin o x) w = refl
-found_place q (LoadState r x) w = refl
-found_place q (GiveBack r epoch found) w = refl
+found_place q act w = (found_same q act w 0).0
 
 pub found_writes : (act : Act) (w x : ℕ) → writes (found_by act w) x ≡ writes act x
-found_writes (Claim r found) w x = refl
-found_writes (Fill r offset y) w x = refl
-found_writes (Ready r) w x = refl
-found_writes (Release r) w x = refl
-found_writes (LoadRef spot y) w x = refl
-found_writes (LoadFixed r offset y) w x = refl
-found_writes (Lock target found) w x = refl
-found_writes (Unlock target) w x = refl
-found_writes (Publish spot y) w x = refl
-found_writes (Mark r epoch) w x = refl
-found_writes (LoadEpoch y) w x = refl
-found_writes (Advance expected found) w x = refl
-found_writes (SetPin y) w x = refl
-found_writes ClearPin w x = refl
-found_writes (LoadPin o y) w x = refl
-found_writes (LoadState r y) w x = refl
-found_writes (GiveBack r epoch found) w x = refl
+found_writes act w x = (found_same 0 act w x).1
 
 -- The numbers of seats
 
@@ -217,6 +206,10 @@ module _ {S : Type 0} (layout : Layout) (slots id i : ℕ) (k : Known) (t : Trac
       (subst (λ (x : Option Layout). Allows {S = S} {V = TracedView} (Ruled layout) slots id me i f (λ n m'. did x act said st me (tell n) m')) (sym is_of)
       (subst (λ (m : Me S TracedView). Allows {S = S} {V = TracedView} (Ruled layout) slots id m i f (λ n m'. did (Some layout) act said st m (tell n) m'))
       ((λ e. (Pass (same e) (traced e), [])) ∙ sym is) (allows place new says apt)))
+
+-- the word of a location of the table is one of the table's words
+pub in_words : (words : ℕ) (own layout : Layout) (location : Location) (word : ℕ) → words ≡ word_count own → own ≡ layout → IsAddressOf layout location word → word < words
+in_words words own layout location word count same place = rw (count, place.0, same) (address-below layout location place.1)
 
 -- What a step leaves its seat
 

@@ -17,8 +17,8 @@ use Rattle.rowex_core.proofs.Keeping.{seen_by}
 use Rattle.rowex_table.specs.declared.traces.Trace.{Trace}
 use Rattle.rowex_table.specs.declared.traces.TracedView.{TracedView}
 use Rattle.rowex_table.specs.declared.traces.TracedView.TheVariants.{Spent, Pass, Witness, Follower}
-use Rattle.rowex_table.specs.Rule.{Ruled, IsTrueOf, followed, following, stamped, stamping, with_front}
-use Rattle.rowex_table.proofs.Dealing.{joins_as, met_knows, shown, shown_run, splits}
+use Rattle.rowex_table.specs.Rule.{Ruled, IsTrueOf, Following, followed, following, stamped, stamping, with_front}
+use Rattle.rowex_table.proofs.Dealing.{allows_view, joins_as, met_knows, shown, shown_run, splits}
 use Rattle.rowex_table.proofs.Keeping.{apart_set, each_set}
 use Rattle.rowex_table.proofs.Onward.{others_begin, others_none}
 
@@ -42,41 +42,20 @@ following_me {S = S} me a b k t stamp steps e is was = e ∙ (λ i. (following (
 -- The load
 pub follows : {S : Type 0} (layout : Layout) (of : Option Layout) → of ≡ Some layout → (slots id i : ℕ) (me : Me S TracedView) (k : Known) (t : Trace) (stamp : List Change) (steps : List Event) → me ≡ (Follower k t stamp steps, [])
     → Allows {S = S} {V = TracedView} (Ruled layout) slots id me i (λ n. n) (followed of (table.step slots i 0 0 none) me)
-follows {S = S} layout of is_of slots id i me k t stamp steps is =
-    subst (λ (o : Option Layout). Allows {S = S} {V = TracedView} (Ruled layout) slots id me i (λ n. n) (followed o (table.step slots i 0 0 none) me)) (sym is_of)
-    (subst (λ (m : Me S TracedView). Allows {S = S} {V = TracedView} (Ruled layout) slots id m i (λ n. n) (followed (Some layout) (table.step slots i 0 0 none) m)) (sym is) go)
-  where
-    go : Allows {S = S} {V = TracedView} (Ruled layout) slots id (Follower k t stamp steps, []) i (λ n. n) (followed (Some layout) (table.step slots i 0 0 none) (Follower k t stamp steps, []))
-    go s r deep here low =
-        let c : Core = r.core in
-        let both = (r.knows id (Follower k t stamp steps) here).0 in
-        let traces = (r.knows id (Follower k t stamp steps) here).1 in
-        let new : TracedView = Pass (with_front c.changes k) (shown r.run t) in (
-          new,
-          table.keeps,
-          tt,
-          record {
-            core = c;
-            lawful = r.lawful;
-            layout_is = r.layout_is;
-            shows = subst (Shows c) (sym (set-get_or s.words i 0)) r.shows;
-            run = r.run;
-            led = r.led;
-            knows = λ m v e. ⊎_elim
-                (λ (h : (m ≡ id) × (new ≡ v)). subst (IsTrueOf c r.run) h.1 (met_knows c k both.0, others_none k.pass r.run))
-                (λ (h : (m ≢ id) × (get_elem? s.views m ≡ some v)). r.knows m v h.1)
-                (at_set s.views id m new v e);
-            apart = apart_set s.views id (Follower k t stamp steps) new here (λ q o. o) r.apart;
-            each = λ q low. each_set s.views id q (Follower k t stamp steps) new here (λ o. o) (r.each q low);
-          },
-          (
-            refl,
-            (
-              with_front c.changes k,
-              shown r.run t,
-              refl,
-              (c.changes, refl, r.lawful.core.told.legal, both.0.seen.front, both.1, subst (λ (z : Layout). All (λ x. x.pass < z.passes) c.changes) r.layout_is r.lawful.makers),
-              (shown_run layout s r k t traces.0, traces.1, refl),
-            ),
-          ),
-        )
+follows layout of is_of slots id i me k t stamp steps is = allows_view layout of is_of slots id i me (Follower k t stamp steps) is Following (λ s r here.
+    let c : Core = r.core in
+    let both = (r.knows id (Follower k t stamp steps) here).0 in
+    let traces = (r.knows id (Follower k t stamp steps) here).1 in (
+      Pass (with_front c.changes k) (shown r.run t),
+      (met_knows c k both.0, others_none k.pass r.run),
+      (λ q o. o),
+      (λ q o. o),
+      (
+        with_front c.changes k,
+        shown r.run t,
+        refl,
+        (c.changes, refl, r.lawful.core.told.legal, both.0.seen.front, both.1, subst (λ (z : Layout). All (λ x. x.pass < z.passes) c.changes) r.layout_is r.lawful.makers),
+        (shown_run layout s r k t traces.0, refl),
+        traces.1,
+      ),
+    ))

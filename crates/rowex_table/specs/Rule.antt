@@ -79,12 +79,12 @@ trace_of _ = untraced
 abbrev pub IsOfPass : {S : Type 0} → Me S TracedView → ℕ → Type 0
 IsOfPass me q = (me ≡ (Pass (known_of me.0) (trace_of me.0), [])) × ((known_of me.0).pass ≡ q)
 
--- the root, or one of the entries that a node may have
-abbrev pub HasEntryPlace : Spot → Type 0
-HasEntryPlace Root = Unit {0}
-HasEntryPlace (Slot n j) = j < MAX_ENTRIES
+-- the root, or one of the slots that a node may have
+abbrev pub HasEntrySlot : Spot → Type 0
+HasEntrySlot Root = Unit {0}
+HasEntrySlot (Slot n j) = j < MAX_ENTRIES
 
--- the root, or such an entry of a node of the table
+-- the root, or such a slot of a node of the table
 abbrev pub HasSpot : Layout → Spot → Type 0
 HasSpot layout Root = Unit {0}
 HasSpot layout (Slot n j) = (n < layout.nodes) × (j < MAX_ENTRIES)
@@ -158,16 +158,16 @@ SeatsHaveMet layout j k j' k' =
     (front : List Change) × (j' ≡ with_front front j) × (k' ≡ with_front front k) × LegalFront front × OthersGoOn j.pass j.front front × OthersGoOn k.pass k.front front ×
     (j.pass ≢ k.pass) × All (λ x. x.pass < layout.passes) front
 
--- Both know of the same steps, which lead from a new table to a core in which just the changes of their fronts have been made. They begin with
--- those of which each had known, and go on by steps of others.
-abbrev pub TracesHaveMet : Layout → Known → Trace → Known → Trace → Known → Trace → Known → Trace → Type 0
-TracesHaveMet layout j t k u j' t' k' u' =
-    (t'.events ≡ u'.events) × IsShownRun layout j.pass t.events t'.events j'.front × IsShownRun layout k.pass u.events u'.events k'.front ×
-    (t'.asides ≡ suc t.asides) × (u'.asides ≡ suc u.asides)
+-- The pass that knew k, and of the steps of t, knows j and of the steps of u now. It has been shown a run (`IsShownRun`), which is counted as one
+-- aside.
+abbrev pub IsShown : Layout → Known → Trace → Known → Trace → Type 0
+IsShown layout k t j u = IsShownRun layout k.pass t.events u.events j.front × (u.asides ≡ suc t.asides)
 
+-- Two passes meet: both know of the same changes and of the same steps then.
 abbrev pub Meeting : Option Layout → TracedView → TracedView → Type 0
 Meeting (Some layout) (Pair j t k u) w =
-    (j' : Known) × (t' : Trace) × (k' : Known) × (u' : Trace) × (w ≡ Pair j' t' k' u') × SeatsHaveMet layout j k j' k' × TracesHaveMet layout j t k u j' t' k' u'
+    (j' : Known) × (t' : Trace) × (k' : Known) × (u' : Trace) × (w ≡ Pair j' t' k' u') × SeatsHaveMet layout j k j' k' ×
+    (t'.events ≡ u'.events) × IsShown layout j t j' t' × IsShown layout k u k' u'
 Meeting _ _ w = Unit {0}
 
 abbrev pub met : {S : Type 0} → Option Layout → Step S → Me S TracedView → ℕ → Me S TracedView → Type 0
@@ -208,13 +208,10 @@ HasFollowed layout stamp k j =
     (front : List Change) × (j ≡ with_front front k) × LegalFront front × OthersGoOn k.pass k.front front × BeginsWith front stamp ×
     All (λ x. x.pass < layout.passes) front
 
--- It also knows of steps that begin with the stamp's, and lead from a new table to a core in which just these changes have been made.
-abbrev pub TraceHasFollowed : Layout → List Event → Known → Trace → Known → Trace → Type 0
-TraceHasFollowed layout stamp k t j u = IsShownRun layout k.pass t.events u.events j.front × RunBeginsWith u.events stamp × (u.asides ≡ suc t.asides)
-
+-- A pass follows a stamp: it knows of the stamp's changes and steps then, and is shown a run that begins with them.
 abbrev pub Following : Option Layout → TracedView → TracedView → Type 0
 Following (Some layout) (Follower k t stamp events) w =
-    (j : Known) × (u : Trace) × (w ≡ Pass j u) × HasFollowed layout stamp k j × TraceHasFollowed layout events k t j u
+    (j : Known) × (u : Trace) × (w ≡ Pass j u) × HasFollowed layout stamp k j × IsShown layout k t j u × RunBeginsWith u.events events
 Following _ _ w = Unit {0}
 
 abbrev pub followed : {S : Type 0} → Option Layout → Step S → Me S TracedView → ℕ → Me S TracedView → Type 0

@@ -8,18 +8,20 @@ ghost use Rattle.rowex_table.specs.Rule.{MayStep};
 ghost use Rattle.rowex_table.specs.Runs.{Steps, StepsWith};
 ghost use Rattle.rowex_table.specs.Seats.{IsPassOf, IsSeatOf};
 
+use crate::steps::Exchange;
 use crate::table::{HotTable, TableSeat};
 use record_words::{EPOCHS, Location};
 use rowex_core::{Act, Gate};
 use std::marker::Brand;
 
 impl HotTable {
-    /// Loads the epoch.
+    /// Loads the epoch and returns it.
     pub fn load_epoch<G: Gate>(&self, seat: &mut TableSeat, gate: &mut G) -> u64
         requires own { IsSeatOf self.now seat.old }
         ensures { Steps self.now G.becomes (LoadEpoch result) (seat.old, gate.old) (seat.new, gate.new) }
     {
-        self.load_as::<Brand, G>(seat, gate, Act::LoadEpoch { word: 0 }, Location::Epoch)
+        let epoch = self.address_of(Location::Epoch);
+        self.load_at::<Brand, G>(seat, gate, Act::LoadEpoch { word: 0 }, epoch)
     }
 
     /// Makes the epoch `expected + 1`, if it finds it to be `expected`, which is from 1 to 2^60 - 2. Returns the epoch that it found.
@@ -28,14 +30,10 @@ impl HotTable {
         requires range { (1 ≤ expected) × (expected + 1 < EPOCHS) }
         ensures { Steps self.now G.becomes (Advance expected result) (seat.old, gate.old) (seat.new, gate.new) }
     {
-        self.exchange_as::<Brand, G>(
-            seat,
-            gate,
-            Act::Advance { expected, found: 0 },
-            Location::Epoch,
-            expected,
-            expected + 1,
-        )
+        let act = Act::Advance { expected, found: 0 };
+        let new = expected + 1;
+        let epoch = self.address_of(Location::Epoch);
+        self.exchange_at::<Brand, G>(seat, gate, act, epoch, Exchange { expected, new })
     }
 
     /// Stores `word`, the epoch that the pass loaded last, as its pin.
@@ -44,31 +42,28 @@ impl HotTable {
         requires may { MayStep self.now.layout (λ _. SetPin word) seat.old.known }
         ensures { Steps self.now G.becomes (SetPin word) (seat.old, gate.old) (seat.new, gate.new) }
     {
-        self.store_as::<Brand, G>(
-            seat,
-            gate,
-            Act::SetPin { word },
-            Location::Pin(seat.number()),
-            word,
-        );
+        let pin = self.address_of(Location::Pin(seat.number()));
+        self.store_at::<Brand, G>(seat, gate, Act::SetPin { word }, pin, word);
     }
 
-    /// Stores 0 as the pin. A call ends with this step, and its notes come with it.
+    /// Stores 0 as the pin. A call ends with this step, and its notes `said` come with it.
     pub fn clear_pin<G: Gate>(&self, seat: &mut TableSeat, gate: &mut G)
         ghost said: { Known → List Note }
         requires fits { IsPassOf self.now seat.old }
         requires may { MayStep self.now.layout (λ _. ClearPin) seat.old.known }
         ensures { StepsWith self.now G.becomes ClearPin said (seat.old, gate.old) (seat.new, gate.new) }
     {
-        self.store_as::<Brand, G>(seat, gate, Act::ClearPin, Location::Pin(seat.number()), 0);
+        let pin = self.address_of(Location::Pin(seat.number()));
+        self.store_at::<Brand, G>(seat, gate, Act::ClearPin, pin, 0);
     }
 
-    /// Loads the pin of pass `of`, which is 0 where it isn't pinned.
+    /// Loads the word of the pin of pass `of` and returns it: 0 if that pass isn't pinned.
     pub fn load_pin<G: Gate>(&self, seat: &mut TableSeat, gate: &mut G, of: u16) -> u64
         requires own { IsSeatOf self.now seat.old }
         requires range { of < self.now.layout.passes }
         ensures { Steps self.now G.becomes (LoadPin of result) (seat.old, gate.old) (seat.new, gate.new) }
     {
-        self.load_as::<Brand, G>(seat, gate, Act::LoadPin { of, word: 0 }, Location::Pin(of))
+        let pin = self.address_of(Location::Pin(of));
+        self.load_at::<Brand, G>(seat, gate, Act::LoadPin { of, word: 0 }, pin)
     }
 }

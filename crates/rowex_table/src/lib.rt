@@ -3,7 +3,7 @@
 
 mod epoch_steps;
 pub mod laws;
-mod places;
+mod locations;
 mod plays;
 mod record_steps;
 mod seating;
@@ -13,6 +13,7 @@ mod steps;
 mod table;
 mod traces;
 
+pub use record_steps::RecordAt;
 pub use stamping::TableStamp;
 pub use table::{HotTable, TableSeat};
 pub use traces::{Trace, TracedView};

@@ -8,11 +8,19 @@ ghost use Rattle.rowex_table.specs.Rule.{IsStartOf, MayStep};
 ghost use Rattle.rowex_table.specs.Runs.{Steps};
 ghost use Rattle.rowex_table.specs.Seats.{IsSeatOf};
 
-use crate::places::{obsolete_word, record_place};
+use crate::locations::obsolete_word;
+use crate::steps::Exchange;
 use crate::table::{HotTable, TableSeat};
 use record_words::{EPOCHS, Tag, pack_state};
 use rowex_core::{Act, Gate, Rec};
 use std::marker::Brand;
+
+/// A record of a table, with the number of its first word there.
+#[derive(Clone, Copy)]
+pub struct RecordAt {
+    pub rec: Rec,
+    pub start: usize,
+}
 
 impl HotTable {
     /// The number of the first word of `rec` in the table.
@@ -26,32 +34,37 @@ impl HotTable {
         }
     }
 
-    /// Claims `rec`, if it finds the record free; returns the state word that it found.
+    /// `rec` with the number of its first word, for several steps on it.
+    #[inline(always)]
+    pub fn locate(&self, rec: Rec) -> RecordAt
+        requires { HasRecord self.now.layout rec }
+        ensures rec { result.rec ≡ rec }
+        ensures start { IsStartOf self.now.layout rec result.start }
+    {
+        let start = self.start_of(rec);
+        RecordAt { rec, start }
+    }
+
+    /// Claims `rec`, if it finds the record free. Returns the state word that it found: 0 if the pass has the record now.
     pub fn claim<G: Gate>(&self, seat: &mut TableSeat, gate: &mut G, rec: Rec) -> u64
         requires own { IsSeatOf self.now seat.old }
         requires range { HasRecord self.now.layout rec }
         ensures { Steps self.now G.becomes (Claim rec result) (seat.old, gate.old) (seat.new, gate.new) }
     {
-        self.claim_from(seat, gate, rec, self.start_of(rec))
+        self.claim_from(seat, gate, self.locate(rec))
     }
 
-    /// Claims `rec`, which begins at word `start`, if it finds the record free; returns the state word that it found. A caller that has
-    /// loaded the state knows `start`.
+    /// Claims the record `at`, if it finds the record free. Returns the state word that it found: 0 if the pass has the record now.
     #[inline(always)]
-    pub fn claim_from<G: Gate>(
-        &self,
-        seat: &mut TableSeat,
-        gate: &mut G,
-        rec: Rec,
-        start: usize,
-    ) -> u64
+    pub fn claim_from<G: Gate>(&self, seat: &mut TableSeat, gate: &mut G, at: RecordAt) -> u64
         requires own { IsSeatOf self.now seat.old }
-        requires start { IsStartOf self.now.layout rec start }
-        ensures { Steps self.now G.becomes (Claim rec result) (seat.old, gate.old) (seat.new, gate.new) }
+        requires start { IsStartOf self.now.layout at.rec at.start }
+        ensures { Steps self.now G.becomes (Claim at.rec result) (seat.old, gate.old) (seat.new, gate.new) }
     {
-        let act = Act::Claim { rec, found: 0 };
-        let (free, held) = (pack_state(Tag::Free), pack_state(Tag::Held));
-        self.exchange_at::<Brand, G>(seat, gate, act, start, free, held)
+        let (rec, found) = (at.rec, 0);
+        let act = Act::Claim { rec, found };
+        let (expected, new) = (pack_state(Tag::Free), pack_state(Tag::Held));
+        self.exchange_at::<Brand, G>(seat, gate, act, at.start, Exchange { expected, new })
     }
 
     /// Stores `word` at `offset` of `rec`, which the pass holds. Offsets are from 1, so that it isn't the state.
@@ -61,29 +74,28 @@ impl HotTable {
         requires may { MayStep self.now.layout (λ _. Fill rec offset word) seat.old.known }
         ensures { Steps self.now G.becomes (Fill rec offset word) (seat.old, gate.old) (seat.new, gate.new) }
     {
-        self.fill_from(seat, gate, rec, self.start_of(rec), offset, word);
+        self.fill_from(seat, gate, self.locate(rec), offset, word);
     }
 
-    /// Stores `word` at `offset` of `rec`, which the pass holds and which begins at word `start`. Offsets are from 1, so that it isn't the
-    /// state.
+    /// Stores `word` at `offset` of the record `at`, which the pass holds. Offsets are from 1, so that it isn't the state.
     #[inline(always)]
     pub fn fill_from<G: Gate>(
         &self,
         seat: &mut TableSeat,
         gate: &mut G,
-        rec: Rec,
-        start: usize,
+        at: RecordAt,
         offset: u8,
         word: u64,
     )
         requires own { IsSeatOf self.now seat.old }
-        requires range { HasRecord self.now.layout rec × IsOffset rec offset × HasWord self.now.layout rec offset }
-        requires start { IsStartOf self.now.layout rec start }
-        requires may { MayStep self.now.layout (λ _. Fill rec offset word) seat.old.known }
-        ensures { Steps self.now G.becomes (Fill rec offset word) (seat.old, gate.old) (seat.new, gate.new) }
+        requires range { IsOffset at.rec offset × HasWord self.now.layout at.rec offset }
+        requires start { IsStartOf self.now.layout at.rec at.start }
+        requires may { MayStep self.now.layout (λ _. Fill at.rec offset word) seat.old.known }
+        ensures { Steps self.now G.becomes (Fill at.rec offset word) (seat.old, gate.old) (seat.new, gate.new) }
     {
+        let rec = at.rec;
         let act = Act::Fill { rec, offset, word };
-        self.store_at::<Brand, G>(seat, gate, act, start + offset as usize, word);
+        self.store_at::<Brand, G>(seat, gate, act, at.start + offset as usize, word);
     }
 
     /// Makes `rec`, which the pass holds, live.
@@ -93,8 +105,8 @@ impl HotTable {
         requires may { MayStep self.now.layout (λ _. Ready rec) seat.old.known }
         ensures { Steps self.now G.becomes (Ready rec) (seat.old, gate.old) (seat.new, gate.new) }
     {
-        let (act, state) = (Act::Ready { rec }, record_place(rec, 0));
-        self.store_as::<Brand, G>(seat, gate, act, state, pack_state(Tag::Live));
+        let (act, state) = (Act::Ready { rec }, self.start_of(rec));
+        self.store_at::<Brand, G>(seat, gate, act, state, pack_state(Tag::Live));
     }
 
     /// Makes `rec`, which the pass holds, free.
@@ -104,11 +116,11 @@ impl HotTable {
         requires may { MayStep self.now.layout (λ _. Release rec) seat.old.known }
         ensures { Steps self.now G.becomes (Release rec) (seat.old, gate.old) (seat.new, gate.new) }
     {
-        let (act, state) = (Act::Release { rec }, record_place(rec, 0));
-        self.store_as::<Brand, G>(seat, gate, act, state, pack_state(Tag::Free));
+        let (act, state) = (Act::Release { rec }, self.start_of(rec));
+        self.store_at::<Brand, G>(seat, gate, act, state, pack_state(Tag::Free));
     }
 
-    /// Loads the word at `offset` of `rec`, which is neither its state nor an entry.
+    /// Loads the word at `offset` of `rec`, which is neither its state nor an entry, and returns it.
     pub fn load_fixed<G: Gate>(
         &self,
         seat: &mut TableSeat,
@@ -123,8 +135,8 @@ impl HotTable {
         self.load_fixed_from(seat, gate, rec, self.start_of(rec), offset)
     }
 
-    /// Loads the word at `offset` of `rec`, which is neither its state nor an entry. `rec` begins at word `start`, which several loads find
-    /// once by `start_of`.
+    /// Loads the word at `offset` of `rec`, which is neither its state nor an entry, and returns it. `rec` begins at word `start`, which
+    /// several loads find once by `start_of`.
     #[inline(always)]
     pub fn load_fixed_from<G: Gate>(
         &self,
@@ -151,42 +163,31 @@ impl HotTable {
         requires may { MayStep self.now.layout (λ _. Mark rec epoch) seat.old.known }
         ensures { Steps self.now G.becomes (Mark rec epoch) (seat.old, gate.old) (seat.new, gate.new) }
     {
-        self.store_as::<Brand, G>(
-            seat,
-            gate,
-            Act::Mark { rec, epoch },
-            record_place(rec, 0),
-            obsolete_word(epoch),
-        );
+        let (act, state) = (Act::Mark { rec, epoch }, self.start_of(rec));
+        self.store_at::<Brand, G>(seat, gate, act, state, obsolete_word(epoch));
     }
 
-    /// Loads the state word of `rec`.
+    /// Loads the state word of `rec` and returns it.
     pub fn load_state<G: Gate>(&self, seat: &mut TableSeat, gate: &mut G, rec: Rec) -> u64
         requires own { IsSeatOf self.now seat.old }
         requires range { HasRecord self.now.layout rec }
         ensures { Steps self.now G.becomes (LoadState rec result) (seat.old, gate.old) (seat.new, gate.new) }
     {
-        self.load_state_from(seat, gate, rec, self.start_of(rec))
+        self.load_state_from(seat, gate, self.locate(rec))
     }
 
-    /// Loads the state word of `rec`, which begins at word `start`: a walk over records knows where each begins.
+    /// Loads the state word of the record `at` and returns it.
     #[inline(always)]
-    pub fn load_state_from<G: Gate>(
-        &self,
-        seat: &mut TableSeat,
-        gate: &mut G,
-        rec: Rec,
-        start: usize,
-    ) -> u64
+    pub fn load_state_from<G: Gate>(&self, seat: &mut TableSeat, gate: &mut G, at: RecordAt) -> u64
         requires own { IsSeatOf self.now seat.old }
-        requires start { IsStartOf self.now.layout rec start }
-        ensures { Steps self.now G.becomes (LoadState rec result) (seat.old, gate.old) (seat.new, gate.new) }
+        requires start { IsStartOf self.now.layout at.rec at.start }
+        ensures { Steps self.now G.becomes (LoadState at.rec result) (seat.old, gate.old) (seat.new, gate.new) }
     {
-        let act = Act::LoadState { rec, word: 0 };
-        self.load_at::<Brand, G>(seat, gate, act, start)
+        let (rec, word) = (at.rec, 0);
+        self.load_at::<Brand, G>(seat, gate, Act::LoadState { rec, word }, at.start)
     }
 
-    /// Makes `rec` free, if it finds the record obsolete in `epoch`; returns the state word that it found.
+    /// Makes `rec` free, if it finds the record obsolete in `epoch`. Returns the state word that it found: that of `epoch` if it made it free.
     pub fn give_back<G: Gate>(
         &self,
         seat: &mut TableSeat,
@@ -199,29 +200,28 @@ impl HotTable {
         requires may { MayStep self.now.layout (λ found. GiveBack rec epoch found) seat.old.known }
         ensures { Steps self.now G.becomes (GiveBack rec epoch result) (seat.old, gate.old) (seat.new, gate.new) }
     {
-        self.give_back_from(seat, gate, rec, self.start_of(rec), epoch)
+        self.give_back_from(seat, gate, self.locate(rec), epoch)
     }
 
-    /// Makes `rec`, which begins at word `start`, free, if it finds the record obsolete in `epoch`; returns the state word that it found. A
-    /// caller that has loaded the state knows `start`.
+    /// Makes the record `at` free, if it finds the record obsolete in `epoch`. Returns the state word that it found: that of `epoch` if it
+    /// made it free.
     #[inline(always)]
     pub fn give_back_from<G: Gate>(
         &self,
         seat: &mut TableSeat,
         gate: &mut G,
-        rec: Rec,
-        start: usize,
+        at: RecordAt,
         epoch: u64,
     ) -> u64
         requires own { IsSeatOf self.now seat.old }
-        requires start { IsStartOf self.now.layout rec start }
+        requires start { IsStartOf self.now.layout at.rec at.start }
         requires range { epoch < EPOCHS }
-        requires may { MayStep self.now.layout (λ found. GiveBack rec epoch found) seat.old.known }
-        ensures { Steps self.now G.becomes (GiveBack rec epoch result) (seat.old, gate.old) (seat.new, gate.new) }
+        requires may { MayStep self.now.layout (λ found. GiveBack at.rec epoch found) seat.old.known }
+        ensures { Steps self.now G.becomes (GiveBack at.rec epoch result) (seat.old, gate.old) (seat.new, gate.new) }
     {
-        let found = 0;
+        let (rec, found) = (at.rec, 0);
         let act = Act::GiveBack { rec, epoch, found };
-        let (obsolete, free) = (obsolete_word(epoch), pack_state(Tag::Free));
-        self.exchange_at::<Brand, G>(seat, gate, act, start, obsolete, free)
+        let (expected, new) = (obsolete_word(epoch), pack_state(Tag::Free));
+        self.exchange_at::<Brand, G>(seat, gate, act, at.start, Exchange { expected, new })
     }
 }

@@ -14,8 +14,8 @@ use std::alloc::{AllocError, Global};
 use std::marker::Brand;
 
 impl HotTable {
-    /// A table of `layout` with an empty index, and the seats of its passes in the order of their numbers, which go from 0 on. An error
-    /// if memory is refused.
+    /// Makes a table of `layout` with an empty index. Returns it and the seats of its passes, in the order of their numbers from 0 on. An
+    /// error if memory is refused.
     pub fn new(alloc: Global, layout: Layout) -> Result<(HotTable, Vec<TableSeat>), AllocError>
         ensures table { IfOk result (λ made. made.0.layout ≡ layout) }
         ensures count { IfOk result (λ made. length made.1.items ≡ layout.passes) }
@@ -38,8 +38,8 @@ impl HotTable {
         Ok((HotTable { table, origins }, seats))
     }
 
-    /// Two passes meet: both have then seen the changes and the steps as they are now. Returns their seats, that of `first` first. It
-    /// makes no event.
+    /// Lets the passes of two seats meet: both have then seen the changes and the steps as they are now. Returns their seats, that of `first`
+    /// first. It makes no event.
     pub fn meet_seats(&self, first: TableSeat, second: TableSeat) -> (TableSeat, TableSeat)
         requires { IsSeatOf self.now first × IsSeatOf self.now second }
         ensures own { IsSeatOf self.now result.0 × IsSeatOf self.now result.1 }

@@ -11,23 +11,25 @@ ghost use Rattle.rowex_table.specs.Rights.{MayLock};
 ghost use Rattle.rowex_table.specs.Runs.{Steps};
 ghost use Rattle.rowex_table.specs.Seats.{IsSeatOf};
 
-use crate::places::{spot_place, target_place};
+use crate::locations::{spot_location, target_location};
+use crate::steps::Exchange;
 use crate::table::{HotTable, TableSeat};
 use record_words::{FIRST_ENTRY, Tag, pack_state};
 use rowex_core::{Act, Gate, Spot, Target};
 use std::marker::Brand;
 
 impl HotTable {
-    /// Loads the word of the entry at `spot`, which is the root or a place of a node.
+    /// Loads the word of the entry at `spot`, which is the root or a slot of a node, and returns it.
     pub fn load_ref<G: Gate>(&self, seat: &mut TableSeat, gate: &mut G, spot: Spot) -> u64
         requires own { IsSeatOf self.now seat.old }
         requires range { HasSpot self.now.layout spot }
         ensures { Steps self.now G.becomes (LoadRef spot result) (seat.old, gate.old) (seat.new, gate.new) }
     {
-        self.load_as::<Brand, G>(seat, gate, Act::LoadRef { spot, word: 0 }, spot_place(spot))
+        let entry = self.address_of(spot_location(spot));
+        self.load_at::<Brand, G>(seat, gate, Act::LoadRef { spot, word: 0 }, entry)
     }
 
-    /// Loads the word of entry `entry` of node `node`, whose record begins at word `start`.
+    /// Loads the word of entry `entry` of node `node`, whose record begins at word `start`, and returns it.
     #[inline(always)]
     pub fn load_slot_from<G: Gate>(
         &self,
@@ -47,16 +49,18 @@ impl HotTable {
         self.load_at::<Brand, G>(seat, gate, Act::LoadRef { spot, word: 0 }, address)
     }
 
-    /// Locks `target`, the anchor or a node, if it finds that live; returns the state word that it found.
+    /// Locks `target`, the anchor or a node, if it finds that live. Returns the state word that it found: that of `Tag::Live` if the pass has
+    /// the lock now.
     pub fn lock<G: Gate>(&self, seat: &mut TableSeat, gate: &mut G, target: Target) -> u64
         requires own { IsSeatOf self.now seat.old }
         requires range { IsInTable self.now.layout (target_word target) }
         requires may { MayLock self.now.layout target seat.old.known }
         ensures { Steps self.now G.becomes (Lock target result) (seat.old, gate.old) (seat.new, gate.new) }
     {
-        let (live, locked) = (pack_state(Tag::Live), pack_state(Tag::Locked));
         let act = Act::Lock { target, found: 0 };
-        self.exchange_as::<Brand, G>(seat, gate, act, target_place(target), live, locked)
+        let (expected, new) = (pack_state(Tag::Live), pack_state(Tag::Locked));
+        let state = self.address_of(target_location(target));
+        self.exchange_at::<Brand, G>(seat, gate, act, state, Exchange { expected, new })
     }
 
     /// Makes `target` live, which the pass has locked.
@@ -67,17 +71,18 @@ impl HotTable {
         ensures { Steps self.now G.becomes (Unlock target) (seat.old, gate.old) (seat.new, gate.new) }
     {
         let (act, live) = (Act::Unlock { target }, pack_state(Tag::Live));
-        self.store_as::<Brand, G>(seat, gate, act, target_place(target), live);
+        let state = self.address_of(target_location(target));
+        self.store_at::<Brand, G>(seat, gate, act, state, live);
     }
 
-    /// Stores `word` at `spot`, the root or an entry, under its lock: the one step that changes the map.
+    /// Stores `word` at `spot`, the root or a slot of a node, whose lock the pass has. It is the one step that changes the map.
     pub fn publish<G: Gate>(&self, seat: &mut TableSeat, gate: &mut G, spot: Spot, word: u64)
         requires own { IsSeatOf self.now seat.old }
         requires range { HasSpot self.now.layout spot }
         requires may { MayStep self.now.layout (λ _. Publish spot word) seat.old.known }
         ensures { Steps self.now G.becomes (Publish spot word) (seat.old, gate.old) (seat.new, gate.new) }
     {
-        let act = Act::Publish { spot, word };
-        self.store_as::<Brand, G>(seat, gate, act, spot_place(spot), word);
+        let entry = self.address_of(spot_location(spot));
+        self.store_at::<Brand, G>(seat, gate, Act::Publish { spot, word }, entry, word);
     }
 }

@@ -30,7 +30,8 @@ impl Model for TableStamp {
 }
 
 impl HotTable {
-    /// A stamp with the changes that the pass has seen. It makes no event, and the pass is as it was, but that the stamp is counted.
+    /// Makes a stamp with the changes and the steps that the pass has seen. It makes no event. The pass stays as it was, but that the stamp is
+    /// counted.
     pub fn stamp_seat(&self, seat: &mut TableSeat) -> TableStamp
         requires { IsSeatOf self.now seat.old }
         ensures same { seat.new ≡ record seat.old { asides = suc seat.old.asides } }
@@ -42,7 +43,7 @@ impl HotTable {
         TableStamp { seat }
     }
 
-    /// The pass sees the changes and the steps as they are now, and with them all that `stamp` tells of. It makes no event.
+    /// Lets the pass see the changes and the steps as they are now, and with them all that `stamp` tells of. It makes no event.
     pub fn follow_stamp(&self, seat: &mut TableSeat, stamp: TableStamp)
         requires { IsSeatOf self.now seat.old × IsStampOf self.now stamp }
         ensures same { IsOneSeat seat.old seat.new }

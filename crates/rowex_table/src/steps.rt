@@ -1,4 +1,5 @@
-//! The one form of all steps: a load, a store or an exchange, as an event of which the gate is told.
+//! The three forms of steps: a load, a store and an exchange. Each is an event, of which the gate is told. `Q` has its act, and the notes
+//! that come with it.
 
 ghost use Rattle.std.specs.Prelude.{◌≡◌, ℕ, Some};
 ghost use Rattle.record_words.specs.Layout.{IsInTable};
@@ -12,25 +13,24 @@ use crate::table::{HotTable, TableSeat};
 use record_words::Location;
 use rowex_core::{Act, Event, Gate};
 
+/// What an exchange expects to find, and what it stores in place of that.
+#[derive(Clone, Copy)]
+pub(crate) struct Exchange {
+    pub expected: u64,
+    pub new: u64,
+}
+
 impl HotTable {
-    /// Loads the word at `location` as the step `act`, of which `gate` is told, and returns the word.
-    pub(crate) fn load_as<Q: Step, G: Gate>(
-        &self,
-        seat: &mut TableSeat,
-        gate: &mut G,
-        act: Act,
-        location: Location,
-    ) -> u64
-        requires own { IsSeatOf self.now seat.old }
-        requires place { (location ≡ location_of seat.old.known.pass Q.act) × IsInTable self.now.layout location }
-        requires load { (w : ℕ) → w ≡ writes Q.act w }
-        requires apt { (Q.layout ≡ Some self.now.layout) × (act ≡ Q.act) × MayStep self.now.layout (found_by Q.act) seat.old.known }
-        ensures { StepsWith self.now G.becomes (found_by Q.act result) Q.said (seat.old, gate.old) (seat.new, gate.new) }
+    /// The number of the word at `location` in the table.
+    #[inline(always)]
+    pub(crate) fn address_of(&self, location: Location) -> usize
+        requires { IsInTable self.now.layout location }
+        ensures { IsAddressOf self.now.layout location result }
     {
-        self.load_at::<Q, G>(seat, gate, act, self.origins.address(location))
+        self.origins.address(location)
     }
 
-    /// Loads the table's word number `address` as the step `act`, of which `gate` is told, and returns the word.
+    /// Loads the table's word number `address` as the step `act`, of which `gate` is told. Returns the word.
     pub(crate) fn load_at<Q: Step, G: Gate>(
         &self,
         seat: &mut TableSeat,
@@ -40,7 +40,7 @@ impl HotTable {
     ) -> u64
         requires own { IsSeatOf self.now seat.old }
         requires place { IsAddressOf self.now.layout (location_of seat.old.known.pass Q.act) address }
-        requires load { (w : ℕ) → w ≡ writes Q.act w }
+        requires writes { (w : ℕ) → w ≡ writes Q.act w }
         requires apt { (Q.layout ≡ Some self.now.layout) × (act ≡ Q.act) × MayStep self.now.layout (found_by Q.act) seat.old.known }
         ensures { StepsWith self.now G.becomes (found_by Q.act result) Q.said (seat.old, gate.old) (seat.new, gate.new) }
     {
@@ -48,29 +48,11 @@ impl HotTable {
             .table
             .shared
             .load::<Stepping<Q>>(&mut seat.seat, address);
-        tell(gate, seat, finding(act, word));
+        tell_gate(gate, seat, with_found(act, word));
         word
     }
 
-    /// Stores `new` to the word at `location` as the step `act`, of which `gate` is told.
-    pub(crate) fn store_as<Q: Step, G: Gate>(
-        &self,
-        seat: &mut TableSeat,
-        gate: &mut G,
-        act: Act,
-        location: Location,
-        new: u64,
-    )
-        requires own { IsSeatOf self.now seat.old }
-        requires place { (location ≡ location_of seat.old.known.pass Q.act) × IsInTable self.now.layout location }
-        requires store { ((w : ℕ) → new ≡ writes Q.act w) × ((w : ℕ) → found_by Q.act w ≡ Q.act) }
-        requires apt { (Q.layout ≡ Some self.now.layout) × (act ≡ Q.act) × MayStep self.now.layout (found_by Q.act) seat.old.known }
-        ensures { StepsWith self.now G.becomes (found_by Q.act new) Q.said (seat.old, gate.old) (seat.new, gate.new) }
-    {
-        self.store_at::<Q, G>(seat, gate, act, self.origins.address(location), new);
-    }
-
-    /// Stores `new` to the table's word number `address`, as the step `act`, of which `gate` is told.
+    /// Stores `new` to the table's word number `address` as the step `act`, of which `gate` is told.
     pub(crate) fn store_at<Q: Step, G: Gate>(
         &self,
         seat: &mut TableSeat,
@@ -81,72 +63,56 @@ impl HotTable {
     )
         requires own { IsSeatOf self.now seat.old }
         requires place { IsAddressOf self.now.layout (location_of seat.old.known.pass Q.act) address }
-        requires store { ((w : ℕ) → new ≡ writes Q.act w) × ((w : ℕ) → found_by Q.act w ≡ Q.act) }
+        requires writes { ((w : ℕ) → new ≡ writes Q.act w) × ((w : ℕ) → found_by Q.act w ≡ Q.act) }
         requires apt { (Q.layout ≡ Some self.now.layout) × (act ≡ Q.act) × MayStep self.now.layout (found_by Q.act) seat.old.known }
         ensures { StepsWith self.now G.becomes (found_by Q.act new) Q.said (seat.old, gate.old) (seat.new, gate.new) }
     {
         self.table
             .shared
             .store::<Stepping<Q>>(&mut seat.seat, address, new);
-        tell(gate, seat, act);
+        tell_gate(gate, seat, act);
     }
 
-    /// Exchanges the word at `location` for `new`, if it is `old`, as the step `act`, of which `gate` is told. Returns the word that it
-    /// found.
-    pub(crate) fn exchange_as<Q: Step, G: Gate>(
-        &self,
-        seat: &mut TableSeat,
-        gate: &mut G,
-        act: Act,
-        location: Location,
-        old: u64,
-        new: u64,
-    ) -> u64
-        requires own { IsSeatOf self.now seat.old }
-        requires place { (location ≡ location_of seat.old.known.pass Q.act) × IsInTable self.now.layout location }
-        requires exchange { (w : ℕ) → exchanged w old new ≡ writes Q.act w }
-        requires apt { (Q.layout ≡ Some self.now.layout) × (act ≡ Q.act) × MayStep self.now.layout (found_by Q.act) seat.old.known }
-        ensures { StepsWith self.now G.becomes (found_by Q.act result) Q.said (seat.old, gate.old) (seat.new, gate.new) }
-    {
-        self.exchange_at::<Q, G>(seat, gate, act, self.origins.address(location), old, new)
-    }
-
-    /// Exchanges the table's word number `address` for `new`, if it is `old`, as the step `act`, of which `gate` is told. Returns the word
-    /// that it found.
+    /// Stores `exchange.new` to the table's word number `address`, if that is `exchange.expected`, as the step `act`, of which `gate` is
+    /// told. Returns the word that it found.
     pub(crate) fn exchange_at<Q: Step, G: Gate>(
         &self,
         seat: &mut TableSeat,
         gate: &mut G,
         act: Act,
         address: usize,
-        old: u64,
-        new: u64,
+        exchange: Exchange,
     ) -> u64
         requires own { IsSeatOf self.now seat.old }
         requires place { IsAddressOf self.now.layout (location_of seat.old.known.pass Q.act) address }
-        requires exchange { (w : ℕ) → exchanged w old new ≡ writes Q.act w }
+        requires writes { (w : ℕ) → exchanged w exchange.expected exchange.new ≡ writes Q.act w }
         requires apt { (Q.layout ≡ Some self.now.layout) × (act ≡ Q.act) × MayStep self.now.layout (found_by Q.act) seat.old.known }
         ensures { StepsWith self.now G.becomes (found_by Q.act result) Q.said (seat.old, gate.old) (seat.new, gate.new) }
     {
         let found = self
             .table
             .shared
-            .compare_exchange::<Stepping<Q>>(&mut seat.seat, address, old, new);
-        tell(gate, seat, finding(act, found));
+            .compare_exchange::<Stepping<Q>>(
+                &mut seat.seat,
+                address,
+                exchange.expected,
+                exchange.new,
+            );
+        tell_gate(gate, seat, with_found(act, found));
         found
     }
 }
 
 /// Tells `gate` of the step `act`, which the pass of `seat` has just made.
-fn tell<G: Gate>(gate: &mut G, seat: &TableSeat, act: Act)
+fn tell_gate<G: Gate>(gate: &mut G, seat: &TableSeat, act: Act)
     ensures { G.becomes gate.old (record { pass = seat.now.known.pass; act = act }) gate.new }
 {
     let pass = seat.pass;
     gate.at(&Event { pass, act });
 }
 
-/// `act` with `word` as what its step found. A store finds none, and its act stays as it is.
-fn finding(act: Act, word: u64) -> Act
+/// `act` with `word` as what its step found. The act of a store, which finds none, stays as it is.
+fn with_found(act: Act, word: u64) -> Act
     ensures { result ≡ found_by act word }
 {
     match act {

@@ -12,5 +12,5 @@ invariant-loop-number g l = record {
   same : (l.seat.known.pin ≡ l.fn.seat.known.pin) × (l.seat.known.round ≡ l.fn.seat.known.round);
   start : l.start ≡ leaf_start l.table.layout l.number;
   few : l.tally.given ≤ l.number;
-  steps : GoesOnVisiting l.table g.G.Gate.becomes l.bound a_leaf (l.first, l.fn.before.given) (l.number, l.tally.given) (l.fn.seat, l.fn.gate) (l.seat, l.gate);
+  steps : GoesOnVisiting l.table g.G.Gate.becomes l.bound a_leaf (l.fn.numbers.start, l.fn.before.given) (l.number, l.tally.given) (l.fn.seat, l.fn.gate) (l.seat, l.gate);
 }

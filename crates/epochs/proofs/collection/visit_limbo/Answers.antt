@@ -3,17 +3,17 @@ use Rattle.std.proofs.Common.{rules, arith}
 use Rattle.epochs.proofs.Visiting.{some_append, some_none}
 use Rattle.epochs.proofs.collection.visit_limbo.Goals as goal
 
-pub loop-place-init : goal.loop-place-init
-loop-place-init g c = record { same = search rules; steps = some_none _ _ _ _ _ }
+pub loop-index-init : goal.loop-index-init
+loop-index-init g c = record { same = search rules; steps = some_none _ _ _ _ _ }
 
-pub loop-place-preserved : goal.loop-place-preserved
-loop-place-preserved g c = record {
+pub loop-index-preserved : goal.loop-index-preserved
+loop-index-preserved g c = record {
   same = search rules;
-  steps = some_append _ _ _ _ 1 _ _ _ _ c.loop-place.invariant.steps c.visit_waiting.ensures.steps (omega arith);
+  steps = some_append _ _ _ _ 1 _ _ _ _ c.loop-index.invariant.steps c.visit_waiting.ensures.steps (omega arith);
 }
 
 pub returns-then-not-visit_waiting-clause-steps : goal.returns-then-not-visit_waiting-clause-steps
-returns-then-not-visit_waiting-clause-steps g c = some_append _ _ _ _ 1 _ _ _ _ c.loop-place.invariant.steps c.visit_waiting.ensures.steps (omega arith)
+returns-then-not-visit_waiting-clause-steps g c = some_append _ _ _ _ 1 _ _ _ _ c.loop-index.invariant.steps c.visit_waiting.ensures.steps (omega arith)
 
 pub returns-clause-steps : goal.returns-clause-steps
-returns-clause-steps g c = some_append _ _ _ _ 0 _ _ _ _ c.loop-place.invariant.steps (some_none _ _ _ 0 _) (omega arith)
+returns-clause-steps g c = some_append _ _ _ _ 0 _ _ _ _ c.loop-index.invariant.steps (some_none _ _ _ 0 _) (omega arith)

@@ -13,7 +13,7 @@ loop-tried-init g c =
     record {
       own = c.requires.own;
       none = behind_none _ _ c.args.kind _ _;
-      number = rw all at c.first-number.ensures.begin ∙ next_turn (count_of c.args.kind c.args.table.now.layout) c.args.begin c.requires.low;
+      number = rw all at c.first_number-number.ensures.begin ∙ next_turn (count_of c.args.kind c.args.table.now.layout) c.args.begin c.requires.low;
       low = c.requires.some;
     }
 
@@ -24,19 +24,19 @@ tried_low g c = rw c.loop-tried.invariant.number (turned_low _ c.args.begin c.lo
 pub returns-in-Some-clause-tries : goal.returns-in-Some-clause-tries
 returns-in-Some-clause-tries g c =
     behind_claims _ _ c.args.kind _ c.loop-tried.tried c.loop-tried.number _ _ _ _ c.requires.low (omega (arith, c.min-count.ensures, c.requires.few, c.loop-tried-test.true)) c.loop-tried.invariant.number c.loop-tried.invariant.none _ c.args.most
-    c.in-Some.ensures.tries
+    (rw c.row_at-row.ensures.number at c.in-Some.ensures.tries)
 
 pub loop-tried-preserved : goal.loop-tried-preserved
 loop-tried-preserved g c =
     let all : c.count-all.result ≡ count_of c.args.kind c.args.table.now.layout = rw c.layout-layout.ensures at c.count-all.ensures in
-    let upto : c.row_at-end.result.0 ≤ count_of c.args.kind c.args.table.now.layout = rw c.layout-layout.ensures at c.row_at-end.ensures.upto.1 in
+    let upto : c.loop-tried.number + c.row_at-row.result.count ≤ count_of c.args.kind c.args.table.now.layout = rw c.layout-layout.ensures at c.row_at-row.ensures.count.1 in
     let low : c.loop-tried.tried < count_of c.args.kind c.args.table.now.layout = omega (arith, c.requires.few, c.loop-tried-test.true) in
     let fits : c.loop-tried.tried + c.min-count.result ≤ count_of c.args.kind c.args.table.now.layout = omega (arith, c.min-count.ensures, c.requires.few, c.loop-tried-test.true) in
     let few : c.loop-tried.number + c.min-count.result ≤ count_of c.args.kind c.args.table.now.layout = omega (arith, upto, c.min-count.ensures) in
     record {
       own = c.in_default.ensures.own;
-      none = behind_row _ _ c.args.kind _ c.loop-tried.tried c.loop-tried.number _ _ _ _ c.requires.low fits c.loop-tried.invariant.number c.loop-tried.invariant.none c.in_default.ensures.tries;
-      number = rw all at c.first-number-in-loop-tried.ensures.begin ∙
+      none = behind_row _ _ c.args.kind _ c.loop-tried.tried c.loop-tried.number _ _ _ _ c.requires.low fits c.loop-tried.invariant.number c.loop-tried.invariant.none (rw c.row_at-row.ensures.number at c.in_default.ensures.tries);
+      number = rw all at c.first_number-number-in-loop-tried.ensures.begin ∙
           (ap (λ z. begin_of (count_of c.args.kind c.args.table.now.layout) (z + c.min-count.result)) c.loop-tried.invariant.number ∙
           turned_over (count_of c.args.kind c.args.table.now.layout) c.args.begin c.loop-tried.tried c.min-count.result c.requires.low low fits
           (subst (λ z. z + c.min-count.result ≤ count_of c.args.kind c.args.table.now.layout) c.loop-tried.invariant.number few));

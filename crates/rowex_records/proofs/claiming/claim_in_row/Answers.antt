@@ -8,30 +8,30 @@ use Rattle.rowex_records.proofs.claiming.claim_in_row.Goals as goal
 pub loop-index-init : goal.loop-index-init
 loop-index-init g c = record {
   own = search rules;
-  start = rw (add-zero c.args.number) (rw c.layout.ensures at c.start_at-start.ensures);
+  start = rw (add-zero c.args.row.number) (rw c.layout.ensures at c.start_at-start.ensures);
   tries = row_none _ _ c.args.kind _ _;
 }
 
 pub record_at-rec-requires : goal.record_at-rec-requires
-record_at-rec-requires g c = has_index c.args.kind c.args.table.now.layout (c.args.number + c.loop-index.index) (omega (arith, c.requires.few, c.loop-index-test.true))
+record_at-rec-requires g c = has_index c.args.kind c.args.table.now.layout (c.args.row.number + c.loop-index.index) (omega (arith, c.requires.few, c.loop-index-test.true))
 
-pub try_record-requires-clause-start : goal.try_record-requires-clause-start
-try_record-requires-clause-start g c =
-    rw (c.record_at-rec.ensures, c.loop-index.invariant.start) (starts_at c.args.kind c.args.table.now.layout (c.args.number + c.loop-index.index) c.requires.kind (omega (arith, c.requires.few, c.loop-index-test.true)))
+pub try_claim-requires-clause-start : goal.try_claim-requires-clause-start
+try_claim-requires-clause-start g c =
+    rw (c.record_at-rec.ensures, c.loop-index.invariant.start) (starts_at c.args.kind c.args.table.now.layout (c.args.row.number + c.loop-index.index) c.requires.kind (omega (arith, c.requires.few, c.loop-index-test.true)))
 
 pub loop-index-preserved : goal.loop-index-preserved
 loop-index-preserved g c = record {
-  own = (c.try_record.ensures.missed c.if-try_record.false).does.seat.0 ∙ c.loop-index.invariant.own;
-  start = ap (λ z. z + c.args.size) c.loop-index.invariant.start ∙ sym (c.requires.row c.loop-index.index c.loop-index-test.true);
-  tries = row_more _ _ c.args.kind _ _ _ _ _ (omega (arith, c.requires.few, c.loop-index-test.true)) c.loop-index.invariant.tries (rw c.record_at-rec.ensures at (c.try_record.ensures.missed c.if-try_record.false));
+  own = (c.try_claim.ensures.missed c.if-try_claim.false).does.seat.0 ∙ c.loop-index.invariant.own;
+  start = ap (λ z. z + c.args.row.size) c.loop-index.invariant.start ∙ sym (c.requires.row c.loop-index.index c.loop-index-test.true);
+  tries = row_more _ _ c.args.kind _ _ _ _ _ (omega (arith, c.requires.few, c.loop-index-test.true)) c.loop-index.invariant.tries (rw c.record_at-rec.ensures at (c.try_claim.ensures.missed c.if-try_claim.false));
 }
 
-pub returns-then-try_record-clause-tries : goal.returns-then-try_record-clause-tries
-returns-then-try_record-clause-tries g c =
-    row_claims _ _ c.args.kind _ _ _ _ _ _ c.loop-index-test.true c.requires.few c.loop-index.invariant.tries (rw c.record_at-rec.ensures at (c.try_record.ensures.claimed c.if-try_record.true))
+pub returns-then-try_claim-clause-tries : goal.returns-then-try_claim-clause-tries
+returns-then-try_claim-clause-tries g c =
+    row_claims _ _ c.args.kind _ _ _ _ _ _ c.loop-index-test.true c.requires.few c.loop-index.invariant.tries (rw c.record_at-rec.ensures at (c.try_claim.ensures.claimed c.if-try_claim.true))
 
 pub returns-clause-tries : goal.returns-clause-tries
 returns-clause-tries g c =
-    let done : c.loop-index.index ≡ c.args.count = omega arith in
-    subst (λ z. GoesOnTrying c.args.table.now g.G.Gate.becomes c.args.kind c.args.number z None (c.args.seat.now, c.args.gate.now) (c.loop-index.seat, c.loop-index.gate)) done
+    let done : c.loop-index.index ≡ c.args.row.count = omega arith in
+    subst (λ z. GoesOnTrying c.args.table.now g.G.Gate.becomes c.args.kind c.args.row.number z None (c.args.seat.now, c.args.gate.now) (c.loop-index.seat, c.loop-index.gate)) done
     c.loop-index.invariant.tries

@@ -8,6 +8,6 @@ use Rattle.rowex_records.proofs.claiming.claim_in_row.Given as goal
 abbrev pub invariant-loop-index : goal.invariant-loop-index
 invariant-loop-index g l = record {
   own : IsSeatOf l.table l.seat;
-  start : l.start ≡ first_word l.kind l.table.layout (l.number + l.index);
-  tries : GoesOnTrying l.table g.G.Gate.becomes l.kind l.number l.index None (l.fn.seat, l.fn.gate) (l.seat, l.gate);
+  start : l.start ≡ first_word l.kind l.table.layout (l.row.number + l.index);
+  tries : GoesOnTrying l.table g.G.Gate.becomes l.kind l.row.number l.index None (l.fn.seat, l.fn.gate) (l.seat, l.gate);
 }

@@ -2,4 +2,4 @@
 use Rattle.rowex_records.proofs.claiming.claim_numbered.Goals as goal
 
 pub returns-clause-claimed : goal.returns-clause-claimed
-returns-clause-claimed g c = λ taken. (rw c.layout.ensures at (rw c.count.ensures at c.if-number-count.false), rw c.record_at-rec.ensures at (c.try_record.ensures.claimed taken))
+returns-clause-claimed g c = λ taken. (rw c.layout.ensures at (rw c.count.ensures at c.if-number-count.false), rw (c.locate-at.ensures.rec, c.record_at.ensures) at (c.try_claim.ensures.claimed taken))

@@ -6,6 +6,6 @@ use Rattle.rowex_records.proofs.claiming.RecordKind.row_at.Goals as goal
 
 pub returns-in-Leaf-clause-row : goal.returns-in-Leaf-clause-row
 returns-in-Leaf-clause-row c =
-    subst (λ kind. IsRow kind c.args.layout.now c.args.number (c.min-upto.result - c.in-Leaf.first - c.args.number) c.leaf_size.result) (sym c.in-Leaf.is)
-    (spaced_leaves c.args.layout.now c.in-Leaf.first c.in-Leaf.end c.args.number c.min-upto.result c.leaf_size.result
-    (λ q low below. c.class_end.ensures.same q low (omega (arith, c.min-upto.ensures, below)) ∙ sym c.leaf_size.ensures.size))
+    subst (λ kind. IsRow kind c.args.layout.now c.args.number (c.min.result - c.in-Leaf.first - c.args.number) c.leaf_size.result) (sym c.in-Leaf.is)
+    (spaced_leaves c.args.layout.now c.in-Leaf.first c.in-Leaf.end c.args.number c.min.result c.leaf_size.result
+    (λ q low below. c.class_end.ensures.same q low (omega (arith, c.min.ensures, below)) ∙ sym c.leaf_size.ensures.size))

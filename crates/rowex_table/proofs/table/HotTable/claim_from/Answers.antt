@@ -6,4 +6,4 @@ use Rattle.rowex_table.proofs.Rights.{state_there}
 use Rattle.rowex_table.proofs.table.HotTable.claim_from.Goals as goal
 
 pub exchange_at-requires-clause-apt : goal.exchange_at-requires-clause-apt
-exchange_at-requires-clause-apt g c = (refl, refl, λ d law at known. (known.pass, (subst (λ (z : Layout). HasRecord z c.args.rec) (sym at) c.requires.start.0, state_there d c.args.rec)))
+exchange_at-requires-clause-apt g c = (refl, refl, λ d law at known. (known.pass, (subst (λ (z : Layout). HasRecord z c.args.at.rec) (sym at) c.requires.start.0, state_there d c.args.at.rec)))
