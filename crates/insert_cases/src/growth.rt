@@ -27,7 +27,8 @@ pub fn grow(node: &Node, first: u8, last: u8, position: u16, bit: bool, entry: E
     requires position { position < 65535 }
     requires entry { IsEntry entry }
     ensures shows { GrownShows node.now result (grown position bit entry first (piece node.now)) }
-    ensures whole { (is_whole result ≡ true) ↔ (length node.now.entries < 32) }
+    ensures whole { IsTrue (is_whole result) ↔ (length node.now.entries < 32) }
+    ensures same { IsTrue (keeps_node result) ↔ ((is_whole result ≡ false) × AtRootFork (λ p zero one. position < p) (piece node.now)) }
 {
     if node.count() < 32 {
         return Grown::One(node.insert(first, last, position, bit, entry));

@@ -1,10 +1,11 @@
 -- What is chosen at a node, and what follows from it.
 use Rattle.std.proofs.Common.{◌≡◌, ◌≢◌, ◌⊎◌, inl, inr, ℕ, zero, suc, ◌+◌, ◌<◌, ◌≤◌, max, Bool, true, false, List, length, nat_lt, refl, ap, ap₂, sym, ◌∙◌, subst, arith, Some, get_or, if◌then◌else◌}
-use Rattle.std.specs.Prelude.{slice_get, slice_set}
-use Rattle.std.proofs.lemmas.Bool.{lt-ltb, le-ltb, cases_lt}
+use Rattle.std.specs.Prelude.{◌↔◌, IsTrue, MatchBool, not, slice_get, slice_set}
+use Rattle.std.proofs.lemmas.Bool.{lt-ltb, le-ltb, cases_lt, false≢true}
 use Rattle.std.proofs.lemmas.Option.{slice_get_within}
 use Rattle.pieces.specs.Growth.{affected_first, affected_count, grown, IsAffected}
-use Rattle.pieces.specs.Piece.{Place, places, size}
+use Rattle.pieces.specs.Grafts.{grafted}
+use Rattle.pieces.specs.Piece.{Place, Fork, places, size}
 use Rattle.compound_node.specs.Nodes.{NodeView, piece, height_of, greatest_height, IsEntry, IsLawfulNode, IsBuiltFrom}
 use Rattle.compound_node.specs.declared.entries.Entry.{Entry}
 use Rattle.compound_node.specs.declared.entries.Entry.TheVariants.{Leaf, Node}
@@ -22,70 +23,31 @@ use Rattle.tries.specs.Content.{Item}
 use Rattle.tries.specs.Keys.{Key, bit}
 use Rattle.tries.specs.Place.{spot}
 use Rattle.tries.specs.Search.{child, seek}
-use Rattle.tries.specs.Tree.{Fixed, Tree, leaf, node, fork, subtrie}
+use Rattle.tries.specs.Tree.{Subtrie, Fixed, Tree, leaf, node, fork, subtrie}
 use Rattle.tries.proofs.Building.{size-piece}
 use Rattle.plain_records.specs.declared.leaf.LeafRecord.{LeafRecord}
-use Rattle.plain_records.specs.Cases.{IsInRecords, IsChosenAt, TakesLeaf, IsByCase, AddsByCase, DoesLevel, DoesCase, IsNewNode, IsPutBetween, DoesLevels, is_overflow, is_split}
+use Rattle.plain_records.specs.Cases.{IsOneSide, IsByCase, AddsByCase, DoesLevel, DoesCase, IsNewNode, IsPutBetween, DoesLevels, TakesFork, is_overflow, is_split}
 use Rattle.plain_records.specs.Rising.{IsAddable, NoNode}
 use Rattle.plain_records.specs.Risen.{AllStay, OthersStay}
 use Rattle.plain_records.specs.Store.{ShowsTree}
-use Rattle.plain_records.proofs.Climbing.{IsHere, child_addable, here_high, part, range}
+use Rattle.plain_records.proofs.Climbing.{IsHere, child_addable, part, range}
 use Rattle.plain_records.proofs.Searching.{read_at}
 
--- ---- the case of several entries
-not_pushed : (h n : ℕ) → case_of h n false ≢ LeafPushdown
-not_pushed h n = λ e. elim (cases_lt n 32) [
-  | inl g ↦ let f : nat_lt n 32 ≡ true = lt-ltb n 32 g in let x : NormalInsert ≡ LeafPushdown = (rw f at e) in cc
-  | inr g ↦ let f : nat_lt n 32 ≡ false = le-ltb n 32 g in let x : Overflow ≡ LeafPushdown = (rw f at e) in cc
-]
+-- ---- what becomes of a node's record
+-- so where the new node is whole if there is room, and else one side is left
+pub does_grown : (ms : List NodeView) (n : ℕ) (old view : NodeView) (h m first : ℕ) (shown : Subtrie) (whole : Bool) → IsTrue whole ↔ (m < 32) → slice_get ms n ≡ Some view →
+    MatchBool whole (IsBuiltFrom view shown) (IsOneSide view shown) → DoesCase ms n (case_of h m false) old first shown × (not whole ≡ is_overflow (case_of h m false))
+does_grown ms n old view h m first shown true e at is = let f : nat_lt m 32 ≡ true = lt-ltb m 32 (e.0 refl) in rw f ((view, at, is), refl)
+does_grown ms n old view h m first shown false e at is =
+    let f : nat_lt m 32 ≡ false = elim (cases_lt m 32) [ inl g ↦ absurd (false≢true (e.1 g)) | inr g ↦ le-ltb m 32 g ] in rw f ((view, at, is), refl)
 
-pub has_room : (h n : ℕ) → case_of h n false ≡ NormalInsert → n < 32
-has_room h n e = elim (cases_lt n 32) [
-  | inl g ↦ g
-  | inr g ↦ let f : nat_lt n 32 ≡ false = le-ltb n 32 g in let x : Overflow ≡ NormalInsert = (rw f at e) in absurd cc
-]
-
-pub is_full : (h n : ℕ) → case_of h n false ≡ Overflow → 32 ≤ n
-is_full h n e = elim (cases_lt n 32) [
-  | inl g ↦ let f : nat_lt n 32 ≡ true = lt-ltb n 32 g in let x : NormalInsert ≡ Overflow = (rw f at e) in absurd cc
-  | inr g ↦ g
-]
-
--- ---- what is chosen
-module _ (h n first last : ℕ) (entry : Entry) (c : Choice) (i : IsChosenAt h n first last entry c) where
-  -- the node gets the leaf where several entries are affected, or it has leaves alone
-  pub taken : height_of entry < h → TakesLeaf c → ((first < last) ⊎ (h ≡ 1)) × (c ≡ record { level = 0; first = first; last = last; case = case_of h n false })
-  taken low t = elim (cases_lt first last) [
-    | inl o ↦ (inl o, i.several o)
-    | inr o ↦ elim (cases_lt 0 (height_of entry)) [
-      | inl up ↦ absurd (let e = i.next o up in omega (arith, t.0))
-      | inr z ↦ elim (cases_lt 1 h) [
-        | inl high ↦
-            let f : nat_lt 1 h ≡ true = lt-ltb 1 h high in
-            let pushed : case_of h n true ≡ LeafPushdown = rw f refl in
-            absurd (t.1 (ap (λ (z : Choice). z.case) (i.leaf o (omega arith)) ∙ pushed))
-        | inr one ↦
-            let e : h ≡ 1 = omega (arith, low) in
-            let same : case_of h n true ≡ case_of h n false = subst (λ g. case_of g n true ≡ case_of g n false) (sym e) refl in
-            (inr e, i.leaf o (omega arith) ∙ ap (λ (z : Case). let d : Choice = record { level = 0; first = first; last = last; case = z } in d) same)
-      ]
-    ]
-  ]
-
-  -- and else but one is affected
-  pub passed : (TakesLeaf c → ⊥) → last ≤ first
-  passed ne = elim (cases_lt first last) [
-    | inl o ↦
-        let e = i.several o in
-        absurd (ne (ap (λ (z : Choice). z.level) e, λ p. not_pushed h n (sym (ap (λ (z : Choice). z.case) e) ∙ p)))
-    | inr o ↦ o
-  ]
-
--- an entry that a shown tree begins with is in the records
-pub named_in : (ns : List NodeView) (ls : List LeafRecord) (t : Tree) (e : Entry) → subtrie t ≡ Place e → ShowsTree ns ls t → IsInRecords ns e
-named_in ns ls (leaf n k v) e is s = let q : Leaf n ≡ e = cc in subst (IsInRecords ns) q tt
-named_in ns ls (node n x b) e is s = let q : Node n x.height ≡ e = cc in subst (IsInRecords ns) q (slice_get_within ns n s.0.view s.0.at)
-named_in ns ls (fork p a b) e is s = absurd cc
+-- and so where it is to take in a fork
+pub takes_fork : (old view : NodeView) (p : ℕ) (z o : Entry) (at : ℕ) (whole up : Bool) → IsTrue whole ↔ (length old.entries < 32) → up ≡ not whole →
+    (let shown = grafted at (Fork p (Place z) (Place o)) (piece old) in MatchBool whole (IsBuiltFrom view shown) (IsOneSide view shown)) → TakesFork old view at up
+takes_fork old view p z o at true up e rose is =
+    record { position = p; zero_entry = z; one_entry = o; room = λ l. (is, rose); full = λ m. absurd (let l = e.0 refl in omega arith) }
+takes_fork old view p z o at false up e rose is =
+    record { position = p; zero_entry = z; one_entry = o; room = λ l. absurd (false≢true (e.1 l)); full = λ m. (is, rose) }
 
 -- ---- the node at which a search stands
 low_case : (m : ℕ) (b : Bool) → case_of 1 m false ≡ case_of 1 m b
@@ -109,122 +71,64 @@ pair_low v b p l e low built = over ∙ low_pair b
     low_pair true = ap (λ g. 1 + max g (max 0 0)) low
     low_pair false = ap (λ g. 1 + max 0 (max g 0)) low
 
-module _ {ns : List NodeView} {ls : List LeafRecord} {x : Item} {p n h : ℕ} {t : Tree} (i : IsAddable ns ls x p (Node n h) t) (u : IsHere ns ls x p n h t) (v : NodeView) (is : v ≡ get_or ns n v)
-    (first last : ℕ) (from : affected_first p (spot x.key (subtrie u.body)) (subtrie u.body) ≡ first) (upto : affected_count p (spot x.key (subtrie u.body)) (subtrie u.body) + first ≡ last + 1)
-    (s : PathNode) (tall : s.height ≡ v.height) (many : s.count ≡ length v.entries) (entry : Entry) (low : height_of entry < v.height)
-    (c : Choice) (chosen : IsChosenAt s.height s.count first last entry c) where
-  same_node : v ≡ u.shown.0.view
-  same_node = read_at ns n u.shown.0.view v u.shown.0.at is
-
-  tall_is : s.height ≡ h
-  tall_is = tall ∙ (ap (λ (w : NodeView). w.height) same_node ∙ here_high u)
-
-  many_is : s.count ≡ length u.shown.0.view.entries
-  many_is = many ∙ ap (λ (w : NodeView). length w.entries) same_node
-
+module _ {ns : List NodeView} {ls : List LeafRecord} {x : Item} {p n h : ℕ} {t : Tree} (i : IsAddable ns ls x p (Node n h) t) (u : IsHere ns ls x p n h t) (first last : ℕ)
+    (from : affected_first p (spot x.key (subtrie u.body)) (subtrie u.body) ≡ first) (upto : affected_count p (spot x.key (subtrie u.body)) (subtrie u.body) + first ≡ last + 1) where
   -- the node is the affected one
-  at_here : IsPart (affected p x.key u.body) → (z : Choice) (d : Case) → z ≡ record { level = 0; first = first; last = last; case = d } →
-      d ≡ case_of u.fixed.height (size (subtrie u.body)) (is_leaf (affected p x.key u.body)) → IsAffectedNode x.key p (node n u.fixed u.body) z
-  at_here o z d e f = record {
+  at_here : IsPart (affected p x.key u.body) → (c : Case) → c ≡ case_of u.fixed.height (size (subtrie u.body)) (is_leaf (affected p x.key u.body)) →
+      IsAffectedNode x.key p (node n u.fixed u.body) (record { level = 0; first = first; last = last; case = c })
+  at_here o c e = record {
     number = n;
     fixed = u.fixed;
     inner = u.body;
-    is = subst (λ (w : Choice). stage x.key (node n u.fixed u.body) w.level ≡ node n u.fixed u.body) (sym e) refl;
-    above = λ l g. absurd (let same = ap (λ (w : Choice). w.level) e in omega (arith, g));
+    is = refl;
+    above = λ l g. absurd (omega (arith, g));
     part = o;
-    first = ap (λ (w : Choice). w.first) e ∙ sym from;
-    range = subst (λ (w : Choice). IsAffected (subtrie u.body) p w.first w.last) (sym e) (range i u first last from upto o);
-    case = ap (λ (w : Choice). w.case) e ∙ f;
+    first = sym from;
+    range = range i u first last from upto o;
+    case = e;
   }
 
-  -- ---- and gets the leaf itself
-  module _ (takes : TakesLeaf c) where
-    whole : ((first < last) ⊎ (s.height ≡ 1)) × (c ≡ record { level = 0; first = first; last = last; case = case_of s.height s.count false })
-    whole = taken s.height s.count first last entry c chosen (omega (arith, low, tall)) takes
+  -- and gets the leaf itself
+  pub taken_by_case : (first < last) ⊎ (h ≡ 1) → (m : ℕ) → m ≡ size (subtrie u.body) → (ms : List NodeView) (up : Bool) → up ≡ is_overflow (case_of h m false) →
+      DoesCase ms n (case_of h m false) u.shown.0.view first (grown p (bit x.key p) (Leaf x.number) first (piece u.shown.0.view)) → IsByCase ns ms x.key p x.number (node n u.fixed u.body) up
+  unfolding at_here
+  taken_by_case takes m counts ms up rose does =
+      let single = is_leaf (affected p x.key u.body) in
+      let same : case_of h m false ≡ case_of h m single = elim takes [
+        | inl o ↦ ap (case_of h m) (sym (part_of_two (affected p x.key u.body) (omega (arith, upto, size_affected x.key p u.body))).1)
+        | inr one ↦ subst (λ z. case_of z m false ≡ case_of z m single) (sym one) (low_case m single)
+      ] in
+      record {
+        choice = record { level = 0; first = first; last = last; case = case_of h m false };
+        affected = at_here (part i u first last from upto takes) (case_of h m false) (same ∙ ap₂ (λ a b. case_of a b single) (sym u.high) counts);
+        view = u.shown.0.view;
+        at = u.shown.0.at;
+        does = does;
+        rises = rose;
+      }
 
-    pub taken_part : IsPart (affected p x.key u.body)
-    taken_part = part i u first last from upto (elim whole.0 [ inl o ↦ inl o | inr o ↦ inr (sym tall_is ∙ o) ])
-
-    pub taken_first : c.first ≡ first
-    taken_first = ap (λ (z : Choice). z.first) whole.1
-
-    -- what is asked where the node gets the leaf
-    pub taken_place : (o : NodeView) × (slice_get ns n ≡ Some o) × (o.height ≡ h) × IsAffected (piece o) p c.first c.last × (c.case ≡ case_of h (length o.entries) false)
-    taken_place =
-        let r = range i u first last from upto taken_part in
-        let f : IsAffected (piece u.shown.0.view) p first last = subst (λ f. IsAffected f p first last) (sym u.shown.0.shows) r in
-        let g : IsAffected (piece u.shown.0.view) p c.first c.last =
-        subst (λ (z : Choice). IsAffected (piece u.shown.0.view) p z.first z.last) (sym whole.1) f in
-        (u.shown.0.view, u.shown.0.at, here_high u, g, ap (λ (z : Choice). z.case) whole.1 ∙ ap (λ m. case_of h m false) many_is)
-
-    taken_affected : IsLawfulNode v → IsAffectedNode x.key p (node n u.fixed u.body) c
-    taken_affected lawful =
-        let m = size (subtrie u.body) in
-        let g = u.fixed.height in
-        let single = is_leaf (affected p x.key u.body) in
-        let counts : s.count ≡ m =
-        omega (arith, many_is, size-piece u.shown.0.view (subst IsLawfulNode same_node lawful), ap size u.shown.0.shows) in
-        let tall_as : s.height ≡ g = tall_is ∙ sym u.high in
-        let same : case_of g m false ≡ case_of g m single = elim whole.0 [
-          | inl o ↦ ap (case_of g m) (sym (part_of_two (affected p x.key u.body) (omega (arith, upto, size_affected x.key p u.body))).1)
-          | inr one ↦ let e : g ≡ 1 = sym tall_as ∙ one in subst (λ z. case_of z m false ≡ case_of z m single) (sym e) (low_case m single)
-        ] in
-        at_here taken_part c (case_of s.height s.count false) whole.1 (ap (λ z. case_of z s.count false) tall_as ∙ (ap (λ z. case_of g z false) counts ∙ same))
-
-    pub taken_by_case : IsLawfulNode v → (ms : List NodeView) (up : Bool) → up ≡ is_overflow c.case →
-        DoesCase ms n c.case u.shown.0.view c.first (grown p (bit x.key p) (Leaf x.number) c.first (piece u.shown.0.view)) → IsByCase ns ms x.key p x.number (node n u.fixed u.body) up
-    unfolding at_here taken_affected
-    taken_by_case lawful ms up rose does = record {
-      choice = c;
-      affected = taken_affected lawful;
-      view = u.shown.0.view;
-      at = u.shown.0.at;
-      does = does;
-      rises = subst (λ l. DoesLevels ns ms x.key l (node n u.fixed u.body) (is_overflow c.case) up) (sym (ap (λ (z : Choice). z.level) whole.1)) rose;
-    }
-
-  -- ---- or a new node takes the place of the leaf below it
-  module _ (passes : TakesLeaf c → ⊥) (zero_high : height_of entry ≡ 0) (sought : entry ≡ seek x.key (subtrie u.body)) (stands : IsEntry entry) where
-    passed_on : last ≤ first
-    passed_on = passed s.height s.count first last entry c chosen passes
-
-    pub pushed_high : 1 < h
-    pushed_high = elim (cases_lt 1 s.height) [
-      | inl o ↦ omega (arith, o, tall_is)
-      | inr o ↦
-          let one : s.height ≡ 1 = omega (arith, low, tall) in
-          let e = chosen.leaf passed_on zero_high in
-          let same : case_of s.height s.count true ≡ case_of s.height s.count false = subst (λ g. case_of g s.count true ≡ case_of g s.count false) (sym one) refl in
-          absurd (passes (ap (λ (z : Choice). z.level) e, λ q. not_pushed s.height s.count (sym same ∙ (sym (ap (λ (z : Choice). z.case) e) ∙ q))))
-    ]
-
-    pushed_affected : IsAffectedNode x.key p (node n u.fixed u.body) (record { level = 0; first = first; last = last; case = LeafPushdown })
-    pushed_affected =
-        let tip = tip_child p x.key u.body (tip_of_one_place (affected p x.key u.body) (let q = passed_on in omega (arith, upto, size_affected x.key p u.body))) in
-        let leafy = low_leaf (child x.key u.body) entry (child_addable i u entry sought).head stands zero_high in
-        let single : is_leaf (affected p x.key u.body) ≡ true = ap is_leaf tip.0 ∙ leafy.1 in
-        let tall_as : nat_lt 1 u.fixed.height ≡ true = lt-ltb 1 u.fixed.height (let q = pushed_high in omega (arith, u.high)) in
-        at_here (subst IsPart (sym tip.0) leafy.0) _ LeafPushdown refl (rw (single, tall_as) refl)
-
-    pub pushed_by_case : (ms us : List NodeView) (at : ℕ) (b up : Bool) → at ≡ first → up ≡ false → IsPutBetween ms us n at u.shown.0.view (subtrie_forked b p (Leaf x.number) (Place entry)) →
-        IsByCase ns us x.key p x.number (node n u.fixed u.body) up
-    unfolding at_here pushed_affected
-    pushed_by_case ms us at b up at_first rose put =
-        let high : put.view.height ≡ 1 = pair_low put.view b p x.number entry zero_high put.built in record {
-          choice = record { level = 0; first = first; last = last; case = LeafPushdown };
-          affected = pushed_affected;
-          view = u.shown.0.view;
-          at = u.shown.0.at;
-          does = (
-            record u.shown.0.view { entries = slice_set u.shown.0.view.entries at (Node (length ms) put.view.height) },
-            put.after,
-            (
-              length ms,
-              ap₂ (λ j g. let w : NodeView = record u.shown.0.view { entries = slice_set u.shown.0.view.entries j (Node (length ms) g) } in w) at_first high,
-            ),
-          );
-          rises = rose;
-        }
+  -- or a new node takes the place of the leaf below it
+  pub pushed_by_case : (entry : Entry) → last ≤ first → 1 < h → height_of entry ≡ 0 → entry ≡ seek x.key (subtrie u.body) → IsEntry entry → (ms us : List NodeView) (b up : Bool) → up ≡ false →
+      IsPutBetween ms us n first u.shown.0.view (subtrie_forked b p (Leaf x.number) (Place entry)) → IsByCase ns us x.key p x.number (node n u.fixed u.body) up
+  unfolding at_here
+  pushed_by_case entry few high zero_high sought stands ms us b up rose put =
+      let tip = tip_child p x.key u.body (tip_of_one_place (affected p x.key u.body) (omega (arith, upto, size_affected x.key p u.body))) in
+      let leafy = low_leaf (child x.key u.body) entry (child_addable i u entry sought).head stands zero_high in
+      let single : is_leaf (affected p x.key u.body) ≡ true = ap is_leaf tip.0 ∙ leafy.1 in
+      let tall_as : nat_lt 1 u.fixed.height ≡ true = lt-ltb 1 u.fixed.height (omega (arith, u.high)) in
+      let low : put.view.height ≡ 1 = pair_low put.view b p x.number entry zero_high put.built in
+      record {
+        choice = record { level = 0; first = first; last = last; case = LeafPushdown };
+        affected = at_here (subst IsPart (sym tip.0) leafy.0) LeafPushdown (rw (single, tall_as) refl);
+        view = u.shown.0.view;
+        at = u.shown.0.at;
+        does = (
+          record u.shown.0.view { entries = slice_set u.shown.0.view.entries first (Node (length ms) put.view.height) },
+          put.after,
+          (length ms, ap (λ g. let w : NodeView = record u.shown.0.view { entries = slice_set u.shown.0.view.entries first (Node (length ms) g) } in w) low),
+        );
+        rises = rose;
+      }
 
 -- ---- below a node
 -- a leaf and the new one are a fork
@@ -242,16 +146,6 @@ pub node_by_case : (ns ms : List NodeView) (k : Key) (p l : ℕ) (e : Entry) (t 
 node_by_case ns ms k p l e (leaf m j v) up is high d = absurd (let q : Leaf m ≡ e = cc in omega (arith, ap height_of q))
 node_by_case ns ms k p l e (node m x b) up is high d = d
 node_by_case ns ms k p l e (fork q a b) up is high d = absurd cc
-
-stage_leaf : (k : Key) (m : ℕ) (j : Key) (v l : ℕ) → stage k (leaf m j v) l ≡ leaf m j v
-stage_leaf k m j v zero = refl
-stage_leaf k m j v (suc l) = stage_leaf k m j v l
-
-pub adds_by_case : (ns ms : List NodeView) (k : Key) (p l : ℕ) (t : Tree) (up : Bool) → IsByCase ns ms k p l t up → AddsByCase ns ms k p l t up
-adds_by_case ns ms k p l (leaf m j v) up d =
-    absurd (let e : leaf m j v ≡ node d.affected.number d.affected.fixed d.affected.inner = sym (stage_leaf k m j v d.choice.level) ∙ d.affected.is in cc)
-adds_by_case ns ms k p l (node m x b) up d = d
-adds_by_case ns ms k p l (fork q a b) up d = tt
 
 -- with fewer before it a node is as new
 pub new_node : (n m : ℕ) (e : Entry) → n ≤ m → IsNewNode m e → IsNewNode n e

@@ -41,12 +41,6 @@ use Rattle.plain_records.proofs.Searching.{node_of_subtrie, read_at, shown_withi
 use Rattle.plain_records.proofs.Storing.{push_old, push_new}
 use Rattle.tries.proofs.Contents.{found_child}
 
--- the entry that stands at a place, put there
-pub piece-same : (n : NodeView) (i : ℕ) (e : Entry) → IsLawfulNode n → slice_get n.entries i ≡ Some e → replaced i e (piece n) ≡ piece n
-piece-same n i e l h =
-    replaced-same e i e (piece n) (omega (arith, slice_get_within n.entries i e h, size-piece n l))
-    (ap (λ es. get_or es i e) (sym l.shows.entries_are) ∙ get_or_from_slice_get n.entries i e e h)
-
 -- ---- a new node for a fork
 pub raised_in_new_node : (ns ms us : List NodeView) (ls : List LeafRecord) (x : Item) (p : ℕ) (s : Tree) (h q : ℕ) (z o e : Entry) →
     IsRaised ns ms ls x p s h (Fork q (Place z) (Place o)) → IsNew ms us e (Fork q (Place z) (Place o)) → IsRaised ns us ls x p s (suc h) (Place e)
@@ -322,10 +316,3 @@ replaced_named us n at e old view stands lawful high shows = record {
   shows = shows ∙ replaced_grafted at e (piece old);
   height = inr (high, ap first_position shows ∙ first_replaced at e (piece old));
 }
-
--- the entry that was read stands there still, where the node stayed
-pub child_held : (ns ms : List NodeView) (n at : ℕ) (u v old : NodeView) (e : Entry) → slice_get ns n ≡ Some u → v ≡ get_or ns n v → slice_get ms n ≡ Some u → slice_get ms n ≡ Some old →
-    IsLawfulNode v → slice_get v.entries at ≡ Some e → IsLawfulNode old × (slice_get old.entries at ≡ Some e)
-child_held ns ms n at u v old e there read still now lawful held =
-    let same : v ≡ old = read_at ns n u v there read ∙ some_injective (sym still ∙ now) in
-    (subst IsLawfulNode same lawful, ap (λ (w : NodeView). slice_get w.entries at) (sym same) ∙ held)

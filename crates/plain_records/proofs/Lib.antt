@@ -10,7 +10,6 @@ pub mod Heights
 pub mod Replacing
 pub mod Lifting
 pub mod Climbing
-pub mod Below
 pub mod Cases
 pub mod Further
 pub mod Parts

@@ -150,14 +150,10 @@ module _ (u : NodeView) (lawful : IsLawfulNode u) where
         kept_steady cut (grown position bit x first (piece u)) shows (keeps (subst (AtRootFork (λ p zero one. position < p)) (sym is) low)))
         (cases_Bool (nat_lt q position))
 
-    -- the node with the entry
-    pub add_steady : (v : NodeView) → IsBuiltFrom v (grown position bit x first (piece u)) → KeepsHeight u v
-    add_steady v built = steady_longer u v lawful built.lawful (ap size built.shows_it ∙ size-grown position bit x first (piece u))
-
-    -- and what a full node becomes
-    pub full_steady : (g : Grown) → GrownShows u g (grown position bit x first (piece u)) → is_whole g ≡ false → (IsTrue (keeps_node g) ↔ AtRootFork (λ p zero one. position < p) (piece u)) → IsGrownSteady u g
-    full_steady (Whole v) shows whole same = absurd (false≢true (sym whole))
-    full_steady (Two cut) shows whole same = full_cut cut shows same.1 (piece u) refl
+    -- the node with the entry, or the halves of what a full node becomes
+    pub grow_steady : (g : Grown) → GrownShows u g (grown position bit x first (piece u)) → IsTrue (keeps_node g) ↔ ((is_whole g ≡ false) × AtRootFork (λ p zero one. position < p) (piece u)) → IsGrownSteady u g
+    grow_steady (Whole v) shows keeps = steady_longer u v lawful shows.lawful (ap size shows.shows_it ∙ size-grown position bit x first (piece u))
+    grow_steady (Two cut) shows keeps = full_cut cut shows (λ low. keeps.1 (refl, low)) (piece u) refl
 
   -- ---- a fork for an entry
   module _ (position at : ℕ) (z o : Entry) (path : IsAbovePath position at (piece u)) where

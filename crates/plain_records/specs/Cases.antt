@@ -20,22 +20,6 @@ use Rattle.tries.specs.Search.{child, seek}
 use Rattle.tries.specs.Tree.{Subtrie, Tree, leaf, node, fork, subtrie}
 use Rattle.plain_records.specs.Heights.{Remains}
 
--- the entry is a leaf's, or there is a record of its number
-abbrev pub IsInRecords : List NodeView → Entry → Type 0
-IsInRecords nodes (Leaf n) = Unit {0}
-IsInRecords nodes (Node n h) = n < length nodes
-
--- What is chosen at a node of this height and count, of which these entries are affected, and where the search takes this
--- one: its case, or the next node.
-pub record IsChosenAt (height count first last : ℕ) (entry : Entry) (c : Choice) : Type 0 where
-  pub several : first < last → c ≡ record { level = 0; first = first; last = last; case = case_of height count false }
-  pub leaf : last ≤ first → height_of entry ≡ 0 → c ≡ record { level = 0; first = first; last = last; case = case_of height count true }
-  pub next : last ≤ first → 0 < height_of entry → c.level ≡ 1
-
--- the node gets the leaf itself
-abbrev pub TakesLeaf : Choice → Type 0
-TakesLeaf c = (c.level ≡ 0) × (c.case ≢ LeafPushdown)
-
 -- the node shows one side of the root fork
 abbrev pub IsOneSide : NodeView → Subtrie → Type 0
 IsOneSide view shown = AtRootFork (λ p zero one. (piece view ≡ zero) ⊎ (piece view ≡ one)) shown

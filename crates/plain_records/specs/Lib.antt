@@ -4,5 +4,4 @@ pub mod Gathered
 pub mod Heights
 pub mod Risen
 pub mod Rising
-pub mod Adding
 pub mod Cases

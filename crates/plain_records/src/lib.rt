@@ -5,31 +5,27 @@
 //!
 //! # How a key is added
 //!
-//! 1. [`add_below`] searches for the key, down to a leaf. If that has another key, room is made for all that may be needed
-//!    ([`make_room`]): a leaf, and a node for each height.
-//! 2. On the way back it finds the lowest node whose first position is before the mismatch. [`raise`] adds the leaf there,
-//!    by the case that `choose` of `insert_cases` names: beside an entry of the node, in a new node with a leaf, or in a child. A full
-//!    node is cut in two.
-//! 3. What a node was cut into rises: [`place`] says whether it goes into the node above (pulling it up), into a node of its own between
-//!    the two, or into a new root ([`make_root`]).
-//!
-//! A node above stays as it is where the entry that it has for its child stays.
+//! 1. The search ends at a leaf with another key. Room is made for all that may be needed ([`make_room`]): a leaf, and a node for each
+//!    height.
+//! 2. [`raise`] goes down to the node that the new leaf affects, and adds the leaf there: beside entries of the node, or in a new node
+//!    with one leaf. A full node is cut in two.
+//! 3. What a node was cut into rises. It goes into the node above if that is one higher (pulling it up), else into a node of its own
+//!    between the two, or into a new root ([`make_root`]). [`place`] is this rule by itself.
 //!
 //! A scan is two steps: [`gather`] lists a range's leaves, and [`pairs_of`] copies their pairs.
 #![tactic(auto)]
 
-mod adding;
-mod choosing;
 mod gathering;
 mod leaf;
 mod overflow;
 mod places;
 mod raising;
 mod rising;
+mod room;
 
-pub use adding::{Addition, add_below, make_room};
 pub use gathering::{Progress, Range, gather, pairs_of};
 pub use leaf::LeafRecord;
 pub use overflow::place;
 pub use places::Place;
 pub use rising::{make_root, raise};
+pub use room::make_room;

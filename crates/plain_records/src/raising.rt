@@ -1,6 +1,6 @@
 //! Grown nodes, halves and new nodes are stored in records that are kept in a vector.
 
-ghost use Rattle.std.specs.Prelude.{◌≡◌, ◌+◌, ◌^◌, ◌<◌, ◌≤◌, [], ◌∷◌, ◌++◌, Some, false, true, slice_get, slice_set};
+ghost use Rattle.std.specs.Prelude.{◌≡◌, ◌+◌, ◌^◌, ◌<◌, ◌≤◌, [], ◌∷◌, ◌++◌, Some, MatchBool, not, true, slice_get, slice_set};
 ghost use Rattle.std.specs.Vec.{vec_len, vec_capacity};
 ghost use Rattle.pieces.specs.Piece.{Piece, Fork, Place as At, size};
 ghost use Rattle.compound_node.specs.Nodes.{NodeView, IsLawfulNode, IsEntry, IsBuiltFrom};
@@ -24,11 +24,9 @@ pub fn store_grown(nodes: &mut Vec<Node>, number: u32, height: u16, grown: Grown
         GrownShows old grown P → RisenShows nodes.new.items old result P }
     ensures heights { (old : NodeView) (P : Piece EntryView) → slice_get nodes.old.items number ≡ Some old → GrownShows old grown P →
         IsGrownSteady old grown → KeepsHeights nodes.old.items nodes.new.items }
-    ensures side { (old : NodeView) (P : Piece EntryView) → slice_get nodes.old.items number ≡ Some old → GrownShows old grown P → is_whole grown ≡ false → 2 < size P →
-        (view : NodeView) × (slice_get nodes.new.items number ≡ Some view) × IsOneSide view P }
-    ensures whole { (old : NodeView) (P : Piece EntryView) → GrownShows old grown P → is_whole grown ≡ true →
-        (view : NodeView) × (slice_get nodes.new.items number ≡ Some view) × IsBuiltFrom view P × (is_split result ≡ false) }
-    ensures up { is_whole grown ≡ false → is_split result ≡ true }
+    ensures does { (old : NodeView) (P : Piece EntryView) → slice_get nodes.old.items number ≡ Some old → GrownShows old grown P → 2 < size P →
+        (view : NodeView) × (slice_get nodes.new.items number ≡ Some view) × MatchBool (is_whole grown) (IsBuiltFrom view P) (IsOneSide view P) }
+    ensures up { is_split result ≡ not (is_whole grown) }
     ensures others { OthersStay nodes.old.items nodes.new.items number }
     ensures longer { vec_len nodes.old ≤ vec_len nodes.new }
     ensures len { vec_len nodes.new ≤ vec_len nodes.old + 1 }

@@ -1,6 +1,6 @@
 //! How a new leaf rises from the node that it affects to the root, in records that are kept in a vector.
 
-ghost use Rattle.std.specs.Prelude.{◌≡◌, ℕ, suc, ◌+◌, ◌^◌, ◌<◌, ◌≤◌, Bool, List, Some, false, true, length, slice_get, slice_set};
+ghost use Rattle.std.specs.Prelude.{◌≡◌, ◌⊎◌, ◌↔◌, ℕ, suc, ◌+◌, ◌^◌, ◌<◌, ◌≤◌, Bool, IsTrue, List, Some, true, slice_get, slice_set};
 ghost use Rattle.std.specs.Vec.{vec_len, vec_capacity};
 ghost use Rattle.pieces.specs.Growth.{grown, IsAffected};
 ghost use Rattle.pieces.specs.Piece.{Fork, Place as At, size};
@@ -18,20 +18,16 @@ ghost use Rattle.insert_cases.specs.Ways.{case_of};
 ghost use Rattle.plain_records.specs.Risen.{IsNamed, RisenShows, OthersStay, AllStay};
 ghost use Rattle.plain_records.specs.declared.leaf.LeafRecord.{LeafRecord};
 
-use crate::choosing::{choice_at, step_at, takes_leaf};
-use crate::overflow::place;
-use crate::places::Place;
 use crate::raising::{push_pair, put_node, store_grown};
 use compound_node::{Entry, Node};
-use insert_cases::{Case, Choice, Risen, grow_full, pull_up};
+use insert_cases::{Risen, grow, is_pull_up, pull_up};
 use key_bits::Key;
 
 /// What takes the place of `entry` when `key` gets the leaf `leaf` below it. The key differs first at `position` from that of the leaf
 /// where its search ends.
 ///
-/// The search goes down until `choose` gives the new leaf to the node where it stands, or to a leaf. A node above leaves alone takes the
-/// new leaf beside one of them. Below a higher node a leaf counts as a child of height 0 that gave way to a fork of itself and the new
-/// one. Each node on the way back takes what took its child's place, and stays as it is where that is the child's own entry.
+/// The search goes down to the node that takes the new leaf, or to a leaf. Below a node over other nodes a leaf counts as a child of height
+/// 0 that gave way to a fork of itself and the new one. Each node on the way back takes what took its child's place.
 pub fn raise(nodes: &mut Vec<Node>, entry: Entry, key: &Key, position: u16, leaf: u32) -> Risen
     requires place { (leaves : List LeafRecord) × (value : ℕ) × (t : Tree) × IsAddable nodes.old.items leaves (item leaf key.now value) position entry t }
     requires position { position < 65535 }
@@ -54,24 +50,24 @@ pub fn raise(nodes: &mut Vec<Node>, entry: Entry, key: &Key, position: u16, leaf
             let at = node.search(key);
             prove!(at < node.count());
             let (first, last) = node.affected(at, position);
-            let child = node.entry(at);
-            let step = step_at(node, number, at);
-            let choice = choice_at(nodes, step, child, key, first, last);
-            if takes_leaf(choice) {
-                return grow_at(
-                    nodes,
-                    number,
-                    height,
-                    choice,
-                    position,
-                    key.bit(position),
-                    leaf,
-                );
+            if takes_leaf(height, first, last) {
+                let bit = key.bit(position);
+                let grown = grow(node, first, last, position, bit, Entry::Leaf(leaf));
+                return store_grown(nodes, number, height, grown);
             }
+            let child = node.entry(at);
             let risen = raise(nodes, child, key, position, leaf);
-            lift(nodes, number, height, at, child, risen)
+            lift(nodes, number, height, at, child.height(), risen)
         }
     }
+}
+
+/// Whether a node of the height `height` gets a new leaf itself, where its entries from `first` to `last` are affected: they are several,
+/// or all entries are leaves. Else the leaf goes into the child, or into a new node with one leaf.
+fn takes_leaf(height: u16, first: u8, last: u8) -> bool
+    ensures { IsTrue result ↔ ((first < last) ⊎ (height ≡ 1)) }
+{
+    first < last || height == 1
 }
 
 /// The fork at `position` of the entries `old` and `new`, where `new` is the side of `bit`.
@@ -93,139 +89,45 @@ fn beside(old: Entry, position: u16, bit: bool, new: Entry) -> Risen
     }
 }
 
-/// What takes the place of node `number` when leaf `leaf` is put beside its entries from `choice.first` to `choice.last`. It is the node,
-/// or a fork of two if the node was full and is cut.
-fn grow_at(
-    nodes: &mut Vec<Node>,
-    number: u32,
-    height: u16,
-    choice: Choice,
-    position: u16,
-    bit: bool,
-    leaf: u32,
-) -> Risen
-    requires place { (old : NodeView) × (slice_get nodes.old.items number ≡ Some old) × (old.height ≡ height) ×
-        IsAffected (piece old) position choice.first choice.last × (choice.case ≡ case_of height (length old.entries) false) }
-    requires position { position < 65535 }
-    requires room { vec_len nodes.old < vec_capacity nodes.old }
-    requires small { vec_len nodes.old < 2 ^ 32 }
-    ensures shows { (old : NodeView) → slice_get nodes.old.items number ≡ Some old →
-        RisenShows nodes.new.items old result (grown position bit (Entry.Leaf leaf) choice.first (piece old)) }
-    ensures does { (old : NodeView) → slice_get nodes.old.items number ≡ Some old →
-        DoesCase nodes.new.items number choice.case old choice.first (grown position bit (Entry.Leaf leaf) choice.first (piece old)) }
-    ensures up { is_split result ≡ is_overflow choice.case }
-    ensures others { OthersStay nodes.old.items nodes.new.items number }
-    ensures heights { KeepsHeights nodes.old.items nodes.new.items }
-    ensures len { vec_len nodes.new ≤ vec_len nodes.old + 1 }
-    ensures capacity { vec_capacity nodes.new ≡ vec_capacity nodes.old }
-{
-    let Choice {
-        first,
-        last,
-        case,
-        ..
-    } = choice;
-    let new = Entry::Leaf(leaf);
-    match case {
-        Case::NormalInsert => {
-            let node = &mut nodes[number as usize];
-            prove!(node.count() < 32);
-            node.add(first, last, position, bit, new);
-            Risen::Whole(Entry::Node {
-                number,
-                height: node.height(),
-            })
-        }
-        Case::Overflow => {
-            let node = &nodes[number as usize];
-            prove!(node.count() == 32);
-            let grown = grow_full(node, first, last, position, bit, new);
-            store_grown(nodes, number, height, grown)
-        }
-        Case::LeafPushdown => unreachable!(),
-    }
-}
-
-/// Puts `risen` in the place of `child`, entry `at` of node `number`, and returns the node's entry; a `risen` equal to `child` changes
-/// nothing. A fork goes into the node if `height` is one above the child's, else into a new child. A full node that takes in the fork is
-/// cut, and the fork of its sides is returned.
-pub fn lift(
-    nodes: &mut Vec<Node>,
-    number: u32,
-    height: u16,
-    at: u8,
-    child: Entry,
-    risen: Risen,
-) -> Risen
+/// Puts `risen` in the place of entry `at` of node `number`, which is `height` high, and returns what takes the node's place. `low` is the
+/// height of the entry that was there.
+///
+/// A fork goes into the node if that is one higher, else into a new node at the place. A full node that takes in the fork is cut, and the
+/// fork of its sides is returned.
+fn lift(nodes: &mut Vec<Node>, number: u32, height: u16, at: u8, low: u16, risen: Risen) -> Risen
     requires place { (ns : List NodeView) × (leaves : List LeafRecord) × (x : Item) × (p : ℕ) × (y : Fixed) × (b : Tree) ×
-        IsLifting (records ns leaves) nodes.old.items x p (level number height at (height_of child)) y b (subtrie_of risen) }
-    requires child { (old : NodeView) → slice_get nodes.old.items number ≡ Some old → IsLawfulNode old × (slice_get old.entries at ≡ Some child) }
+        IsLifting (records ns leaves) nodes.old.items x p (level number height at low) y b (subtrie_of risen) }
     requires room { vec_len nodes.old < vec_capacity nodes.old }
     requires small { vec_len nodes.old < 2 ^ 32 }
     ensures raised { (ns : List NodeView) (leaves : List LeafRecord) (x : Item) (p : ℕ) (y : Fixed) (b : Tree) →
-        IsLifting (records ns leaves) nodes.old.items x p (level number height at (height_of child)) y b (subtrie_of risen) →
+        IsLifting (records ns leaves) nodes.old.items x p (level number height at low) y b (subtrie_of risen) →
         IsRaised ns nodes.new.items leaves x p (tree_node number y b) (suc height) (subtrie_of result) }
-    ensures between { (old : NodeView) (p : ℕ) (zero one : EntryView) → slice_get nodes.old.items number ≡ Some old → subtrie_of risen ≡ Fork p (At zero) (At one) → height_of child + 1 < height →
+    ensures between { (old : NodeView) (p : ℕ) (zero one : EntryView) → slice_get nodes.old.items number ≡ Some old → subtrie_of risen ≡ Fork p (At zero) (At one) → low + 1 < height →
         IsPutBetween nodes.old.items nodes.new.items number at old (Fork p (At zero) (At one)) }
     ensures takes { (old : NodeView) → slice_get nodes.old.items number ≡ Some old →
-        (new : NodeView) × (slice_get nodes.new.items number ≡ Some new) × IsLevelDone (height_of child) (is_split risen) old new at (is_split result) }
+        (new : NodeView) × (slice_get nodes.new.items number ≡ Some new) × IsLevelDone low (is_split risen) old new at (is_split result) }
     ensures others { OthersStay nodes.old.items nodes.new.items number }
     ensures heights { KeepsHeights nodes.old.items nodes.new.items }
     ensures len { vec_len nodes.new ≤ vec_len nodes.old + 1 }
     ensures capacity { vec_capacity nodes.new ≡ vec_capacity nodes.old }
 {
     match risen {
-        Risen::Whole(entry) => {
-            if entry == child {
-                return Risen::Whole(Entry::Node { number, height });
-            }
-            Risen::Whole(replace_entry(nodes, number, at, entry))
-        }
+        Risen::Whole(entry) => Risen::Whole(replace_entry(nodes, number, at, entry)),
         Risen::Split {
             position,
             zero,
             one,
-        } => match place(child.height(), Some(height)) {
-            Place::PullUp => fork_at(nodes, number, height, at, position, zero, one),
-            _ => {
-                let entry = push_pair(nodes, position, zero, one);
-                Risen::Whole(replace_entry(nodes, number, at, entry))
+        } => {
+            if is_pull_up(low, height) {
+                let node = &nodes[number as usize];
+                prove!(at < node.count());
+                let grown = pull_up(node, at, position, zero, one);
+                return store_grown(nodes, number, height, grown);
             }
-        },
+            let entry = push_pair(nodes, position, zero, one);
+            Risen::Whole(replace_entry(nodes, number, at, entry))
+        }
     }
-}
-
-/// What takes the place of node `number` that gets a fork of `zero` and `one` at `position` in place of its entry `at`. It is the node,
-/// or a fork of two if the node was full and is cut.
-fn fork_at(
-    nodes: &mut Vec<Node>,
-    number: u32,
-    height: u16,
-    at: u8,
-    position: u16,
-    zero: Entry,
-    one: Entry,
-) -> Risen
-    requires place { (old : NodeView) × (slice_get nodes.old.items number ≡ Some old) × (old.height ≡ height) ×
-        (at < size (piece old)) × IsAbovePath position at (piece old) }
-    requires position { position < 65535 }
-    requires zero { IsEntry zero }
-    requires one { IsEntry one }
-    requires room { vec_len nodes.old < vec_capacity nodes.old }
-    requires small { vec_len nodes.old < 2 ^ 32 }
-    ensures shows { (old : NodeView) → slice_get nodes.old.items number ≡ Some old →
-        RisenShows nodes.new.items old result (grafted at (Fork position (At zero) (At one)) (piece old)) }
-    ensures takes { (old : NodeView) → slice_get nodes.old.items number ≡ Some old →
-        (new : NodeView) × (slice_get nodes.new.items number ≡ Some new) × TakesFork old new at (is_split result) }
-    ensures others { OthersStay nodes.old.items nodes.new.items number }
-    ensures heights { KeepsHeights nodes.old.items nodes.new.items }
-    ensures len { vec_len nodes.new ≤ vec_len nodes.old + 1 }
-    ensures capacity { vec_capacity nodes.new ≡ vec_capacity nodes.old }
-{
-    let node = &nodes[number as usize];
-    prove!(at < node.count());
-    let grown = pull_up(node, at, position, zero, one);
-    store_grown(nodes, number, height, grown)
 }
 
 /// Returns the root's entry when `risen` takes the old root's place. One entry is returned as it is. A fork becomes a new node, added to

@@ -1,9 +1,10 @@
 -- What the map is after a key was added, or got another value.
-use Rattle.std.proofs.Common.{◌≡◌, ℕ, List, refl, ap, sym, ◌∙◌, subst, Option, Some, None, set, get_or}
-use Rattle.std.specs.Prelude.{slice_get, option_and_then}
-use Rattle.key_bits.specs.Bits.{bit_of}
+use Rattle.std.proofs.Common.{◌≡◌, ℕ, List, [], ◌∷◌, ◌++◌, length, refl, ap, ap₂, sym, ◌∙◌, subst, Some, None, set, get_or}
+use Rattle.std.specs.Prelude.{slice_get}
+use Rattle.key_bits.specs.Bits.{IsFirstDifference}
+use Rattle.key_bits.specs.Key.{IsKey}
 use Rattle.pieces.specs.Piece.{Place}
-use Rattle.compound_node.specs.Nodes.{NodeView, height_of}
+use Rattle.compound_node.specs.Nodes.{NodeView}
 use Rattle.compound_node.specs.declared.entries.Entry.{Entry}
 use Rattle.finite_map.specs.Maps.{Map, with_value, value_at, step_where, reply_of, map_after}
 use Rattle.finite_map.specs.declared.Call.TheVariants.{Insert, Upsert}
@@ -11,6 +12,7 @@ use Rattle.finite_map.specs.declared.Reply.TheVariants.{Inserted, Exists, New, W
 use Rattle.tries.proofs.Changes.{put, IsExchanged}
 use Rattle.tries.specs.Content.{Item, items, pairs, item}
 use Rattle.tries.specs.Keys.{Key}
+use Rattle.tries.specs.Search.{found}
 use Rattle.tries.specs.Tree.{Tree, leaf, subtrie, IsTrie, IsBuilt, Within}
 use Rattle.tries.proofs.Adding.{exchanged_in_whole, exchanged_leaf}
 use Rattle.tries.proofs.Contents.{content_rises}
@@ -18,16 +20,13 @@ use Rattle.tries.proofs.Maps.{are_keys, more_inserts, exchange_inserts}
 use Rattle.tries.proofs.Tries.{trie_within}
 use Rattle.tries.proofs.Puts.{subtrie_put}
 use Rattle.plain_records.specs.declared.leaf.LeafRecord.{LeafRecord}
-use Rattle.plain_records.specs.Adding.{IsStanding, IsAbsentFrom}
-use Rattle.plain_records.specs.Rising.{IsRaised}
-use Rattle.plain_trie.specs.Views.{PlainView, ShowsSoundTree, IsHeldInLeaf, shown_tree, trie_map}
-use Rattle.plain_records.specs.Store.{IsSound, ShowsTree, entry_tree, item_record}
-use Rattle.insert_cases.proofs.Choosing.{some_injective}
-use Rattle.plain_trie.proofs.Trees.{IsTree, plain_tree, tree_is, tree_plain, map_is}
+use Rattle.plain_records.specs.Rising.{IsAddable, IsRaised}
+use Rattle.plain_records.specs.Store.{IsSound, ShowsTree, item_record}
+use Rattle.plain_records.proofs.Keeping.{shown_more}
 use Rattle.plain_records.proofs.Putting.{found_place, put_same, shown_put}
-use Rattle.plain_records.proofs.Searching.{read_at}
-use Rattle.plain_records.proofs.Values.{value_found, value_missed}
-use Rattle.tries.specs.Search.{found}
+use Rattle.plain_records.proofs.Storing.{push_new, push_old}
+use Rattle.plain_trie.specs.Views.{PlainView, IsTree, ShowsSoundTree, IsHeldInLeaf, trie_map}
+use Rattle.plain_trie.proofs.Trees.{end_found, end_read, tree_is, tree_plain, map_is}
 
 -- a trie with this map
 abbrev pub Becomes : PlainView → PlainView → Key → ℕ → Type 0
@@ -40,19 +39,19 @@ becomes v w e t k x top head trie built shown same =
     (tree_plain w e t top head sound shown, map_is w t (tree_is w e t top head sound shown) ∙ sym same)
 
 -- ---- one key more
-pub tree_standing : (v : PlainView) (e : Entry) (t : Tree) → IsTree v e t → IsStanding v.nodes v.leaves e t
-tree_standing v e t i = record { head = i.head; trie = i.sound.trie; built = i.sound.built; shown = i.shown }
-
--- the root with the same records, whatever the vectors have room for
-pub kept_plain : (ns ms : List NodeView) (ls us : List LeafRecord) (o : Option Entry) (a b c d : ℕ) → ms ≡ ns → us ≡ ls →
-    ShowsSoundTree (record { nodes = ns; leaves = ls; top = o; node_capacity = a; leaf_capacity = b }) → ShowsSoundTree (record { nodes = ms; leaves = us; top = o; node_capacity = c; leaf_capacity = d })
-kept_plain ns ms ls us o a b c d e f i =
-    subst (λ xs. ShowsSoundTree (record { nodes = xs; leaves = us; top = o; node_capacity = c; leaf_capacity = d })) (sym e)
-    (subst (λ ys. ShowsSoundTree (record { nodes = ns; leaves = ys; top = o; node_capacity = c; leaf_capacity = d })) (sym f) i)
-
-pub same_view : (ns ms : List NodeView) (ls us : List LeafRecord) (o : Option Entry) (a b c : ℕ) → ms ≡ ns → us ≡ ls → c ≡ a →
-    ◌≡◌ {A = PlainView} (record { nodes = ms; leaves = us; top = o; node_capacity = c; leaf_capacity = b }) (record { nodes = ns; leaves = ls; top = o; node_capacity = a; leaf_capacity = b })
-same_view ns ms ls us o a b c e f g = rw (e, f, g) refl
+-- with its leaf behind the others
+pub leaf_addable : (v : PlainView) (ms : List NodeView) (us : List LeafRecord) (e : Entry) (t : Tree) (k : Key) (x m p : ℕ) → IsTree v e t → ms ≡ v.nodes → us ≡ v.leaves ++ record { key = k; value = x } ∷ [] →
+    m ≡ length v.leaves → IsKey k → IsFirstDifference k (found k t).key p → IsAddable ms us (item m k x) p e t
+leaf_addable v ms us e t k x m p i nodes leaves number key differ = record {
+  head = i.head;
+  trie = i.sound.trie;
+  built = i.sound.built;
+  shown = subst (λ ns. ShowsTree ns us t) (sym nodes)
+      (shown_more v.nodes v.nodes v.leaves us t (λ j y at. at) (λ j l at. ap (λ (z : List LeafRecord). slice_get z j) leaves ∙ push_old v.leaves _ j l at) i.shown);
+  key = key;
+  differ = differ;
+  new = ap₂ (λ (z : List LeafRecord) (j : ℕ). slice_get z j) leaves number ∙ push_new v.leaves (record { key = k; value = x });
+}
 
 pub raised_becomes : (v w : PlainView) (ns : List NodeView) (e f : Entry) (t : Tree) (x : Item) (p h : ℕ) → IsTree v e t → w.top ≡ Some f →
     IsRaised ns w.nodes w.leaves x p t h (Place f) → Becomes v w x.key x.value
@@ -61,63 +60,31 @@ raised_becomes v w ns e f t x p h i top u =
     (ap (λ m. with_value m x.key x.value) (map_is v t i.is) ∙ more_inserts x (items t) (items u.tree) u.adds.more (content_rises u.tree u.adds.trie) (are_keys u.tree u.adds.trie))
 
 -- ---- another value
--- a trie with a tree has a root
-top_of : (v : PlainView) (t : Tree) → shown_tree v ≡ Some t → (e : Entry) × (v.top ≡ Some e)
-top_of v t e = go v.top refl
-  where
-    go : (o : Option Entry) → v.top ≡ o → (d : Entry) × (v.top ≡ Some d)
-    go None i = absurd (let z : None ≡ Some t = sym (ap (option_and_then (λ z. entry_tree v.nodes v.leaves (height_of z) z)) i) ∙ e in cc)
-    go (Some d) i = (d, i)
-
-pub held_becomes : (v w : PlainView) (k : Key) (n x : ℕ) → ShowsSoundTree v → IsHeldInLeaf v k n → w.nodes ≡ v.nodes → w.leaves ≡ set v.leaves n (record { key = k; value = x }) → w.top ≡ v.top →
-    Becomes v w k x
-held_becomes v w k n x plain held nodes leaves top =
-    becomes v w e.0 (put place new) k x (top ∙ e.1) (subtrie_put place new refl ∙ (ap subtrie (sym same) ∙ t.1.head)) exchange.trie (put_same place new refl tt (subst IsBuilt same t.1.sound.built))
+pub held_becomes : (v w : PlainView) (k : Key) (n x : ℕ) → IsHeldInLeaf v k n → w.nodes ≡ v.nodes → w.leaves ≡ set v.leaves n (record { key = k; value = x }) → w.top ≡ v.top → Becomes v w k x
+held_becomes v w k n x (e, o, key) nodes leaves top =
+    becomes v w e (put place new) k x (top ∙ o.top) (subtrie_put place new refl ∙ o.stands.head) exchange.trie (put_same place new refl tt o.stands.sound.built)
     (subst (λ ns. ShowsTree ns w.leaves (put place new)) (sym nodes) (subst (λ ls. ShowsTree v.nodes ls (put place new)) (sym leaves)
-    (shown_put v.nodes v.leaves n k y.value x place trie at (subst (ShowsTree v.nodes v.leaves) same t.1.shown))))
-    (ap (λ m. with_value m k x) (map_is v held.tree held.is) ∙
-    exchange_inserts (item n k y.value) (item n k x) (items held.tree) (items (put place new)) exchange.exchange refl (content_rises held.tree trie) (are_keys held.tree trie))
+    (shown_put v.nodes v.leaves n k (found k o.tree).value x place o.stands.sound.trie at o.stands.shown)))
+    (ap (λ m. with_value m k x) (map_is v o.tree o.stands.is) ∙
+    exchange_inserts (item n k (found k o.tree).value) (item n k x) (items o.tree) (items (put place new)) exchange.exchange refl (content_rises o.tree o.stands.sound.trie) (are_keys o.tree o.stands.sound.trie))
   where
-    e : (d : Entry) × (v.top ≡ Some d)
-    e = top_of v held.tree held.is
-
-    t : (u : Tree) × IsTree v e.0 u
-    t = plain_tree v e.0 e.1 plain
-
-    same : t.0 ≡ held.tree
-    same = some_injective (sym t.1.is ∙ held.is)
-
-    y : Item
-    y = found k held.tree
-
     new : Tree
     new = leaf n k x
 
-    trie : IsTrie held.tree
-    trie = subst IsTrie same t.1.sound.trie
+    place : Within (leaf n k (found k o.tree).value) o.tree
+    place = subst (λ m. Within (leaf m k (found k o.tree).value) o.tree) o.number
+        (subst (λ l. Within (leaf (found k o.tree).number l (found k o.tree).value) o.tree) key (found_place k o.tree))
 
-    place : Within (leaf n k (found k held.tree).value) held.tree
-    place = subst (λ m. Within (leaf m k (found k held.tree).value) held.tree) held.number
-        (subst (λ l. Within (leaf (found k held.tree).number l (found k held.tree).value) held.tree) held.key (found_place k held.tree))
+    at : slice_get v.leaves n ≡ Some (record { key = k; value = (found k o.tree).value })
+    at = o.at ∙ ap (λ l. Some (item_record (item n l (found k o.tree).value))) key
 
-    at : slice_get v.leaves n ≡ Some (record { key = k; value = (found k held.tree).value })
-    at = held.at ∙ ap (λ l. Some (item_record (item n l (found k held.tree).value))) held.key
+    exchange : IsExchanged (item n k (found k o.tree).value) (item n k x) o.tree (put place (leaf n k x))
+    exchange = exchanged_in_whole place (leaf n k x) (item n k (found k o.tree).value) (item n k x) o.stands.sound.trie (exchanged_leaf n n k (found k o.tree).value x (trie_within place o.stands.sound.trie))
 
-    exchange : IsExchanged (item n k (found k held.tree).value) (item n k x) held.tree (put place (leaf n k x))
-    exchange = exchanged_in_whole place (leaf n k x) (item n k (found k held.tree).value) (item n k x) trie (exchanged_leaf n n k (found k held.tree).value x (trie_within place trie))
-
--- ---- what the map has for the key
 -- the value that stands in the leaf of a held key
-pub held_value : (u v : PlainView) (k : Key) (n : ℕ) (l : LeafRecord) → ShowsSoundTree u → u ≡ v → IsHeldInLeaf v k n → l ≡ get_or u.leaves n l → value_at (trie_map v) k ≡ Some l.value
-held_value u v k n l plain same held at =
-    let e = top_of v held.tree held.is in
-    let t = plain_tree v e.0 e.1 (subst ShowsSoundTree same plain) in
-    let trie = subst IsTrie (some_injective (sym t.1.is ∙ held.is)) t.1.sound.trie in
-    let leaf = read_at v.leaves n (item_record (found k held.tree)) l held.at (rw (← same) at) in
-    ap (λ m. value_at m k) (map_is v held.tree held.is) ∙ (value_found k held.tree trie held.key ∙ ap (λ (r : LeafRecord). Some r.value) (sym leaf))
-
-pub absent_value : (v : PlainView) (k : Key) (e : Entry) (t : Tree) → IsTree v e t → IsAbsentFrom k t → value_at (trie_map v) k ≡ None
-absent_value v k e t i o = ap (λ m. value_at m k) (map_is v t i.is) ∙ value_missed k t i.sound.trie (λ same. o.differ.differ (ap (λ l. bit_of l o.position) (sym same)))
+pub held_value : (u v : PlainView) (k : Key) (n : ℕ) (l : LeafRecord) → u ≡ v → IsHeldInLeaf v k n → l ≡ get_or u.leaves n l → value_at (trie_map v) k ≡ Some l.value
+held_value u v k n l same (e, o, key) at =
+    let is : l ≡ get_or v.leaves n l = rw (← same) at in end_found o l is (ap (λ (r : LeafRecord). r.key) (end_read o l is) ∙ key)
 
 -- ---- what the calls answer
 pub added_reply : (m : Map) (k : Key) (x : ℕ) → value_at m k ≡ None → (Inserted ≡ reply_of m (Insert k x)) × (New ≡ reply_of m (Upsert k x)) × (with_value m k x ≡ map_after m (Insert k x))

@@ -1,24 +1,26 @@
 -- The tree of a sequential trie, and its map.
-use Rattle.std.proofs.Common.{◌≡◌, refl, ap, sym, ◌∙◌, subst, Option, Some, None, []}
+use Rattle.std.proofs.Common.{◌≡◌, ◌≢◌, ℕ, refl, ap, sym, ◌∙◌, subst, Option, Some, None, [], get_or}
 use Rattle.std.specs.Prelude.{IsSomeAnd, MatchOption, option_and_then}
+use Rattle.std.specs.Vec.{vec_capacity}
 use Rattle.pieces.specs.Piece.{Place}
 use Rattle.compound_node.specs.Nodes.{height_of}
 use Rattle.compound_node.specs.declared.entries.Entry.{Entry}
-use Rattle.insert_cases.proofs.Choosing.{some_injective}
+use Rattle.finite_map.specs.Maps.{value_at}
 use Rattle.tries.specs.Content.{items, pairs}
 use Rattle.tries.specs.Keys.{Key}
+use Rattle.tries.specs.Search.{found}
 use Rattle.tries.specs.Tree.{Tree, subtrie}
-use Rattle.plain_records.specs.Store.{IsSound, ShowsTree, entry_tree}
+use Rattle.plain_records.specs.declared.leaf.LeafRecord.{LeafRecord}
+use Rattle.plain_records.specs.Store.{IsSound, ShowsTree, entry_tree, item_record}
 use Rattle.plain_records.proofs.Reading.{read_sound, read_exact}
-use Rattle.plain_records.proofs.Searching.{IsOnWay}
-use Rattle.plain_trie.specs.Views.{PlainView, shown_tree, map_read, trie_map, ShowsSoundTree, ShowsTrie}
+use Rattle.plain_records.proofs.Searching.{read_at}
+use Rattle.plain_records.proofs.Values.{value_found, value_missed}
+use Rattle.plain_trie.specs.declared.plain.PlainTrie.TheInside.{Inside}
+use Rattle.plain_trie.specs.Views.{PlainView, EndsAt, IsTree, shown_tree, map_read, trie_map, ShowsSoundTree, ShowsTrie}
 
--- the tree of a trie from the root's entry on
-pub record IsTree (v : PlainView) (e : Entry) (t : Tree) : Type 0 where
-  pub is : shown_tree v ≡ Some t
-  pub head : subtrie t ≡ Place e
-  pub sound : IsSound t
-  pub shown : ShowsTree v.nodes v.leaves t
+-- what the contract sees of a trie
+abbrev pub view : Inside → PlainView
+view i = record { nodes = i.nodes.items; leaves = i.leaves.items; top = i.top; node_capacity = vec_capacity i.nodes; leaf_capacity = vec_capacity i.leaves }
 
 some_and : (o : Option Tree) (P : Tree → Type 0) → IsSomeAnd o P → (t : Tree) × (o ≡ Some t) × P t
 some_and None P h = elim h [ ]
@@ -56,12 +58,18 @@ shows_trie v i = go v.top refl
 pub map_is : (v : PlainView) (t : Tree) → shown_tree v ≡ Some t → trie_map v ≡ pairs (items t)
 map_is v t e = ap map_read e
 
--- where a search begins
-pub on_way_start : (v : PlainView) (k : Key) (e : Entry) → v.top ≡ Some e → ShowsSoundTree v → (t : Tree) × (shown_tree v ≡ Some t) × IsOnWay v.nodes v.leaves k t e
-on_way_start v k e top i =
-    let t = plain_tree v e top i in
-    (t.0, t.1.is, record { part = t.0; head = t.1.head; shown = t.1.shown; built = t.1.sound.built; same = refl })
+-- ---- the leaf at which a search ends
+module _ {v : PlainView} {e : Entry} {k : Key} {n : ℕ} (o : EndsAt v e k n) where
+  pub end_read : (l : LeafRecord) → l ≡ get_or v.leaves n l → l ≡ item_record (found k o.tree)
+  end_read l at = read_at v.leaves n (item_record (found k o.tree)) l o.at at
 
--- the same of any reading of the trie's tree
-pub tree_once : (v : PlainView) (t u : Tree) → shown_tree v ≡ Some t → shown_tree v ≡ Some u → t ≡ u
-tree_once v t u e f = some_injective (sym e ∙ f)
+  -- it has the key, or no leaf has it
+  pub end_found : (l : LeafRecord) → l ≡ get_or v.leaves n l → l.key ≡ k → value_at (trie_map v) k ≡ Some l.value
+  end_found l at key =
+      let same = end_read l at in
+      ap (λ m. value_at m k) (map_is v o.tree o.stands.is) ∙
+      (value_found k o.tree o.stands.sound.trie (sym (ap (λ (r : LeafRecord). r.key) same) ∙ key) ∙ ap (λ (r : LeafRecord). Some r.value) (sym same))
+
+  pub end_missed : (l : LeafRecord) → l ≡ get_or v.leaves n l → l.key ≢ k → value_at (trie_map v) k ≡ None
+  end_missed l at other =
+      ap (λ m. value_at m k) (map_is v o.tree o.stands.is) ∙ value_missed k o.tree o.stands.sound.trie (λ e. other (ap (λ (r : LeafRecord). r.key) (end_read l at) ∙ e))

@@ -40,10 +40,21 @@ abbrev pub ShowsTrie : PlainView → Type 0
 ShowsTrie v = MatchOption v.top (trie_map v ≡ []) (λ e.
     (t : Tree) × (subtrie t ≡ Place e) × IsSound t × ShowsTree v.nodes v.leaves t × (trie_map v ≡ pairs (items t)))
 
--- the key's search ends at its own leaf, which is the record of this number
-pub record IsHeldInLeaf (v : PlainView) (k : Key) (n : ℕ) : Type 0 where
+-- the tree that a trie with this root's entry shows
+pub record IsTree (v : PlainView) (e : Entry) (t : Tree) : Type 0 where
+  pub is : shown_tree v ≡ Some t
+  pub head : subtrie t ≡ Place e
+  pub sound : IsSound t
+  pub shown : ShowsTree v.nodes v.leaves t
+
+-- the key's search, from the root's entry on, ends at the leaf that is the record of this number
+pub record EndsAt (v : PlainView) (e : Entry) (k : Key) (n : ℕ) : Type 0 where
+  pub top : v.top ≡ Some e
   pub tree : Tree
-  pub is : shown_tree v ≡ Some tree
+  pub stands : IsTree v e tree
   pub number : (found k tree).number ≡ n
-  pub key : (found k tree).key ≡ k
   pub at : slice_get v.leaves n ≡ Some (item_record (found k tree))
+
+-- that leaf has the key
+abbrev pub IsHeldInLeaf : PlainView → Key → ℕ → Type 0
+IsHeldInLeaf v k n = (e : Entry) × (end : EndsAt v e k n) × ((found k end.tree).key ≡ k)

@@ -6,14 +6,14 @@ ghost use Rattle.compound_node.specs.Nodes.{piece};
 ghost use Rattle.finite_map.specs.Maps.{value_at, with_value};
 ghost use Rattle.finite_map.specs.declared.Call.TheVariants.{Insert, Upsert};
 ghost use Rattle.finite_map.specs.declared.Reply.TheVariants.{Inserted, New};
-ghost use Rattle.tries.specs.Search.{seek, found};
+ghost use Rattle.tries.specs.Search.{seek};
 
 mod scan;
 
 use compound_node::{Entry, Node};
 use finite_map::Reply;
-use key_bits::Key;
-use plain_records::{Addition, LeafRecord, add_below, make_room, make_root, raise};
+use key_bits::{Key, mismatch};
+use plain_records::{LeafRecord, make_room, make_root, raise};
 use std::alloc::{AllocError, Global};
 use std::marker::Model;
 
@@ -56,9 +56,7 @@ impl PlainTrie {
     ghost use Rattle.plain_trie.specs.Cases.{TakesCase};
     ghost use Rattle.plain_records.specs.Heights.{KeepsHeights};
     ghost use Rattle.plain_trie.specs.Room.{KeepsRoom, IsTrieAnswer, IsOutOfMemory};
-    ghost use Rattle.plain_trie.specs.Views.{trie_map, ShowsTrie, IsHeldInLeaf, shown_tree};
-    ghost use Rattle.plain_records.specs.Store.{item_record};
-    ghost use Rattle.tries.specs.Tree.{Tree};
+    ghost use Rattle.plain_trie.specs.Views.{trie_map, EndsAt, ShowsTrie, IsHeldInLeaf};
     ghost use Rattle.compound_node.specs.Nodes.{height_of};
 
     /// A trie without a key. It takes no memory yet.
@@ -157,8 +155,8 @@ impl PlainTrie {
         Ok(Reply::Was(held))
     }
 
-    /// Adds `key` with `value` if it is absent, and returns `None`; else returns the place of its leaf record. At the end of the search
-    /// room is made for the leaf, a node for each height, and a new root. So a refusal, `AllocError`, changes nothing.
+    /// Adds `key` with `value` if it is absent, and returns `None`; else returns the place of its leaf record. Room is made first for the
+    /// leaf, a node for each height, and a new root. So a refusal, `AllocError`, changes nothing.
     fn add_absent(&mut self, key: &Key, value: u64) -> Result<Option<usize>, AllocError>
         ensures ok { IfOk result (λ held. MatchOption held
             ((value_at (trie_map self.old) key.now ≡ None) × (trie_map self.new ≡ with_value (trie_map self.old) key.now value))
@@ -172,20 +170,19 @@ impl PlainTrie {
             self.plant(key, value)?;
             return Ok(None);
         };
+        let held = self.find(key, top);
+        let Some(position) = mismatch(key, &self.leaves[held].key) else {
+            return Ok(Some(held));
+        };
         let count = usize::from(top.height()) + 1;
-        match add_below(&mut self.nodes, &mut self.leaves, top, key, value, count) {
-            Addition::Held(leaf) => Ok(Some(leaf as usize)),
-            Addition::Refused => Err(AllocError),
-            Addition::Above { position, leaf } => {
-                let risen = raise(&mut self.nodes, top, key, position, leaf);
-                self.top = Some(make_root(&mut self.nodes, risen));
-                Ok(None)
-            }
-            Addition::Below(risen) => {
-                self.top = Some(make_root(&mut self.nodes, risen));
-                Ok(None)
-            }
-        }
+        let leaf = make_room(&mut self.nodes, &mut self.leaves, count)?;
+        self.leaves.push_reserved(LeafRecord {
+            key: key.copy(),
+            value,
+        });
+        let risen = raise(&mut self.nodes, top, key, position, leaf);
+        self.top = Some(make_root(&mut self.nodes, risen));
+        Ok(None)
     }
 
     /// Adds `key` with `value` to a trie without keys. If memory is refused, it returns `AllocError`, and nothing is changed.
@@ -221,8 +218,7 @@ impl PlainTrie {
     /// The place of the leaf record at which the search for `key` ends, from the root's entry `top` down.
     fn find(&self, key: &Key, top: Entry) -> usize
         requires { self.now.top ≡ Some top }
-        ensures number { (t : Tree) → shown_tree self.now ≡ Some t → (found key.now t).number ≡ result }
-        ensures record { (t : Tree) → shown_tree self.now ≡ Some t → slice_get self.now.leaves result ≡ Some (item_record (found key.now t)) }
+        ensures { EndsAt self.now top key.now result }
     {
         let mut entry = top;
         loop {

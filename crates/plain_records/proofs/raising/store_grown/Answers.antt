@@ -1,8 +1,5 @@
 -- A whole node takes the old one's record.
-use Rattle.std.proofs.Common.{◌≡◌, false, refl, sym, subst, arith}
-use Rattle.std.proofs.lemmas.Bool.{false≢true}
-use Rattle.insert_cases.specs.Grown.{is_whole}
-use Rattle.insert_cases.specs.declared.growth.Grown.{Grown}
+use Rattle.std.proofs.Common.{arith}
 use Rattle.plain_records.proofs.Heights.{heights_whole}
 use Rattle.compound_node.specs.Nodes.{IsBuiltFrom}
 use Rattle.plain_records.proofs.Storing.{set_other, set_same}
@@ -15,10 +12,10 @@ returns-in-One-clause-heights c = λ old P at s steady.
 pub returns-in-One-clause-others : goal.returns-in-One-clause-others
 returns-in-One-clause-others c = λ m v ne at. rw c.put_node.ensures.nodes (set_other c.args.nodes.now.items c.args.number m c.in-One.node v ne at)
 
-pub returns-in-One-clause-side : goal.returns-in-One-clause-side
-returns-in-One-clause-side c = λ old P at s cut big. absurd (false≢true (sym (subst (λ (g : Grown). is_whole g ≡ false) c.in-One.is cut)))
-
-pub returns-in-One-clause-whole : goal.returns-in-One-clause-whole
-returns-in-One-clause-whole c = λ old P s is.
+pub returns-in-One-clause-does : goal.returns-in-One-clause-does
+returns-in-One-clause-does c = λ old P at s big.
     let built : IsBuiltFrom c.in-One.node P = rw c.in-One.is at s in
-    (c.in-One.node, rw c.put_node.ensures.nodes (set_same c.args.nodes.now.items c.args.number c.in-One.node (omega (arith, c.requires.number, c.args.nodes.now.ok.0))), built, refl)
+    rw c.in-One.is (c.in-One.node, rw c.put_node.ensures.nodes (set_same c.args.nodes.now.items c.args.number c.in-One.node (omega (arith, c.requires.number, c.args.nodes.now.ok.0))), built)
+
+pub returns-in-Two-clause-does : goal.returns-in-Two-clause-does
+returns-in-Two-clause-does c = λ old P at s big. rw c.in-Two.is (c.split.ensures.side old P at (rw c.in-Two.is at s) big)

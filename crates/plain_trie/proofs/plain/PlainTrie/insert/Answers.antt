@@ -15,7 +15,7 @@ returns-clause-ok c = elim c.match-branch-2.branch [
       let a = rw w.in-Some.is at c.in_ok-add_absent.ensures.ok in
       let k = c.args.key.now in
       let l = w.index.result.now in
-      let held = held_value _ c.args.self.now k w.in-Some.leaf l c.self.invariant (c.self.view_is ∙ a.1) a.0 w.index.ensures in
+      let held = held_value _ c.args.self.now k w.in-Some.leaf l (c.self.view_is ∙ a.1) a.0 w.index.ensures in
       let r = held_reply (trie_map c.args.self.now) k c.args.value l.value held in
       rw w.result-is (r.0, ap trie_map a.1 ∙ r.2)
 ]
