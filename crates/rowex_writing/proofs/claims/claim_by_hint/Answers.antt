@@ -4,7 +4,7 @@ use Rattle.rowex_records.specs.Claims.{IsAnothersTo, count_of, record_of}
 use Rattle.rowex_records.proofs.Claimed.{all_earlier, claims_holds, missed_before, more_since}
 use Rattle.rowex_writing.proofs.Locking.{goes_more, seat_of}
 use Rattle.rowex_writing.proofs.Making.{none_on, claim_on, steps_rise}
-use Rattle.rowex_writing.proofs.claims.claim_next.Goals as goal
+use Rattle.rowex_writing.proofs.claims.claim_by_hint.Goals as goal
 
 pub claim_record-requires-clause-own : goal.claim_record-requires-clause-own
 claim_record-requires-clause-own g c = seat_of c.args.table.now g.G.Gate.becomes (c.args.seat.now, c.args.gate.now) (c.claim_spare.new.seat, c.claim_spare.new.gate) c.claim_spare.ensures.goes c.requires.own
