@@ -38,17 +38,8 @@ returns-clause-made g c = λ news node has spells b. (
 pub push-requires : goal.push-requires
 push-requires g c = let same = ap length c.claim_node.ensures.made in (omega arith, omega (arith, same, c.requires.room))
 
-pub fill_words-requires-clause-range : goal.fill_words-requires-clause-range
-fill_words-requires-clause-range g c = c.in_ok-number.ensures.claims.0
-
 pub fill_words-requires-clause-held : goal.fill_words-requires-clause-held
 fill_words-requires-clause-held g c = more_is_claimed (a_node c.in_ok-number.number) c.args.seat.now.known c.claim_node.new.seat.known c.in_ok-number.ensures.claims.1
-
-pub fill_words-requires-clause-spelling : goal.fill_words-requires-clause-spelling
-fill_words-requires-clause-spelling g c = c.requires.spelling
-
-pub claim_node-requires : goal.claim_node-requires
-claim_node-requires g c = record { building = c.requires.building }
 
 pub returns-in_err-number-clause-same : goal.returns-in_err-number-clause-same
 returns-in_err-number-clause-same g c = λ none. (c.in_err-number.ensures.claims, c.claim_node.ensures.made)

@@ -48,9 +48,3 @@ returns-clause-made g c = λ news node takes can b.
     (c.add_leaf.ensures node (growing_leaf c.args.words.now node c.args.new.now _ _ takes (affects c.args.words.now node c.args.new.now _ _ takes c.affected_in-first.ensures.from c.affected_in-first.ensures.upto) can)) in
     low_made c.args.table.now c.make_from_words.new.seat c.make_from_words.new.build.made.items news built.node _ c.make_from_words.result built.has built.built
     (c.make_from_words.ensures.made news built.node built.has built.spells b)
-
-pub returns-clause-makes : goal.returns-clause-makes
-returns-clause-makes g c = c.make_from_words.ensures.makes
-
-pub returns-clause-same : goal.returns-clause-same
-returns-clause-same g c = c.make_from_words.ensures.same

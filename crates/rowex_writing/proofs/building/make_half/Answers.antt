@@ -19,6 +19,3 @@ returns-in-One-clause-makes g c = makes_none ((c.args.seat.now, c.args.gate.now)
 
 pub returns-in-Same-clause-makes : goal.returns-in-Same-clause-makes
 returns-in-Same-clause-makes g c = makes_none ((c.args.seat.now, c.args.gate.now), c.args.build.now)
-
-pub returns-in-Many-clause-makes : goal.returns-in-Many-clause-makes
-returns-in-Many-clause-makes g c = c.make_node.ensures.makes

@@ -10,9 +10,3 @@ pub returns-clause-made : goal.returns-clause-made
 returns-clause-made g c = λ news b.
     has_made c.args.table.now c.make_from_words.new.seat c.make_from_words.new.build.made.items news c.args.node.now c.make_from_words.result c.pack_node-words.ensures.fits
     (c.make_from_words.ensures.made news c.args.node.now c.pack_node-words.ensures.fits (sym c.pack_node-words.ensures.words) b)
-
-pub returns-clause-makes : goal.returns-clause-makes
-returns-clause-makes g c = c.make_from_words.ensures.makes
-
-pub returns-clause-same : goal.returns-clause-same
-returns-clause-same g c = c.make_from_words.ensures.same

@@ -33,12 +33,6 @@ returns-in_ok-entry-in-One-clause-made g c = λ news b.
 pub returns-in_err-one-in-Two-clause-made : goal.returns-in_err-one-in-Two-clause-made
 returns-in_err-one-in-Two-clause-made g c = λ news b. rw c.from_residual-in_err-one-in-Two.ensures (c.in_err-one-in-Two.ensures.made news b)
 
-pub make_node-requires-clause-building : goal.make_node-requires-clause-building
-make_node-requires-clause-building g c = c.requires.building
-
-pub make_half-requires-clause-building : goal.make_half-requires-clause-building
-make_half-requires-clause-building g c = c.requires.building
-
 pub make_half-requires-clause-room : goal.make_half-requires-clause-room
 make_half-requires-clause-room g c = let room = c.requires.room in omega (arith, room)
 

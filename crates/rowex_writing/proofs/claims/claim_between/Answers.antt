@@ -31,9 +31,6 @@ loop-first-preserved g c =
       later = omega (arith, rises, i.later);
     }
 
-pub returns-clause-few : goal.returns-clause-few
-returns-clause-few g c = omega (arith, c.loop-first.invariant.count, c.loop-first.invariant.within.0, c.loop-first.invariant.within.1)
-
 pub loop-first-init : goal.loop-first-init
 loop-first-init g c = record {
   within = (omega arith, c.requires.range.0);
@@ -43,9 +40,6 @@ loop-first-init g c = record {
   count = omega arith;
   later = omega arith;
 }
-
-pub claim_by_hint-requires-clause-kind : goal.claim_by_hint-requires-clause-kind
-claim_by_hint-requires-clause-kind g c = omega (arith, c.min-end.ensures, c.requires.range.1)
 
 pub returns-in-Some-clause-claims : goal.returns-in-Some-clause-claims
 returns-in-Some-clause-claims g c =
@@ -62,6 +56,3 @@ returns-in-Some-clause-few g c =
 
 pub returns-clause-claims : goal.returns-clause-claims
 returns-clause-claims g c = (c.loop-first.invariant.own, λ q low high. c.loop-first.invariant.missed q low (omega (arith, high, c.loop-first-test.false)))
-
-pub returns-clause-goes : goal.returns-clause-goes
-returns-clause-goes g c = c.loop-first.invariant.goes

@@ -32,12 +32,3 @@ returns-clause-claims g c = (
   more_since (record_of c.args.kind c.in_ok-number.number) c.args.seat.now.known c.claim_spare.new.seat.known c.claim_record.new.seat.known c.in_default.ensures.claims
       (claims_holds c.args.table.now g.G.Gate.becomes (record_of c.args.kind) _ _ c.in_ok-number.number (c.claim_spare.new.seat, c.claim_spare.new.gate) (c.claim_record.new.seat, c.claim_record.new.gate) c.in_ok-number.ensures.claims),
 )
-
-pub returns-in-Some-clause-goes : goal.returns-in-Some-clause-goes
-returns-in-Some-clause-goes g c = c.in-Some.ensures.goes
-
-pub returns-in-Some-clause-claims : goal.returns-in-Some-clause-claims
-returns-in-Some-clause-claims g c = c.in-Some.ensures.claims
-
-pub returns-in-Some-clause-few : goal.returns-in-Some-clause-few
-returns-in-Some-clause-few g c = omega (arith, c.in-Some.ensures.few)

@@ -11,9 +11,6 @@ use Rattle.rowex_writing.proofs.Making.{building_on}
 use Rattle.rowex_writing.proofs.Walked.{missed_as, walk_on, walk_ends}
 use Rattle.rowex_writing.proofs.claims.claim_node.Goals as goal
 
-pub claim_on_walk-claimed-requires : goal.claim_on_walk-claimed-requires
-claim_on_walk-claimed-requires g c = record { own = c.requires.building.1.seat }
-
 pub load_states-requires : goal.load_states-requires
 load_states-requires g c =
     let (news, b) = c.requires.building in
@@ -46,12 +43,6 @@ returns-clause-walk g c = λ since w.
     (c.load_states.ensures.seen r (subst (λ z. Contains z r) (sym c.as_slice.ensures.value) has)))))
     (walk_on c.args.table.now g.G.Gate.becomes since (c.claim_on_walk-claimed.new.seat, c.claim_on_walk-claimed.new.gate) (c.load_states.new.seat, c.load_states.new.gate) c.args.build.now.made.items c.args.build.now.made.items
     c.claim_on_walk-claimed.new.hint.next c.claim_on_walk-claimed.new.left c.load_states.ensures.goes (λ r has. has) walk)
-
-pub returns-in-Some-clause-goes : goal.returns-in-Some-clause-goes
-returns-in-Some-clause-goes g c = c.in-Some.ensures.goes
-
-pub returns-in-Some-clause-claims : goal.returns-in-Some-clause-claims
-returns-in-Some-clause-claims g c = c.in-Some.ensures.claims
 
 pub returns-in-Some-clause-walk : goal.returns-in-Some-clause-walk
 returns-in-Some-clause-walk g c = λ since w.

@@ -22,9 +22,6 @@ raise_on-offset_bounds-way-level g t c = let h = slice_get_within c.args.way.now
 pub raise_on-make_one_entry-requires-clause-risen : goal.raise_on-make_one_entry-requires-clause-risen
 raise_on-make_one_entry-requires-clause-risen g t c = rising_on_at_end c.requires.up
 
-pub raise_on-make_one_entry-requires-clause-room : goal.raise_on-make_one_entry-requires-clause-room
-raise_on-make_one_entry-requires-clause-room g t c = omega (arith, c.requires.room)
-
 pub raise_on-returns-then-level-rise-clause-makes : goal.raise_on-returns-then-level-rise-clause-makes
 raise_on-returns-then-level-rise-clause-makes g t c = makes_within c.make_one_entry.ensures.makes (omega arith) (omega arith)
 
@@ -43,15 +40,6 @@ raise_on-returns-then-level-rise-clause-low g t c = λ s words at h.
 -- ---- further up
 pub raise_on-raise_above-requires : goal.raise_on-raise_above-requires
 raise_on-raise_above-requires g t c = λ κs le. (omega (arith, c.decreases), (le, (c.requires.up, (c.if-level-rise.false, c.requires.room))))
-
-pub raise_on-returns-clause-makes : goal.raise_on-returns-clause-makes
-raise_on-returns-clause-makes g t c = c.raise_above.ensures.makes
-
-pub raise_on-returns-clause-made : goal.raise_on-returns-clause-made
-raise_on-returns-clause-made g t c = c.raise_above.ensures.made
-
-pub raise_on-returns-clause-low : goal.raise_on-returns-clause-low
-raise_on-returns-clause-low g t c = c.raise_above.ensures.low
 
 pub raise_above-unreachable-requires : goal.raise_above-unreachable-requires
 raise_above-unreachable-requires g t c = subst IsSplit c.in-Whole.is (c.requires.up.split (up_low c.requires.up c.requires.above))

@@ -39,6 +39,3 @@ returns-in-Split-clause-low g c = λ h low.
 
 pub returns-in-Whole-clause-makes : goal.returns-in-Whole-clause-makes
 returns-in-Whole-clause-makes g c = makes_none ((c.args.seat.now, c.args.gate.now), c.args.build.now)
-
-pub returns-in-Split-clause-makes : goal.returns-in-Split-clause-makes
-returns-in-Split-clause-makes g c = c.make_node.ensures.makes

@@ -33,14 +33,8 @@ returns-then-can_take_leaf-clause-made g c = λ news node takes b.
 pub returns-in_err-entry-clause-made : goal.returns-in_err-entry-clause-made
 returns-in_err-entry-clause-made g c = λ news node takes b. rw c.from_residual.ensures (c.in_err-entry.ensures.made news node takes ((c.can_take_leaf.ensures node takes.is.has takes.is.spells).0 c.if-can_take_leaf.true) b)
 
-pub returns-clause-made : goal.returns-clause-made
-returns-clause-made g c = c.make_with_leaf_by_value.ensures.made
-
 pub returns-in_err-entry-clause-makes : goal.returns-in_err-entry-clause-makes
 returns-in_err-entry-clause-makes g c = rw c.from_residual.ensures (makes_failed (makes_within c.in_err-entry.ensures.makes (omega arith) (omega arith)))
 
 pub returns-then-can_take_leaf-clause-makes : goal.returns-then-can_take_leaf-clause-makes
 returns-then-can_take_leaf-clause-makes g c = makes_as (makes_within c.in_ok-entry.ensures.makes (omega arith) (omega arith))
-
-pub returns-clause-makes : goal.returns-clause-makes
-returns-clause-makes g c = c.make_with_leaf_by_value.ensures.makes

@@ -7,9 +7,6 @@ use Rattle.rowex_writing.proofs.Lifting.{low_at, number_is, up_first}
 use Rattle.rowex_writing.proofs.Walked.{makes_as, makes_failed, makes_then, makes_within}
 use Rattle.rowex_writing.proofs.rising.raise_grown.Goals as goal
 
-pub overflow_sub-top : goal.overflow_sub-top
-overflow_sub-top g c = omega (arith, c.requires.within)
-
 pub bounds-way-top : goal.bounds-way-top
 bounds-way-top g c = slice_get_within c.args.job.now.way.now (c.args.job.now.span.len - 1) c.requires.growing.step c.requires.growing.at
 
@@ -22,9 +19,6 @@ raise_lowest-requires-clause-range g c =
 
 pub raise_lowest-requires-clause-lowest : goal.raise_lowest-requires-clause-lowest
 raise_lowest-requires-clause-lowest g c = low_at c.requires.growing
-
-pub raise_lowest-requires-clause-room : goal.raise_lowest-requires-clause-room
-raise_lowest-requires-clause-room g c = omega (arith, c.requires.room)
 
 pub returns-in_err-risen-clause-makes : goal.returns-in_err-risen-clause-makes
 returns-in_err-risen-clause-makes g c = rw c.from_residual.ensures (makes_failed (makes_within c.in_err-risen.ensures.makes (omega arith) (omega (arith, c.requires.within))))
@@ -41,9 +35,6 @@ raise_on-requires-clause-up g c =
     let raising = c.in_ok-risen.ensures.made (low_at b) in
     up_first b c.in_ok-risen.risen c.in_ok-risen.stays
     c.in_ok-risen.ensures.makes.goes.stays.1 raising c.in_ok-risen.ensures.level
-
-pub raise_on-requires-clause-room : goal.raise_on-requires-clause-room
-raise_on-requires-clause-room g c = omega (arith, c.in_ok-risen.ensures.makes.more, c.requires.room)
 
 pub returns-in_err-entry-clause-makes : goal.returns-in_err-entry-clause-makes
 returns-in_err-entry-clause-makes g c = rw c.from_residual-in_err-entry.ensures (makes_failed (makes_then c.in_ok-risen.ensures.makes c.in_err-entry.ensures.makes (omega arith) (omega (arith, c.requires.within))))
