@@ -63,7 +63,7 @@ use Rattle.rowex_reading.specs.declared.descent.Found.TheVariants.{Nothing, Leaf
 use Rattle.rowex_writing.specs.declared.plan.Plan.{Plan}
 use Rattle.rowex_writing.specs.declared.plan.Plan.TheVariants.{Answer, Change}
 use Rattle.rowex_writing.specs.declared.plan.Span.{Span}
-use Rattle.rowex_writing.proofs.Planning.{chosen_within}
+use Rattle.rowex_writing.proofs.Planning.{chosen_within, same_span}
 use Rattle.rowex_writing.proofs.Above.{locked_at, holds_above}
 use Rattle.rowex_writing.proofs.Shapes.{IsStepOf, locked_shape, shape_affects, way_node_locked}
 use Rattle.rowex_writing.proofs.Staging.{stage_of_held}
@@ -142,14 +142,6 @@ one_chain way level first last c h is case = record {
   stops = λ l s u next e f full. absurd (let (b, is_case) = case_there way level first last c h is s e in let room = case_room s.height s.count b (sym is_case ∙ case) in omega (arith, full));
 }
 
-abbrev len_of : Plan → ℕ
-len_of (Answer reply) = 0
-len_of (Change span deed) = span.len
-
-abbrev plan_end : Plan → ℕ
-plan_end (Answer reply) = 0
-plan_end (Change span deed) = span.end
-
 abbrev IsGrowOf : (position : ℕ) → Plan → Type 0
 IsGrowOf position (Answer reply) = ⊥
 IsGrowOf position (Change span (Grow p)) = p ≡ position
@@ -178,8 +170,8 @@ module _ (k : Known) (m : ℕ) (key : Key) (way : List PathNode) (len end positi
         found_is = ap (λ z. Leaf number value (Some z)) pos;
         is_level = subst (λ z. IsLevel way z level) pos at;
         is_chosen = is;
-        len_is = ap len_of same;
-        chain = subst (IsChainEnd way c.level) (sym (ap plan_end same)) chain;
+        len_is = (same_span same).0;
+        chain = subst (IsChainEnd way c.level) (sym (same_span same).1) chain;
         affected = subst (λ z. AreAffected k m key way (Leaf number value (Some z)) low high) pos affected;
       }
 

@@ -1,4 +1,4 @@
--- How long parts of a list are, and how many steps claims make.
+-- How long parts of a list are, how many steps claims make, and how many node records are made.
 use Rattle.std.proofs.Common.{◌≡◌, ℕ, zero, suc, ◌+◌, ◌-◌, ◌*◌, ◌<◌, ◌≤◌, List, [], ◌∷◌, ◌++◌, length, take, drop, refl, ap, ◌∙◌, arith}
 use Rattle.std.specs.Prelude.{Contains, slice_range}
 use Rattle.std.proofs.lemmas.List.{length-drop, length-map, length-take-le}
@@ -15,7 +15,6 @@ use Rattle.rowex_reading.proofs.Counting.{runs_count}
 use Rattle.rowex_reading.specs.declared.descent.Found.{Found}
 use Rattle.rowex_reading.specs.declared.descent.Found.TheVariants.{Nothing, Leaf}
 use Rattle.rowex_writing.specs.Building.{HasLeafMade, IsBuilding}
-use Rattle.rowex_writing.specs.Counts.{level_steps, node_steps}
 use Rattle.rowex_writing.specs.Locks.{numbers_of}
 use Rattle.rowex_writing.specs.Putting.{leaf_found}
 use Rattle.rowex_writing.specs.Walks.{nodes_among}
@@ -53,67 +52,7 @@ module _ {G : Type 0} (table : TableView) (becomes : G → Event → G → Type 
       let one = runs_count table becomes (LoadState (kind number) 0 ∷ Claim (kind number) 0 ∷ []) c.before b c.one.does.steps in
       omega (arith, before, one)
 
--- ---- steps of the nodes that are made anew, from a level up to another: of one entry, of one node, and of a node and those above it
-pub entry_few : (j k left looks end level : ℕ) → j ≤ k + left + node_steps + looks → j ≤ k + left + (level - end + 1) * level_steps + looks
-entry_few j k left looks end level few = omega arith
-
-pub level_few : (j k left looks end level : ℕ) → j ≤ k + left + level_steps + looks → j ≤ k + left + (level - end + 1) * level_steps + looks
-level_few j k left looks end level few = omega arith
-
-pub levels_few : (i j k left looks end level : ℕ) → end < level → j ≤ k + left + level_steps + 0 → i ≤ j + (level - 1 - end + 1) * level_steps + looks → i ≤ k + left + (level - end + 1) * level_steps + looks
-levels_few i j k left looks end level above first rest = omega arith
-
--- of one record, and of two
-pub one_few : (j k left looks : ℕ) → j ≤ k + left + node_steps + looks → j ≤ k + left + 2 * node_steps + looks
-one_few j k left looks few = omega arith
-
-pub two_few : (i j k left looks : ℕ) → j ≤ k + left + node_steps + 0 → i ≤ j + node_steps + looks → i ≤ k + left + 2 * node_steps + looks
-two_few i j k left looks first rest = omega arith
-
--- ---- records that are made: of one node, or two; from a level up to another; and with those of the lowest node
-pub one_more : (made after : ℕ) → after ≤ made + 1 → after ≤ made + 2
-one_more made after more = omega arith
-
-pub two_more : (made mid after : ℕ) → mid ≤ made + 1 → after ≤ mid + 1 → after ≤ made + 2
-two_more made mid after first rest = omega arith
-
-pub entry_more : (made after others : ℕ) → after ≤ made + 1 → after ≤ made + 2 * others + 1
-entry_more made after others more = omega arith
-
-pub level_more : (made after end level : ℕ) → end < level → after ≤ made + 2 → after ≤ made + 2 * (level - end) + 1
-level_more made after end level above more = omega arith
-
-pub levels_more : (made mid after end level : ℕ) → end < level → mid ≤ made + 2 → after ≤ mid + 2 * (level - 1 - end) + 1 → after ≤ made + 2 * (level - end) + 1
-levels_more made mid after end level above first rest = omega arith
-
-pub lowest_more : (made after others : ℕ) → after ≤ made + 2 → after ≤ made + 2 * others + 3
-lowest_more made after others more = omega arith
-
-pub all_more : (made mid after others : ℕ) → mid ≤ made + 2 → after ≤ mid + 2 * others + 1 → after ≤ made + 2 * others + 3
-all_more made mid after others first rest = omega arith
-
--- ---- node records that are made so, and the one that is lacking, if one is
-pub one_node : (made after lacks : ℕ) → after + lacks ≤ made + 1 → after + lacks ≤ made + 2
-one_node made after lacks more = omega arith
-
-pub two_nodes : (made mid after lacks : ℕ) → mid + 0 ≤ made + 1 → after + lacks ≤ mid + 1 → after + lacks ≤ made + 2
-two_nodes made mid after lacks first rest = omega arith
-
-pub entry_nodes : (made after lacks others : ℕ) → after + lacks ≤ made + 1 → after + lacks ≤ made + (2 * others + 1)
-entry_nodes made after lacks others more = omega arith
-
-pub level_nodes : (made after lacks end level : ℕ) → end < level → after + lacks ≤ made + 2 → after + lacks ≤ made + (2 * (level - end) + 1)
-level_nodes made after lacks end level above more = omega arith
-
-pub levels_nodes : (made mid after lacks end level : ℕ) → end < level → mid + 0 ≤ made + 2 → after + lacks ≤ mid + (2 * (level - 1 - end) + 1) → after + lacks ≤ made + (2 * (level - end) + 1)
-levels_nodes made mid after lacks end level above first rest = omega arith
-
-pub lowest_nodes : (made after lacks others : ℕ) → after + lacks ≤ made + 2 → after + lacks ≤ made + (2 * others + 3)
-lowest_nodes made after lacks others more = omega arith
-
-pub all_nodes : (made mid after lacks others : ℕ) → mid + 0 ≤ made + 2 → after + lacks ≤ mid + (2 * others + 1) → after + lacks ≤ made + (2 * others + 3)
-all_nodes made mid after lacks others first rest = omega arith
-
+-- ---- node records among those that are made
 -- where a leaf alone is made, none is
 pub no_nodes : {table : TableView} {a : SeatView} {made : List Rec} {x : Item} → HasLeafMade table a made x → length (nodes_among made) ≡ 0
 no_nodes leaf = ap (λ made. length (nodes_among made)) leaf.building.listed

@@ -64,6 +64,7 @@ use Rattle.rowex_writing.specs.Locks.{AreNodes, HasLockedSpan, Works, numbers_of
 use Rattle.rowex_writing.specs.Putting.{IsSpotAbove}
 use Rattle.rowex_writing.specs.Retiring.{AreInTable}
 use Rattle.rowex_writing.specs.Walks.{nodes_among}
+use Rattle.rowex_writing.specs.declared.deeds.Job.{Job}
 use Rattle.rowex_writing.specs.declared.plan.Span.{Span}
 use Rattle.rowex_writing.specs.declared.remaking.NewLeaf.{NewLeaf}
 use Rattle.rowex_writing.proofs.Bridging.{IsGrowPlan, chain_at, found_below, grow_plan, part_at, leads_at, pulled_full, spot_of, top_within}
@@ -230,21 +231,21 @@ full_since layout key a b c Nodes count l =
 full_since layout key a b c Leaves count missed = λ q low room. (let (step, late, miss) = missed q low room in (step, le_trans count late, miss))
 
 -- ---- the leaf's record is made
-pub may_grow : (table : TableView) (a b : SeatView) (made : List Rec) (m : ℕ) (value : ℕ) (way : List PathNode) (found : Found) (span : Span) (aim : Aim) (new : NewLeaf) → HasTakenSpan table a m new.key.now way found span →
-    IsPlanned a.known m new.key.now way aim found (change span.len span.end (Grow new.position)) → ((s : PathNode) → slice_get way (span.len - 1) ≡ Some s → s.at ≡ new.at) → StaysLocked a.known b.known → HasLeafMade table b made (item new.number new.key.now value) →
-    MayGrow table b made way value span new
-may_grow table a b made m value way found span aim new t planned is_took stays made_leaf = record {
+pub may_grow : (table : TableView) (a b : SeatView) (made : List Rec) (m : ℕ) (job : Job) (aim : Aim) (new : NewLeaf) → HasTakenSpan table a m new.key.now job.way.now job.found job.span →
+    IsPlanned a.known m new.key.now job.way.now aim job.found (change job.span.len job.span.end (Grow new.position)) → ((s : PathNode) → slice_get job.way.now (job.span.len - 1) ≡ Some s → s.at ≡ new.at) → StaysLocked a.known b.known → HasLeafMade table b made (item new.number new.key.now job.value) →
+    MayGrow table b made job new
+may_grow table a b made m job aim new t planned is_took stays made_leaf = record {
   within = (omega (arith, upto, len_is), omega (arith, len_is, within));
   depth = w.depth;
-  nodes = λ n d low. (w.nodes n (get_or way n d) (slice_get-get_or way n d low)).2.range;
+  nodes = λ n d low. (w.nodes n (get_or job.way.now n d) (slice_get-get_or job.way.now n d low)).2.range;
   locked = record {
-    nodes = locked_same a.known b.known (span_numbers way span) stays.1 t.locked.nodes;
+    nodes = locked_same a.known b.known (span_numbers job.way.now job.span) stays.1 t.locked.nodes;
     top = λ z. subst IsSome (sym stays.2) (t.locked.top z);
     below = λ l. stays.2 ∙ t.locked.below l;
   };
   growing = record {
     step = s;
-    at = ap (slice_get way) last_is ∙ at;
+    at = ap (slice_get job.way.now) last_is ∙ at;
     upto = omega (arith, upto, len_is);
     low = (w.nodes plan.chosen.level s at).2.range;
     lowest = record {
@@ -256,12 +257,12 @@ may_grow table a b made m value way found span aim new t planned is_took stays m
       leaf_is = refl;
       made_leaf = made_leaf;
       found = subst (λ held. HasFoundBelow b.known held (record { since = m; item = x; mismatch = new.position; like = below.0 }) s.number words) (sym stays.1) (found_stays a.known b.known a.known.locks (record { since = m; item = x; mismatch = new.position; like = below.0 }) s.number words stays.0 below.1);
-      part = part_at table.layout a.known m new.key.now way found span t.possible t.own w t.locked t.checked new.position plan s at words held;
-      leads = leads_at table.layout a.known m new.key.now way found span t.possible t.own w t.locked t.checked new.position plan s at words held ∙ is_took s (ap (slice_get way) last_is ∙ at);
+      part = part_at table.layout a.known m new.key.now job.way.now job.found job.span t.possible t.own w t.locked t.checked new.position plan s at words held;
+      leads = leads_at table.layout a.known m new.key.now job.way.now job.found job.span t.possible t.own w t.locked t.checked new.position plan s at words held ∙ is_took s (ap (slice_get job.way.now) last_is ∙ at);
     };
-    full = λ more. pulled_full table.layout a.known m new.key.now way found span t.possible t.own w t.locked t.checked new.position plan plan.chosen.level s (omega (arith, more, len_is)) (omega arith) at words held;
-    chain = subst (λ n. IsChain table.layout.nodes b.known.locks way new.key.now new.position span.end n) (sym last_is)
-        (subst (λ ls. IsChain table.layout.nodes ls way new.key.now new.position span.end plan.chosen.level) (sym stays.1) (chain_at table.layout a.known m new.key.now way found span t.possible t.own w t.locked t.checked new.position plan));
+    full = λ more. pulled_full table.layout a.known m new.key.now job.way.now job.found job.span t.possible t.own w t.locked t.checked new.position plan plan.chosen.level s (omega (arith, more, len_is)) (omega arith) at words held;
+    chain = subst (λ n. IsChain table.layout.nodes b.known.locks job.way.now new.key.now new.position job.span.end n) (sym last_is)
+        (subst (λ ls. IsChain table.layout.nodes ls job.way.now new.key.now new.position job.span.end plan.chosen.level) (sym stays.1) (chain_at table.layout a.known m new.key.now job.way.now job.found job.span t.possible t.own w t.locked t.checked new.position plan));
   };
   item_is = refl;
   place = λ u us e spot there locked fits where_it_is.
@@ -270,54 +271,54 @@ may_grow table a b made m value way found span aim new t planned is_took stays m
       (subst (λ ls. IsSpotOf b.known ls new.key.now new.position u.number e spot) (sym stays.1) (spot_stays a.known b.known a.known.locks new.key.now new.position u.number e spot stays.2 on), is_slot);
 }
   where
-    w : IsWayOf table.layout a.known m new.key.now way found
+    w : IsWayOf table.layout a.known m new.key.now job.way.now job.found
     w = t.way_of
 
-    plan : IsGrowPlan a.known m new.key.now way found span.len span.end new.position
-    plan = grow_plan a.known m new.key.now way span.len span.end new.position aim found planned
+    plan : IsGrowPlan a.known m new.key.now job.way.now job.found job.span.len job.span.end new.position
+    plan = grow_plan a.known m new.key.now job.way.now job.span.len job.span.end new.position aim job.found planned
 
     x : Item
-    x = item new.number new.key.now value
+    x = item new.number new.key.now job.value
 
-    upto : span.end ≤ plan.chosen.level
+    upto : job.span.end ≤ plan.chosen.level
     upto = plan.chain.upto
 
-    len_is : span.len ≡ plan.chosen.level + 1
+    len_is : job.span.len ≡ plan.chosen.level + 1
     len_is = plan.len_is
 
-    last_is : span.len - 1 ≡ plan.chosen.level
+    last_is : job.span.len - 1 ≡ plan.chosen.level
     last_is = omega (arith, len_is)
 
-    within : plan.chosen.level < length way
-    within = top_within table.layout a.known m new.key.now way found span t.possible t.own w t.locked t.checked new.position plan
+    within : plan.chosen.level < length job.way.now
+    within = top_within table.layout a.known m new.key.now job.way.now job.found job.span t.possible t.own w t.locked t.checked new.position plan
 
     s : PathNode
-    s = (some_at way plan.chosen.level within).0
+    s = (some_at job.way.now plan.chosen.level within).0
 
-    at : slice_get way plan.chosen.level ≡ Some s
-    at = (some_at way plan.chosen.level within).1
+    at : slice_get job.way.now plan.chosen.level ≡ Some s
+    at = (some_at job.way.now plan.chosen.level within).1
 
     words : List ℕ
-    words = (locked_at a.known way span t.locked plan.chosen.level s (omega (arith, upto)) (omega (arith, len_is)) at).0
+    words = (locked_at a.known job.way.now job.span t.locked plan.chosen.level s (omega (arith, upto)) (omega (arith, len_is)) at).0
 
     held : HasLocked a.known s.number words
-    held = (locked_at a.known way span t.locked plan.chosen.level s (omega (arith, upto)) (omega (arith, len_is)) at).1
+    held = (locked_at a.known job.way.now job.span t.locked plan.chosen.level s (omega (arith, upto)) (omega (arith, len_is)) at).1
 
     below : (l : Key) × HasFoundBelow a.known a.known.locks (record { since = m; item = x; mismatch = new.position; like = l }) s.number words
     below =
-        found_below table.layout a.known m new.key.now way plan.number plan.value new.position span (subst (IsWayOf table.layout a.known m new.key.now way) plan.found_is w) (subst (λ f. IsChecked a.known new.key.now way f span) plan.found_is t.checked) new.number value made_leaf.spelled.0
+        found_below table.layout a.known m new.key.now job.way.now plan.number plan.value new.position job.span (subst (IsWayOf table.layout a.known m new.key.now job.way.now) plan.found_is w) (subst (λ f. IsChecked a.known new.key.now job.way.now f job.span) plan.found_is t.checked) new.number job.value made_leaf.spelled.0
         plan.chosen.level s words (omega (arith, upto)) (omega (arith, len_is)) at held
 
-    in_table : (spot : Spot) → IsSpotAbove way span.end spot → HasSpot table.layout spot
+    in_table : (spot : Spot) → IsSpotAbove job.way.now job.span.end spot → HasSpot table.layout spot
     in_table Root none = tt
     in_table (Slot n i) (above, low, at_above, n_is, i_is) =
-        let node = (w.nodes (span.end - 1) above at_above).2 in
+        let node = (w.nodes (job.span.end - 1) above at_above).2 in
         let small = spot_below new.key.now node.forks in
         (omega (arith, n_is, node.range), omega (arith, i_is, node.at, small, node.room))
 
-    place : (u : PathNode) (us : List ℕ) (e : Entry) → slice_get way span.end ≡ Some u → HasLocked a.known u.number us → FitsAbove us e → (spot : Spot) → IsSpotAbove way span.end spot →
+    place : (u : PathNode) (us : List ℕ) (e : Entry) → slice_get job.way.now job.span.end ≡ Some u → HasLocked a.known u.number us → FitsAbove us e → (spot : Spot) → IsSpotAbove job.way.now job.span.end spot →
         IsSpotOf a.known a.known.locks new.key.now new.position u.number e spot × HasSpot table.layout spot
-    place u us e there locked fits spot is = (spot_of table.layout a.known m new.key.now way found span t.possible t.own w t.locked t.checked new.position plan u us e there locked fits spot is, in_table spot is)
+    place u us e there locked fits spot is = (spot_of table.layout a.known m new.key.now job.way.now job.found job.span t.possible t.own w t.locked t.checked new.position plan u us e there locked fits spot is, in_table spot is)
 
 -- the change is that of a key which was absent
 pub grown_stored : (k : Known) (m : ℕ) (key : Key) (value : ℕ) (way : List PathNode) (found : Found) (span : Span) (aim : Aim) (position leaf : ℕ) →
@@ -335,37 +336,37 @@ entry_has : (e : Entry) → HasNumber e → IsEntry e → HasEntryWord (Some e)
 entry_has (LeafEntry n) low is = omega (arith, low)
 entry_has (Node n h) low is = (omega (arith, low), omega (arith, is.0), omega (arith, is.1))
 
-module _ (table : TableView) (a b : SeatView) (made after : List Rec) (way : List PathNode) (value : ℕ) (span : Span) (new : NewLeaf)
-    (may : MayGrow table a made way value span new) (later : IsLater a.known b.known) (locks : b.known.locks ≡ a.known.locks) (anchor : b.known.anchor ≡ a.known.anchor) (e : Entry) (number : HasNumber e) (stays : Bool)
-    (risen : HasRisenTo table b after way (newcomer_of may.growing.lowest) span.end (gone_with_way way span.end (span.len - 1) (gone_unless_whole stays may.growing.step.number)) e)
-    (low : (s : PathNode) (words : List ℕ) → slice_get way span.end ≡ Some s → HasLocked a.known s.number words → FitsAbove words e) where
+module _ (table : TableView) (a b : SeatView) (made after : List Rec) (job : Job) (new : NewLeaf)
+    (may : MayGrow table a made job new) (later : IsLater a.known b.known) (locks : b.known.locks ≡ a.known.locks) (anchor : b.known.anchor ≡ a.known.anchor) (e : Entry) (number : HasNumber e) (stays : Bool)
+    (risen : HasRisenTo table b after job.way.now (newcomer_of may.growing.lowest) job.span.end (gone_with_way job.way.now job.span.end (job.span.len - 1) (gone_unless_whole stays may.growing.step.number)) e)
+    (low : (s : PathNode) (words : List ℕ) → slice_get job.way.now job.span.end ≡ Some s → HasLocked a.known s.number words → FitsAbove words e) where
   -- the words of the topmost node
-  top_words : (words : List ℕ) × HasLocked a.known risen.1.number words
-  top_words = locked_at a.known way span may.locked span.end risen.1 (omega arith) may.within.0 risen.2
+  top_words : (words : List ℕ) × HasLocked a.known risen.0.number words
+  top_words = locked_at a.known job.way.now job.span may.locked job.span.end risen.0 (omega arith) may.within.0 risen.1
 
-  pub grown_spot : (spot : Spot) → IsSpotAbove way span.end spot → IsSpotOf a.known a.known.locks new.key.now new.position risen.1.number e spot
-  grown_spot spot at = (may.place risen.1 top_words.0 e spot risen.2 top_words.1 (low risen.1 top_words.0 risen.2 top_words.1) at).0
+  pub grown_spot : (spot : Spot) → IsSpotAbove job.way.now job.span.end spot → IsSpotOf a.known a.known.locks new.key.now new.position risen.0.number e spot
+  grown_spot spot at = (may.place risen.0 top_words.0 e spot risen.1 top_words.1 (low risen.0 top_words.0 risen.1 top_words.1) at).0
 
-  pub grown_ends : (spot : Spot) (gone : List Rec) → IsSpotAbove way span.end spot → gone ≡ gone_with_way way span.end (span.len - 1) (gone_unless_whole stays may.growing.step.number) →
-      MayPublishOnceReady table b after spot (entry_word (Some e)) (added_change a.known.pass (item new.number new.key.now value)) None gone
+  pub grown_ends : (spot : Spot) (gone : List Rec) → IsSpotAbove job.way.now job.span.end spot → gone ≡ gone_with_way job.way.now job.span.end (job.span.len - 1) (gone_unless_whole stays may.growing.step.number) →
+      MayPublishOnceReady table b after spot (entry_word (Some e)) (added_change a.known.pass (item new.number new.key.now job.value)) None gone
   grown_ends spot gone at gone_is = record {
-    news = risen.0;
-    building = risen.3.building;
+    news = risen.2.news;
+    building = risen.2.building;
     publishes = λ j on ready same.
-        let b_risen = risen.3 in
+        let b_risen = risen.2 in
         let x = may.growing.lowest.item in
         let key_is : x.key ≡ new.key.now = ap (λ (z : Item). z.key) may.item_is in
-        let here : HasLocked b.known risen.1.number top_words.0 = subst (IsOneOf (record { node = risen.1.number; words = top_words.0 })) (sym locks) top_words.1 in
-        let (t, subtrie_is, trie, built) = risen_subtrie table.layout b.known risen.0 (gone_with_way way span.end (span.len - 1) (gone_unless_whole stays may.growing.step.number)) (newcomer_of may.growing.lowest) (entry risen.1.number) top_words.0
+        let here : HasLocked b.known risen.0.number top_words.0 = subst (IsOneOf (record { node = risen.0.number; words = top_words.0 })) (sym locks) top_words.1 in
+        let (t, subtrie_is, trie, built) = risen_subtrie table.layout b.known risen.2.news (gone_with_way job.way.now job.span.end (job.span.len - 1) (gone_unless_whole stays may.growing.step.number)) (newcomer_of may.growing.lowest) (entry risen.0.number) top_words.0
         (Place e) b_risen.building.possible b_risen.building.holds b_risen.building.packed b_risen.leaf here b_risen.risen in
-        let still : HasRisen table.layout j b.known.locks risen.0 (newcomer_of may.growing.lowest) (entry risen.1.number) (Place e) gone =
-        subst (HasRisen table.layout j b.known.locks risen.0 (newcomer_of may.growing.lowest) (entry risen.1.number) (Place e)) (sym gone_is)
-        (risen_stays table.layout b.known j on b.known.locks risen.0 (gone_with_way way span.end (span.len - 1) (gone_unless_whole stays may.growing.step.number)) (newcomer_of may.growing.lowest) (entry risen.1.number) (Place e)
+        let still : HasRisen table.layout j b.known.locks risen.2.news (newcomer_of may.growing.lowest) (entry risen.0.number) (Place e) gone =
+        subst (HasRisen table.layout j b.known.locks risen.2.news (newcomer_of may.growing.lowest) (entry risen.0.number) (Place e)) (sym gone_is)
+        (risen_stays table.layout b.known j on b.known.locks risen.2.news (gone_with_way job.way.now job.span.end (job.span.len - 1) (gone_unless_whole stays may.growing.step.number)) (newcomer_of may.growing.lowest) (entry risen.0.number) (Place e)
         b_risen.risen) in
-        let place : IsSpotOf j b.known.locks x.key new.position risen.1.number e spot =
-        subst (λ k. IsSpotOf j b.known.locks k new.position risen.1.number e spot) (sym key_is)
-        (subst (λ held. IsSpotOf j held new.key.now new.position risen.1.number e spot) (sym locks) (spot_stays a.known j a.known.locks new.key.now new.position risen.1.number e spot (same ∙ anchor) (grown_spot spot at))) in
+        let place : IsSpotOf j b.known.locks x.key new.position risen.0.number e spot =
+        subst (λ k. IsSpotOf j b.known.locks k new.position risen.0.number e spot) (sym key_is)
+        (subst (λ held. IsSpotOf j held new.key.now new.position risen.0.number e spot) (sym locks) (spot_stays a.known j a.known.locks new.key.now new.position risen.0.number e spot (same ∙ anchor) (grown_spot spot at))) in
         subst (λ y. Publishes table.layout j spot (entry_word (Some e)) y None gone) (ap₂ added_change (on.pass ∙ later.pass) may.item_is)
-        (insertion table.layout j b.known.locks risen.0 gone ready (newcomer_of may.growing.lowest) risen.1.number (entry_word (Some e)) e spot still b_risen.leaf place
+        (insertion table.layout j b.known.locks risen.2.news gone ready (newcomer_of may.growing.lowest) risen.0.number (entry_word (Some e)) e spot still b_risen.leaf place
         (entry_has e number (tip_word e t subtrie_is built), refl));
   }

@@ -1,8 +1,8 @@
 -- One level up.
-use Rattle.std.proofs.Common.{◌≡◌, ℕ, ◌<◌, ◌≤◌, ◌+◌, ◌-◌, List, [], ◌∷◌, ◌++◌, refl, sym, ap, ap₂, subst, ◌∙◌, arith, Option, Some, None, Bool, true, false, inl, inr, ◌⊎◌, append_assoc}
+use Rattle.std.proofs.Common.{◌≡◌, ◌≢◌, ℕ, ◌<◌, ◌≤◌, ◌+◌, ◌-◌, List, [], ◌∷◌, ◌++◌, refl, sym, ap, ap₂, subst, ◌∙◌, arith, Option, Some, None, Bool, true, false, inl, inr, ◌⊎◌, append_assoc, get_or}
 use Rattle.std.specs.Prelude.{MatchOption, IfSome, IsTrue, ◌↔◌, slice_get, length, map, drop, take}
 use Rattle.std.proofs.lemmas.List.{drop-append-le, drop-take, length-take-le, map-append, take_more}
-use Rattle.std.proofs.lemmas.Option.{get_or_from_slice_get, slice_get_within}
+use Rattle.std.proofs.lemmas.Option.{get_or_from_slice_get, slice_get-get_or, slice_get_within}
 use Rattle.compound_node.specs.Nodes.{NodeView, piece, height_of, IsBuiltFrom}
 use Rattle.record_words.specs.Node.{HasNodeWords}
 use Rattle.compound_node.specs.declared.entries.Entry.{Entry}
@@ -37,11 +37,14 @@ use Rattle.rowex_table.specs.Seats.{TableView, SeatView}
 use Rattle.publish_laws.specs.Stages.{HasLeaf, HasRisen, IsLockedAbove}
 use Rattle.publish_laws.proofs.Rising.{risen_stays, rises_pulled, rises_wrapped, rise_grows}
 use Rattle.publish_laws.specs.Rises.{made_of_node, made_of_leaf, IsSide, anew, HasFoundBelow}
-use Rattle.rowex_writing.specs.Building.{IsBuilding, IsHalfMade, IsMadeFrom, IsRaising, IsBelow, IsLevelRisen, GetsLeaf, IsLowest, IsLowRisen, IsNextTo, IsRisenAt, IsSingle, IsSplit, FitsAbove, IsChain, IsRisingOn, IsGrowing, IsGrownFrom, HasNotMade, HasRisenTo, gone_unless_whole, gone_with_way, newcomer_of}
+use Rattle.rowex_writing.specs.Building.{IsBuilding, IsHalfMade, IsMadeFrom, IsRaising, GetsFork, IsLevelRisen, GetsLeaf, IsLowRisen, IsNextTo, IsRisenAt, IsSingle, IsSplit, FitsAbove, IsChain, Rises, IsGrowing, IsGrownFrom, HasNotMade, HasRisenTo, gone_unless_whole, gone_with_way, newcomer_of}
 use Rattle.rowex_writing.specs.Going.{WorksOn, ReadsOn, HasLocked, IsNodeOf}
-use Rattle.rowex_writing.specs.Remaking.{IsSubtrieOfTree, IsLowHalf, IsNoHigher, subtrie_with_leaf}
+use Rattle.rowex_writing.specs.Merging.{no_step}
+use Rattle.rowex_writing.specs.Remaking.{AwaitsLeaf, IsSubtrieOfTree, IsLowHalf, IsNoHigher, subtrie_with_fork, subtrie_with_leaf}
 use Rattle.rowex_writing.specs.declared.plan.Span.{Span}
+use Rattle.rowex_writing.specs.declared.remaking.Fork.{Fork as NewFork}
 use Rattle.rowex_writing.specs.declared.remaking.NewLeaf.{NewLeaf}
+use Rattle.rowex_writing.specs.declared.rising.Rise.{Rise}
 use Rattle.rowex_writing.proofs.Remade.{built_low}
 use Rattle.rowex_writing.proofs.Making.{building_on}
 use Rattle.rowex_writing.proofs.Raising.{rises_made, rises_kept}
@@ -70,23 +73,22 @@ made_keeps was (Two cut) (Split q z o) before after (lower, upper, is, low, high
 
 -- ---- what has risen stays
 module _ {G : Type 0} (table : TableView) (becomes : G → Event → G → Type 0) where
-  risen_on : (a m : SeatView × G) (news : List Made) (gone : List Rec) (x : Newcomer) (d : Side) (r : Subtrie) → WorksOn table becomes a m →
+  pub risen_on : (a m : SeatView × G) (news : List Made) (gone : List Rec) (x : Newcomer) (d : Side) (r : Subtrie) → WorksOn table becomes a m →
       HasRisen table.layout a.0.known a.0.known.locks news x d r gone → HasRisen table.layout m.0.known m.0.known.locks news x d r gone
   risen_on a m news gone x d r goes risen =
       subst (λ held. HasRisen table.layout m.0.known held news x d r gone) (sym goes.stays.1)
       (risen_stays table.layout a.0.known m.0.known goes.stays.0 a.0.known.locks news gone x d r risen)
 
-  pub raising_on : (a m : SeatView × G) (made : List Rec) (news : List Made) (gone : List Rec) (x : Newcomer) (d : Side) (r : Subtrie) → ReadsOn table becomes a m →
-      IsRaising table a.0 made news gone x d r → IsRaising table m.0 made news gone x d r
-  raising_on a m made news gone x d r reads i = record {
-    building = building_on table becomes a m made news reads.goes reads.own i.building;
+  abbrev pub raising_on : (a m : SeatView × G) (made : List Rec) (gone : List Rec) (x : Newcomer) (d : Side) (r : Subtrie) → ReadsOn table becomes a m → IsRaising table a.0 made gone x d r → IsRaising table m.0 made gone x d r
+  raising_on a m made gone x d r reads i = record {
+    news = i.news;
+    building = building_on table becomes a m made i.news reads.goes reads.own i.building;
     leaf = i.leaf;
-    risen = risen_on a m news gone x d r reads.goes i.risen;
+    risen = risen_on a m i.news gone x d r reads.goes i.risen;
   }
 
   -- ---- a fork in the node above
-  module _ {a m : SeatView × G} {made : List Rec} {key : Key} {above position : ℕ} {zero one : Entry} {node : NodeView} (reads : ReadsOn table becomes a m)
-      (b : IsBelow table a.0 made key above position zero one) (shown : (words : List ℕ) → HasLocked a.0.known above words → IsNodeOf words node) where
+  module _ {a m : SeatView × G} {made : List Rec} {above : ℕ} {fork : NewFork} {node : NodeView} (reads : ReadsOn table becomes a m) (b : GetsFork table a.0 made above fork) (shown : (words : List ℕ) → HasLocked a.0.known above words → IsNodeOf words node) where
     is_node : IsNodeOf b.over.upper node
     is_node = shown b.over.upper b.over.has_upper
 
@@ -96,11 +98,8 @@ module _ {G : Type 0} (table : TableView) (becomes : G → Event → G → Type 
     height_is : (node_words_of b.over.upper).fixed.height ≡ node.height
     height_is = ap (λ (z : NodeWords). z.fixed.height) is_node.shows
 
-    fork : Subtrie
-    fork = Fork position (Place zero) (Place one)
-
-    now : IsRaising table m.0 made b.here.news b.here.gone b.here.newcomer (entry b.lower) (Fork position (Place zero) (Place one))
-    now = raising_on a m made b.here.news b.here.gone b.here.newcomer (entry b.lower) (Fork position (Place zero) (Place one)) reads b.here.raising
+    abbrev now : IsRaising table m.0 made b.here.gone b.here.newcomer (entry b.lower) (Fork fork.position (Place fork.zero) (Place fork.one))
+    now = raising_on a m made b.here.gone b.here.newcomer (entry b.lower) (Fork fork.position (Place fork.zero) (Place fork.one)) reads b.here.raising
 
     upper_locked : IsOneOf (record { node = above; words = b.over.upper }) m.0.known.locks
     upper_locked = subst (IsOneOf (record { node = above; words = b.over.upper })) (sym reads.goes.stays.1) b.over.has_upper
@@ -116,88 +115,89 @@ module _ {G : Type 0} (table : TableView) (becomes : G → Event → G → Type 
       path = b.over.path;
     }
 
-    body_risen : HasRisen table.layout m.0.known m.0.known.locks b.here.news b.here.newcomer (body above) (with_subtrie b.here.newcomer.item.key (Fork position (Place zero) (Place one)) (piece node)) b.here.gone
+    body_risen : HasRisen table.layout m.0.known m.0.known.locks b.here.raising.news b.here.newcomer (body above) (with_subtrie b.here.newcomer.item.key (Fork fork.position (Place fork.zero) (Place fork.one)) (piece node)) b.here.gone
     unfolding still_over
     body_risen =
-        subst (λ y. HasRisen table.layout m.0.known m.0.known.locks b.here.news b.here.newcomer (body above) (with_subtrie b.here.newcomer.item.key (Fork position (Place zero) (Place one)) y) b.here.gone) subtrie_is
-        (rises_pulled table.layout m.0.known m.0.known.locks b.here.news b.here.gone b.here.newcomer above b.lower (Fork position (Place zero) (Place one)) still_over now.risen)
+        subst (λ y. HasRisen table.layout m.0.known m.0.known.locks b.here.raising.news b.here.newcomer (body above) (with_subtrie b.here.newcomer.item.key (Fork fork.position (Place fork.zero) (Place fork.one)) y) b.here.gone) subtrie_is
+        (rises_pulled table.layout m.0.known m.0.known.locks b.here.raising.news b.here.gone b.here.newcomer above b.lower (Fork fork.position (Place fork.zero) (Place fork.one)) still_over now.risen)
 
-    pub lift_tree : IsSubtrieOfTree (with_subtrie key (Fork position (Place zero) (Place one)) (piece node))
+    pub lift_tree : IsSubtrieOfTree (subtrie_with_fork fork (piece node))
     lift_tree =
-        subst (λ k. IsSubtrieOfTree (with_subtrie k (Fork position (Place zero) (Place one)) (piece node))) (sym b.key_is)
-        (risen_subtrie table.layout m.0.known b.here.news b.here.gone b.here.newcomer (body above) b.over.upper (with_subtrie b.here.newcomer.item.key (Fork position (Place zero) (Place one)) (piece node))
+        subst (λ k. IsSubtrieOfTree (with_subtrie k (Fork fork.position (Place fork.zero) (Place fork.one)) (piece node))) (sym b.key_is)
+        (risen_subtrie table.layout m.0.known b.here.raising.news b.here.gone b.here.newcomer (body above) b.over.upper (with_subtrie b.here.newcomer.item.key (Fork fork.position (Place fork.zero) (Place fork.one)) (piece node))
         now.building.possible now.building.holds now.building.packed now.leaf upper_locked body_risen)
 
-    pub lift_zero : height_of zero < node.height
+    pub lift_zero : height_of fork.zero < node.height
     lift_zero = let l = b.zero_low in omega (arith, height_is)
 
-    pub lift_one : height_of one < node.height
+    pub lift_one : height_of fork.one < node.height
     lift_one = let l = b.one_low in omega (arith, height_is)
 
-    pub lift_building : IsBuilding table m.0 made b.here.news
+    pub lift_building : IsBuilding table m.0 made b.here.raising.news
     lift_building = now.building
 
     -- the node's own records
-    pub lifted : (c : SeatView × G) (after_made : List Rec) (was : Entry) (g : Grown) (answer : Option Risen) → GrownShows node g (with_subtrie key (Fork position (Place zero) (Place one)) (piece node)) → keeps_node g ≡ false →
+    pub lifted : (c : SeatView × G) (after_made : List Rec) (was : Entry) (g : Grown) (answer : Option Risen) → GrownShows node g (subtrie_with_fork fork (piece node)) → keeps_node g ≡ false →
         WorksOn table becomes m c →
-        MatchOption answer (HasNotMade table c.0 after_made) (λ risen. (after : List Made) × IsMadeFrom was g risen b.here.news after × IsBuilding table c.0 after_made after) →
+        MatchOption answer (HasNotMade table c.0 after_made) (λ risen. (after : List Made) × IsMadeFrom was g risen b.here.raising.news after × IsBuilding table c.0 after_made after) →
         MatchOption answer (HasNotMade table c.0 after_made)
-        (λ risen. (after : List Made) × IsRaising table c.0 after_made after (a_node above ∷ b.here.gone) b.here.newcomer (entry above) (subtrie_of risen))
+        (λ risen. IsRaising table c.0 after_made (a_node above ∷ b.here.gone) b.here.newcomer (entry above) (subtrie_of risen))
     lifted c after_made was g None shows fresh goes made = made
-    lifted c after_made was g (Some risen) shows fresh goes (after, made, building) = (
-      after,
-      record {
-        building = building;
-        leaf = (now.leaf.0, made_keeps was g risen b.here.news after made _ now.leaf.1, now.leaf.2);
-        risen = risen_on m c after (a_node above ∷ b.here.gone) b.here.newcomer (entry above) (subtrie_of risen) goes
-            (rises_made table.layout m.0.known m.0.known.locks b.here.news after b.here.gone b.here.newcomer now.leaf above b.over.upper upper_locked node was g risen
-            (with_subtrie b.here.newcomer.item.key (Fork position (Place zero) (Place one)) (piece node))
-            (subst (λ k. GrownShows node g (with_subtrie k (Fork position (Place zero) (Place one)) (piece node))) b.key_is shows) fresh made body_risen);
-      },
-    )
+    lifted c after_made was g (Some risen) shows fresh goes (after, made, building) = record {
+      news = after;
+      building = building;
+      leaf = (now.leaf.0, made_keeps was g risen b.here.raising.news after made _ now.leaf.1, now.leaf.2);
+      risen = risen_on m c after (a_node above ∷ b.here.gone) b.here.newcomer (entry above) (subtrie_of risen) goes
+          (rises_made table.layout m.0.known m.0.known.locks b.here.raising.news after b.here.gone b.here.newcomer now.leaf above b.over.upper upper_locked node was g risen
+          (with_subtrie b.here.newcomer.item.key (Fork fork.position (Place fork.zero) (Place fork.one)) (piece node))
+          (subst (λ k. GrownShows node g (with_subtrie k (Fork fork.position (Place fork.zero) (Place fork.one)) (piece node))) b.key_is shows) fresh made body_risen);
+    }
 
 -- ---- the lowest node
 kept_or_not : (stays : Bool) → (stays ≡ true) ⊎ (stays ≡ false)
 kept_or_not true = inl refl
 kept_or_not false = inr refl
 
-module _ {G : Type 0} (table : TableView) (becomes : G → Event → G → Type 0) {a m : SeatView × G} {made : List Rec} {key : Key} {number position took leaf : ℕ} {node : NodeView}
-    (reads : ReadsOn table becomes a m) (b : IsLowest table a.0 made key number position took leaf) (shown : (words : List ℕ) → HasLocked a.0.known number words → IsNodeOf words node) where
+module _ {G : Type 0} (table : TableView) (becomes : G → Event → G → Type 0) {a m : SeatView × G} {made : List Rec} {number : ℕ} {new : NewLeaf} {node : NodeView}
+    (reads : ReadsOn table becomes a m) (b : GetsLeaf table a.0 made number new) (shown : (words : List ℕ) → HasLocked a.0.known number words → IsNodeOf words node) where
   low_node : IsNodeOf b.words node
   low_node = shown b.words b.found.locked
 
   low_subtrie : (node_words_of b.words).subtrie ≡ piece node
   low_subtrie = ap (λ (z : NodeWords). z.subtrie) low_node.shows
 
-  low_grown : HasRisen table.layout a.0.known a.0.known.locks (made_of_leaf b.item b.made_leaf.fresh ∷ []) (newcomer_of b) (body number) (subtrie_grown position b.item.key (Leaf b.item.number) (piece node)) []
+  low_grown : HasRisen table.layout a.0.known a.0.known.locks (made_of_leaf b.item b.made_leaf.fresh ∷ []) (newcomer_of b) (body number) (subtrie_grown new.position b.item.key (Leaf b.item.number) (piece node)) []
   low_grown =
-      subst (λ y. HasRisen table.layout a.0.known a.0.known.locks (made_of_leaf b.item b.made_leaf.fresh ∷ []) (newcomer_of b) (body number) (subtrie_grown position b.item.key (Leaf b.item.number) y) []) low_subtrie
+      subst (λ y. HasRisen table.layout a.0.known a.0.known.locks (made_of_leaf b.item b.made_leaf.fresh ∷ []) (newcomer_of b) (body number) (subtrie_grown new.position b.item.key (Leaf b.item.number) y) []) low_subtrie
       (rise_grows table.layout a.0.known a.0.known.locks (newcomer_of b) b.made_leaf.fresh number b.words b.found b.part)
 
   low_leaf : HasLeaf (made_of_leaf b.item b.made_leaf.fresh ∷ []) b.item
   low_leaf = (b.made_leaf.fresh, inl refl, b.made_leaf.spelled)
 
-  same_subtrie : subtrie_grown position b.item.key (Leaf b.item.number) (piece node) ≡ subtrie_grown position key (Leaf leaf) (piece node)
-  same_subtrie = ap₂ (λ k n. subtrie_grown position k (Leaf n) (piece node)) (sym b.key_is) (sym b.leaf_is)
+  same_subtrie : subtrie_grown new.position b.item.key (Leaf b.item.number) (piece node) ≡ subtrie_with_leaf new (piece node)
+  same_subtrie = ap₂ (λ k n. subtrie_grown new.position k (Leaf n) (piece node)) (sym b.key_is) (sym b.leaf_is)
 
-  pub low_tree : IsSubtrieOfTree (subtrie_grown position key (Leaf leaf) (piece node))
+  low_tree : IsSubtrieOfTree (subtrie_with_leaf new (piece node))
   low_tree =
       subst IsSubtrieOfTree same_subtrie
-      (risen_subtrie table.layout a.0.known (made_of_leaf b.item b.made_leaf.fresh ∷ []) [] (newcomer_of b) (body number) b.words (subtrie_grown position b.item.key (Leaf b.item.number) (piece node))
+      (risen_subtrie table.layout a.0.known (made_of_leaf b.item b.made_leaf.fresh ∷ []) [] (newcomer_of b) (body number) b.words (subtrie_grown new.position b.item.key (Leaf b.item.number) (piece node))
       b.made_leaf.building.possible b.made_leaf.building.holds b.made_leaf.building.packed low_leaf b.found.locked low_grown)
 
-  pub low_leads : spot key (piece node) ≡ took
+  low_leads : spot new.key.now (piece node) ≡ new.at
   low_leads = ap (λ k. spot k (piece node)) b.key_is ∙ (ap (spot b.item.key) (sym low_subtrie) ∙ b.leads)
+
+  pub low_takes : {words : List ℕ} → IsNodeOf words node → AwaitsLeaf words node new
+  low_takes is = record { is = is; leads = low_leads; tree = low_tree }
 
   pub low_building : IsBuilding table m.0 made (made_of_leaf b.item b.made_leaf.fresh ∷ [])
   low_building = building_on table becomes a m made (made_of_leaf b.item b.made_leaf.fresh ∷ []) reads.goes reads.own b.made_leaf.building
 
-  pub lowered : (c : SeatView × G) (after_made : List Rec) (g : Grown) (stays : Bool) (risen : Risen) → GrownShows node g (subtrie_grown position key (Leaf leaf) (piece node)) → stays ≡ keeps_node g →
-      (keeps_node g ≡ true → AtRootFork (λ q x y. position < q) (piece node)) → WorksOn table becomes m c → (after : List Made) → IsMadeFrom (Node number node.height) g risen (made_of_leaf b.item b.made_leaf.fresh ∷ []) after →
-      IsBuilding table c.0 after_made after → IsRaising table c.0 after_made after (gone_unless_whole stays number) (newcomer_of b) (entry number) (subtrie_of risen)
+  pub lowered : (c : SeatView × G) (after_made : List Rec) (g : Grown) (stays : Bool) (risen : Risen) → GrownShows node g (subtrie_with_leaf new (piece node)) → stays ≡ keeps_node g →
+      (keeps_node g ≡ true → AtRootFork (λ q x y. new.position < q) (piece node)) → WorksOn table becomes m c → (after : List Made) → IsMadeFrom (Node number node.height) g risen (made_of_leaf b.item b.made_leaf.fresh ∷ []) after →
+      IsBuilding table c.0 after_made after → IsRaising table c.0 after_made (gone_unless_whole stays number) (newcomer_of b) (entry number) (subtrie_of risen)
   lowered c after_made g stays risen shows is before goes after made building = go (kept_or_not stays)
     where
-      here : GrownShows node g (subtrie_grown position b.item.key (Leaf b.item.number) (piece node))
+      here : GrownShows node g (subtrie_grown new.position b.item.key (Leaf b.item.number) (piece node))
       here = subst (GrownShows node g) (sym same_subtrie) shows
 
       all : WorksOn table becomes a c
@@ -206,36 +206,37 @@ module _ {G : Type 0} (table : TableView) (becomes : G → Event → G → Type 
       leaf_stays : HasLeaf after b.item
       leaf_stays = (b.made_leaf.fresh, made_keeps (Node number node.height) g risen (made_of_leaf b.item b.made_leaf.fresh ∷ []) after made _ (inl refl), b.made_leaf.spelled)
 
-      go : (stays ≡ true) ⊎ (stays ≡ false) → IsRaising table c.0 after_made after (gone_unless_whole stays number) (newcomer_of b) (entry number) (subtrie_of risen)
+      go : (stays ≡ true) ⊎ (stays ≡ false) → IsRaising table c.0 after_made (gone_unless_whole stays number) (newcomer_of b) (entry number) (subtrie_of risen)
       go (inl whole) =
           let keeps : keeps_node g ≡ true = sym is ∙ whole in
           let (kept, same) = rises_kept table.layout a.0.known a.0.known.locks after (newcomer_of b) b.made_leaf.fresh number b.words b.found node low_subtrie (ap (λ (z : NodeWords). z.fixed.height) low_node.shows) g risen here keeps (before keeps) made in
-          subst (λ z. IsRaising table c.0 after_made after (gone_unless_whole z number) (newcomer_of b) (entry number) (subtrie_of risen)) (sym whole)
-          (record { building = building; leaf = leaf_stays; risen = risen_on table becomes a c after [] (newcomer_of b) (entry number) (subtrie_of risen) all kept })
+          subst (λ z. IsRaising table c.0 after_made (gone_unless_whole z number) (newcomer_of b) (entry number) (subtrie_of risen)) (sym whole)
+          (record { news = after; building = building; leaf = leaf_stays; risen = risen_on table becomes a c after [] (newcomer_of b) (entry number) (subtrie_of risen) all kept })
       go (inr cut) =
           let fresh : keeps_node g ≡ false = sym is ∙ cut in
-          subst (λ z. IsRaising table c.0 after_made after (gone_unless_whole z number) (newcomer_of b) (entry number) (subtrie_of risen)) (sym cut)
+          subst (λ z. IsRaising table c.0 after_made (gone_unless_whole z number) (newcomer_of b) (entry number) (subtrie_of risen)) (sym cut)
           (record {
+            news = after;
             building = building;
             leaf = leaf_stays;
             risen = risen_on table becomes a c after (a_node number ∷ []) (newcomer_of b) (entry number) (subtrie_of risen) all
                 (rises_made table.layout a.0.known a.0.known.locks (made_of_leaf b.item b.made_leaf.fresh ∷ []) after [] (newcomer_of b) low_leaf number b.words b.found.locked node (Node number node.height) g risen
-                (subtrie_grown position b.item.key (Leaf b.item.number) (piece node)) here fresh made low_grown);
+                (subtrie_grown new.position b.item.key (Leaf b.item.number) (piece node)) here fresh made low_grown);
           })
 
   -- the same, or no record for it
   pub lowest_made : (c : SeatView × G) (after_made : List Rec) (h : ℕ) → h ≡ node.height → (answer : Option (Risen × Bool)) → WorksOn table becomes m c →
       MatchOption answer (HasNotMade table c.0 after_made)
-      (λ r. (after : List Made) × IsGrownFrom (Node number h) node (subtrie_grown position key (Leaf leaf) (piece node)) position r.0 r.1 (made_of_leaf b.item b.made_leaf.fresh ∷ []) after × IsBuilding table c.0 after_made after) →
-      MatchOption answer (HasNotMade table c.0 after_made) (λ r. (after : List Made) × IsRaising table c.0 after_made after (gone_unless_whole r.1 number) (newcomer_of b) (entry number) (subtrie_of r.0))
+      (λ r. (after : List Made) × IsGrownFrom (Node number h) node new r.0 r.1 (made_of_leaf b.item b.made_leaf.fresh ∷ []) after × IsBuilding table c.0 after_made after) →
+      MatchOption answer (HasNotMade table c.0 after_made) (λ r. IsRaising table c.0 after_made (gone_unless_whole r.1 number) (newcomer_of b) (entry number) (subtrie_of r.0))
   lowest_made c after_made h tall None goes made = made
   lowest_made c after_made h tall (Some r) goes (after, grown, building) =
-      (after, lowered c after_made grown.grown r.1 r.0 grown.shows grown.keeps grown.above goes after (subst (λ z. IsMadeFrom (Node number z) grown.grown r.0 (made_of_leaf b.item b.made_leaf.fresh ∷ []) after) tall grown.made) building)
+      lowered c after_made grown.grown r.1 r.0 grown.shows grown.keeps grown.above goes after (subst (λ z. IsMadeFrom (Node number z) grown.grown r.0 (made_of_leaf b.item b.made_leaf.fresh ∷ []) after) tall grown.made) building
 
 -- so of the node that was read
-pub grown_for : {view node : NodeView} → view ≡ node → (number : ℕ) (new : NewLeaf) (risen : Risen) (stays : Bool) (before after : List Made) →
-    IsGrownFrom (Node number view.height) view (subtrie_with_leaf new (piece view)) new.position risen stays before after → IsGrownFrom (Node number node.height) node (subtrie_with_leaf new (piece node)) new.position risen stays before after
-grown_for same number new risen stays before after grown = subst (λ v. IsGrownFrom (Node number v.height) v (subtrie_with_leaf new (piece v)) new.position risen stays before after) same grown
+pub grown_for : {view node : NodeView} → view ≡ node → (number : ℕ) (new : NewLeaf) (risen : Risen) (stays : Bool) (before after : List Made) → IsGrownFrom (Node number view.height) view new risen stays before after →
+    IsGrownFrom (Node number node.height) node new risen stays before after
+grown_for same number new risen stays before after grown = subst (λ v. IsGrownFrom (Node number v.height) v new risen stays before after) same grown
 
 -- ---- without a leaf
 pub left_over : (table : TableView) (c : SeatView) (after_made : List Rec) (shown : Subtrie) (view : NodeView) (answer : Option Entry) → IsBuiltFrom view shown → HasNodeWords view →
@@ -260,39 +261,37 @@ paired table a c after_made news view shown (Some e) built (m, is, has, building
 
 -- ---- the topmost node
 fork_risen : (table : TableView) (a : SeatView) (made : List Rec) (number q : ℕ) (z o : Entry) (risen : Risen) → risen ≡ Split q z o → (b : IsRisenAt table a made number risen) →
-    HasRisen table.layout a.known a.known.locks b.news b.newcomer (entry number) (Fork q (Place z) (Place o)) b.gone
+    HasRisen table.layout a.known a.known.locks b.raising.news b.newcomer (entry number) (Fork q (Place z) (Place o)) b.gone
 fork_risen table a made number q z o risen is b =
-    subst (λ (y : Risen). HasRisen table.layout a.known a.known.locks b.news b.newcomer (entry number) (subtrie_of y) b.gone) is b.raising.risen
+    subst (λ (y : Risen). HasRisen table.layout a.known a.known.locks b.raising.news b.newcomer (entry number) (subtrie_of y) b.gone) is b.raising.risen
 
 -- what a fork of two entries that has risen owes
 pub risen_fork_is_pair : (table : TableView) (a : SeatView) (made : List Rec) (number q : ℕ) (z o : Entry) (risen : Risen) → risen ≡ Split q z o → IsRisenAt table a made number risen → IsPairOf q z o
 risen_fork_is_pair table a made number q z o risen is b =
     let i = b.raising in
-    let (t, subtrie_is, trie, built) = risen_subtrie table.layout a.known b.news b.gone b.newcomer (entry number) b.words (Fork q (Place z) (Place o)) i.building.possible i.building.holds i.building.packed i.leaf b.locked
+    let (t, subtrie_is, trie, built) = risen_subtrie table.layout a.known b.raising.news b.gone b.newcomer (entry number) b.words (Fork q (Place z) (Place o)) i.building.possible i.building.holds i.building.packed i.leaf b.locked
     (fork_risen table a made number q z o risen is b) in
     pair_facts q z o t subtrie_is trie built
 
 pub settled : {G : Type 0} (table : TableView) (becomes : G → Event → G → Type 0) (a c : SeatView × G) (made after_made : List Rec) (number q : ℕ) (z o : Entry) (risen : Risen) → risen ≡ Split q z o →
     (b : IsRisenAt table a.0 made number risen) (view : NodeView) → IsBuiltFrom view (Fork q (Place z) (Place o)) → WorksOn table becomes a c → (answer : Option Entry) →
-    MatchOption answer (HasNotMade table c.0 after_made) (λ e. (m : ℕ) × (e ≡ Node m view.height) × HasNodeWords view × IsBuilding table c.0 after_made (made_of_node m view ∷ b.news)) →
-    MatchOption answer (HasNotMade table c.0 after_made) (λ e. (after : List Made) × IsRaising table c.0 after_made after b.gone b.newcomer (entry number) (Place e))
+    MatchOption answer (HasNotMade table c.0 after_made) (λ e. (m : ℕ) × (e ≡ Node m view.height) × HasNodeWords view × IsBuilding table c.0 after_made (made_of_node m view ∷ b.raising.news)) →
+    MatchOption answer (HasNotMade table c.0 after_made) (λ e. IsRaising table c.0 after_made b.gone b.newcomer (entry number) (Place e))
 settled table becomes a c made after_made number q z o risen is b view built goes None answer = answer
 settled table becomes a c made after_made number q z o risen is b view built goes (Some e) (m, e_is, has, building) =
     let i = b.raising in
-    let here = subst (λ y. HasRisen table.layout a.0.known a.0.known.locks b.news b.newcomer (entry number) y b.gone) (sym built.shows_it) (fork_risen table a.0 made number q z o risen is b) in
-    let wrapped = rises_wrapped table.layout a.0.known a.0.known.locks b.news b.gone b.newcomer i.leaf number b.words b.locked m view (has, built.height_is) here in (
-      made_of_node m view ∷ b.news,
-      record {
-        building = building;
-        leaf = (i.leaf.0, inr i.leaf.1, i.leaf.2);
-        risen = risen_on table becomes a c (made_of_node m view ∷ b.news) b.gone b.newcomer (entry number) (Place e) goes
-            (subst (λ y. HasRisen table.layout a.0.known a.0.known.locks (made_of_node m view ∷ b.news) b.newcomer (entry number) (Place y) b.gone) (sym e_is) wrapped);
-      },
-    )
+    let here = subst (λ y. HasRisen table.layout a.0.known a.0.known.locks b.raising.news b.newcomer (entry number) y b.gone) (sym built.shows_it) (fork_risen table a.0 made number q z o risen is b) in
+    let wrapped = rises_wrapped table.layout a.0.known a.0.known.locks b.raising.news b.gone b.newcomer i.leaf number b.words b.locked m view (has, built.height_is) here in
+    record {
+      news = made_of_node m view ∷ b.raising.news;
+      building = building;
+      leaf = (i.leaf.0, inr i.leaf.1, i.leaf.2);
+      risen = risen_on table becomes a c (made_of_node m view ∷ b.raising.news) b.gone b.newcomer (entry number) (Place e) goes
+          (subst (λ y. HasRisen table.layout a.0.known a.0.known.locks (made_of_node m view ∷ b.raising.news) b.newcomer (entry number) (Place y) b.gone) (sym e_is) wrapped);
+    }
 
-pub settled_whole : (table : TableView) (a : SeatView) (made : List Rec) (number : ℕ) (e : Entry) (risen : Risen) → risen ≡ Whole e → (b : IsRisenAt table a made number risen) →
-    (after : List Made) × IsRaising table a made after b.gone b.newcomer (entry number) (Place e)
-settled_whole table a made number e risen is b = (b.news, subst (λ (y : Risen). IsRaising table a made b.news b.gone b.newcomer (entry number) (subtrie_of y)) is b.raising)
+pub settled_whole : (table : TableView) (a : SeatView) (made : List Rec) (number : ℕ) (e : Entry) (risen : Risen) → risen ≡ Whole e → (b : IsRisenAt table a made number risen) → IsRaising table a made b.gone b.newcomer (entry number) (Place e)
+settled_whole table a made number e risen is b = subst (λ (y : Risen). IsRaising table a made b.gone b.newcomer (entry number) (subtrie_of y)) is b.raising
 
 -- ---- a full node gives a fork
 split_made : (was : Entry) (g : Grown) (risen : Risen) (before after : List Made) → ¬ (IsTrue (is_whole g)) → IsMadeFrom was g risen before after → IsSplit risen
@@ -322,10 +321,10 @@ pub fork_level : (words : List ℕ) (node : NodeView) (was : Entry) (g : Grown) 
 fork_level words node was g None none before Q is tall low whole made = tt
 fork_level words node was g (Some risen) none before Q is tall low whole (after, made, rest) = level_made words node was g risen before after is tall low whole made
 
-pub leaf_level : (words : List ℕ) (node : NodeView) (was : Entry) (shown : Subtrie) (p : ℕ) (answer : Option (Risen × Bool)) (None_made : Type 0) (before : List Made) (Q : List Made → Type 0) → IsNodeOf words node → height_of was ≡ node.height →
-    MatchOption answer None_made (λ r. (after : List Made) × IsGrownFrom was node shown p r.0 r.1 before after × Q after) → IfSome answer (λ r. IsLevelRisen words r.0)
-leaf_level words node was shown p None none before Q is tall made = tt
-leaf_level words node was shown p (Some r) none before Q is tall (after, grown, rest) = level_made words node was grown.grown r.0 before after is tall grown.low grown.whole grown.made
+pub leaf_level : (words : List ℕ) (node : NodeView) (was : Entry) (new : NewLeaf) (answer : Option (Risen × Bool)) (None_made : Type 0) (before : List Made) (Q : List Made → Type 0) → IsNodeOf words node → height_of was ≡ node.height →
+    MatchOption answer None_made (λ r. (after : List Made) × IsGrownFrom was node new r.0 r.1 before after × Q after) → IfSome answer (λ r. IsLevelRisen words r.0)
+leaf_level words node was new None none before Q is tall made = tt
+leaf_level words node was new (Some r) none before Q is tall (after, grown, rest) = level_made words node was grown.grown r.0 before after is tall grown.low grown.whole grown.made
 
 -- ---- the height of what has risen, as one entry
 pub whole_height : (h : ℕ) (e : Entry) (risen : Risen) → risen ≡ Whole e → IsLowRisen h risen → IsNextTo h risen e
@@ -349,63 +348,13 @@ fits_above words risen (Some e) single low = (low.0, λ room. low.1 (single room
 -- under another name for the node, or for what has risen
 abbrev risen_as : (table : TableView) (a : SeatView) (made : List Rec) (n m : ℕ) (risen then : Risen) → n ≡ m → risen ≡ then → IsRisenAt table a made n risen → IsRisenAt table a made m then
 risen_as table a made n m risen then same is here = record {
-  news = here.news;
   gone = here.gone;
   newcomer = here.newcomer;
   words = here.words;
   locked = subst (λ k. HasLocked a.known k here.words) same here.locked;
-  raising = subst (λ (y : Risen). IsRaising table a made here.news here.gone here.newcomer (entry m) (subtrie_of y)) is
-      (subst (λ k. IsRaising table a made here.news here.gone here.newcomer (entry k) (subtrie_of risen)) same here.raising);
+  raising = subst (λ (y : Risen). IsRaising table a made here.gone here.newcomer (entry m) (subtrie_of y)) is
+      (subst (λ k. IsRaising table a made here.gone here.newcomer (entry k) (subtrie_of risen)) same here.raising);
 }
-
-module _ (table : TableView) (a : SeatView) (made : List Rec) (way : List PathNode) (key : Key) (end level : ℕ) (risen : Risen) (up : IsRisingOn table a made way key end level risen) (above : ℕ) (next : above + 1 ≡ level)
-    (upto : end ≤ above) (s : PathNode) (at : slice_get way above ≡ Some s) where
-  abbrev pub up_over : (over : IsLockedAbove a.known.locks up.here.newcomer.item.key up.here.newcomer.mismatch s.number up.step.number) × ((node_words_of over.lower).fixed.height < (node_words_of over.upper).fixed.height)
-  up_over = up.chain.above above s up.step upto (omega arith) at (ap (slice_get way) next ∙ up.at)
-
-  pub up_there : s.number < table.layout.nodes
-  up_there = up.chain.there above s (omega arith) at
-
-  abbrev pub up_below : (q : ℕ) (z o : Entry) → risen ≡ Split q z o → IsBelow table a made key s.number q z o
-  up_below q z o is =
-      let sides : IsLowRisen (node_words_of up_over.0.lower).fixed.height (Split q z o) = subst (IsLowRisen (node_words_of up_over.0.lower).fixed.height) is (up.low up_over.0.lower up_over.0.has_lower) in
-      let h = up_over.1 in
-      record {
-        lower = up.step.number;
-        here = risen_as table a made up.step.number up.step.number risen (Split q z o) refl is up.here;
-        key_is = up.key_is;
-        over = up_over.0;
-        zero_low = omega (arith, sides.0);
-        one_low = omega (arith, sides.1);
-      }
-
-  abbrev pub up_next : (m : SeatView) (made_then : List Rec) (then : Risen) → m.known.locks ≡ a.known.locks → (after : List Made) →
-      IsRaising table m made_then after (a_node s.number ∷ up.here.gone) up.here.newcomer (entry s.number) (subtrie_of then) →
-      ((words : List ℕ) → HasLocked a.known s.number words → IsLevelRisen words then) → IsRisingOn table m made_then way key end above then
-  up_next m made_then then locks after raising rises =
-      let before : (words : List ℕ) → HasLocked m.known s.number words → HasLocked a.known s.number words = λ words. subst (IsOneOf (record { node = s.number; words = words })) locks in
-      record {
-        step = s;
-        at = at;
-        upto = upto;
-        here = record {
-          news = after;
-          gone = a_node s.number ∷ up.here.gone;
-          newcomer = up.here.newcomer;
-          words = up_over.0.upper;
-          locked = subst (IsOneOf (record { node = s.number; words = up_over.0.upper })) (sym locks) up_over.0.has_upper;
-          raising = raising;
-        };
-        key_is = up.key_is;
-        low = λ other h. (rises other (before other h)).low;
-        split = λ more. (rises up_over.0.upper up_over.0.has_upper).split (up.chain.full above s more (omega arith) at up_over.0.upper up_over.0.has_upper);
-        single = λ other h. (rises other (before other h)).single;
-        chain = subst (λ held. IsChain table.layout.nodes held way up.here.newcomer.item.key up.here.newcomer.mismatch end above) (sym locks) (record {
-          there = λ i u l e. up.chain.there i u (omega arith) e;
-          above = λ i u v l h e f. up.chain.above i u v l (omega arith) e f;
-          full = λ i u l h e. up.chain.full i u l (omega arith) e;
-        });
-      }
 
 -- the nodes that go, one more
 pub gone_more : (way : List PathNode) (end above level : ℕ) (gone : List Rec) (s : PathNode) → above + 1 ≡ level → end ≤ above → slice_get way above ≡ Some s → gone_with_way way end above (a_node s.number ∷ gone) ≡ gone_with_way way end level gone
@@ -422,34 +371,102 @@ gone_with_no_node way end gone =
     let zero : end + 0 ≡ end = omega arith in
     ap (λ z. map (λ (s : PathNode). a_node s.number) z ++ gone) (ap (λ n. drop end (take n way)) (sym zero) ∙ drop-take end 0 way)
 
--- the end of the way up, and one level of it
-abbrev pub rising_on_at_end : (table : TableView) (a : SeatView) (made : List Rec) (way : List PathNode) (key : Key) (end level number : ℕ) (risen : Risen) → (up : IsRisingOn table a made way key end level risen) → number ≡ up.step.number →
-    IsRisenAt table a made number risen
-rising_on_at_end table a made way key end level number risen up is = risen_as table a made up.step.number number risen risen (sym is) refl up.here
+-- a fork that rises into the node above
+module _ {table : TableView} {a : SeatView} {made : List Rec} {way : List PathNode} {rise : Rise} (up : Rises table a made way rise) (apart : rise.level ≢ rise.end) where
+  pub up_low : rise.end < rise.level
+  up_low = let u = up.upto in omega (arith, apart, u)
 
-pub up_done : {G : Type 0} (table : TableView) (becomes : G → Event → G → Type 0) (a m c : SeatView × G) (made : List Rec) (way : List PathNode) (x : Newcomer) (end above level : ℕ) (gone : List Rec) (s : PathNode) →
-    above + 1 ≡ level → end ≤ above → slice_get way above ≡ Some s → WorksOn table becomes a m → (answer : Option Entry) →
-    MatchOption answer (HasNotMade table c.0 made) (HasRisenTo table c.0 made way x end (gone_with_way way end above (a_node s.number ∷ gone))) →
-    MatchOption answer (HasNotMade table c.0 made) (HasRisenTo table c.0 made way x end (gone_with_way way end level gone))
-up_done table becomes a m c made way x end above level gone s next upto at goes None answer = answer
-up_done table becomes a m c made way x end above level gone s next upto at goes (Some e) answer =
-    subst (λ g. HasRisenTo table c.0 made way x end g e) (gone_more way end above level gone s next upto at) answer
+  pub up_within : rise.level - 1 < length way
+  up_within = let h = slice_get_within way rise.level up.step up.at in omega (arith, h)
 
-pub settled_at_end : (table : TableView) (a c : SeatView) (made after_made : List Rec) (way : List PathNode) (key : Key) (end level number : ℕ) (risen : Risen) (same : level ≡ end) (up : IsRisingOn table a made way key end level risen) (is : number ≡ up.step.number) → (answer : Option Entry) →
-    MatchOption answer (HasNotMade table c after_made) (λ e. (after : List Made) × IsRaising table c after_made after up.here.gone up.here.newcomer (entry number) (Place e)) →
-    MatchOption answer (HasNotMade table c after_made) (HasRisenTo table c after_made way up.here.newcomer end (gone_with_way way end level up.here.gone))
-settled_at_end table a c made after_made way key end level number risen same up is None answer = answer
-settled_at_end table a c made after_made way key end level number risen same up is (Some e) (after, raising) =
-    let gone : gone_with_way way end level up.here.gone ≡ up.here.gone = ap (λ n. gone_with_way way end n up.here.gone) same ∙ gone_with_no_node way end up.here.gone in (
-      after,
-      up.step,
-      ap (slice_get way) (sym same) ∙ up.at,
-      subst (λ n. IsRaising table c after_made after (gone_with_way way end level up.here.gone) up.here.newcomer (entry n) (Place e)) is
-          (subst (λ y. IsRaising table c after_made after y up.here.newcomer (entry number) (Place e)) (sym gone) raising),
-    )
+  abbrev pub up_step : PathNode
+  up_step = get_or way (rise.level - 1) no_step
+
+  pub up_at : slice_get way (rise.level - 1) ≡ Some up_step
+  up_at = slice_get-get_or way (rise.level - 1) no_step up_within
+
+  next : rise.level - 1 + 1 ≡ rise.level
+  next = omega (arith, up_low)
+
+  pub up_over : (over : IsLockedAbove a.known.locks up.here.newcomer.item.key up.here.newcomer.mismatch up_step.number up.step.number) × ((node_words_of over.lower).fixed.height < (node_words_of over.upper).fixed.height)
+  up_over = up.chain.above (rise.level - 1) up_step up.step (omega (arith, up_low)) (omega (arith, up_low)) up_at (ap (slice_get way) next ∙ up.at)
+
+  pub up_there : up_step.number < table.layout.nodes
+  up_there = up.chain.there (rise.level - 1) up_step (omega (arith, up_low)) up_at
+
+  abbrev pub up_below : (q : ℕ) (z o : Entry) → rise.risen ≡ Split q z o → GetsFork table a made up_step.number (record { key = rise.key; position = q; zero = z; one = o })
+  up_below q z o is =
+      let sides : IsLowRisen (node_words_of up_over.0.lower).fixed.height (Split q z o) = subst (IsLowRisen (node_words_of up_over.0.lower).fixed.height) is (up.low up_over.0.lower up_over.0.has_lower) in
+      let h = up_over.1 in
+      record {
+        lower = up.step.number;
+        here = risen_as table a made up.step.number up.step.number rise.risen (Split q z o) refl is up.here;
+        key_is = up.key_is;
+        over = up_over.0;
+        zero_low = omega (arith, sides.0);
+        one_low = omega (arith, sides.1);
+      }
+
+  abbrev pub up_next : {m : SeatView} {made_then : List Rec} (then : Risen) → m.known.locks ≡ a.known.locks → IsRaising table m made_then (a_node up_step.number ∷ up.here.gone) up.here.newcomer (entry up_step.number) (subtrie_of then) →
+      ((words : List ℕ) → HasLocked a.known up_step.number words → IsLevelRisen words then) → Rises table m made_then way (record { key = rise.key; end = rise.end; level = rise.level - 1; risen = then })
+  up_next {m} {made_then} then locks raising rises =
+      let before : (words : List ℕ) → HasLocked m.known up_step.number words → HasLocked a.known up_step.number words = λ words. subst (IsOneOf (record { node = up_step.number; words = words })) locks in
+      record {
+        step = up_step;
+        at = up_at;
+        upto = omega (arith, up_low);
+        here = record {
+          gone = a_node up_step.number ∷ up.here.gone;
+          newcomer = up.here.newcomer;
+          words = up_over.0.upper;
+          locked = subst (IsOneOf (record { node = up_step.number; words = up_over.0.upper })) (sym locks) up_over.0.has_upper;
+          raising = raising;
+        };
+        key_is = up.key_is;
+        low = λ other h. (rises other (before other h)).low;
+        split = λ more. (rises up_over.0.upper up_over.0.has_upper).split (up.chain.full (rise.level - 1) up_step more (omega (arith, up_low)) up_at up_over.0.upper up_over.0.has_upper);
+        single = λ other h. (rises other (before other h)).single;
+        chain = subst (λ held. IsChain table.layout.nodes held way up.here.newcomer.item.key up.here.newcomer.mismatch rise.end (rise.level - 1)) (sym locks) (record {
+          there = λ i u l e. up.chain.there i u (omega arith) e;
+          above = λ i u v l h e f. up.chain.above i u v l (omega arith) e f;
+          full = λ i u l h e. up.chain.full i u l (omega arith) e;
+        });
+      }
+
+  pub up_done : (c : SeatView) (after : List Rec) (answer : Option Entry) →
+      MatchOption answer (HasNotMade table c after) (HasRisenTo table c after way up.here.newcomer rise.end (gone_with_way way rise.end (rise.level - 1) (a_node up_step.number ∷ up.here.gone))) →
+      MatchOption answer (HasNotMade table c after) (HasRisenTo table c after way up.here.newcomer rise.end (gone_with_way way rise.end rise.level up.here.gone))
+  up_done c after None given = given
+  up_done c after (Some e) given = subst (λ g. HasRisenTo table c after way up.here.newcomer rise.end g e) (gone_more way rise.end (rise.level - 1) rise.level up.here.gone up_step next (omega (arith, up_low)) up_at) given
+
+-- the end of the way up
+module _ {table : TableView} {a : SeatView} {made : List Rec} {way : List PathNode} {rise : Rise} (up : Rises table a made way rise) where
+  pub last : (get_or way rise.level no_step).number ≡ up.step.number
+  last = ap (λ (z : PathNode). z.number) (get_or_from_slice_get way rise.level up.step no_step up.at)
+
+  abbrev pub rising_on_at_end : IsRisenAt table a made (get_or way rise.level no_step).number rise.risen
+  rising_on_at_end = risen_as table a made up.step.number (get_or way rise.level no_step).number rise.risen rise.risen (sym last) refl up.here
+
+  pub settled_at_end : (c : SeatView) (after : List Rec) (answer : Option Entry) → rise.level ≡ rise.end →
+      MatchOption answer (HasNotMade table c after) (λ e. IsRaising table c after up.here.gone up.here.newcomer (entry (get_or way rise.level no_step).number) (Place e)) →
+      MatchOption answer (HasNotMade table c after) (HasRisenTo table c after way up.here.newcomer rise.end (gone_with_way way rise.end rise.level up.here.gone))
+  settled_at_end c after None same given = given
+  settled_at_end c after (Some e) same raising =
+      let gone : gone_with_way way rise.end rise.level up.here.gone ≡ up.here.gone = ap (λ n. gone_with_way way rise.end n up.here.gone) same ∙ gone_with_no_node way rise.end up.here.gone in (
+        up.step,
+        ap (slice_get way) (sym same) ∙ up.at,
+        subst (λ n. IsRaising table c after (gone_with_way way rise.end rise.level up.here.gone) up.here.newcomer (entry n) (Place e)) last
+            (subst (λ y. IsRaising table c after y up.here.newcomer (entry (get_or way rise.level no_step).number) (Place e)) (sym gone) raising),
+      )
 
 -- ---- all of a span
-module _ (table : TableView) (a : SeatView) (made : List Rec) (way : List PathNode) (span : Span) (new : NewLeaf) (b : IsGrowing table a made way span new) (number : ℕ) (is : number ≡ b.step.number) where
+module _ {table : TableView} {a : SeatView} {made : List Rec} {way : List PathNode} {span : Span} {new : NewLeaf} (b : IsGrowing table a made way span new) where
+  abbrev pub number : ℕ
+  number = (get_or way (span.len - 1) no_step).number
+
+  pub number_is : number ≡ b.step.number
+  number_is = ap (λ (z : PathNode). z.number) (get_or_from_slice_get way (span.len - 1) b.step no_step b.at)
+
   abbrev pub low_at : GetsLeaf table a made number new
   low_at = record {
     since = b.lowest.since;
@@ -459,32 +476,30 @@ module _ (table : TableView) (a : SeatView) (made : List Rec) (way : List PathNo
     key_is = b.lowest.key_is;
     leaf_is = b.lowest.leaf_is;
     made_leaf = b.lowest.made_leaf;
-    found = subst (λ n. HasFoundBelow a.known a.known.locks (newcomer_of b.lowest) n b.lowest.words) (sym is) b.lowest.found;
+    found = subst (λ n. HasFoundBelow a.known a.known.locks (newcomer_of b.lowest) n b.lowest.words) (sym number_is) b.lowest.found;
     part = b.lowest.part;
     leads = b.lowest.leads;
   }
 
-  abbrev pub up_first : (m : SeatView) (made_then : List Rec) (then : Risen) (stays : Bool) → m.known.locks ≡ a.known.locks → (after : List Made) →
-      IsRaising table m made_then after (gone_unless_whole stays number) (newcomer_of b.lowest) (entry number) (subtrie_of then) →
-      ((words : List ℕ) → HasLocked a.known number words → IsLevelRisen words then) → IsRisingOn table m made_then way new.key.now span.end (span.len - 1) then
-  up_first m made_then then stays locks after raising rises =
+  abbrev pub up_first : {m : SeatView} {made_then : List Rec} (then : Risen) (stays : Bool) → m.known.locks ≡ a.known.locks → IsRaising table m made_then (gone_unless_whole stays number) (newcomer_of b.lowest) (entry number) (subtrie_of then) →
+      ((words : List ℕ) → HasLocked a.known number words → IsLevelRisen words then) → Rises table m made_then way (record { key = new.key; end = span.end; level = span.len - 1; risen = then })
+  up_first {m} {made_then} then stays locks raising rises =
       let before : (words : List ℕ) → HasLocked m.known b.step.number words → HasLocked a.known number words =
-      λ words h. subst (λ n. HasLocked a.known n words) (sym is) (subst (IsOneOf (record { node = b.step.number; words = words })) locks h) in
+      λ words h. subst (λ n. HasLocked a.known n words) (sym number_is) (subst (IsOneOf (record { node = b.step.number; words = words })) locks h) in
       record {
         step = b.step;
         at = b.at;
         upto = b.upto;
         here = record {
-          news = after;
           gone = gone_unless_whole stays number;
           newcomer = newcomer_of b.lowest;
           words = b.lowest.words;
           locked = subst (IsOneOf (record { node = b.step.number; words = b.lowest.words })) (sym locks) b.lowest.found.locked;
-          raising = subst (λ n. IsRaising table m made_then after (gone_unless_whole stays number) (newcomer_of b.lowest) (entry n) (subtrie_of then)) is raising;
+          raising = subst (λ n. IsRaising table m made_then (gone_unless_whole stays number) (newcomer_of b.lowest) (entry n) (subtrie_of then)) number_is raising;
         };
         key_is = b.lowest.key_is;
         low = λ other h. (rises other (before other h)).low;
-        split = λ more. (rises b.lowest.words (subst (λ n. HasLocked a.known n b.lowest.words) (sym is) b.lowest.found.locked)).split (b.full more);
+        split = λ more. (rises b.lowest.words (subst (λ n. HasLocked a.known n b.lowest.words) (sym number_is) b.lowest.found.locked)).split (b.full more);
         single = λ other h. (rises other (before other h)).single;
         chain = subst (λ held. IsChain table.layout.nodes held way b.lowest.item.key new.position span.end (span.len - 1)) (sym locks) b.chain;
       }

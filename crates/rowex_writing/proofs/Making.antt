@@ -38,6 +38,7 @@ use Rattle.rowex_table.proofs.Running.{runs_same}
 use Rattle.rowex_records.specs.Claims.{claiming, wrapped, Misses, MissesOne, MissesNumber, HoldsOneMore, ClaimsOne, FindsNone, Claims}
 use Rattle.rowex_records.specs.Records.{fill_with, filling, load_of_word, fill_unless_found, owning, stored, stored_in, SetsAll, SetsSome, SetsWord}
 use Rattle.rowex_records.proofs.Filled.{leaf_stored, left_beside}
+use Rattle.publish_laws.specs.Loops.{StaysLocked}
 use Rattle.publish_laws.specs.Rises.{made_of_node}
 use Rattle.rowex_reading.specs.Possible.{IsPossible}
 use Rattle.rowex_reading.proofs.Later.{event_possible}
@@ -90,21 +91,14 @@ sets_plain r words n acts turn = in_turn_plain (λ i. SetsWord r (i + 1) (get_or
     plain offset word acts (inr (unused, found, is)) = subst (All TriesNoLock) (sym is) (All-cons TriesNoLock (load_of_word r offset found) (fill_unless_found r offset word found) (looked r offset found) (mended offset word (nat_eq found word)))
 
 module _ {G : Type 0} (table : TableView) (becomes : G → Event → G → Type 0) where
+  stays_on : {j : Known} (acts : List Act) (a b : SeatView × G) → All TriesNoLock acts → Runs table becomes acts a b → b.0.known ≡ j → StaysLocked a.0.known j → WorksOn table becomes a b
+  stays_on acts a b plain steps is stays = record { acts = acts; plain = plain; steps = steps; stays = subst (StaysLocked a.0.known) (sym is) stays }
+
   pub claims_on : (acts : List Act) (a b : SeatView × G) → All TriesNoLock acts → Does table becomes claiming acts a b → WorksOn table becomes a b
-  claims_on acts a b plain does = let r = does.rest in record {
-    acts = acts;
-    plain = plain;
-    steps = does.steps;
-    stays = (same_later a.0.known b.0.known (ap (λ (z : Known). z.pass) r) (ap (λ (z : Known). z.pin) r) (ap (λ (z : Known). z.front) r) (ap (λ (z : Known). z.facts) r), ap (λ (z : Known). z.locks) r, ap (λ (z : Known). z.anchor) r);
-  }
+  claims_on acts a b plain does = stays_on acts a b plain does.steps does.rest (same_later a.0.known _ refl refl refl refl, refl, refl)
 
   pub owns_on : (acts : List Act) (a b : SeatView × G) → All TriesNoLock acts → Does table becomes owning acts a b → WorksOn table becomes a b
-  owns_on acts a b plain does = let r = does.rest in record {
-    acts = acts;
-    plain = plain;
-    steps = does.steps;
-    stays = (same_later a.0.known b.0.known (ap (λ (z : Known). z.pass) r) (ap (λ (z : Known). z.pin) r) (ap (λ (z : Known). z.front) r) (ap (λ (z : Known). z.facts) r), ap (λ (z : Known). z.locks) r, ap (λ (z : Known). z.anchor) r);
-  }
+  owns_on acts a b plain does = stays_on acts a b plain does.steps does.rest (same_later a.0.known _ refl refl refl refl, refl, refl)
 
   -- what a pass knows stays possible
   runs_possible : (acts : List Act) (a b : SeatView × G) → Runs table becomes acts a b → IsPossible table.layout a.0.known → IsPossible table.layout b.0.known

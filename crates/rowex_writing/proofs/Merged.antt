@@ -180,7 +180,7 @@ module _ (table : TableView) (b : SeatView) (job : Job) (number : ℕ) (w : IsWi
           has_upper = is.has;
           has_lower = held_wide (lower job).number low i;
           has_other = other_wide;
-          leaf = low_names table t.before t.since job.key.now job.way.now t.number t.value job.span t.below (lower job) (lower_at table job t) low i;
+          leaf = low_names table t.before t.since job t.number t.value t.below (lower job) (lower_at table job t) low i;
           height = (lower job).height;
           entry = subst (λ ws. seek job.key.now (node_words_of ws).subtrie ≡ Node (lower job).number (lower job).height) shown names;
           position = x.position;
@@ -282,7 +282,7 @@ module _ (table : TableView) (b : SeatView) (job : Job) (number : ℕ) (w : IsWi
       All-cons (HasRecord table.layout) (a_node (upper job).number) (a_node (lower job).number ∷ a_node number ∷ a_leaf t.number ∷ []) (upper_range table job t)
       (All-cons (HasRecord table.layout) (a_node (lower job).number) (a_node number ∷ a_leaf t.number ∷ []) (lower_range table job t)
       (All-cons (HasRecord table.layout) (a_node number) (a_leaf t.number ∷ []) w.low
-      (leaf_gone_record table t.before t.since job.key.now job.way.now t.number t.value job.span t.below (lower job) (lower_at table job t))))
+      (leaf_gone_record table t.before t.since job t.number t.value t.below (lower job) (lower_at table job t))))
 
   -- ---- the store
   -- what names the upper node is locked, and another entry that is no higher may stand there
@@ -402,7 +402,7 @@ module _ (table : TableView) (b : SeatView) (job : Job) (number : ℕ) (w : IsWi
             (subst (λ ws. IsSide (subtrie_collapsed job.key.now (Node z view.height) (node_words_of ws).subtrie) e us) (sym (beside_wide table b job number w x same is).2) closed)
             holds.holds (holds.fits e (omega (arith, high, upper_high)))
             (leaf_there table.layout its.before.known j b.known.locks (us ++ made_of_node z view ∷ []) its.number job.key.now its.value (later_transitive its.before.known b.known j w.later later)
-            (has_read table its.before its.since job.key.now job.way.now its.number its.value job.span its.below (lower job) (lower_at table job its)))
+            (has_read table its.before its.since job its.number its.value its.below (lower job) (lower_at table job its)))
             (word, refl));
       }
 
@@ -598,16 +598,16 @@ building_same table a b made news seat possible own was = record { seat = seat; 
 -- ---- the end of a removal
 pub is_taking : (table : TableView) (a : SeatView) (job : Job) → HasTakenPlan table a job Take → 0 < job.span.end → (t : IsTaking table job) × (t.before ≡ a)
 is_taking table a job (m, aim, taken, planned) some =
-    let (number, value, found_is, below) = taken_below table a m job.key.now job.way.now aim job.found job.span taken planned (let w = taken.within.0 in omega (arith, w, some)) in
+    let (number, value, found_is, below) = taken_below table a m job aim taken planned (let w = taken.within.0 in omega (arith, w, some)) in
     (record { before = a; since = m; number = number; value = value; found = found_is; below = below; some = some }, refl)
 
-pub building_now : (table : TableView) (b : SeatView) (made : List Rec) (job : Job) (t : IsTaking table job) (raised : Raised) (x : Change) (was : Option ℕ) → MayReplace table b made job.way.now job.span raised x was → (news : List Made) × IsBuilding table b made news
+pub building_now : (table : TableView) (b : SeatView) (made : List Rec) (job : Job) (t : IsTaking table job) (raised : Raised) (x : Change) (was : Option ℕ) → MayReplace table b made job raised x was → (news : List Made) × IsBuilding table b made news
 building_now table b made job t raised x was may =
     let m = may.ends (Slot (upper job).number (upper job).at) (upper job, t.some, upper_at table job t, refl, refl) in (m.news, m.building)
 
-pub replace_later : (table : TableView) (a b : SeatView) (made after : List Rec) (way : List PathNode) (span : Span) (raised : Raised) (x : Change) (was : Option ℕ) → IsSeatOf table b → IsPossible table.layout b.known → IsLater a.known b.known → HasTheSame a.known b.known →
-    after ≡ made → MayReplace table a made way span raised x was → MayReplace table b after way span raised x was
-replace_later table a b made after way span raised x was seat possible later (locks, anchor, own) same may = subst (λ z. MayReplace table b z way span raised x was) (sym same) (record {
+pub replace_later : (table : TableView) (a b : SeatView) (made after : List Rec) (job : Job) (raised : Raised) (x : Change) (was : Option ℕ) → IsSeatOf table b → IsPossible table.layout b.known → IsLater a.known b.known → HasTheSame a.known b.known →
+    after ≡ made → MayReplace table a made job raised x was → MayReplace table b after job raised x was
+replace_later table a b made after job raised x was seat possible later (locks, anchor, own) same may = subst (λ z. MayReplace table b z job raised x was) (sym same) (record {
   from = may.from;
   upto = may.upto;
   most = may.most;

@@ -18,7 +18,7 @@ use Rattle.rowex_writing.specs.declared.plan.Deed.TheVariants.{Grow}
 use Rattle.rowex_reading.specs.declared.descent.Found.{Found}
 use Rattle.rowex_reading.specs.declared.descent.Found.TheVariants.{Nothing, Leaf}
 use Rattle.rowex_writing.specs.declared.plan.Plan.{Plan}
-use Rattle.rowex_writing.specs.declared.plan.Plan.TheVariants.{Answer}
+use Rattle.rowex_writing.specs.declared.plan.Plan.TheVariants.{Answer, Change}
 
 -- the chosen node is one of the way
 pub chosen_within : (way : List PathNode) (level first last : ℕ) (c : Choice) → level < length way → IsChosen way level first last c → c.level < length way
@@ -101,3 +101,15 @@ module _ (way : List PathNode) (position level : ℕ) (s : PathNode) (plan : Pla
 pub new_leaf_at : (way : List PathNode) (position level first upto : ℕ) (plan : Plan) → IsLevel way position level → IsBeside way position level first upto plan → IsNewLeafPlan way position first upto plan
 new_leaf_at [] position level first upto plan is beside = absurd (let within = is.within in omega (arith, within))
 new_leaf_at (s ∷ ss) position level first upto plan is beside = (level, is, beside)
+
+-- the same change is at the same span
+abbrev len_of : Plan → ℕ
+len_of (Answer reply) = 0
+len_of (Change span deed) = span.len
+
+abbrev end_of : Plan → ℕ
+end_of (Answer reply) = 0
+end_of (Change span deed) = span.end
+
+pub same_span : {l e m f : ℕ} {d o : Deed} → change l e d ≡ change m f o → (l ≡ m) × (e ≡ f)
+same_span is = (ap len_of is, ap end_of is)

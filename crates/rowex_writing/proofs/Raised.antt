@@ -14,6 +14,7 @@ use Rattle.tries.specs.Keys.{Key}
 use Rattle.tries.proofs.Places.{spot_below}
 use Rattle.rowex_core.specs.Cores.{HasRecord}
 use Rattle.rowex_core.specs.Having.{AreKept}
+use Rattle.rowex_core.specs.declared.event.Event.{Event}
 use Rattle.rowex_core.specs.declared.event.Spot.{Spot}
 use Rattle.rowex_core.specs.declared.event.Spot.TheVariants.{Root, Slot}
 use Rattle.rowex_core.specs.declared.known.Known.{Known}
@@ -28,8 +29,12 @@ use Rattle.version_laws.specs.Writer.{added_change, removed_change}
 use Rattle.tries.specs.Content.{item}
 use Rattle.rowex_writing.specs.Building.{IsBuilding}
 use Rattle.rowex_writing.specs.Changes.{IsFull, IsPutChange, IsTakeChange}
-use Rattle.rowex_writing.specs.Deeds.{HasNoneFree, HasRaised, MayReplace, gone_of_span, kept_of_span, leaf_gone}
+use Rattle.rowex_writing.specs.Deeds.{CarriesOut, HasNoneFree, HasRaised, MayReplace, gone_of_span, kept_of_span, leaf_gone}
+use Rattle.rowex_writing.specs.Counts.{leaf_steps}
+use Rattle.rowex_writing.specs.Going.{WorksOn}
+use Rattle.rowex_writing.specs.declared.building.Build.{Build}
 use Rattle.rowex_writing.specs.declared.deeds.Job.{Job}
+use Rattle.rowex_writing.specs.declared.plan.Deed.{Deed}
 use Rattle.rowex_writing.specs.declared.plan.Deed.TheVariants.{Grow, Take}
 use Rattle.rowex_writing.specs.declared.plan.Full.{Full}
 use Rattle.rowex_writing.specs.declared.plan.Full.TheVariants.{Nodes, Leaves}
@@ -105,17 +110,17 @@ spot_there layout k m key way found w end (Slot n i) (s, low, at, number, place)
 -- ---- what is raised for a deed
 pub grown_raised : (table : TableView) (a m : Known) (b : SeatView) (made : List Rec) (job : Job) (position leaf : ℕ) (r : Result Raised Full) → IsLater a m →
     IsPutChange a.pass job.key.now job.value job.found (added_change a.pass (item leaf job.key.now job.value)) None →
-    IfOk r (λ raised. MayReplace table b made job.way.now job.span raised (added_change m.pass (item leaf job.key.now job.value)) None) → IfOk r (HasRaised table a b made job (Grow position))
+    IfOk r (λ raised. MayReplace table b made job raised (added_change m.pass (item leaf job.key.now job.value)) None) → IfOk r (HasRaised table a b made job (Grow position))
 grown_raised table a m b made job position leaf (Ok raised) later stored may = (
   added_change a.pass (item leaf job.key.now job.value),
   None,
   stored,
-  subst (λ q. MayReplace table b made job.way.now job.span raised (added_change q (item leaf job.key.now job.value)) None) later.pass may,
+  subst (λ q. MayReplace table b made job raised (added_change q (item leaf job.key.now job.value)) None) later.pass may,
 )
 grown_raised table a m b made job position leaf (Err full) later stored may = tt
 
 pub taken_raised : (table : TableView) (a : Known) (b : SeatView) (made : List Rec) (job : Job) (number value : ℕ) (r : Result Raised Full) → job.found ≡ Leaf number value None →
-    IfOk r (λ raised. MayReplace table b made job.way.now job.span raised (removed_change a.pass (item number job.key.now value)) (Some value)) → IfOk r (HasRaised table a b made job Take)
+    IfOk r (λ raised. MayReplace table b made job raised (removed_change a.pass (item number job.key.now value)) (Some value)) → IfOk r (HasRaised table a b made job Take)
 taken_raised table a b made job number value (Ok raised) is may = (
   removed_change a.pass (item number job.key.now value),
   Some value,
@@ -140,5 +145,11 @@ nodes_alone (Err Nodes) P h = λ e. cc
 nodes_alone (Err Leaves) P h = absurd (let z = h.0 in cc)
 
 -- no leaf record was free, the first that a deed wants
-pub no_leaf_free : (table : TableView) (k : Known) (b : SeatView) (made : List Rec) (job : Job) → IsBuilding table b made [] → IsFull table.layout job.key.now k b.known Leaves → HasNoneFree table k b made job Leaves
-no_leaf_free table k b made job building missed = record { not_made = record { news = []; building = building }; few = omega (arith, ap length building.listed); full_of = missed }
+pub no_leaf_free : {G : Type 0} {table : TableView} {becomes : G → Event → G → Type 0} {a b : (SeatView × G) × Build} {job : Job} {deed : Deed} → WorksOn table becomes a.0 b.0 →
+    IsBuilding table b.0.0 b.1.made.items [] × IsFull table.layout job.key.now a.0.0.known b.0.0.known Leaves → b.0.0.known.steps ≤ a.0.0.known.steps + leaf_steps table.layout → CarriesOut table becomes a b job deed (Err Leaves)
+no_leaf_free goes (building, missed) few = record {
+  goes = goes;
+  raised = tt;
+  full = record { not_made = record { news = []; building = building }; few = omega (arith, ap length building.listed); full_of = missed };
+  few = omega (arith, few);
+}

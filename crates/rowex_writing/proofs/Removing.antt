@@ -65,8 +65,11 @@ use Rattle.rowex_reading.specs.Ways.{IsWayOf}
 use Rattle.rowex_reading.proofs.Ways.{named_at, named_end}
 use Rattle.rowex_reading.specs.declared.descent.Found.{Found}
 use Rattle.rowex_reading.specs.declared.descent.Found.TheVariants.{Nothing, Leaf}
+use Rattle.rowex_writing.specs.declared.deeds.Job.{Job}
 use Rattle.rowex_writing.specs.declared.plan.Span.{Span}
 use Rattle.rowex_writing.proofs.Above.{locked_at, holds_above}
+use Rattle.rowex_writing.proofs.Beside.{locked_node}
+use Rattle.rowex_writing.proofs.Planning.{same_span}
 use Rattle.rowex_writing.proofs.Shapes.{way_node_locked}
 use Rattle.rowex_writing.proofs.Spans.{slice_more, slice_none}
 use Rattle.tries.specs.Content.{item}
@@ -103,8 +106,8 @@ abbrev pub no_step : PathNode
 no_step = record { number = 0; height = 0; first_position = 0; count = 0; at = 0 }
 
 -- the last node of the way that a leaf below it leaves
-pub low_step : (table : TableView) (a : SeatView) (m : ℕ) (key : Key) (way : List PathNode) (number value : ℕ) (span : Span) → HasLeafBelow table a m key way number value span → slice_get way span.end ≡ Some (get_or way span.end no_step)
-low_step table a m key way number value span b = slice_get-get_or way span.end no_step (let e = b.last in let n = b.len in omega (arith, e, n))
+pub low_step : (table : TableView) (a : SeatView) (m : ℕ) (job : Job) (number value : ℕ) → HasLeafBelow table a m job number value → slice_get job.way.now job.span.end ≡ Some (get_or job.way.now job.span.end no_step)
+low_step table a m job number value b = slice_get-get_or job.way.now job.span.end no_step (let e = b.last in let n = b.len in omega (arith, e, n))
 
 -- ---- the plan
 -- a plan by which a leaf goes
@@ -135,14 +138,6 @@ new_takes : (way : List PathNode) (p first last : ℕ) (plan : Plan) → IsNewLe
 new_takes [] p first last plan is take = no_take plan _ is take (λ z. z)
 new_takes (s ∷ way) p first last plan is take = let beside = is.2 in case_takes (s ∷ way) p beside.0 beside.0.case plan beside.2 take
 
-abbrev len_of : Plan → ℕ
-len_of (Answer reply) = 0
-len_of (Change span deed) = span.len
-
-abbrev plan_end : Plan → ℕ
-plan_end (Answer reply) = 0
-plan_end (Change span deed) = span.end
-
 plan_takes : (way : List PathNode) (first last : ℕ) (aim : Aim) (found : Found) (len end : ℕ) → IsPlan way first last aim found (change len end Take) → IsTakeOf way found len end
 plan_takes way first last Insert Nothing len end is = absurd (no_take (change len end Take) _ is tt (λ z. z))
 plan_takes way first last Upsert Nothing len end is = absurd (no_take (change len end Take) _ is tt (λ z. z))
@@ -152,47 +147,47 @@ plan_takes way first last Insert (Leaf n v None) len end is = absurd (no_take (c
 plan_takes way first last Upsert (Leaf n v None) len end is = absurd (no_take (change len end Take) _ is tt (λ z. z))
 plan_takes way first last Remove Nothing len end is = absurd (no_take (change len end Take) _ is tt (λ z. z))
 plan_takes way first last Remove (Leaf n v (Some p)) len end is = absurd (no_take (change len end Take) _ is tt (λ z. z))
-plan_takes way first last Remove (Leaf n v None) len end is = record { number = n; value = v; found_is = refl; len_is = ap len_of is; end_is = ap plan_end is }
+plan_takes way first last Remove (Leaf n v None) len end is = record { number = n; value = v; found_is = refl; len_is = (same_span is).0; end_is = (same_span is).1 }
 
-module _ (table : TableView) (a : SeatView) (m : ℕ) (key : Key) (way : List PathNode) (aim : Aim) (found : Found) (span : Span) (taken : HasTakenSpan table a m key way found span)
-    (planned : IsPlanned a.known m key way aim found (change span.len span.end Take)) (number value : ℕ) (mismatch : Option ℕ) (is_leaf : found ≡ Leaf number value mismatch) where
-  the_plan : IsTakeOf way found span.len span.end
-  the_plan = let (first, last, is, affected) = planned in plan_takes way first last aim found span.len span.end is
+module _ (table : TableView) (a : SeatView) (m : ℕ) (job : Job) (aim : Aim) (taken : HasTakenSpan table a m job.key.now job.way.now job.found job.span)
+    (planned : IsPlanned a.known m job.key.now job.way.now aim job.found (change job.span.len job.span.end Take)) (number value : ℕ) (mismatch : Option ℕ) (is_leaf : job.found ≡ Leaf number value mismatch) where
+  the_plan : IsTakeOf job.way.now job.found job.span.len job.span.end
+  the_plan = let (first, last, is, affected) = planned in plan_takes job.way.now first last aim job.found job.span.len job.span.end is
 
-  pub found_key : found ≡ Leaf number value None
+  pub found_key : job.found ≡ Leaf number value None
   found_key =
       let both : Leaf number value mismatch ≡ Leaf the_plan.number the_plan.value None = sym is_leaf ∙ the_plan.found_is in
       let none : mismatch ≡ None = cc in
       is_leaf ∙ ap (λ o. Leaf number value o) none
 
-  found_span : HasTakenSpan table a m key way (Leaf number value None) span
-  found_span = subst (λ f. HasTakenSpan table a m key way f span) found_key taken
+  found_span : HasTakenSpan table a m job.key.now job.way.now (Leaf number value None) job.span
+  found_span = subst (λ f. HasTakenSpan table a m job.key.now job.way.now f job.span) found_key taken
 
   -- a way with a node
-  pub take_below : 0 < span.len → HasLeafBelow table a m key way number value span
+  pub take_below : 0 < job.span.len → HasLeafBelow table a m job number value
   take_below some = record { taken = found_span; len = the_plan.len_is; last = (let e = the_plan.end_is in let n = the_plan.len_is in omega (arith, e, n, some)) }
 
-  no_locks : (n : ℕ) → span.len ≡ 0 → IsOneOf n (numbers_of (slice_range way (span.end - 1) span.len)) → ⊥
+  no_locks : (n : ℕ) → job.span.len ≡ 0 → IsOneOf n (numbers_of (slice_range job.way.now (job.span.end - 1) job.span.len)) → ⊥
   no_locks n low i =
-      let none : span.len - (span.end - 1) ≡ 0 = omega (arith, low) in
-      absurd (subst (λ z. IsOneOf n (numbers_of (take z (drop (span.end - 1) way)))) none i)
+      let none : job.span.len - (job.span.end - 1) ≡ 0 = omega (arith, low) in
+      absurd (subst (λ z. IsOneOf n (numbers_of (take z (drop (job.span.end - 1) job.way.now)))) none i)
 
   -- a way of none
-  pub take_only : span.len ≤ 0 → HasOnlyLeaf table a number key value × (span.end ≡ 0) × (span.len ≡ 0)
+  pub take_only : job.span.len ≤ 0 → HasOnlyLeaf table a number job.key.now value × (job.span.end ≡ 0) × (job.span.len ≡ 0)
   take_only none =
       let t = found_span in
       let n = the_plan.len_is in
       let e = the_plan.end_is in
-      let empty : length way ≡ 0 = omega (arith, n, none) in
-      let top : span.end ≡ 0 = omega (arith, e, empty) in
-      let low : span.len ≡ 0 = omega (arith, none) in
+      let empty : length job.way.now ≡ 0 = omega (arith, n, none) in
+      let top : job.span.end ≡ 0 = omega (arith, e, empty) in
+      let low : job.span.len ≡ 0 = omega (arith, none) in
       let (l, read, same) = t.way_of.found_at in (
         record {
           seat = t.seat;
           possible = t.possible;
           own = t.own;
           locks = none_of a.known.locks (λ l there. no_locks l.node low (t.locked.nodes.0.only l there));
-          anchor = t.checked.root top ∙ ap Some (named_end way (Leaf number value None) 0 (omega (arith, empty)));
+          anchor = t.checked.root top ∙ ap Some (named_end job.way.now (Leaf number value None) 0 (omega (arith, empty)));
           read = (m, t.way_of.since, subst (λ z. Sure a.known (λ past. IsRead past m number z value)) (sym same) read);
         },
         top,
@@ -200,12 +195,12 @@ module _ (table : TableView) (a : SeatView) (m : ℕ) (key : Key) (way : List Pa
       )
 
 -- so on a way with a node, whatever the search found
-pub taken_below : (table : TableView) (a : SeatView) (m : ℕ) (key : Key) (way : List PathNode) (aim : Aim) (found : Found) (span : Span) → HasTakenSpan table a m key way found span → IsPlanned a.known m key way aim found (change span.len span.end Take) → 0 < span.len →
-    (number : ℕ) × (value : ℕ) × (found ≡ Leaf number value None) × HasLeafBelow table a m key way number value span
-taken_below table a m key way aim found span taken planned some =
+pub taken_below : (table : TableView) (a : SeatView) (m : ℕ) (job : Job) (aim : Aim) → HasTakenSpan table a m job.key.now job.way.now job.found job.span → IsPlanned a.known m job.key.now job.way.now aim job.found (change job.span.len job.span.end Take) → 0 < job.span.len →
+    (number : ℕ) × (value : ℕ) × (job.found ≡ Leaf number value None) × HasLeafBelow table a m job number value
+taken_below table a m job aim taken planned some =
     let (first, last, is, affected) = planned in
-    let p = plan_takes way first last aim found span.len span.end is in
-    (p.number, p.value, p.found_is, take_below table a m key way aim found span taken planned p.number p.value None p.found_is some)
+    let p = plan_takes job.way.now first last aim job.found job.span.len job.span.end is in
+    (p.number, p.value, p.found_is, take_below table a m job aim taken planned p.number p.value None p.found_is some)
 
 -- ---- entries
 -- a node's height is at least 1
@@ -233,16 +228,6 @@ left_of k (Fork q x y) e h = sides (left_of k x e) (left_of k y e) (bit k q) h
     sides f g true h = joined_of q true x y (subtrie_without k y) e g h
     sides f g false h = joined_of q false x y (subtrie_without k x) e f h
 
--- the words of a locked node are those of one
-pub locked_view : (layout : Layout) (k : Known) (n : ℕ) (words : List ℕ) → IsPossible layout k → HasLocked k n words → (view : NodeView) × All IsEntry (places (piece view)) × ((node_words_of words).subtrie ≡ piece view)
-unfolding IsPacked
-locked_view layout k n words possible h =
-    let c = possible.core in
-    let (lock, tree, same) = all_of (IsLocked k.pass c) (record { node = n; words = words }) k.locks (knows_all c k possible.knows).locks h in
-    let (view, has, spells) = possible.lawful.records.packed (a_node n) (subst IsWhole (sym tree.1) tt) in
-    let shows = node_is view (c.words (a_node n)) (possible.lawful.records.sized (a_node n)).1 has spells in
-    (view, subst (All IsEntry) has.lawful.shows.entries_are has.lawful.children, ap (λ (z : NodeWords). z.subtrie) (ap node_words_of (sym same) ∙ shows))
-
 side_raised : (k : Key) (view : NodeView) (e : Entry) (news : List Made) → All IsEntry (places (piece view)) → IsSide (subtrie_without k (piece view)) e news → IsRaised e
 side_raised k view e news all (one d is) = entry_raised e (all_of IsEntry e (places (piece view)) all (left_of k (piece view) e (subst (λ (z : Subtrie). IsOneOf e (places z)) (sym is) (inl refl))))
 side_raised k view e news all (anew m made is shows) = let high = is.1 in omega (arith, high)
@@ -250,66 +235,66 @@ side_raised k view e news all (anew m made is shows) = let high = is.1 in omega 
 -- so the entry for what is left has a height
 pub left_raised : (layout : Layout) (k : Known) (n : ℕ) (words : List ℕ) (key : Key) (e : Entry) (news : List Made) → IsPossible layout k → HasLocked k n words → IsSide (subtrie_without key (node_words_of words).subtrie) e news → IsRaised e
 left_raised layout k n words key e news possible h side =
-    let (view, all, subtrie_is) = locked_view layout k n words possible h in
-    side_raised key view e news all (subst (λ (z : Subtrie). IsSide (subtrie_without key z) e news) subtrie_is side)
+    let (view, is) = locked_node layout k n words possible h in
+    side_raised key view e news (subst (All IsEntry) is.has.lawful.shows.entries_are is.has.lawful.children) (subst (λ (z : Subtrie). IsSide (subtrie_without key z) e news) (ap (λ (z : NodeWords). z.subtrie) is.shows) side)
 
 -- ---- the node that names the leaf
-module _ (table : TableView) (a : SeatView) (m : ℕ) (key : Key) (way : List PathNode) (number value : ℕ) (span : Span) (b : HasLeafBelow table a m key way number value span) (s : PathNode) (at : slice_get way span.end ≡ Some s) where
+module _ (table : TableView) (a : SeatView) (m : ℕ) (job : Job) (number value : ℕ) (b : HasLeafBelow table a m job number value) (s : PathNode) (at : slice_get job.way.now job.span.end ≡ Some s) where
   abbrev found : Found
   found = Leaf number value None
 
-  w : IsWayOf table.layout a.known m key way found
+  w : IsWayOf table.layout a.known m job.key.now job.way.now found
   w = b.taken.way_of
 
-  pub has_read : HasReadLeaf a.known number key value
+  pub has_read : HasReadLeaf a.known number job.key.now value
   has_read = let (l, read, same) = w.found_at in (m, w.since, subst (λ z. Sure a.known (λ past. IsRead past m number z value)) (sym same) read)
 
   pub lowest_locked : IsLockedBy a.known s.number
-  lowest_locked = locked_at a.known way span b.taken.locked span.end s (omega arith) (let e = b.last in omega (arith, e)) at
+  lowest_locked = locked_at a.known job.way.now job.span b.taken.locked job.span.end s (omega arith) (let e = b.last in omega (arith, e)) at
 
   -- the key's search takes the same entry in it as it did before
-  pub lowest_leads : LeadsLocked a.known s.number key s.at
-  lowest_leads words h = let (e, is, node) = w.nodes span.end s at in (way_node_locked table.layout a.known m key s e words b.taken.possible w.since node h).at
+  pub lowest_leads : LeadsLocked a.known s.number job.key.now s.at
+  lowest_leads words h = let (e, is, node) = w.nodes job.span.end s at in (way_node_locked table.layout a.known m job.key.now s e words b.taken.possible w.since node h).at
 
-  pub low_names : (words : List ℕ) → HasLocked a.known s.number words → seek key (node_words_of words).subtrie ≡ LeafEntry number
+  pub low_names : (words : List ℕ) → HasLocked a.known s.number words → seek job.key.now (node_words_of words).subtrie ≡ LeafEntry number
   low_names words h =
       let e = b.last in
       let n = b.len in
-      let checked = b.taken.checked.entries span.end s (omega arith) (omega (arith, e)) at words h in
-      some_injective (sym checked ∙ named_end way found (span.end + 1) (omega (arith, e, n)))
+      let checked = b.taken.checked.entries job.span.end s (omega arith) (omega (arith, e)) at words h in
+      some_injective (sym checked ∙ named_end job.way.now found (job.span.end + 1) (omega (arith, e, n)))
 
   pub leaf_gone_record : AreInTable table.layout (a_leaf number ∷ [])
-  leaf_gone_record = All-cons (HasRecord table.layout) (a_leaf number) [] (leaf_record table.layout a.known number key value b.taken.possible has_read) (λ i d low. absurd (omega arith))
+  leaf_gone_record = All-cons (HasRecord table.layout) (a_leaf number) [] (leaf_record table.layout a.known number job.key.now value b.taken.possible has_read) (λ i d low. absurd (omega arith))
 
   -- it is the last one of the span
-  pub last_one : slice_range way span.end span.len ≡ s ∷ []
+  pub last_one : slice_range job.way.now job.span.end job.span.len ≡ s ∷ []
   last_one =
       let e = b.last in
       let n = b.len in
-      slice_more way span.end span.len s (omega (arith, e)) (omega (arith, n)) ∙
-      (ap (λ z. z ∷ slice_range way (span.end + 1) span.len) (get_or_from_slice_get way span.end s s at) ∙
-      ap (λ z. s ∷ z) (ap (λ i. slice_range way i span.len) e ∙ slice_none way span.len))
+      slice_more job.way.now job.span.end job.span.len s (omega (arith, e)) (omega (arith, n)) ∙
+      (ap (λ z. z ∷ slice_range job.way.now (job.span.end + 1) job.span.len) (get_or_from_slice_get job.way.now job.span.end s s at) ∙
+      ap (λ z. s ∷ z) (ap (λ i. slice_range job.way.now i job.span.len) e ∙ slice_none job.way.now job.span.len))
 
   -- what is left may take the node's place
   module _ (c : SeatView) (made : List Rec) (news : List Made) (words : List ℕ) (h : HasLocked a.known s.number words) (e : Entry) (stays : StaysLocked a.known c.known) (building : IsBuilding table c made news)
-      (side : IsSide (subtrie_without key (node_words_of words).subtrie) e news) (low : height_of e ≤ (node_words_of words).fixed.height) (word : HasEntryWord (Some e)) where
+      (side : IsSide (subtrie_without job.key.now (node_words_of words).subtrie) e news) (low : height_of e ≤ (node_words_of words).fixed.height) (word : HasEntryWord (Some e)) where
     abbrev gone : List Rec
     gone = a_node s.number ∷ a_leaf number ∷ []
 
     abbrev gone_change : ℕ → MapChange
-    gone_change q = removed_change q (item number key value)
+    gone_change q = removed_change q (item number job.key.now value)
 
-    publishes : (spot : Spot) → IsSpotAbove way span.end spot → (j : Known) → IsLater c.known j → HasReady j c.known.locks news → j.anchor ≡ c.known.anchor → Publishes table.layout j spot (entry_word (Some e)) (gone_change j.pass) (Some value) gone
+    publishes : (spot : Spot) → IsSpotAbove job.way.now job.span.end spot → (j : Known) → IsLater c.known j → HasReady j c.known.locks news → j.anchor ≡ c.known.anchor → Publishes table.layout j spot (entry_word (Some e)) (gone_change j.pass) (Some value) gone
     publishes spot is j later ready anchor =
         let t = b.taken in
-        let above = holds_above table.layout a.known m key way found span t.possible w t.locked t.checked t.within.0 (Node s.number s.height) (named_at way found span.end s at) j c.known.locks stays.1 (anchor ∙ stays.2) spot is in
-        let (f, f_is, own) = w.nodes span.end s at in
-        let node = way_node_locked table.layout a.known m key s f words t.possible w.since own h in
-        remove table.layout j c.known.locks news key s.number number s.height (entry_word (Some e)) value e words spot ready side (subst (IsOneOf (record { node = s.number; words = words })) (sym stays.1) h) (low_names words h)
+        let above = holds_above table.layout a.known m job.key.now job.way.now found job.span t.possible w t.locked t.checked t.within.0 (Node s.number s.height) (named_at job.way.now found job.span.end s at) j c.known.locks stays.1 (anchor ∙ stays.2) spot is in
+        let (f, f_is, own) = w.nodes job.span.end s at in
+        let node = way_node_locked table.layout a.known m job.key.now s f words t.possible w.since own h in
+        remove table.layout j c.known.locks news job.key.now s.number number s.height (entry_word (Some e)) value e words spot ready side (subst (IsOneOf (record { node = s.number; words = words })) (sym stays.1) h) (low_names words h)
         above.holds (above.fits e (λ u on. let falls = on.node.below in omega (arith, low, falls, node.height)))
-        (leaf_there table.layout a.known j c.known.locks news number key value (later_transitive a.known c.known j stays.0 later) has_read) (word, refl)
+        (leaf_there table.layout a.known j c.known.locks news number job.key.now value (later_transitive a.known c.known j stays.0 later) has_read) (word, refl)
 
-    pub may_remake : (spot : Spot) → IsSpotAbove way span.end spot → MayPublishOnceReady table c made spot (entry_word (Some e)) (gone_change c.known.pass) (Some value) gone
+    pub may_remake : (spot : Spot) → IsSpotAbove job.way.now job.span.end spot → MayPublishOnceReady table c made spot (entry_word (Some e)) (gone_change c.known.pass) (Some value) gone
     may_remake spot is = record {
       news = news;
       building = building;

@@ -1,5 +1,5 @@
 -- The walk of a change over the records of a kind: how it begins, goes on and ends.
-use Rattle.std.proofs.Common.{◌≡◌, ◌⊎◌, inl, inr, ℕ, suc, ◌+◌, ◌-◌, ◌<◌, ◌≤◌, List, [], ◌∷◌, ◌++◌, Bool, true, false, nat_lt, Option, length, get_or, if◌then◌else◌, refl, sym, ap, subst, ◌∙◌, arith}
+use Rattle.std.proofs.Common.{◌≡◌, ◌⊎◌, inl, inr, ℕ, suc, ◌+◌, ◌-◌, ◌<◌, ◌≤◌, List, [], ◌∷◌, ◌++◌, Bool, true, false, nat_lt, Option, length, get_or, if◌then◌else◌, refl, sym, ap, subst, ◌∙◌, arith, Some, None}
 use Rattle.std.specs.Prelude.{Contains, map}
 use Rattle.std.proofs.lemmas.Bool.{ltb-true, ltb-false, lt-ltb, le-ltb}
 use Rattle.std.proofs.lemmas.List.{get_or_default}
@@ -26,7 +26,7 @@ use Rattle.rowex_records.proofs.Making.{looks_one}
 use Rattle.rowex_writing.specs.declared.building.Build.{Build}
 use Rattle.rowex_writing.specs.Building.{IsBuilding}
 use Rattle.rowex_writing.specs.Going.{WorksOn}
-use Rattle.rowex_writing.specs.Walks.{HasNoOther, IsClaimWalk, WalksOn}
+use Rattle.rowex_writing.specs.Walks.{HasNoOther, IsClaimWalk, Makes}
 use Rattle.rowex_writing.proofs.Keeping.{made_alone, made_held, made_records, run_failed}
 use Rattle.rowex_writing.proofs.Locking.{goes_more, goes_none}
 use Rattle.rowex_writing.proofs.Making.{miss_on, steps_rise}
@@ -85,145 +85,144 @@ pub alone_still : (k j : Known) (made : List Rec) → j.own ≡ k.own → HasNoO
 alone_still k j made same alone r has = alone r (subst (λ own. Contains (map (λ (o : Owned). o.rec) own) r) same has)
 
 -- ---- the walk
-module _ (kind : ℕ → Rec) (n : ℕ) where
-  -- a walk that is to try each record begins at any number
-  pub walk_begins : (layout : Layout) (k : Known) (made : List Rec) (next left : ℕ) → 0 < n → left ≡ n → IsClaimWalk layout kind n k.steps k made next left
-  walk_begins layout k made next left some whole = record {
-    early = omega arith;
-    begin = begin_of n next;
-    low = begins (nat_lt next n) refl;
-    tried = 0;
-    count = omega arith;
-    next_is = λ more. sym ((let same : begin_of n next + 0 ≡ begin_of n next = omega arith in ap (λ z. if nat_lt z n then z else z - n) same) ∙ low_is n (begin_of n next) (begins (nat_lt next n) refl));
-    each = λ i low. absurd (omega arith);
-  }
-    where
-      begins : (b : Bool) → nat_lt next n ≡ b → (if nat_lt next n then next else 0) < n
-      begins true e = rw e (ltb-true next n e)
-      begins false e = rw e some
+-- a walk that is to try each record begins at any number
+pub walk_begins : (layout : Layout) (k : Known) (made : List Rec) (next : ℕ) (all : Layout) → all ≡ layout → IsClaimWalk layout k.steps k made next all.nodes
+walk_begins layout k made next all same = record {
+  early = omega arith;
+  begin = begin_of layout.nodes next;
+  low = begins (nat_lt next layout.nodes) refl;
+  tried = 0;
+  count = (let e = ap (λ (z : Layout). z.nodes) same in omega (arith, e));
+  next_is = λ more. sym ((let same : begin_of layout.nodes next + 0 ≡ begin_of layout.nodes next = omega arith in ap (λ z. if nat_lt z layout.nodes then z else z - layout.nodes) same) ∙ low_is layout.nodes (begin_of layout.nodes next) (begins (nat_lt next layout.nodes) refl));
+  each = λ i low. absurd (omega arith);
+}
+  where
+    begins : (b : Bool) → nat_lt next layout.nodes ≡ b → (if nat_lt next layout.nodes then next else 0) < layout.nodes
+    begins true e = rw e (ltb-true next layout.nodes e)
+    begins false e = rw e layout.nodes_in_range.0
 
-  -- it goes on being one, where failed steps and records come to those that there are
-  pub walk_stays : (layout : Layout) (since : ℕ) (k j : Known) (made more : List Rec) (next left : ℕ) → j.pass ≡ k.pass → j.locks ≡ k.locks → k.steps ≤ j.steps → ((x : Failed) → Contains k.failed x → Contains j.failed x) → ((r : Rec) → Contains made r → Contains more r)
-      → IsClaimWalk layout kind n since k made next left → IsClaimWalk layout kind n since j more next left
-  walk_stays layout since k j made more next left same locks later failed kept w = record {
-    early = let early = w.early in omega arith;
-    begin = w.begin;
-    low = w.low;
-    tried = w.tried;
-    count = w.count;
-    next_is = w.next_is;
-    each = λ i low. elim (w.each i low) [
-      | inl missed ↦ inl (missed_as layout k j made more j.failed (kind (wrapped n w.begin i)) since same locks (kept (kind (wrapped n w.begin i)))
-          (missed_more (IsAnothersBut layout k made) k.failed j.failed (kind (wrapped n w.begin i)) since failed missed))
-      | inr has ↦ inr (kept _ has)
-    ];
-  }
+-- it goes on being one, where failed steps and records come to those that there are
+pub walk_stays : (layout : Layout) (since : ℕ) (k j : Known) (made more : List Rec) (next left : ℕ) → j.pass ≡ k.pass → j.locks ≡ k.locks → k.steps ≤ j.steps → ((x : Failed) → Contains k.failed x → Contains j.failed x) → ((r : Rec) → Contains made r → Contains more r)
+    → IsClaimWalk layout since k made next left → IsClaimWalk layout since j more next left
+walk_stays layout since k j made more next left same locks later failed kept w = record {
+  early = let early = w.early in omega arith;
+  begin = w.begin;
+  low = w.low;
+  tried = w.tried;
+  count = w.count;
+  next_is = w.next_is;
+  each = λ i low. elim (w.each i low) [
+    | inl missed ↦ inl (missed_as layout k j made more j.failed (a_node (wrapped layout.nodes w.begin i)) since same locks (kept (a_node (wrapped layout.nodes w.begin i)))
+        (missed_more (IsAnothersBut layout k made) k.failed j.failed (a_node (wrapped layout.nodes w.begin i)) since failed missed))
+    | inr has ↦ inr (kept _ has)
+  ];
+}
 
-  -- where all have been tried, each was found not free, if those that are made were
-  pub walk_ends : (layout : Layout) (since : ℕ) (k : Known) (made : List Rec) (next left : ℕ) → left ≡ 0 → ((r : Rec) → Contains made r → HasMissedSince (IsAnothersBut layout k made) k.failed r since) →
-      IsClaimWalk layout kind n since k made next left → AllMissed (IsAnothersBut layout k made) kind n k.failed since
-  walk_ends layout since k made next left none looked w q low =
-      let (i, within, is) = turned_to n w.begin q w.low low in
-      let all = w.count in
-      subst (λ z. HasMissedSince (IsAnothersBut layout k made) k.failed (kind z) since) is (elim (w.each i (omega arith)) [ inl missed ↦ missed | inr has ↦ looked _ has ])
+-- where all have been tried, each was found not free, if those that are made were
+pub walk_ends : (layout : Layout) (since : ℕ) (k : Known) (made : List Rec) (next left : ℕ) → left ≡ 0 → ((r : Rec) → Contains made r → HasMissedSince (IsAnothersBut layout k made) k.failed r since) →
+    IsClaimWalk layout since k made next left → AllMissed (IsAnothersBut layout k made) a_node layout.nodes k.failed since
+walk_ends layout since k made next left none looked w q low =
+    let (i, within, is) = turned_to layout.nodes w.begin q w.low low in
+    let all = w.count in
+    subst (λ z. HasMissedSince (IsAnothersBut layout k made) k.failed (a_node z) since) is (elim (w.each i (omega arith)) [ inl missed ↦ missed | inr has ↦ looked _ has ])
 
-  module _ {G : Type 0} (table : TableView) (becomes : G → Event → G → Type 0) where
-    pub walk_on : (since : ℕ) (a b : SeatView × G) (made more : List Rec) (next left : ℕ) → WorksOn table becomes a b → ((r : Rec) → Contains made r → Contains more r)
-        → IsClaimWalk table.layout kind n since a.0.known made next left → IsClaimWalk table.layout kind n since b.0.known more next left
-    walk_on since a b made more next left goes kept w =
-        walk_stays table.layout since a.0.known b.0.known made more next left goes.stays.0.pass goes.stays.1 (steps_rise table becomes goes.acts a b goes.steps) (λ x has. run_failed table becomes goes.acts a b goes.steps x has) kept w
+module _ {G : Type 0} (table : TableView) (becomes : G → Event → G → Type 0) where
+  pub walk_on : (since : ℕ) (a b : SeatView × G) (made more : List Rec) (next left : ℕ) → WorksOn table becomes a b → ((r : Rec) → Contains made r → Contains more r)
+      → IsClaimWalk table.layout since a.0.known made next left → IsClaimWalk table.layout since b.0.known more next left
+  walk_on since a b made more next left goes kept w =
+      walk_stays table.layout since a.0.known b.0.known made more next left goes.stays.0.pass goes.stays.1 (steps_rise table becomes goes.acts a b goes.steps) (λ x has. run_failed table becomes goes.acts a b goes.steps x has) kept w
 
-    -- after tries that found none free
-    module _ (since m : ℕ) (a b : SeatView × G) (made : List Rec) (next left : ℕ) (alone : HasNoOther a.0.known made) (w : IsClaimWalk table.layout kind n since a.0.known made next left) (within : m ≤ left)
-        (none : FindsNone table becomes kind n (begin_of n next) m a b) where
-      abbrev Whose : Rec → Option ℕ → Type 0
-      Whose = IsAnothersBut table.layout b.0.known made
+  -- after tries that found none free
+  module _ (since m : ℕ) (a b : SeatView × G) (made : List Rec) (next left : ℕ) (alone : HasNoOther a.0.known made) (w : IsClaimWalk table.layout since a.0.known made next left) (within : m ≤ left)
+      (none : FindsNone table becomes a_node table.layout.nodes (begin_of table.layout.nodes next) m a b) where
+    abbrev Whose : Rec → Option ℕ → Type 0
+    Whose = IsAnothersBut table.layout b.0.known made
 
-      same : b.0.known.pass ≡ a.0.known.pass
-      same = ap (λ (z : Known). z.pass) none.does.rest
+    same : b.0.known.pass ≡ a.0.known.pass
+    same = ap (λ (z : Known). z.pass) none.does.rest
 
-      locks : b.0.known.locks ≡ a.0.known.locks
-      locks = ap (λ (z : Known). z.locks) none.does.rest
+    locks : b.0.known.locks ≡ a.0.known.locks
+    locks = ap (λ (z : Known). z.locks) none.does.rest
 
-      pub each_tried : (i : ℕ) → i < w.tried + m → HasMissedSince (IsAnothersBut table.layout b.0.known made) b.0.known.failed (kind (wrapped n w.begin i)) since ⊎ Contains made (kind (wrapped n w.begin i))
-      each_tried i low = go (nat_lt i w.tried) refl
-        where
-          count : w.tried + left ≡ n
-          count = w.count
-
-          go : (t : Bool) → nat_lt i w.tried ≡ t → HasMissedSince Whose b.0.known.failed (kind (wrapped n w.begin i)) since ⊎ Contains made (kind (wrapped n w.begin i))
-          go true e = elim (w.each i (ltb-true i w.tried e)) [
-            | inl missed ↦ inl (subst (λ l. HasMissedSince Whose l (kind (wrapped n w.begin i)) since) (sym none.failed) (beyond none.missed a.0.known.failed (kind (wrapped n w.begin i)) since
-                (missed_as table.layout a.0.known b.0.known made made a.0.known.failed (kind (wrapped n w.begin i)) since same locks (λ h. h) missed)))
-            | inr has ↦ inr has
-          ]
-            where
-              beyond : (missed failed : List Failed) (r : Rec) (since : ℕ) → HasMissedSince Whose failed r since → HasMissedSince Whose (missed ++ failed) r since
-              beyond [] failed r since h = h
-              beyond (x ∷ missed) failed r since h = let (step, late, (act, word, tells, one, (at, inside, is))) = beyond missed failed r since h in (step, late, (act, word, tells, one, (suc at, omega arith, is)))
-          go false e =
-              let past = ltb-false i w.tried e in
-              let early = w.early in
-              let at : wrapped n (begin_of n next) (i - w.tried) ≡ wrapped n w.begin i =
-              ap (λ z. wrapped n z (i - w.tried)) (w.next_is (omega arith)) ∙
-              (wrapped_on n w.begin w.tried (i - w.tried) w.low (omega arith) (omega arith) ∙ ap (wrapped n w.begin) (let same : w.tried + (i - w.tried) ≡ i = omega arith in same)) in
-              let r : Rec = kind (wrapped n w.begin i) in
-              inl (subst (λ l. HasMissedSince Whose l r since) (sym none.failed) (missed_among Whose none.missed a.0.known.failed r since (missed_earlier Whose none.missed r since a.0.known.steps early
-              (missed_as table.layout a.0.known b.0.known (records_had a.0.known) made none.missed r a.0.known.steps same locks (alone r)
-              (subst (λ z. HasMissedSince (IsAnothersTo table.layout a.0.known) none.missed (kind z) a.0.known.steps) at (none.each (i - w.tried) (omega arith)))))))
-
-    -- none of those that were left is free
-    pub walk_out : (since left less : ℕ) (a b : SeatView × G) (made : List Rec) (next m : ℕ) → HasNoOther a.0.known made → WorksOn table becomes a b → m ≡ left → less ≡ 0 → FindsNone table becomes kind n (begin_of n next) m a b
-        → IsClaimWalk table.layout kind n since a.0.known made next left → IsClaimWalk table.layout kind n since b.0.known made next less
-    walk_out since left less a b made next m alone goes all out none w = record {
-      early = let rise = steps_rise table becomes goes.acts a b goes.steps in let early = w.early in omega arith;
-      begin = w.begin;
-      low = w.low;
-      tried = w.tried + m;
-      count = let count = w.count in omega arith;
-      next_is = λ more. absurd (omega arith);
-      each = each_tried since m a b made next left alone w (omega arith) none;
-    }
-
-    -- one of them is claimed
-    pub walk_claims : (since left less number : ℕ) (a b : SeatView × G) (made : List Rec) (next : ℕ) → HasNoOther a.0.known made → WorksOn table becomes a b → (claims : Claims table becomes kind n (begin_of n next) number a b) → less + claims.tried + 1 ≡ left
-        → IsClaimWalk table.layout kind n since a.0.known made next left → IsClaimWalk table.layout kind n since b.0.known (made ++ kind number ∷ []) (number + 1) less
-    walk_claims since left less number a b made next alone goes claims spent w = record {
-      early = let rise = steps_rise table becomes goes.acts a b goes.steps in let early = w.early in omega arith;
-      begin = w.begin;
-      low = w.low;
-      tried = w.tried + claims.tried + 1;
-      count = let count = w.count in omega arith;
-      next_is = λ more. next_on n w.begin (w.tried + claims.tried) number w.low inside here;
-      each = each;
-    }
+    pub each_tried : (i : ℕ) → i < w.tried + m → HasMissedSince (IsAnothersBut table.layout b.0.known made) b.0.known.failed (a_node (wrapped table.layout.nodes w.begin i)) since ⊎ Contains made (a_node (wrapped table.layout.nodes w.begin i))
+    each_tried i low = go (nat_lt i w.tried) refl
       where
-        count : w.tried + left ≡ n
+        count : w.tried + left ≡ table.layout.nodes
         count = w.count
 
-        inside : w.tried + claims.tried < n
-        inside = omega arith
-
-        here : number ≡ wrapped n w.begin (w.tried + claims.tried)
-        here = claims.number_is ∙ (ap (λ z. wrapped n z claims.tried) (w.next_is (omega arith)) ∙ wrapped_on n w.begin w.tried claims.tried w.low (omega arith) (omega arith))
-
-        Whose : Rec → Option ℕ → Type 0
-        Whose = IsAnothersBut table.layout b.0.known (made ++ kind number ∷ [])
-
-        each : (i : ℕ) → i < w.tried + claims.tried + 1 → HasMissedSince Whose b.0.known.failed (kind (wrapped n w.begin i)) since ⊎ Contains (made ++ kind number ∷ []) (kind (wrapped n w.begin i))
-        each i low = go (nat_lt i (w.tried + claims.tried)) refl
+        go : (t : Bool) → nat_lt i w.tried ≡ t → HasMissedSince Whose b.0.known.failed (a_node (wrapped table.layout.nodes w.begin i)) since ⊎ Contains made (a_node (wrapped table.layout.nodes w.begin i))
+        go true e = elim (w.each i (ltb-true i w.tried e)) [
+          | inl missed ↦ inl (subst (λ l. HasMissedSince Whose l (a_node (wrapped table.layout.nodes w.begin i)) since) (sym none.failed) (beyond none.missed a.0.known.failed (a_node (wrapped table.layout.nodes w.begin i)) since
+              (missed_as table.layout a.0.known b.0.known made made a.0.known.failed (a_node (wrapped table.layout.nodes w.begin i)) since same locks (λ h. h) missed)))
+          | inr has ↦ inr has
+        ]
           where
-            go : (t : Bool) → nat_lt i (w.tried + claims.tried) ≡ t → HasMissedSince Whose b.0.known.failed (kind (wrapped n w.begin i)) since ⊎ Contains (made ++ kind number ∷ []) (kind (wrapped n w.begin i))
-            go true e = elim (each_tried since claims.tried a claims.before made next left alone w (omega arith) claims.none i (ltb-true i (w.tried + claims.tried) e)) [
-              | inl missed ↦ inl (subst (λ l. HasMissedSince Whose l (kind (wrapped n w.begin i)) since) (sym claims.one.failed)
-                  (missed_as table.layout claims.before.0.known b.0.known made (made ++ kind number ∷ []) claims.before.0.known.failed (kind (wrapped n w.begin i)) since
-                  (ap (λ (z : Known). z.pass) claims.one.does.rest) (ap (λ (z : Known). z.locks) claims.one.does.rest) (Contains-append_left made (kind number ∷ []) (kind (wrapped n w.begin i))) missed))
-              | inr has ↦ inr (Contains-append_left made (kind number ∷ []) (kind (wrapped n w.begin i)) has)
-            ]
-            go false e =
-                let past = ltb-false i (w.tried + claims.tried) e in
-                let same : w.tried + claims.tried ≡ i = omega arith in
-                inr (subst (λ z. Contains (made ++ kind number ∷ []) (kind z)) (here ∙ ap (wrapped n w.begin) same) (Contains-push made (kind number)))
+            beyond : (missed failed : List Failed) (r : Rec) (since : ℕ) → HasMissedSince Whose failed r since → HasMissedSince Whose (missed ++ failed) r since
+            beyond [] failed r since h = h
+            beyond (x ∷ missed) failed r since h = let (step, late, (act, word, tells, one, (at, inside, is))) = beyond missed failed r since h in (step, late, (act, word, tells, one, (suc at, omega arith, is)))
+        go false e =
+            let past = ltb-false i w.tried e in
+            let early = w.early in
+            let at : wrapped table.layout.nodes (begin_of table.layout.nodes next) (i - w.tried) ≡ wrapped table.layout.nodes w.begin i =
+            ap (λ z. wrapped table.layout.nodes z (i - w.tried)) (w.next_is (omega arith)) ∙
+            (wrapped_on table.layout.nodes w.begin w.tried (i - w.tried) w.low (omega arith) (omega arith) ∙ ap (wrapped table.layout.nodes w.begin) (let same : w.tried + (i - w.tried) ≡ i = omega arith in same)) in
+            let r : Rec = a_node (wrapped table.layout.nodes w.begin i) in
+            inl (subst (λ l. HasMissedSince Whose l r since) (sym none.failed) (missed_among Whose none.missed a.0.known.failed r since (missed_earlier Whose none.missed r since a.0.known.steps early
+            (missed_as table.layout a.0.known b.0.known (records_had a.0.known) made none.missed r a.0.known.steps same locks (alone r)
+            (subst (λ z. HasMissedSince (IsAnothersTo table.layout a.0.known) none.missed (a_node z) a.0.known.steps) at (none.each (i - w.tried) (omega arith)))))))
+
+  -- none of those that were left is free
+  pub walk_out : (since left less : ℕ) (a b : SeatView × G) (made : List Rec) (next m : ℕ) → HasNoOther a.0.known made → WorksOn table becomes a b → m ≡ left → less ≡ 0 → FindsNone table becomes a_node table.layout.nodes (begin_of table.layout.nodes next) m a b
+      → IsClaimWalk table.layout since a.0.known made next left → IsClaimWalk table.layout since b.0.known made next less
+  walk_out since left less a b made next m alone goes all out none w = record {
+    early = let rise = steps_rise table becomes goes.acts a b goes.steps in let early = w.early in omega arith;
+    begin = w.begin;
+    low = w.low;
+    tried = w.tried + m;
+    count = let count = w.count in omega arith;
+    next_is = λ more. absurd (omega arith);
+    each = each_tried since m a b made next left alone w (omega arith) none;
+  }
+
+  -- one of them is claimed
+  pub walk_claims : (since left less number : ℕ) (a b : SeatView × G) (made : List Rec) (next : ℕ) → HasNoOther a.0.known made → WorksOn table becomes a b → (claims : Claims table becomes a_node table.layout.nodes (begin_of table.layout.nodes next) number a b) → less + claims.tried + 1 ≡ left
+      → IsClaimWalk table.layout since a.0.known made next left → IsClaimWalk table.layout since b.0.known (made ++ a_node number ∷ []) (number + 1) less
+  walk_claims since left less number a b made next alone goes claims spent w = record {
+    early = let rise = steps_rise table becomes goes.acts a b goes.steps in let early = w.early in omega arith;
+    begin = w.begin;
+    low = w.low;
+    tried = w.tried + claims.tried + 1;
+    count = let count = w.count in omega arith;
+    next_is = λ more. next_on table.layout.nodes w.begin (w.tried + claims.tried) number w.low inside here;
+    each = each;
+  }
+    where
+      count : w.tried + left ≡ table.layout.nodes
+      count = w.count
+
+      inside : w.tried + claims.tried < table.layout.nodes
+      inside = omega arith
+
+      here : number ≡ wrapped table.layout.nodes w.begin (w.tried + claims.tried)
+      here = claims.number_is ∙ (ap (λ z. wrapped table.layout.nodes z claims.tried) (w.next_is (omega arith)) ∙ wrapped_on table.layout.nodes w.begin w.tried claims.tried w.low (omega arith) (omega arith))
+
+      Whose : Rec → Option ℕ → Type 0
+      Whose = IsAnothersBut table.layout b.0.known (made ++ a_node number ∷ [])
+
+      each : (i : ℕ) → i < w.tried + claims.tried + 1 → HasMissedSince Whose b.0.known.failed (a_node (wrapped table.layout.nodes w.begin i)) since ⊎ Contains (made ++ a_node number ∷ []) (a_node (wrapped table.layout.nodes w.begin i))
+      each i low = go (nat_lt i (w.tried + claims.tried)) refl
+        where
+          go : (t : Bool) → nat_lt i (w.tried + claims.tried) ≡ t → HasMissedSince Whose b.0.known.failed (a_node (wrapped table.layout.nodes w.begin i)) since ⊎ Contains (made ++ a_node number ∷ []) (a_node (wrapped table.layout.nodes w.begin i))
+          go true e = elim (each_tried since claims.tried a claims.before made next left alone w (omega arith) claims.none i (ltb-true i (w.tried + claims.tried) e)) [
+            | inl missed ↦ inl (subst (λ l. HasMissedSince Whose l (a_node (wrapped table.layout.nodes w.begin i)) since) (sym claims.one.failed)
+                (missed_as table.layout claims.before.0.known b.0.known made (made ++ a_node number ∷ []) claims.before.0.known.failed (a_node (wrapped table.layout.nodes w.begin i)) since
+                (ap (λ (z : Known). z.pass) claims.one.does.rest) (ap (λ (z : Known). z.locks) claims.one.does.rest) (Contains-append_left made (a_node number ∷ []) (a_node (wrapped table.layout.nodes w.begin i))) missed))
+            | inr has ↦ inr (Contains-append_left made (a_node number ∷ []) (a_node (wrapped table.layout.nodes w.begin i)) has)
+          ]
+          go false e =
+              let past = ltb-false i (w.tried + claims.tried) e in
+              let same : w.tried + claims.tried ≡ i = omega arith in
+              inr (subst (λ z. Contains (made ++ a_node number ∷ []) (a_node z)) (here ∙ ap (wrapped table.layout.nodes w.begin) same) (Contains-push made (a_node number)))
 
 -- ---- the records that are made
 pub look_record : (table : TableView) (a : SeatView) (made : List Rec) (news : List Made) → IsBuilding table a made news → (index : ℕ) (d : Rec) → index < length made → HasRecord table.layout (get_or made index d)
@@ -290,8 +289,47 @@ module _ {G : Type 0} (table : TableView) (becomes : G → Event → G → Type 
   pub looked_all : (index : ℕ) (a b : SeatView × G) → length made ≤ index → HasLooked index a b → (r : Rec) → Contains made r → HasMissedSince (IsAnothersBut table.layout a.0.known made) b.0.known.failed r a.0.known.steps
   looked_all index a b all looked r (i, low, is) = subst (λ z. HasMissedSince (IsAnothersBut table.layout a.0.known made) b.0.known.failed z a.0.known.steps) is (looked.seen i r (omega arith))
 
--- ---- what builds goes on with the walk
-pub walks_later : {G : Type 0} (table : TableView) (becomes : G → Event → G → Type 0) {X : Type 0} (a m : SeatView × G) (k : Known) (build after : Build) (answer : Option X) → WorksOn table becomes a m →
-    WalksOn table.layout m.0.known build k after answer → WalksOn table.layout a.0.known build k after answer
-walks_later table becomes a m k build after answer goes walks since w =
-    walks since (walk_on a_node table.layout.nodes table becomes since a m build.made.items build.made.items build.nodes.next build.left_nodes goes (λ r has. has) w)
+-- ---- what makes records
+module _ {G : Type 0} {table : TableView} {becomes : G → Event → G → Type 0} where
+  -- what needs none
+  pub makes_none : {X : Type 0} {most steps : ℕ} {x : X} (a : (SeatView × G) × Build) → Makes most steps table becomes a a (Some x)
+  makes_none a = record { goes = goes_none table becomes a.0; more = omega arith; nodes = omega arith; walk = λ since w. w; few = omega arith }
+
+  -- another answer, where one is given, and where none was free
+  pub makes_as : {X Y : Type 0} {m s : ℕ} {a b : (SeatView × G) × Build} {x : X} {y : Y} → Makes m s table becomes a b (Some x) → Makes m s table becomes a b (Some y)
+  makes_as makes = record { goes = makes.goes; more = makes.more; nodes = makes.nodes; walk = makes.walk; few = makes.few }
+
+  pub makes_failed : {X Y : Type 0} {m s : ℕ} {a b : (SeatView × G) × Build} → Makes {X = X} m s table becomes a b None → Makes {X = Y} m s table becomes a b None
+  makes_failed makes = record { goes = makes.goes; more = makes.more; nodes = makes.nodes; walk = makes.walk; few = makes.few }
+
+  -- more at most
+  pub makes_within : {X : Type 0} {m s most steps : ℕ} {a b : (SeatView × G) × Build} {answer : Option X} → Makes m s table becomes a b answer → m ≤ most → s ≤ steps → Makes most steps table becomes a b answer
+  makes_within makes more longer = record {
+    goes = makes.goes;
+    more = omega (arith, makes.more);
+    nodes = omega (arith, makes.nodes);
+    walk = makes.walk;
+    few = omega (arith, makes.few);
+  }
+
+  -- one after another
+  pub makes_then : {X Y : Type 0} {m s n t most steps : ℕ} {a b c : (SeatView × G) × Build} {x : X} {answer : Option Y} → Makes m s table becomes a b (Some x) → Makes n t table becomes b c answer →
+      m + n ≤ most → s + t ≤ steps → Makes most steps table becomes a c answer
+  makes_then {a = a} {b} {c} one two more longer = record {
+    goes = goes_more table becomes a.0 b.0 c.0 one.goes two.goes;
+    more = omega (arith, one.more, two.more);
+    nodes = omega (arith, one.nodes, two.nodes);
+    walk = λ since w. two.walk since (one.walk since w);
+    few = omega (arith, one.few, two.few);
+  }
+
+  -- after so many loads
+  pub makes_after : {X : Type 0} {m s most steps : ℕ} {a b : SeatView × G} {build : Build} {c : (SeatView × G) × Build} {answer : Option X} (loads : ℕ) → WorksOn table becomes a b → b.0.known.steps ≤ a.0.known.steps + loads →
+      Makes m s table becomes (b, build) c answer → m ≤ most → loads + s ≤ steps → Makes most steps table becomes (a, build) c answer
+  makes_after {a = a} {b} {build} {c} loads goes few makes more longer = record {
+    goes = goes_more table becomes a b c.0 goes makes.goes;
+    more = omega (arith, makes.more);
+    nodes = omega (arith, makes.nodes);
+    walk = λ since w. makes.walk since (walk_on table becomes since a b build.made.items build.made.items build.nodes.next build.left_nodes goes (λ r has. has) w);
+    few = omega (arith, few, makes.few);
+  }

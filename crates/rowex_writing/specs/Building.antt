@@ -1,5 +1,5 @@
 -- Records made for what a node becomes.
-use Rattle.std.specs.Prelude.{◌≡◌, ◌<◌, ◌≤◌, ◌+◌, ◌-◌, ◌↔◌, ℕ, List, [], ◌∷◌, ◌++◌, map, drop, take, length, slice_get, Option, MatchOption, Some, reverse, Bool, true, IsTrue, if◌then◌else◌}
+use Rattle.std.specs.Prelude.{◌≡◌, ◌<◌, ◌≤◌, ◌+◌, ◌-◌, ◌↔◌, ℕ, List, [], ◌∷◌, ◌++◌, map, drop, take, length, slice_get, Option, MatchOption, IfSome, Some, reverse, Bool, true, IsTrue, if◌then◌else◌}
 use Rattle.compound_node.specs.Nodes.{NodeView, height_of, piece}
 use Rattle.compound_node.specs.declared.entries.Entry.{Entry}
 use Rattle.compound_node.specs.declared.entries.Entry.TheVariants.{Node}
@@ -15,6 +15,7 @@ use Rattle.pieces.specs.Changes.{AtRootFork}
 use Rattle.pieces.specs.Piece.{Place, size}
 use Rattle.insert_cases.specs.declared.choice.PathNode.{PathNode}
 use Rattle.versions.specs.Trades.{IsOneOf}
+use Rattle.rowex_core.specs.declared.known.Known.{Known}
 use Rattle.rowex_core.specs.declared.known.Locked.{Locked}
 use Rattle.record_words.specs.declared.layout.Layout.{Layout}
 use Rattle.record_words.specs.Node.{HasNodeWords}
@@ -37,6 +38,7 @@ use Rattle.publish_laws.specs.Stages.{HasLeaf, HasRisen, IsLockedAbove, SpellsLe
 use Rattle.rowex_writing.specs.Going.{HasLocked}
 use Rattle.rowex_writing.specs.Remaking.{AwaitsLeaf, IsNoHigher, subtrie_with_leaf}
 use Rattle.rowex_writing.specs.declared.plan.Span.{Span}
+use Rattle.rowex_writing.specs.declared.rising.LoadedNode.{LoadedNode}
 use Rattle.rowex_writing.specs.declared.rising.Rise.{Rise}
 use Rattle.rowex_writing.specs.declared.remaking.Fork.{Fork}
 use Rattle.rowex_writing.specs.declared.remaking.NewLeaf.{NewLeaf}
@@ -62,14 +64,14 @@ IsMadeFrom old (Two cut) (Split position zero one) before after =
     (after ≡ lower ++ (upper ++ before))
 IsMadeFrom old grown risen before after = ⊥
 
--- What comes in the place of a node that gets a new leaf at the position, and the records made for it: one entry where the node
--- has room. It stays whole, as told, only where the position is before its first fork.
-pub record IsGrownFrom (old : Entry) (was : NodeView) (shown : Subtrie) (position : ℕ) (risen : Risen) (stays : Bool) (before after : List Made) : Type 0 where
+-- What comes in the place of a node that gets the new leaf, and the records made for it: one entry where the node has room. The node stays
+-- whole, as told, only where the leaf's position is before its first fork.
+pub record IsGrownFrom (old : Entry) (was : NodeView) (new : NewLeaf) (risen : Risen) (stays : Bool) (before after : List Made) : Type 0 where
   pub grown : Grown
-  pub shows : GrownShows was grown shown
+  pub shows : GrownShows was grown (subtrie_with_leaf new (piece was))
   pub whole : IsTrue (is_whole grown) ↔ (length was.entries < 32)
   pub keeps : stays ≡ keeps_node grown
-  pub above : keeps_node grown ≡ true → AtRootFork (λ p zero one. position < p) (piece was)
+  pub above : keeps_node grown ≡ true → AtRootFork (λ p zero one. new.position < p) (piece was)
   pub low : IsNoHigher was.height grown
   pub made : IsMadeFrom old grown risen before after
 
@@ -87,13 +89,12 @@ pub record HasNotMade (table : TableView) (b : SeatView) (made : List Rec) : Typ
   pub news : List Made
   pub building : IsBuilding table b made news
 
--- What comes in the place of the node of this number, with these words, that gets a new leaf, and whether the node stays whole, with the
--- records made for it; or none was free.
-abbrev pub MakesGrown : TableView → SeatView × List Rec → SeatView × List Rec → ℕ → List ℕ → NewLeaf → Option (Risen × Bool) → Type 0
-MakesGrown table (a, made) (b, built) number words new result =
-    (news : List Made) (node : NodeView) → AwaitsLeaf words node new → IsBuilding table a made news → MatchOption result (HasNotMade table b built)
-    (λ r. (after : List Made) × IsGrownFrom (Node number node.height) node (subtrie_with_leaf new (piece node)) new.position r.0 r.1 news after ×
-    IsBuilding table b built after)
+-- What comes in the place of the loaded node that gets a new leaf, and whether the node stays whole, with the records made for it; or none
+-- was free.
+abbrev pub MakesGrown : TableView → SeatView × List Rec → SeatView × List Rec → LoadedNode → NewLeaf → Option (Risen × Bool) → Type 0
+MakesGrown table (a, made) (b, built) loaded new result =
+    (news : List Made) (node : NodeView) → AwaitsLeaf loaded.words node new → IsBuilding table a made news → MatchOption result (HasNotMade table b built)
+    (λ r. (after : List Made) × IsGrownFrom (Node loaded.number node.height) node new r.0 r.1 news after × IsBuilding table b built after)
 
 -- The leaf of x is made and nothing else.
 pub record HasLeafMade (table : TableView) (a : SeatView) (made : List Rec) (x : Item) : Type 0 where
@@ -103,29 +104,29 @@ pub record HasLeafMade (table : TableView) (a : SeatView) (made : List Rec) (x :
 
 -- ---- on the way up
 -- The change adds the newcomer, of which the record is made: this is what comes in the place of the node's body or entry, and those go.
-pub record IsRaising (table : TableView) (a : SeatView) (made : List Rec) (news : List Made) (gone : List Rec) (x : Newcomer) (d : Side) (r : Subtrie) : Type 0 where
+pub record IsRaising (table : TableView) (a : SeatView) (made : List Rec) (gone : List Rec) (x : Newcomer) (d : Side) (r : Subtrie) : Type 0 where
+  pub news : List Made
   pub building : IsBuilding table a made news
   pub leaf : HasLeaf news x.item
   pub risen : HasRisen table.layout a.known a.known.locks news x d r gone
 
 -- What has risen comes in the place of the locked node's entry.
 pub record IsRisenAt (table : TableView) (a : SeatView) (made : List Rec) (number : ℕ) (risen : Risen) : Type 0 where
-  pub news : List Made
   pub gone : List Rec
   pub newcomer : Newcomer
   pub words : List ℕ
   pub locked : HasLocked a.known number words
-  pub raising : IsRaising table a made news gone newcomer (entry number) (subtrie_of risen)
+  pub raising : IsRaising table a made gone newcomer (entry number) (subtrie_of risen)
 
 -- What has risen so far, a fork of two entries, is to take the place of the entry that names the node below, in the locked node
 -- above, which is higher than both.
-pub record IsBelow (table : TableView) (a : SeatView) (made : List Rec) (key : Key) (above position : ℕ) (zero one : Entry) : Type 0 where
+pub record GetsFork (table : TableView) (a : SeatView) (made : List Rec) (above : ℕ) (fork : Fork) : Type 0 where
   pub lower : ℕ
-  pub here : IsRisenAt table a made lower (Split position zero one)
-  pub key_is : key ≡ here.newcomer.item.key
+  pub here : IsRisenAt table a made lower (Split fork.position fork.zero fork.one)
+  pub key_is : fork.key.now ≡ here.newcomer.item.key
   pub over : IsLockedAbove a.known.locks here.newcomer.item.key here.newcomer.mismatch above lower
-  pub zero_low : height_of zero < (node_words_of over.upper).fixed.height
-  pub one_low : height_of one < (node_words_of over.upper).fixed.height
+  pub zero_low : height_of fork.zero < (node_words_of over.upper).fixed.height
+  pub one_low : height_of fork.one < (node_words_of over.upper).fixed.height
 
 -- what has risen is no higher than this
 abbrev pub IsLowRisen : ℕ → Risen → Type 0
@@ -153,30 +154,30 @@ IsNextTo height risen e = (height_of e ≤ height + 1) × (IsSingle risen → he
 
 -- the entry is at most one higher than the node with these words, and no higher where that has room
 abbrev pub FitsAbove : List ℕ → Entry → Type 0
-FitsAbove words e = (height_of e ≤ (node_words_of words).fixed.height + 1) × (size (node_words_of words).subtrie < 32 → height_of e ≤ (node_words_of words).fixed.height)
+FitsAbove words e =
+    (height_of e ≤ (node_words_of words).fixed.height + 1) × (size (node_words_of words).subtrie < 32 → height_of e ≤ (node_words_of words).fixed.height)
+
+-- where the locked node at this place of the way has these words, the entry may take its place
+abbrev pub FitsAt : Known → List PathNode → ℕ → Option Entry → Type 0
+FitsAt k way end answer = (s : PathNode) (words : List ℕ) → slice_get way end ≡ Some s → HasLocked k s.number words → IfSome answer (FitsAbove words)
 
 -- ---- at the lower end
--- The leaf of x is made and nothing else, and the locked node is where it goes: there its search took this entry.
-pub record IsLowest (table : TableView) (a : SeatView) (made : List Rec) (key : Key) (number position took leaf : ℕ) : Type 0 where
+-- The new leaf is made and nothing else, and the locked node is where it goes: there its search took the entry at the leaf's place.
+pub record GetsLeaf (table : TableView) (a : SeatView) (made : List Rec) (number : ℕ) (new : NewLeaf) : Type 0 where
   pub since : ℕ
   pub item : Item
   pub like : Key
   pub words : List ℕ
-  pub key_is : key ≡ item.key
-  pub leaf_is : leaf ≡ item.number
+  pub key_is : new.key.now ≡ item.key
+  pub leaf_is : new.number ≡ item.number
   pub made_leaf : HasLeafMade table a made item
-  pub found : HasFoundBelow a.known a.known.locks (record { since = since; item = item; mismatch = position; like = like }) number words
-  pub part : IsPartSubtrie (subtrie_affected position item.key (node_words_of words).subtrie)
-  pub leads : spot item.key (node_words_of words).subtrie ≡ took
+  pub found : HasFoundBelow a.known a.known.locks (record { since = since; item = item; mismatch = new.position; like = like }) number words
+  pub part : IsPartSubtrie (subtrie_affected new.position item.key (node_words_of words).subtrie)
+  pub leads : spot item.key (node_words_of words).subtrie ≡ new.at
 
 -- so its newcomer
-abbrev pub newcomer_of : {table : TableView} {a : SeatView} {made : List Rec} {key : Key} {number position took leaf : ℕ} →
-    IsLowest table a made key number position took leaf → Newcomer
-newcomer_of {position = position} low = record { since = low.since; item = low.item; mismatch = position; like = low.like }
-
--- so for a new leaf
-abbrev pub GetsLeaf : TableView → SeatView → List Rec → ℕ → NewLeaf → Type 0
-GetsLeaf table a made number new = IsLowest table a made new.key.now number new.position new.at new.number
+abbrev pub newcomer_of : {table : TableView} {a : SeatView} {made : List Rec} {number : ℕ} {new : NewLeaf} → GetsLeaf table a made number new → Newcomer
+newcomer_of {new = new} low = record { since = low.since; item = low.item; mismatch = new.position; like = low.like }
 
 -- the node goes, where it doesn't stay whole
 abbrev pub gone_unless_whole : Bool → ℕ → List Rec
@@ -192,17 +193,21 @@ pub record IsChain (nodes : ℕ) (held : List Locked) (way : List PathNode) (key
   pub full : (i : ℕ) (s : PathNode) → end < i → i < level → slice_get way i ≡ Some s →
       (words : List ℕ) → IsOneOf (record { node = s.number; words = words }) held → size (node_words_of words).subtrie ≡ 32
 
--- What has risen comes in the place of the entry of the node at this level, and it is to rise on to `end`.
-pub record IsRisingOn (table : TableView) (a : SeatView) (made : List Rec) (way : List PathNode) (key : Key) (end level : ℕ) (risen : Risen) : Type 0 where
+-- What has risen comes in the place of the entry of the node at its level, and it is to rise on to `rise.end`.
+pub record Rises (table : TableView) (a : SeatView) (made : List Rec) (way : List PathNode) (rise : Rise) : Type 0 where
   pub step : PathNode
-  pub at : slice_get way level ≡ Some step
-  pub upto : end ≤ level
-  pub here : IsRisenAt table a made step.number risen
-  pub key_is : key ≡ here.newcomer.item.key
-  pub low : (other : List ℕ) → HasLocked a.known step.number other → IsLowRisen (node_words_of other).fixed.height risen
-  pub split : end < level → IsSplit risen
-  pub single : (other : List ℕ) → HasLocked a.known step.number other → size (node_words_of other).subtrie < 32 → IsSingle risen
-  pub chain : IsChain table.layout.nodes a.known.locks way here.newcomer.item.key here.newcomer.mismatch end level
+  pub at : slice_get way rise.level ≡ Some step
+  pub upto : rise.end ≤ rise.level
+  pub here : IsRisenAt table a made step.number rise.risen
+  pub key_is : rise.key.now ≡ here.newcomer.item.key
+  pub low : (other : List ℕ) → HasLocked a.known step.number other → IsLowRisen (node_words_of other).fixed.height rise.risen
+  pub split : rise.end < rise.level → IsSplit rise.risen
+  pub single : (other : List ℕ) → HasLocked a.known step.number other → size (node_words_of other).subtrie < 32 → IsSingle rise.risen
+  pub chain : IsChain table.layout.nodes a.known.locks way here.newcomer.item.key here.newcomer.mismatch rise.end rise.level
+
+-- how many nodes what has risen is to rise on through
+abbrev pub levels_above : Rise → ℕ
+levels_above rise = rise.level - rise.end
 
 -- the nodes of the way from `end` on, before `level`, go too
 abbrev pub gone_with_way : List PathNode → (end level : ℕ) → List Rec → List Rec
@@ -210,8 +215,7 @@ gone_with_way way end level gone = map (λ (s : PathNode). a_node s.number) (dro
 
 -- one entry has risen to the place of the entry of the node at `end`
 abbrev pub HasRisenTo : (table : TableView) (a : SeatView) (made : List Rec) (way : List PathNode) (x : Newcomer) (end : ℕ) (gone : List Rec) (e : Entry) → Type 0
-HasRisenTo table a made way x end gone e =
-    (news : List Made) × (top : PathNode) × (slice_get way end ≡ Some top) × IsRaising table a made news gone x (entry top.number) (Place e)
+HasRisenTo table a made way x end gone e = (top : PathNode) × (slice_get way end ≡ Some top) × IsRaising table a made gone x (entry top.number) (Place e)
 
 -- The lowest node of the span gets the new leaf, and what comes of it rises to the span's topmost node.
 pub record IsGrowing (table : TableView) (a : SeatView) (made : List Rec) (way : List PathNode) (span : Span) (new : NewLeaf) : Type 0 where
@@ -222,10 +226,3 @@ pub record IsGrowing (table : TableView) (a : SeatView) (made : List Rec) (way :
   pub lowest : GetsLeaf table a made step.number new
   pub full : span.end < span.len - 1 → size (node_words_of lowest.words).subtrie ≡ 32
   pub chain : IsChain table.layout.nodes a.known.locks way lowest.item.key new.position span.end (span.len - 1)
-
--- so for a fork, and for what rises
-abbrev pub GetsFork : TableView → SeatView → List Rec → ℕ → Fork → Type 0
-GetsFork table a made above fork = IsBelow table a made fork.key.now above fork.position fork.zero fork.one
-
-abbrev pub Rises : TableView → SeatView → List Rec → List PathNode → Rise → Type 0
-Rises table a made way rise = IsRisingOn table a made way rise.key.now rise.end rise.level rise.risen

@@ -16,6 +16,7 @@ use Rattle.rowex_writing.specs.Going.{WorksOn}
 use Rattle.rowex_writing.specs.Locks.{locks_of}
 use Rattle.rowex_writing.specs.Putting.{IsSpotAbove}
 use Rattle.rowex_writing.specs.Retiring.{AreInTable}
+use Rattle.rowex_writing.specs.declared.building.Build.{Build}
 use Rattle.rowex_writing.specs.declared.deeds.Job.{Job}
 use Rattle.rowex_writing.specs.declared.deeds.Raised.{Raised}
 use Rattle.rowex_writing.specs.declared.plan.Deed.{Deed}
@@ -35,20 +36,21 @@ gone_of_span way span raised = map (λ (s : PathNode). a_node s.number) (slice_r
 abbrev pub kept_of_span : List PathNode → Span → Raised → List PathNode
 kept_of_span way span raised = slice_range way (span.end - 1) span.end ++ slice_range way raised.low span.len
 
--- All nodes of the span go, or all but the lowest. Once the records that the pass has made are ready, it may make this change by a
+-- All nodes of the job's span go, or all but the lowest. Once the records that the pass has made are ready, it may make this change by a
 -- store of what is raised above the span.
-pub record MayReplace (table : TableView) (a : SeatView) (made : List Rec) (way : List PathNode) (span : Span) (raised : Raised) (x : Change) (was : Option ℕ) : Type 0 where
-  pub from : span.end ≤ raised.low
-  pub upto : raised.low ≤ span.len
-  pub most : span.len ≤ raised.low + 1
+pub record MayReplace (table : TableView) (a : SeatView) (made : List Rec) (job : Job) (raised : Raised) (x : Change) (was : Option ℕ) : Type 0 where
+  pub from : job.span.end ≤ raised.low
+  pub upto : raised.low ≤ job.span.len
+  pub most : job.span.len ≤ raised.low + 1
   pub leaf : AreInTable table.layout (leaf_gone raised.leaf)
-  pub ends : (spot : Spot) → IsSpotAbove way span.end spot → MayPublishOnceReady table a made spot (entry_word raised.entry) x was (gone_of_span way span raised)
-  pub few : length made + length (leaf_gone raised.leaf) ≤ 2 * locks_of span
+  pub ends : (spot : Spot) → IsSpotAbove job.way.now job.span.end spot →
+      MayPublishOnceReady table a made spot (entry_word raised.entry) x was (gone_of_span job.way.now job.span raised)
+  pub few : length made + length (leaf_gone raised.leaf) ≤ 2 * locks_of job.span
 
 -- the pass has made what the deed asks for, since it knew k
 abbrev pub HasRaised : TableView → Known → SeatView → List Rec → Job → Deed → Raised → Type 0
 HasRaised table k b made job deed raised =
-    (x : Change) × (was : Option ℕ) × IsDeedChange k.pass deed job.key.now job.value job.found x was × MayReplace table b made job.way.now job.span raised x was
+    (x : Change) × (was : Option ℕ) × IsDeedChange k.pass deed job.key.now job.value job.found x was × MayReplace table b made job raised x was
 
 -- A record was wanted since the pass knew k, and none was free. The pass has those that it has made so far.
 pub record HasNoneFree (table : TableView) (k : Known) (b : SeatView) (made : List Rec) (job : Job) (full : Full) : Type 0 where
@@ -57,9 +59,10 @@ pub record HasNoneFree (table : TableView) (k : Known) (b : SeatView) (made : Li
   pub full_of : IsFull table.layout job.key.now k b.known full
 
 -- The pass has carried out the deed, as far as others don't see it, or no record was free: with these answers, and so many steps.
-pub record CarriesOut {G : Type 0} (table : TableView) (becomes : G → Event → G → Type 0) (a b : SeatView × G) (made : List Rec) (job : Job) (deed : Deed)
+-- Before and after it are the seat, the gate and what is built.
+pub record CarriesOut {G : Type 0} (table : TableView) (becomes : G → Event → G → Type 0) (a b : (SeatView × G) × Build) (job : Job) (deed : Deed)
     (answer : Result Raised Full) : Type 0 where
-  pub goes : WorksOn table becomes a b
-  pub raised : IfOk answer (HasRaised table a.0.known b.0 made job deed)
-  pub full : IfErr answer (HasNoneFree table a.0.known b.0 made job)
-  pub few : b.0.known.steps ≤ a.0.known.steps + deed_steps table.layout (locks_of job.span) answer
+  pub goes : WorksOn table becomes a.0 b.0
+  pub raised : IfOk answer (HasRaised table a.0.0.known b.0.0 b.1.made.items job deed)
+  pub full : IfErr answer (HasNoneFree table a.0.0.known b.0.0 b.1.made.items job)
+  pub few : b.0.0.known.steps ≤ a.0.0.known.steps + deed_steps table.layout (locks_of job.span) answer

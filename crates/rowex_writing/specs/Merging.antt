@@ -57,7 +57,7 @@ pub record IsTaking (table : TableView) (job : Job) : Type 0 where
   pub number : ℕ
   pub value : ℕ
   pub found : job.found ≡ Leaf number value None
-  pub below : HasLeafBelow table before since job.key.now job.way.now number value job.span
+  pub below : HasLeafBelow table before since job number value
   pub some : 0 < job.span.end
 
 -- and since then it has gone on, with these locks and no other

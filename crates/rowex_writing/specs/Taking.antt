@@ -1,7 +1,6 @@
 -- What a pass knows of the leaf that it takes away.
 use Rattle.std.specs.Prelude.{◌≡◌, ℕ, ◌+◌, List, [], length, Some, None}
 use Rattle.compound_node.specs.declared.entries.Entry.TheVariants.{Leaf as LeafEntry}
-use Rattle.insert_cases.specs.declared.choice.PathNode.{PathNode}
 use Rattle.tries.specs.Keys.{Key}
 use Rattle.rowex_core.specs.declared.known.Known.{Known}
 use Rattle.rowex_core.specs.Knowing.{IsPinnedSince}
@@ -11,7 +10,7 @@ use Rattle.rowex_reading.specs.Seen.{Sure}
 use Rattle.version_laws.specs.Scan.{IsRead}
 use Rattle.rowex_writing.specs.Changes.{HasTakenSpan}
 use Rattle.rowex_reading.specs.declared.descent.Found.TheVariants.{Leaf}
-use Rattle.rowex_writing.specs.declared.plan.Span.{Span}
+use Rattle.rowex_writing.specs.declared.deeds.Job.{Job}
 
 -- the pass has read the leaf since a version to which its pin goes back: it has the key, and this value
 abbrev pub HasReadLeaf : Known → (number : ℕ) (key : Key) (value : ℕ) → Type 0
@@ -26,8 +25,8 @@ pub record HasOnlyLeaf (table : TableView) (a : SeatView) (number : ℕ) (key : 
   pub anchor : a.known.anchor ≡ Some (Some (LeafEntry number))
   pub read : HasReadLeaf a.known number key value
 
--- The pass has locked the last node of the way, which names the leaf, and what names that node.
-pub record HasLeafBelow (table : TableView) (a : SeatView) (m : ℕ) (key : Key) (way : List PathNode) (number value : ℕ) (span : Span) : Type 0 where
-  pub taken : HasTakenSpan table a m key way (Leaf number value None) span
-  pub len : span.len ≡ length way
-  pub last : span.end + 1 ≡ span.len
+-- The pass has locked the last node of the job's way, which names the leaf, and what names that node.
+pub record HasLeafBelow (table : TableView) (a : SeatView) (m : ℕ) (job : Job) (number value : ℕ) : Type 0 where
+  pub taken : HasTakenSpan table a m job.key.now job.way.now (Leaf number value None) job.span
+  pub len : job.span.len ≡ length job.way.now
+  pub last : job.span.end + 1 ≡ job.span.len

@@ -220,7 +220,7 @@ fn end_removal<G: Gate>(
 )
     requires takes { TakesOn table.now seat.old job.now }
     requires may { (x : Change) × (was : Option ℕ) × IsTakeChange seat.old.known.pass job.now.key.now job.now.found x was ×
-        MayReplace table.now seat.old build.old.made.items job.now.way.now job.now.span raised x was }
+        MayReplace table.now seat.old build.old.made.items job.now raised x was }
     ensures tries { TriesFew table.now G.becomes (span_numbers job.now.way.now job.now.span) build.old.left_nodes 80 (seat.old, gate.old) (seat.new, gate.new) }
     ensures done { HasDone seat.old.known seat.new.known Take job.now.key.now job.now.value job.now.found }
 {

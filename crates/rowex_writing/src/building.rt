@@ -6,12 +6,11 @@ ghost use Rattle.record_words.specs.Reading.{IsSpelling};
 ghost use Rattle.rowex_table.specs.Made.{Made};
 ghost use Rattle.publish_laws.specs.Rises.{made_of_node};
 ghost use Rattle.rowex_writing.specs.Building.{IsBuilding, IsHalfMade, IsMadeFrom, HasNotMade};
-ghost use Rattle.rowex_writing.specs.Going.{WorksOn};
 ghost use Rattle.rowex_writing.specs.Remaking.{AwaitsLeaf, subtrie_with_leaf};
 ghost use Rattle.compound_node.specs.Nodes.{IsBuiltFrom, NodeView, piece};
 ghost use Rattle.version_laws.specs.Rise.{entry};
 ghost use Rattle.rowex_writing.specs.Counts.{node_steps};
-ghost use Rattle.rowex_writing.specs.Walks.{MakesNodes, Spends, WalksOn};
+ghost use Rattle.rowex_writing.specs.Walks.{Makes};
 
 use crate::claims::{Hint, claim_node};
 use crate::remaking::{NewLeaf, add_leaf};
@@ -44,9 +43,9 @@ pub struct Build {
     pub leaves: [Hint; LEAF_CLASSES],
 }
 
-/// Makes a record for `node`, adds it to `build.made`, and returns its entry. `None` if no node record was free.
+/// Makes a record for `node`, adds it to `build.made`, and returns its entry. `None` if no node record was free: none is added.
 ///
-/// The claims try `build.left_nodes` records at most, from `build.nodes.next` on. These are all, where the change has claimed none yet.
+/// The claims try at most `build.left_nodes` records, from `build.nodes.next` on. These are all, where the change has claimed none yet.
 pub(crate) fn make_node<G: Gate>(
     table: &HotTable,
     seat: &mut TableSeat,
@@ -56,23 +55,20 @@ pub(crate) fn make_node<G: Gate>(
 ) -> Option<Entry>
     requires building { (news : List Made) × IsBuilding table.now seat.old build.old.made.items news }
     requires room { length build.old.made.items < MOST_MADE }
-    ensures goes { WorksOn table.now G.becomes (seat.old, gate.old) (seat.new, gate.new) }
+    ensures makes { Makes 1 node_steps table.now G.becomes ((seat.old, gate.old), build.old) ((seat.new, gate.new), build.new) result }
     ensures made { (news : List Made) → IsBuilding table.now seat.old build.old.made.items news → MatchOption result
         (HasNotMade table.now seat.new build.new.made.items)
         (λ e. (number : ℕ) × (e ≡ Entry.Node number node.now.height) × HasNodeWords node.now ×
         IsBuilding table.now seat.new build.new.made.items (made_of_node number node.now ∷ news)) }
-    ensures more { length build.new.made.items ≤ length build.old.made.items + 1 }
-    ensures nodes { MakesNodes 1 build.old build.new result }
-    ensures walk { WalksOn table.now.layout seat.old.known build.old seat.new.known build.new result }
-    ensures few { Spends node_steps seat.old.known build.old seat.new.known build.new result }
+    ensures same { result ≡ None → (seat.new.known.own ≡ seat.old.known.own) × (build.new.made.items ≡ build.old.made.items) }
 {
     let words = pack_node(node);
-    make_words(table, seat, gate, build, &words)
+    make_from_words(table, seat, gate, build, &words)
 }
 
 /// Makes a node record of `words`, which are those of a node, adds it to `build.made`, and returns its entry. `None` if no node record was
 /// free: none is added. Claims go on as in [`make_node`].
-pub(crate) fn make_words<G: Gate>(
+pub(crate) fn make_from_words<G: Gate>(
     table: &HotTable,
     seat: &mut TableSeat,
     gate: &mut G,
@@ -82,15 +78,12 @@ pub(crate) fn make_words<G: Gate>(
     requires building { (news : List Made) × IsBuilding table.now seat.old build.old.made.items news }
     requires spelling { IsSpelling HasNodeWords node_words words.now }
     requires room { length build.old.made.items < MOST_MADE }
-    ensures goes { WorksOn table.now G.becomes (seat.old, gate.old) (seat.new, gate.new) }
-    ensures made { (news : List Made) (node : NodeView) → HasNodeWords node → node_words node ≡ words.now → IsBuilding table.now seat.old build.old.made.items news →
+    ensures makes { Makes 1 node_steps table.now G.becomes ((seat.old, gate.old), build.old) ((seat.new, gate.new), build.new) result }
+    ensures made { (news : List Made) (node : NodeView) → HasNodeWords node → node_words node ≡ words.now →
+        IsBuilding table.now seat.old build.old.made.items news →
         MatchOption result (HasNotMade table.now seat.new build.new.made.items)
         (λ e. (number : ℕ) × (e ≡ Entry.Node number node.height) × IsBuilding table.now seat.new build.new.made.items (made_of_node number node ∷ news)) }
     ensures same { result ≡ None → (seat.new.known.own ≡ seat.old.known.own) × (build.new.made.items ≡ build.old.made.items) }
-    ensures more { length build.new.made.items ≤ length build.old.made.items + 1 }
-    ensures nodes { MakesNodes 1 build.old build.new result }
-    ensures walk { WalksOn table.now.layout seat.old.known build.old seat.new.known build.new result }
-    ensures few { Spends node_steps seat.old.known build.old seat.new.known build.new result }
 {
     let number = claim_node(table, seat, gate, build)?;
     fill_words(table, seat, gate, number, words);
@@ -112,9 +105,10 @@ pub(crate) fn entry_of(number: u32, node: &Node) -> Entry
 }
 
 /// Makes a record for the node that `words` spell with the leaf `new`, adds it to `build.made`, and returns its entry. `None` if no node
-/// record was free. The node has leaves alone and room for one more. `words` become those of the record, so that no node is read and none
-/// is packed.
-pub(crate) fn make_low<G: Gate>(
+/// record was free: none is added.
+///
+/// The node has leaves alone and room for one more. `words` become those of the record, so that no node is read and none is packed.
+pub(crate) fn make_from_words_with_leaf<G: Gate>(
     table: &HotTable,
     seat: &mut TableSeat,
     gate: &mut G,
@@ -125,24 +119,22 @@ pub(crate) fn make_low<G: Gate>(
     requires building { (news : List Made) × IsBuilding table.now seat.old build.old.made.items news }
     requires takes { (node : NodeView) × AwaitsLeaf words.old node new.now × CanTakeLeaf node }
     requires room { length build.old.made.items < MOST_MADE }
-    ensures goes { WorksOn table.now G.becomes (seat.old, gate.old) (seat.new, gate.new) }
-    ensures made { (news : List Made) (node : NodeView) → AwaitsLeaf words.old node new.now → CanTakeLeaf node → IsBuilding table.now seat.old build.old.made.items news →
+    ensures makes { Makes 1 node_steps table.now G.becomes ((seat.old, gate.old), build.old) ((seat.new, gate.new), build.new) result }
+    ensures made { (news : List Made) (node : NodeView) → AwaitsLeaf words.old node new.now → CanTakeLeaf node →
+        IsBuilding table.now seat.old build.old.made.items news →
         MatchOption result (HasNotMade table.now seat.new build.new.made.items)
-        (λ e. (after : NodeView) × IsBuiltFrom after (subtrie_with_leaf new.now (piece node)) × (number : ℕ) × (e ≡ Entry.Node number after.height) × HasNodeWords after ×
-        IsBuilding table.now seat.new build.new.made.items (made_of_node number after ∷ news)) }
-    ensures more { length build.new.made.items ≤ length build.old.made.items + 1 }
-    ensures nodes { MakesNodes 1 build.old build.new result }
-    ensures walk { WalksOn table.now.layout seat.old.known build.old seat.new.known build.new result }
-    ensures few { Spends node_steps seat.old.known build.old seat.new.known build.new result }
+        (λ e. (after : NodeView) × IsBuiltFrom after (subtrie_with_leaf new.now (piece node)) × (number : ℕ) × (e ≡ Entry.Node number after.height) ×
+        HasNodeWords after × IsBuilding table.now seat.new build.new.made.items (made_of_node number after ∷ news)) }
+    ensures same { result ≡ None → (seat.new.known.own ≡ seat.old.known.own) × (build.new.made.items ≡ build.old.made.items) }
 {
     let bit = new.key.bit(new.position);
     let (first, last) = affected_in(&words[..HEAD_WORDS], new.at, new.position);
     record_words::add_leaf(words, first, last, new.position, bit, new.number);
-    make_words(table, seat, gate, build, words)
+    make_from_words(table, seat, gate, build, words)
 }
 
-/// The entry for `half`, a side of a cut node. One entry is itself, a new node gets a record, and the node as it was keeps its entry
-/// `old`. `None` if a record was wanted and none was free.
+/// The entry for `half`, a side of a node that was cut, whose entry is `old`. One entry is itself, a new node gets a record, and the node as
+/// it was keeps `old`. `None` if a record was wanted and none was free.
 fn make_half<G: Gate>(
     table: &HotTable,
     seat: &mut TableSeat,
@@ -153,14 +145,10 @@ fn make_half<G: Gate>(
 ) -> Option<Entry>
     requires room { length build.old.made.items < MOST_MADE }
     requires building { (news : List Made) × IsBuilding table.now seat.old build.old.made.items news }
-    ensures goes { WorksOn table.now G.becomes (seat.old, gate.old) (seat.new, gate.new) }
+    ensures makes { Makes 1 node_steps table.now G.becomes ((seat.old, gate.old), build.old) ((seat.new, gate.new), build.new) result }
     ensures made { (news : List Made) → IsBuilding table.now seat.old build.old.made.items news → MatchOption result
         (HasNotMade table.now seat.new build.new.made.items)
         (λ e. (more : List Made) × IsHalfMade old half.now e more × IsBuilding table.now seat.new build.new.made.items (more ++ news)) }
-    ensures more { length build.new.made.items ≤ length build.old.made.items + 1 }
-    ensures nodes { MakesNodes 1 build.old build.new result }
-    ensures walk { WalksOn table.now.layout seat.old.known build.old seat.new.known build.new result }
-    ensures few { Spends node_steps seat.old.known build.old seat.new.known build.new result }
 {
     match half {
         Half::One(entry) => Some(*entry),
@@ -181,14 +169,10 @@ pub(crate) fn make_risen<G: Gate>(
 ) -> Option<Risen>
     requires building { (news : List Made) × IsBuilding table.now seat.old build.old.made.items news }
     requires room { length build.old.made.items + 1 < MOST_MADE }
-    ensures goes { WorksOn table.now G.becomes (seat.old, gate.old) (seat.new, gate.new) }
+    ensures makes { Makes 2 (2 * node_steps) table.now G.becomes ((seat.old, gate.old), build.old) ((seat.new, gate.new), build.new) result }
     ensures made { (news : List Made) → IsBuilding table.now seat.old build.old.made.items news → MatchOption result
         (HasNotMade table.now seat.new build.new.made.items)
         (λ risen. (after : List Made) × IsMadeFrom old grown.now risen news after × IsBuilding table.now seat.new build.new.made.items after) }
-    ensures more { length build.new.made.items ≤ length build.old.made.items + 2 }
-    ensures nodes { MakesNodes 2 build.old build.new result }
-    ensures walk { WalksOn table.now.layout seat.old.known build.old seat.new.known build.new result }
-    ensures few { Spends (2 * node_steps) seat.old.known build.old seat.new.known build.new result }
 {
     match grown {
         Grown::One(node) => {

@@ -35,13 +35,17 @@ pub struct Hint {
     /// The number after that of the record that was claimed last, but for spare ones: then claims go on from there.
     pub next: u32,
     /// How many claims of a leaf record still try these records last, since a claim found none of them free. It begins as the number of
-    /// the records, so that in the long run a claim looks at one of them.
+    /// the records. So in the long run a claim looks at one of them.
     pub skips: u32,
 }
 
 impl Hint {
     /// A hint without spare numbers, whose claims begin at the number `next`.
-    pub fn begin_at(next: u32) -> Hint {
+    pub fn begin_at(next: u32) -> Hint
+        ensures spare { result.spare.items ≡ [] }
+        ensures next { result.next ≡ next }
+        ensures skips { result.skips ≡ 0 }
+    {
         Hint {
             spare: ArrayVec::new(),
             next,
@@ -49,9 +53,14 @@ impl Hint {
         }
     }
 
-    /// Adds `number` to the spare ones, with which claims begin; if there is no place for it, it is not kept. Claims don't pass these
-    /// records by then.
-    pub fn give_back(&mut self, number: u32) {
+    /// Adds `number` to the spare ones, with which claims begin. Where there are [`MOST_SPARE`] already it is not kept. Claims don't skip these
+    /// records then.
+    pub fn give_back(&mut self, number: u32)
+        ensures kept { length self.old.spare.items < MOST_SPARE → self.new.spare.items ≡ self.old.spare.items ++ number ∷ [] }
+        ensures full { MOST_SPARE ≤ length self.old.spare.items → self.new.spare.items ≡ self.old.spare.items }
+        ensures next { self.new.next ≡ self.old.next }
+        ensures skips { self.new.skips ≡ 0 }
+    {
         self.skips = 0;
         if !self.spare.is_full() {
             self.spare.push(number);
@@ -59,12 +68,12 @@ impl Hint {
     }
 }
 
-/// Claims a record of `kind` and returns its number, or `None` if none was free.
+/// Claims a record of `kind` and returns its number. `None` if none was free.
 ///
 /// It tries the last spare number of `hint` first, which is spare no more. Then it tries each record once, from `hint.next` on. That
 /// becomes the number after one claimed so. Inline, so that no claim asks of which kind it is.
 #[inline(always)]
-pub(crate) fn claim_next<G: Gate>(
+pub(crate) fn claim_by_hint<G: Gate>(
     table: &HotTable,
     seat: &mut TableSeat,
     gate: &mut G,
@@ -112,10 +121,10 @@ pub(crate) fn claim_spare<G: Gate>(
     None
 }
 
-/// Claims a leaf record of at least `words` words and returns its number, or `None` if none was free.
+/// Claims a leaf record of at least `words` words and returns its number. `None` if none was free.
 ///
-/// The classes of records that are large enough are tried one after the other, the smallest first. But the smallest ones that are to be
-/// passed by come after the others.
+/// The classes of records that are large enough are tried one after the other, the smallest first. The smallest ones that are to be
+/// skipped come after the others.
 pub(crate) fn claim_leaf<G: Gate>(
     table: &HotTable,
     seat: &mut TableSeat,
@@ -135,7 +144,7 @@ pub(crate) fn claim_leaf<G: Gate>(
 {
     let layout = table.layout();
     let first = layout.first_with(words);
-    let from = pass_by(layout, classes, first);
+    let from = skip_classes(layout, classes, first);
     if let Some(number) = claim_between(table, seat, gate, from, layout.leaves, classes) {
         return Some(number);
     }
@@ -143,9 +152,9 @@ pub(crate) fn claim_leaf<G: Gate>(
     Some(number)
 }
 
-/// The number of the first leaf record, from `first` on, whose class is not to be passed by; `layout.leaves` if there is none. Each class
-/// passed by is so for one claim less afterwards.
-fn pass_by(layout: Layout, classes: &mut [Hint; LEAF_CLASSES], first: u32) -> u32
+/// The number of the first leaf record, from `first` on, whose class is not to be skipped; `layout.leaves` if there is none. Each class
+/// that is skipped has one claim less to skip afterwards.
+fn skip_classes(layout: Layout, classes: &mut [Hint; LEAF_CLASSES], first: u32) -> u32
     requires { first ≤ layout.leaves }
     ensures { (first ≤ result) × (result ≤ layout.leaves) }
 {
@@ -161,9 +170,10 @@ fn pass_by(layout: Layout, classes: &mut [Hint; LEAF_CLASSES], first: u32) -> u3
     from
 }
 
-/// Claims one of the leaf records from number `from` on and below `upto`, of the smallest class that has one free, and returns its
-/// number. `None` if none was free. A class with none free is to be passed by afterwards. Inline, for it is known then of which class the
-/// first of them is.
+/// Claims a leaf record from number `from` on and below `upto`, of the smallest class that has one free, and returns its number. `None` if
+/// none was free. A class with none free is to be skipped afterwards.
+///
+/// Inline, for it is known then of which class the first of them is.
 #[inline(always)]
 fn claim_between<G: Gate>(
     table: &HotTable,
@@ -188,7 +198,7 @@ fn claim_between<G: Gate>(
         let end = layout.class_end(first).min(upto);
         let hint = &mut classes[layout.class_of(first).place()];
         let kind = RecordKind::Leaf { first, end };
-        if let Some(number) = claim_next(table, seat, gate, kind, hint) {
+        if let Some(number) = claim_by_hint(table, seat, gate, kind, hint) {
             return Some(first + number);
         }
         hint.skips = end - first;
@@ -197,7 +207,7 @@ fn claim_between<G: Gate>(
     None
 }
 
-/// Claims a node record and returns its number, or `None` if each was found not free since the change began to claim them.
+/// Claims a node record and returns its number. `None` if each was found not free since the change began to claim them.
 ///
 /// All claims of a change try each node record once at most, spare ones aside. Where none is left to try, each was found not free, or the
 /// change has made it. Those that it has made are looked at now.
@@ -214,20 +224,20 @@ pub(crate) fn claim_node<G: Gate>(
     ensures made { build.new.made.items ≡ build.old.made.items }
     ensures walk { (since : ℕ) → HasWalked table.now.layout since seat.old.known build.old → MatchOption result
         (AllMissed (IsAnothersBut table.now.layout seat.new.known build.new.made.items) a_node table.now.layout.nodes seat.new.known.failed since)
-        (λ number. IsClaimWalk table.now.layout a_node table.now.layout.nodes since seat.new.known (build.old.made.items ++ a_node number ∷ [])
+        (λ number. IsClaimWalk table.now.layout since seat.new.known (build.old.made.items ++ a_node number ∷ [])
         build.new.nodes.next build.new.left_nodes) }
     ensures few { Spends 2 seat.old.known build.old seat.new.known build.new result }
 {
-    let claimed = claim_left(table, seat, gate, &mut build.nodes, &mut build.left_nodes);
+    let claimed = claim_on_walk(table, seat, gate, &mut build.nodes, &mut build.left_nodes);
     if let Some(number) = claimed {
         return Some(number);
     }
-    look_at(table, seat, gate, build.made.as_slice());
+    load_states(table, seat, gate, build.made.as_slice());
     None
 }
 
 /// Loads the states of the records `made`, which the pass has made: each is found not free.
-fn look_at<G: Gate>(table: &HotTable, seat: &mut TableSeat, gate: &mut G, made: &[Rec])
+fn load_states<G: Gate>(table: &HotTable, seat: &mut TableSeat, gate: &mut G, made: &[Rec])
     requires building { (news : List Made) × IsBuilding table.now seat.old made.now news }
     ensures goes { WorksOn table.now G.becomes (seat.old, gate.old) (seat.new, gate.new) }
     ensures own { seat.new.known.own ≡ seat.old.known.own }
@@ -240,11 +250,11 @@ fn look_at<G: Gate>(table: &HotTable, seat: &mut TableSeat, gate: &mut G, made: 
     }
 }
 
-/// Claims the next free node record of the walk and returns its number, or `None` if none of those left was free.
+/// Claims the next free node record of the walk and returns its number. `None` if none of those left was free.
 ///
 /// It tries the last spare number of `hint` first, which is spare no more. Then it tries each record once, from `hint.next` on,
-/// `left` at most, which is then less by those that were tried.
-fn claim_left<G: Gate>(
+/// `left` at most. `left` becomes less by those that were tried.
+fn claim_on_walk<G: Gate>(
     table: &HotTable,
     seat: &mut TableSeat,
     gate: &mut G,
@@ -256,9 +266,9 @@ fn claim_left<G: Gate>(
     ensures claims { MatchOption result (seat.new.known.own ≡ seat.old.known.own)
         (λ number. (number < table.now.layout.nodes) × HoldsOneMore (a_node number) seat.old.known seat.new.known) }
     ensures walk { (since : ℕ) (made : List Record) → HasNoOther seat.old.known made →
-        IsClaimWalk table.now.layout a_node table.now.layout.nodes since seat.old.known made hint.old.next left.old → MatchOption result
-        ((left.new ≡ 0) × IsClaimWalk table.now.layout a_node table.now.layout.nodes since seat.new.known made hint.new.next left.new)
-        (λ number. IsClaimWalk table.now.layout a_node table.now.layout.nodes since seat.new.known (made ++ a_node number ∷ []) hint.new.next left.new) }
+        IsClaimWalk table.now.layout since seat.old.known made hint.old.next left.old → MatchOption result
+        ((left.new ≡ 0) × IsClaimWalk table.now.layout since seat.new.known made hint.new.next left.new)
+        (λ number. IsClaimWalk table.now.layout since seat.new.known (made ++ a_node number ∷ []) hint.new.next left.new) }
     ensures few { seat.new.known.steps + 2 * left.new ≤ seat.old.known.steps + 2 * left.old + 2 }
 {
     if let Some(number) = claim_spare(table, seat, gate, RecordKind::Node, &mut hint.spare) {

@@ -41,8 +41,8 @@ pub(crate) struct Raised {
     pub leaf: Option<u32>,
 }
 
-/// Makes the records of the change `deed`, which other passes don't see, and returns what is to take the place of the span's nodes. If no
-/// record was free, the kind is returned. The nodes of the span are locked and checked.
+/// Makes the records of the change `deed`, which other passes don't see yet. Returns what is to take the place of the span's nodes, or the
+/// kind of record of which none was free. The nodes of the span are locked and checked.
 pub(crate) fn carry_out<G: Gate>(
     table: &HotTable,
     seat: &mut TableSeat,
@@ -52,7 +52,7 @@ pub(crate) fn carry_out<G: Gate>(
     deed: Deed,
 ) -> Result<Raised, Full>
     requires taken { HasTakenPlan table.now seat.old job.now deed }
-    ensures done { CarriesOut table.now G.becomes (seat.old, gate.old) (seat.new, gate.new) build.new.made.items job.now deed result }
+    ensures done { CarriesOut table.now G.becomes ((seat.old, gate.old), build.old) ((seat.new, gate.new), build.new) job.now deed result }
     ensures leafless { deed ≡ Deed.Take → result ≢ Err Full.Leaves }
 {
     match deed {
@@ -73,7 +73,8 @@ pub(crate) fn put_leaf<G: Gate>(
     job: &Job<'_>,
 ) -> Result<Raised, Full>
     requires taken { HasTakenPlan table.now seat.old job.now Put }
-    ensures done { CarriesOut table.now G.becomes (seat.old, gate.old) (seat.new, gate.new) build.new.made.items job.now Put result }
+    ensures done { CarriesOut table.now G.becomes ((seat.old, gate.old), build.old) ((seat.new, gate.new), build.new) job.now Put result }
+    ensures kind { result ≢ Err Full.Nodes }
 {
     let Some(number) = make_leaf(table, seat, gate, build, job.key, job.value) else {
         return Err(Full::Leaves);
@@ -95,8 +96,8 @@ fn found_leaf(found: Found) -> Option<u32>
     }
 }
 
-/// Makes the new leaf, and a node of it and the found leaf with a fork at `position`. That node is to take the found leaf's place. If no
-/// leaf record with room or no node record was free, that kind is returned.
+/// Makes the new leaf, and a node of it and the found leaf with a fork at `position`. That node is to take the found leaf's place.
+/// `Full::Leaves` if no leaf record with room was free, and `Full::Nodes` if no node record was free.
 pub(crate) fn push_down<G: Gate>(
     table: &HotTable,
     seat: &mut TableSeat,
@@ -106,7 +107,7 @@ pub(crate) fn push_down<G: Gate>(
     position: u16,
 ) -> Result<Raised, Full>
     requires taken { HasTakenPlan table.now seat.old job.now (PushDown position) }
-    ensures done { CarriesOut table.now G.becomes (seat.old, gate.old) (seat.new, gate.new) build.new.made.items job.now (PushDown position) result }
+    ensures done { CarriesOut table.now G.becomes ((seat.old, gate.old), build.old) ((seat.new, gate.new), build.new) job.now (PushDown position) result }
 {
     let Found::Leaf { number: old, .. } = job.found else {
         unreachable!()

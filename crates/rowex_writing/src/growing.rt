@@ -1,6 +1,6 @@
 //! A node that gets the new leaf, and what rises from it.
 
-ghost use Rattle.std.specs.Prelude.{◌≤◌, ◌+◌, ◌<◌, IfErr, IfOk, None};
+ghost use Rattle.std.specs.Prelude.{◌≡◌, ◌≤◌, ◌+◌, ◌<◌, IfErr, IfOk, None};
 ghost use Rattle.version_laws.specs.Writer.{added_change};
 ghost use Rattle.tries.specs.Content.{item};
 ghost use Rattle.rowex_writing.specs.declared.plan.Deed.TheVariants.{Grow};
@@ -8,7 +8,7 @@ ghost use Rattle.rowex_writing.specs.Changes.{HasTakenPlan};
 ghost use Rattle.rowex_writing.specs.Counts.{deed_steps, leaf_steps};
 ghost use Rattle.rowex_writing.specs.Deeds.{CarriesOut, HasNoneFree, MayReplace};
 ghost use Rattle.rowex_writing.specs.Going.{WorksOn};
-ghost use Rattle.rowex_writing.specs.Growths.{HasNumber, MayTake};
+ghost use Rattle.rowex_writing.specs.Growths.{HasNumber, MayGrow};
 ghost use Rattle.rowex_writing.specs.Locks.{locks_of};
 
 use crate::building::Build;
@@ -22,7 +22,7 @@ use rowex_core::Gate;
 use rowex_table::{HotTable, TableSeat};
 
 /// Makes the new leaf and puts it into the lowest node of the span, beside the entries that `position` affects. Returns what is to take
-/// the place of the topmost, or the kind of record of which none was free.
+/// the place of the span's nodes, or the kind of record of which none was free.
 pub(crate) fn grow_node<G: Gate>(
     table: &HotTable,
     seat: &mut TableSeat,
@@ -32,7 +32,7 @@ pub(crate) fn grow_node<G: Gate>(
     position: u16,
 ) -> Result<Raised, Full>
     requires taken { HasTakenPlan table.now seat.old job.now (Grow position) }
-    ensures done { CarriesOut table.now G.becomes (seat.old, gate.old) (seat.new, gate.new) build.new.made.items job.now (Grow position) result }
+    ensures done { CarriesOut table.now G.becomes ((seat.old, gate.old), build.old) ((seat.new, gate.new), build.new) job.now (Grow position) result }
 {
     let Some(number) = make_leaf(table, seat, gate, build, job.key, job.value) else {
         return Err(Full::Leaves);
@@ -43,12 +43,12 @@ pub(crate) fn grow_node<G: Gate>(
         position,
         at: job.way[job.span.len - 1].at,
     };
-    grow_with(table, seat, gate, build, job, &new)
+    grow_with_leaf(table, seat, gate, build, job, &new)
 }
 
-/// Makes and returns what takes the place of the nodes of `job.span` once the lowest gets `new`, a leaf whose record is made. `Full::Nodes`
+/// Makes and returns what takes the place of the nodes of `job.span` when the lowest gets `new`, a leaf whose record is made. `Full::Nodes`
 /// if no node record was free: those made by then stay in `build.made`.
-fn grow_with<G: Gate>(
+fn grow_with_leaf<G: Gate>(
     table: &HotTable,
     seat: &mut TableSeat,
     gate: &mut G,
@@ -56,11 +56,11 @@ fn grow_with<G: Gate>(
     job: &Job<'_>,
     new: &NewLeaf<'_>,
 ) -> Result<Raised, Full>
-    requires may { MayTake table.now seat.old build.old.made.items job.now new.now }
+    requires may { MayGrow table.now seat.old build.old.made.items job.now new.now }
     ensures goes { WorksOn table.now G.becomes (seat.old, gate.old) (seat.new, gate.new) }
-    ensures raised { IfOk result (λ raised. MayReplace table.now seat.new build.new.made.items job.now.way.now job.now.span raised
+    ensures raised { IfOk result (λ raised. MayReplace table.now seat.new build.new.made.items job.now raised
         (added_change seat.old.known.pass (item new.now.number new.now.key.now job.now.value)) None) }
-    ensures full { IfErr result (HasNoneFree table.now seat.old.known seat.new build.new.made.items job.now) }
+    ensures full { IfErr result (λ full. (full ≡ Full.Nodes) × HasNoneFree table.now seat.old.known seat.new build.new.made.items job.now full) }
     ensures few { seat.new.known.steps + leaf_steps table.now.layout ≤
         seat.old.known.steps + deed_steps table.now.layout (locks_of job.now.span) result }
 {

@@ -21,7 +21,7 @@ ghost use Rattle.rowex_writing.specs.Locks.{HasTheSame, span_numbers};
 ghost use Rattle.rowex_writing.specs.Merging.{ClosesFork, HasHeight, IsNeighbour, IsWide, MayMergeInto, TakesOn, TriesFew, lower, merged_gone, upper};
 ghost use Rattle.rowex_writing.specs.declared.plan.Deed.TheVariants.{Take};
 
-use crate::building::{Build, make_words};
+use crate::building::{Build, make_from_words};
 use crate::deeds::Job;
 use crate::ending::retire;
 use crate::growing::has_number;
@@ -267,7 +267,7 @@ fn raise_closed<G: Gate>(
     if let Some(entry) = close_fork(&mut words, above.at, place, merged) {
         return Some(entry);
     }
-    make_words(table, seat, gate, build, &words)
+    make_from_words(table, seat, gate, build, &words)
 }
 
 /// The end of a removal that merges: makes the new records ready, and stores `entry` in the place of the upper node's. Then it retires

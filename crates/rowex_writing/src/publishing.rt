@@ -104,9 +104,9 @@ pub(crate) fn publish_change<G: Gate>(
     raised: Raised,
 )
     requires held { HoldsSpan table.now seat.old job.now }
-    requires may { (x : Change) × (was : Option ℕ) × MayReplace table.now seat.old build.old.made.items job.now.way.now job.now.span raised x was }
+    requires may { (x : Change) × (was : Option ℕ) × MayReplace table.now seat.old build.old.made.items job.now raised x was }
     ensures run { HasRun table.now G.becomes (seat.old, gate.old) (seat.new, gate.new) }
-    ensures changed { (x : Change) (was : Option ℕ) → MayReplace table.now seat.old build.old.made.items job.now.way.now job.now.span raised x was →
+    ensures changed { (x : Change) (was : Option ℕ) → MayReplace table.now seat.old build.old.made.items job.now raised x was →
         HasChanged seat.old.known seat.new.known x was }
     ensures few { seat.new.known.steps ≤
         seat.old.known.steps + length build.old.made.items + length (leaf_gone raised.leaf) + locks_of job.now.span + 3 }

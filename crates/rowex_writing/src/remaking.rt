@@ -14,8 +14,8 @@ use compound_node::{Entry, Node};
 use insert_cases::{Grown, grow_full, pull_up, put_fork};
 use key_bits::Key;
 
-/// A new leaf for a node. It goes beside the entries that `position` affects, at which its key first differs from theirs. One of these is
-/// the entry at `at`, to which the search for its key leads.
+/// A new leaf for a node, in the leaf record `number`. It goes beside the entries that `position` affects, at which its key first differs
+/// from theirs. One of these is the entry at `at`, to which the search for its key leads.
 #[derive(Drop)]
 pub(crate) struct NewLeaf<'a> {
     pub key: &'a Key,
@@ -40,7 +40,7 @@ pub(crate) fn add_leaf(node: &mut Node, new: &NewLeaf<'_>)
 
 /// The two sides of the first fork of the full node `node` with the leaf `new`. If `new.position` is before the first fork of `node`, one
 /// side is `node` as it is.
-pub(crate) fn full_with_leaf(node: &Node, new: &NewLeaf<'_>) -> Grown
+pub(crate) fn cut_with_leaf(node: &Node, new: &NewLeaf<'_>) -> Grown
     requires full { length node.now.entries ≡ 32 }
     requires leads { spot new.now.key.now (piece node.now) ≡ new.now.at }
     requires tree { IsSubtrieOfTree (subtrie_with_leaf new.now (piece node.now)) }
@@ -62,7 +62,7 @@ pub(crate) fn full_with_leaf(node: &Node, new: &NewLeaf<'_>) -> Grown
     )
 }
 
-/// A fork of two entries, which comes in the place of the entry to which the key's search leads.
+/// A fork of two entries at `position`, which comes in the place of the entry to which the search for `key` leads.
 #[derive(Drop)]
 pub(crate) struct Fork<'a> {
     pub key: &'a Key,
@@ -71,7 +71,7 @@ pub(crate) struct Fork<'a> {
     pub one: Entry,
 }
 
-/// Puts `fork` into `node`, which has fewer than 32 entries, in the place of the entry to which `fork.key` leads.
+/// Puts `fork` into `node`, which has fewer than 32 entries, in the place of the entry to which the search for `fork.key` leads.
 pub(crate) fn add_fork(node: &mut Node, fork: &Fork<'_>)
     requires room { length node.old.entries < 32 }
     requires tree { IsSubtrieOfTree (subtrie_with_fork fork.now (piece node.old)) }
@@ -85,9 +85,9 @@ pub(crate) fn add_fork(node: &mut Node, fork: &Fork<'_>)
     put_fork(node, at, fork.position, fork.zero, fork.one);
 }
 
-/// The two sides of the first fork of the full node `node`, with `fork` in the place of the entry to which `fork.key` leads. Neither side
-/// is `node` as it is.
-pub(crate) fn full_with_fork(node: &Node, fork: &Fork<'_>) -> Grown
+/// The two sides of the first fork of the full node `node`, with `fork` in the place of the entry to which the search for `fork.key` leads.
+/// Neither side is `node` as it is.
+pub(crate) fn cut_with_fork(node: &Node, fork: &Fork<'_>) -> Grown
     requires full { length node.now.entries ≡ 32 }
     requires tree { IsSubtrieOfTree (subtrie_with_fork fork.now (piece node.now)) }
     requires zero { height_of fork.now.zero < node.now.height }
@@ -102,7 +102,8 @@ pub(crate) fn full_with_fork(node: &Node, fork: &Fork<'_>) -> Grown
     pull_up(node, at, fork.position, fork.zero, fork.one)
 }
 
-/// A node of the entry `old` and leaf `leaf`, with a fork at `position`. The leaf is on the side of the bit that `key` has there.
+/// A node of the entry `old` and the leaf in record `leaf`, with a fork at `position`. The leaf is on the side of the bit that `key` has
+/// there.
 pub(crate) fn pair_with_leaf(key: &Key, position: u16, old: Entry, leaf: u32) -> Node
     requires { IsSubtrieOfTree (subtrie_forked (bit key.now position) position (Entry.Leaf leaf) (At old)) }
     ensures { IsBuiltFrom result (subtrie_forked (bit key.now position) position (Entry.Leaf leaf) (At old)) }

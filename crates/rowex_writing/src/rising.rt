@@ -4,12 +4,12 @@ ghost use Rattle.std.specs.Prelude.{◌≡◌, ◌≢◌, ◌<◌, ◌≤◌, �
 ghost use Rattle.insert_cases.specs.declared.choice.PathNode.{PathNode as PathNodeView};
 ghost use Rattle.rowex_table.specs.Made.{Made};
 ghost use Rattle.publish_laws.specs.Rises.{IsSide};
-ghost use Rattle.rowex_writing.specs.Building.{IsBuilding, IsGrowing, IsLevelRisen, IsLowRisen, IsNextTo, IsRaising, IsRisenAt, MakesGrown, newcomer_of, Rises, GetsFork, GetsLeaf, FitsAbove, HasNotMade, HasRisenTo, gone_unless_whole, gone_with_way};
-ghost use Rattle.rowex_writing.specs.Going.{WorksOn, HasLocked, IsLockedBy, LeadsLocked};
+ghost use Rattle.rowex_writing.specs.Building.{IsBuilding, IsGrowing, IsLevelRisen, IsLowRisen, IsNextTo, IsRaising, IsRisenAt, MakesGrown, newcomer_of, Rises, GetsFork, GetsLeaf, FitsAbove, FitsAt, HasNotMade, HasRisenTo, gone_unless_whole, gone_with_way, levels_above};
+ghost use Rattle.rowex_writing.specs.Going.{HasLocked, IsLockedBy, LeadsLocked};
 ghost use Rattle.rowex_writing.specs.Locks.{locks_of};
 ghost use Rattle.rowex_writing.specs.Remaking.{AwaitsLeaf};
 ghost use Rattle.compound_node.specs.Nodes.{NodeView, height_of};
-ghost use Rattle.insert_cases.specs.Grown.{keeps_node, is_same as is_the_same};
+ghost use Rattle.insert_cases.specs.Grown.{keeps_node, is_same};
 ghost use Rattle.pieces.specs.Piece.{Place as At};
 ghost use Rattle.tries.specs.Keys.{Key as KeyValue};
 ghost use Rattle.tries.specs.Place.{subtrie_without};
@@ -18,12 +18,14 @@ ghost use Rattle.versions.specs.declared.Rec.TheVariants.{Node as a_node};
 ghost use Rattle.rowex_core.specs.Reading.{node_words_of};
 ghost use Rattle.version_laws.specs.Rise.{entry};
 ghost use Rattle.rowex_writing.specs.Counts.{level_steps, node_steps};
-ghost use Rattle.rowex_writing.specs.Walks.{MakesNodes, Spends, WalksOn};
+ghost use Rattle.rowex_writing.specs.Walks.{Makes};
 
-use crate::building::{Build, MOST_MADE, entry_of, make_low, make_node, make_risen, make_words};
+use crate::building::{
+    Build, MOST_MADE, entry_of, make_from_words, make_from_words_with_leaf, make_node, make_risen,
+};
 use crate::deeds::Job;
 use crate::locked::{load_words, read_locked};
-use crate::remaking::{Fork, NewLeaf, add_fork, add_leaf, full_with_fork, full_with_leaf};
+use crate::remaking::{Fork, NewLeaf, add_fork, add_leaf, cut_with_fork, cut_with_leaf};
 use compound_node::{Entry, Half, Node};
 use insert_cases::{Grown, PathNode, Risen};
 use key_bits::Key;
@@ -31,8 +33,8 @@ use record_words::{NODE_FIELDS, can_take_leaf, drop_entry, read_node};
 use rowex_core::Gate;
 use rowex_table::{HotTable, TableSeat};
 
-/// Makes what replaces the locked node `number` when `fork` goes in: one entry, or a fork of two if the node was full. `None` if no node
-/// record was free: one made by then stays in `build.made`. The node is changed in a local copy, and the locked record stays.
+/// Makes what takes the place of the locked node `number` when `fork` goes into it: one entry, or a fork of two if it was full. `None` if no
+/// node record was free: one that was made by then stays in `build.made`. The locked record stays as it is.
 fn raise_level<G: Gate>(
     table: &HotTable,
     seat: &mut TableSeat,
@@ -44,21 +46,16 @@ fn raise_level<G: Gate>(
     requires range { number < table.now.layout.nodes }
     requires below { GetsFork table.now seat.old build.old.made.items number fork.now }
     requires room { length build.old.made.items + 1 < MOST_MADE }
-    ensures goes { WorksOn table.now G.becomes (seat.old, gate.old) (seat.new, gate.new) }
+    ensures makes { Makes 2 level_steps table.now G.becomes ((seat.old, gate.old), build.old) ((seat.new, gate.new), build.new) result }
     ensures made { (b : GetsFork table.now seat.old build.old.made.items number fork.now) → MatchOption result
         (HasNotMade table.now seat.new build.new.made.items)
-        (λ risen. (after : List Made) ×
-        IsRaising table.now seat.new build.new.made.items after (a_node number ∷ b.here.gone) b.here.newcomer (entry number) (subtrie_of risen)) }
+        (λ risen. IsRaising table.now seat.new build.new.made.items (a_node number ∷ b.here.gone) b.here.newcomer (entry number) (subtrie_of risen)) }
     ensures level { (words : List ℕ) → HasLocked seat.old.known number words → IfSome result (IsLevelRisen words) }
-    ensures more { length build.new.made.items ≤ length build.old.made.items + 2 }
-    ensures nodes { MakesNodes 2 build.old build.new result }
-    ensures walk { WalksOn table.now.layout seat.old.known build.old seat.new.known build.new result }
-    ensures few { Spends level_steps seat.old.known build.old seat.new.known build.new result }
 {
     let mut node = read_locked(table, seat, gate, number);
     if node.count() == 32 {
         let old = entry_of(number, &node);
-        let grown = full_with_fork(&node, fork);
+        let grown = cut_with_fork(&node, fork);
         return make_risen(table, seat, gate, build, old, &grown);
     }
     add_fork(&mut node, fork);
@@ -66,31 +63,33 @@ fn raise_level<G: Gate>(
     Some(Risen::Whole(entry))
 }
 
-/// Makes what [`make_grown`] makes, by a value of the node that is read from `words`. A node with room gets the leaf where it stands, so
-/// that no whole node is moved.
-fn make_by_value<G: Gate>(
+/// The words of the locked node `number`, as they were loaded.
+#[derive(Drop)]
+pub(crate) struct LoadedNode {
+    pub number: u32,
+    pub words: [u64; NODE_FIELDS],
+}
+
+/// Makes what [`make_with_leaf`] makes, by a value of the node that is read from `loaded`. A node with room gets the leaf in that value, and a
+/// full one is cut. `None` if no node record was free.
+fn make_with_leaf_by_value<G: Gate>(
     table: &HotTable,
     seat: &mut TableSeat,
     gate: &mut G,
     build: &mut Build,
-    number: u32,
-    words: &[u64; NODE_FIELDS],
+    loaded: &LoadedNode,
     new: &NewLeaf<'_>,
 ) -> Option<(Risen, bool)>
     requires building { (news : List Made) × IsBuilding table.now seat.old build.old.made.items news }
-    requires takes { (node : NodeView) × AwaitsLeaf words.now node new.now }
+    requires takes { (node : NodeView) × AwaitsLeaf loaded.now.words node new.now }
     requires room { length build.old.made.items + 1 < MOST_MADE }
-    ensures goes { WorksOn table.now G.becomes (seat.old, gate.old) (seat.new, gate.new) }
-    ensures made { MakesGrown table.now (seat.old, build.old.made.items) (seat.new, build.new.made.items) number words.now new.now result }
-    ensures more { length build.new.made.items ≤ length build.old.made.items + 2 }
-    ensures nodes { MakesNodes 2 build.old build.new result }
-    ensures walk { WalksOn table.now.layout seat.old.known build.old seat.new.known build.new result }
-    ensures few { Spends (2 * node_steps) seat.old.known build.old seat.new.known build.new result }
+    ensures makes { Makes 2 (2 * node_steps) table.now G.becomes ((seat.old, gate.old), build.old) ((seat.new, gate.new), build.new) result }
+    ensures made { MakesGrown table.now (seat.old, build.old.made.items) (seat.new, build.new.made.items) loaded.now new.now result }
 {
-    let mut node = read_node(words);
+    let mut node = read_node(&loaded.words);
     if node.count() == 32 {
-        let old = entry_of(number, &node);
-        let grown = full_with_leaf(&node, new);
+        let old = entry_of(loaded.number, &node);
+        let grown = cut_with_leaf(&node, new);
         let stays = stays_whole(&grown);
         let risen = make_risen(table, seat, gate, build, old, &grown)?;
         return Some((risen, stays));
@@ -100,38 +99,33 @@ fn make_by_value<G: Gate>(
     Some((Risen::Whole(entry), false))
 }
 
-/// Makes what takes the place of node `number`, with the words `words`, that gets the leaf `new`: one entry, or a fork of two if full.
-/// The flag tells whether the node stays, as one side of that fork. `None` if no node record was free.
+/// Makes what takes the place of the node `loaded` with the leaf `new`: one entry, or a fork of two if it was full. The flag tells whether
+/// the node stays, as one side of that fork. `None` if no node record was free.
 ///
-/// A node of leaves alone with room gets the leaf in `words`. So no node is read or packed, and no place for one is made.
-fn make_grown<G: Gate>(
+/// A node of leaves alone with room gets the leaf in its words, so that none is read or packed.
+fn make_with_leaf<G: Gate>(
     table: &HotTable,
     seat: &mut TableSeat,
     gate: &mut G,
     build: &mut Build,
-    number: u32,
-    words: &mut [u64; NODE_FIELDS],
+    loaded: &mut LoadedNode,
     new: &NewLeaf<'_>,
 ) -> Option<(Risen, bool)>
     requires building { (news : List Made) × IsBuilding table.now seat.old build.old.made.items news }
-    requires takes { (node : NodeView) × AwaitsLeaf words.old node new.now }
+    requires takes { (node : NodeView) × AwaitsLeaf loaded.old.words node new.now }
     requires room { length build.old.made.items + 1 < MOST_MADE }
-    ensures goes { WorksOn table.now G.becomes (seat.old, gate.old) (seat.new, gate.new) }
-    ensures made { MakesGrown table.now (seat.old, build.old.made.items) (seat.new, build.new.made.items) number words.old new.now result }
-    ensures more { length build.new.made.items ≤ length build.old.made.items + 2 }
-    ensures nodes { MakesNodes 2 build.old build.new result }
-    ensures walk { WalksOn table.now.layout seat.old.known build.old seat.new.known build.new result }
-    ensures few { Spends (2 * node_steps) seat.old.known build.old seat.new.known build.new result }
+    ensures makes { Makes 2 (2 * node_steps) table.now G.becomes ((seat.old, gate.old), build.old) ((seat.new, gate.new), build.new) result }
+    ensures made { MakesGrown table.now (seat.old, build.old.made.items) (seat.new, build.new.made.items) loaded.old new.now result }
 {
-    if can_take_leaf(words) {
-        let entry = make_low(table, seat, gate, build, words, new)?;
+    if can_take_leaf(&loaded.words) {
+        let entry = make_from_words_with_leaf(table, seat, gate, build, &mut loaded.words, new)?;
         return Some((Risen::Whole(entry), false));
     }
-    make_by_value(table, seat, gate, build, number, words, new)
+    make_with_leaf_by_value(table, seat, gate, build, loaded, new)
 }
 
-/// Makes what takes the place of a span's lowest node that gets a new leaf: one entry, or a fork of two if the node was full. The flag
-/// tells whether the node stays as it is, as one side of that fork. Nothing if no node record was free.
+/// Makes what takes the place of the locked node `number`, the lowest of a span, with the leaf `new`. This is one entry, or a fork of two if
+/// the node was full. The flag tells whether the node stays, as one side of that fork. `None` if no node record was free.
 fn raise_lowest<G: Gate>(
     table: &HotTable,
     seat: &mut TableSeat,
@@ -143,35 +137,33 @@ fn raise_lowest<G: Gate>(
     requires range { number < table.now.layout.nodes }
     requires lowest { GetsLeaf table.now seat.old build.old.made.items number new.now }
     requires room { length build.old.made.items + 1 < MOST_MADE }
-    ensures goes { WorksOn table.now G.becomes (seat.old, gate.old) (seat.new, gate.new) }
+    ensures makes { Makes 2 level_steps table.now G.becomes ((seat.old, gate.old), build.old) ((seat.new, gate.new), build.new) result }
     ensures made { (b : GetsLeaf table.now seat.old build.old.made.items number new.now) → MatchOption result
         (HasNotMade table.now seat.new build.new.made.items)
-        (λ r. (after : List Made) ×
-        IsRaising table.now seat.new build.new.made.items after (gone_unless_whole r.1 number) (newcomer_of b) (entry number) (subtrie_of r.0)) }
+        (λ r. IsRaising table.now seat.new build.new.made.items (gone_unless_whole r.1 number) (newcomer_of b) (entry number) (subtrie_of r.0)) }
     ensures level { (words : List ℕ) → HasLocked seat.old.known number words → IfSome result (λ r. IsLevelRisen words r.0) }
-    ensures more { length build.new.made.items ≤ length build.old.made.items + 2 }
-    ensures nodes { MakesNodes 2 build.old build.new result }
-    ensures walk { WalksOn table.now.layout seat.old.known build.old seat.new.known build.new result }
-    ensures few { Spends level_steps seat.old.known build.old seat.new.known build.new result }
 {
-    let mut words = [0; NODE_FIELDS];
-    load_words(table, seat, gate, number, &mut words);
-    make_grown(table, seat, gate, build, number, &mut words, new)
+    let mut loaded = LoadedNode {
+        number,
+        words: [0; NODE_FIELDS],
+    };
+    load_words(table, seat, gate, number, &mut loaded.words);
+    make_with_leaf(table, seat, gate, build, &mut loaded, new)
 }
 
-/// Whether one side of `grown` is the node that was cut, as it was; `false` if `grown` is one node.
+/// Whether one side of `grown` is the node that was cut, as it was. `false` if `grown` is one node.
 fn stays_whole(grown: &Grown) -> bool
     ensures { result ≡ keeps_node grown.now }
 {
     match grown {
         Grown::One(_) => false,
-        Grown::Two(cut) => is_same(&cut.zero) || is_same(&cut.one),
+        Grown::Two(cut) => is_whole_node(&cut.zero) || is_whole_node(&cut.one),
     }
 }
 
-/// Whether `half`, a side of a cut, is the whole old node (`Half::Same`). `false` for one entry and for a new node.
-fn is_same(half: &Half) -> bool
-    ensures { result ≡ is_the_same half.now }
+/// Whether `half`, a side of a cut, is the whole node that was cut (`Half::Same`). `false` for one entry and for a new node.
+fn is_whole_node(half: &Half) -> bool
+    ensures { result ≡ is_same half.now }
 {
     match half {
         Half::Same => true,
@@ -179,10 +171,10 @@ fn is_same(half: &Half) -> bool
     }
 }
 
-/// The one entry for `risen`: the entry itself, or that of a new node of two for a fork. `None` if no node record was free. Inline, for
-/// mostly it is the entry already.
+/// The one entry for `risen`, which takes the place of the locked node `number`. It is the entry itself, or that of a new node of two for a
+/// fork. `None` if no node record was free. Inline, for mostly it is the entry already.
 #[inline(always)]
-fn settle<G: Gate>(
+fn make_one_entry<G: Gate>(
     table: &HotTable,
     seat: &mut TableSeat,
     gate: &mut G,
@@ -192,15 +184,11 @@ fn settle<G: Gate>(
 ) -> Option<Entry>
     requires risen { IsRisenAt table.now seat.old build.old.made.items number risen }
     requires room { length build.old.made.items < MOST_MADE }
-    ensures goes { WorksOn table.now G.becomes (seat.old, gate.old) (seat.new, gate.new) }
+    ensures makes { Makes 1 node_steps table.now G.becomes ((seat.old, gate.old), build.old) ((seat.new, gate.new), build.new) result }
     ensures made { (b : IsRisenAt table.now seat.old build.old.made.items number risen) → MatchOption result
         (HasNotMade table.now seat.new build.new.made.items)
-        (λ e. (after : List Made) × IsRaising table.now seat.new build.new.made.items after b.gone b.newcomer (entry number) (At e)) }
+        (λ e. IsRaising table.now seat.new build.new.made.items b.gone b.newcomer (entry number) (At e)) }
     ensures low { (height : ℕ) → IsLowRisen height risen → IfSome result (IsNextTo height risen) }
-    ensures more { length build.new.made.items ≤ length build.old.made.items + 1 }
-    ensures nodes { MakesNodes 1 build.old build.new result }
-    ensures walk { WalksOn table.now.layout seat.old.known build.old seat.new.known build.new result }
-    ensures few { Spends node_steps seat.old.known build.old seat.new.known build.new result }
 {
     match risen {
         Risen::Whole(entry) => Some(entry),
@@ -215,8 +203,8 @@ fn settle<G: Gate>(
     }
 }
 
-/// What has risen to the node at place `level` of a way, for the key of its search. It is to rise on to the node at `end`, which is
-/// `level` or less.
+/// What has risen to the node at place `level` of a way: `risen` takes its place, for the key of the search. It is to rise on to the node at
+/// `end`, which is `level` or less.
 #[derive(Drop)]
 pub(crate) struct Rise<'a> {
     pub key: &'a Key,
@@ -238,26 +226,23 @@ fn raise_on<G: Gate>(
     rise: Rise<'_>,
 ) -> Option<Entry>
     requires up { Rises table.now seat.old build.old.made.items way.now rise }
-    requires room { length build.old.made.items + 2 * (rise.level - rise.end) < MOST_MADE }
-    ensures goes { WorksOn table.now G.becomes (seat.old, gate.old) (seat.new, gate.new) }
+    requires room { length build.old.made.items + 2 * levels_above rise < MOST_MADE }
+    ensures makes { Makes (2 * levels_above rise.entry + 1) ((levels_above rise.entry + 1) * level_steps) table.now G.becomes
+        ((seat.old, gate.old), build.old) ((seat.new, gate.new), build.new) result }
     ensures made { (b : Rises table.now seat.old build.old.made.items way.now rise.entry) → MatchOption result
         (HasNotMade table.now seat.new build.new.made.items)
         (HasRisenTo table.now seat.new build.new.made.items way.now b.here.newcomer rise.entry.end
         (gone_with_way way.now rise.entry.end rise.entry.level b.here.gone)) }
-    ensures low { (s : PathNodeView) (words : List ℕ) → slice_get way.now rise.entry.end ≡ Some s → HasLocked seat.old.known s.number words → IfSome result (FitsAbove words) }
-    ensures more { length build.new.made.items ≤ length build.old.made.items + 2 * (rise.entry.level - rise.entry.end) + 1 }
-    ensures nodes { MakesNodes (2 * (rise.entry.level - rise.entry.end) + 1) build.old build.new result }
-    ensures walk { WalksOn table.now.layout seat.old.known build.old seat.new.known build.new result }
-    ensures few { Spends ((rise.entry.level - rise.entry.end + 1) * level_steps) seat.old.known build.old seat.new.known build.new result }
+    ensures low { FitsAt seat.old.known way.now rise.entry.end result }
 {
     let level = rise.level;
     if level == rise.end {
-        return settle(table, seat, gate, build, way[level].number, rise.risen);
+        return make_one_entry(table, seat, gate, build, way[level].number, rise.risen);
     }
     raise_above(table, seat, gate, build, way, rise)
 }
 
-/// What [`raise_on`] returns where `rise.end` is above `rise.level`. There a fork has risen, which goes into the next node above.
+/// What [`raise_on`] returns where `rise.end` is before `rise.level`. There a fork has risen, which goes into the next node above.
 #[cycle(raising)]
 fn raise_above<G: Gate>(
     table: &HotTable,
@@ -269,17 +254,14 @@ fn raise_above<G: Gate>(
 ) -> Option<Entry>
     requires up { Rises table.now seat.old build.old.made.items way.now rise }
     requires above { rise.level ≢ rise.end }
-    requires room { length build.old.made.items + 2 * (rise.level - rise.end) < MOST_MADE }
-    ensures goes { WorksOn table.now G.becomes (seat.old, gate.old) (seat.new, gate.new) }
+    requires room { length build.old.made.items + 2 * levels_above rise < MOST_MADE }
+    ensures makes { Makes (2 * levels_above rise.entry + 1) ((levels_above rise.entry + 1) * level_steps) table.now G.becomes
+        ((seat.old, gate.old), build.old) ((seat.new, gate.new), build.new) result }
     ensures made { (b : Rises table.now seat.old build.old.made.items way.now rise.entry) → MatchOption result
         (HasNotMade table.now seat.new build.new.made.items)
         (HasRisenTo table.now seat.new build.new.made.items way.now b.here.newcomer rise.entry.end
         (gone_with_way way.now rise.entry.end rise.entry.level b.here.gone)) }
-    ensures low { (s : PathNodeView) (words : List ℕ) → slice_get way.now rise.entry.end ≡ Some s → HasLocked seat.old.known s.number words → IfSome result (FitsAbove words) }
-    ensures more { length build.new.made.items ≤ length build.old.made.items + 2 * (rise.entry.level - rise.entry.end) + 1 }
-    ensures nodes { MakesNodes (2 * (rise.entry.level - rise.entry.end) + 1) build.old build.new result }
-    ensures walk { WalksOn table.now.layout seat.old.known build.old seat.new.known build.new result }
-    ensures few { Spends ((rise.entry.level - rise.entry.end + 1) * level_steps) seat.old.known build.old seat.new.known build.new result }
+    ensures low { FitsAt seat.old.known way.now rise.entry.end result }
 {
     match rise.risen {
         Risen::Whole(_) => unreachable!(),
@@ -309,7 +291,7 @@ fn raise_above<G: Gate>(
 }
 
 /// The one entry that takes the place of the topmost node of `job`'s span, when the lowest gets the leaf `new`. The flag tells whether
-/// the lowest node stays as it is. `None` if no node record was free, as in [`make_node`].
+/// the lowest node stays as it is. `None` if no node record was free: those made by then stay in `build.made`.
 pub(crate) fn raise_grown<G: Gate>(
     table: &HotTable,
     seat: &mut TableSeat,
@@ -321,17 +303,14 @@ pub(crate) fn raise_grown<G: Gate>(
     requires growing { IsGrowing table.now seat.old build.old.made.items job.now.way.now job.now.span new.now }
     requires within { job.now.span.end < job.now.span.len }
     requires room { length build.old.made.items + 2 * (job.now.span.len - 1 - job.now.span.end) + 2 < MOST_MADE }
-    ensures goes { WorksOn table.now G.becomes (seat.old, gate.old) (seat.new, gate.new) }
+    ensures makes { Makes (2 * (job.now.span.len - 1 - job.now.span.end) + 3) (locks_of job.now.span * level_steps) table.now G.becomes
+        ((seat.old, gate.old), build.old) ((seat.new, gate.new), build.new) result }
     ensures made { (b : IsGrowing table.now seat.old build.old.made.items job.now.way.now job.now.span new.now) → MatchOption result
         (HasNotMade table.now seat.new build.new.made.items)
         (λ r. HasRisenTo table.now seat.new build.new.made.items job.now.way.now (newcomer_of b.lowest) job.now.span.end
         (gone_with_way job.now.way.now job.now.span.end (job.now.span.len - 1) (gone_unless_whole r.1 b.step.number)) r.0) }
     ensures low { (s : PathNodeView) (words : List ℕ) → slice_get job.now.way.now job.now.span.end ≡ Some s → HasLocked seat.old.known s.number words →
         IfSome result (λ r. FitsAbove words r.0) }
-    ensures more { length build.new.made.items ≤ length build.old.made.items + 2 * (job.now.span.len - 1 - job.now.span.end) + 3 }
-    ensures nodes { MakesNodes (2 * (job.now.span.len - 1 - job.now.span.end) + 3) build.old build.new result }
-    ensures walk { WalksOn table.now.layout seat.old.known build.old seat.new.known build.new result }
-    ensures few { Spends (locks_of job.now.span * level_steps) seat.old.known build.old seat.new.known build.new result }
 {
     let way = job.way;
     let end = job.span.end;
@@ -348,7 +327,7 @@ pub(crate) fn raise_grown<G: Gate>(
 }
 
 /// The entry for what is left of the locked node `number` without the leaf at place `at`: a new record's, or the only one left. `None` if
-/// no node record was free, as in [`make_node`].
+/// no node record was free: none is made then.
 ///
 /// Some key's search leads to the place. The node's words become those of the record, so that no node is read, searched or packed.
 pub(crate) fn raise_without<G: Gate>(
@@ -364,20 +343,16 @@ pub(crate) fn raise_without<G: Gate>(
     requires locked { IsLockedBy seat.old.known number }
     requires place { (key : KeyValue) × LeadsLocked seat.old.known number key at }
     requires room { length build.old.made.items < MOST_MADE }
-    ensures goes { WorksOn table.now G.becomes (seat.old, gate.old) (seat.new, gate.new) }
+    ensures makes { Makes 1 level_steps table.now G.becomes ((seat.old, gate.old), build.old) ((seat.new, gate.new), build.new) result }
     ensures made { (key : KeyValue) (words : List ℕ) → LeadsLocked seat.old.known number key at → HasLocked seat.old.known number words → MatchOption result
         (HasNotMade table.now seat.new build.new.made.items)
         (λ e. (news : List Made) × IsSide (subtrie_without key (node_words_of words).subtrie) e news × IsBuilding table.now seat.new build.new.made.items news) }
     ensures low { (words : List ℕ) → HasLocked seat.old.known number words → IfSome result (λ e. height_of e ≤ (node_words_of words).fixed.height) }
-    ensures more { length build.new.made.items ≤ length build.old.made.items + 1 }
-    ensures nodes { MakesNodes 1 build.old build.new result }
-    ensures walk { WalksOn table.now.layout seat.old.known build.old seat.new.known build.new result }
-    ensures few { Spends level_steps seat.old.known build.old seat.new.known build.new result }
 {
     let mut words = [0; NODE_FIELDS];
     load_words(table, seat, gate, number, &mut words);
     if let Some(entry) = drop_entry(&mut words, at) {
         return Some(entry);
     }
-    make_words(table, seat, gate, build, &words)
+    make_from_words(table, seat, gate, build, &words)
 }

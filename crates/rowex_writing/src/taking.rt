@@ -29,7 +29,7 @@ pub(crate) fn remove_leaf<G: Gate>(
     job: &Job<'_>,
 ) -> Result<Raised, Full>
     requires taken { HasTakenPlan table.now seat.old job.now Take }
-    ensures done { CarriesOut table.now G.becomes (seat.old, gate.old) (seat.new, gate.new) build.new.made.items job.now Take result }
+    ensures done { CarriesOut table.now G.becomes ((seat.old, gate.old), build.old) ((seat.new, gate.new), build.new) job.now Take result }
     ensures leafless { result ≢ Err Full.Leaves }
     ensures walk { 0 < job.now.span.len → seat.new.known.steps + 2 * build.new.left_nodes ≤ seat.old.known.steps + 2 * table.now.layout.nodes + level_steps + 1 }
 {
@@ -57,11 +57,11 @@ fn remake_without<G: Gate>(
     job: &Job<'_>,
     number: u32,
 ) -> Result<Raised, Full>
-    requires below { (m : ℕ) × (value : ℕ) × HasLeafBelow table.now seat.old m job.now.key.now job.now.way.now number value job.now.span }
+    requires below { (m : ℕ) × (value : ℕ) × HasLeafBelow table.now seat.old m job.now number value }
     requires made { build.old.made.items ≡ [] }
     ensures goes { WorksOn table.now G.becomes (seat.old, gate.old) (seat.new, gate.new) }
-    ensures raised { (m value : ℕ) → HasLeafBelow table.now seat.old m job.now.key.now job.now.way.now number value job.now.span →
-        IfOk result (λ raised. MayReplace table.now seat.new build.new.made.items job.now.way.now job.now.span raised
+    ensures raised { (m value : ℕ) → HasLeafBelow table.now seat.old m job.now number value →
+        IfOk result (λ raised. MayReplace table.now seat.new build.new.made.items job.now raised
         (removed_change seat.old.known.pass (item number job.now.key.now value)) (Some value)) }
     ensures full { IfErr result (λ full. (full ≡ Full.Nodes) × HasNoneFree table.now seat.old.known seat.new build.new.made.items job.now full) }
     ensures walk { seat.new.known.steps + 2 * build.new.left_nodes ≤ seat.old.known.steps + 2 * table.now.layout.nodes + level_steps + 1 }

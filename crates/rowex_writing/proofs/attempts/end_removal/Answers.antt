@@ -37,7 +37,7 @@ publish_change-requires g c =
         from = (t.since, subst (λ f. IsWayOf c.args.table.now.layout c.try_merge.new.seat.known t.since job.key.now job.way.now f) (sym t.found) (way_later c.args.table.now.layout t.before.known c.try_merge.new.seat.known t.since job.key.now job.way.now _ later t.below.taken.way_of));
         locked = span_later t.before.known c.try_merge.new.seat.known job.way.now job.span (later, s.0.0 ∙ stays.1, s.0.1 ∙ stays.2) t.below.taken.locked;
       };
-      may = (x, was, replace_later c.args.table.now c.args.seat.now c.try_merge.new.seat c.args.build.now.made.items c.try_merge.new.build.made.items job.way.now job.span c.args.raised x was l.1 l.2 l.0 s.0 s.1 may);
+      may = (x, was, replace_later c.args.table.now c.args.seat.now c.try_merge.new.seat c.args.build.now.made.items c.try_merge.new.build.made.items job c.args.raised x was l.1 l.2 l.0 s.0 s.1 may);
     }
 
 pub returns-clause-tries : goal.returns-clause-tries
@@ -58,5 +58,5 @@ returns-clause-done g c =
       was,
       is,
       changed_since c.args.seat.now.known c.try_merge.new.seat.known c.publish_change.new.seat.known x was l.0
-          (c.publish_change.ensures.changed x was (replace_later c.args.table.now c.args.seat.now c.try_merge.new.seat c.args.build.now.made.items c.try_merge.new.build.made.items job.way.now job.span c.args.raised x was l.1 l.2 l.0 s.0 s.1 may)),
+          (c.publish_change.ensures.changed x was (replace_later c.args.table.now c.args.seat.now c.try_merge.new.seat c.args.build.now.made.items c.try_merge.new.build.made.items job c.args.raised x was l.1 l.2 l.0 s.0 s.1 may)),
     )

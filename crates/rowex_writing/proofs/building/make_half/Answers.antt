@@ -1,7 +1,7 @@
 -- The half's own node.
-use Rattle.std.proofs.Common.{[], refl, arith}
-use Rattle.rowex_writing.proofs.Locking.{goes_none}
+use Rattle.std.proofs.Common.{[], refl}
 use Rattle.rowex_writing.proofs.Making.{half_of_node}
+use Rattle.rowex_writing.proofs.Walked.{makes_none}
 use Rattle.rowex_writing.proofs.building.make_half.Goals as goal
 
 pub returns-in-Many-clause-made : goal.returns-in-Many-clause-made
@@ -11,29 +11,11 @@ returns-in-Many-clause-made g c = λ news b.
 pub returns-in-One-clause-made : goal.returns-in-One-clause-made
 returns-in-One-clause-made g c = λ news b. rw c.in-One.is ([], (refl, refl), b)
 
-pub returns-in-One-clause-goes : goal.returns-in-One-clause-goes
-returns-in-One-clause-goes g c = goes_none c.args.table.now g.G.Gate.becomes (c.args.seat.now, c.args.gate.now)
-
-pub returns-in-One-clause-walk : goal.returns-in-One-clause-walk
-returns-in-One-clause-walk g c = λ since w. w
-
-pub returns-in-One-clause-few : goal.returns-in-One-clause-few
-returns-in-One-clause-few g c = omega arith
-
 pub returns-in-Same-clause-made : goal.returns-in-Same-clause-made
 returns-in-Same-clause-made g c = λ news b. rw c.in-Same.is ([], (refl, refl), b)
 
-pub returns-in-Same-clause-goes : goal.returns-in-Same-clause-goes
-returns-in-Same-clause-goes g c = goes_none c.args.table.now g.G.Gate.becomes (c.args.seat.now, c.args.gate.now)
+pub returns-in-One-clause-makes : goal.returns-in-One-clause-makes
+returns-in-One-clause-makes g c = makes_none ((c.args.seat.now, c.args.gate.now), c.args.build.now)
 
-pub returns-in-Same-clause-walk : goal.returns-in-Same-clause-walk
-returns-in-Same-clause-walk g c = λ since w. w
-
-pub returns-in-Same-clause-few : goal.returns-in-Same-clause-few
-returns-in-Same-clause-few g c = omega arith
-
-pub returns-in-Many-clause-walk : goal.returns-in-Many-clause-walk
-returns-in-Many-clause-walk g c = c.make_node.ensures.walk
-
-pub returns-in-Many-clause-few : goal.returns-in-Many-clause-few
-returns-in-Many-clause-few g c = c.make_node.ensures.few
+pub returns-in-Same-clause-makes : goal.returns-in-Same-clause-makes
+returns-in-Same-clause-makes g c = makes_none ((c.args.seat.now, c.args.gate.now), c.args.build.now)

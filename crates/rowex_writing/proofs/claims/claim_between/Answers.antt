@@ -8,31 +8,28 @@ use Rattle.rowex_writing.proofs.Locking.{goes_more, goes_none, seat_of}
 use Rattle.rowex_writing.proofs.Making.{steps_rise}
 use Rattle.rowex_writing.proofs.claims.claim_between.Goals as goal
 
-pub claim_next-requires-clause-own : goal.claim_next-requires-clause-own
-claim_next-requires-clause-own g c = seat_of c.args.table.now g.G.Gate.becomes (c.args.seat.now, c.args.gate.now) (c.loop-first.seat, c.loop-first.gate) c.loop-first.invariant.goes c.requires.own
+pub claim_by_hint-requires-clause-own : goal.claim_by_hint-requires-clause-own
+claim_by_hint-requires-clause-own g c = seat_of c.args.table.now g.G.Gate.becomes (c.args.seat.now, c.args.gate.now) (c.loop-first.seat, c.loop-first.gate) c.loop-first.invariant.goes c.requires.own
 
 pub returns-in-Some-clause-goes : goal.returns-in-Some-clause-goes
-returns-in-Some-clause-goes g c = goes_more c.args.table.now g.G.Gate.becomes _ _ _ c.loop-first.invariant.goes c.claim_next.ensures.goes
+returns-in-Some-clause-goes g c = goes_more c.args.table.now g.G.Gate.becomes _ _ _ c.loop-first.invariant.goes c.claim_by_hint.ensures.goes
 
 pub loop-first-preserved : goal.loop-first-preserved
 loop-first-preserved g c =
     let table = c.args.table.now in
     let i = c.loop-first.invariant in
-    let goes = c.claim_next.ensures.goes in
-    let rises = steps_rise table g.G.Gate.becomes goes.acts (c.loop-first.seat, c.loop-first.gate) (c.claim_next.new.seat, c.claim_next.new.gate) goes.steps in
+    let goes = c.claim_by_hint.ensures.goes in
+    let rises = steps_rise table g.G.Gate.becomes goes.acts (c.loop-first.seat, c.loop-first.gate) (c.claim_by_hint.new.seat, c.claim_by_hint.new.gate) goes.steps in
     record {
       within = (omega (arith, i.within.0, c.class_end.ensures.upto.0, c.loop-first-test.true, c.min-end.ensures), omega (arith, c.min-end.ensures));
       goes = goes_more table g.G.Gate.becomes _ _ _ i.goes goes;
       own = c.in_default.ensures.claims.0 ∙ i.own;
-      missed = missed_more table g.G.Gate.becomes (IsAnothersTo table.layout c.args.seat.now.known) c.args.from c.loop-first.first c.min-end.result c.args.seat.now.known.steps (c.loop-first.seat, c.loop-first.gate) (c.claim_next.new.seat, c.claim_next.new.gate)
-          i.later goes i.missed (λ q low. missed_before table.layout c.args.seat.now.known c.loop-first.seat.known c.claim_next.new.seat.known.failed (a_leaf (c.loop-first.first + q)) c.loop-first.seat.known.steps
+      missed = missed_more table g.G.Gate.becomes (IsAnothersTo table.layout c.args.seat.now.known) c.args.from c.loop-first.first c.min-end.result c.args.seat.now.known.steps (c.loop-first.seat, c.loop-first.gate) (c.claim_by_hint.new.seat, c.claim_by_hint.new.gate)
+          i.later goes i.missed (λ q low. missed_before table.layout c.args.seat.now.known c.loop-first.seat.known c.claim_by_hint.new.seat.known.failed (a_leaf (c.loop-first.first + q)) c.loop-first.seat.known.steps
           i.goes.stays.0.pass i.own i.goes.stays.1 (c.in_default.ensures.claims.1 q low));
-      count = omega (arith, i.within.0, i.count, c.claim_next.ensures.few, c.class_end.ensures.upto.0, c.loop-first-test.true, c.min-end.ensures);
+      count = omega (arith, i.within.0, i.count, c.claim_by_hint.ensures.few, c.class_end.ensures.upto.0, c.loop-first-test.true, c.min-end.ensures);
       later = omega (arith, rises, i.later);
     }
-
-pub returns-clause-few : goal.returns-clause-few
-returns-clause-few g c = omega (arith, c.loop-first.invariant.count, c.loop-first.invariant.within.0, c.loop-first.invariant.within.1)
 
 pub loop-first-init : goal.loop-first-init
 loop-first-init g c = record {
@@ -44,24 +41,18 @@ loop-first-init g c = record {
   later = omega arith;
 }
 
-pub claim_next-requires-clause-kind : goal.claim_next-requires-clause-kind
-claim_next-requires-clause-kind g c = omega (arith, c.min-end.ensures, c.requires.range.1)
-
 pub returns-in-Some-clause-claims : goal.returns-in-Some-clause-claims
 returns-in-Some-clause-claims g c =
     let (less, holds) = c.in-Some.ensures.claims in (
       omega (arith, c.loop-first.invariant.within.0),
       omega (arith, less, c.min-end.ensures),
-      more_since (a_leaf (c.loop-first.first + c.in-Some.number)) c.args.seat.now.known c.loop-first.seat.known c.claim_next.new.seat.known c.loop-first.invariant.own holds,
+      more_since (a_leaf (c.loop-first.first + c.in-Some.number)) c.args.seat.now.known c.loop-first.seat.known c.claim_by_hint.new.seat.known c.loop-first.invariant.own holds,
     )
 
 pub returns-in-Some-clause-few : goal.returns-in-Some-clause-few
 returns-in-Some-clause-few g c =
     let i = c.loop-first.invariant in
-    omega (arith, i.within.0, i.count, c.claim_next.ensures.few, c.class_end.ensures.upto.0, c.loop-first-test.true, c.min-end.ensures)
+    omega (arith, i.within.0, i.count, c.claim_by_hint.ensures.few, c.class_end.ensures.upto.0, c.loop-first-test.true, c.min-end.ensures)
 
 pub returns-clause-claims : goal.returns-clause-claims
 returns-clause-claims g c = (c.loop-first.invariant.own, λ q low high. c.loop-first.invariant.missed q low (omega (arith, high, c.loop-first-test.false)))
-
-pub returns-clause-goes : goal.returns-clause-goes
-returns-clause-goes g c = c.loop-first.invariant.goes

@@ -11,25 +11,22 @@ use Rattle.rowex_writing.proofs.Making.{building_on}
 use Rattle.rowex_writing.proofs.Walked.{missed_as, walk_on, walk_ends}
 use Rattle.rowex_writing.proofs.claims.claim_node.Goals as goal
 
-pub claim_left-claimed-requires : goal.claim_left-claimed-requires
-claim_left-claimed-requires g c = record { own = c.requires.building.1.seat }
-
-pub look_at-requires : goal.look_at-requires
-look_at-requires g c =
+pub load_states-requires : goal.load_states-requires
+load_states-requires g c =
     let (news, b) = c.requires.building in
     record {
       building = (
         news,
-        subst (λ z. IsBuilding c.args.table.now c.claim_left-claimed.new.seat z news) (sym c.as_slice.ensures.value)
-            (building_on c.args.table.now g.G.Gate.becomes (c.args.seat.now, c.args.gate.now) (c.claim_left-claimed.new.seat, c.claim_left-claimed.new.gate) c.args.build.now.made.items news c.claim_left-claimed.ensures.goes c.in_default.ensures.claims b),
+        subst (λ z. IsBuilding c.args.table.now c.claim_on_walk-claimed.new.seat z news) (sym c.as_slice.ensures.value)
+            (building_on c.args.table.now g.G.Gate.becomes (c.args.seat.now, c.args.gate.now) (c.claim_on_walk-claimed.new.seat, c.claim_on_walk-claimed.new.gate) c.args.build.now.made.items news c.claim_on_walk-claimed.ensures.goes c.in_default.ensures.claims b),
       );
     }
 
 pub returns-clause-goes : goal.returns-clause-goes
-returns-clause-goes g c = goes_more c.args.table.now g.G.Gate.becomes _ _ _ c.claim_left-claimed.ensures.goes c.look_at.ensures.goes
+returns-clause-goes g c = goes_more c.args.table.now g.G.Gate.becomes _ _ _ c.claim_on_walk-claimed.ensures.goes c.load_states.ensures.goes
 
 pub returns-clause-claims : goal.returns-clause-claims
-returns-clause-claims g c = c.look_at.ensures.own ∙ c.in_default.ensures.claims
+returns-clause-claims g c = c.load_states.ensures.own ∙ c.in_default.ensures.claims
 
 pub returns-clause-walk : goal.returns-clause-walk
 returns-clause-walk g c = λ since w.
@@ -37,21 +34,15 @@ returns-clause-walk g c = λ since w.
     let made = c.args.build.now.made.items in
     let (none, walk) = c.in_default.ensures.walk since made (made_alone c.args.table.now c.args.seat.now made news b) w in
     let early = walk.early in
-    walk_ends a_node c.args.table.now.layout.nodes c.args.table.now.layout since c.look_at.new.seat.known c.args.build.now.made.items c.claim_left-claimed.new.hint.next c.claim_left-claimed.new.left none
+    walk_ends c.args.table.now.layout since c.load_states.new.seat.known c.args.build.now.made.items c.claim_on_walk-claimed.new.hint.next c.claim_on_walk-claimed.new.left none
     (λ r has.
-    let Whose : Record → Option ℕ → Type 0 = IsAnothersBut c.args.table.now.layout c.claim_left-claimed.new.seat.known made in
-    missed_as c.args.table.now.layout c.claim_left-claimed.new.seat.known c.look_at.new.seat.known made made c.look_at.new.seat.known.failed r since c.look_at.ensures.goes.stays.0.pass c.look_at.ensures.goes.stays.1 (λ h. h)
-    (missed_earlier Whose c.look_at.new.seat.known.failed r since c.claim_left-claimed.new.seat.known.steps early
-    (subst (λ z. HasMissedSince (IsAnothersBut c.args.table.now.layout c.claim_left-claimed.new.seat.known z) c.look_at.new.seat.known.failed r c.claim_left-claimed.new.seat.known.steps) c.as_slice.ensures.value
-    (c.look_at.ensures.seen r (subst (λ z. Contains z r) (sym c.as_slice.ensures.value) has)))))
-    (walk_on a_node c.args.table.now.layout.nodes c.args.table.now g.G.Gate.becomes since (c.claim_left-claimed.new.seat, c.claim_left-claimed.new.gate) (c.look_at.new.seat, c.look_at.new.gate) c.args.build.now.made.items c.args.build.now.made.items
-    c.claim_left-claimed.new.hint.next c.claim_left-claimed.new.left c.look_at.ensures.goes (λ r has. has) walk)
-
-pub returns-in-Some-clause-goes : goal.returns-in-Some-clause-goes
-returns-in-Some-clause-goes g c = c.in-Some.ensures.goes
-
-pub returns-in-Some-clause-claims : goal.returns-in-Some-clause-claims
-returns-in-Some-clause-claims g c = c.in-Some.ensures.claims
+    let Whose : Record → Option ℕ → Type 0 = IsAnothersBut c.args.table.now.layout c.claim_on_walk-claimed.new.seat.known made in
+    missed_as c.args.table.now.layout c.claim_on_walk-claimed.new.seat.known c.load_states.new.seat.known made made c.load_states.new.seat.known.failed r since c.load_states.ensures.goes.stays.0.pass c.load_states.ensures.goes.stays.1 (λ h. h)
+    (missed_earlier Whose c.load_states.new.seat.known.failed r since c.claim_on_walk-claimed.new.seat.known.steps early
+    (subst (λ z. HasMissedSince (IsAnothersBut c.args.table.now.layout c.claim_on_walk-claimed.new.seat.known z) c.load_states.new.seat.known.failed r c.claim_on_walk-claimed.new.seat.known.steps) c.as_slice.ensures.value
+    (c.load_states.ensures.seen r (subst (λ z. Contains z r) (sym c.as_slice.ensures.value) has)))))
+    (walk_on c.args.table.now g.G.Gate.becomes since (c.claim_on_walk-claimed.new.seat, c.claim_on_walk-claimed.new.gate) (c.load_states.new.seat, c.load_states.new.gate) c.args.build.now.made.items c.args.build.now.made.items
+    c.claim_on_walk-claimed.new.hint.next c.claim_on_walk-claimed.new.left c.load_states.ensures.goes (λ r has. has) walk)
 
 pub returns-in-Some-clause-walk : goal.returns-in-Some-clause-walk
 returns-in-Some-clause-walk g c = λ since w.
@@ -62,4 +53,4 @@ pub returns-in-Some-clause-few : goal.returns-in-Some-clause-few
 returns-in-Some-clause-few g c = let few = c.in-Some.ensures.few in omega (arith, few)
 
 pub returns-clause-few : goal.returns-clause-few
-returns-clause-few g c = omega (arith, c.in_default.ensures.few, c.look_at.ensures.few, ap length c.as_slice.ensures.value)
+returns-clause-few g c = omega (arith, c.in_default.ensures.few, c.load_states.ensures.few, ap length c.as_slice.ensures.value)

@@ -20,9 +20,6 @@ returns-in_err-number-clause-goes g c = goes_none c.args.table.now g.G.Gate.beco
 pub returns-in_err-number-clause-claims : goal.returns-in_err-number-clause-claims
 returns-in_err-number-clause-claims g c = rw c.from_residual.ensures refl
 
-pub returns-in_err-number-clause-few : goal.returns-in_err-number-clause-few
-returns-in_err-number-clause-few g c = omega arith
-
 pub returns-then-claim_numbered-clause-claims : goal.returns-then-claim_numbered-clause-claims
 returns-then-claim_numbered-clause-claims g c =
     let (low, one) = c.claim_numbered.ensures.claimed c.if-claim_numbered.true in (low, one.holds)

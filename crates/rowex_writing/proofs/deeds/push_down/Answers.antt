@@ -27,14 +27,7 @@ use Rattle.tries.specs.Content.{item}
 
 -- ---- no leaf record was free
 pub returns-in_default-make_leaf : goal.returns-in_default-make_leaf
-returns-in_default-make_leaf g c = record {
-  done = record {
-    goes = c.make_leaf.ensures.goes;
-    raised = tt;
-    full = no_leaf_free _ _ _ _ c.args.job.now c.in_default-make_leaf.ensures.made.0 c.in_default-make_leaf.ensures.made.1;
-    few = omega (arith, c.make_leaf.ensures.few);
-  };
-}
+returns-in_default-make_leaf g c = record { done = no_leaf_free c.make_leaf.ensures.goes c.in_default-make_leaf.ensures.made c.make_leaf.ensures.few }
 
 -- ---- the node
 pub pair_with_leaf-pair-requires : goal.pair_with_leaf-pair-requires
@@ -50,25 +43,25 @@ pair_with_leaf-pair-requires g c =
 pub returns-in_default-make_node : goal.returns-in_default-make_node
 returns-in_default-make_node g c = record {
   done = record {
-    goes = (goes_more c.args.table.now g.G.Gate.becomes (c.args.seat.now, c.args.gate.now) (c.make_leaf.new.seat, c.make_leaf.new.gate) (c.make_node.new.seat, c.make_node.new.gate) c.make_leaf.ensures.goes c.make_node.ensures.goes);
+    goes = (goes_more c.args.table.now g.G.Gate.becomes (c.args.seat.now, c.args.gate.now) (c.make_leaf.new.seat, c.make_leaf.new.gate) (c.make_node.new.seat, c.make_node.new.gate) c.make_leaf.ensures.goes c.make_node.ensures.makes.goes);
     raised = tt;
     full = (let job = c.args.job.now in
         let (m, aim, t, planned) = c.requires.taken in
         let here = pair_here c.args.seat.now.known m job.key.now job.way.now aim job.found job.span c.args.position planned c.in-Leaf.old _ _ c.in-Leaf.is in
-        let missed = c.in_default-make_node.ensures.walk c.make_leaf.new.seat.known.steps
-        (walk_begins a_node c.args.table.now.layout.nodes c.args.table.now.layout c.make_leaf.new.seat.known c.make_leaf.new.build.made.items c.make_leaf.new.build.nodes.next c.layout.result.nodes c.args.table.now.layout.nodes_in_range.0 (ap (λ (z : Layout). z.nodes) c.layout.ensures)) in
+        let missed = c.in_default-make_node.ensures.makes.walk c.make_leaf.new.seat.known.steps
+        (walk_begins c.args.table.now.layout c.make_leaf.new.seat.known c.make_leaf.new.build.made.items c.make_leaf.new.build.nodes.next c.layout.result c.layout.ensures) in
         let rise = steps_rise c.args.table.now g.G.Gate.becomes c.make_leaf.ensures.goes.acts (c.args.seat.now, c.args.gate.now) (c.make_leaf.new.seat, c.make_leaf.new.gate) c.make_leaf.ensures.goes.steps in
         record {
           not_made = c.in_default-make_node.ensures.made (made_of_leaf (item c.in-Some.leaf c.args.job.now.key.now c.args.job.now.value) c.in-Some.ensures.made.fresh ∷ []) c.in-Some.ensures.made.building;
-          few = omega (arith, made_one c.in-Some.ensures.made.building, c.make_node.ensures.more);
+          few = omega (arith, made_one c.in-Some.ensures.made.building, c.make_node.ensures.makes.more);
           full_of = full_since c.args.table.now.layout c.args.job.now.key.now c.args.seat.now.known c.make_leaf.new.seat.known c.make_node.new.seat.known Nodes rise
               (lacks_nodes c.args.table.now.layout c.args.seat.now.known c.make_node.new.seat.known job.way.now job.span c.make_node.new.build.made.items c.make_leaf.new.seat.known.steps
-              (step_nodes c.args.table.now.layout c.args.seat.now.known m job.key.now job.way.now job.found t.way_of) t.locked (c.make_node.ensures.goes.stays.1 ∙ c.make_leaf.ensures.goes.stays.1)
-              t.within.0 t.within.1 (omega (arith, here.len)) (omega (arith, no_nodes c.in-Some.ensures.made, c.in_default-make_node.ensures.nodes)) missed);
+              (step_nodes c.args.table.now.layout c.args.seat.now.known m job.key.now job.way.now job.found t.way_of) t.locked (c.make_node.ensures.makes.goes.stays.1 ∙ c.make_leaf.ensures.goes.stays.1)
+              t.within.0 t.within.1 (omega (arith, here.len)) (omega (arith, no_nodes c.in-Some.ensures.made, c.in_default-make_node.ensures.makes.nodes)) missed);
         });
     few = (let whole : c.layout.result.nodes ≡ c.args.table.now.layout.nodes = ap (λ (z : Layout). z.nodes) c.layout.ensures in
-        let few : c.make_node.new.seat.known.steps + 2 * c.make_node.new.build.left_nodes ≤ c.make_leaf.new.seat.known.steps + 2 * c.layout.result.nodes + node_steps + length c.make_node.new.build.made.items = c.in_default-make_node.ensures.few in
-        omega (arith, whole, c.make_leaf.ensures.few, few, made_one c.in-Some.ensures.made.building, c.make_node.ensures.more));
+        let few : c.make_node.new.seat.known.steps + 2 * c.make_node.new.build.left_nodes ≤ c.make_leaf.new.seat.known.steps + 2 * c.layout.result.nodes + node_steps + length c.make_node.new.build.made.items = c.in_default-make_node.ensures.makes.few in
+        omega (arith, whole, c.make_leaf.ensures.few, few, made_one c.in-Some.ensures.made.building, c.make_node.ensures.makes.more));
   };
 }
 
@@ -76,11 +69,11 @@ returns-in_default-make_node g c = record {
 pub returns : goal.returns
 returns g c = record {
   done = record {
-    goes = (goes_more c.args.table.now g.G.Gate.becomes (c.args.seat.now, c.args.gate.now) (c.make_leaf.new.seat, c.make_leaf.new.gate) (c.make_node.new.seat, c.make_node.new.gate) c.make_leaf.ensures.goes c.make_node.ensures.goes);
+    goes = (goes_more c.args.table.now g.G.Gate.becomes (c.args.seat.now, c.args.gate.now) (c.make_leaf.new.seat, c.make_leaf.new.gate) (c.make_node.new.seat, c.make_node.new.gate) c.make_leaf.ensures.goes c.make_node.ensures.makes.goes);
     raised = (let job = c.args.job.now in
         let (m, aim, t, planned) = c.requires.taken in
         let here = pair_here c.args.seat.now.known m job.key.now job.way.now aim job.found job.span c.args.position planned c.in-Leaf.old _ _ c.in-Leaf.is in
-        let goes = goes_more c.args.table.now g.G.Gate.becomes (c.args.seat.now, c.args.gate.now) (c.make_leaf.new.seat, c.make_leaf.new.gate) (c.make_node.new.seat, c.make_node.new.gate) c.make_leaf.ensures.goes c.make_node.ensures.goes in
+        let goes = goes_more c.args.table.now g.G.Gate.becomes (c.args.seat.now, c.args.gate.now) (c.make_leaf.new.seat, c.make_leaf.new.gate) (c.make_node.new.seat, c.make_node.new.gate) c.make_leaf.ensures.goes c.make_node.ensures.makes.goes in
         let leaf = c.in-Some.ensures.made in
         let news = made_of_leaf (item c.in-Some.leaf job.key.now job.value) leaf.fresh ∷ [] in
         let (more, side, building) = paired c.args.table.now c.make_leaf.new.seat c.make_node.new.seat c.make_node.new.build.made.items news c.pair_with_leaf-pair.result
@@ -98,12 +91,12 @@ returns g c = record {
                 subst (MayPublishOnceReady c.args.table.now c.make_node.new.seat c.make_node.new.build.made.items spot (entry_word (Some c.in-Some-make_node.entry)) x None) (sym (just_leaf_gone job.way.now job.span.end job.span.len None here.len))
                 (pair_may c.args.table.now c.args.seat.now m job.key.now job.way.now job.found job.span t c.make_node.new.seat c.make_node.new.build.made.items c.in-Some.leaf job.value goes.stays.0 goes.stays.1 goes.stays.2
                 c.args.position c.in-Leaf.old here c.in-Some-make_node.entry more side leaf.fresh leaf.spelled building spot over);
-            few = omega (arith, made_one c.in-Some.ensures.made.building, c.make_node.ensures.more);
+            few = omega (arith, made_one c.in-Some.ensures.made.building, c.make_node.ensures.makes.more);
           },
         ));
     full = tt;
     few = (let whole : c.layout.result.nodes ≡ c.args.table.now.layout.nodes = ap (λ (z : Layout). z.nodes) c.layout.ensures in
-        let few : c.make_node.new.seat.known.steps + 2 * c.make_node.new.build.left_nodes ≤ c.make_leaf.new.seat.known.steps + 2 * c.layout.result.nodes + node_steps + 0 = c.in-Some-make_node.ensures.few in
-        omega (arith, whole, c.make_leaf.ensures.few, few, made_one c.in-Some.ensures.made.building, c.make_node.ensures.more));
+        let few : c.make_node.new.seat.known.steps + 2 * c.make_node.new.build.left_nodes ≤ c.make_leaf.new.seat.known.steps + 2 * c.layout.result.nodes + node_steps + 0 = c.in-Some-make_node.ensures.makes.few in
+        omega (arith, whole, c.make_leaf.ensures.few, few, made_one c.in-Some.ensures.made.building, c.make_node.ensures.makes.more));
   };
 }

@@ -9,14 +9,7 @@ use Rattle.rowex_writing.proofs.deeds.put_leaf.Goals as goal
 use Rattle.tries.specs.Content.{item}
 
 pub returns-in_default : goal.returns-in_default
-returns-in_default g c = record {
-  done = record {
-    goes = c.make_leaf.ensures.goes;
-    raised = tt;
-    full = no_leaf_free _ _ _ _ c.args.job.now c.in_default.ensures.made.0 c.in_default.ensures.made.1;
-    few = omega (arith, c.make_leaf.ensures.few);
-  };
-}
+returns-in_default g c = record { done = no_leaf_free c.make_leaf.ensures.goes c.in_default.ensures.made c.make_leaf.ensures.few; kind = λ is. cc }
 
 pub returns : goal.returns
 returns g c = record {
@@ -45,4 +38,5 @@ returns g c = record {
     full = tt;
     few = omega (arith, c.make_leaf.ensures.few);
   };
+  kind = λ is. cc;
 }

@@ -1,32 +1,24 @@
 -- The leaf's record, and the rest.
 use Rattle.std.proofs.Common.{◌-◌, ap, arith, get_or, sym}
 use Rattle.std.proofs.lemmas.Option.{get_or_from_slice_get}
+use Rattle.std.proofs.lemmas.Result.{IfErr-weaker}
 use Rattle.insert_cases.specs.declared.choice.PathNode.{PathNode}
+use Rattle.rowex_writing.specs.Merging.{no_step}
 use Rattle.rowex_writing.proofs.Raised.{grown_raised, no_leaf_free, none_free_since}
 use Rattle.rowex_writing.proofs.Growths.{grown_stored, may_grow}
 use Rattle.rowex_writing.proofs.Locking.{goes_more}
 use Rattle.rowex_writing.proofs.Runs.{goes_run, run_count}
 use Rattle.rowex_writing.proofs.growing.grow_node.Goals as goal
 
-abbrev no_step : PathNode
-no_step = record { number = 0; height = 0; first_position = 0; count = 0; at = 0 }
-
 pub returns-in_default : goal.returns-in_default
-returns-in_default g c = record {
-  done = record {
-    goes = c.make_leaf.ensures.goes;
-    raised = tt;
-    full = no_leaf_free _ _ _ _ c.args.job.now c.in_default.ensures.made.0 c.in_default.ensures.made.1;
-    few = omega (arith, c.make_leaf.ensures.few);
-  };
-}
+returns-in_default g c = record { done = no_leaf_free c.make_leaf.ensures.goes c.in_default.ensures.made c.make_leaf.ensures.few }
 
-pub grow_with-requires : goal.grow_with-requires
-grow_with-requires g c =
+pub grow_with_leaf-requires : goal.grow_with_leaf-requires
+grow_with_leaf-requires g c =
     let job = c.args.job.now in
     let (m, aim, t, planned) = c.requires.taken in
     record {
-      may = may_grow c.args.table.now c.args.seat.now c.make_leaf.new.seat c.make_leaf.new.build.made.items m job.value job.way.now job.found job.span aim
+      may = may_grow c.args.table.now c.args.seat.now c.make_leaf.new.seat c.make_leaf.new.build.made.items m job aim
           (record { key = job.key; number = c.in-Some.number; position = c.args.position; at = (get_or job.way.now (job.span.len - 1) no_step).at }) t planned
           (λ s there. ap (λ (z : PathNode). z.at) (sym (get_or_from_slice_get job.way.now (job.span.len - 1) s no_step there)))
           c.in-Some.ensures.goes.stays c.in-Some.ensures.made;
@@ -35,14 +27,14 @@ grow_with-requires g c =
 pub returns : goal.returns
 returns g c = record {
   done = record {
-    goes = (goes_more c.args.table.now g.G.Gate.becomes (c.args.seat.now, c.args.gate.now) (c.make_leaf.new.seat, c.make_leaf.new.gate) (c.grow_with.new.seat, c.grow_with.new.gate) c.in-Some.ensures.goes c.grow_with.ensures.goes);
+    goes = (goes_more c.args.table.now g.G.Gate.becomes (c.args.seat.now, c.args.gate.now) (c.make_leaf.new.seat, c.make_leaf.new.gate) (c.grow_with_leaf.new.seat, c.grow_with_leaf.new.gate) c.in-Some.ensures.goes c.grow_with_leaf.ensures.goes);
     raised = (let job = c.args.job.now in
         let (m, aim, t, planned) = c.requires.taken in
-        grown_raised c.args.table.now c.args.seat.now.known c.make_leaf.new.seat.known c.grow_with.new.seat c.grow_with.new.build.made.items job c.args.position c.in-Some.number c.grow_with.result c.in-Some.ensures.goes.stays.0
-        (grown_stored c.args.seat.now.known m job.key.now job.value job.way.now job.found job.span aim c.args.position c.in-Some.number planned) c.grow_with.ensures.raised);
-    full = (none_free_since c.args.table.now c.args.seat.now.known c.make_leaf.new.seat.known c.grow_with.new.seat c.grow_with.new.build.made.items c.args.job.now c.grow_with.result
+        grown_raised c.args.table.now c.args.seat.now.known c.make_leaf.new.seat.known c.grow_with_leaf.new.seat c.grow_with_leaf.new.build.made.items job c.args.position c.in-Some.number c.grow_with_leaf.result c.in-Some.ensures.goes.stays.0
+        (grown_stored c.args.seat.now.known m job.key.now job.value job.way.now job.found job.span aim c.args.position c.in-Some.number planned) c.grow_with_leaf.ensures.raised);
+    full = (none_free_since c.args.table.now c.args.seat.now.known c.make_leaf.new.seat.known c.grow_with_leaf.new.seat c.grow_with_leaf.new.build.made.items c.args.job.now c.grow_with_leaf.result
         (run_count c.args.table.now g.G.Gate.becomes (c.args.seat.now, c.args.gate.now) (c.make_leaf.new.seat, c.make_leaf.new.gate)
-        (goes_run c.args.table.now g.G.Gate.becomes (c.args.seat.now, c.args.gate.now) (c.make_leaf.new.seat, c.make_leaf.new.gate) c.in-Some.ensures.goes)) c.grow_with.ensures.full);
-    few = omega (arith, c.make_leaf.ensures.few, c.grow_with.ensures.few);
+        (goes_run c.args.table.now g.G.Gate.becomes (c.args.seat.now, c.args.gate.now) (c.make_leaf.new.seat, c.make_leaf.new.gate) c.in-Some.ensures.goes)) (IfErr-weaker c.grow_with_leaf.result _ _ (λ full h. h.1) c.grow_with_leaf.ensures.full));
+    few = omega (arith, c.make_leaf.ensures.few, c.grow_with_leaf.ensures.few);
   };
 }

@@ -34,13 +34,13 @@ returns-in-Some-clause-height g c =
 pub returns-in-Some-clause-same : goal.returns-in-Some-clause-same
 returns-in-Some-clause-same g c = λ none. absurd cc
 
-pub make_words-requires-clause-building : goal.make_words-requires-clause-building
-make_words-requires-clause-building g c =
+pub make_from_words-requires-clause-building : goal.make_from_words-requires-clause-building
+make_from_words-requires-clause-building g c =
     let (news, b) = c.requires.building in
     (news, building_on c.args.table.now g.G.Gate.becomes (c.args.seat.now, c.args.gate.now) (c.load_words.new.seat, c.load_words.new.gate) c.args.build.now.made.items news c.load_words.ensures.reads.goes c.load_words.ensures.reads.own b)
 
-pub make_words-requires-clause-spelling : goal.make_words-requires-clause-spelling
-make_words-requires-clause-spelling g c =
+pub make_from_words-requires-clause-spelling : goal.make_from_words-requires-clause-spelling
+make_from_words-requires-clause-spelling g c =
     let (view, is) = c.load_words.ensures.node in
     let (key, closes) = c.requires.closes in
     let (words, h) = c.requires.locked in
@@ -49,7 +49,7 @@ make_words-requires-clause-spelling g c =
     (built.node, built.has, built.spells)
 
 pub returns-clause-goes : goal.returns-clause-goes
-returns-clause-goes g c = goes_more c.args.table.now g.G.Gate.becomes (c.args.seat.now, c.args.gate.now) (c.load_words.new.seat, c.load_words.new.gate) (c.make_words.new.seat, c.make_words.new.gate) c.load_words.ensures.reads.goes c.make_words.ensures.goes
+returns-clause-goes g c = goes_more c.args.table.now g.G.Gate.becomes (c.args.seat.now, c.args.gate.now) (c.load_words.new.seat, c.load_words.new.gate) (c.make_from_words.new.seat, c.make_from_words.new.gate) c.load_words.ensures.reads.goes c.make_from_words.ensures.makes.goes
 
 pub returns-clause-made : goal.returns-clause-made
 returns-clause-made g c = λ key words news closes h b.
@@ -57,8 +57,8 @@ returns-clause-made g c = λ key words news closes h b.
     let shown = words_shown c.args.seat.now.known c.args.above.number c.load_words.ensures.words view is words h in
     let built = c.in_default.ensures view (can_close c.args.seat.now.known c.args.above key c.args.place c.args.merged closes words h view shown c.load_words.new.words is.spells) in
     let now = building_on c.args.table.now g.G.Gate.becomes (c.args.seat.now, c.args.gate.now) (c.load_words.new.seat, c.load_words.new.gate) c.args.build.now.made.items news c.load_words.ensures.reads.goes c.load_words.ensures.reads.own b in
-    closed_over c.args.table.now c.make_words.new.seat c.make_words.new.build.made.items news built.node _ _ c.make_words.result (closed_shown c.args.seat.now.known c.args.above key c.args.place c.args.merged closes words h view shown) built.built built.has
-    (c.make_words.ensures.made news built.node built.has built.spells now)
+    closed_over c.args.table.now c.make_from_words.new.seat c.make_from_words.new.build.made.items news built.node _ _ c.make_from_words.result (closed_shown c.args.seat.now.known c.args.above key c.args.place c.args.merged closes words h view shown) built.built built.has
+    (c.make_from_words.ensures.made news built.node built.has built.spells now)
 
 pub returns-clause-height : goal.returns-clause-height
 returns-clause-height g c =
@@ -69,4 +69,4 @@ returns-clause-height g c =
     let shown = words_shown c.args.seat.now.known c.args.above.number c.load_words.ensures.words view is words h in
     let built = c.in_default.ensures view (can_close c.args.seat.now.known c.args.above key c.args.place c.args.merged closes words h view shown c.load_words.new.words is.spells) in
     let now = building_on c.args.table.now g.G.Gate.becomes (c.args.seat.now, c.args.gate.now) (c.load_words.new.seat, c.load_words.new.gate) c.args.build.now.made.items news c.load_words.ensures.reads.goes c.load_words.ensures.reads.own b in
-    closed_height built.node _ c.make_words.result _ (λ m. _) built.built (c.make_words.ensures.made news built.node built.has built.spells now)
+    closed_height built.node _ c.make_from_words.result _ (λ m. _) built.built (c.make_from_words.ensures.made news built.node built.has built.spells now)

@@ -14,11 +14,11 @@ use Rattle.tries.proofs.Places.{spot_below}
 use Rattle.tries.specs.Tree.{Subtrie}
 use Rattle.rowex_writing.specs.Building.{HasNotMade, IsBuilding}
 use Rattle.rowex_writing.specs.Going.{IsNodeOf}
-use Rattle.rowex_writing.proofs.Locking.{goes_more, words_shown}
+use Rattle.rowex_writing.proofs.Locking.{words_shown}
 use Rattle.rowex_writing.proofs.Lifting.{left_over, left_low}
 use Rattle.rowex_writing.proofs.Making.{building_on}
 use Rattle.rowex_writing.proofs.Remade.{built_low, left_subtrie, left_under}
-use Rattle.rowex_writing.proofs.Walked.{walks_later}
+use Rattle.rowex_writing.proofs.Walked.{makes_after, makes_none}
 use Rattle.rowex_writing.proofs.rising.raise_without.Goals as goal
 
 -- the place in the node that the words under the lock spell
@@ -53,25 +53,17 @@ returns-in-Some-clause-low g c = λ words h.
     let alone = ap (λ (x : Subtrie). greatest_height (places x)) left.0 in
     omega (arith, left_under key view is.has.lawful, tall, alone)
 
-pub returns-in-Some-clause-walk : goal.returns-in-Some-clause-walk
-returns-in-Some-clause-walk g c =
-    walks_later c.args.table.now g.G.Gate.becomes (c.args.seat.now, c.args.gate.now) (c.load_words.new.seat, c.load_words.new.gate) c.load_words.new.seat.known c.args.build.now c.args.build.now (Some c.in-Some.entry)
-    c.load_words.ensures.reads.goes (λ since w. w)
-
-pub make_words-requires-clause-building : goal.make_words-requires-clause-building
-make_words-requires-clause-building g c = (
+pub make_from_words-requires-clause-building : goal.make_from_words-requires-clause-building
+make_from_words-requires-clause-building g c = (
   [],
   building_on c.args.table.now g.G.Gate.becomes (c.args.seat.now, c.args.gate.now) (c.load_words.new.seat, c.load_words.new.gate) c.args.build.now.made.items [] c.load_words.ensures.reads.goes c.load_words.ensures.reads.own c.requires.building,
 )
 
-pub make_words-requires-clause-spelling : goal.make_words-requires-clause-spelling
-make_words-requires-clause-spelling g c =
+pub make_from_words-requires-clause-spelling : goal.make_from_words-requires-clause-spelling
+make_from_words-requires-clause-spelling g c =
     let (view, is) = c.load_words.ensures.node in
     let built = c.in_default.ensures view is.has is.spells in
     (built.node, built.has, built.spells)
-
-pub returns-clause-goes : goal.returns-clause-goes
-returns-clause-goes g c = goes_more c.args.table.now g.G.Gate.becomes _ _ _ c.load_words.ensures.reads.goes c.make_words.ensures.goes
 
 pub returns-clause-made : goal.returns-clause-made
 returns-clause-made g c = λ key words leads h.
@@ -79,11 +71,11 @@ returns-clause-made g c = λ key words leads h.
     let shown = words_shown c.args.seat.now.known c.args.number c.load_words.ensures.words view is words h in
     let built = left_subtrie key view c.args.at c.drop_entry.new.words None (leads_there key c.args.at view shown (leads words h)) (c.in_default.ensures view is.has is.spells) in
     let b = building_on c.args.table.now g.G.Gate.becomes (c.args.seat.now, c.args.gate.now) (c.load_words.new.seat, c.load_words.new.gate) c.args.build.now.made.items [] c.load_words.ensures.reads.goes c.load_words.ensures.reads.own c.requires.building in
-    subst (λ (y : Subtrie). MatchOption c.make_words.result (HasNotMade c.args.table.now c.make_words.new.seat c.make_words.new.build.made.items)
-    (λ e. (news : List Made) × IsSide (subtrie_without key y) e news × IsBuilding c.args.table.now c.make_words.new.seat c.make_words.new.build.made.items news))
+    subst (λ (y : Subtrie). MatchOption c.make_from_words.result (HasNotMade c.args.table.now c.make_from_words.new.seat c.make_from_words.new.build.made.items)
+    (λ e. (news : List Made) × IsSide (subtrie_without key y) e news × IsBuilding c.args.table.now c.make_from_words.new.seat c.make_from_words.new.build.made.items news))
     (sym (ap (λ (z : NodeWords). z.subtrie) shown.shows))
-    (left_over c.args.table.now c.make_words.new.seat c.make_words.new.build.made.items (subtrie_without key (piece view)) built.node c.make_words.result built.built built.has
-    (c.make_words.ensures.made [] built.node built.has built.spells b))
+    (left_over c.args.table.now c.make_from_words.new.seat c.make_from_words.new.build.made.items (subtrie_without key (piece view)) built.node c.make_from_words.result built.built built.has
+    (c.make_from_words.ensures.made [] built.node built.has built.spells b))
 
 pub returns-clause-low : goal.returns-clause-low
 returns-clause-low g c = λ words h.
@@ -94,10 +86,11 @@ returns-clause-low g c = λ words h.
     let b = building_on c.args.table.now g.G.Gate.becomes (c.args.seat.now, c.args.gate.now) (c.load_words.new.seat, c.load_words.new.gate) c.args.build.now.made.items [] c.load_words.ensures.reads.goes c.load_words.ensures.reads.own c.requires.building in
     let tall = ap (λ (z : NodeWords). z.fixed.height) shown.shows in
     let low = built_low built.node (subtrie_without key (piece view)) view.height built.built (left_under key view is.has.lawful) in
-    left_low built.node (node_words_of words).fixed.height c.make_words.result _ (λ m. IsBuilding c.args.table.now c.make_words.new.seat c.make_words.new.build.made.items (made_of_node m built.node ∷ []))
-    (omega (arith, tall, low)) (c.make_words.ensures.made [] built.node built.has built.spells b)
+    left_low built.node (node_words_of words).fixed.height c.make_from_words.result _ (λ m. IsBuilding c.args.table.now c.make_from_words.new.seat c.make_from_words.new.build.made.items (made_of_node m built.node ∷ []))
+    (omega (arith, tall, low)) (c.make_from_words.ensures.made [] built.node built.has built.spells b)
 
-pub returns-clause-walk : goal.returns-clause-walk
-returns-clause-walk g c =
-    walks_later c.args.table.now g.G.Gate.becomes (c.args.seat.now, c.args.gate.now) (c.load_words.new.seat, c.load_words.new.gate) c.make_words.new.seat.known c.args.build.now c.make_words.new.build c.make_words.result
-    c.load_words.ensures.reads.goes c.make_words.ensures.walk
+pub returns-in-Some-clause-makes : goal.returns-in-Some-clause-makes
+returns-in-Some-clause-makes g c = makes_after _ c.load_words.ensures.reads.goes c.load_words.ensures.few (makes_none {most = 0} {steps = 0} ((c.load_words.new.seat, c.load_words.new.gate), c.args.build.now)) (omega arith) (omega arith)
+
+pub returns-clause-makes : goal.returns-clause-makes
+returns-clause-makes g c = makes_after _ c.load_words.ensures.reads.goes c.load_words.ensures.few c.make_from_words.ensures.makes (omega arith) (omega arith)

@@ -22,68 +22,68 @@ pub raise_without-requires-clause-locked : goal.raise_without-requires-clause-lo
 raise_without-requires-clause-locked g c =
     let job = c.args.job.now in
     let (m, value, b) = c.requires.below in
-    let at = low_step c.args.table.now c.args.seat.now m job.key.now job.way.now c.args.number value job.span b in
-    lowest_locked c.args.table.now c.args.seat.now m job.key.now job.way.now c.args.number value job.span b _ at
+    let at = low_step c.args.table.now c.args.seat.now m job c.args.number value b in
+    lowest_locked c.args.table.now c.args.seat.now m job c.args.number value b _ at
 
 pub raise_without-requires-clause-place : goal.raise_without-requires-clause-place
 raise_without-requires-clause-place g c =
     let job = c.args.job.now in
     let (m, value, b) = c.requires.below in
-    let at = low_step c.args.table.now c.args.seat.now m job.key.now job.way.now c.args.number value job.span b in
-    (job.key.now, lowest_leads c.args.table.now c.args.seat.now m job.key.now job.way.now c.args.number value job.span b _ at)
+    let at = low_step c.args.table.now c.args.seat.now m job c.args.number value b in
+    (job.key.now, lowest_leads c.args.table.now c.args.seat.now m job c.args.number value b _ at)
 
 pub returns-in_default-clause-full : goal.returns-in_default-clause-full
 returns-in_default-clause-full g c =
     let job = c.args.job.now in
     let (m, value, b) = c.requires.below in
-    let at = low_step c.args.table.now c.args.seat.now m job.key.now job.way.now c.args.number value job.span b in
-    let (words, h) = lowest_locked c.args.table.now c.args.seat.now m job.key.now job.way.now c.args.number value job.span b _ at in (
+    let at = low_step c.args.table.now c.args.seat.now m job c.args.number value b in
+    let (words, h) = lowest_locked c.args.table.now c.args.seat.now m job c.args.number value b _ at in (
       refl,
       record {
-        not_made = c.in_default.ensures.made job.key.now words (lowest_leads c.args.table.now c.args.seat.now m job.key.now job.way.now c.args.number value job.span b _ at) h;
-        few = omega (arith, ap length c.requires.made, c.raise_without.ensures.more);
+        not_made = c.in_default.ensures.made job.key.now words (lowest_leads c.args.table.now c.args.seat.now m job c.args.number value b _ at) h;
+        few = omega (arith, ap length c.requires.made, c.raise_without.ensures.makes.more);
         full_of = lacks_nodes c.args.table.now.layout c.args.seat.now.known c.raise_without.new.seat.known job.way.now job.span c.raise_without.new.build.made.items c.args.seat.now.known.steps
-            (step_nodes c.args.table.now.layout c.args.seat.now.known m job.key.now job.way.now _ b.taken.way_of) b.taken.locked c.raise_without.ensures.goes.stays.1 b.taken.within.0 b.taken.within.1 (omega (arith, b.last))
-            (omega (arith, ap (λ made. length (nodes_among made)) c.requires.made, c.in_default.ensures.nodes))
-            (c.in_default.ensures.walk c.args.seat.now.known.steps
-            (walk_begins a_node c.args.table.now.layout.nodes c.args.table.now.layout c.args.seat.now.known c.args.build.now.made.items c.args.build.now.nodes.next c.layout.result.nodes c.args.table.now.layout.nodes_in_range.0 (ap (λ (z : Layout). z.nodes) c.layout.ensures)));
+            (step_nodes c.args.table.now.layout c.args.seat.now.known m job.key.now job.way.now _ b.taken.way_of) b.taken.locked c.raise_without.ensures.makes.goes.stays.1 b.taken.within.0 b.taken.within.1 (omega (arith, b.last))
+            (omega (arith, ap (λ made. length (nodes_among made)) c.requires.made, c.in_default.ensures.makes.nodes))
+            (c.in_default.ensures.makes.walk c.args.seat.now.known.steps
+            (walk_begins c.args.table.now.layout c.args.seat.now.known c.args.build.now.made.items c.args.build.now.nodes.next c.layout.result c.layout.ensures));
       },
     )
 
 pub returns-in_default-clause-few : goal.returns-in_default-clause-few
 returns-in_default-clause-few g c =
     let whole : c.layout.result.nodes ≡ c.args.table.now.layout.nodes = ap (λ (z : Layout). z.nodes) c.layout.ensures in
-    let few : c.raise_without.new.seat.known.steps + 2 * c.raise_without.new.build.left_nodes ≤ c.args.seat.now.known.steps + 2 * c.layout.result.nodes + level_steps + length c.raise_without.new.build.made.items = c.in_default.ensures.few in
-    omega (arith, whole, few, ap length c.requires.made, c.raise_without.ensures.more)
+    let few : c.raise_without.new.seat.known.steps + 2 * c.raise_without.new.build.left_nodes ≤ c.args.seat.now.known.steps + 2 * c.layout.result.nodes + level_steps + length c.raise_without.new.build.made.items = c.in_default.ensures.makes.few in
+    omega (arith, whole, few, ap length c.requires.made, c.raise_without.ensures.makes.more)
 
 pub returns-clause-raised : goal.returns-clause-raised
 returns-clause-raised g c = λ m value b.
     let job = c.args.job.now in
     let table = c.args.table.now in
-    let at = low_step c.args.table.now c.args.seat.now m job.key.now job.way.now c.args.number value job.span b in
-    let (words, h) = lowest_locked table c.args.seat.now m job.key.now job.way.now c.args.number value job.span b _ at in
-    let (news, side, building) = c.in-Some.ensures.made job.key.now words (lowest_leads table c.args.seat.now m job.key.now job.way.now c.args.number value job.span b _ at) h in
+    let at = low_step c.args.table.now c.args.seat.now m job c.args.number value b in
+    let (words, h) = lowest_locked table c.args.seat.now m job c.args.number value b _ at in
+    let (news, side, building) = c.in-Some.ensures.made job.key.now words (lowest_leads table c.args.seat.now m job c.args.number value b _ at) h in
     let low : IsRaised c.in-Some.entry = left_raised table.layout c.args.seat.now.known _ words job.key.now c.in-Some.entry news b.taken.possible h side in
     let word : HasEntryWord (Some c.in-Some.entry) = search (rules, low) in
-    let gone = ap (λ (steps : List PathNode). map (λ (s : PathNode). a_node s.number) steps ++ a_leaf c.args.number ∷ []) (last_one table c.args.seat.now m job.key.now job.way.now c.args.number value job.span b _ at) in
-    let now = ap (λ q. removed_change q (item c.args.number job.key.now value)) c.raise_without.ensures.goes.stays.0.pass in
+    let gone = ap (λ (steps : List PathNode). map (λ (s : PathNode). a_node s.number) steps ++ a_leaf c.args.number ∷ []) (last_one table c.args.seat.now m job c.args.number value b _ at) in
+    let now = ap (λ q. removed_change q (item c.args.number job.key.now value)) c.raise_without.ensures.makes.goes.stays.0.pass in
     record {
       from = omega (arith, b.last);
       upto = omega arith;
       most = omega arith;
-      leaf = leaf_gone_record table c.args.seat.now m job.key.now job.way.now c.args.number value job.span b _ at;
+      leaf = leaf_gone_record table c.args.seat.now m job c.args.number value b _ at;
       ends = λ spot over.
           subst (MayPublishOnceReady table c.raise_without.new.seat c.raise_without.new.build.made.items spot (entry_word (Some c.in-Some.entry)) (removed_change c.args.seat.now.known.pass (item c.args.number job.key.now value)) (Some value)) (sym gone)
           (subst (λ y. MayPublishOnceReady table c.raise_without.new.seat c.raise_without.new.build.made.items spot (entry_word (Some c.in-Some.entry)) y (Some value) (a_node (get_or job.way.now job.span.end no_step).number ∷ a_leaf c.args.number ∷ [])) now
-          (may_remake table c.args.seat.now m job.key.now job.way.now c.args.number value job.span b _ at c.raise_without.new.seat c.raise_without.new.build.made.items news words h c.in-Some.entry
-          c.raise_without.ensures.goes.stays building side (c.in-Some.ensures.low words h) word spot over));
-      few = omega (arith, ap length c.requires.made, c.raise_without.ensures.more);
+          (may_remake table c.args.seat.now m job c.args.number value b _ at c.raise_without.new.seat c.raise_without.new.build.made.items news words h c.in-Some.entry
+          c.raise_without.ensures.makes.goes.stays building side (c.in-Some.ensures.low words h) word spot over));
+      few = omega (arith, ap length c.requires.made, c.raise_without.ensures.makes.more);
     }
 
 pub returns-clause-few : goal.returns-clause-few
 returns-clause-few g c =
     let whole : c.layout.result.nodes ≡ c.args.table.now.layout.nodes = ap (λ (z : Layout). z.nodes) c.layout.ensures in
-    let few : c.raise_without.new.seat.known.steps + 2 * c.raise_without.new.build.left_nodes ≤ c.args.seat.now.known.steps + 2 * c.layout.result.nodes + level_steps + 0 = c.in-Some.ensures.few in
+    let few : c.raise_without.new.seat.known.steps + 2 * c.raise_without.new.build.left_nodes ≤ c.args.seat.now.known.steps + 2 * c.layout.result.nodes + level_steps + 0 = c.in-Some.ensures.makes.few in
     omega (arith, whole, few)
 
 pub raise_without-requires-clause-building : goal.raise_without-requires-clause-building
@@ -95,7 +95,7 @@ pub raise_without-requires-clause-room : goal.raise_without-requires-clause-room
 raise_without-requires-clause-room g c = omega (arith, ap length c.requires.made)
 
 pub returns-in_default-clause-goes : goal.returns-in_default-clause-goes
-returns-in_default-clause-goes g c = c.in_default.ensures.goes
+returns-in_default-clause-goes g c = c.in_default.ensures.makes.goes
 
 pub returns-in_default-clause-raised : goal.returns-in_default-clause-raised
 returns-in_default-clause-raised g c = λ m value b. tt
@@ -104,34 +104,34 @@ pub returns-clause-full : goal.returns-clause-full
 returns-clause-full g c = tt
 
 pub returns-clause-goes : goal.returns-clause-goes
-returns-clause-goes g c = c.in-Some.ensures.goes
+returns-clause-goes g c = c.in-Some.ensures.makes.goes
 
 pub bounds-job-job : goal.bounds-job-job
 bounds-job-job g c =
     let job = c.args.job.now in
     let (m, value, b) = c.requires.below in
-    slice_get_within job.way.now job.span.end _ (low_step c.args.table.now c.args.seat.now m job.key.now job.way.now c.args.number value job.span b)
+    slice_get_within job.way.now job.span.end _ (low_step c.args.table.now c.args.seat.now m job c.args.number value b)
 
 pub offset_bounds-job-job : goal.offset_bounds-job-job
 offset_bounds-job-job g c =
     let job = c.args.job.now in
     let (m, value, b) = c.requires.below in
-    let h = slice_get_within job.way.now job.span.end _ (low_step c.args.table.now c.args.seat.now m job.key.now job.way.now c.args.number value job.span b) in search (rules, h)
+    let h = slice_get_within job.way.now job.span.end _ (low_step c.args.table.now c.args.seat.now m job c.args.number value b) in search (rules, h)
 
 pub raise_without-requires-clause-range : goal.raise_without-requires-clause-range
 raise_without-requires-clause-range g c =
     let job = c.args.job.now in
     let (m, value, b) = c.requires.below in
-    (b.taken.way_of.nodes job.span.end _ (low_step c.args.table.now c.args.seat.now m job.key.now job.way.now c.args.number value job.span b)).2.range
+    (b.taken.way_of.nodes job.span.end _ (low_step c.args.table.now c.args.seat.now m job c.args.number value b)).2.range
 
 pub returns-in_default-clause-walk : goal.returns-in_default-clause-walk
 returns-in_default-clause-walk g c =
     let whole : c.layout.result.nodes ≡ c.args.table.now.layout.nodes = ap (λ (z : Layout). z.nodes) c.layout.ensures in
-    let few : c.raise_without.new.seat.known.steps + 2 * c.raise_without.new.build.left_nodes ≤ c.args.seat.now.known.steps + 2 * c.layout.result.nodes + level_steps + length c.raise_without.new.build.made.items = c.in_default.ensures.few in
-    omega (arith, whole, few, ap length c.requires.made, c.raise_without.ensures.more)
+    let few : c.raise_without.new.seat.known.steps + 2 * c.raise_without.new.build.left_nodes ≤ c.args.seat.now.known.steps + 2 * c.layout.result.nodes + level_steps + length c.raise_without.new.build.made.items = c.in_default.ensures.makes.few in
+    omega (arith, whole, few, ap length c.requires.made, c.raise_without.ensures.makes.more)
 
 pub returns-clause-walk : goal.returns-clause-walk
 returns-clause-walk g c =
     let whole : c.layout.result.nodes ≡ c.args.table.now.layout.nodes = ap (λ (z : Layout). z.nodes) c.layout.ensures in
-    let few : c.raise_without.new.seat.known.steps + 2 * c.raise_without.new.build.left_nodes ≤ c.args.seat.now.known.steps + 2 * c.layout.result.nodes + level_steps + 0 = c.in-Some.ensures.few in
+    let few : c.raise_without.new.seat.known.steps + 2 * c.raise_without.new.build.left_nodes ≤ c.args.seat.now.known.steps + 2 * c.layout.result.nodes + level_steps + 0 = c.in-Some.ensures.makes.few in
     omega (arith, whole, few)

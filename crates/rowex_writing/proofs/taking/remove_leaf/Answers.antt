@@ -14,15 +14,15 @@ pub remake_without-requires-clause-below : goal.remake_without-requires-clause-b
 remake_without-requires-clause-below g c =
     let job = c.args.job.now in
     let (m, aim, taken, planned) = c.requires.taken in
-    (m, c.in-Leaf.value, take_below c.args.table.now c.args.seat.now m job.key.now job.way.now aim job.found job.span taken planned c.in-Leaf.number c.in-Leaf.value c.in-Leaf.mismatch c.in-Leaf.is c.if-job-gt0.true)
+    (m, c.in-Leaf.value, take_below c.args.table.now c.args.seat.now m job aim taken planned c.in-Leaf.number c.in-Leaf.value c.in-Leaf.mismatch c.in-Leaf.is c.if-job-gt0.true)
 
 pub returns-then-job-gt0-clause-done : goal.returns-then-job-gt0-clause-done
 returns-then-job-gt0-clause-done g c = record {
   goes = c.remake_without.ensures.goes;
   raised = (let job = c.args.job.now in
       let (m, aim, taken, planned) = c.requires.taken in
-      let below = take_below c.args.table.now c.args.seat.now m job.key.now job.way.now aim job.found job.span taken planned c.in-Leaf.number c.in-Leaf.value c.in-Leaf.mismatch c.in-Leaf.is c.if-job-gt0.true in
-      let same = found_key c.args.table.now c.args.seat.now m job.key.now job.way.now aim job.found job.span taken planned c.in-Leaf.number c.in-Leaf.value c.in-Leaf.mismatch c.in-Leaf.is in
+      let below = take_below c.args.table.now c.args.seat.now m job aim taken planned c.in-Leaf.number c.in-Leaf.value c.in-Leaf.mismatch c.in-Leaf.is c.if-job-gt0.true in
+      let same = found_key c.args.table.now c.args.seat.now m job aim taken planned c.in-Leaf.number c.in-Leaf.value c.in-Leaf.mismatch c.in-Leaf.is in
       taken_raised c.args.table.now c.args.seat.now.known c.remake_without.new.seat c.remake_without.new.build.made.items job c.in-Leaf.number c.in-Leaf.value c.remake_without.result same (c.remake_without.ensures.raised m c.in-Leaf.value below));
   full = IfErr-weaker c.remake_without.result _ _ (λ full h. h.1) c.remake_without.ensures.full;
   few = c.remake_without.ensures.few;
@@ -36,8 +36,8 @@ returns-clause-done g c = record {
   goes = goes_none c.args.table.now g.G.Gate.becomes (c.args.seat.now, c.args.gate.now);
   raised = (let job = c.args.job.now in
       let (m, aim, taken, planned) = c.requires.taken in
-      let (only, top, low) = take_only c.args.table.now c.args.seat.now m job.key.now job.way.now aim job.found job.span taken planned c.in-Leaf.number c.in-Leaf.value c.in-Leaf.mismatch c.in-Leaf.is c.if-job-gt0.false in
-      let same = found_key c.args.table.now c.args.seat.now m job.key.now job.way.now aim job.found job.span taken planned c.in-Leaf.number c.in-Leaf.value c.in-Leaf.mismatch c.in-Leaf.is in
+      let (only, top, low) = take_only c.args.table.now c.args.seat.now m job aim taken planned c.in-Leaf.number c.in-Leaf.value c.in-Leaf.mismatch c.in-Leaf.is c.if-job-gt0.false in
+      let same = found_key c.args.table.now c.args.seat.now m job aim taken planned c.in-Leaf.number c.in-Leaf.value c.in-Leaf.mismatch c.in-Leaf.is in
       let x = removed_change c.args.seat.now.known.pass (item c.in-Leaf.number job.key.now c.in-Leaf.value) in (
         x,
         Some c.in-Leaf.value,

@@ -7,11 +7,11 @@ use Rattle.rowex_writing.proofs.Counting.{claims_count, none_count}
 use Rattle.rowex_writing.proofs.Locking.{goes_more, seat_of}
 use Rattle.rowex_writing.proofs.Making.{none_on, claim_on}
 use Rattle.rowex_writing.proofs.Walked.{alone_still, walk_on, walk_out, walk_claims}
-use Rattle.rowex_writing.proofs.claims.claim_left.Goals as goal
+use Rattle.rowex_writing.proofs.claims.claim_on_walk.Goals as goal
 
 pub returns-in-Some-clause-walk : goal.returns-in-Some-clause-walk
 returns-in-Some-clause-walk g c = λ since made alone w.
-    walk_on a_node c.args.table.now.layout.nodes c.args.table.now g.G.Gate.becomes since (c.args.seat.now, c.args.gate.now) (c.claim_spare.new.seat, c.claim_spare.new.gate) made _ _ _
+    walk_on c.args.table.now g.G.Gate.becomes since (c.args.seat.now, c.args.gate.now) (c.claim_spare.new.seat, c.claim_spare.new.gate) made _ _ _
     c.claim_spare.ensures.goes (λ r has. Contains-append_left made _ r has) w
 
 pub claim_within-requires-clause-own : goal.claim_within-requires-clause-own
@@ -28,10 +28,10 @@ pub returns-in_err-number-clause-walk : goal.returns-in_err-number-clause-walk
 returns-in_err-number-clause-walk g c = λ since made alone w. rw c.from_residual.ensures
     (let count = w.count in let less = c.in_err-number.ensures.claims.0 in (
       omega arith,
-      walk_out a_node c.args.table.now.layout.nodes c.args.table.now g.G.Gate.becomes since c.args.left.now c.claim_within.new.left (c.claim_spare.new.seat, c.claim_spare.new.gate) (c.claim_within.new.seat, c.claim_within.new.gate) made
+      walk_out c.args.table.now g.G.Gate.becomes since c.args.left.now c.claim_within.new.left (c.claim_spare.new.seat, c.claim_spare.new.gate) (c.claim_within.new.seat, c.claim_within.new.gate) made
           c.args.hint.now.next _ (alone_still c.args.seat.now.known c.claim_spare.new.seat.known made c.in_default.ensures.claims alone)
           (none_on c.args.table.now g.G.Gate.becomes a_node _ _ _ _ _ c.in_err-number.ensures.claims.1) (omega arith) (omega arith) c.in_err-number.ensures.claims.1
-          (walk_on a_node c.args.table.now.layout.nodes c.args.table.now g.G.Gate.becomes since (c.args.seat.now, c.args.gate.now) (c.claim_spare.new.seat, c.claim_spare.new.gate) made made c.args.hint.now.next c.args.left.now
+          (walk_on c.args.table.now g.G.Gate.becomes since (c.args.seat.now, c.args.gate.now) (c.claim_spare.new.seat, c.claim_spare.new.gate) made made c.args.hint.now.next c.args.left.now
           c.claim_spare.ensures.goes (λ r has. has) w),
     ))
 
@@ -53,10 +53,10 @@ returns-clause-claims g c = (
 
 pub returns-clause-walk : goal.returns-clause-walk
 returns-clause-walk g c = λ since made alone w.
-    walk_claims a_node c.args.table.now.layout.nodes c.args.table.now g.G.Gate.becomes since c.args.left.now c.claim_within.new.left c.in_ok-number.number (c.claim_spare.new.seat, c.claim_spare.new.gate)
+    walk_claims c.args.table.now g.G.Gate.becomes since c.args.left.now c.claim_within.new.left c.in_ok-number.number (c.claim_spare.new.seat, c.claim_spare.new.gate)
     (c.claim_within.new.seat, c.claim_within.new.gate) made c.args.hint.now.next (alone_still c.args.seat.now.known c.claim_spare.new.seat.known made c.in_default.ensures.claims alone)
     (claim_on c.args.table.now g.G.Gate.becomes a_node _ _ _ _ _ c.in_ok-number.ensures.claims.0) c.in_ok-number.ensures.claims.0 c.in_ok-number.ensures.claims.1
-    (walk_on a_node c.args.table.now.layout.nodes c.args.table.now g.G.Gate.becomes since (c.args.seat.now, c.args.gate.now) (c.claim_spare.new.seat, c.claim_spare.new.gate) made made c.args.hint.now.next c.args.left.now
+    (walk_on c.args.table.now g.G.Gate.becomes since (c.args.seat.now, c.args.gate.now) (c.claim_spare.new.seat, c.claim_spare.new.gate) made made c.args.hint.now.next c.args.left.now
     c.claim_spare.ensures.goes (λ r has. has) w)
 
 pub returns-clause-few : goal.returns-clause-few

@@ -4,7 +4,7 @@ use Rattle.rowex_records.specs.Claims.{IsAnothersTo, count_of, record_of}
 use Rattle.rowex_records.proofs.Claimed.{all_earlier, claims_holds, missed_before, more_since}
 use Rattle.rowex_writing.proofs.Locking.{goes_more, seat_of}
 use Rattle.rowex_writing.proofs.Making.{none_on, claim_on, steps_rise}
-use Rattle.rowex_writing.proofs.claims.claim_next.Goals as goal
+use Rattle.rowex_writing.proofs.claims.claim_by_hint.Goals as goal
 
 pub claim_record-requires-clause-own : goal.claim_record-requires-clause-own
 claim_record-requires-clause-own g c = seat_of c.args.table.now g.G.Gate.becomes (c.args.seat.now, c.args.gate.now) (c.claim_spare.new.seat, c.claim_spare.new.gate) c.claim_spare.ensures.goes c.requires.own
@@ -32,12 +32,3 @@ returns-clause-claims g c = (
   more_since (record_of c.args.kind c.in_ok-number.number) c.args.seat.now.known c.claim_spare.new.seat.known c.claim_record.new.seat.known c.in_default.ensures.claims
       (claims_holds c.args.table.now g.G.Gate.becomes (record_of c.args.kind) _ _ c.in_ok-number.number (c.claim_spare.new.seat, c.claim_spare.new.gate) (c.claim_record.new.seat, c.claim_record.new.gate) c.in_ok-number.ensures.claims),
 )
-
-pub returns-in-Some-clause-goes : goal.returns-in-Some-clause-goes
-returns-in-Some-clause-goes g c = c.in-Some.ensures.goes
-
-pub returns-in-Some-clause-claims : goal.returns-in-Some-clause-claims
-returns-in-Some-clause-claims g c = c.in-Some.ensures.claims
-
-pub returns-in-Some-clause-few : goal.returns-in-Some-clause-few
-returns-in-Some-clause-few g c = omega (arith, c.in-Some.ensures.few)

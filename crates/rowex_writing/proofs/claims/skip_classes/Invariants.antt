@@ -1,6 +1,6 @@
 -- What was passed by ends at or below the last leaf record.
 use Rattle.std.proofs.Common.{◌-◌, ◌≤◌}
-use Rattle.rowex_writing.proofs.claims.pass_by.Given as goal
+use Rattle.rowex_writing.proofs.claims.skip_classes.Given as goal
 
 abbrev pub invariant-loop-from : goal.invariant-loop-from
 invariant-loop-from l = (l.fn.first ≤ l.from) × (l.from ≤ l.layout.leaves)

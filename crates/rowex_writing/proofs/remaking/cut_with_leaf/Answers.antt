@@ -5,7 +5,7 @@ use Rattle.compound_node.specs.declared.entries.Entry.TheVariants.{Leaf}
 use Rattle.tries.specs.Affected.{subtrie_grown}
 use Rattle.insert_cases.specs.Grown.{GrownShows}
 use Rattle.rowex_writing.proofs.Remade.{fits_leaf, grown_low, just_affected, leads_within, leaf_low, leaf_subtrie}
-use Rattle.rowex_writing.proofs.remaking.full_with_leaf.Goals as goal
+use Rattle.rowex_writing.proofs.remaking.cut_with_leaf.Goals as goal
 
 pub affected-first-requires : goal.affected-first-requires
 affected-first-requires c = leads_within c.args.new.now.key.now c.args.node.now c.count.ensures.lawful c.requires.leads

@@ -12,7 +12,7 @@ use Rattle.rowex_writing.proofs.Counting.{nodes_pushed}
 use Rattle.rowex_writing.proofs.Locking.{goes_more, seat_of}
 use Rattle.rowex_writing.proofs.Making.{set_all_on, building_node, not_made}
 use Rattle.rowex_writing.proofs.Walked.{walk_on}
-use Rattle.rowex_writing.proofs.building.make_words.Goals as goal
+use Rattle.rowex_writing.proofs.building.make_from_words.Goals as goal
 
 pub fill_words-requires-clause-own : goal.fill_words-requires-clause-own
 fill_words-requires-clause-own g c = seat_of c.args.table.now g.G.Gate.becomes (c.args.seat.now, c.args.gate.now) (c.claim_node.new.seat, c.claim_node.new.gate) c.claim_node.ensures.goes c.requires.building.1.seat
@@ -25,15 +25,6 @@ returns-in_err-number-clause-made g c = λ news node has spells b. rw c.from_res
     (not_made c.args.table.now g.G.Gate.becomes (c.args.seat.now, c.args.gate.now) (c.claim_node.new.seat, c.claim_node.new.gate) c.args.build.now.made.items c.claim_node.new.build.made.items news c.claim_node.ensures.goes
     c.in_err-number.ensures.claims c.claim_node.ensures.made b)
 
-pub returns-in_err-number-clause-walk : goal.returns-in_err-number-clause-walk
-returns-in_err-number-clause-walk g c = λ since w. rw c.from_residual.ensures (c.in_err-number.ensures.walk since w)
-
-pub returns-in_err-number-clause-few : goal.returns-in_err-number-clause-few
-returns-in_err-number-clause-few g c = rw c.from_residual.ensures (let few = c.in_err-number.ensures.few in omega arith)
-
-pub returns-clause-goes : goal.returns-clause-goes
-returns-clause-goes g c = goes_more c.args.table.now g.G.Gate.becomes _ _ _ c.claim_node.ensures.goes (set_all_on c.args.table.now g.G.Gate.becomes _ _ _ _ c.fill_words.ensures.fills)
-
 pub returns-clause-made : goal.returns-clause-made
 returns-clause-made g c = λ news node has spells b. (
   c.in_ok-number.number,
@@ -44,42 +35,11 @@ returns-clause-made g c = λ news node has spells b. (
       c.args.build.now.made.items news c.claim_node.ensures.goes c.in_ok-number.ensures.claims.1 c.fill_words.ensures.fills c.fill_words.ensures.filled.1 b)),
 )
 
-pub returns-clause-walk : goal.returns-clause-walk
-returns-clause-walk g c = λ since w.
-    subst (λ z. IsClaimWalk c.args.table.now.layout a_node c.args.table.now.layout.nodes since c.fill_words.new.seat.known z c.claim_node.new.build.nodes.next c.claim_node.new.build.left_nodes)
-    (sym (c.push.ensures.items ∙ ap (λ z. z ++ a_node c.in_ok-number.number ∷ []) c.claim_node.ensures.made))
-    (walk_on a_node c.args.table.now.layout.nodes c.args.table.now g.G.Gate.becomes since (c.claim_node.new.seat, c.claim_node.new.gate) (c.fill_words.new.seat, c.fill_words.new.gate)
-    (c.args.build.now.made.items ++ a_node c.in_ok-number.number ∷ []) (c.args.build.now.made.items ++ a_node c.in_ok-number.number ∷ []) c.claim_node.new.build.nodes.next c.claim_node.new.build.left_nodes
-    (set_all_on c.args.table.now g.G.Gate.becomes _ _ _ _ c.fill_words.ensures.fills) (λ r h. h) (c.in_ok-number.ensures.walk since w))
-
-pub returns-clause-few : goal.returns-clause-few
-returns-clause-few g c = omega (arith, c.in_ok-number.ensures.few, c.fill_words.ensures.steps)
-
-pub returns-in_err-number-clause-goes : goal.returns-in_err-number-clause-goes
-returns-in_err-number-clause-goes g c = c.in_err-number.ensures.goes
-
-pub returns-in_err-number-clause-more : goal.returns-in_err-number-clause-more
-returns-in_err-number-clause-more g c = omega (arith, ap length c.claim_node.ensures.made)
-
-pub returns-clause-more : goal.returns-clause-more
-returns-clause-more g c =
-    let items = c.claim_node.new.build.made.items in
-    omega (arith, ap length c.push.ensures.items, ap length c.claim_node.ensures.made, length-append items (a_node c.in_ok-number.number ∷ []))
-
 pub push-requires : goal.push-requires
 push-requires g c = let same = ap length c.claim_node.ensures.made in (omega arith, omega (arith, same, c.requires.room))
 
-pub fill_words-requires-clause-range : goal.fill_words-requires-clause-range
-fill_words-requires-clause-range g c = c.in_ok-number.ensures.claims.0
-
 pub fill_words-requires-clause-held : goal.fill_words-requires-clause-held
 fill_words-requires-clause-held g c = more_is_claimed (a_node c.in_ok-number.number) c.args.seat.now.known c.claim_node.new.seat.known c.in_ok-number.ensures.claims.1
-
-pub fill_words-requires-clause-spelling : goal.fill_words-requires-clause-spelling
-fill_words-requires-clause-spelling g c = c.requires.spelling
-
-pub claim_node-requires : goal.claim_node-requires
-claim_node-requires g c = record { building = c.requires.building }
 
 pub returns-in_err-number-clause-same : goal.returns-in_err-number-clause-same
 returns-in_err-number-clause-same g c = λ none. (c.in_err-number.ensures.claims, c.claim_node.ensures.made)
@@ -87,10 +47,27 @@ returns-in_err-number-clause-same g c = λ none. (c.in_err-number.ensures.claims
 pub returns-clause-same : goal.returns-clause-same
 returns-clause-same g c = λ none. absurd cc
 
-pub returns-in_err-number-clause-nodes : goal.returns-in_err-number-clause-nodes
-returns-in_err-number-clause-nodes g c = rw c.from_residual.ensures (omega (arith, ap (λ made. length (nodes_among made)) c.claim_node.ensures.made))
+pub returns-in_err-number-clause-makes : goal.returns-in_err-number-clause-makes
+returns-in_err-number-clause-makes g c = rw c.from_residual.ensures (record {
+  goes = c.in_err-number.ensures.goes;
+  more = omega (arith, ap length c.claim_node.ensures.made);
+  nodes = omega (arith, ap (λ made. length (nodes_among made)) c.claim_node.ensures.made);
+  walk = c.in_err-number.ensures.walk;
+  few = (let few = c.in_err-number.ensures.few in omega arith);
+})
 
-pub returns-clause-nodes : goal.returns-clause-nodes
-returns-clause-nodes g c =
+pub returns-clause-makes : goal.returns-clause-makes
+returns-clause-makes g c =
+    let filled = set_all_on c.args.table.now g.G.Gate.becomes _ _ _ _ c.fill_words.ensures.fills in
     let items = c.claim_node.new.build.made.items in
-    omega (arith, ap (λ made. length (nodes_among made)) c.push.ensures.items, ap (λ made. length (nodes_among made)) c.claim_node.ensures.made, nodes_pushed items c.in_ok-number.number)
+    let made = c.push.ensures.items ∙ ap (λ z. z ++ a_node c.in_ok-number.number ∷ []) c.claim_node.ensures.made in
+    record {
+      goes = goes_more c.args.table.now g.G.Gate.becomes _ _ _ c.claim_node.ensures.goes filled;
+      more = omega (arith, ap length c.push.ensures.items, ap length c.claim_node.ensures.made, length-append items (a_node c.in_ok-number.number ∷ []));
+      nodes = omega (arith, ap (λ made. length (nodes_among made)) c.push.ensures.items, ap (λ made. length (nodes_among made)) c.claim_node.ensures.made, nodes_pushed items c.in_ok-number.number);
+      walk = λ since w.
+          subst (λ z. IsClaimWalk c.args.table.now.layout since c.fill_words.new.seat.known z c.claim_node.new.build.nodes.next c.claim_node.new.build.left_nodes) (sym made)
+          (walk_on c.args.table.now g.G.Gate.becomes since (c.claim_node.new.seat, c.claim_node.new.gate) (c.fill_words.new.seat, c.fill_words.new.gate) (c.args.build.now.made.items ++ a_node c.in_ok-number.number ∷ [])
+          (c.args.build.now.made.items ++ a_node c.in_ok-number.number ∷ []) c.claim_node.new.build.nodes.next c.claim_node.new.build.left_nodes filled (λ r h. h) (c.in_ok-number.ensures.walk since w));
+      few = omega (arith, c.in_ok-number.ensures.few, c.fill_words.ensures.steps);
+    }

@@ -2,7 +2,7 @@
 use Rattle.std.proofs.Common.{arith}
 use Rattle.rowex_writing.proofs.Walked.{looked_none, looked_more, looked_all, look_record}
 use Rattle.rowex_writing.proofs.Locking.{seat_of}
-use Rattle.rowex_writing.proofs.claims.look_at.Goals as goal
+use Rattle.rowex_writing.proofs.claims.load_states.Goals as goal
 
 pub loop-index-init : goal.loop-index-init
 loop-index-init g c = looked_none c.args.table.now g.G.Gate.becomes c.args.made.now (c.args.seat.now, c.args.gate.now)

@@ -1,5 +1,5 @@
 -- The node, and what rises.
-use Rattle.std.proofs.Common.{◌≡◌, ◌≤◌, ◌-◌, ◌*◌, ◌+◌, if◌then◌else◌, length, map, ap, sym, ◌∙◌, arith}
+use Rattle.std.proofs.Common.{◌≡◌, ◌≤◌, ◌-◌, ◌*◌, ◌+◌, if◌then◌else◌, length, map, ap, refl, sym, ◌∙◌, arith}
 use Rattle.std.specs.Prelude.{slice_range}
 use Rattle.std.proofs.lemmas.List.{append-nil}
 use Rattle.insert_cases.specs.declared.choice.PathNode.{PathNode}
@@ -11,34 +11,36 @@ use Rattle.rowex_writing.proofs.Counting.{made_one, no_nodes}
 use Rattle.rowex_writing.proofs.Raised.{none_in_table}
 use Rattle.rowex_writing.proofs.Growths.{gone_is, grown_ends, lacks_nodes}
 use Rattle.rowex_writing.proofs.Walked.{walk_begins}
-use Rattle.rowex_writing.proofs.growing.grow_with.Goals as goal
-use Rattle.rowex_writing.proofs.growing.grow_with.Goals.{then-stays, else-stays}
+use Rattle.rowex_writing.proofs.growing.grow_with_leaf.Goals as goal
+use Rattle.rowex_writing.proofs.growing.grow_with_leaf.Goals.{then-stays, else-stays}
 
 pub returns-in_default-clause-full : goal.returns-in_default-clause-full
 returns-in_default-clause-full g c =
-    let may = c.requires.may in
-    record {
-      not_made = c.in_default.ensures.made may.growing;
-      few = omega (arith, made_one may.growing.lowest.made_leaf.building, c.raise_grown.ensures.more, may.within.0);
-      full_of = lacks_nodes c.args.table.now.layout c.args.seat.now.known c.raise_grown.new.seat.known c.args.job.now.way.now c.args.job.now.span c.raise_grown.new.build.made.items c.args.seat.now.known.steps
-          may.nodes may.locked c.raise_grown.ensures.goes.stays.1 (omega (arith, may.within.0)) may.within.1 (omega (arith, may.within.1, may.depth))
-          (omega (arith, no_nodes may.growing.lowest.made_leaf, c.in_default.ensures.nodes, may.within.0))
-          (c.in_default.ensures.walk c.args.seat.now.known.steps
-          (walk_begins a_node c.args.table.now.layout.nodes c.args.table.now.layout c.args.seat.now.known c.args.build.now.made.items c.args.build.now.nodes.next c.layout.result.nodes c.args.table.now.layout.nodes_in_range.0 (ap (λ (z : Layout). z.nodes) c.layout.ensures)));
-    }
+    let may = c.requires.may in (
+      refl,
+      record {
+        not_made = c.in_default.ensures.made may.growing;
+        few = omega (arith, made_one may.growing.lowest.made_leaf.building, c.raise_grown.ensures.makes.more, may.within.0);
+        full_of = lacks_nodes c.args.table.now.layout c.args.seat.now.known c.raise_grown.new.seat.known c.args.job.now.way.now c.args.job.now.span c.raise_grown.new.build.made.items c.args.seat.now.known.steps
+            may.nodes may.locked c.raise_grown.ensures.makes.goes.stays.1 (omega (arith, may.within.0)) may.within.1 (omega (arith, may.within.1, may.depth))
+            (omega (arith, no_nodes may.growing.lowest.made_leaf, c.in_default.ensures.makes.nodes, may.within.0))
+            (c.in_default.ensures.makes.walk c.args.seat.now.known.steps
+            (walk_begins c.args.table.now.layout c.args.seat.now.known c.args.build.now.made.items c.args.build.now.nodes.next c.layout.result c.layout.ensures));
+      },
+    )
 
 pub returns-in_default-clause-few : goal.returns-in_default-clause-few
 returns-in_default-clause-few g c =
     let may = c.requires.may in
     let whole : c.layout.result.nodes ≡ c.args.table.now.layout.nodes = ap (λ (z : Layout). z.nodes) c.layout.ensures in
-    let few : c.raise_grown.new.seat.known.steps + 2 * c.raise_grown.new.build.left_nodes ≤ c.args.seat.now.known.steps + 2 * c.layout.result.nodes + locks_of c.args.job.now.span * level_steps + length c.raise_grown.new.build.made.items = c.in_default.ensures.few in
-    omega (arith, whole, few, made_one may.growing.lowest.made_leaf.building, c.raise_grown.ensures.more, may.within.0)
+    let few : c.raise_grown.new.seat.known.steps + 2 * c.raise_grown.new.build.left_nodes ≤ c.args.seat.now.known.steps + 2 * c.layout.result.nodes + locks_of c.args.job.now.span * level_steps + length c.raise_grown.new.build.made.items = c.in_default.ensures.makes.few in
+    omega (arith, whole, few, made_one may.growing.lowest.made_leaf.building, c.raise_grown.ensures.makes.more, may.within.0)
 
 pub returns-clause-raised : goal.returns-clause-raised
 returns-clause-raised g c =
     let job = c.args.job.now in
     let may = c.requires.may in
-    let goes = c.in-Some.ensures.goes in
+    let goes = c.in-Some.ensures.makes.goes in
     let low_is : c.if-stays.low ≡ (if c.in-Some.stays then job.span.len - 1 else job.span.len) = elim c.if-stays.branch [ then-stays w ↦ rw w.if-stays.true w.low-is | else-stays w ↦ rw w.if-stays.false w.low-is ] in
     let low : (job.span.end ≤ c.if-stays.low) × (c.if-stays.low ≤ job.span.len) × (job.span.len ≤ c.if-stays.low + 1) = elim c.if-stays.branch [
       | then-stays w ↦ (omega (arith, w.low-is, may.within.0), omega (arith, w.low-is, may.within.0), omega (arith, w.low-is, may.within.0))
@@ -52,14 +54,14 @@ returns-clause-raised g c =
       most = low.2;
       leaf = none_in_table c.args.table.now.layout;
       ends = λ spot over.
-          grown_ends c.args.table.now c.args.seat.now c.raise_grown.new.seat c.args.build.now.made.items c.raise_grown.new.build.made.items job.way.now job.value job.span c.args.new.now may
+          grown_ends c.args.table.now c.args.seat.now c.raise_grown.new.seat c.args.build.now.made.items c.raise_grown.new.build.made.items job c.args.new.now may
           goes.stays.0 goes.stays.1 goes.stays.2 c.in-Some.entry c.has_number.ensures c.in-Some.stays (c.in-Some.ensures.made may.growing) c.in-Some.ensures.low spot _ over gone;
-      few = omega (arith, made_one may.growing.lowest.made_leaf.building, c.raise_grown.ensures.more, may.within.0);
+      few = omega (arith, made_one may.growing.lowest.made_leaf.building, c.raise_grown.ensures.makes.more, may.within.0);
     }
 
 pub returns-clause-few : goal.returns-clause-few
 returns-clause-few g c =
     let may = c.requires.may in
     let whole : c.layout.result.nodes ≡ c.args.table.now.layout.nodes = ap (λ (z : Layout). z.nodes) c.layout.ensures in
-    let few : c.raise_grown.new.seat.known.steps + 2 * c.raise_grown.new.build.left_nodes ≤ c.args.seat.now.known.steps + 2 * c.layout.result.nodes + locks_of c.args.job.now.span * level_steps + 0 = c.in-Some.ensures.few in
+    let few : c.raise_grown.new.seat.known.steps + 2 * c.raise_grown.new.build.left_nodes ≤ c.args.seat.now.known.steps + 2 * c.layout.result.nodes + locks_of c.args.job.now.span * level_steps + 0 = c.in-Some.ensures.makes.few in
     omega (arith, whole, few, may.within.0)

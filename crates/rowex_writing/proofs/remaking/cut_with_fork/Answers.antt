@@ -4,7 +4,7 @@ use Rattle.compound_node.specs.Nodes.{piece}
 use Rattle.insert_cases.specs.Grown.{GrownShows}
 use Rattle.rowex_writing.specs.Remaking.{subtrie_with_fork}
 use Rattle.rowex_writing.proofs.Remade.{grown_low, fits_fork, fork_low}
-use Rattle.rowex_writing.proofs.remaking.full_with_fork.Goals as goal
+use Rattle.rowex_writing.proofs.remaking.cut_with_fork.Goals as goal
 
 pub pull_up-requires-clause-path : goal.pull_up-requires-clause-path
 pull_up-requires-clause-path c = (fits_fork c.args.fork.now c.search-at.result (piece c.args.node.now) c.search-at.ensures.leads c.requires.tree).path
