@@ -15,7 +15,7 @@ use rowex_core::{Gate, Rec, Target};
 use rowex_records::give_up_all;
 use rowex_table::{HotTable, TableSeat};
 
-/// Straight after a publish: loads the epoch, and marks with it the records `gone`, which the publish has unlinked. Then it unlocks the
+/// Loads the epoch, straight after a publish, and marks with it the records `gone`, which the publish has unlinked. Then it unlocks the
 /// nodes `kept`, the first one first, and the anchor, if `anchor` says that it is locked. The pass has no record and no lock then.
 pub(crate) fn retire<G: Gate>(
     table: &HotTable,

@@ -61,7 +61,7 @@ returns-then-not-entry_stands-clause-changed g c = λ m w f.
     let at = there c.args.job.now.way.now c.loop-index.index c.args.job.now.span.len no_step c.loop-index-test.true c.requires.held.within.1 in
     let has = step_place c.args.table.now.layout c.args.seat.now.known c.loop-index.seat.known m c.args.job.now.key.now c.args.job.now.way.now c.args.job.now.found later w c.loop-index.index s at in
     let (e, name, read) = step_read c.args.table.now.layout c.args.seat.now.known c.loop-index.seat.known m c.args.job.now.key.now c.args.job.now.way.now c.args.job.now.found later w c.loop-index.index s at in
-    c.entry_stands.ensures.changed m s.height e has (c.named_at-entry.ensures ∙ name) read c.if-not-entry_stands.true
+    c.entry_stands.ensures.changed m s.height e has (c.naming_entry-entry.ensures ∙ name) read c.if-not-entry_stands.true
 
 pub loop-index-preserved : goal.loop-index-preserved
 loop-index-preserved g c =
@@ -78,7 +78,7 @@ loop-index-preserved g c =
           (λ s at words h.
           let same : get_or c.args.job.now.way.now c.loop-index.index no_step ≡ s = get_or_from_slice_get c.args.job.now.way.now c.loop-index.index s no_step at in
           let locked = locked_on c.args.seat.now.known c.loop-index.seat.known s.number words i.reads.goes.stays.1 h in
-          sym c.named_at-entry.ensures ∙ subst (λ (z : PathNode). HasLocked c.loop-index.seat.known z.number words → c.named_at-entry.result ≡ Some (entry_at (node_words_of words).subtrie z.at)) same
+          sym c.naming_entry-entry.ensures ∙ subst (λ (z : PathNode). HasLocked c.loop-index.seat.known z.number words → c.naming_entry-entry.result ≡ Some (entry_at (node_words_of words).subtrie z.at)) same
           (e.same c.if-not-entry_stands.false words) locked);
     }
 

@@ -4,7 +4,7 @@ use Rattle.rowex_reading.proofs.Seeing.{later_trans}
 use Rattle.rowex_writing.proofs.Keeping.{step_nodes}
 use Rattle.rowex_writing.proofs.Runs.{works_run}
 use Rattle.rowex_writing.proofs.Works.{works_later, works_more, works_seat}
-use Rattle.rowex_writing.proofs.widening.narrow.Goals as goal
+use Rattle.rowex_writing.proofs.widening.narrow_locks.Goals as goal
 
 pub unlock_above-requires-clause-own : goal.unlock_above-requires-clause-own
 unlock_above-requires-clause-own g c = c.requires.wide.seat
