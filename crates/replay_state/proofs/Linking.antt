@@ -19,7 +19,7 @@ use Rattle.rowex_core.specs.Reading.{leaf_of}
 use Rattle.rowex_core.specs.Cores.{Core, HasRecord, IsWhole, heap_of}
 use Rattle.rowex_core.specs.Events.{AreSame, tree_of}
 use Rattle.rowex_core.proofs.Finding.{by_number, top_items}
-use Rattle.replay_trees.specs.Versions.{AreWordsOf, HasRecordIn, IsVersion, Tells}
+use Rattle.replay_trees.specs.Versions.{AreWordsOf, HasRecordIn, IsVersion, Tells, Table}
 use Rattle.replay_trees.specs.declared.trees.Linked.{Linked}
 use Rattle.replay_state.specs.declared.fate.Fate.{Fate as Stored}
 use Rattle.replay_state.specs.declared.fate.Fate.TheVariants.{Free as IsFree, Held as IsHeld, Ready as IsReady, InTree as IsTree, Unlinked as IsUnlinked, Marked as IsMarked}
@@ -43,17 +43,20 @@ linked_by s q nodes leaves b come leaves_come test =
 
 -- ---- the words that are read
 
-pub words_read : (s : RecordsView) (layout : Layout) (words : Rec → List ℕ) (fate : Rec → Fate) (lock : ℕ → Option ℕ) → AreRecordsOf s layout words fate lock → AreWordsOf s.nodes s.leaves words
+abbrev pub table_of : RecordsView → Table
+table_of s = record { nodes = s.nodes; leaves = s.leaves }
+
+pub words_read : (s : RecordsView) (layout : Layout) (words : Rec → List ℕ) (fate : Rec → Fate) (lock : ℕ → Option ℕ) → AreRecordsOf s layout words fate lock → AreWordsOf (table_of s) words
 words_read s layout words fate lock a = record {
   nodes_are = λ n h. a.words_are (a_node n) (get_or s.nodes n []) (slice_get-get_or s.nodes n [] h);
   leaves_are = λ n h. a.words_are (a_leaf n) (get_or s.leaves n []) (slice_get-get_or s.leaves n [] h);
 }
 
-in_table : (s : RecordsView) (layout : Layout) (words : Rec → List ℕ) (fate : Rec → Fate) (lock : ℕ → Option ℕ) → AreRecordsOf s layout words fate lock → (r : Rec) → HasRecord layout r → HasRecordIn s.nodes s.leaves r
+in_table : (s : RecordsView) (layout : Layout) (words : Rec → List ℕ) (fate : Rec → Fate) (lock : ℕ → Option ℕ) → AreRecordsOf s layout words fate lock → (r : Rec) → HasRecord layout r → HasRecordIn (table_of s) r
 in_table s layout words fate lock a (a_node n) h = subst (λ z. n < z) (sym a.node_count.0) h
 in_table s layout words fate lock a (a_leaf n) h = subst (λ z. n < z) (sym a.leaf_count.0) h
 
-pub of_table : (s : RecordsView) (layout : Layout) (words : Rec → List ℕ) (fate : Rec → Fate) (lock : ℕ → Option ℕ) → AreRecordsOf s layout words fate lock → (r : Rec) → HasRecordIn s.nodes s.leaves r → HasRecord layout r
+pub of_table : (s : RecordsView) (layout : Layout) (words : Rec → List ℕ) (fate : Rec → Fate) (lock : ℕ → Option ℕ) → AreRecordsOf s layout words fate lock → (r : Rec) → HasRecordIn (table_of s) r → HasRecord layout r
 of_table s layout words fate lock a (a_node n) h = subst (λ z. n < z) a.node_count.0 h
 of_table s layout words fate lock a (a_leaf n) h = subst (λ z. n < z) a.leaf_count.0 h
 
@@ -62,7 +65,7 @@ whole : (q : ℕ) (f : Fate) → ((since : ℕ) × (f ≡ InTreeSince since)) �
 whole q f (inl (since, e)) = rw e (tt, λ x. cc)
 whole q f (inr e) = rw e (tt, λ x. cc)
 
-pub is_version : (s : StateView) (c : Core) (words : Rec → List ℕ) (q : ℕ) (root : Option Entry) → IsWordStored s c words → AreWordsPacked c words → MayMakeVersion c q words root → IsVersion s.records.nodes s.records.leaves words root
+pub is_version : (s : StateView) (c : Core) (words : Rec → List ℕ) (q : ℕ) (root : Option Entry) → IsWordStored s c words → AreWordsPacked c words → MayMakeVersion c q words root → IsVersion (table_of s.records) words root
 is_version s c words q root st packed may = record {
   top = may.top;
   tree = may.tree;
@@ -89,21 +92,21 @@ unfoldable pub flag : Linked → Rec → Bool
 flag linked (a_node n) = get_or linked.nodes.items n false
 flag linked (a_leaf n) = get_or linked.leaves.items n false
 
-pub flag_is : (nodes leaves : List (List ℕ)) (t : Option Tree) (linked : Linked) → Tells nodes leaves t linked → (r : Rec) → flag linked r ≡ is_linked t r
+pub flag_is : (table : Table) (t : Option Tree) (linked : Linked) → Tells table t linked → (r : Rec) → flag linked r ≡ is_linked t r
 unfolding flag
-flag_is nodes leaves t linked tells (a_node n) = elim (linked_cases t (a_node n)) [
+flag_is table t linked tells (a_node n) = elim (linked_cases t (a_node n)) [
   | inl x ↦ (tells.nodes_are n).1 x.0 ∙ sym x.1
   | inr x ↦ elim (cases_Bool (get_or linked.nodes.items n false)) [ inl e ↦ absurd (x.0 ((tells.nodes_are n).0 e)) | inr e ↦ e ∙ sym x.1 ]
 ]
-flag_is nodes leaves t linked tells (a_leaf n) = elim (linked_cases t (a_leaf n)) [
+flag_is table t linked tells (a_leaf n) = elim (linked_cases t (a_leaf n)) [
   | inl x ↦ (tells.leaves_are n).1 x.0 ∙ sym x.1
   | inr x ↦ elim (cases_Bool (get_or linked.leaves.items n false)) [ inl e ↦ absurd (x.0 ((tells.leaves_are n).0 e)) | inr e ↦ e ∙ sym x.1 ]
 ]
 
-pub linked_flag : (nodes leaves : List (List ℕ)) (t : Option Tree) (linked : Linked) → Tells nodes leaves t linked → (r : Rec) → (flag linked r ≡ true → IsLinked t r) × (IsLinked t r → flag linked r ≡ true)
+pub linked_flag : (table : Table) (t : Option Tree) (linked : Linked) → Tells table t linked → (r : Rec) → (flag linked r ≡ true → IsLinked t r) × (IsLinked t r → flag linked r ≡ true)
 unfolding flag
-linked_flag nodes leaves t linked tells (a_node n) = ((tells.nodes_are n).0, (tells.nodes_are n).1)
-linked_flag nodes leaves t linked tells (a_leaf n) = ((tells.leaves_are n).0, (tells.leaves_are n).1)
+linked_flag table t linked tells (a_node n) = ((tells.nodes_are n).0, (tells.nodes_are n).1)
+linked_flag table t linked tells (a_leaf n) = ((tells.leaves_are n).0, (tells.leaves_are n).1)
 
 pub came : (q : ℕ) (f : Stored) → ((since : ℕ) × (stored_fate f ≡ InTreeSince since)) ⊎ (stored_fate f ≡ ReadyBy q) → ((since : ℕ) × (f ≡ IsTree since)) ⊎ (f ≡ IsReady q)
 came q f (inl (since, e)) = inl (since, tree_stored f since e)

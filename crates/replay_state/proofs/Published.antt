@@ -25,13 +25,13 @@ use Rattle.replay_state.specs.Publishing.{IsWordStored, AreWordsPacked, MayMakeV
 use Rattle.replay_state.proofs.Tables as table
 use Rattle.replay_state.proofs.Reading.{tree_stored}
 use Rattle.replay_state.proofs.Sound.{count, used}
-use Rattle.replay_state.proofs.Linking.{flag, flag_is, linked_flag, came, comes, of_table, is_version, same_leaves, words_read}
+use Rattle.replay_state.proofs.Linking.{flag, flag_is, linked_flag, came, comes, of_table, is_version, same_leaves, words_read, table_of}
 
 not_true : (b : Bool) → (b ≡ true → ⊥) → b ≡ false
 not_true b f = elim (cases_Bool b) [ inl e ↦ absurd (f e) | inr e ↦ e ]
 
 module _ (s : StateView) (c : Core) (words : Rec → List ℕ) (q : ℕ) (root : Option Entry) (st : IsWordStored s c words) (linked : Linked)
-    (tells : Tells s.records.nodes s.records.leaves (tree_of (heap_of words) root) linked) where
+    (tells : Tells (table_of s.records) (tree_of (heap_of words) root) linked) where
   -- the tests of fates say what is asked of the records
   come_stored : (r : Rec) (f : Stored) → MayLink s.records q linked.nodes.items linked.leaves.items → fate_in s.records r ≡ Some f → flag linked r ≡ true →
       ((since : ℕ) × (f ≡ IsTree since)) ⊎ (f ≡ IsReady q)
@@ -39,13 +39,13 @@ module _ (s : StateView) (c : Core) (words : Rec → List ℕ) (q : ℕ) (root :
   come_stored (a_node n) f m e on = m.nodes_come n f e on
   come_stored (a_leaf n) f m e on = m.leaves_come n f e on
 
-  pub all_come : IsVersion s.records.nodes s.records.leaves words root → MayLink s.records q linked.nodes.items linked.leaves.items →
+  pub all_come : IsVersion (table_of s.records) words root → MayLink s.records q linked.nodes.items linked.leaves.items →
       (r : Rec) → IsLinked (tree_of (heap_of words) root) r → ((since : ℕ) × (c.fate r ≡ InTreeSince since)) ⊎ (c.fate r ≡ ReadyBy q)
   all_come version m r in_tree =
       let there = of_table s.records c.layout words c.fate c.lock st.at.records r (version.spelled r in_tree).0 in
       let x = table.fate_there s.records c.layout words c.fate c.lock st.at.records r there in
       subst (λ z. ((since : ℕ) × (z ≡ InTreeSince since)) ⊎ (z ≡ ReadyBy q)) (sym (st.at.records.fates_are r x.0 x.1))
-      (comes q x.0 (come_stored r x.0 m x.1 ((linked_flag s.records.nodes s.records.leaves (tree_of (heap_of words) root) linked tells r).1 in_tree)))
+      (comes q x.0 (come_stored r x.0 m x.1 ((linked_flag (table_of s.records) (tree_of (heap_of words) root) linked tells r).1 in_tree)))
 
   pub all_go : MayLink s.records q linked.nodes.items linked.leaves.items → (n : ℕ) → IsInTree c n → ¬ (IsLinked (tree_of (heap_of words) root) (a_node n)) → c.lock n ≡ Some q
   all_go m n (since, e) out =
@@ -67,7 +67,7 @@ module _ (s : StateView) (c : Core) (words : Rec → List ℕ) (q : ℕ) (root :
   }
 
   -- the change that is found is the one that the publish makes
-  pub found : (o : Option Change) → IsVersion s.records.nodes s.records.leaves words root → (AreSame (map read_item s.items) (map read_item linked.items.items) → IsFoundChange q (map read_item s.items) (map read_item linked.items.items) o) →
+  pub found : (o : Option Change) → IsVersion (table_of s.records) words root → (AreSame (map read_item s.items) (map read_item linked.items.items) → IsFoundChange q (map read_item s.items) (map read_item linked.items.items) o) →
       IsFoundChange q (items_of (c.past.version c.past.now)) (items_of (tree_of (heap_of words) root)) o
   found o version h =
       subst (λ xs. IsFoundChange q xs (items_of (tree_of (heap_of words) root)) o) (sym st.at.items)
@@ -83,7 +83,7 @@ module _ (s : StateView) (c : Core) (words : Rec → List ℕ) (q : ℕ) (root :
   next_is : (now : ℕ) (r : Rec) (f e : Stored) → now ≡ c.past.now → fate_in s.records r ≡ Some e → stored_fate f ≡ next_fate now q (flag linked r) (stored_fate e) →
       next_fate c.past.now q (is_linked (tree_of (heap_of words) root) r) (c.fate r) ≡ stored_fate f
   next_is now r f e same there is =
-      sym (is ∙ ap (λ z. next_fate z q (flag linked r) (stored_fate e)) same ∙ ap (λ z. next_fate c.past.now q z (stored_fate e)) (flag_is s.records.nodes s.records.leaves (tree_of (heap_of words) root) linked tells r)
+      sym (is ∙ ap (λ z. next_fate z q (flag linked r) (stored_fate e)) same ∙ ap (λ z. next_fate c.past.now q z (stored_fate e)) (flag_is (table_of s.records) (tree_of (heap_of words) root) linked tells r)
       ∙ ap (next_fate c.past.now q (is_linked (tree_of (heap_of words) root) r)) (sym (st.at.records.fates_are r e there)))
 
   next_fates : (now : ℕ) (t : RecordsView) → now ≡ c.past.now → AreNextRecords now q linked.nodes.items linked.leaves.items s.records t → (r : Rec) (f : Stored) → fate_in t r ≡ Some f →
@@ -114,18 +114,18 @@ module _ (s : StateView) (c : Core) (words : Rec → List ℕ) (q : ℕ) (root :
 
 -- ---- the answers
 
-pub none_read : (s : StateView) (q : ℕ) (root : Option Entry) → ((words : Rec → List ℕ) → AreWordsOf s.records.nodes s.records.leaves words → IsReadVersion s.records.nodes s.records.leaves words root None) →
+pub none_read : (s : StateView) (q : ℕ) (root : Option Entry) → ((words : Rec → List ℕ) → AreWordsOf (table_of s.records) words → IsReadVersion (table_of s.records) words root None) →
     (c : Core) (words : Rec → List ℕ) → IsWordStored s c words → AreWordsPacked c words → ¬ (MayMakeVersion c q words root)
 none_read s q root read c words st packed may = read words (words_read s.records c.layout words c.fate c.lock st.at.records) (is_version s c words q root st packed may)
 
 pub not_linked : (s : StateView) (q : ℕ) (root : Option Entry) (linked : Linked) →
-    ((words : Rec → List ℕ) → AreWordsOf s.records.nodes s.records.leaves words → IsReadVersion s.records.nodes s.records.leaves words root (Some linked)) →
+    ((words : Rec → List ℕ) → AreWordsOf (table_of s.records) words → IsReadVersion (table_of s.records) words root (Some linked)) →
     ¬ (MayLink s.records q linked.nodes.items linked.leaves.items) → (c : Core) (words : Rec → List ℕ) → IsWordStored s c words → AreWordsPacked c words → ¬ (MayMakeVersion c q words root)
 not_linked s q root linked read fails c words st packed may =
     fails (may_link_from s c words q root st linked (read words (words_read s.records c.layout words c.fate c.lock st.at.records)).1 may)
 
 pub not_changed : (s : StateView) (q : ℕ) (root : Option Entry) (linked : Linked) →
-    ((words : Rec → List ℕ) → AreWordsOf s.records.nodes s.records.leaves words → IsReadVersion s.records.nodes s.records.leaves words root (Some linked)) →
+    ((words : Rec → List ℕ) → AreWordsOf (table_of s.records) words → IsReadVersion (table_of s.records) words root (Some linked)) →
     (AreSame (map read_item s.items) (map read_item linked.items.items) → IsFoundChange q (map read_item s.items) (map read_item linked.items.items) None) →
     (c : Core) (words : Rec → List ℕ) → IsWordStored s c words → AreWordsPacked c words → ¬ (MayMakeVersion c q words root)
 not_changed s q root linked read none c words st packed may =
@@ -133,7 +133,7 @@ not_changed s q root linked read none c words st packed may =
     found s c words q root st linked x.1 None x.0 none may.change
 
 pub publishes : (s : StateView) (q : ℕ) (root : Option Entry) (linked : Linked) (x : Change) (now : ℕ) (t : RecordsView) →
-    ((words : Rec → List ℕ) → AreWordsOf s.records.nodes s.records.leaves words → IsReadVersion s.records.nodes s.records.leaves words root (Some linked)) →
+    ((words : Rec → List ℕ) → AreWordsOf (table_of s.records) words → IsReadVersion (table_of s.records) words root (Some linked)) →
     MayLink s.records q linked.nodes.items linked.leaves.items →
     (AreSame (map read_item s.items) (map read_item linked.items.items) → IsFoundChange q (map read_item s.items) (map read_item linked.items.items) (Some x)) →
     now ≡ length s.changes → AreNextRecords now q linked.nodes.items linked.leaves.items s.records t → (c : Core) (words : Rec → List ℕ) → IsWordStored s c words →
@@ -154,7 +154,7 @@ publishes s q root linked x now t read m one same next c words st =
 -- ---- what was read and found, of the same lists
 
 pub read_is : (a b x y : List (List ℕ)) (root : Option Entry) (o p : Option Linked) → a ≡ x → b ≡ y → o ≡ p →
-    ((words : Rec → List ℕ) → AreWordsOf a b words → IsReadVersion a b words root o) → (words : Rec → List ℕ) → AreWordsOf x y words → IsReadVersion x y words root p
+    ((words : Rec → List ℕ) → AreWordsOf (record { nodes = a; leaves = b }) words → IsReadVersion (record { nodes = a; leaves = b }) words root o) → (words : Rec → List ℕ) → AreWordsOf (record { nodes = x; leaves = y }) words → IsReadVersion (record { nodes = x; leaves = y }) words root p
 read_is a b x y root o p e f g h = rw (← e, ← f, ← g) h
 
 pub found_is : (q : ℕ) (a b x y : List ReadItem) (o p : Option Change) → a ≡ x → b ≡ y → o ≡ p → (AreSame (map read_item a) (map read_item b) → IsFoundChange q (map read_item a) (map read_item b) o) →

@@ -6,13 +6,13 @@ ghost use Rattle.rowex_core.specs.declared.event.Act.TheVariants.{Advance, Clear
 ghost use Rattle.replay_state.specs.States.{IsStepped};
 
 use crate::passes::PassState;
-use crate::records::put;
+use crate::records::set_item;
 use crate::state::State;
 use record_words::EPOCHS;
 
 impl State {
     /// The pin and the round of `pass`, which the index has.
-    pub(crate) fn own(&self, pass: u16) -> PassState
+    pub(crate) fn own_state(&self, pass: u16) -> PassState
         requires { pass < length self.now.passes }
         ensures { slice_get self.now.passes pass ≡ Some result }
     {
@@ -20,7 +20,7 @@ impl State {
     }
 
     /// The pin and the round of `pass`; `None` if the index hasn't that pass.
-    fn pass(&self, pass: u16) -> Option<PassState>
+    fn find_pass(&self, pass: u16) -> Option<PassState>
         ensures { result ≡ slice_get self.now.passes pass }
     {
         self.passes.get(pass as usize).copied()
@@ -35,12 +35,12 @@ impl State {
             return false;
         }
         let version = self.changes.len() as u64;
-        let loaded = self.own(pass).enter_round(self.epoch, version);
-        put(&mut self.passes, pass as usize, loaded);
+        let loaded = self.own_state(pass).begin_round(self.epoch, version);
+        set_item(&mut self.passes, pass as usize, loaded);
         true
     }
 
-    /// Raises the epoch by one, if it is `expected`; `found` is the epoch before. Returns whether that is legal; if not, nothing changes.
+    /// Raises the epoch by one if it is `expected`; `found` is the epoch before. Returns whether that is legal; if not, nothing changes.
     pub(crate) fn advance(&mut self, pass: u16, expected: u64, found: u64) -> bool
         ensures { IsStepped result self.old self.new pass (Advance expected found) }
     {
@@ -58,12 +58,12 @@ impl State {
         requires { pass < length self.old.passes }
         ensures { IsStepped result self.old self.new pass (SetPin word) }
     {
-        let mut own = self.own(pass);
+        let mut own = self.own_state(pass);
         if !own.may_pin(word) {
             return false;
         }
         own.pin = Some(word);
-        put(&mut self.passes, pass as usize, own);
+        set_item(&mut self.passes, pass as usize, own);
         true
     }
 
@@ -72,12 +72,12 @@ impl State {
         requires { pass < length self.old.passes }
         ensures { IsStepped result self.old self.new pass ClearPin }
     {
-        let mut own = self.own(pass);
+        let mut own = self.own_state(pass);
         if own.pin.is_none() {
             return false;
         }
         own.pin = None;
-        put(&mut self.passes, pass as usize, own);
+        set_item(&mut self.passes, pass as usize, own);
         true
     }
 
@@ -86,14 +86,14 @@ impl State {
         requires { pass < length self.old.passes }
         ensures { IsStepped result self.old self.new pass (LoadPin of word) }
     {
-        let Some(other) = self.pass(of) else {
+        let Some(other) = self.find_pass(of) else {
             return false;
         };
         if word != other.pin.unwrap_or(0) {
             return false;
         }
-        let seen = self.own(pass).with_seen(of, other.pin);
-        put(&mut self.passes, pass as usize, seen);
+        let seen = self.own_state(pass).see_pin(of, other.pin);
+        set_item(&mut self.passes, pass as usize, seen);
         true
     }
 }

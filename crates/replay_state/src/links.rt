@@ -8,8 +8,9 @@ ghost use Rattle.replay_state.specs.Links.{AllMayCome, AllMayGo, AreNextFates, M
 use crate::fate::Fate;
 
 impl Fate {
-    /// Whether `pass` may publish a tree that links a record of this fate, if `is_linked`; `true` if it isn't linked.
-    fn may_come(self, pass: u16, is_linked: bool) -> bool
+    /// Whether `pass` may publish a tree of which `is_linked` says whether it links a record of this fate. What it links must be in the tree
+    /// already, or made ready by `pass`.
+    fn may_be_linked(self, pass: u16, is_linked: bool) -> bool
         ensures { IsTrue result ↔ MayCome pass is_linked self }
     {
         match self {
@@ -19,8 +20,9 @@ impl Fate {
         }
     }
 
-    /// Whether `pass` may publish a tree that leaves out a node of this fate and lock, unless `is_linked`; `true` if it is linked.
-    fn may_go(self, pass: u16, is_linked: bool, lock: Option<u16>) -> bool
+    /// Whether `pass` may publish a tree of which `is_linked` says whether it links a node of this fate. What is in the tree and isn't linked
+    /// must be locked by `pass`; `lock` is the pass that has locked it, if any.
+    fn may_be_unlinked(self, pass: u16, is_linked: bool, lock: Option<u16>) -> bool
         ensures { IsTrue result ↔ MayGo pass is_linked lock self }
     {
         match self {
@@ -29,9 +31,9 @@ impl Fate {
         }
     }
 
-    /// The fate after a publish by `pass` of version `now + 1`: a ready record is in the tree if `is_linked`. One in the tree is unlinked
-    /// unless `is_linked`. All other fates stay.
-    fn next(self, now: u64, pass: u16, is_linked: bool) -> Fate
+    /// The fate after `pass` has published version `now + 1`, of which `is_linked` says whether it links the record. A ready record that is
+    /// linked is in the tree then, and one of the tree that isn't is unlinked. All other fates stay.
+    fn after_publish(self, now: u64, pass: u16, is_linked: bool) -> Fate
         requires { now + 1 < 2 ^ 64 }
         ensures { stored_fate result ≡ next_fate now pass is_linked (stored_fate self) }
     {
@@ -47,50 +49,55 @@ impl Fate {
     }
 }
 
-/// Whether `pass` may link each of these records that `linked` marks.
-pub(crate) fn all_may_come(fates: &[Fate], pass: u16, linked: &[bool]) -> bool
+/// Whether `pass` may publish a tree that links just those of these records that `linked` marks, as `may_be_linked` says of each.
+pub(crate) fn all_may_be_linked(fates: &[Fate], pass: u16, linked: &[bool]) -> bool
     ensures { IsTrue result ↔ AllMayCome pass linked.now fates.now }
 {
     for (i, fate) in fates.iter().enumerate() {
-        if !fate.may_come(pass, is_set(linked, i)) {
+        if !fate.may_be_linked(pass, flag_at(linked, i)) {
             return false;
         }
     }
     true
 }
 
-/// Whether `pass` may leave out each of these nodes that `linked` doesn't mark.
-pub(crate) fn all_may_go(fates: &[Fate], locks: &[Option<u16>], pass: u16, linked: &[bool]) -> bool
+/// Whether `pass` may publish a tree that links just those of these nodes that `linked` marks, as `may_be_unlinked` says of each. Node `i`
+/// has fate `fates[i]` and lock `locks[i]`.
+pub(crate) fn all_may_be_unlinked(
+    fates: &[Fate],
+    locks: &[Option<u16>],
+    pass: u16,
+    linked: &[bool],
+) -> bool
     ensures { IsTrue result ↔ AllMayGo pass linked.now locks.now fates.now }
 {
     for (i, fate) in fates.iter().enumerate() {
-        if !fate.may_go(pass, is_set(linked, i), lock_of(locks, i)) {
+        if !fate.may_be_unlinked(pass, flag_at(linked, i), lock_at(locks, i)) {
             return false;
         }
     }
     true
 }
 
-/// Gives these records their fates after a publish by `pass`, which makes the version after `now`, of a tree that links those that
-/// `linked` marks.
-pub(crate) fn link_all(fates: &mut [Fate], now: u64, pass: u16, linked: &[bool])
+/// Gives each of these records its fate after `pass` has published version `now + 1`, which links just those that `linked` marks.
+pub(crate) fn update_each_fate(fates: &mut [Fate], now: u64, pass: u16, linked: &[bool])
     requires { now + 1 < 2 ^ 64 }
     ensures { AreNextFates now pass linked.now fates.old fates.new }
 {
     for i in 0..fates.len() {
-        fates[i] = fates[i].next(now, pass, is_set(linked, i));
+        fates[i] = fates[i].after_publish(now, pass, flag_at(linked, i));
     }
 }
 
 /// The flag at place `at`; `false` past the last one.
-fn is_set(flags: &[bool], at: usize) -> bool
+fn flag_at(flags: &[bool], at: usize) -> bool
     ensures { result ≡ get_or flags.now at false }
 {
     flags.get(at).copied().unwrap_or(false)
 }
 
 /// The pass that has locked the node at place `at`; `None` if none has, and past the last one.
-fn lock_of(locks: &[Option<u16>], at: usize) -> Option<u16>
+fn lock_at(locks: &[Option<u16>], at: usize) -> Option<u16>
     ensures { result ≡ get_or locks.now at None }
 {
     locks.get(at).copied().flatten()

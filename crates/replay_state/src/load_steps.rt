@@ -14,9 +14,9 @@ use replay_trees::unpack_entry;
 use rowex_core::{Rec, Spot};
 
 impl State {
-    /// Loads the word of the entry at `spot`, as `word`. Returns whether that is legal; nothing changes.
-    pub(crate) fn load_ref(&mut self, pass: u16, spot: Spot, word: u64) -> bool
-        ensures { IsStepped result self.old self.new pass (LoadRef spot word) }
+    /// Returns whether it is legal that the pass loads the entry at `spot` and finds `word`. The load changes nothing.
+    pub(crate) fn load_ref(&self, pass: u16, spot: Spot, word: u64) -> bool
+        ensures { IsStepped result self.now self.now pass (LoadRef spot word) }
     {
         match spot {
             Spot::Root => is_entry_word(self.root, word),
@@ -30,10 +30,10 @@ impl State {
         }
     }
 
-    /// Loads the word at `offset` of `rec`, as `word`, which is neither its state nor an entry. Returns whether that is legal; nothing
-    /// changes.
-    pub(crate) fn load_fixed(&mut self, pass: u16, rec: Rec, offset: u8, word: u64) -> bool
-        ensures { IsStepped result self.old self.new pass (LoadFixed rec offset word) }
+    /// Returns whether it is legal that the pass loads the word at `offset` of `rec`, neither its state nor an entry, and finds `word`. The
+    /// load changes nothing.
+    pub(crate) fn load_fixed(&self, pass: u16, rec: Rec, offset: u8, word: u64) -> bool
+        ensures { IsStepped result self.now self.now pass (LoadFixed rec offset word) }
     {
         if !is_fixed_offset(self.records.layout(), rec, offset) {
             return false;
@@ -41,15 +41,15 @@ impl State {
         self.records.has_word(rec, offset as usize - 1, word)
     }
 
-    /// Loads the state of `rec`, as `word`. Returns whether that is legal; nothing changes.
-    pub(crate) fn load_state(&mut self, pass: u16, rec: Rec, word: u64) -> bool
-        ensures { IsStepped result self.old self.new pass (LoadState rec word) }
+    /// Returns whether it is legal that the pass loads the state of `rec` and finds `word`. The load changes nothing.
+    pub(crate) fn load_state(&self, pass: u16, rec: Rec, word: u64) -> bool
+        ensures { IsStepped result self.now self.now pass (LoadState rec word) }
     {
         self.records.has_state(rec, word)
     }
 }
 
-/// Whether `word` is that of `entry`, which is 0 for `None`.
+/// Whether `word` is that of `entry`, where `None` stands for an empty root or an unused entry, whose word is 0.
 fn is_entry_word(entry: Option<Entry>, word: u64) -> bool
     ensures { IsTrue result ↔ (HasEntryWord entry × (word ≡ entry_word entry)) }
 {

@@ -13,13 +13,14 @@ use rowex_core::{Rec, Target};
 
 impl State {
     /// Whether `pass` has locked the anchor.
-    pub(crate) fn is_anchored_by(&self, pass: u16) -> bool
+    pub(crate) fn has_locked_anchor(&self, pass: u16) -> bool
         ensures { IsTrue result ↔ (self.now.anchor ≡ Some pass) }
     {
         self.anchor == Some(pass)
     }
 
-    /// Locks `target`, if it is not locked; `found` is its state before. Returns whether that is legal; if not, nothing changes.
+    /// Tries to lock `target` for `pass`, and finds the state word `found` there; it is locked if it was unlocked. Returns whether that is
+    /// legal; if not, nothing changes.
     pub(crate) fn lock(&mut self, pass: u16, target: Target, found: u64) -> bool
         ensures { IsStepped result self.old self.new pass (Lock target found) }
     {
@@ -29,7 +30,7 @@ impl State {
         }
     }
 
-    /// Unlocks `target`. Returns whether that is legal; if not, nothing changes.
+    /// Unlocks `target`, which `pass` has locked. Returns whether that is legal; if not, nothing changes.
     pub(crate) fn unlock(&mut self, pass: u16, target: Target) -> bool
         ensures { IsStepped result self.old self.new pass (Unlock target) }
     {
@@ -39,7 +40,7 @@ impl State {
         }
     }
 
-    /// Locks the anchor, if it is not locked; `found` is its state before. Returns whether that is legal; if not, nothing changes.
+    /// As `lock`, of the anchor.
     fn lock_anchor(&mut self, pass: u16, found: u64) -> bool
         ensures { IsStepped result self.old self.new pass (Lock Anchor found) }
     {
@@ -52,8 +53,7 @@ impl State {
         true
     }
 
-    /// Locks node `node`, which is in the tree, if it is not locked; `found` is its state before. Returns whether that is legal; if not,
-    /// nothing changes.
+    /// As `lock`, of node `node`. One that is unlocked must be in the tree.
     fn lock_node(&mut self, pass: u16, node: u32, found: u64) -> bool
         ensures { IsStepped result self.old self.new pass (Lock (NodeTarget node) found) }
     {
@@ -69,18 +69,18 @@ impl State {
         true
     }
 
-    /// Unlocks the anchor. Returns whether that is legal, as it is if `pass` has locked it; if not, nothing changes.
+    /// As `unlock`, of the anchor.
     fn unlock_anchor(&mut self, pass: u16) -> bool
         ensures { IsStepped result self.old self.new pass (Unlock Anchor) }
     {
-        if !self.is_anchored_by(pass) {
+        if !self.has_locked_anchor(pass) {
             return false;
         }
         self.anchor = None;
         true
     }
 
-    /// Unlocks node `node`, which is in the tree. Returns whether that is legal; if not, nothing changes.
+    /// As `unlock`, of node `node`, which must be in the tree.
     fn unlock_node(&mut self, pass: u16, node: u32) -> bool
         ensures { IsStepped result self.old self.new pass (Unlock (NodeTarget node)) }
     {

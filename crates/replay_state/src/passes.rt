@@ -35,7 +35,7 @@ impl PassState {
     }
 
     /// The pass when it has loaded `epoch` at `version`.
-    pub(crate) fn enter_round(self, epoch: u64, version: u64) -> PassState
+    pub(crate) fn begin_round(self, epoch: u64, version: u64) -> PassState
         ensures { result ≡ in_round self epoch version }
     {
         PassState {
@@ -48,7 +48,7 @@ impl PassState {
     }
 
     /// The pass when it has loaded `pin`, the pin of pass `of`, which may be its own.
-    pub(crate) fn with_seen(self, of: u16, pin: Option<u64>) -> PassState
+    pub(crate) fn see_pin(self, of: u16, pin: Option<u64>) -> PassState
         ensures { result ≡ with_pin_seen self of pin }
     {
         let mut seen = self.seen;
@@ -75,9 +75,9 @@ impl PassState {
         self.pin.is_none() && epoch == self.epoch && epoch >= 1
     }
 
-    /// Whether no pass can reach what was marked with `epoch`. So it is if `epoch` is below the round's bound, and the round has loaded
-    /// the pin of each of the first `passes` passes.
-    pub(crate) fn is_past(&self, epoch: u64, passes: usize) -> bool
+    /// Whether no pass can reach what was marked with `epoch`: that is below the bound of the round, which has loaded the pins of the first
+    /// `passes` passes.
+    pub(crate) fn is_out_of_reach(&self, epoch: u64, passes: usize) -> bool
         ensures { IsTrue result ↔ IsOutOfReach self.now epoch passes }
     {
         if epoch < 1 || epoch >= self.bound {

@@ -8,7 +8,7 @@ ghost use Rattle.rowex_core.specs.Reading.{entry_of};
 ghost use Rattle.replay_state.specs.Publishing.{IsPublishJudged};
 ghost use Rattle.replay_state.specs.States.{HasLock, IsStepped};
 
-use crate::records::{fill_word, is_node};
+use crate::records::{are_node_words, with_word};
 use crate::state::State;
 use compound_node::Entry;
 use record_words::{HEAD_WORDS, MAX_ENTRIES};
@@ -47,7 +47,7 @@ impl State {
         ensures err { OnErr result (self.new ≡ self.old) }
         ensures locked { OnErr result (HasLock self.old pass Root) }
     {
-        if !self.is_anchored_by(pass) {
+        if !self.has_locked_anchor(pass) {
             return Ok(false);
         }
         self.publish_tree(pass, root)
@@ -76,8 +76,8 @@ impl State {
         let Some(before) = self.records.node(node) else {
             return Ok(false);
         };
-        let after = fill_word(before, HEAD_WORDS + entry as usize, word);
-        if !is_node(&after) {
+        let after = with_word(before, HEAD_WORDS + entry as usize, word);
+        if !are_node_words(&after) {
             return Ok(false);
         }
         let root = self.root;
@@ -116,7 +116,8 @@ impl State {
         };
         let now = self.changes.len() as u64;
         self.changes.push(change)?;
-        self.records.link(now, pass, &linked.nodes, &linked.leaves);
+        self.records
+            .update_fates(now, pass, &linked.nodes, &linked.leaves);
         self.root = root;
         self.items = linked.items;
         Ok(true)

@@ -13,7 +13,8 @@ use record_words::{FIRST_ENTRY, Layout, NODE_WORDS, Tag, pack_state};
 use rowex_core::Rec;
 
 impl State {
-    /// Claims `rec`, if it is free; `found` is its state before. Returns whether that is legal; if not, nothing changes.
+    /// Tries to claim `rec` for `pass`, and finds the state word `found` there; the pass holds the record if it was free. Returns whether
+    /// that is legal; if not, nothing changes.
     pub(crate) fn claim(&mut self, pass: u16, rec: Rec, found: u64) -> bool
         ensures { IsStepped result self.old self.new pass (Claim rec found) }
     {
@@ -37,8 +38,7 @@ impl State {
         true
     }
 
-    /// Makes `rec` live, which the pass holds. Returns whether that is legal, as it is if its words spell a value; if not, nothing
-    /// changes.
+    /// Makes `rec` live, which the pass holds and whose words spell a value. Returns whether that is legal; if not, nothing changes.
     pub(crate) fn ready(&mut self, pass: u16, rec: Rec) -> bool
         ensures { IsStepped result self.old self.new pass (Ready rec) }
     {
@@ -60,30 +60,34 @@ impl State {
         true
     }
 
-    /// Makes `rec` obsolete in `epoch`, which the pass has unlinked before it loaded that epoch, its last. The record is locked no more.
-    /// Returns whether that is legal; if not, nothing changes.
+    /// Makes `rec` obsolete with `epoch`, the one that the pass loaded last, after it had unlinked the record. That unlocks it, too. Returns
+    /// whether that is legal; if not, nothing changes.
     pub(crate) fn mark(&mut self, pass: u16, rec: Rec, epoch: u64) -> bool
         requires { pass < length self.old.passes }
         ensures { IsStepped result self.old self.new pass (Mark rec epoch) }
     {
-        let own = self.own(pass);
+        let own = self.own_state(pass);
         let Some(Fate::Unlinked { since, last, by }) = self.records.fate(rec) else {
             return false;
         };
         if by != pass || own.epoch != epoch || own.version <= last {
             return false;
         }
-        self.records.mark(rec, Fate::Marked { since, last, epoch });
+        self.records
+            .set_fate_unlocked(rec, Fate::Marked { since, last, epoch });
         true
     }
 
-    /// Makes `rec` free, if it is marked with `epoch`, below the bound of the pass's whole round; `found` is its state before. Returns
-    /// whether that is legal; if not, nothing changes.
+    /// Tries to free `rec`, and finds the state word `found` there; it is freed if it is marked with `epoch`. That epoch must be below the
+    /// bound of the pass's round over all pins. Returns whether that is legal; if not, nothing changes.
     pub(crate) fn give_back(&mut self, pass: u16, rec: Rec, epoch: u64, found: u64) -> bool
         requires { pass < length self.old.passes }
         ensures { IsStepped result self.old self.new pass (GiveBack rec epoch found) }
     {
-        if !self.own(pass).is_past(epoch, self.passes.len()) {
+        if !self
+            .own_state(pass)
+            .is_out_of_reach(epoch, self.passes.len())
+        {
             return false;
         }
         if !self.records.has_state(rec, found) {

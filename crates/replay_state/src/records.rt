@@ -7,7 +7,7 @@ ghost use Rattle.replay_state.specs.declared.fate.Fate.TheVariants.{Held, InTree
 ghost use Rattle.versions.specs.declared.Rec.TheVariants.{Node as a_node, Leaf as a_leaf};
 
 use crate::fate::Fate;
-use crate::links::{all_may_come, all_may_go, link_all};
+use crate::links::{all_may_be_linked, all_may_be_unlinked, update_each_fate};
 use record_words::{LEAF_FIELDS, Layout, NODE_FIELDS, Tag, unpack_state};
 use replay_trees::{unpack_leaf, unpack_node};
 use rowex_core::Rec;
@@ -75,8 +75,8 @@ impl Records {
         }
     }
 
-    /// Which pass has locked `rec`, if any; `None` if the table hasn't that node. A leaf is never locked.
-    pub(crate) fn lock(&self, rec: Rec) -> Option<Option<u16>>
+    /// The pass that has locked `rec`, `Some(None)` if none has, as of each leaf; `None` if the table hasn't that node.
+    pub(crate) fn lock_of(&self, rec: Rec) -> Option<Option<u16>>
         ensures { result ≡ lock_in self.now rec }
     {
         match rec {
@@ -90,7 +90,7 @@ impl Records {
         ensures { result ≡ tag_in self.now rec }
     {
         let fate = self.fate(rec)?;
-        let lock = self.lock(rec)?;
+        let lock = self.lock_of(rec)?;
         Some(fate.tag(lock))
     }
 
@@ -124,28 +124,28 @@ impl Records {
         &self.leaves
     }
 
-    /// Whether `pass` may publish a tree that links the nodes and leaves that `nodes` and `leaves` mark, and no other, going by fates and
-    /// locks.
+    /// Whether fates and locks allow `pass` to publish a tree that links just the nodes and leaves that `nodes` and `leaves` mark. A record
+    /// past the last flag isn't linked.
     pub(crate) fn may_link(&self, pass: u16, nodes: &[bool], leaves: &[bool]) -> bool
         ensures { IsTrue result ↔ MayLink self.now pass nodes.now leaves.now }
     {
-        if !all_may_come(&self.node_fates, pass, nodes) {
+        if !all_may_be_linked(&self.node_fates, pass, nodes) {
             return false;
         }
-        if !all_may_come(&self.leaf_fates, pass, leaves) {
+        if !all_may_be_linked(&self.leaf_fates, pass, leaves) {
             return false;
         }
-        all_may_go(&self.node_fates, &self.locks, pass, nodes)
+        all_may_be_unlinked(&self.node_fates, &self.locks, pass, nodes)
     }
 
-    /// Gives each record its fate after a publish by `pass` of version `now + 1`; all else stays. The tree links just the nodes and leaves
-    /// that `nodes` and `leaves` mark. A record past the last flag isn't linked.
-    pub(crate) fn link(&mut self, now: u64, pass: u16, nodes: &[bool], leaves: &[bool])
+    /// Gives each record its fate after `pass` has published version `now + 1`, which links just the nodes and leaves that `nodes` and
+    /// `leaves` mark. A record past the last flag isn't linked. All but fates stays.
+    pub(crate) fn update_fates(&mut self, now: u64, pass: u16, nodes: &[bool], leaves: &[bool])
         requires { now + 1 < 2 ^ 64 }
         ensures { AreNextRecords now pass nodes.now leaves.now self.old self.new }
     {
-        link_all(&mut self.node_fates, now, pass, nodes);
-        link_all(&mut self.leaf_fates, now, pass, leaves);
+        update_each_fate(&mut self.node_fates, now, pass, nodes);
+        update_each_fate(&mut self.leaf_fates, now, pass, leaves);
     }
 
     /// Whether `word` is the state word of `rec`; `false` if the table hasn't the record.
@@ -174,11 +174,11 @@ impl Records {
     {
         match rec {
             Rec::Node(number) => match self.nodes.get(number as usize) {
-                Some(words) => is_node(words),
+                Some(words) => are_node_words(words),
                 None => false,
             },
             Rec::Leaf(number) => match self.leaf(number) {
-                Some(words) => is_leaf(&words) && self.has_room(number, &words),
+                Some(words) => are_leaf_words(&words) && self.has_room(number, &words),
                 None => false,
             },
         }
@@ -222,7 +222,7 @@ impl Records {
     pub(crate) fn is_locked_by(&self, number: u32, pass: u16) -> bool
         ensures { IsTrue result ↔ (lock_in self.now (a_node number) ≡ Some (Some pass)) }
     {
-        self.lock(Rec::Node(number)) == Some(Some(pass))
+        self.lock_of(Rec::Node(number)) == Some(Some(pass))
     }
 
     /// Puts `word` at place `at` among the words of `rec`, counted from 0 behind the state. If the table hasn't that word, nothing
@@ -233,15 +233,15 @@ impl Records {
         match rec {
             Rec::Node(number) => {
                 if let Some(words) = self.nodes.get(number as usize).copied() {
-                    put(&mut self.nodes, number as usize, fill_word(words, at, word));
+                    set_item(&mut self.nodes, number as usize, with_word(words, at, word));
                 }
             }
             Rec::Leaf(number) => {
                 if let Some(words) = self.leaves.get(number as usize).copied() {
-                    put(
+                    set_item(
                         &mut self.leaves,
                         number as usize,
-                        fill_word(words, at, word),
+                        with_word(words, at, word),
                     );
                 }
             }
@@ -266,7 +266,7 @@ impl Records {
     pub(crate) fn set_node(&mut self, number: u32, words: [u64; NODE_FIELDS])
         ensures { self.new ≡ with_words_in self.old (a_node number) words }
     {
-        put(&mut self.nodes, number as usize, words);
+        set_item(&mut self.nodes, number as usize, words);
     }
 
     /// Gives `rec` the fate `fate`. If the table hasn't the record, nothing changes.
@@ -274,13 +274,13 @@ impl Records {
         ensures { self.new ≡ with_fate_in self.old rec fate }
     {
         match rec {
-            Rec::Node(number) => put(&mut self.node_fates, number as usize, fate),
-            Rec::Leaf(number) => put(&mut self.leaf_fates, number as usize, fate),
+            Rec::Node(number) => set_item(&mut self.node_fates, number as usize, fate),
+            Rec::Leaf(number) => set_item(&mut self.leaf_fates, number as usize, fate),
         }
     }
 
-    /// Gives `rec` the fate `fate`, and has it unlocked. If the table hasn't the record, nothing changes.
-    pub(crate) fn mark(&mut self, rec: Rec, fate: Fate)
+    /// Gives `rec` the fate `fate`, and unlocks it. If the table hasn't the record, nothing changes.
+    pub(crate) fn set_fate_unlocked(&mut self, rec: Rec, fate: Fate)
         ensures { self.new ≡ marked_in self.old rec fate }
     {
         if let Rec::Node(number) = rec {
@@ -289,11 +289,11 @@ impl Records {
         self.set_fate(rec, fate);
     }
 
-    /// Has node `number` locked by the pass in `lock`, or by none. If the table hasn't the node, nothing changes.
+    /// Makes the pass in `lock` the one that has locked node `number`, or none for `None`. If the table hasn't the node, nothing changes.
     pub(crate) fn set_lock(&mut self, number: u32, lock: Option<u16>)
         ensures { self.new ≡ with_lock_in self.old number lock }
     {
-        put(&mut self.locks, number as usize, lock);
+        set_item(&mut self.locks, number as usize, lock);
     }
 }
 
@@ -309,7 +309,7 @@ pub(crate) fn repeat_item<T: Copy>(alloc: Global, item: T, count: u32) -> Result
 }
 
 /// Puts `item` at place `at` of `items`. Past the last one, nothing changes.
-pub(crate) fn put<T: Copy>(items: &mut Vec<T>, at: usize, item: T)
+pub(crate) fn set_item<T: Copy>(items: &mut Vec<T>, at: usize, item: T)
     ensures { items.new.items ≡ set items.old.items at item }
 {
     if at < items.len() {
@@ -318,7 +318,7 @@ pub(crate) fn put<T: Copy>(items: &mut Vec<T>, at: usize, item: T)
 }
 
 /// `words` with `word` at place `at`. Past the last place, they are as they were.
-pub(crate) fn fill_word<const N: usize>(words: [u64; N], at: usize, word: u64) -> [u64; N]
+pub(crate) fn with_word<const N: usize>(words: [u64; N], at: usize, word: u64) -> [u64; N]
     ensures { result ≡ set words.entry at word }
 {
     let mut filled = words;
@@ -329,14 +329,14 @@ pub(crate) fn fill_word<const N: usize>(words: [u64; N], at: usize, word: u64) -
 }
 
 /// Whether `words` are those of a node.
-pub(crate) fn is_node(words: &[u64; NODE_FIELDS]) -> bool
+pub(crate) fn are_node_words(words: &[u64; NODE_FIELDS]) -> bool
     ensures { (n : ℕ) → IsTrue result ↔ IsPacked (a_node n) words.now }
 {
     unpack_node(words).is_ok()
 }
 
 /// Whether `words` are those of a leaf.
-fn is_leaf(words: &[u64; LEAF_FIELDS]) -> bool
+fn are_leaf_words(words: &[u64; LEAF_FIELDS]) -> bool
     ensures { (n : ℕ) → IsTrue result ↔ IsPacked (a_leaf n) words.now }
 {
     unpack_leaf(words).is_ok()

@@ -66,8 +66,8 @@ impl State {
         })
     }
 
-    /// Makes `event`, if it is legal; else the fault is `Illegal`. `Memory` if memory was refused, as it can be for a publish under its
-    /// lock. A fault changes nothing.
+    /// Makes `event` if it is legal, and returns Ok. `Illegal` if it isn't legal; `Memory` if memory was refused, which only a publish under
+    /// its lock takes. A fault changes nothing.
     pub fn step(&mut self, event: Event) -> Result<(), ReplayFault>
         ensures ok { OnOk result ((c : Core) → ∥ IsLawful c ∥₁ → IsStateOf self.old c
             → Legal c event.pass event.act × IsStateOf self.new (after c event.pass event.act)) }
@@ -79,7 +79,7 @@ impl State {
         if event.pass as usize >= self.passes.len() {
             return Err(ReplayFault::Illegal);
         }
-        match self.make(event.pass, event.act) {
+        match self.make_act(event.pass, event.act) {
             Ok(true) => Ok(()),
             Ok(false) => Err(ReplayFault::Illegal),
             Err(_) => Err(ReplayFault::Memory),
@@ -88,7 +88,7 @@ impl State {
 
     /// Makes the act `act` of `pass`, if it is legal, and returns whether it was; if not, nothing changes. An error, which changes
     /// nothing, if memory is refused.
-    fn make(&mut self, pass: u16, act: Act) -> Result<bool, AllocError>
+    fn make_act(&mut self, pass: u16, act: Act) -> Result<bool, AllocError>
         requires { pass < length self.old.passes }
         ensures ok { IfOk result (λ made. IsStepped made self.old self.new pass act) }
         ensures err { OnErr result (IsLockedPublish self.old pass act) }

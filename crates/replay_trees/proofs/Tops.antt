@@ -17,15 +17,15 @@ use Rattle.versions.proofs.Reading.{read_exact}
 use Rattle.rowex_core.specs.Cores.{heap_of}
 use Rattle.rowex_core.specs.Events.{tree_of}
 use Rattle.replay_trees.specs.declared.trees.Linked.{Linked}
-use Rattle.replay_trees.specs.Versions.{IsSpelled, IsReadVersion, read_item}
-use Rattle.replay_trees.specs.Parts.{ShowsPart, HasMarks, IsPartRead}
+use Rattle.replay_trees.specs.Versions.{IsSpelled, IsReadVersion, read_item, Table}
+use Rattle.replay_trees.specs.Parts.{ShowsPart, HasMarks, IsTreeRead}
 use Rattle.replay_trees.proofs.Shown.{from_start}
 
 -- Nothing is told yet.
-pub record IsEmpty (nodes leaves : List (List ℕ)) (linked : Linked) : Type 0 where
+pub record IsEmpty (table : Table) (linked : Linked) : Type 0 where
   pub no_items : linked.items.items ≡ []
-  pub nodes_are : linked.nodes.items ≡ replicate (length nodes) false
-  pub leaves_are : linked.leaves.items ≡ replicate (length leaves) false
+  pub nodes_are : linked.nodes.items ≡ replicate (length table.nodes) false
+  pub leaves_are : linked.leaves.items ≡ replicate (length table.leaves) false
 
 unmarked : (n m : ℕ) → get_or (replicate n false) m false ≡ true → ⊥
 unmarked n m e = go (cases_lt m n)
@@ -37,30 +37,30 @@ unmarked n m e = go (cases_lt m n)
 no_mark : (marks : List Bool) (n m : ℕ) → marks ≡ replicate n false → get_or marks m false ≡ true → ⊥
 no_mark marks n m i e = unmarked n m (subst (λ z. get_or z m false ≡ true) i e)
 
-pub empty_room : (nodes leaves : List (List ℕ)) (linked : Linked) → IsEmpty nodes leaves linked → HasMarks nodes leaves linked
-empty_room nodes leaves linked e = record {
-  all_nodes = ap length e.nodes_are ∙ length-replicate (length nodes) false;
-  all_leaves = ap length e.leaves_are ∙ length-replicate (length leaves) false;
+pub empty_room : (table : Table) (linked : Linked) → IsEmpty table linked → HasMarks table linked
+empty_room table linked e = record {
+  all_nodes = ap length e.nodes_are ∙ length-replicate (length table.nodes) false;
+  all_leaves = ap length e.leaves_are ∙ length-replicate (length table.leaves) false;
 }
 
 -- From an empty root nothing is linked.
-pub empty_read : (nodes leaves : List (List ℕ)) (words : Rec → List ℕ) (linked : Linked) → IsEmpty nodes leaves linked → IsReadVersion nodes leaves words None (Some linked)
-empty_read nodes leaves words linked e = (
+pub empty_read : (table : Table) (words : Rec → List ℕ) (linked : Linked) → IsEmpty table linked → IsReadVersion table words None (Some linked)
+empty_read table words linked e = (
   record { top = tt; tree = λ t i. absurd cc; spelled = λ r l. absurd l },
   record {
     items_are = ap (map read_item) e.no_items;
-    all_nodes = (empty_room nodes leaves linked e).all_nodes;
-    all_leaves = (empty_room nodes leaves linked e).all_leaves;
-    nodes_are = λ n. (no_mark linked.nodes.items (length nodes) n e.nodes_are, λ l. absurd l);
-    leaves_are = λ n. (no_mark linked.leaves.items (length leaves) n e.leaves_are, λ l. absurd l);
+    all_nodes = (empty_room table linked e).all_nodes;
+    all_leaves = (empty_room table linked e).all_leaves;
+    nodes_are = λ n. (no_mark linked.nodes.items (length table.nodes) n e.nodes_are, λ l. absurd l);
+    leaves_are = λ n. (no_mark linked.leaves.items (length table.leaves) n e.leaves_are, λ l. absurd l);
   },
 )
 
-module _ (nodes leaves : List (List ℕ)) (words : Rec → List ℕ) (e : Entry) where
-  read_of : (t : Tree) → ShowsPart nodes leaves words 0 (Place e) t → tree_of (heap_of words) (Some e) ≡ Some t
+module _ (table : Table) (words : Rec → List ℕ) (e : Entry) where
+  read_of : (t : Tree) → ShowsPart table words 0 (Place e) t → tree_of (heap_of words) (Some e) ≡ Some t
   read_of t part = read_exact (heap_of words) e t part.built part.shown part.subtrie_is
 
-  version_of : (o : Option Tree) (t : Tree) → o ≡ Some t → ShowsPart nodes leaves words 0 (Place e) t → IsTop (heap_of words) (Some e) o × ((u : Tree) → o ≡ Some u → IsTrie u × IsBuilt u) × ((r : Rec) → IsLinked o r → IsSpelled nodes leaves words r)
+  version_of : (o : Option Tree) (t : Tree) → o ≡ Some t → ShowsPart table words 0 (Place e) t → IsTop (heap_of words) (Some e) o × ((u : Tree) → o ≡ Some u → IsTrie u × IsBuilt u) × ((r : Rec) → IsLinked o r → IsSpelled table words r)
   version_of None t i part = absurd cc
   version_of (Some u) t i part =
       let s : t ≡ u = cc in (
@@ -76,7 +76,7 @@ module _ (nodes leaves : List (List ℕ)) (words : Rec → List ℕ) (e : Entry)
   from_none : (o : Option Tree) (t : Tree) (r : Rec) (before after : Bool) → o ≡ Some t → (before ≡ true → ⊥) → (after ≡ true) ↔ ((before ≡ true) ⊎ Links t r) → (after ≡ true) ↔ IsLinked o r
   from_none o t r before after i none f = (λ h. (linked_in o t r i).0 (elim (f.0 h) [ inl x ↦ absurd (none x) | inr x ↦ x ]), λ l. f.1 (inr ((linked_in o t r i).1 l)))
 
-  pub top_read : (old new : Linked) → IsEmpty nodes leaves old → HasMarks nodes leaves new → IsPartRead nodes leaves words 0 (Place e) true old new → IsReadVersion nodes leaves words (Some e) (Some new)
+  pub top_read : (old new : Linked) → IsEmpty table old → HasMarks table new → IsTreeRead (ShowsPart table words 0 (Place e)) true old new → IsReadVersion table words (Some e) (Some new)
   top_read old new empty room read =
       let t = read.0 in
       let i = read_of t read.1 in
@@ -86,16 +86,16 @@ module _ (nodes leaves : List (List ℕ)) (words : Rec → List ℕ) (e : Entry)
           items_are = read.2.items_are ∙ (ap (λ u. map read_item u ++ items t) empty.no_items ∙ sym (ap items_of i));
           all_nodes = room.all_nodes;
           all_leaves = room.all_leaves;
-          nodes_are = λ n. from_none (tree_of (heap_of words) (Some e)) t (a_node n) (get_or old.nodes.items n false) (get_or new.nodes.items n false) i (no_mark old.nodes.items (length nodes) n empty.nodes_are) (read.2.nodes_are n);
-          leaves_are = λ n. from_none (tree_of (heap_of words) (Some e)) t (a_leaf n) (get_or old.leaves.items n false) (get_or new.leaves.items n false) i (no_mark old.leaves.items (length leaves) n empty.leaves_are) (read.2.leaves_are n);
+          nodes_are = λ n. from_none (tree_of (heap_of words) (Some e)) t (a_node n) (get_or old.nodes.items n false) (get_or new.nodes.items n false) i (no_mark old.nodes.items (length table.nodes) n empty.nodes_are) (read.2.nodes_are n);
+          leaves_are = λ n. from_none (tree_of (heap_of words) (Some e)) t (a_leaf n) (get_or old.leaves.items n false) (get_or new.leaves.items n false) i (no_mark old.leaves.items (length table.leaves) n empty.leaves_are) (read.2.leaves_are n);
         },
       )
 
-  part_of : (o : Option Tree) → IsTop (heap_of words) (Some e) o → ((u : Tree) → o ≡ Some u → IsTrie u × IsBuilt u) → ((r : Rec) → IsLinked o r → IsSpelled nodes leaves words r) →
-      (t : Tree) × ShowsPart nodes leaves words 0 (Place e) t
+  part_of : (o : Option Tree) → IsTop (heap_of words) (Some e) o → ((u : Tree) → o ≡ Some u → IsTrie u × IsBuilt u) → ((r : Rec) → IsLinked o r → IsSpelled table words r) →
+      (t : Tree) × ShowsPart table words 0 (Place e) t
   part_of None top tree spelled = absurd top
   part_of (Some t) top tree spelled =
       (t, record { subtrie_is = top.0; shown = top.1; local = local_if_trie t (tree t refl).0; built = (tree t refl).1; from = from_start t; spelled = spelled })
 
-  pub top_none : (old new : Linked) → IsPartRead nodes leaves words 0 (Place e) false old new → IsReadVersion nodes leaves words (Some e) None
+  pub top_none : (old new : Linked) → IsTreeRead (ShowsPart table words 0 (Place e)) false old new → IsReadVersion table words (Some e) None
   top_none old new read m = let p = part_of (tree_of (heap_of words) (Some e)) m.top m.tree m.spelled in read p.0 p.1

@@ -1,11 +1,6 @@
 -- The parts of a lawful tree, and what reading one leaves.
 use Rattle.std.specs.Prelude.{◌≡◌, ◌⊎◌, ◌↔◌, ℕ, ◌<◌, ◌≤◌, List, [], ◌∷◌, ◌++◌, length, map, slice_index_or, slice_set, Option, Some, None, Bool, true, false}
 use Rattle.compound_node.specs.Nodes.{NodeView}
-use Rattle.compound_node.specs.Halves.{CutShows, HalfShows}
-use Rattle.compound_node.specs.declared.entries.Entry.{Entry}
-use Rattle.compound_node.specs.declared.halves.Cut.{Cut}
-use Rattle.compound_node.specs.declared.halves.Half.{Half}
-use Rattle.pieces.specs.Piece.{Place}
 use Rattle.record_words.specs.Node.{HasNodeWords, node_words}
 use Rattle.record_words.specs.Leaf.{HasLeafWords, leaf_words, up_to_key}
 use Rattle.tries.specs.Tree.{Subtrie, Tree, leaf, node, fork, subtrie, IsBuilt}
@@ -16,7 +11,12 @@ use Rattle.versions.specs.Heap.{IsShown}
 use Rattle.versions.specs.State.{Links}
 use Rattle.rowex_core.specs.Cores.{heap_of}
 use Rattle.replay_trees.specs.declared.trees.Linked.{Linked}
-use Rattle.replay_trees.specs.Versions.{AreWordsOf, IsSpelled, read_item}
+use Rattle.replay_trees.specs.declared.parts.Records.{Records}
+use Rattle.replay_trees.specs.Versions.{AreWordsOf, IsSpelled, Table, read_item}
+
+-- the table whose words these are
+abbrev pub table_of : Records → Table
+table_of records = record { nodes = records.nodes.now; leaves = records.leaves.now }
 
 -- the tree's first fork is at `least` or later; a leaf has none
 abbrev pub IsForkedFrom : ℕ → Tree → Type 0
@@ -25,18 +25,18 @@ IsForkedFrom least (node n x b) = IsForkedFrom least b
 IsForkedFrom least (fork p a b) = least ≤ p
 
 -- The words show a lawful tree for the subtrie, of records of the table that spell values.
-pub record ShowsPart (nodes leaves : List (List ℕ)) (words : Rec → List ℕ) (least : ℕ) (p : Subtrie) (t : Tree) : Type 0 where
+pub record ShowsPart (table : Table) (words : Rec → List ℕ) (least : ℕ) (p : Subtrie) (t : Tree) : Type 0 where
   pub subtrie_is : subtrie t ≡ p
   pub shown : IsShown (heap_of words) t
   pub local : IsLocal t
   pub built : IsBuilt t
   pub from : IsForkedFrom least t
-  pub spelled : (r : Rec) → Links t r → IsSpelled nodes leaves words r
+  pub spelled : (r : Rec) → Links t r → IsSpelled table words r
 
 -- there is a mark for each record of the table
-pub record HasMarks (nodes leaves : List (List ℕ)) (linked : Linked) : Type 0 where
-  pub all_nodes : length linked.nodes.items ≡ length nodes
-  pub all_leaves : length linked.leaves.items ≡ length leaves
+pub record HasMarks (table : Table) (linked : Linked) : Type 0 where
+  pub all_nodes : length linked.nodes.items ≡ length table.nodes
+  pub all_leaves : length linked.leaves.items ≡ length table.leaves
 
 -- What is told grows by what a tree links.
 pub record GrowsBy (t : Tree) (old new : Linked) : Type 0 where
@@ -44,26 +44,18 @@ pub record GrowsBy (t : Tree) (old new : Linked) : Type 0 where
   pub nodes_are : (n : ℕ) → (slice_index_or new.nodes.items n false ≡ true) ↔ ((slice_index_or old.nodes.items n false ≡ true) ⊎ Links t (a_node n))
   pub leaves_are : (n : ℕ) → (slice_index_or new.leaves.items n false ≡ true) ↔ ((slice_index_or old.leaves.items n false ≡ true) ⊎ Links t (a_leaf n))
 
--- A part was read exactly where the words show one.
-abbrev pub IsPartRead : List (List ℕ) → List (List ℕ) → (Rec → List ℕ) → ℕ → Subtrie → Bool → Linked → Linked → Type 0
-IsPartRead nodes leaves words least p true old new = (t : Tree) × ShowsPart nodes leaves words least p t × GrowsBy t old new
-IsPartRead nodes leaves words least p false old new = (t : Tree) → ¬ (ShowsPart nodes leaves words least p t)
+-- A tree of which this holds was read, exactly where there is one; and what is told has grown by it.
+abbrev pub IsTreeRead : (Tree → Type 0) → Bool → Linked → Linked → Type 0
+IsTreeRead shows true old new = (t : Tree) × shows t × GrowsBy t old new
+IsTreeRead shows false old new = (t : Tree) → ¬ (shows t)
 
--- So it is for all words that the records of the table may be part of: of an entry, of a half, of a cut.
-abbrev pub IsEntryRead : List (List ℕ) → List (List ℕ) → ℕ → Entry → Bool → Linked → Linked → Type 0
-IsEntryRead nodes leaves least e good old new = (words : Rec → List ℕ) → AreWordsOf nodes leaves words → IsPartRead nodes leaves words least (Place e) good old new
-
-abbrev pub IsHalfRead : List (List ℕ) → List (List ℕ) → ℕ → Half → Bool → Linked → Linked → Type 0
-IsHalfRead nodes leaves least half good old new =
-    (words : Rec → List ℕ) → AreWordsOf nodes leaves words → (p : Subtrie) → HalfShows half p → IsPartRead nodes leaves words least p good old new
-
-abbrev pub IsCutRead : List (List ℕ) → List (List ℕ) → ℕ → Cut → Bool → Linked → Linked → Type 0
-IsCutRead nodes leaves least cut good old new =
-    (words : Rec → List ℕ) → AreWordsOf nodes leaves words → (p : Subtrie) → CutShows cut p → IsPartRead nodes leaves words least p good old new
+-- So a part was read, of a subtrie for which that holds, in whichever words the words of the table's records may be.
+abbrev pub IsPartRead : Table → ℕ → (Subtrie → Type 0) → Bool → Linked → Linked → Type 0
+IsPartRead table least is good old new = (words : Rec → List ℕ) → AreWordsOf table words → (p : Subtrie) → is p → IsTreeRead (ShowsPart table words least p) good old new
 
 -- There is a mark for each record still, and of a part that was read one leaf more is told, or several.
-pub record HasGrown (nodes leaves : List (List ℕ)) (good : Bool) (old new : Linked) : Type 0 where
-  pub room : HasMarks nodes leaves new
+pub record HasGrown (table : Table) (good : Bool) (old new : Linked) : Type 0 where
+  pub room : HasMarks table new
   pub longer : good ≡ true → length old.items.items < length new.items.items
 
 -- a record of the table whose words up to the end of its key spell this leaf

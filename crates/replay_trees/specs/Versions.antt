@@ -13,41 +13,46 @@ use Rattle.rowex_core.specs.Events.{tree_of}
 use Rattle.replay_trees.specs.declared.trees.Item.{Item as ReadItem}
 use Rattle.replay_trees.specs.declared.trees.Linked.{Linked}
 
--- the words of the records of the table are these
-pub record AreWordsOf (nodes leaves : List (List ℕ)) (words : Rec → List ℕ) : Type 0 where
-  pub nodes_are : (n : ℕ) → n < length nodes → words (a_node n) ≡ slice_index_or nodes n []
-  pub leaves_are : (n : ℕ) → n < length leaves → words (a_leaf n) ≡ slice_index_or leaves n []
+-- of each node record and of each leaf record its words from offset 1 on
+pub record Table : Type 0 where
+  pub nodes : List (List ℕ)
+  pub leaves : List (List ℕ)
 
-abbrev pub HasRecordIn : List (List ℕ) → List (List ℕ) → Rec → Type 0
-HasRecordIn nodes leaves (a_node n) = n < length nodes
-HasRecordIn nodes leaves (a_leaf n) = n < length leaves
+-- the words of the records of the table are these
+pub record AreWordsOf (table : Table) (words : Rec → List ℕ) : Type 0 where
+  pub nodes_are : (n : ℕ) → n < length table.nodes → words (a_node n) ≡ slice_index_or table.nodes n []
+  pub leaves_are : (n : ℕ) → n < length table.leaves → words (a_leaf n) ≡ slice_index_or table.leaves n []
+
+abbrev pub HasRecordIn : Table → Rec → Type 0
+HasRecordIn table (a_node n) = n < length table.nodes
+HasRecordIn table (a_leaf n) = n < length table.leaves
 
 -- the record is in the table, and its words spell a value
-abbrev pub IsSpelled : List (List ℕ) → List (List ℕ) → (Rec → List ℕ) → Rec → Type 0
-IsSpelled nodes leaves words r = HasRecordIn nodes leaves r × IsPacked r (words r)
+abbrev pub IsSpelled : Table → (Rec → List ℕ) → Rec → Type 0
+IsSpelled table words r = HasRecordIn table r × IsPacked r (words r)
 
 -- The words show a lawful tree from this root, or none where the root is empty, and each record that it links is spelled.
-pub record IsVersion (nodes leaves : List (List ℕ)) (words : Rec → List ℕ) (root : Option Entry) : Type 0 where
+pub record IsVersion (table : Table) (words : Rec → List ℕ) (root : Option Entry) : Type 0 where
   pub top : IsTop (heap_of words) root (tree_of (heap_of words) root)
   pub tree : (t : Tree) → tree_of (heap_of words) root ≡ Some t → IsTrie t × IsBuilt t
-  pub spelled : (r : Rec) → IsLinked (tree_of (heap_of words) root) r → IsSpelled nodes leaves words r
+  pub spelled : (r : Rec) → IsLinked (tree_of (heap_of words) root) r → IsSpelled table words r
 
 abbrev pub read_item : ReadItem → Item
 read_item x = record { number = x.number; key = x.key; value = x.value }
 
 -- What is told of a tree: its leaves in order, and of each record of the table whether the tree links it.
-pub record Tells (nodes leaves : List (List ℕ)) (t : Option Tree) (linked : Linked) : Type 0 where
+pub record Tells (table : Table) (t : Option Tree) (linked : Linked) : Type 0 where
   pub items_are : map read_item linked.items.items ≡ items_of t
-  pub all_nodes : length linked.nodes.items ≡ length nodes
-  pub all_leaves : length linked.leaves.items ≡ length leaves
+  pub all_nodes : length linked.nodes.items ≡ length table.nodes
+  pub all_leaves : length linked.leaves.items ≡ length table.leaves
   pub nodes_are : (n : ℕ) → (slice_index_or linked.nodes.items n false ≡ true) ↔ IsLinked t (a_node n)
   pub leaves_are : (n : ℕ) → (slice_index_or linked.leaves.items n false ≡ true) ↔ IsLinked t (a_leaf n)
 
 -- Something is told exactly of a lawful version.
-abbrev pub IsReadVersion : List (List ℕ) → List (List ℕ) → (Rec → List ℕ) → Option Entry → Option Linked → Type 0
-IsReadVersion nodes leaves words root None = ¬ (IsVersion nodes leaves words root)
-IsReadVersion nodes leaves words root (Some linked) = IsVersion nodes leaves words root × Tells nodes leaves (tree_of (heap_of words) root) linked
+abbrev pub IsReadVersion : Table → (Rec → List ℕ) → Option Entry → Option Linked → Type 0
+IsReadVersion table words root None = ¬ (IsVersion table words root)
+IsReadVersion table words root (Some linked) = IsVersion table words root × Tells table (tree_of (heap_of words) root) linked
 
 -- So it is for all words that the records of the table may be part of.
-abbrev pub IsToldVersion : List (List ℕ) → List (List ℕ) → Option Entry → Option Linked → Type 0
-IsToldVersion nodes leaves root linked = (words : Rec → List ℕ) → AreWordsOf nodes leaves words → IsReadVersion nodes leaves words root linked
+abbrev pub IsToldVersion : Table → Option Entry → Option Linked → Type 0
+IsToldVersion table root linked = (words : Rec → List ℕ) → AreWordsOf table words → IsReadVersion table words root linked

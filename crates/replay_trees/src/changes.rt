@@ -15,12 +15,12 @@ use std::cmp::Ordering;
 pub fn change_between(pass: u16, before: &[Item], after: &[Item]) -> Option<Change>
     ensures { AreSame (map read_item before.now) (map read_item after.now) → IsFoundChange pass (map read_item before.now) (map read_item after.now) result }
 {
-    let front = same_front(before, after);
-    change_at(pass, &before[front..], &after[front..])
+    let front = count_common(before, after);
+    change_at_front(pass, &before[front..], &after[front..])
 }
 
 /// As `change_between`, of lists `gone` and `come` whose first leaves are not the same.
-fn change_at(pass: u16, gone: &[Item], come: &[Item]) -> Option<Change>
+fn change_at_front(pass: u16, gone: &[Item], come: &[Item]) -> Option<Change>
     requires { BeginApart (map read_item gone.now) (map read_item come.now) }
     ensures { AreSame (map read_item gone.now) (map read_item come.now) → IsFoundChange pass (map read_item gone.now) (map read_item come.now) result }
 {
@@ -36,7 +36,7 @@ fn change_at(pass: u16, gone: &[Item], come: &[Item]) -> Option<Change>
     }
 }
 
-/// The change of the kind `kind` that `item` tells, if the other leaves, `before` and `after`, are the same; else `None`.
+/// The change of `pass` that `item` and `kind` tell, if the other leaves are the same `before` and `after`; else `None`.
 fn make_change(
     pass: u16,
     item: &Item,
@@ -46,7 +46,7 @@ fn make_change(
 ) -> Option<Change>
     ensures { IsMade (map read_item before.now) (map read_item after.now) (record { pass = pass; key = item.now.key; value = item.now.value; kind = kind }) result }
 {
-    if before.len() == after.len() && same_front(before, after) == before.len() {
+    if before.len() == after.len() && count_common(before, after) == before.len() {
         Some(Change {
             pass,
             key: item.key.copy(),
@@ -58,8 +58,8 @@ fn make_change(
     }
 }
 
-/// How many leaves `before` and `after` have in common before they differ.
-fn same_front(before: &[Item], after: &[Item]) -> usize
+/// How many leaves `before` and `after` have in common at their front. Leaves of one number are one leaf.
+fn count_common(before: &[Item], after: &[Item]) -> usize
     ensures within { result ≤ length before.now }
     ensures within_both { result ≤ length after.now }
     ensures same { (k : ℕ) → k < result → slice_index (numbers (map read_item before.now)) k ≡ slice_index (numbers (map read_item after.now)) k }

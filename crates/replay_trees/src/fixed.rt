@@ -31,22 +31,22 @@ impl Fixed {
         if meta >= 1 << 32 || column_count > 31 {
             return Err(WordFault::Bad);
         }
-        let positions = positions_of_words(&words[1..9]);
+        let positions = unpack_positions(&words[1..9]);
         let (used, unused) = positions.split_at(column_count as usize);
-        if !is_unused(unused) {
+        if !are_unused(unused) {
             return Err(WordFault::Bad);
         }
         Ok(Fixed {
             count: (meta % 256) as u8,
             height: (meta / 65_536) as u16,
             columns: copy_columns(used),
-            sparse: rows_of_words(&words[9..HEAD_WORDS]),
+            sparse: unpack_rows(&words[9..HEAD_WORDS]),
         })
     }
 }
 
 /// The 32 positions in `words`, four in each, the first in its lowest bits.
-fn positions_of_words(words: &[u64]) -> [u16; 32]
+fn unpack_positions(words: &[u64]) -> [u16; 32]
     requires { length words.now ≡ 8 }
     ensures { ArePositionsOf result words.now }
 {
@@ -58,7 +58,7 @@ fn positions_of_words(words: &[u64]) -> [u16; 32]
 }
 
 /// The 32 sparse partial keys in `words`, two in each, the first in its low half.
-fn rows_of_words(words: &[u64]) -> [u32; 32]
+fn unpack_rows(words: &[u64]) -> [u32; 32]
     requires { length words.now ≡ 16 }
     ensures { AreRowsOf result words.now }
 {
@@ -70,7 +70,7 @@ fn rows_of_words(words: &[u64]) -> [u32; 32]
 }
 
 /// Whether each of `positions` is 65,535, which is that of no column.
-fn is_unused(positions: &[u16]) -> bool
+fn are_unused(positions: &[u16]) -> bool
     ensures { IsTrue result ↔ EachIndex positions.now (λ i. slice_index positions.now i ≡ 65535) }
 {
     positions.iter().all(|position| *position == u16::MAX)

@@ -17,17 +17,17 @@ pub fn unpack_leaf(words: &[u64; LEAF_FIELDS]) -> Result<(Key, u64), WordFault>
     if words[1] > MAX_BYTES as u64 {
         return Err(WordFault::Bad);
     }
-    unpack_with(words, &bytes_of_words(words))
+    unpack_with_bytes(words, &unpack_bytes(words))
 }
 
 /// The key and the value of a leaf with `words`, where those of its key have `bytes`. `WordFault::Bad` if a byte behind the key isn't 0.
-fn unpack_with(words: &[u64; LEAF_FIELDS], bytes: &[u8]) -> Result<(Key, u64), WordFault>
+fn unpack_with_bytes(words: &[u64; LEAF_FIELDS], bytes: &[u8]) -> Result<(Key, u64), WordFault>
     requires short { slice_index words.now 1 ≤ MAX_BYTES }
     requires spelled { IsBytesOf bytes.now (take KEY_WORDS (drop 2 (up_to_key words.now))) }
     ensures { IsReading HasLeafWords leaf_words (up_to_key words.now) result }
 {
     let (key, unused) = bytes.split_at(words[1] as usize);
-    if !is_zero(unused) {
+    if !are_zero(unused) {
         return Err(WordFault::Bad);
     }
     match Key::from_bytes(key) {
@@ -37,14 +37,14 @@ fn unpack_with(words: &[u64; LEAF_FIELDS], bytes: &[u8]) -> Result<(Key, u64), W
 }
 
 /// Whether all of `bytes` are 0.
-fn is_zero(bytes: &[u8]) -> bool
+fn are_zero(bytes: &[u8]) -> bool
     ensures { IsTrue result ↔ EachIndex bytes.now (λ i. slice_index bytes.now i ≡ 0) }
 {
     bytes.iter().all(|byte| *byte == 0)
 }
 
-/// The bytes of a leaf's words, up to the word with the end of its key, and 0 behind these.
-fn bytes_of_words(words: &[u64; LEAF_FIELDS]) -> [u8; MAX_BYTES]
+/// The bytes in a leaf's words, up to the word in which its key ends, and 0 behind these.
+fn unpack_bytes(words: &[u64; LEAF_FIELDS]) -> [u8; MAX_BYTES]
     requires { slice_index words.now 1 ≤ MAX_BYTES }
     ensures { IsBytesOf result (take KEY_WORDS (drop 2 (up_to_key words.now))) }
 {

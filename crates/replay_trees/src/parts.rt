@@ -2,7 +2,9 @@
 
 ghost use Rattle.std.specs.Prelude.{IfOk, IsTrue, length, ◌≡◌, ◌↔◌};
 ghost use Rattle.tries.specs.Keys.{IsParted};
-ghost use Rattle.replay_trees.specs.Parts.{HasGrown, HasMarks, IsCutRead, IsEntryRead, IsHalfRead, AddsLeaf, IsNodeAt};
+ghost use Rattle.compound_node.specs.Halves.{CutShows, HalfShows};
+ghost use Rattle.pieces.specs.Piece.{Place};
+ghost use Rattle.replay_trees.specs.Parts.{AddsLeaf, HasGrown, HasMarks, IsNodeAt, IsPartRead, table_of};
 
 use crate::leaf::unpack_leaf;
 use crate::node::unpack_node;
@@ -20,7 +22,7 @@ pub(crate) struct Records<'a> {
 }
 
 /// Reads what stands below `entry`, adds what it links to `linked`, and returns whether it is lawful, with no fork before position
-/// `least`. An error if memory is refused.
+/// `least`. If it isn't, or memory is refused, which is an error, `linked` may have grown in part.
 #[cycle(reading)]
 pub(crate) fn read_entry(
     records: Records,
@@ -28,9 +30,9 @@ pub(crate) fn read_entry(
     entry: Entry,
     linked: &mut Linked,
 ) -> Result<bool, AllocError>
-    requires { HasMarks records.nodes.now records.leaves.now linked.old }
-    ensures grown { IfOk result (λ good. HasGrown records.entry.nodes.now records.entry.leaves.now good linked.old linked.new) }
-    ensures read { IfOk result (λ good. IsEntryRead records.entry.nodes.now records.entry.leaves.now least entry good linked.old linked.new) }
+    requires { HasMarks (table_of records) linked.old }
+    ensures grown { IfOk result (λ good. HasGrown (table_of records.entry) good linked.old linked.new) }
+    ensures read { IfOk result (λ good. IsPartRead (table_of records.entry) least (λ p. p ≡ Place entry) good linked.old linked.new) }
 {
     match entry {
         Entry::Leaf(number) => read_leaf(records.leaves, number, linked),
@@ -56,9 +58,9 @@ fn read_half(
     half: Half,
     linked: &mut Linked,
 ) -> Result<bool, AllocError>
-    requires { HasMarks records.nodes.now records.leaves.now linked.old }
-    ensures grown { IfOk result (λ good. HasGrown records.entry.nodes.now records.entry.leaves.now good linked.old linked.new) }
-    ensures read { IfOk result (λ good. IsHalfRead records.entry.nodes.now records.entry.leaves.now least half good linked.old linked.new) }
+    requires { HasMarks (table_of records) linked.old }
+    ensures grown { IfOk result (λ good. HasGrown (table_of records.entry) good linked.old linked.new) }
+    ensures read { IfOk result (λ good. IsPartRead (table_of records.entry) least (HalfShows half) good linked.old linked.new) }
 {
     match half {
         Half::One(entry) => read_entry(records, least, entry, linked),
@@ -70,9 +72,9 @@ fn read_half(
 /// As `read_entry`, of `cut`, a node's root fork and its two sides.
 #[cycle(reading)]
 fn read_cut(records: Records, least: u32, cut: Cut, linked: &mut Linked) -> Result<bool, AllocError>
-    requires { HasMarks records.nodes.now records.leaves.now linked.old }
-    ensures grown { IfOk result (λ good. HasGrown records.entry.nodes.now records.entry.leaves.now good linked.old linked.new) }
-    ensures read { IfOk result (λ good. IsCutRead records.entry.nodes.now records.entry.leaves.now least cut good linked.old linked.new) }
+    requires { HasMarks (table_of records) linked.old }
+    ensures grown { IfOk result (λ good. HasGrown (table_of records.entry) good linked.old linked.new) }
+    ensures read { IfOk result (λ good. IsPartRead (table_of records.entry) least (CutShows cut) good linked.old linked.new) }
 {
     let position = cut.position;
     if u32::from(position) < least {
@@ -89,8 +91,8 @@ fn read_cut(records: Records, least: u32, cut: Cut, linked: &mut Linked) -> Resu
     Ok(are_parted(position, &linked.items[zero].key, &linked.items[one].key))
 }
 
-/// Adds leaf record `number` to `linked`, and returns `true`; `false` if the table has no such record, or its words spell no value. An
-/// error if memory is refused.
+/// Adds leaf record `number` of `leaves` to `linked`, and returns `true`. `false`, and nothing is added, if the table has no such record or
+/// its words spell no value. An error if memory is refused.
 fn read_leaf(
     leaves: &[[u64; LEAF_FIELDS]],
     number: u32,

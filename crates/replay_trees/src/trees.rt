@@ -37,12 +37,12 @@ pub fn read_tree(
     leaves: &[[u64; LEAF_FIELDS]],
     root: Option<Entry>,
 ) -> Result<Option<Linked>, AllocError>
-    ensures { IfOk result (λ linked. IsToldVersion nodes.now leaves.now root linked) }
+    ensures { IfOk result (λ linked. IsToldVersion (record { nodes = nodes.now; leaves = leaves.now }) root linked) }
 {
     let mut linked = Linked {
         items: Vec::new(alloc),
-        nodes: marks(alloc, nodes.len())?,
-        leaves: marks(alloc, leaves.len())?,
+        nodes: unset_marks(alloc, nodes.len())?,
+        leaves: unset_marks(alloc, leaves.len())?,
     };
     if let Some(entry) = root {
         if !read_entry(Records { nodes, leaves }, 0, entry, &mut linked)? {
@@ -53,7 +53,7 @@ pub fn read_tree(
 }
 
 /// A list of `count` marks, none of them set; an error if memory is refused.
-fn marks(alloc: Global, count: usize) -> Result<Vec<bool>, AllocError>
+fn unset_marks(alloc: Global, count: usize) -> Result<Vec<bool>, AllocError>
     ensures { IfOk result (λ marks. marks.items ≡ replicate count false) }
 {
     let mut marks = Vec::new(alloc);

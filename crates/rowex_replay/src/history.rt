@@ -33,8 +33,8 @@ impl History {
         History {}
     }
 
-    /// The history with `_event` behind it.
-    pub(crate) fn then(&self, _event: &Event) -> History
+    /// The history with `_event` appended.
+    pub(crate) fn append(&self, _event: &Event) -> History
         ensures { result.run ≡ with_event self.now.run _event.now }
     {
         History {}

@@ -49,10 +49,10 @@ impl Replay {
         })
     }
 
-    /// Makes `event`, if it is legal where the run so far leads.
+    /// Makes `event` if it is legal where the run so far leads.
     ///
-    /// Ok exactly where it is, and `Illegal` exactly where it is not. But a publish under the lock of its word is refused by `Memory`
-    /// where a growth is. Either refusal changes nothing.
+    /// Ok if it is legal, and `Illegal` if it isn't. `Memory` if memory was refused, which only a publish under the lock of its word takes.
+    /// A refusal changes nothing.
     pub fn step(&mut self, event: Event) -> Result<(), ReplayFault>
         ensures ok { OnOk result (Legal (core_of self.old) event.pass event.act × (self.new ≡ with_event self.old event)) }
         ensures illegal { result ≡ Err ReplayFault.Illegal → ¬ Legal (core_of self.old) event.pass event.act }
@@ -60,7 +60,7 @@ impl Replay {
         ensures refused { OnErr result (self.new ≡ self.old) }
     {
         self.state.step(event)?;
-        self.history = self.history.then(&event);
+        self.history = self.history.append(&event);
         Ok(())
     }
 

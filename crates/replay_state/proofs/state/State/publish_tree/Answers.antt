@@ -29,9 +29,9 @@ returns-in_default-change_between-clause-ok c = rw (sym c.self.view_is) (
 pub returns-clause-ok : goal.returns-clause-ok
 returns-clause-ok c =
     let long : c.len-now.result ≡ length c.self.inside.changes.items = omega (arith, c.len-now.ensures, c.self.inside.changes.ok.0) in
-    rw (sym c.self.view_is, c.in_ok-push.ensures.items) (publishes _ c.args.pass c.args.root c.in-Some.linked c.in-Some-change_between.change c.len-now.result c.link.new.self
+    rw (sym c.self.view_is, c.in_ok-push.ensures.items) (publishes _ c.args.pass c.args.root c.in-Some.linked c.in-Some-change_between.change c.len-now.result c.update_fates.new.self
     (read_is _ _ _ _ c.args.root c.in_ok-linked.field-0 (Some c.in-Some.linked) c.nodes-nodes.ensures c.leaves-leaves.ensures c.in-Some.is c.in_ok-linked.ensures)
     (rw (c.deref.ensures.value, c.deref-2.ensures.value) at (c.may_link.ensures.0 c.if-not-may_link.false))
     (found_is c.args.pass _ _ _ _ c.change_between.result (Some c.in-Some-change_between.change) c.as_slice-before.ensures.value c.as_slice-after.ensures.value c.in-Some-change_between.is c.change_between.ensures)
     long
-    (next_of _ _ _ _ _ _ _ _ c.deref-3.ensures.value c.deref-4.ensures.value c.link.ensures))
+    (next_of _ _ _ _ _ _ _ _ c.deref-3.ensures.value c.deref-4.ensures.value c.update_fates.ensures))

@@ -1,7 +1,7 @@
 -- The rows are the halves of the words.
 use Rattle.std.proofs.Common.{arith}
 use Rattle.record_words.proofs.Packings.{rows_from_parts}
-use Rattle.replay_trees.proofs.fixed.rows_of_words.Goals as goal
+use Rattle.replay_trees.proofs.fixed.unpack_rows.Goals as goal
 
 pub returns : goal.returns
 returns c =

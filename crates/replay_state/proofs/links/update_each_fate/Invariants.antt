@@ -1,9 +1,9 @@
--- What stays true in the loop of `link_all`.
+-- What stays true in the loop of `update_each_fate`.
 use Rattle.std.proofs.Common.{◌≡◌, ℕ, ◌<◌, ◌≤◌, get_or, slice_get, false, Some}
 use Rattle.versions.specs.Steps.{next_fate}
 use Rattle.replay_state.specs.declared.fate.Fate.{Fate}
 use Rattle.replay_state.specs.Fates.{stored_fate}
-use Rattle.replay_state.proofs.links.link_all.Given as goal
+use Rattle.replay_state.proofs.links.update_each_fate.Given as goal
 
 abbrev pub invariant-loop-i : goal.invariant-loop-i
 invariant-loop-i l = record {

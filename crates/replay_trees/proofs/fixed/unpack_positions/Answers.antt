@@ -1,7 +1,7 @@
 -- The positions are the parts of the words.
 use Rattle.std.proofs.Common.{arith}
 use Rattle.record_words.proofs.Packings.{positions_from_parts}
-use Rattle.replay_trees.proofs.fixed.positions_of_words.Goals as goal
+use Rattle.replay_trees.proofs.fixed.unpack_positions.Goals as goal
 
 pub returns : goal.returns
 returns c =
