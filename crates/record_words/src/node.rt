@@ -66,7 +66,7 @@ pub fn can_take_leaf(words: &[u64; NODE_FIELDS]) -> bool
 }
 
 /// Changes `words`, those of a node, to those of the node with the leaf of record `leaf`, for which it has room. A new fork at `position`
-/// stands over the slots from `first` to `last`, which are affected. The leaf stands straight after them if `bit` is 1, else straight
+/// stands over the slots from `first` to `last`, which are affected. The leaf stands straight after them if `bit` is true, else straight
 /// before.
 pub fn add_leaf(
     words: &mut [u64; NODE_FIELDS],
