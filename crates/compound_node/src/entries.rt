@@ -21,7 +21,7 @@ impl Default for Entry {
 
     ghost is_default = { λ entry. entry ≡ LeafEntry 0 };
 
-    /// The leaf of record 0, for the unused places of a list.
+    /// The leaf of record 0. It fills a list behind its last entry.
     fn default() -> Self {
         Entry::Leaf(0)
     }

@@ -152,7 +152,7 @@ impl Node {
         self.head.copy()
     }
 
-    /// The node without its entries, in its place.
+    /// The node without its entries, not copied.
     pub fn as_head(&self) -> &Head
         ensures { result.now ≡ head_of self.now }
     {
@@ -197,7 +197,7 @@ impl Node {
         let before = self.row(at.saturating_sub(1));
         let (own, after, second) = (self.row(at), self.row(at + 1), self.row(at + 2));
         match place_beside(at, before, own, after, second) {
-            Some((place, column)) => Some((place, columns.position(column))),
+            Some((slot, column)) => Some((slot, columns.position(column))),
             None => None,
         }
     }

@@ -327,7 +327,7 @@ pub(crate) fn remove_row(rows: &mut [u32; 32], count: usize, at: usize)
     remove_in(rows, count, at, u32::MAX);
 }
 
-// ---- the place beside one
+// ---- the sibling of a slot
 
 /// The column of the fork between `row` and the row before, counted from 1. It is 0 for the first row, and for an unused slot's.
 fn fork_column(row: u32) -> u8
