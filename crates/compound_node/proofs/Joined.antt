@@ -1,5 +1,6 @@
 -- Two nodes under one fork.
-use Rattle.std.proofs.Common.{Bool, List, arith, bit_or, eqb, false, get_or, length, length-append, map, refl, subst, sym, take, true, ℕ, ⊎_elim, ◌++◌, ◌+◌, ◌<◌, ◌||◌, ◌∙◌, ◌∷◌, ◌≡◌, ◌≤◌}
+use Rattle.std.proofs.Common.{Bool, List, ap, arith, bit_or, eqb, get_or, length, length-append, map, refl, subst, sym, take, true, ℕ, ⊎_elim, ◌++◌, ◌+◌, ◌<◌, ◌||◌, ◌∙◌, ◌∷◌, ◌≡◌, ◌≤◌}
+use Rattle.std.proofs.Math.Bool.{or_assoc, or_comm}
 use Rattle.std.proofs.lemmas.Bool.{eq-eqb, or_cases, or_left, or_right}
 use Rattle.std.proofs.lemmas.List.{take_at}
 use Rattle.std.proofs.lemmas.List.Elements.{All-append}
@@ -28,14 +29,7 @@ root_after low first (Place x) root rises = elim root [ ]
 root_after low first (Fork p a b) root rises = let k : low < p + 1 = rises.0 in let e : first ≡ p = root in omega arith
 
 turned : (x y z : Bool) → (x || (y || z)) ≡ (z || (y || x))
-turned true true true = refl
-turned true true false = refl
-turned true false true = refl
-turned true false false = refl
-turned false true true = refl
-turned false true false = refl
-turned false false true = refl
-turned false false false = refl
+turned x y z = or_comm x (y || z) ∙ ap (λ b. b || x) (or_comm y z) ∙ or_assoc z y x
 
 module _ (p : ℕ) (zero one : NodeView) (zero_lawful : IsLawfulNode zero) (one_lawful : IsLawfulNode one) (after : RisesFrom 0 (Fork p (piece zero) (piece one))) where
   -- the fork's position is one that a column may have

@@ -21,7 +21,7 @@ impl Default for Entry {
 
     ghost is_default = { λ entry. entry ≡ LeafEntry 0 };
 
-    /// The leaf of record 0, for the unused places of a list.
+    /// The leaf of record 0. It fills a list behind its last entry.
     fn default() -> Self {
         Entry::Leaf(0)
     }
@@ -89,17 +89,17 @@ pub(crate) fn all_stand_below(entries: &[Entry], height: u16) -> bool
     true
 }
 
-/// The list of `entries`, 32 at most.
-pub(crate) fn list_entries(entries: &[Entry]) -> ArrayVec<Entry, 32>
-    requires { length entries.now ≤ 32 }
-    ensures { result.items ≡ entries.now }
+/// The list of `items`, 32 at most.
+pub(crate) fn list_all<T: Copy + Default + Drop>(items: &[T]) -> ArrayVec<T, 32>
+    requires { length items.now ≤ 32 }
+    ensures { result.items ≡ items.now }
 {
     let mut list = ArrayVec::new();
-    append_entries(&mut list, entries);
+    append_all(&mut list, items);
     list
 }
 
-/// Puts `entry` into `entries`: straight after slot `last` if `bit` is 1, else straight before slot `first`.
+/// Puts `entry` into `entries`: straight after slot `last` if `bit` is true, else straight before slot `first`.
 pub(crate) fn insert_beside(
     entries: &mut ArrayVec<Entry, 32>,
     first: usize,
@@ -123,8 +123,8 @@ pub(crate) fn list_without(entries: &[Entry], at: usize) -> ArrayVec<Entry, 32>
     ensures { result.items ≡ remove entries.now at }
 {
     let mut list = ArrayVec::new();
-    append_entries(&mut list, &entries[..at]);
-    append_entries(&mut list, &entries[at + 1..]);
+    append_all(&mut list, &entries[..at]);
+    append_all(&mut list, &entries[at + 1..]);
     list
 }
 
@@ -133,15 +133,15 @@ pub(crate) fn concatenate_entries(zero: &[Entry], one: &[Entry]) -> ArrayVec<Ent
     requires { length zero.now + length one.now ≤ 32 }
     ensures { result.items ≡ zero.now ++ one.now }
 {
-    let mut list = list_entries(zero);
-    append_entries(&mut list, one);
+    let mut list = list_all(zero);
+    append_all(&mut list, one);
     list
 }
 
-/// Adds `entries` to the end of `list`, which has room for them.
-fn append_entries(list: &mut ArrayVec<Entry, 32>, entries: &[Entry])
-    requires { array_vec_len list.old + length entries.now ≤ 32 }
-    ensures { list.new.items ≡ list.old.items ++ entries.now }
+/// Adds `items` to the end of `list`, which has room for them.
+pub(crate) fn append_all<T: Copy + Drop>(list: &mut ArrayVec<T, 32>, items: &[T])
+    requires { array_vec_len list.old + length items.now ≤ 32 }
+    ensures { list.new.items ≡ list.old.items ++ items.now }
 {
-    let _ = list.try_extend_from_slice(entries);
+    let _ = list.try_extend_from_slice(items);
 }

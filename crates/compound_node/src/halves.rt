@@ -11,11 +11,9 @@ ghost use Rattle.partial_keys.specs.Shows.{Covers};
 ghost use Rattle.pieces.specs.Changes.{without};
 
 use super::building::build;
-use super::entries::{Entry, list_entries, list_without};
+use super::entries::{Entry, list_all, list_without};
 use super::nodes::Node;
-use super::rows::{
-    clear_first_column, count_zero_side, list_rows, or_rows, squeeze_rows, without_row,
-};
+use super::rows::{clear_first_column, count_zero_side, or_rows, squeeze_rows, without_row};
 use arrayvec::ArrayVec;
 use partial_keys::Columns;
 
@@ -65,10 +63,10 @@ pub(crate) fn cut_of(columns: &Columns, rows: &[u32], entries: &[Entry]) -> Cut
     let rest = clear_first_column(&rows[front..]);
     let zero = half_of(
         columns,
-        list_rows(&rows[..front]),
-        list_entries(&entries[..front]),
+        list_all(&rows[..front]),
+        list_all(&entries[..front]),
     );
-    let one = half_of(columns, rest, list_entries(&entries[front..]));
+    let one = half_of(columns, rest, list_all(&entries[front..]));
     Cut {
         position: columns.first(),
         zero,

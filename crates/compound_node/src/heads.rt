@@ -146,7 +146,7 @@ impl Head {
     }
 
     /// Puts a new fork at `position` in over the slots from `first` to `last`, for one more entry. That stands straight after them if `bit`
-    /// is 1, else straight before. The stored height becomes `height`.
+    /// is true, else straight before. The stored height becomes `height`.
     pub(crate) fn add_fork(
         &mut self,
         height: u16,
@@ -171,7 +171,7 @@ impl Head {
     }
 
     /// Puts a new fork at `position` in over the slots from `first` to `last`, for a new leaf. That stands straight after them if `bit` is
-    /// 1, else straight before. All entries are leaves.
+    /// true, else straight before. All entries are leaves.
     pub fn add_leaf(&mut self, first: u8, last: u8, position: u16, bit: bool)
         requires room { length self.old.rows < 32 }
         requires low { self.old.height ≡ 1 }

@@ -2,7 +2,7 @@
 
 use super::building::build;
 use super::entries::{
-    Entry, all_stand_below, concatenate_entries, height_with, insert_beside, list_entries,
+    Entry, all_stand_below, concatenate_entries, height_with, insert_beside, list_all,
 };
 use super::halves::{Cut, Half, cut_of, rest_of};
 use super::heads::Head;
@@ -57,7 +57,7 @@ impl Node {
             return None;
         }
         let head = Head::from_parts(entries.len() as u8, height, columns, sparse)?;
-        Some(Node::of(head, list_entries(entries)))
+        Some(Node::of(head, list_all(entries)))
     }
 
     /// The node of `head` and `entries`, which fit together.
@@ -81,7 +81,7 @@ impl Node {
         build(Columns::of(&[position]), &[0, 1 << 31], entries)
     }
 
-    /// The node of all entries of `zero` and `one`, the sides of a fork at `position`. Its height is one above the greatest of the entries'.
+    /// The node of all entries of `zero` and `one`, the sides of a fork at `position`. Its height is one above the greatest of theirs.
     pub fn join(position: u16, zero: &Node, one: &Node) -> Node
         requires room { length zero.now.entries + length one.now.entries ≤ 32 }
         requires after { RisesFrom 0 (Fork position (piece zero.now) (piece one.now)) }
@@ -152,7 +152,7 @@ impl Node {
         self.head.copy()
     }
 
-    /// The node without its entries, in its place.
+    /// The node without its entries, not copied.
     pub fn as_head(&self) -> &Head
         ensures { result.now ≡ head_of self.now }
     {
@@ -197,7 +197,7 @@ impl Node {
         let before = self.row(at.saturating_sub(1));
         let (own, after, second) = (self.row(at), self.row(at + 1), self.row(at + 2));
         match place_beside(at, before, own, after, second) {
-            Some((place, column)) => Some((place, columns.position(column))),
+            Some((slot, column)) => Some((slot, columns.position(column))),
             None => None,
         }
     }
@@ -210,7 +210,7 @@ impl Node {
     }
 
     /// The node with `entry`, and with a new fork at `position` over the slots from `first` to `last`, which are affected. The entry stands
-    /// straight after them if `bit` is 1, else straight before. The height is one above the greatest of the entries'.
+    /// straight after them if `bit` is true, else straight before. The height is one above the greatest of the entries'.
     pub fn insert(&self, first: u8, last: u8, position: u16, bit: bool, entry: Entry) -> Node
         requires room { length self.now.entries < 32 }
         requires range { IsAffected (piece self.now) position first last }
@@ -243,7 +243,7 @@ impl Node {
     {
         Node {
             head: self.head.copy(),
-            entries: list_entries(self.entries.as_slice()),
+            entries: list_all(self.entries.as_slice()),
         }
     }
 

@@ -14,6 +14,7 @@ ghost use Rattle.compound_node.specs.Beside.{AreRound, IsBesideIn, column_before
 ghost use Rattle.compound_node.specs.Nodes.{IsLawfulNode, NodeView};
 ghost use Rattle.compound_node.specs.Removal.{lowest, bit_after, cleared_front, removed_row};
 
+use super::entries::append_all;
 use arrayvec::ArrayVec;
 use partial_keys::remove_in;
 use std::simd::prelude::*;
@@ -63,14 +64,6 @@ pub(crate) fn or_rows(rows: &[u32]) -> u32
         all |= rows[i];
     }
     all
-}
-
-/// Adds `rows` to the end of `out`, which has room for them.
-fn append_rows(out: &mut ArrayVec<u32, 32>, rows: &[u32])
-    requires { array_vec_len out.old + length rows.now ≤ 32 }
-    ensures { out.new.items ≡ out.old.items ++ rows.now }
-{
-    let _ = out.try_extend_from_slice(rows);
 }
 
 // ---- a new column and a new fork
@@ -140,8 +133,8 @@ fn fork_before(rows: u32x32, first: u32, end: u32, bits: u32) -> u32x32
         .select(rows, moved)
 }
 
-/// `rows` with a new fork over those from `first` to `last`, and with one row more for it. That stands straight after them if `bit` is 1,
-/// else straight before. The fork's column has the bit `weight`. The last of the 32 rows is lost.
+/// `rows` with a new fork over those from `first` to `last`, and with one row more for it. That stands straight after them if `bit` is
+/// true, else straight before. The fork's column has the bit `weight`. The last of the 32 rows is lost.
 #[inline(always)]
 pub fn fork_rows(rows: u32x32, first: usize, last: usize, weight: u32, bit: bool) -> u32x32
     requires range { first ≤ last }
@@ -207,16 +200,6 @@ pub(crate) fn count_zero_side(rows: &[u32]) -> usize
         }
     }
     rows.len()
-}
-
-/// The list of `rows`, 32 at most.
-pub(crate) fn list_rows(rows: &[u32]) -> ArrayVec<u32, 32>
-    requires { length rows.now ≤ 32 }
-    ensures { result.items ≡ rows.now }
-{
-    let mut list = ArrayVec::new();
-    append_rows(&mut list, rows);
-    list
 }
 
 /// The list of `rows`, each with 0 in the first column.
@@ -312,7 +295,7 @@ pub(crate) fn without_row(rows: &[u32], at: usize) -> ArrayVec<u32, 32>
     ensures { result.items ≡ removed_row at rows.now }
 {
     let mut out = ArrayVec::new();
-    append_rows(&mut out, &rows[..at]);
+    append_all(&mut out, &rows[..at]);
     append_clearing(&mut out, &rows[at + 1..], sibling_bit(rows, at));
     out
 }
@@ -344,7 +327,7 @@ pub(crate) fn remove_row(rows: &mut [u32; 32], count: usize, at: usize)
     remove_in(rows, count, at, u32::MAX);
 }
 
-// ---- the place beside one
+// ---- the sibling of a slot
 
 /// The column of the fork between `row` and the row before, counted from 1. It is 0 for the first row, and for an unused slot's.
 fn fork_column(row: u32) -> u8

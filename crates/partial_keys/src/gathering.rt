@@ -62,8 +62,8 @@ fn find_missing(bytes: u8x32, masks: u8x32, window: u8x32, first: u8, last: u8) 
     ensures whole { length result ≡ 32 }
     ensures each { (i : ℕ) → i < 32 → slice_index result i ≡ missed_lane window first last i (slice_index bytes i) (slice_index masks i) }
 {
-    let places = (bytes - u8x32::splat(first)) & u8x32::splat(15);
-    let there = window.swizzle_dyn_within::<16>(places);
+    let indexes = (bytes - u8x32::splat(first)) & u8x32::splat(15);
+    let there = window.swizzle_dyn_within::<16>(indexes);
     masks & !there | bytes.saturating_sub(u8x32::splat(last))
 }
 
@@ -88,7 +88,7 @@ pub fn extract_by_lanes(lanes: u16x32, count: u8, key: &Key) -> u32
     let first = lanes.to_array()[0] as usize / 9;
     let key_length = key.as_bytes().len();
     let bytes = bytes_at(lanes);
-    if is_near(bytes, first, key_length) {
+    if fits_window(bytes, first, key_length) {
         let (masks, window) = (masks_at(lanes), window_at(key, first));
         mark_zeros(find_missing(bytes, masks, window, first as u8, (key_length - 1) as u8))
     } else {
@@ -99,7 +99,7 @@ pub fn extract_by_lanes(lanes: u16x32, count: u8, key: &Key) -> u32
 /// Whether the sixteen bytes from byte `first` on have all bits at columns that a key of `key_length` bytes has. `bytes` says in which
 /// byte each column has its bit. Where they have all, it may be false.
 #[inline(always)]
-fn is_near(bytes: u8x32, first: usize, key_length: usize) -> bool
+fn fits_window(bytes: u8x32, first: usize, key_length: usize) -> bool
     requires lanes { length bytes ≡ 32 }
     requires short { key_length ≤ MAX_BYTES }
     ensures near { IsTrue result → (1 ≤ key_length) × (first + 16 ≤ MAX_BYTES) ×

@@ -165,7 +165,7 @@ impl Columns {
     }
 }
 
-/// An array that begins with `items`, and has `unused` in each place behind them.
+/// An array of `items`, with `unused` behind them up to its end.
 pub fn pad<T: Copy, const N: usize>(items: &[T], unused: T) -> [T; N]
     requires { length items.now ≤ N }
     ensures { result ≡ items.now ++ replicate (N - length items.now) unused }

@@ -70,13 +70,13 @@ pub record SpellEntries (height : ℕ) (words : List ℕ) (entries : List Entry)
   pub each : All (λ entry. HasEntryWord (Some entry)) entries
   pub stand : All (StandsBelow height) entries
 
--- The words are those of this node, in which the place is the one beside `at`, and the entry can stand
-pub record CanCloseAt (words : List ℕ) (node : NodeView) (at place : ℕ) (entry : Entry) : Type 0 where
+-- The words are those of this node, in which the sibling is the place beside `at`, and the entry can stand
+pub record CanCloseAt (words : List ℕ) (node : NodeView) (at sibling : ℕ) (entry : Entry) : Type 0 where
   pub has : HasNodeWords node
   pub spells : node_words node ≡ words
   pub in_range : at < length node.entries
   pub position : ℕ
-  pub is_beside : beside at (piece node) ≡ Some (place, position)
+  pub is_beside : beside at (piece node) ≡ Some (sibling, position)
   pub stands : StandsBelow node.height entry
 
 -- what is left of a node: the one entry, or a node that was built anew and that the words spell

@@ -1,4 +1,4 @@
--- What reading words answers.
+-- What reading words returns.
 use Rattle.std.specs.Prelude.{◌≡◌, Result, Ok, IfOk}
 
 -- some value is spelled by these words
@@ -11,8 +11,8 @@ pub record IsSpelledBy {A W : Type 0} (IsValue : A → Type 0) (spelled : A → 
   pub spells : spelled x ≡ words
   pub only : (y : A) → IsValue y → spelled y ≡ words → x ≡ y
 
--- The answer is the value that is spelled by these words, and an error where there is none. So reading what was
+-- The result is the value that is spelled by these words, and an error where there is none. So reading what was
 -- spelled gives the value back, what is read is spelled by the words, and no value has two spellings
-pub record IsReading {A W E : Type 0} (IsValue : A → Type 0) (spelled : A → W) (words : W) (answer : Result A E) : Type 0 where
-  pub read : (x : A) → IsValue x → spelled x ≡ words → answer ≡ Ok x
-  pub spelling : IfOk answer (λ x. IsValue x × (spelled x ≡ words))
+pub record IsReading {A W E : Type 0} (IsValue : A → Type 0) (spelled : A → W) (words : W) (result : Result A E) : Type 0 where
+  pub read : (x : A) → IsValue x → spelled x ≡ words → result ≡ Ok x
+  pub spelling : IfOk result (λ x. IsValue x × (spelled x ≡ words))

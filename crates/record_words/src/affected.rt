@@ -30,8 +30,8 @@ pub fn affected_in(words: &[u64], found: u8, position: u16) -> (u8, u8)
     let rest = u32::MAX >> count_below(positions, position);
     let row = row_in(words, found);
     let rows = rows_in(&words[FIRST_ROWS..]);
-    let first = rows_below(rows, row & !rest);
-    let end = rows_upto(rows, row | rest).min(read_numbers(words[0]).count as u32);
+    let first = count_rows_below(rows, row & !rest);
+    let end = count_rows_upto(rows, row | rest).min(read_numbers(words[0]).count as u32);
     (first as u8, (end - 1) as u8)
 }
 
@@ -46,7 +46,7 @@ fn row_in(words: &[u64], at: u8) -> u32
 
 /// How many of `rows`, sparse partial keys, are below `bound`.
 #[inline(always)]
-fn rows_below(rows: u32x32, bound: u32) -> u32
+fn count_rows_below(rows: u32x32, bound: u32) -> u32
     ensures { result ≡ count_by (λ x. nat_lt x bound) rows }
 {
     rows.simd_lt(u32x32::splat(bound)).to_bitmask().count_ones()
@@ -54,7 +54,7 @@ fn rows_below(rows: u32x32, bound: u32) -> u32
 
 /// How many of `rows`, sparse partial keys, are `bound` or below it.
 #[inline(always)]
-fn rows_upto(rows: u32x32, bound: u32) -> u32
+fn count_rows_upto(rows: u32x32, bound: u32) -> u32
     ensures { result ≡ count_by (λ x. nat_lt x (bound + 1)) rows }
 {
     rows.simd_le(u32x32::splat(bound)).to_bitmask().count_ones()

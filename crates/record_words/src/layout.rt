@@ -338,26 +338,26 @@ impl Layout {
         ensures in_table { IsInTable self.now result }
     {
         if word < self.leaf(self.medium_from) {
-            leaf_word(0, SHORT_WORDS, word - self.leaf(0))
+            locate_leaf_word(0, SHORT_WORDS, word - self.leaf(0))
         } else if word < self.leaf(self.large_from) {
             let within = word - self.leaf(self.medium_from);
-            leaf_word(self.medium_from, MEDIUM_WORDS, within)
+            locate_leaf_word(self.medium_from, MEDIUM_WORDS, within)
         } else if word < self.leaf(self.wide_from) {
             let within = word - self.leaf(self.large_from);
-            leaf_word(self.large_from, LARGE_WORDS, within)
+            locate_leaf_word(self.large_from, LARGE_WORDS, within)
         } else if word < self.leaf(self.long_from) {
             let within = word - self.leaf(self.wide_from);
-            leaf_word(self.wide_from, WIDE_WORDS, within)
+            locate_leaf_word(self.wide_from, WIDE_WORDS, within)
         } else {
             let within = word - self.leaf(self.long_from);
-            leaf_word(self.long_from, LEAF_WORDS, within)
+            locate_leaf_word(self.long_from, LEAF_WORDS, within)
         }
     }
 }
 
 /// The location of the word that stands `within` words behind the first one of leaf record `first`. That record and those behind have
 /// `size` words each.
-fn leaf_word(first: u32, size: usize, within: usize) -> Location
+fn locate_leaf_word(first: u32, size: usize, within: usize) -> Location
     requires size { (1 ≤ size) × (size ≤ LEAF_WORDS) }
     requires few { first + within / size < 2 ^ 32 }
     ensures { (behind : ℕ) × (offset : ℕ) × (result ≡ Location.LeafWord (first + behind) offset) × (size * behind + offset ≡ within) × (offset < size) }

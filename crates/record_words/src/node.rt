@@ -66,7 +66,7 @@ pub fn can_take_leaf(words: &[u64; NODE_FIELDS]) -> bool
 }
 
 /// Changes `words`, those of a node, to those of the node with the leaf of record `leaf`, for which it has room. A new fork at `position`
-/// stands over the slots from `first` to `last`, which are affected. The leaf stands straight after them if `bit` is 1, else straight
+/// stands over the slots from `first` to `last`, which are affected. The leaf stands straight after them if `bit` is true, else straight
 /// before.
 pub fn add_leaf(
     words: &mut [u64; NODE_FIELDS],
@@ -139,12 +139,12 @@ pub fn drop_entry(words: &mut [u64; NODE_FIELDS], at: u8) -> Option<Entry>
 }
 
 /// Changes `words`, those of a node, to those of the node with `entry` instead of two entries and the fork whose sides they are. The two
-/// are in slot `at` and in slot `place`. If the node has no others, it returns `entry`; else `None`.
-pub fn close_fork(words: &mut [u64; NODE_FIELDS], at: u8, place: u8, entry: Entry) -> Option<Entry>
-    requires { (node : NodeView) × CanCloseAt words.old node at place entry }
-    ensures { (node : NodeView) → CanCloseAt words.old node at place entry → SpellLeft words.new result (collapsed at entry (piece node)) }
+/// are in slot `at` and in slot `other`. If the node has no others, it returns `entry`; else `None`.
+pub fn close_fork(words: &mut [u64; NODE_FIELDS], at: u8, other: u8, entry: Entry) -> Option<Entry>
+    requires { (node : NodeView) × CanCloseAt words.old node at other entry }
+    ensures { (node : NodeView) → CanCloseAt words.old node at other entry → SpellLeft words.new result (collapsed at entry (piece node)) }
 {
-    words[HEAD_WORDS + place as usize] = pack_entry(Some(entry));
+    words[HEAD_WORDS + other as usize] = pack_entry(Some(entry));
     drop_entry(words, at)
 }
 

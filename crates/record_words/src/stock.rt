@@ -64,7 +64,7 @@ impl Stock {
     pub fn of_class(nodes: u32, class: LeafClass, leaves: u32) -> Stock
         ensures { result ≡ stock_of nodes class leaves }
     {
-        let none = Stock {
+        let mut stock = Stock {
             nodes,
             short: 0,
             medium: 0,
@@ -73,26 +73,12 @@ impl Stock {
             long: 0,
         };
         match class {
-            LeafClass::Short => Stock {
-                short: leaves,
-                ..none
-            },
-            LeafClass::Medium => Stock {
-                medium: leaves,
-                ..none
-            },
-            LeafClass::Large => Stock {
-                large: leaves,
-                ..none
-            },
-            LeafClass::Wide => Stock {
-                wide: leaves,
-                ..none
-            },
-            LeafClass::Long => Stock {
-                long: leaves,
-                ..none
-            },
+            LeafClass::Short => stock.short = leaves,
+            LeafClass::Medium => stock.medium = leaves,
+            LeafClass::Large => stock.large = leaves,
+            LeafClass::Wide => stock.wide = leaves,
+            LeafClass::Long => stock.long = leaves,
         }
+        stock
     }
 }

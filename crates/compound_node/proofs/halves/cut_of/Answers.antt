@@ -13,29 +13,29 @@ use Rattle.compound_node.proofs.halves.cut_of.Goals as goal
 pub half_of-zero-requires-clause-some : goal.half_of-zero-requires-clause-some
 half_of-zero-requires-clause-some c =
     let p : Parts c.args.columns.now c.args.rows.now c.args.entries.now (piece_of (Leaf 0) c.args.columns.now c.args.rows.now c.args.entries.now) = parts c.args.columns.now c.args.rows.now c.args.entries.now _ c.requires.shows c.requires.several in
-    rw (c.list_entries.ensures, c.count_zero_side-front.ensures.value, length-take-le (front_below (2 ^ 31) c.args.rows.now) c.args.entries.now (omega (arith, p.front_within))) p.front_some
+    rw (c.list_all-2.ensures, c.count_zero_side-front.ensures.value, length-take-le (front_below (2 ^ 31) c.args.rows.now) c.args.entries.now (omega (arith, p.front_within))) p.front_some
 
 pub half_of-zero-requires-clause-children : goal.half_of-zero-requires-clause-children
-half_of-zero-requires-clause-children c = subst (All IsEntry) (sym c.list_entries.ensures) (All-take IsEntry c.count_zero_side-front.result c.args.entries.now c.requires.children)
+half_of-zero-requires-clause-children c = subst (All IsEntry) (sym c.list_all-2.ensures) (All-take IsEntry c.count_zero_side-front.result c.args.entries.now c.requires.children)
 
 pub half_of-zero-requires-clause-covers : goal.half_of-zero-requires-clause-covers
-half_of-zero-requires-clause-covers c = rw (c.list_rows.ensures, c.list_entries.ensures, c.count_zero_side-front.ensures.value)
+half_of-zero-requires-clause-covers c = rw (c.list_all.ensures, c.list_all-2.ensures, c.count_zero_side-front.ensures.value)
     (parts c.args.columns.now c.args.rows.now c.args.entries.now (piece_of (Leaf 0) c.args.columns.now c.args.rows.now c.args.entries.now) c.requires.shows c.requires.several).zero_covers
 
 pub half_of-one-requires-clause-some : goal.half_of-one-requires-clause-some
 half_of-one-requires-clause-some c =
     let p : Parts c.args.columns.now c.args.rows.now c.args.entries.now (piece_of (Leaf 0) c.args.columns.now c.args.rows.now c.args.entries.now) = parts c.args.columns.now c.args.rows.now c.args.entries.now _ c.requires.shows c.requires.several in
-    rw (c.list_entries-2.ensures, c.count_zero_side-front.ensures.value, take_rest c.args.entries.now (front_below (2 ^ 31) c.args.rows.now), length-drop (front_below (2 ^ 31) c.args.rows.now) c.args.entries.now) (omega (arith, p.front_within))
+    rw (c.list_all-3.ensures, c.count_zero_side-front.ensures.value, take_rest c.args.entries.now (front_below (2 ^ 31) c.args.rows.now), length-drop (front_below (2 ^ 31) c.args.rows.now) c.args.entries.now) (omega (arith, p.front_within))
 
 pub half_of-one-requires-clause-children : goal.half_of-one-requires-clause-children
-half_of-one-requires-clause-children c = subst (All IsEntry) (sym (c.list_entries-2.ensures ∙ take_rest c.args.entries.now c.count_zero_side-front.result)) (All-drop IsEntry c.count_zero_side-front.result c.args.entries.now c.requires.children)
+half_of-one-requires-clause-children c = subst (All IsEntry) (sym (c.list_all-3.ensures ∙ take_rest c.args.entries.now c.count_zero_side-front.result)) (All-drop IsEntry c.count_zero_side-front.result c.args.entries.now c.requires.children)
 
 pub half_of-one-requires-clause-covers : goal.half_of-one-requires-clause-covers
 half_of-one-requires-clause-covers c =
-    rw (c.clear_first_column-rest.ensures, c.list_entries-2.ensures, c.count_zero_side-front.ensures.value, take_rest c.args.entries.now (front_below (2 ^ 31) c.args.rows.now), take_rest c.args.rows.now (front_below (2 ^ 31) c.args.rows.now))
+    rw (c.clear_first_column-rest.ensures, c.list_all-3.ensures, c.count_zero_side-front.ensures.value, take_rest c.args.entries.now (front_below (2 ^ 31) c.args.rows.now), take_rest c.args.rows.now (front_below (2 ^ 31) c.args.rows.now))
     (parts c.args.columns.now c.args.rows.now c.args.entries.now _ c.requires.shows c.requires.several).one_covers
 
 pub returns : goal.returns
 returns c = rw c.first.ensures ((parts c.args.columns.now c.args.rows.now c.args.entries.now (piece_of (Leaf 0) c.args.columns.now c.args.rows.now c.args.entries.now) c.requires.shows c.requires.several).shows c.half_of-zero.result c.half_of-one.result
-    (rw (c.list_rows.ensures, c.list_entries.ensures, c.count_zero_side-front.ensures.value) at c.half_of-zero.ensures)
-    (rw (c.clear_first_column-rest.ensures, c.list_entries-2.ensures, c.count_zero_side-front.ensures.value, take_rest c.args.entries.now (front_below (2 ^ 31) c.args.rows.now), take_rest c.args.rows.now (front_below (2 ^ 31) c.args.rows.now)) at c.half_of-one.ensures))
+    (rw (c.list_all.ensures, c.list_all-2.ensures, c.count_zero_side-front.ensures.value) at c.half_of-zero.ensures)
+    (rw (c.clear_first_column-rest.ensures, c.list_all-3.ensures, c.count_zero_side-front.ensures.value, take_rest c.args.entries.now (front_below (2 ^ 31) c.args.rows.now), take_rest c.args.rows.now (front_below (2 ^ 31) c.args.rows.now)) at c.half_of-one.ensures))

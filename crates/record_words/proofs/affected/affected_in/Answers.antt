@@ -67,21 +67,21 @@ module _ (c : After-min-end) (node : NodeView) (lawful : IsLawfulNode node) (sam
       let words = c.args.words.now in
       c.rows_in-rows.ensures node lawful (ap (drop 9) same ∙ sym (take_all (length words - 9) (drop 9 words) (omega (arith, length-drop 9 words))))
 
-  first_is : c.rows_below-first.result ≡ front_below (row / 2 ^ (32 - n) * 2 ^ (32 - n)) (with_unused node.rows)
+  first_is : c.count_rows_below-first.result ≡ front_below (row / 2 ^ (32 - n) * 2 ^ (32 - n)) (with_unused node.rows)
   first_is =
-      c.rows_below-first.ensures ∙ (ap (λ b. count_by (λ x. nat_lt x b) c.rows_in-rows.result) least_is ∙ rows_in_front node lawful _ c.rows_in-rows.result rows_are)
+      c.count_rows_below-first.ensures ∙ (ap (λ b. count_by (λ x. nat_lt x b) c.rows_in-rows.result) least_is ∙ rows_in_front node lawful _ c.rows_in-rows.result rows_are)
 
   end_is : c.min-end.result ≡ min (front_below (row / 2 ^ (32 - n) * 2 ^ (32 - n) + 2 ^ (32 - n)) (with_unused node.rows)) (length node.rows)
   end_is =
       c.min-end.ensures ∙ ap₂ min
-      (c.rows_upto.ensures ∙ (ap (λ b. count_by (λ x. nat_lt x b) c.rows_in-rows.result) most_is ∙ rows_in_front node lawful _ c.rows_in-rows.result rows_are))
+      (c.count_rows_upto.ensures ∙ (ap (λ b. count_by (λ x. nat_lt x b) c.rows_in-rows.result) most_is ∙ rows_in_front node lawful _ c.rows_in-rows.result rows_are))
       (c.read_numbers.ensures.parts.0 ∙ count_read node lawful c.args.words.now same)
 
   some : 1 ≤ c.min-end.result
-  some = end_some node lawful c.args.position c.args.found n c.rows_below-first.result c.min-end.result here below first_is end_is
+  some = end_some node lawful c.args.position c.args.found n c.count_rows_below-first.result c.min-end.result here below first_is end_is
 
-  affected : (affected_first c.args.position c.args.found (piece node) ≡ c.rows_below-first.result) × (affected_count c.args.position c.args.found (piece node) + c.rows_below-first.result ≡ c.min-end.result - 1 + 1)
-  affected = affected_by_counts node lawful c.args.position c.args.found n c.rows_below-first.result c.min-end.result here below first_is end_is
+  affected : (affected_first c.args.position c.args.found (piece node) ≡ c.count_rows_below-first.result) × (affected_count c.args.position c.args.found (piece node) + c.count_rows_below-first.result ≡ c.min-end.result - 1 + 1)
+  affected = affected_by_counts node lawful c.args.position c.args.found n c.count_rows_below-first.result c.min-end.result here below first_is end_is
 
 pub overflow_shr-rest : goal.overflow_shr-rest
 overflow_shr-rest c =

@@ -39,7 +39,7 @@ position-requires c =
 pub returns-in-Some : goal.returns-in-Some
 returns-in-Some c =
     let at = goal.at.returns-in-Some c in
-    ap (λ p. Some (c.in-Some.place, p)) (c.position.ensures ∙ ap (λ cs. get_or cs c.in-Some.column 0) (columns_are at.After-columns-columns))
+    ap (λ p. Some (c.in-Some.slot, p)) (c.position.ensures ∙ ap (λ cs. get_or cs c.in-Some.column 0) (columns_are at.After-columns-columns))
     ∙ (subst (IsBesideIn c.args.self.now c.args.at) c.in-Some.is (told at.After-place_beside)).is
 
 pub returns-in-None : goal.returns-in-None

@@ -3,7 +3,7 @@ use Rattle.std.proofs.Common.{◌∙◌, ◌+◌, ap, arith, count_ones, leb, na
 use Rattle.std.proofs.lemmas.Simd.{bitmask_splat, ones-mask_l}
 use lib.Lanes.{mask_l}
 use Rattle.record_words.proofs.Fronts.{all_upto}
-use Rattle.record_words.proofs.affected.rows_upto.Goals as goal
+use Rattle.record_words.proofs.affected.count_rows_upto.Goals as goal
 
 pub returns : goal.returns
 returns c =
