@@ -1,6 +1,6 @@
 //! Limbo: the records that a pass has retired and not given back yet.
 
-ghost use Rattle.std.specs.Prelude.{◌≡◌, ◌≢◌, ◌≤◌, ◌<◌, ◌+◌, ◌-◌, ◌^◌, min, true, false};
+ghost use Rattle.std.specs.Prelude.{◌≡◌, ◌≢◌, ◌≤◌, ◌<◌, ◌+◌, ◌-◌, ◌^◌, min, true, false, Contains};
 ghost use Rattle.epochs.specs.declared.collection.Visited.TheVariants.{Waits};
 
 use crate::collection::Visited;
@@ -70,8 +70,8 @@ impl Limbo {
         self.retired >= DUE
     }
 
-    /// Begins a small round: `given` is empty, and no record counts towards the next one yet. The records that wait stay.
-    pub(crate) fn begin_round(&mut self)
+    /// Makes the list ready for a small round: `given` is empty, and no record counts towards the next round yet. The records that wait stay.
+    pub(crate) fn clear_round(&mut self)
         ensures { (self.new.retired ≡ 0) × (self.new.count ≡ self.old.count) }
     {
         self.retired = 0;
@@ -86,7 +86,9 @@ impl Limbo {
     }
 
     /// The record that waits at `index`, which is below `count` and counted from 0 at the oldest.
-    pub(crate) fn waiting_at(&self, index: usize) -> Rec {
+    pub(crate) fn waiting_at(&self, index: usize) -> Rec
+        ensures { Contains self.now.waiting result }
+    {
         self.waiting[self.first.wrapping_add(index) % MOST_WAITING]
     }
 

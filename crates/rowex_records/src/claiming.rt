@@ -265,10 +265,10 @@ fn try_claim<G: Gate>(table: &HotTable, seat: &mut TableSeat, gate: &mut G, at: 
     ensures missed { result ≡ false → MissesOne table.now G.becomes at.rec (seat.old, gate.old) (seat.new, gate.new) }
     ensures claimed { result ≡ true → ClaimsOne table.now G.becomes at.rec (seat.old, gate.old) (seat.new, gate.new) }
 {
-    if table.load_state_from(seat, gate, at) != 0 {
+    if table.load_state_at(seat, gate, at) != 0 {
         return false;
     }
-    table.claim_from(seat, gate, at) == 0
+    table.claim_at(seat, gate, at) == 0
 }
 
 /// The number to begin at, of `all` records: `from`, or 0 if `from` is out of range.
