@@ -36,47 +36,12 @@ use Rattle.rowex_table.specs.Rule.{Happens, IsAddressOf, IsTrueOf, Ruled, IsSome
 use Rattle.rowex_table.specs.Runs.{StepsWith}
 use Rattle.rowex_table.specs.Seats.{SeatView, TableView}
 use Rattle.rowex_table.specs.Traces.{IsNextStep, view_of}
+use Rattle.rowex_table.proofs.ActsLeave.{as_before}
 use Rattle.rowex_table.proofs.Onward.{led_more, others_none, traces_more}
 
--- A pass keeps its number
-
-claim_pass : (c : Core) (r : Rec) (found : ℕ) (k : Known) (f : Fate) → (claim_learned c r found f k).pass ≡ k.pass
-claim_pass c r found k Free = refl
-claim_pass c r found k (Held q) = refl
-claim_pass c r found k (ReadyBy q) = refl
-claim_pass c r found k (InTree s) = refl
-claim_pass c r found k (Unlinked s l q) = refl
-claim_pass c r found k (Marked s l e) = refl
-
-anchor_pass : (c : Core) (found : ℕ) (k : Known) (o : Option ℕ) → (anchor_learned c found o k).pass ≡ k.pass
-anchor_pass c found k None = refl
-anchor_pass c found k (Some q) = refl
-
-either_pass : (b : Bool) (j i k : Known) → j.pass ≡ k.pass → i.pass ≡ k.pass → (if b then j else i).pass ≡ k.pass
-either_pass true j i k e f = e
-either_pass false j i k e f = f
-
+-- a pass keeps its number
 pub learned_pass : (c : Core) (act : Act) (k : Known) → (learned c act k).pass ≡ k.pass
-learned_pass c (Claim r found) k = claim_pass c r found k (c.fate r)
-learned_pass c (Fill r offset w) k = refl
-learned_pass c (Ready r) k = refl
-learned_pass c (Release r) k = refl
-learned_pass c (LoadRef Root w) k = refl
-learned_pass c (LoadRef (Slot n j) w) k = refl
-learned_pass c (LoadFixed r offset w) k = refl
-learned_pass c (Lock Anchor found) k = anchor_pass c found k c.anchor
-learned_pass c (Lock (NodeTarget n) found) k = either_pass (nat_eq found 2) _ _ k refl refl
-learned_pass c (Unlock Anchor) k = refl
-learned_pass c (Unlock (NodeTarget n)) k = refl
-learned_pass c (Publish spot w) k = refl
-learned_pass c (Mark r epoch) k = refl
-learned_pass c (LoadEpoch w) k = refl
-learned_pass c (Advance expected found) k = refl
-learned_pass c (SetPin w) k = refl
-learned_pass c ClearPin k = refl
-learned_pass c (LoadPin o w) k = refl
-learned_pass c (LoadState r w) k = either_pass (nat_eq w 0) _ _ k refl refl
-learned_pass c (GiveBack r epoch found) k = refl
+learned_pass c act k = (as_before c.layout k k c act).pass
 
 -- notes are outside the rule
 pub renoted : (c : Core) (k : Known) (notes : List Note) → Knows c k → Knows c (record k { notes = notes })
