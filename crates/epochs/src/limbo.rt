@@ -1,6 +1,6 @@
 //! Limbo: the records that a pass has retired and not given back yet.
 
-ghost use Rattle.std.specs.Prelude.{◌≡◌, ◌≢◌, ◌≤◌, ◌<◌, ◌+◌, ◌-◌, ◌^◌, min, true, false, Contains};
+ghost use Rattle.std.specs.Prelude.{◌≡◌, ◌≢◌, ◌≤◌, ◌<◌, ◌+◌, ◌-◌, ◌^◌, min, true, false};
 ghost use Rattle.epochs.specs.declared.collection.Visited.TheVariants.{Waits};
 
 use crate::collection::Visited;
@@ -86,9 +86,7 @@ impl Limbo {
     }
 
     /// The record that waits at `index`, which is below `count` and counted from 0 at the oldest.
-    pub(crate) fn waiting_at(&self, index: usize) -> Rec
-        ensures { Contains self.now.waiting result }
-    {
+    pub(crate) fn waiting_at(&self, index: usize) -> Rec {
         self.waiting[self.first.wrapping_add(index) % MOST_WAITING]
     }
 
