@@ -1,5 +1,5 @@
 -- A step that its pass may make keeps the rule.
-use Rattle.std.proofs.Common.{◌≡◌, ◌≢◌, ℕ, zero, suc, ◌<◌, eqb, List, [], ◌∷◌, ◌++◌, set, get_or, Bool, true, false, nat_eq, if◌then◌else◌, Option, Some, None, refl, sym, ap, subst, ◌∙◌, ⊎_elim}
+use Rattle.std.proofs.Common.{◌≡◌, ◌≢◌, ℕ, zero, suc, ◌<◌, eqb, List, [], ◌∷◌, ◌++◌, set, get_or, true, false, Option, Some, refl, sym, ap, subst, ◌∙◌, ⊎_elim}
 use mathlib.Core.Option.{none, some, some-injective, some-ne-none}
 use lib.ListN.{get_elem?}
 use Rattle.atomic_table.specs.Seated.{TableId}
@@ -12,18 +12,14 @@ use Rattle.record_words.specs.Layout.{address, word_count}
 use Rattle.record_words.specs.declared.layout.Layout.{Layout}
 use Rattle.record_words.specs.declared.layout.Location.{Location}
 use Rattle.record_words.proofs.Locations.{address-below}
-use Rattle.versions.specs.declared.Rec.{Rec}
-use Rattle.versions.specs.Core.{Fate, Free, Held, Ready as ReadyBy, InTree, Unlinked, Marked}
 use Rattle.rowex_core.specs.declared.event.Act.{Act}
 use Rattle.rowex_core.specs.declared.event.Act.TheVariants.{Claim, Fill, Ready, Release, LoadRef, LoadFixed, Lock, Unlock, Publish, Mark, LoadEpoch, Advance, SetPin, ClearPin, LoadPin, LoadState, GiveBack}
 use Rattle.rowex_core.specs.declared.event.Event.{Event}
-use Rattle.rowex_core.specs.declared.event.Target.TheVariants.{Anchor, Node as NodeTarget}
-use Rattle.rowex_core.specs.declared.event.Spot.TheVariants.{Root, Slot}
 use Rattle.rowex_core.specs.declared.known.Known.{Known}
 use Rattle.rowex_core.specs.Cores.{Core, IsLawful}
 use Rattle.rowex_core.specs.Words.{Shows, word_at}
 use Rattle.rowex_core.specs.Events.{Legal, after, location_of, writes}
-use Rattle.rowex_core.specs.Knowing.{Knows, IsViewOf, IsEvent, learned, claim_learned, anchor_learned}
+use Rattle.rowex_core.specs.Knowing.{Knows, IsViewOf, IsEvent, learned}
 use Rattle.rowex_core.specs.Opening.{opening}
 use Rattle.rowex_core.proofs.Keeping.{keeps}
 use Rattle.rowex_core.proofs.Learning.{learns}
