@@ -1,5 +1,5 @@
 -- Steps on records of the pass's own: what they leave of what it knows, and how they follow one another.
-use Rattle.std.proofs.Common.{◌≡◌, ℕ, ◌+◌, List, [], ◌∷◌, ◌++◌, Bool, true, false, nat_eq, refl, sym, ap, ◌∙◌}
+use Rattle.std.proofs.Common.{◌≡◌, ℕ, ◌+◌, List, [], ◌∷◌, ◌++◌, Bool, true, false, nat_eq, refl}
 use Rattle.std.specs.Prelude.{if◌then◌else◌, Option}
 use Rattle.record_words.specs.declared.layout.Layout.{Layout}
 use Rattle.versions.specs.declared.Rec.{Rec}
