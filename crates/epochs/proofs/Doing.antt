@@ -1,12 +1,8 @@
 -- Steps on epochs, pins and states: what they leave of what their pass knows, and how they follow one another.
 use Rattle.std.proofs.Common.{◌≡◌, ◌+◌, ℕ, List, [], ◌∷◌, ◌++◌, length, Bool, true, false, nat_eq, Option, refl, sym, ap, ◌∙◌}
 use Rattle.std.specs.Prelude.{if◌then◌else◌}
-use Rattle.std.proofs.lemmas.List.{append-nil}
-use Rattle.finite_map.specs.declared.Note.{Note}
 use Rattle.record_words.specs.declared.layout.Layout.{Layout}
 use Rattle.versions.specs.declared.Rec.{Rec}
-use Rattle.versions.specs.declared.Pin.{Pin}
-use Rattle.versions.specs.declared.Round.{Round}
 use Rattle.rowex_core.specs.declared.event.Act.{Act}
 use Rattle.rowex_core.specs.declared.event.Act.TheVariants.{LoadEpoch, Advance, SetPin, ClearPin, LoadPin, LoadState, GiveBack}
 use Rattle.rowex_core.specs.declared.event.Event.{Event}
@@ -15,7 +11,7 @@ use Rattle.rowex_core.specs.declared.known.FailedAct.TheVariants.{LoadState as a
 use Rattle.rowex_core.specs.declared.known.Known.{Known}
 use Rattle.rowex_core.specs.Cores.{holder_of}
 use Rattle.rowex_core.specs.Events.{word_of}
-use Rattle.rowex_core.specs.Knowing.{IsEvent, failed_with}
+use Rattle.rowex_core.specs.Knowing.{IsEvent, failed_with, learned_by}
 use Rattle.rowex_table.specs.Runs.{silent, Steps, Does}
 use Rattle.rowex_table.specs.Seats.{TableView, SeatView}
 use Rattle.rowex_table.proofs.Running as running
@@ -33,30 +29,19 @@ OnlyPaces (LoadPin o w) = Unit {0}
 OnlyPaces (GiveBack r epoch found) = Unit {0}
 OnlyPaces act = ⊥
 
-settled : (k j : Known) (pin : Option Pin) (round : Round) → j ≡ record k { pin = pin; round = round; steps = k.steps + 1; notes = k.notes ++ [] }
-    → j ≡ record (paced k j) { steps = k.steps + 1 }
-settled k j pin round e =
-    let bare : record k { pin = pin; round = round; steps = k.steps + 1; notes = k.notes ++ [] } ≡ record k { pin = pin; round = round; steps = k.steps + 1 } = ap (λ (notes : List Note). let z : Known = record k { pin = pin; round = round; steps = k.steps + 1; notes = notes } in z) (append-nil k.notes) in
-    e ∙ (bare ∙ ap (λ (z : Known). let y : Known = record (paced k z) { steps = k.steps + 1 } in y) (sym e))
-
 rest : (layout : Layout) (act : Act) (k j : Known) → OnlyPaces act → IsEvent layout act silent k j → j ≡ record (paced k j) { steps = k.steps + 1 }
-rest layout (LoadEpoch w) k j paces e = settled k j _ _ e.learned_is
-rest layout (Advance expected found) k j paces e = settled k j _ _ e.learned_is
-rest layout (SetPin w) k j paces e = settled k j _ _ e.learned_is
-rest layout ClearPin k j paces e = settled k j _ _ e.learned_is
-rest layout (LoadPin o w) k j paces e = settled k j _ _ e.learned_is
-rest layout (GiveBack r epoch found) k j paces e = settled k j _ _ e.learned_is
+rest layout (LoadEpoch w) k j paces e = running.settled paced k (learned_by e.core (LoadEpoch w) k) j e.learned_is refl
+rest layout (Advance expected found) k j paces e = running.settled paced k (learned_by e.core (Advance expected found) k) j e.learned_is refl
+rest layout (SetPin w) k j paces e = running.settled paced k (learned_by e.core (SetPin w) k) j e.learned_is refl
+rest layout ClearPin k j paces e = running.settled paced k (learned_by e.core ClearPin k) j e.learned_is refl
+rest layout (LoadPin o w) k j paces e = running.settled paced k (learned_by e.core (LoadPin o w) k) j e.learned_is refl
+rest layout (GiveBack r epoch found) k j paces e = running.settled paced k (learned_by e.core (GiveBack r epoch found) k) j e.learned_is refl
 rest layout _ k j paces e = absurd paces
 
 -- a load of a state leaves all but the failed steps
-looked : (k j : Known) (failed : List Failed) → j ≡ record k { failed = failed; steps = k.steps + 1; notes = k.notes ++ [] } → j ≡ record (collecting k j) { steps = k.steps + 1 }
-looked k j failed e =
-    let bare : record k { failed = failed; steps = k.steps + 1; notes = k.notes ++ [] } ≡ record k { failed = failed; steps = k.steps + 1 } = ap (λ (notes : List Note). let z : Known = record k { failed = failed; steps = k.steps + 1; notes = notes } in z) (append-nil k.notes) in
-    e ∙ (bare ∙ ap (λ (z : Known). let y : Known = record (collecting k z) { steps = k.steps + 1 } in y) (sym e))
-
 look_rest : (r : Rec) (w : ℕ) (free : Bool) (by : Option ℕ) (k j : Known) → j ≡ record (if free then k else failed_with k (a_load by) (word_of r 0) w) { steps = k.steps + 1; notes = k.notes ++ [] } → j ≡ record (collecting k j) { steps = k.steps + 1 }
-look_rest r w true by k j e = looked k j _ e
-look_rest r w false by k j e = looked k j _ e
+look_rest r w true by k j e = running.settled collecting k k j e refl
+look_rest r w false by k j e = running.settled collecting k (failed_with k (a_load by) (word_of r 0) w) j e refl
 
 module _ {G : Type 0} (table : TableView) (becomes : G → Event → G → Type 0) where
   pub does_one : (act : Act) (a b : SeatView × G) → OnlyPaces act → Steps table becomes act a b → Does table becomes paced (act ∷ []) a b

@@ -95,7 +95,7 @@ pub fn collect_small<G: Gate>(
     ensures free { seat.new.known.pin ≡ None }
     ensures round { IsSmallRound table.now G.becomes MOST_VISITED (seat.old, gate.old) (seat.new, gate.new) }
 {
-    limbo.begin_round();
+    limbo.clear_round();
     let bound = begin_round(table, seat, gate);
     visit_limbo(table, seat, gate, limbo, bound);
 }
@@ -311,11 +311,11 @@ fn visit_record<G: Gate>(
     ensures same { (seat.new.known.pin ≡ seat.old.known.pin) × (seat.new.known.round ≡ seat.old.known.round) }
     ensures steps { VisitsOne table.now G.becomes bound at.rec (is_given result) (seat.old, gate.old) (seat.new, gate.new) }
 {
-    let word = table.load_state_from(seat, gate, at);
+    let word = table.load_state_at(seat, gate, at);
     let Some(epoch) = epoch_below(word, bound) else {
         return outcome_of_state(word);
     };
-    let found = table.give_back_from(seat, gate, at, epoch);
+    let found = table.give_back_at(seat, gate, at, epoch);
     outcome_of_try(found == word)
 }
 

@@ -70,8 +70,8 @@ impl Limbo {
         self.retired >= DUE
     }
 
-    /// Begins a small round: `given` is empty, and no record counts towards the next one yet. The records that wait stay.
-    pub(crate) fn begin_round(&mut self)
+    /// Makes the list ready for a small round: `given` is empty, and no record counts towards the next round yet. The records that wait stay.
+    pub(crate) fn clear_round(&mut self)
         ensures { (self.new.retired ≡ 0) × (self.new.count ≡ self.old.count) }
     {
         self.retired = 0;

@@ -38,7 +38,7 @@ use Rattle.rowex_table.proofs.Running.{in_turn_more, does_count}
 use Rattle.rowex_records.specs.declared.claiming.RecordKind.{RecordKind}
 use Rattle.rowex_records.specs.declared.claiming.RecordKind.TheVariants.{Node, Leaf}
 use Rattle.rowex_records.specs.Claims.{claiming, begin_of, count_of, record_of, wrapped, HasIndex, IsKindOf, Misses, IsAnothers, IsAnothersTo, TellsState, HasMissedSince, records_had, MissesOne, HoldsOneMore, ClaimsOne, FindsNone, Claims, AllMissed, GoesOnBehind, GoesOnTrying, TriesSome}
-use Rattle.rowex_records.specs.Starts.{IsRow, first_word}
+use Rattle.rowex_records.specs.Starts.{IsSpan, first_word}
 use Rattle.rowex_records.proofs.Making.{counted, claims_nothing, claims_one, looks_one, claims_append}
 
 -- Numbers in turn
@@ -100,7 +100,7 @@ starts_at (Leaf first end) layout i is low = (omega arith, omega arith)
 leaf_next : (layout : Layout) (n size : ℕ) → leaf_size layout n ≡ size → leaf_start layout (n + 1) ≡ leaf_start layout n + size
 leaf_next layout n size is = grind arith
 
-pub spaced_leaves : (layout : Layout) (first end number upto size : ℕ) → ((q : ℕ) → first + number ≤ q → q < upto → leaf_size layout q ≡ size) → IsRow (Leaf first end) layout number (upto - first - number) size
+pub spaced_leaves : (layout : Layout) (first end number upto size : ℕ) → ((q : ℕ) → first + number ≤ q → q < upto → leaf_size layout q ≡ size) → IsSpan (Leaf first end) layout number (upto - first - number) size
 spaced_leaves layout first end number upto size same i low =
     let here : leaf_size layout (first + (number + i)) ≡ size = same (first + (number + i)) (omega arith) (omega arith) in
     let next : first + (number + (i + 1)) ≡ first + (number + i) + 1 = omega arith in
@@ -386,8 +386,8 @@ module _ {G : Type 0} (table : TableView) (becomes : G → Event → G → Type 
   pub claims_gives : (kind : ℕ → Rec) (n from number : ℕ) (a b : SeatView × G) → Claims table becomes kind n from number a b → IsClaimed b.0.known (kind number)
   claims_gives kind n from number a b claims = more_is_claimed (kind number) claims.before.0.known b.0.known claims.one.holds
 
-  row_at : (n from m number index count : ℕ) → number ≡ wrapped n from m → from < n → m + count ≤ n → index < count → number + count ≤ n → number + index ≡ wrapped n from (m + index)
-  row_at n from m number index count is low fits below few = ap (λ z. z + index) is ∙ turned_by n from m index low (omega arith) (rw (← is) (omega arith))
+  span_at : (n from m number index count : ℕ) → number ≡ wrapped n from m → from < n → m + count ≤ n → index < count → number + count ≤ n → number + index ≡ wrapped n from (m + index)
+  span_at n from m number index count is low fits below few = ap (λ z. z + index) is ∙ turned_by n from m index low (omega arith) (rw (← is) (omega arith))
 
   module _ (kind : RecordKind) where
     abbrev n : ℕ
@@ -396,23 +396,23 @@ module _ {G : Type 0} (table : TableView) (becomes : G → Event → G → Type 
     abbrev rec : ℕ → Rec
     rec = record_of kind
 
-    -- A row of records: none yet, one more, and one that was free
+    -- A span of records: none yet, one more, and one that was free
 
-    pub row_none : (number : ℕ) (b : SeatView × G) → GoesOnTrying table becomes kind number 0 None b b
-    row_none number b a from m low fits is none = subst (λ z. FindsNone table becomes rec n from z a b) (sym (add-zero m)) none
+    pub span_none : (number : ℕ) (b : SeatView × G) → GoesOnTrying table becomes kind number 0 None b b
+    span_none number b a from m low fits is none = subst (λ z. FindsNone table becomes rec n from z a b) (sym (add-zero m)) none
 
-    pub row_more : (number index : ℕ) (a i b : SeatView × G) → number + (index + 1) ≤ n → GoesOnTrying table becomes kind number index None a i
+    pub span_more : (number index : ℕ) (a i b : SeatView × G) → number + (index + 1) ≤ n → GoesOnTrying table becomes kind number index None a i
         → MissesOne table becomes (rec (number + index)) i b → GoesOnTrying table becomes kind number (index + 1) None a b
-    row_more number index a i b few tries one c from m low fits is none =
+    span_more number index a i b few tries one c from m low fits is none =
         let next : m + index + 1 ≡ m + (index + 1) = omega arith in
         subst (λ z. FindsNone table becomes rec n from z c b) next
-        (finds_more rec n from (m + index) (number + index) c i b (row_at n from m number index (index + 1) is low fits (omega arith) few) (tries c from m low (omega arith) is none) one)
+        (finds_more rec n from (m + index) (number + index) c i b (span_at n from m number index (index + 1) is low fits (omega arith) few) (tries c from m low (omega arith) is none) one)
 
-    pub row_claims : (number index count : ℕ) (a i b : SeatView × G) → index < count → number + count ≤ n → GoesOnTrying table becomes kind number index None a i
+    pub span_claims : (number index count : ℕ) (a i b : SeatView × G) → index < count → number + count ≤ n → GoesOnTrying table becomes kind number index None a i
         → ClaimsOne table becomes (rec (number + index)) i b → GoesOnTrying table becomes kind number count (Some index) a b
-    row_claims number index count a i b below few tries one c from m low fits is none = (
+    span_claims number index count a i b below few tries one c from m low fits is none = (
       below,
-      record { tried = m + index; low = omega arith; number_is = row_at n from m number index count is low fits below few; before = i; none = tries c from m low (omega arith) is none; one = one },
+      record { tried = m + index; low = omega arith; number_is = span_at n from m number index count is low fits below few; before = i; none = tries c from m low (omega arith) is none; one = one },
       refl,
     )
 
@@ -431,20 +431,20 @@ module _ {G : Type 0} (table : TableView) (becomes : G → Event → G → Type 
       tries_behind a i b answer one behind = subst (λ z. TriesSome table becomes kind z most answer a b) is
           (behind a (finds_more rec n number 0 number a a i (first_turn n number low) (finds_none rec n number a) one))
 
-    -- Rows behind the first record: none yet, one more, and one that has a free record
+    -- Spans behind the first record: none yet, one more, and one that has a free record
 
     pub behind_none : (begin : ℕ) (b : SeatView × G) → GoesOnBehind table becomes kind begin 1 (None, 1) b b
     behind_none begin b a none = (refl, none)
 
     module _ (begin tried number count : ℕ) (b i c : SeatView × G) (low : begin < n) (fits : tried + count ≤ n)
         (is : number ≡ wrapped n begin tried) (behind : GoesOnBehind table becomes kind begin tried (None, tried) b i) where
-      pub behind_row : GoesOnTrying table becomes kind number count None i c → GoesOnBehind table becomes kind begin (tried + count) (None, tried + count) b c
-      behind_row row a none = (refl, row a begin tried low fits is (behind a none).1)
+      pub behind_span : GoesOnTrying table becomes kind number count None i c → GoesOnBehind table becomes kind begin (tried + count) (None, tried + count) b c
+      behind_span span a none = (refl, span a begin tried low fits is (behind a none).1)
 
       pub behind_claims : (index most : ℕ) → GoesOnTrying table becomes kind number count (Some index) i c →
           GoesOnBehind table becomes kind begin most (Some (number + index), tried + index + 1) b c
-      behind_claims index most row a none =
-          let (below, claims, at) = row a begin tried low fits is (behind a none).1 in (claims, ap (λ z. z + 1) at)
+      behind_claims index most span a none =
+          let (below, claims, at) = span a begin tried low fits is (behind a none).1 in (claims, ap (λ z. z + 1) at)
 
     -- what is left then, and where as many may be tried as there are, all are tried
     module _ (from left less : ℕ) (a b : SeatView × G) where

@@ -1,21 +1,17 @@
 -- Steps on records of the pass's own: what they leave of what it knows, and how they follow one another.
-use Rattle.std.proofs.Common.{◌≡◌, ℕ, ◌+◌, List, [], ◌∷◌, ◌++◌, Bool, true, false, nat_eq, refl, sym, ap, ◌∙◌}
+use Rattle.std.proofs.Common.{◌≡◌, ℕ, ◌+◌, List, [], ◌∷◌, ◌++◌, Bool, true, false, nat_eq, refl}
 use Rattle.std.specs.Prelude.{if◌then◌else◌, Option}
-use Rattle.std.proofs.lemmas.List.{append-nil}
-use Rattle.finite_map.specs.declared.Note.{Note}
 use Rattle.record_words.specs.declared.layout.Layout.{Layout}
 use Rattle.versions.specs.declared.Rec.{Rec}
 use Rattle.versions.specs.Core.{Fate, Free, Held, Ready as ReadyBy, InTree, Unlinked, Marked}
 use Rattle.rowex_core.specs.declared.event.Act.{Act}
 use Rattle.rowex_core.specs.declared.event.Act.TheVariants.{Claim, LoadState, Fill, Ready, Release}
 use Rattle.rowex_core.specs.declared.event.Event.{Event}
-use Rattle.rowex_core.specs.declared.known.Failed.{Failed}
 use Rattle.rowex_core.specs.declared.known.FailedAct.TheVariants.{LoadState as a_load}
-use Rattle.rowex_core.specs.declared.known.Owned.{Owned}
 use Rattle.rowex_core.specs.declared.known.Known.{Known}
 use Rattle.rowex_core.specs.Cores.{Core, holder_of}
 use Rattle.rowex_core.specs.Events.{word_of}
-use Rattle.rowex_core.specs.Knowing.{IsEvent, claim_learned, failed_with}
+use Rattle.rowex_core.specs.Knowing.{IsEvent, claim_learned, failed_with, learned_by}
 use Rattle.rowex_table.specs.Runs.{silent, Steps, Does}
 use Rattle.rowex_table.specs.Seats.{TableView, SeatView}
 use Rattle.rowex_table.proofs.Running as running
@@ -31,37 +27,27 @@ IsOnHeld (Ready r) = Unit {0}
 IsOnHeld (Release r) = Unit {0}
 IsOnHeld act = ⊥
 
-own_settled : (k j : Known) (own : List Owned) → j ≡ record k { own = own; steps = k.steps + 1; notes = k.notes ++ [] } → j ≡ record (owning k j) { steps = k.steps + 1 }
-own_settled k j own e =
-    let bare : record k { own = own; steps = k.steps + 1; notes = k.notes ++ [] } ≡ record k { own = own; steps = k.steps + 1 } = ap (λ (notes : List Note). let z : Known = record k { own = own; steps = k.steps + 1; notes = notes } in z) (append-nil k.notes) in
-    e ∙ (bare ∙ ap (λ (z : Known). let y : Known = record (owning k z) { steps = k.steps + 1 } in y) (sym e))
-
 own_rest : (layout : Layout) (act : Act) (k j : Known) → IsOnHeld act → IsEvent layout act silent k j → j ≡ record (owning k j) { steps = k.steps + 1 }
-own_rest layout (Fill r offset w) k j on e = own_settled k j _ e.learned_is
-own_rest layout (Ready r) k j on e = own_settled k j _ e.learned_is
-own_rest layout (Release r) k j on e = own_settled k j _ e.learned_is
+own_rest layout (Fill r offset w) k j on e = running.settled owning k (learned_by e.core (Fill r offset w) k) j e.learned_is refl
+own_rest layout (Ready r) k j on e = running.settled owning k (learned_by e.core (Ready r) k) j e.learned_is refl
+own_rest layout (Release r) k j on e = running.settled owning k (learned_by e.core (Release r) k) j e.learned_is refl
 own_rest layout _ k j on e = absurd on
-
-settled : (k j : Known) (own : List Owned) (failed : List Failed) → j ≡ record k { own = own; failed = failed; steps = k.steps + 1; notes = k.notes ++ [] } → j ≡ record (claiming k j) { steps = k.steps + 1 }
-settled k j own failed e =
-    let bare : record k { own = own; failed = failed; steps = k.steps + 1; notes = k.notes ++ [] } ≡ record k { own = own; failed = failed; steps = k.steps + 1 } = ap (λ (notes : List Note). let z : Known = record k { own = own; failed = failed; steps = k.steps + 1; notes = notes } in z) (append-nil k.notes) in
-    e ∙ (bare ∙ ap (λ (z : Known). let y : Known = record (claiming k z) { steps = k.steps + 1 } in y) (sym e))
 
 -- what the pass knows after a step that taught it l
 abbrev pub counted : Known → Known → Known
 counted k l = record l { steps = k.steps + 1; notes = k.notes ++ [] }
 
 claim_rest : (c : Core) (r : Rec) (found : ℕ) (f : Fate) (k j : Known) → j ≡ counted k (claim_learned c r found f k) → j ≡ record (claiming k j) { steps = k.steps + 1 }
-claim_rest c r found Free k j e = settled k j _ _ e
-claim_rest c r found (Held q) k j e = settled k j _ _ e
-claim_rest c r found (ReadyBy q) k j e = settled k j _ _ e
-claim_rest c r found (InTree s) k j e = settled k j _ _ e
-claim_rest c r found (Unlinked s l q) k j e = settled k j _ _ e
-claim_rest c r found (Marked s l epoch) k j e = settled k j _ _ e
+claim_rest c r found Free k j e = running.settled claiming k (claim_learned c r found Free k) j e refl
+claim_rest c r found (Held q) k j e = running.settled claiming k (claim_learned c r found (Held q) k) j e refl
+claim_rest c r found (ReadyBy q) k j e = running.settled claiming k (claim_learned c r found (ReadyBy q) k) j e refl
+claim_rest c r found (InTree s) k j e = running.settled claiming k (claim_learned c r found (InTree s) k) j e refl
+claim_rest c r found (Unlinked s l q) k j e = running.settled claiming k (claim_learned c r found (Unlinked s l q) k) j e refl
+claim_rest c r found (Marked s l epoch) k j e = running.settled claiming k (claim_learned c r found (Marked s l epoch) k) j e refl
 
 look_rest : (r : Rec) (word : ℕ) (free : Bool) (by : Option ℕ) (k j : Known) → j ≡ counted k (if free then k else failed_with k (a_load by) (word_of r 0) word) → j ≡ record (claiming k j) { steps = k.steps + 1 }
-look_rest r word true by k j e = settled k j _ _ e
-look_rest r word false by k j e = settled k j _ _ e
+look_rest r word true by k j e = running.settled claiming k k j e refl
+look_rest r word false by k j e = running.settled claiming k (failed_with k (a_load by) (word_of r 0) word) j e refl
 
 module _ {G : Type 0} (table : TableView) (becomes : G → Event → G → Type 0) where
   -- Steps on held records, one after the other

@@ -1,11 +1,10 @@
 -- A record's words put in place one by one, where a word that is looked at and stands there already is not stored again.
 use Rattle.std.proofs.Common.{◌≡◌, ◌≢◌, inl, inr, ℕ, zero, suc, ◌+◌, ◌*◌, ◌-◌, ◌<◌, ◌≤◌, nat_eq, nat_lt, List, [], ◌∷◌, ◌++◌, length, map, set, get_or, Bool, true, false, refl, sym, ap, subst, ◌∙◌, arith, length-append, ap₂}
 use Rattle.std.specs.Prelude.{All, Contains}
-use Rattle.std.proofs.lemmas.List.{append-nil, length-set, set-get_or}
+use Rattle.std.proofs.lemmas.List.{length-set, set-get_or}
 use Rattle.std.proofs.lemmas.Bool.{eq-eqb, eqb-true, lt-ltb, ltb-false}
 use Rattle.std.proofs.lemmas.List.Elements.{All-head, All-tail}
 use Rattle.finite_map.specs.declared.Change.{Change}
-use Rattle.finite_map.specs.declared.Note.{Note}
 use Rattle.versions.specs.declared.Rec.{Rec}
 use Rattle.versions.specs.declared.Rec.TheVariants.{Node as a_node, Leaf as a_leaf}
 use Rattle.versions.specs.Steps.{same_rec}
@@ -27,13 +26,13 @@ use Rattle.rowex_core.specs.Events.{IsFixedOffset}
 use Rattle.rowex_core.specs.Words.{record_word}
 use Rattle.rowex_core.specs.Reading.{IsPacked}
 use Rattle.rowex_core.specs.Sharing.{IsOwned}
-use Rattle.rowex_core.specs.Knowing.{IsEvent, with_filled_word}
+use Rattle.rowex_core.specs.Knowing.{IsEvent, learned_by, with_filled_word}
 use Rattle.rowex_core.proofs.Owning.{knows_all}
 use Rattle.rowex_table.specs.Made.{IsLater}
 use Rattle.rowex_table.specs.Rights.{OwnsAs, IsClaimed}
 use Rattle.rowex_table.specs.Runs.{silent, Steps, Runs, Does, InTurn}
 use Rattle.rowex_table.specs.Stays.{KeepsRecall}
-use Rattle.rowex_table.specs.Seats.{TableView, SeatView, IsSeatOf}
+use Rattle.rowex_table.specs.Seats.{TableView, SeatView}
 use Rattle.rowex_table.proofs.ActsBefore.{later_trans, recalls_on, same_later}
 use Rattle.rowex_table.proofs.Rights.{mapped}
 use Rattle.rowex_table.proofs.Running as running
@@ -43,11 +42,6 @@ use Rattle.rowex_records.proofs.Filled.{AreSized, each_mapped, filled_with, leaf
 use Rattle.rowex_records.proofs.Making.{owns_one}
 
 -- ---- one word
-read_settled : (k j : Known) (front : List Change) (facts : List Fact) → j ≡ record k { front = front; facts = facts; steps = k.steps + 1; notes = k.notes ++ [] } → j ≡ record (filling k j) { steps = k.steps + 1 }
-read_settled k j front facts e =
-    let bare : record k { front = front; facts = facts; steps = k.steps + 1; notes = k.notes ++ [] } ≡ record k { front = front; facts = facts; steps = k.steps + 1 } = ap (λ (notes : List Note). let z : Known = record k { front = front; facts = facts; steps = k.steps + 1; notes = notes } in z) (append-nil k.notes) in
-    e ∙ (bare ∙ ap (λ (z : Known). let y : Known = record (filling k z) { steps = k.steps + 1 } in y) (sym e))
-
 no_state : (r : Rec) → IsFixedOffset r 0 → ⊥
 no_state (a_node n) h = let low = h.0 in absurd (omega arith)
 no_state (a_leaf n) h = let low = h.0 in absurd (omega arith)
@@ -107,8 +101,8 @@ found_stands layout word k j = looks (λ r offset act. IsEvent layout act silent
 -- a load teaches nothing else than facts
 look_settled : (layout : Layout) (word : ℕ) (k j : Known) (r : Rec) (offset : ℕ) → IsEvent layout (load_of_word r offset word) silent k j → j ≡ record (filling k j) { steps = k.steps + 1 }
 look_settled layout word k j = looks (λ r offset act. IsEvent layout act silent k j → j ≡ record (filling k j) { steps = k.steps + 1 }) word
-    (λ r offset e. read_settled k j _ _ e.learned_is)
-    (λ n i e. read_settled k j _ _ e.learned_is)
+    (λ r offset e. running.settled filling k (learned_by e.core (LoadFixed r offset word) k) j e.learned_is refl)
+    (λ n i e. running.settled filling k (learned_by e.core (LoadRef (Slot n i) word) k) j e.learned_is refl)
 
 look_owns : (layout : Layout) (word : ℕ) (k j : Known) (r : Rec) (offset : ℕ) → IsEvent layout (load_of_word r offset word) silent k j → j.own ≡ k.own
 look_owns layout word k j = looks (λ r offset act. IsEvent layout act silent k j → j.own ≡ k.own) word

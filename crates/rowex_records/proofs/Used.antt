@@ -1,5 +1,5 @@
 -- In which of its words a node has something.
-use Rattle.std.proofs.Common.{◌≡◌, ◌≢◌, ℕ, zero, suc, ◌+◌, ◌-◌, ◌*◌, ◌/◌, ◌%◌, ◌^◌, ◌<◌, ◌≤◌, Bool, true, false, List, [], ◌∷◌, Option, Some, get_or, get_or-take, length, take, refl, sym, ap, ◌∙◌, arith, ⊎_elim, lit<}
+use Rattle.std.proofs.Common.{◌≡◌, ◌≢◌, ℕ, zero, suc, ◌+◌, ◌-◌, ◌*◌, ◌/◌, ◌%◌, ◌^◌, ◌<◌, ◌≤◌, Bool, true, false, List, [], ◌∷◌, Option, Some, get_or, get_or-take, length, take, refl, sym, ap, subst, ◌∙◌, arith, ⊎_elim, lit<}
 use Rattle.std.specs.Prelude.{slice_get}
 use Rattle.std.proofs.Math.Nat.{pow-suc}
 use Rattle.std.proofs.lemmas.Nat.{pow_pos}
@@ -17,6 +17,7 @@ use Rattle.compound_node.proofs.Lawful.{same_count}
 use Rattle.record_words.specs.declared.TheConstants.{FIRST_ENTRY}
 use Rattle.record_words.specs.Entry.{entry_word}
 use Rattle.record_words.specs.Node.{HasNodeWords, node_words}
+use Rattle.record_words.specs.Reading.{IsSpelling}
 use Rattle.record_words.specs.Packed.{position_at, position_word, row_at, row_word}
 use Rattle.record_words.proofs.Fixing.{AreFixed, fixed_words_parts}
 use Rattle.record_words.proofs.Lawful.{small_below}
@@ -126,3 +127,14 @@ module _ (node : NodeView) (words : List ℕ) (is_node : HasNodeWords node) (sam
             let behind : length node.entries ≤ i - 25 = omega arith in
             entry_here i (i - 25) (omega arith) (omega arith) ∙ (ap (λ (z : Option Entry). entry_word z) (slice_get_past node.entries (i - 25) behind) ∙ sym (entry_unused i (omega arith)));
       }
+
+-- of the words that spell a node, the eight from each index on
+module _ (words : List ℕ) (spelling : IsSpelling HasNodeWords node_words words) where
+  pub spelled_positions : (end : ℕ) → end ≡ 1 + (get_or words 0 0 / 256 % 256 + 3) / 4 → HaveBelow words 1 end
+  spelled_positions end is = let (node, has, same) = spelling in subst (HaveBelow words 1) (sym is) (positions_below node words has same)
+
+  pub spelled_rows : (first end : ℕ) → 9 ≤ first → first + 8 ≤ 25 → end ≡ 9 + (get_or words 0 0 % 256 + 1) / 2 → HaveBelow words first end
+  spelled_rows first end from to is = let (node, has, same) = spelling in subst (HaveBelow words first) (sym is) (rows_below node words has same first from to)
+
+  pub spelled_entries : (first end : ℕ) → 25 ≤ first → first + 8 ≤ 57 → end ≡ 25 + get_or words 0 0 % 256 → HaveBelow words first end
+  spelled_entries first end from to is = let (node, has, same) = spelling in subst (HaveBelow words first) (sym is) (entries_below node words has same first from to)

@@ -11,5 +11,5 @@ first_word Node layout i = node_start layout i
 first_word (Leaf first end) layout i = leaf_start layout (first + i)
 
 -- of so many records of a kind, from this number on, each begins so many words before the next one
-abbrev pub IsRow : RecordKind → Layout → (number count size : ℕ) → Type 0
-IsRow kind layout number count size = (i : ℕ) → i < count → first_word kind layout (number + (i + 1)) ≡ first_word kind layout (number + i) + size
+abbrev pub IsSpan : RecordKind → Layout → (number count size : ℕ) → Type 0
+IsSpan kind layout number count size = (i : ℕ) → i < count → first_word kind layout (number + (i + 1)) ≡ first_word kind layout (number + i) + size

@@ -6,7 +6,7 @@ ghost use Rattle.rowex_table.specs.Rights.{IsClaimed};
 ghost use Rattle.rowex_table.specs.Rule.{IsStartOf};
 ghost use Rattle.rowex_table.specs.Seats.{IsSeatOf};
 ghost use Rattle.rowex_records.specs.Claims.{AllMissed, IsAnothersTo, Claims, ClaimsOne, FindsNone, GoesOnBehind, MissesNumber, MissesOne, TriesSome, HasIndex, IsKindOf, GoesOnTrying, begin_of, count_of, record_of};
-ghost use Rattle.rowex_records.specs.Starts.{IsRow, first_word};
+ghost use Rattle.rowex_records.specs.Starts.{IsSpan, first_word};
 ghost use Rattle.rowex_records.specs.Records.{GivesUp, GivesUpAll, HoldsJust};
 
 use record_words::{Layout, NODE_WORDS};
@@ -23,7 +23,7 @@ pub enum RecordKind {
 
 /// `count` records of a kind, from number `number` on. Each begins `size` words behind the one before.
 #[derive(Clone, Copy)]
-struct Row {
+struct Span {
     number: u32,
     count: u32,
     size: usize,
@@ -53,21 +53,21 @@ impl RecordKind {
         }
     }
 
-    /// The row of the records of this kind from number `number` on that are as large as the first of them.
-    fn row_at(self, layout: &Layout, number: u32) -> Row
+    /// The span of the records of this kind from number `number` on that are as large as the first of them.
+    fn span_at(self, layout: &Layout, number: u32) -> Span
         requires kind { IsKindOf self layout.now }
         requires low { number < count_of self layout.now }
         ensures number { result.number ≡ number }
         ensures count { (0 < result.count) × (number + result.count ≤ count_of self layout.now) }
-        ensures row { IsRow self layout.now number result.count result.size }
+        ensures span { IsSpan self layout.now number result.count result.size }
     {
         match self {
-            RecordKind::Node => Row {
+            RecordKind::Node => Span {
                 number,
                 count: layout.nodes - number,
                 size: NODE_WORDS,
             },
-            RecordKind::Leaf { first, end } => Row {
+            RecordKind::Leaf { first, end } => Span {
                 number,
                 count: layout.class_end(first + number).min(end) - first - number,
                 size: layout.leaf_size(first + number),
@@ -118,7 +118,7 @@ pub fn claim_record<G: Gate>(
 ///
 /// It tries records as [`claim_record`] does, but no more than `left`, which is then less by those that were tried.
 ///
-/// Mostly the first one is free: only behind it are records tried row by row. Inline, for callers know the kind.
+/// Mostly the first one is free: only behind it are records tried span by span. Inline, for callers know the kind.
 #[inline(always)]
 pub fn claim_within<G: Gate>(
     table: &HotTable,
@@ -172,7 +172,7 @@ fn claim_and_count<G: Gate>(
     claim_behind(table, seat, gate, kind, begin, most)
 }
 
-/// Claims the first record of `kind` that it finds free behind number `begin`, which was not free, row by row. It tries no more than
+/// Claims the first record of `kind` that it finds free behind number `begin`, which was not free, span by span. It tries no more than
 /// `most`, with that one. Returns the record's number, or `None` if none was free, and how many were tried, with that one.
 fn claim_behind<G: Gate>(
     table: &HotTable,
@@ -195,9 +195,9 @@ fn claim_behind<G: Gate>(
     let mut number = first_number(begin + 1, all);
     let mut tried = 1;
     while tried < most {
-        let row = kind.row_at(&layout, number);
-        let count = row.count.min(most - tried);
-        if let Some(index) = claim_in_row(table, seat, gate, kind, Row { count, ..row }) {
+        let span = kind.span_at(&layout, number);
+        let count = span.count.min(most - tried);
+        if let Some(index) = claim_in_span(table, seat, gate, kind, Span { count, ..span }) {
             return (Some(number + index), tried + index + 1);
         }
         tried += count;
@@ -206,30 +206,30 @@ fn claim_behind<G: Gate>(
     (None, most)
 }
 
-/// Claims the first record of `row`, of records of `kind`, that it finds free. Returns how many it tried before that one; `None` if none
+/// Claims the first record of `span`, of records of `kind`, that it finds free. Returns how many it tried before that one; `None` if none
 /// was free.
-fn claim_in_row<G: Gate>(
+fn claim_in_span<G: Gate>(
     table: &HotTable,
     seat: &mut TableSeat,
     gate: &mut G,
     kind: RecordKind,
-    row: Row,
+    span: Span,
 ) -> Option<u32>
     requires own { IsSeatOf table.now seat.old }
     requires kind { IsKindOf kind table.now.layout }
-    requires few { row.number + row.count ≤ count_of kind table.now.layout }
-    requires row { IsRow kind table.now.layout row.number row.count row.size }
+    requires few { span.number + span.count ≤ count_of kind table.now.layout }
+    requires span { IsSpan kind table.now.layout span.number span.count span.size }
     ensures own { IsSeatOf table.now seat.new }
-    ensures low { IfSome result (λ index. index < row.count) }
-    ensures tries { GoesOnTrying table.now G.becomes kind row.number row.count result (seat.old, gate.old) (seat.new, gate.new) }
+    ensures low { IfSome result (λ index. index < span.count) }
+    ensures tries { GoesOnTrying table.now G.becomes kind span.number span.count result (seat.old, gate.old) (seat.new, gate.new) }
 {
-    let mut start = kind.start_at(&table.layout(), row.number);
-    for index in 0..row.count {
-        let rec = kind.record_at(row.number + index);
+    let mut start = kind.start_at(&table.layout(), span.number);
+    for index in 0..span.count {
+        let rec = kind.record_at(span.number + index);
         if try_claim(table, seat, gate, RecordAt { rec, start }) {
             return Some(index);
         }
-        start += row.size;
+        start += span.size;
     }
     None
 }
@@ -265,10 +265,10 @@ fn try_claim<G: Gate>(table: &HotTable, seat: &mut TableSeat, gate: &mut G, at: 
     ensures missed { result ≡ false → MissesOne table.now G.becomes at.rec (seat.old, gate.old) (seat.new, gate.new) }
     ensures claimed { result ≡ true → ClaimsOne table.now G.becomes at.rec (seat.old, gate.old) (seat.new, gate.new) }
 {
-    if table.load_state_from(seat, gate, at) != 0 {
+    if table.load_state_at(seat, gate, at) != 0 {
         return false;
     }
-    table.claim_from(seat, gate, at) == 0
+    table.claim_at(seat, gate, at) == 0
 }
 
 /// The number to begin at, of `all` records: `from`, or 0 if `from` is out of range.

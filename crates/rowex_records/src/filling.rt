@@ -63,6 +63,7 @@ pub fn fill_leaf<G: Gate>(
 
 /// Fills the claimed node record `number` with `words`, those of a node but its state, in a step or two for each. A word in which the
 /// node has nothing is loaded, and stored only where another stands.
+#[tactic(auto, using(crate::proofs::Used::spelled_positions, crate::proofs::Used::spelled_rows, crate::proofs::Used::spelled_entries))]
 pub fn fill_words<G: Gate>(
     table: &HotTable,
     seat: &mut TableSeat,
@@ -152,7 +153,7 @@ fn store_word<G: Gate>(
     requires stored { ¬ (IsLookedAt at.rec offset word) }
     ensures { Sets table.now G.becomes at.rec offset word (seat.old, gate.old) (seat.new, gate.new) }
 {
-    table.fill_from(seat, gate, at, offset, word);
+    table.fill_at(seat, gate, at, offset, word);
 }
 
 /// Makes the word at `offset` of the claimed record `at` be `word`. It is loaded first, and stored only if another stands there: a key is
@@ -174,7 +175,7 @@ fn set_word<G: Gate>(
     ensures { Sets table.now G.becomes at.rec offset word (seat.old, gate.old) (seat.new, gate.new) }
 {
     if load_word(table, seat, gate, at, offset) != word {
-        table.fill_from(seat, gate, at, offset, word);
+        table.fill_at(seat, gate, at, offset, word);
     }
 }
 

@@ -1,6 +1,6 @@
 -- What the acts before a publish leave a pass, on the whole lists of what it has: locks, claims, fills, readies, releases, loads.
-use Rattle.std.proofs.Common.{◌≡◌, inl, inr, ℕ, suc, ◌+◌, ◌-◌, List, [], ◌∷◌, ◌++◌, length, get_or, map, set, nat_eq, Bool, true, false, Option, Some, None, refl, sym, ap, ap₂, subst, ◌∙◌, arith, append_assoc}
-use Rattle.std.specs.Prelude.{All, if◌then◌else◌}
+use Rattle.std.proofs.Common.{◌≡◌, inl, inr, ℕ, suc, ◌+◌, List, [], ◌∷◌, ◌++◌, length, get_or, map, nat_eq, Bool, true, false, Option, Some, None, refl, sym, ap, ap₂, subst, ◌∙◌, arith, append_assoc}
+use Rattle.std.specs.Prelude.{All}
 use Rattle.std.proofs.lemmas.Bool.{eqb-true}
 use Rattle.std.proofs.lemmas.List.{map-append, append-nil}
 use Rattle.std.proofs.lemmas.List.Elements.{All-tail}
@@ -9,12 +9,11 @@ use Rattle.finite_map.specs.declared.Note.{Note}
 use Rattle.finite_map.specs.Fronts.{OthersGoOn}
 use Rattle.record_words.specs.declared.layout.Layout.{Layout}
 use Rattle.record_words.specs.State.{state_word}
-use Rattle.record_words.specs.Entry.{entry_word}
 use Rattle.versions.specs.declared.Rec.{Rec}
 use Rattle.versions.specs.declared.Rec.TheVariants.{Node as a_node}
 use Rattle.versions.specs.declared.Pin.{Pin}
 use Rattle.versions.specs.State.{Past}
-use Rattle.versions.specs.Core.{Fate, Free, Held as HeldBy, Ready as ReadyBy, InTree, Unlinked as UnlinkedBy, Marked}
+use Rattle.versions.specs.Core.{Fate, InTree}
 use Rattle.versions.proofs.Legal.{same_rec_refl}
 use Rattle.rowex_core.specs.declared.event.Act.{Act}
 use Rattle.rowex_core.specs.declared.event.Act.TheVariants.{Claim, Fill, Ready, Release, LoadRef, LoadFixed, Lock, Unlock, Publish, Mark, LoadEpoch, Advance, SetPin, ClearPin, LoadPin, LoadState, GiveBack}
@@ -24,23 +23,24 @@ use Rattle.rowex_core.specs.declared.known.Fact.{Fact}
 use Rattle.rowex_core.specs.declared.known.Holding.{Holding}
 use Rattle.rowex_core.specs.declared.known.Holding.TheVariants.{Held, Ready as IsReady}
 use Rattle.rowex_core.specs.declared.known.FailedAct.{FailedAct}
-use Rattle.rowex_core.specs.declared.known.FailedAct.TheVariants.{Claim as a_claim, Lock as a_lock, LoadState as a_load}
+use Rattle.rowex_core.specs.declared.known.FailedAct.TheVariants.{Lock as a_lock}
 use Rattle.rowex_core.specs.declared.known.Known.{Known}
 use Rattle.rowex_core.specs.declared.known.Locked.{Locked}
 use Rattle.rowex_core.specs.declared.known.Owned.{Owned}
-use Rattle.rowex_core.specs.Cores.{Core, holder_of, word_count_of}
-use Rattle.rowex_core.specs.Words.{lock_of, lock_tag, tag_of, record_word}
-use Rattle.rowex_core.specs.Events.{target_word, word_of}
+use Rattle.rowex_core.specs.Cores.{Core}
+use Rattle.rowex_core.specs.Words.{lock_tag, tag_of, record_word}
+use Rattle.rowex_core.specs.Events.{target_word}
 use Rattle.rowex_core.specs.declared.event.Target.{Target}
 use Rattle.record_words.specs.declared.layout.Location.{Location}
-use Rattle.rowex_core.specs.Knowing.{Knows, failed_with, IsFact, IsEvent, facts_with, with_filled_word, with_holding, without_record, claim_learned, anchor_learned, node_learned, learned_by, learned, blocking_pass_at, Recalls}
-use Rattle.rowex_core.specs.Sharing.{IsOwned, IsLocked}
+use Rattle.rowex_core.specs.Knowing.{Knows, failed_with, IsFact, IsEvent, facts_with, with_holding, without_record, anchor_learned, node_learned, learned_by, learned, blocking_pass_at, Recalls}
+use Rattle.rowex_core.specs.Sharing.{IsLocked}
 use Rattle.rowex_core.proofs.Owning.{knows_all}
-use Rattle.rowex_table.proofs.Rights.{free_tag, anchor_free}
+use Rattle.rowex_table.proofs.ActsLeave.{as_before}
+use Rattle.rowex_table.proofs.Rights.{anchor_free}
 use Rattle.rowex_table.specs.Runs.{silent}
-use Rattle.rowex_table.specs.Stays.{KeepsRecall}
+use Rattle.rowex_table.specs.Stays.{KeepsRecall, LeavesFront, LeavesPin}
 use Rattle.versions.specs.Trades.{IsOneOf}
-use Rattle.rowex_core.proofs.Having.{not_free, other_rec}
+use Rattle.rowex_core.proofs.Having.{other_rec}
 use Rattle.rowex_table.specs.Made.{Made, held_as, recs_of, nodes_of, IsLater}
 use Rattle.versions.proofs.Members.{of_map, map_of, all_of}
 use Rattle.finite_map.proofs.Growth.{others_on, others_none}
@@ -85,9 +85,6 @@ unlike h ms r not_it o i e =
 
 hold_others : (h g : Holding) (ms : List Made) (r : Rec) → (IsOneOf r (recs_of ms) → ⊥) → map (with_holding r h) (map (held_as g) ms) ≡ map (held_as g) ms
 hold_others h g ms r not_it = same_map (with_holding r h) (map (held_as g) ms) (λ o i. rw (other_rec o.rec r (unlike g ms r not_it o i)) refl)
-
-fill_others : (offset w : ℕ) (g : Holding) (ms : List Made) (r : Rec) → (IsOneOf r (recs_of ms) → ⊥) → map (with_filled_word r offset w) (map (held_as g) ms) ≡ map (held_as g) ms
-fill_others offset w g ms r not_it = same_map (with_filled_word r offset w) (map (held_as g) ms) (λ o i. rw (other_rec o.rec r (unlike g ms r not_it o i)) refl)
 
 keep_others : (own : List Owned) (r : Rec) → ((o : Owned) → IsOneOf o own → o.rec ≡ r → ⊥) → without_record r own ≡ own
 keep_others [] r not_it = refl
@@ -144,18 +141,10 @@ module _ (layout : Layout) (said : Known → List Note) (k j : Known) where
 
   -- New records
 
-  claim_still : (c : Core) (r : Rec) (found : ℕ) (f : Fate) → ((claim_learned c r found f k).locks ≡ k.locks) × ((claim_learned c r found f k).anchor ≡ k.anchor)
-  claim_still c r found Free = (refl, refl)
-  claim_still c r found (HeldBy q) = (refl, refl)
-  claim_still c r found (ReadyBy q) = (refl, refl)
-  claim_still c r found (InTree s) = (refl, refl)
-  claim_still c r found (UnlinkedBy s l q) = (refl, refl)
-  claim_still c r found (Marked s l epoch) = (refl, refl)
-
   pub claim_leaves : (r : Rec) (found : ℕ) → IsEvent layout (Claim r found) said k j → (j.locks ≡ k.locks) × (j.anchor ≡ k.anchor)
   claim_leaves r found e =
-      let still = claim_still e.core r found (e.core.fate r) in
-      (ap (λ (z : Known). z.locks) e.learned_is ∙ still.0, ap (λ (z : Known). z.anchor) e.learned_is ∙ still.1)
+      let still = as_before layout k j e.core (Claim r found) in
+      (ap (λ (z : Known). z.locks) e.learned_is ∙ still.locks tt, ap (λ (z : Known). z.anchor) e.learned_is ∙ still.anchor tt)
 
   -- the next one is ready
   pub ready_gives_next : (m : Made) (done todo : List Made) → IsEvent layout (Ready m.rec) said k j → k.own ≡ map (held_as IsReady) done ++ (held_as Held m ∷ map (held_as Held) todo) →
@@ -177,43 +166,27 @@ module _ (layout : Layout) (said : Known → List Note) (k j : Known) where
   facts_kept None f s a = a
   facts_kept (Some p) f s a = All-tail (IsFact s) (f p.version) k.facts a
 
-  same : (c : Core) → AreSeen c k
-  same c = (refl, refl, others_none k.pass k.front, λ s x. x)
-
-  one_of : (b : Bool) (c : Core) (x y : Known) → AreSeen c x → AreSeen c y → AreSeen c (if b then x else y)
-  one_of true c x y f g = f
-  one_of false c x y f g = g
-
-  claim_seen : (c : Core) (r : Rec) (found : ℕ) (f : Fate) → AreSeen c (claim_learned c r found f k)
-  claim_seen c r found Free = same c
-  claim_seen c r found (HeldBy q) = same c
-  claim_seen c r found (ReadyBy q) = same c
-  claim_seen c r found (InTree s) = same c
-  claim_seen c r found (UnlinkedBy s l q) = same c
-  claim_seen c r found (Marked s l epoch) = same c
-
-  anchor_seen : (c : Core) (found : ℕ) (o : Option ℕ) → AreSeen c (anchor_learned c found o k)
-  anchor_seen c found None = same c
-  anchor_seen c found (Some q) = same c
+  still : (c : Core) (act : Act) → LeavesFront act → LeavesPin act → AreSeen c (learned_by c act k)
+  still c act front pin =
+      let kept = as_before layout k j c act in
+      (kept.pass, kept.pin pin, subst (OthersGoOn k.pass k.front) (sym (kept.front front)) (others_none k.pass k.front), λ s a. subst (All (IsFact s)) (kept.facts front) a)
 
   act_seen : (c : Core) (act : Act) → OthersGoOn k.pass k.front c.changes → KeepsRecall act → AreSeen c (learned_by c act k)
-  act_seen c (Claim r found) o t = claim_seen c r found (c.fate r)
-  act_seen c (Fill r offset w) o t = same c
-  act_seen c (Ready r) o t = same c
-  act_seen c (Release r) o t = same c
   act_seen c (LoadRef Root w) o t = (refl, refl, o, facts_kept k.pin _)
   act_seen c (LoadRef (Slot n i) w) o t = (refl, refl, o, facts_kept k.pin _)
   act_seen c (LoadFixed r offset w) o t = (refl, refl, o, facts_kept k.pin _)
-  act_seen c (Lock Anchor found) o t = anchor_seen c found c.anchor
-  act_seen c (Lock (NodeTarget n) found) o t = one_of (nat_eq found 2) c (record k { locks = record { node = n; words = c.words (a_node n) } ∷ k.locks }) (failed_with k (a_lock (blocking_pass_at c (NodeTarget n))) (target_word (NodeTarget n)) found) (same c) (same c)
-  act_seen c (Unlock Anchor) o t = same c
-  act_seen c (Unlock (NodeTarget n)) o t = same c
-  act_seen c (Mark r epoch) o t = same c
-  act_seen c (LoadEpoch w) o t = same c
-  act_seen c (Advance expected found) o t = same c
-  act_seen c (LoadPin p w) o t = same c
-  act_seen c (LoadState r w) o t = one_of (nat_eq w 0) c k (failed_with k (a_load (holder_of (c.fate r))) (word_of r 0) w) (same c) (same c)
-  act_seen c (GiveBack r epoch found) o t = same c
+  act_seen c (Claim r found) o t = still c (Claim r found) tt tt
+  act_seen c (Fill r offset w) o t = still c (Fill r offset w) tt tt
+  act_seen c (Ready r) o t = still c (Ready r) tt tt
+  act_seen c (Release r) o t = still c (Release r) tt tt
+  act_seen c (Lock target found) o t = still c (Lock target found) tt tt
+  act_seen c (Unlock target) o t = still c (Unlock target) tt tt
+  act_seen c (Mark r epoch) o t = still c (Mark r epoch) tt tt
+  act_seen c (LoadEpoch w) o t = still c (LoadEpoch w) tt tt
+  act_seen c (Advance expected found) o t = still c (Advance expected found) tt tt
+  act_seen c (LoadPin p w) o t = still c (LoadPin p w) tt tt
+  act_seen c (LoadState r w) o t = still c (LoadState r w) tt tt
+  act_seen c (GiveBack r epoch found) o t = still c (GiveBack r epoch found) tt tt
   act_seen c (Publish spot w) o t = absurd t
   act_seen c (SetPin w) o t = absurd t
   act_seen c ClearPin o t = absurd t
@@ -254,11 +227,3 @@ module _ (layout : Layout) (k j : Known) where
       j ≡ record (failed_with k (a_lock (blocking_pass_at e.core target)) (target_word target) found) { steps = k.steps + 1 }
   lock_fails Anchor found e ne = failed_step e.core (Lock Anchor found) (a_lock (blocking_pass_at e.core Anchor)) (target_word Anchor) found e.learned_is (anchor_held e.core found e.core.anchor e.legal.1 ne)
   lock_fails (NodeTarget n) found e ne = failed_step e.core (Lock (NodeTarget n) found) (a_lock (blocking_pass_at e.core (NodeTarget n))) (target_word (NodeTarget n)) found e.learned_is (rw (dead found 2 ne) refl)
-
-  claim_held : (c : Core) (r : Rec) (found : ℕ) (f : Fate) → found ≡ state_word (tag_of (lock_of c r) f) → (found ≡ 0 → ⊥) → claim_learned c r found f k ≡ failed_with k (a_claim (holder_of f)) (word_of r 0) found
-  claim_held c r found Free e ne = absurd (ne e)
-  claim_held c r found (HeldBy q) e ne = refl
-  claim_held c r found (ReadyBy q) e ne = refl
-  claim_held c r found (InTree s) e ne = refl
-  claim_held c r found (UnlinkedBy s l q) e ne = refl
-  claim_held c r found (Marked s l epoch) e ne = refl

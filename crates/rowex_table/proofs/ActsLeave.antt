@@ -18,60 +18,61 @@ use Rattle.rowex_table.specs.Stays.{LeavesFront, LeavesFresh, LeavesFailed, Leav
 
 module _ (layout : Layout) (k j : Known) where
   -- the same, but for what the act is about
-  record IsAs (act : Act) (i : Known) : Type 0 where
-    pass : i.pass ≡ k.pass
-    notes : i.notes ≡ k.notes
-    front : LeavesFront act → i.front ≡ k.front
-    fresh : LeavesFresh act → i.fresh ≡ k.fresh
-    failed : LeavesFailed act → i.failed ≡ k.failed
-    own : LeavesOwn act → i.own ≡ k.own
-    locks : LeavesLocks act → i.locks ≡ k.locks
-    anchor : LeavesAnchor act → i.anchor ≡ k.anchor
-    pin : LeavesPin act → i.pin ≡ k.pin
-    round : LeavesRound act → i.round ≡ k.round
+  pub record IsAs (act : Act) (i : Known) : Type 0 where
+    pub pass : i.pass ≡ k.pass
+    pub notes : i.notes ≡ k.notes
+    pub front : LeavesFront act → i.front ≡ k.front
+    pub fresh : LeavesFresh act → i.fresh ≡ k.fresh
+    pub failed : LeavesFailed act → i.failed ≡ k.failed
+    pub own : LeavesOwn act → i.own ≡ k.own
+    pub locks : LeavesLocks act → i.locks ≡ k.locks
+    pub anchor : LeavesAnchor act → i.anchor ≡ k.anchor
+    pub pin : LeavesPin act → i.pin ≡ k.pin
+    pub round : LeavesRound act → i.round ≡ k.round
+    pub facts : LeavesFront act → i.facts ≡ k.facts
 
   claimed : (c : Core) (r : Rec) (found : ℕ) (f : Fate) → IsAs (Claim r found) (claim_learned c r found f k)
-  claimed c r found Free = record { pass = refl; notes = refl; front = λ t. refl; fresh = λ t. refl; failed = λ t. absurd t; own = λ t. absurd t; locks = λ t. refl; anchor = λ t. refl; pin = λ t. refl; round = λ t. refl }
-  claimed c r found (HeldBy q) = record { pass = refl; notes = refl; front = λ t. refl; fresh = λ t. refl; failed = λ t. absurd t; own = λ t. absurd t; locks = λ t. refl; anchor = λ t. refl; pin = λ t. refl; round = λ t. refl }
-  claimed c r found (ReadyBy q) = record { pass = refl; notes = refl; front = λ t. refl; fresh = λ t. refl; failed = λ t. absurd t; own = λ t. absurd t; locks = λ t. refl; anchor = λ t. refl; pin = λ t. refl; round = λ t. refl }
-  claimed c r found (InTree s) = record { pass = refl; notes = refl; front = λ t. refl; fresh = λ t. refl; failed = λ t. absurd t; own = λ t. absurd t; locks = λ t. refl; anchor = λ t. refl; pin = λ t. refl; round = λ t. refl }
-  claimed c r found (UnlinkedBy s l q) = record { pass = refl; notes = refl; front = λ t. refl; fresh = λ t. refl; failed = λ t. absurd t; own = λ t. absurd t; locks = λ t. refl; anchor = λ t. refl; pin = λ t. refl; round = λ t. refl }
-  claimed c r found (Marked s l epoch) = record { pass = refl; notes = refl; front = λ t. refl; fresh = λ t. refl; failed = λ t. absurd t; own = λ t. absurd t; locks = λ t. refl; anchor = λ t. refl; pin = λ t. refl; round = λ t. refl }
+  claimed c r found Free = record { pass = refl; notes = refl; front = λ t. refl; fresh = λ t. refl; failed = λ t. absurd t; own = λ t. absurd t; locks = λ t. refl; anchor = λ t. refl; pin = λ t. refl; round = λ t. refl; facts = λ t. refl }
+  claimed c r found (HeldBy q) = record { pass = refl; notes = refl; front = λ t. refl; fresh = λ t. refl; failed = λ t. absurd t; own = λ t. absurd t; locks = λ t. refl; anchor = λ t. refl; pin = λ t. refl; round = λ t. refl; facts = λ t. refl }
+  claimed c r found (ReadyBy q) = record { pass = refl; notes = refl; front = λ t. refl; fresh = λ t. refl; failed = λ t. absurd t; own = λ t. absurd t; locks = λ t. refl; anchor = λ t. refl; pin = λ t. refl; round = λ t. refl; facts = λ t. refl }
+  claimed c r found (InTree s) = record { pass = refl; notes = refl; front = λ t. refl; fresh = λ t. refl; failed = λ t. absurd t; own = λ t. absurd t; locks = λ t. refl; anchor = λ t. refl; pin = λ t. refl; round = λ t. refl; facts = λ t. refl }
+  claimed c r found (UnlinkedBy s l q) = record { pass = refl; notes = refl; front = λ t. refl; fresh = λ t. refl; failed = λ t. absurd t; own = λ t. absurd t; locks = λ t. refl; anchor = λ t. refl; pin = λ t. refl; round = λ t. refl; facts = λ t. refl }
+  claimed c r found (Marked s l epoch) = record { pass = refl; notes = refl; front = λ t. refl; fresh = λ t. refl; failed = λ t. absurd t; own = λ t. absurd t; locks = λ t. refl; anchor = λ t. refl; pin = λ t. refl; round = λ t. refl; facts = λ t. refl }
 
   anchored : (c : Core) (found : ℕ) (o : Option ℕ) → IsAs (Lock Anchor found) (anchor_learned c found o k)
-  anchored c found None = record { pass = refl; notes = refl; front = λ t. refl; fresh = λ t. refl; failed = λ t. absurd t; own = λ t. refl; locks = λ t. refl; anchor = λ t. absurd t; pin = λ t. refl; round = λ t. refl }
-  anchored c found (Some q) = record { pass = refl; notes = refl; front = λ t. refl; fresh = λ t. refl; failed = λ t. absurd t; own = λ t. refl; locks = λ t. refl; anchor = λ t. absurd t; pin = λ t. refl; round = λ t. refl }
+  anchored c found None = record { pass = refl; notes = refl; front = λ t. refl; fresh = λ t. refl; failed = λ t. absurd t; own = λ t. refl; locks = λ t. refl; anchor = λ t. absurd t; pin = λ t. refl; round = λ t. refl; facts = λ t. refl }
+  anchored c found (Some q) = record { pass = refl; notes = refl; front = λ t. refl; fresh = λ t. refl; failed = λ t. absurd t; own = λ t. refl; locks = λ t. refl; anchor = λ t. absurd t; pin = λ t. refl; round = λ t. refl; facts = λ t. refl }
 
   one_of : (act : Act) (b : Bool) (x y : Known) → IsAs act x → IsAs act y → IsAs act (if b then x else y)
   one_of act true x y f g = f
   one_of act false x y f g = g
 
-  as_before : (c : Core) (act : Act) → IsAs act (learned_by c act k)
+  pub as_before : (c : Core) (act : Act) → IsAs act (learned_by c act k)
   as_before c (Claim r found) = claimed c r found (c.fate r)
   as_before c (Lock Anchor found) = anchored c found c.anchor
   as_before c (Lock (NodeTarget n) found) = one_of (Lock (NodeTarget n) found) (nat_eq found 2) _ _
-      (record { pass = refl; notes = refl; front = λ t. refl; fresh = λ t. refl; failed = λ t. absurd t; own = λ t. refl; locks = λ t. absurd t; anchor = λ t. refl; pin = λ t. refl; round = λ t. refl })
-      (record { pass = refl; notes = refl; front = λ t. refl; fresh = λ t. refl; failed = λ t. absurd t; own = λ t. refl; locks = λ t. absurd t; anchor = λ t. refl; pin = λ t. refl; round = λ t. refl })
-  as_before c (LoadRef Root w) = record { pass = refl; notes = refl; front = λ t. absurd t; fresh = λ t. absurd t; failed = λ t. refl; own = λ t. refl; locks = λ t. refl; anchor = λ t. refl; pin = λ t. refl; round = λ t. refl }
-  as_before c (LoadRef (Slot n i) w) = record { pass = refl; notes = refl; front = λ t. absurd t; fresh = λ t. refl; failed = λ t. refl; own = λ t. refl; locks = λ t. refl; anchor = λ t. refl; pin = λ t. refl; round = λ t. refl }
-  as_before c (LoadFixed r offset w) = record { pass = refl; notes = refl; front = λ t. absurd t; fresh = λ t. refl; failed = λ t. refl; own = λ t. refl; locks = λ t. refl; anchor = λ t. refl; pin = λ t. refl; round = λ t. refl }
-  as_before c (Fill r offset w) = record { pass = refl; notes = refl; front = λ t. refl; fresh = λ t. refl; failed = λ t. refl; own = λ t. absurd t; locks = λ t. refl; anchor = λ t. refl; pin = λ t. refl; round = λ t. refl }
-  as_before c (Ready r) = record { pass = refl; notes = refl; front = λ t. refl; fresh = λ t. refl; failed = λ t. refl; own = λ t. absurd t; locks = λ t. refl; anchor = λ t. refl; pin = λ t. refl; round = λ t. refl }
-  as_before c (Release r) = record { pass = refl; notes = refl; front = λ t. refl; fresh = λ t. refl; failed = λ t. refl; own = λ t. absurd t; locks = λ t. refl; anchor = λ t. refl; pin = λ t. refl; round = λ t. refl }
-  as_before c (Publish Root w) = record { pass = refl; notes = refl; front = λ t. absurd t; fresh = λ t. refl; failed = λ t. refl; own = λ t. absurd t; locks = λ t. absurd t; anchor = λ t. absurd t; pin = λ t. refl; round = λ t. refl }
-  as_before c (Publish (Slot n i) w) = record { pass = refl; notes = refl; front = λ t. absurd t; fresh = λ t. refl; failed = λ t. refl; own = λ t. absurd t; locks = λ t. absurd t; anchor = λ t. refl; pin = λ t. refl; round = λ t. refl }
-  as_before c (Unlock Anchor) = record { pass = refl; notes = refl; front = λ t. refl; fresh = λ t. refl; failed = λ t. refl; own = λ t. refl; locks = λ t. refl; anchor = λ t. absurd t; pin = λ t. refl; round = λ t. refl }
-  as_before c (Unlock (NodeTarget n)) = record { pass = refl; notes = refl; front = λ t. refl; fresh = λ t. refl; failed = λ t. refl; own = λ t. refl; locks = λ t. absurd t; anchor = λ t. refl; pin = λ t. refl; round = λ t. refl }
-  as_before c (Mark r epoch) = record { pass = refl; notes = refl; front = λ t. refl; fresh = λ t. refl; failed = λ t. refl; own = λ t. absurd t; locks = λ t. refl; anchor = λ t. refl; pin = λ t. refl; round = λ t. refl }
-  as_before c (LoadEpoch w) = record { pass = refl; notes = refl; front = λ t. refl; fresh = λ t. refl; failed = λ t. refl; own = λ t. refl; locks = λ t. refl; anchor = λ t. refl; pin = λ t. refl; round = λ t. absurd t }
-  as_before c (Advance expected found) = record { pass = refl; notes = refl; front = λ t. refl; fresh = λ t. refl; failed = λ t. refl; own = λ t. refl; locks = λ t. refl; anchor = λ t. refl; pin = λ t. refl; round = λ t. refl }
-  as_before c (SetPin w) = record { pass = refl; notes = refl; front = λ t. refl; fresh = λ t. refl; failed = λ t. refl; own = λ t. refl; locks = λ t. refl; anchor = λ t. refl; pin = λ t. absurd t; round = λ t. refl }
-  as_before c ClearPin = record { pass = refl; notes = refl; front = λ t. refl; fresh = λ t. refl; failed = λ t. refl; own = λ t. refl; locks = λ t. refl; anchor = λ t. refl; pin = λ t. absurd t; round = λ t. refl }
-  as_before c (LoadPin o w) = record { pass = refl; notes = refl; front = λ t. refl; fresh = λ t. refl; failed = λ t. refl; own = λ t. refl; locks = λ t. refl; anchor = λ t. refl; pin = λ t. refl; round = λ t. absurd t }
+      (record { pass = refl; notes = refl; front = λ t. refl; fresh = λ t. refl; failed = λ t. absurd t; own = λ t. refl; locks = λ t. absurd t; anchor = λ t. refl; pin = λ t. refl; round = λ t. refl; facts = λ t. refl })
+      (record { pass = refl; notes = refl; front = λ t. refl; fresh = λ t. refl; failed = λ t. absurd t; own = λ t. refl; locks = λ t. absurd t; anchor = λ t. refl; pin = λ t. refl; round = λ t. refl; facts = λ t. refl })
+  as_before c (LoadRef Root w) = record { pass = refl; notes = refl; front = λ t. absurd t; fresh = λ t. absurd t; failed = λ t. refl; own = λ t. refl; locks = λ t. refl; anchor = λ t. refl; pin = λ t. refl; round = λ t. refl; facts = λ t. absurd t }
+  as_before c (LoadRef (Slot n i) w) = record { pass = refl; notes = refl; front = λ t. absurd t; fresh = λ t. refl; failed = λ t. refl; own = λ t. refl; locks = λ t. refl; anchor = λ t. refl; pin = λ t. refl; round = λ t. refl; facts = λ t. absurd t }
+  as_before c (LoadFixed r offset w) = record { pass = refl; notes = refl; front = λ t. absurd t; fresh = λ t. refl; failed = λ t. refl; own = λ t. refl; locks = λ t. refl; anchor = λ t. refl; pin = λ t. refl; round = λ t. refl; facts = λ t. absurd t }
+  as_before c (Fill r offset w) = record { pass = refl; notes = refl; front = λ t. refl; fresh = λ t. refl; failed = λ t. refl; own = λ t. absurd t; locks = λ t. refl; anchor = λ t. refl; pin = λ t. refl; round = λ t. refl; facts = λ t. refl }
+  as_before c (Ready r) = record { pass = refl; notes = refl; front = λ t. refl; fresh = λ t. refl; failed = λ t. refl; own = λ t. absurd t; locks = λ t. refl; anchor = λ t. refl; pin = λ t. refl; round = λ t. refl; facts = λ t. refl }
+  as_before c (Release r) = record { pass = refl; notes = refl; front = λ t. refl; fresh = λ t. refl; failed = λ t. refl; own = λ t. absurd t; locks = λ t. refl; anchor = λ t. refl; pin = λ t. refl; round = λ t. refl; facts = λ t. refl }
+  as_before c (Publish Root w) = record { pass = refl; notes = refl; front = λ t. absurd t; fresh = λ t. refl; failed = λ t. refl; own = λ t. absurd t; locks = λ t. absurd t; anchor = λ t. absurd t; pin = λ t. refl; round = λ t. refl; facts = λ t. absurd t }
+  as_before c (Publish (Slot n i) w) = record { pass = refl; notes = refl; front = λ t. absurd t; fresh = λ t. refl; failed = λ t. refl; own = λ t. absurd t; locks = λ t. absurd t; anchor = λ t. refl; pin = λ t. refl; round = λ t. refl; facts = λ t. absurd t }
+  as_before c (Unlock Anchor) = record { pass = refl; notes = refl; front = λ t. refl; fresh = λ t. refl; failed = λ t. refl; own = λ t. refl; locks = λ t. refl; anchor = λ t. absurd t; pin = λ t. refl; round = λ t. refl; facts = λ t. refl }
+  as_before c (Unlock (NodeTarget n)) = record { pass = refl; notes = refl; front = λ t. refl; fresh = λ t. refl; failed = λ t. refl; own = λ t. refl; locks = λ t. absurd t; anchor = λ t. refl; pin = λ t. refl; round = λ t. refl; facts = λ t. refl }
+  as_before c (Mark r epoch) = record { pass = refl; notes = refl; front = λ t. refl; fresh = λ t. refl; failed = λ t. refl; own = λ t. absurd t; locks = λ t. refl; anchor = λ t. refl; pin = λ t. refl; round = λ t. refl; facts = λ t. refl }
+  as_before c (LoadEpoch w) = record { pass = refl; notes = refl; front = λ t. refl; fresh = λ t. refl; failed = λ t. refl; own = λ t. refl; locks = λ t. refl; anchor = λ t. refl; pin = λ t. refl; round = λ t. absurd t; facts = λ t. refl }
+  as_before c (Advance expected found) = record { pass = refl; notes = refl; front = λ t. refl; fresh = λ t. refl; failed = λ t. refl; own = λ t. refl; locks = λ t. refl; anchor = λ t. refl; pin = λ t. refl; round = λ t. refl; facts = λ t. refl }
+  as_before c (SetPin w) = record { pass = refl; notes = refl; front = λ t. refl; fresh = λ t. refl; failed = λ t. refl; own = λ t. refl; locks = λ t. refl; anchor = λ t. refl; pin = λ t. absurd t; round = λ t. refl; facts = λ t. refl }
+  as_before c ClearPin = record { pass = refl; notes = refl; front = λ t. refl; fresh = λ t. refl; failed = λ t. refl; own = λ t. refl; locks = λ t. refl; anchor = λ t. refl; pin = λ t. absurd t; round = λ t. refl; facts = λ t. refl }
+  as_before c (LoadPin o w) = record { pass = refl; notes = refl; front = λ t. refl; fresh = λ t. refl; failed = λ t. refl; own = λ t. refl; locks = λ t. refl; anchor = λ t. refl; pin = λ t. refl; round = λ t. absurd t; facts = λ t. refl }
   as_before c (LoadState r w) = one_of (LoadState r w) (nat_eq w 0) _ _
-      (record { pass = refl; notes = refl; front = λ t. refl; fresh = λ t. refl; failed = λ t. absurd t; own = λ t. refl; locks = λ t. refl; anchor = λ t. refl; pin = λ t. refl; round = λ t. refl })
-      (record { pass = refl; notes = refl; front = λ t. refl; fresh = λ t. refl; failed = λ t. absurd t; own = λ t. refl; locks = λ t. refl; anchor = λ t. refl; pin = λ t. refl; round = λ t. refl })
-  as_before c (GiveBack r epoch found) = record { pass = refl; notes = refl; front = λ t. refl; fresh = λ t. refl; failed = λ t. refl; own = λ t. refl; locks = λ t. refl; anchor = λ t. refl; pin = λ t. refl; round = λ t. refl }
+      (record { pass = refl; notes = refl; front = λ t. refl; fresh = λ t. refl; failed = λ t. absurd t; own = λ t. refl; locks = λ t. refl; anchor = λ t. refl; pin = λ t. refl; round = λ t. refl; facts = λ t. refl })
+      (record { pass = refl; notes = refl; front = λ t. refl; fresh = λ t. refl; failed = λ t. absurd t; own = λ t. refl; locks = λ t. refl; anchor = λ t. refl; pin = λ t. refl; round = λ t. refl; facts = λ t. refl })
+  as_before c (GiveBack r epoch found) = record { pass = refl; notes = refl; front = λ t. refl; fresh = λ t. refl; failed = λ t. refl; own = λ t. refl; locks = λ t. refl; anchor = λ t. refl; pin = λ t. refl; round = λ t. refl; facts = λ t. refl }
 
   pub act_leaves : (act : Act) → IsEvent layout act silent k j → IsNext act k j
   act_leaves act e =

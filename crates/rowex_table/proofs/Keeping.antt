@@ -1,5 +1,5 @@
 -- A step that its pass may make keeps the rule.
-use Rattle.std.proofs.Common.{◌≡◌, ◌≢◌, ℕ, zero, suc, ◌<◌, eqb, List, [], ◌∷◌, ◌++◌, set, get_or, Bool, true, false, nat_eq, if◌then◌else◌, Option, Some, None, refl, sym, ap, subst, ◌∙◌, ⊎_elim}
+use Rattle.std.proofs.Common.{◌≡◌, ◌≢◌, ℕ, zero, suc, ◌<◌, eqb, List, [], ◌∷◌, ◌++◌, set, get_or, true, false, Option, Some, refl, sym, ap, subst, ◌∙◌, ⊎_elim}
 use mathlib.Core.Option.{none, some, some-injective, some-ne-none}
 use lib.ListN.{get_elem?}
 use Rattle.atomic_table.specs.Seated.{TableId}
@@ -12,18 +12,14 @@ use Rattle.record_words.specs.Layout.{address, word_count}
 use Rattle.record_words.specs.declared.layout.Layout.{Layout}
 use Rattle.record_words.specs.declared.layout.Location.{Location}
 use Rattle.record_words.proofs.Locations.{address-below}
-use Rattle.versions.specs.declared.Rec.{Rec}
-use Rattle.versions.specs.Core.{Fate, Free, Held, Ready as ReadyBy, InTree, Unlinked, Marked}
 use Rattle.rowex_core.specs.declared.event.Act.{Act}
 use Rattle.rowex_core.specs.declared.event.Act.TheVariants.{Claim, Fill, Ready, Release, LoadRef, LoadFixed, Lock, Unlock, Publish, Mark, LoadEpoch, Advance, SetPin, ClearPin, LoadPin, LoadState, GiveBack}
 use Rattle.rowex_core.specs.declared.event.Event.{Event}
-use Rattle.rowex_core.specs.declared.event.Target.TheVariants.{Anchor, Node as NodeTarget}
-use Rattle.rowex_core.specs.declared.event.Spot.TheVariants.{Root, Slot}
 use Rattle.rowex_core.specs.declared.known.Known.{Known}
 use Rattle.rowex_core.specs.Cores.{Core, IsLawful}
 use Rattle.rowex_core.specs.Words.{Shows, word_at}
 use Rattle.rowex_core.specs.Events.{Legal, after, location_of, writes}
-use Rattle.rowex_core.specs.Knowing.{Knows, IsViewOf, IsEvent, learned, claim_learned, anchor_learned}
+use Rattle.rowex_core.specs.Knowing.{Knows, IsViewOf, IsEvent, learned}
 use Rattle.rowex_core.specs.Opening.{opening}
 use Rattle.rowex_core.proofs.Keeping.{keeps}
 use Rattle.rowex_core.proofs.Learning.{learns}
@@ -36,47 +32,12 @@ use Rattle.rowex_table.specs.Rule.{Happens, IsAddressOf, IsTrueOf, Ruled, IsSome
 use Rattle.rowex_table.specs.Runs.{StepsWith}
 use Rattle.rowex_table.specs.Seats.{SeatView, TableView}
 use Rattle.rowex_table.specs.Traces.{IsNextStep, view_of}
+use Rattle.rowex_table.proofs.ActsLeave.{as_before}
 use Rattle.rowex_table.proofs.Onward.{led_more, others_none, traces_more}
 
--- A pass keeps its number
-
-claim_pass : (c : Core) (r : Rec) (found : ℕ) (k : Known) (f : Fate) → (claim_learned c r found f k).pass ≡ k.pass
-claim_pass c r found k Free = refl
-claim_pass c r found k (Held q) = refl
-claim_pass c r found k (ReadyBy q) = refl
-claim_pass c r found k (InTree s) = refl
-claim_pass c r found k (Unlinked s l q) = refl
-claim_pass c r found k (Marked s l e) = refl
-
-anchor_pass : (c : Core) (found : ℕ) (k : Known) (o : Option ℕ) → (anchor_learned c found o k).pass ≡ k.pass
-anchor_pass c found k None = refl
-anchor_pass c found k (Some q) = refl
-
-either_pass : (b : Bool) (j i k : Known) → j.pass ≡ k.pass → i.pass ≡ k.pass → (if b then j else i).pass ≡ k.pass
-either_pass true j i k e f = e
-either_pass false j i k e f = f
-
+-- a pass keeps its number
 pub learned_pass : (c : Core) (act : Act) (k : Known) → (learned c act k).pass ≡ k.pass
-learned_pass c (Claim r found) k = claim_pass c r found k (c.fate r)
-learned_pass c (Fill r offset w) k = refl
-learned_pass c (Ready r) k = refl
-learned_pass c (Release r) k = refl
-learned_pass c (LoadRef Root w) k = refl
-learned_pass c (LoadRef (Slot n j) w) k = refl
-learned_pass c (LoadFixed r offset w) k = refl
-learned_pass c (Lock Anchor found) k = anchor_pass c found k c.anchor
-learned_pass c (Lock (NodeTarget n) found) k = either_pass (nat_eq found 2) _ _ k refl refl
-learned_pass c (Unlock Anchor) k = refl
-learned_pass c (Unlock (NodeTarget n)) k = refl
-learned_pass c (Publish spot w) k = refl
-learned_pass c (Mark r epoch) k = refl
-learned_pass c (LoadEpoch w) k = refl
-learned_pass c (Advance expected found) k = refl
-learned_pass c (SetPin w) k = refl
-learned_pass c ClearPin k = refl
-learned_pass c (LoadPin o w) k = refl
-learned_pass c (LoadState r w) k = either_pass (nat_eq w 0) _ _ k refl refl
-learned_pass c (GiveBack r epoch found) k = refl
+learned_pass c act k = (as_before c.layout k k c act).pass
 
 -- notes are outside the rule
 pub renoted : (c : Core) (k : Known) (notes : List Note) → Knows c k → Knows c (record k { notes = notes })

@@ -1,5 +1,6 @@
 -- Steps one after the other: how they follow one another, and what the gate was told.
 use Rattle.std.proofs.Common.{◌≡◌, ℕ, ◌+◌, List, [], ◌∷◌, ◌++◌, length, refl, sym, ap, subst, ◌∙◌, arith, add-one, length-append}
+use Rattle.std.proofs.lemmas.List.{append-nil}
 use Rattle.finite_map.specs.declared.Note.{Note}
 use Rattle.rowex_core.specs.declared.event.Act.{Act}
 use Rattle.rowex_core.specs.declared.event.Event.{Event}
@@ -15,6 +16,13 @@ same_none s = (refl, refl, refl, refl)
 
 pub same_more : (s t u : SeatView) → IsSame s t → IsSame t u → IsSame s u
 same_more s t u first second = (second.0 ∙ first.0, second.1 ∙ first.1, second.2 ∙ first.2, second.3 ∙ first.3)
+
+-- A step is counted, and no note comes with it. Where what it has taught (l) differs from what the pass knew (k) by no more than `changed` takes,
+-- so does what the pass knows then.
+pub settled : (changed : Known → Known → Known) (k l j : Known) → j ≡ record l { steps = k.steps + 1; notes = k.notes ++ [] } →
+    (let z : Known = record l { steps = k.steps + 1; notes = k.notes } in z ≡ record (changed k z) { steps = k.steps + 1 }) → j ≡ record (changed k j) { steps = k.steps + 1 }
+settled changed k l j e same = subst (λ (z : Known). z ≡ record (changed k z) { steps = k.steps + 1 })
+    (sym (e ∙ ap (λ (notes : List Note). let z : Known = record l { steps = k.steps + 1; notes = notes } in z) (append-nil k.notes))) same
 
 -- Steps in turn: those of one part more
 pub in_turn_more : (Parts : ℕ → List Act → Type 0) (n : ℕ) (before last : List Act) → InTurn Parts n before → Parts n last → InTurn Parts (n + 1) (before ++ last)

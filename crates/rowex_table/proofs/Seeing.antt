@@ -172,9 +172,6 @@ module _ {G : Type 0} (table : TableView) (becomes : G → Event → G → Type 
   runs_after [] a b run = subst (λ (z : SeatView × G). IsAfter a.0 z.0) (sym run) (after_itself a.0)
   runs_after (act ∷ acts) a b run = after_trans (step_after act silent a run.0 run.1) (runs_after acts run.0 b run.2)
 
-  pub runs_later : (acts : List Act) (a b : SeatView × G) → Runs table becomes acts a b → a.0.known.steps ≤ b.0.known.steps
-  runs_later acts a b run = (runs_after acts a b run).steps
-
   pub runs_show : (acts : List Act) (a b : SeatView × G) → Runs table becomes acts a b → Shows table.layout a.0 b.0
   runs_show [] a b run = inl (record {
     fresh = ap (λ (z : SeatView × G). z.0.known.fresh) run;
@@ -196,9 +193,6 @@ module _ {G : Type 0} (table : TableView) (becomes : G → Event → G → Type 
   counted : (acts : List Act) (act : Act) (said : Known → List Note) (a b : SeatView × G) → Ends table becomes acts act said a b → a.0.known.fresh.step < a.0.known.steps
   counted [] act said a b ends = subst (λ (z : SeatView × G). z.0.known.fresh.step < z.0.known.steps) ends.1 ends.2.event.knows.counted.loaded
   counted (x ∷ acts) act said a b ends = ends.1.1.event.knows.counted.loaded
-
-  pub ends_after : (acts : List Act) (act : Act) (said : Known → List Note) (a b : SeatView × G) → Ends table becomes acts act said a b → IsAfter a.0 b.0
-  ends_after acts act said a b ends = after_trans (runs_after acts a ends.0 ends.1) (step_after act said ends.0 b ends.2)
 
   pub ends_show : (acts : List Act) (act : Act) (said : Known → List Note) (a b : SeatView × G) → Ends table becomes acts act said a b → Shows table.layout a.0 b.0
   ends_show acts act said a b ends =

@@ -1,25 +1,20 @@
 -- Stamps: how one is split from a pass, and how it is joined to another.
-use Rattle.std.proofs.Common.{◌≡◌, ◌≢◌, ℕ, ◌<◌, [], List, Option, Some, refl, sym, subst, ◌∙◌, inl, ⊎_elim}
-use Rattle.std.proofs.lemmas.List.{set-get_or}
+use Rattle.std.proofs.Common.{◌≡◌, ℕ, ◌<◌, [], List, Option, Some, refl, sym, subst, ◌∙◌, inl, ⊎_elim}
 use Rattle.std.specs.Prelude.{All}
-use mathlib.Core.Option.{none, some}
-use lib.ListN.{get_elem?}
+use mathlib.Core.Option.{none}
 use Rattle.atomic_table.specs.Table.{Me, Allows, Splits, Joins}
 use Rattle.atomic_table.specs.Table as table
-use Rattle.atomic_table.proofs.Lists.{at_set}
 use Rattle.finite_map.specs.declared.Change.{Change}
 use Rattle.record_words.specs.declared.layout.Layout.{Layout}
 use Rattle.rowex_core.specs.declared.event.Event.{Event}
 use Rattle.rowex_core.specs.declared.known.Known.{Known}
 use Rattle.rowex_core.specs.Cores.{Core}
-use Rattle.rowex_core.specs.Words.{Shows}
 use Rattle.rowex_core.proofs.Keeping.{seen_by}
 use Rattle.rowex_table.specs.declared.traces.Trace.{Trace}
 use Rattle.rowex_table.specs.declared.traces.TracedView.{TracedView}
 use Rattle.rowex_table.specs.declared.traces.TracedView.TheVariants.{Spent, Pass, Witness, Follower}
-use Rattle.rowex_table.specs.Rule.{Ruled, IsTrueOf, Following, followed, following, stamped, stamping, with_front}
+use Rattle.rowex_table.specs.Rule.{Ruled, Following, followed, following, stamped, stamping, with_front}
 use Rattle.rowex_table.proofs.Dealing.{allows_view, joins_as, met_knows, shown, shown_run, splits}
-use Rattle.rowex_table.proofs.Keeping.{apart_set, each_set}
 use Rattle.rowex_table.proofs.Onward.{others_begin, others_none}
 
 -- The split: the pass keeps all that it has

@@ -1,4 +1,4 @@
-//! Steps on the epoch and on pins.
+//! Steps on the epoch and on pins. The pass of `seat` makes each, and `gate` is told of it.
 
 ghost use Rattle.std.specs.Prelude.{◌≡◌, ◌<◌, ◌≤◌, ◌+◌, ◌*◌, ◌^◌, ℕ, List};
 ghost use Rattle.finite_map.specs.declared.Note.{Note};

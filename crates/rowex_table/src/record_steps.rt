@@ -1,4 +1,4 @@
-//! Steps on the words of a record.
+//! Steps on the words of a record. The pass of `seat` makes each, and `gate` is told of it.
 
 ghost use Rattle.std.specs.Prelude.{◌≡◌, ◌<◌, ◌+◌, ◌*◌, ◌^◌, ℕ, List};
 ghost use Rattle.rowex_core.specs.declared.event.Act.TheVariants.{Claim, Fill, Ready, Release, LoadFixed, Mark, LoadState, GiveBack};
@@ -51,12 +51,12 @@ impl HotTable {
         requires range { HasRecord self.now.layout rec }
         ensures { Steps self.now G.becomes (Claim rec result) (seat.old, gate.old) (seat.new, gate.new) }
     {
-        self.claim_from(seat, gate, self.locate(rec))
+        self.claim_at(seat, gate, self.locate(rec))
     }
 
     /// Claims the record `at`, if it finds the record free. Returns the state word that it found: 0 if the pass has the record now.
     #[inline(always)]
-    pub fn claim_from<G: Gate>(&self, seat: &mut TableSeat, gate: &mut G, at: RecordAt) -> u64
+    pub fn claim_at<G: Gate>(&self, seat: &mut TableSeat, gate: &mut G, at: RecordAt) -> u64
         requires own { IsSeatOf self.now seat.old }
         requires start { IsStartOf self.now.layout at.rec at.start }
         ensures { Steps self.now G.becomes (Claim at.rec result) (seat.old, gate.old) (seat.new, gate.new) }
@@ -74,12 +74,12 @@ impl HotTable {
         requires may { MayStep self.now.layout (λ _. Fill rec offset word) seat.old.known }
         ensures { Steps self.now G.becomes (Fill rec offset word) (seat.old, gate.old) (seat.new, gate.new) }
     {
-        self.fill_from(seat, gate, self.locate(rec), offset, word);
+        self.fill_at(seat, gate, self.locate(rec), offset, word);
     }
 
     /// Stores `word` at `offset` of the record `at`, which the pass holds. Offsets are from 1, so that it isn't the state.
     #[inline(always)]
-    pub fn fill_from<G: Gate>(
+    pub fn fill_at<G: Gate>(
         &self,
         seat: &mut TableSeat,
         gate: &mut G,
@@ -173,12 +173,12 @@ impl HotTable {
         requires range { HasRecord self.now.layout rec }
         ensures { Steps self.now G.becomes (LoadState rec result) (seat.old, gate.old) (seat.new, gate.new) }
     {
-        self.load_state_from(seat, gate, self.locate(rec))
+        self.load_state_at(seat, gate, self.locate(rec))
     }
 
     /// Loads the state word of the record `at` and returns it.
     #[inline(always)]
-    pub fn load_state_from<G: Gate>(&self, seat: &mut TableSeat, gate: &mut G, at: RecordAt) -> u64
+    pub fn load_state_at<G: Gate>(&self, seat: &mut TableSeat, gate: &mut G, at: RecordAt) -> u64
         requires own { IsSeatOf self.now seat.old }
         requires start { IsStartOf self.now.layout at.rec at.start }
         ensures { Steps self.now G.becomes (LoadState at.rec result) (seat.old, gate.old) (seat.new, gate.new) }
@@ -200,13 +200,13 @@ impl HotTable {
         requires may { MayStep self.now.layout (λ found. GiveBack rec epoch found) seat.old.known }
         ensures { Steps self.now G.becomes (GiveBack rec epoch result) (seat.old, gate.old) (seat.new, gate.new) }
     {
-        self.give_back_from(seat, gate, self.locate(rec), epoch)
+        self.give_back_at(seat, gate, self.locate(rec), epoch)
     }
 
     /// Makes the record `at` free, if it finds the record obsolete in `epoch`. Returns the state word that it found: that of `epoch` if it
     /// made it free.
     #[inline(always)]
-    pub fn give_back_from<G: Gate>(
+    pub fn give_back_at<G: Gate>(
         &self,
         seat: &mut TableSeat,
         gate: &mut G,

@@ -1,4 +1,4 @@
-//! Steps on the entries of the tree, and on the locks that guard them.
+//! Steps on the entries of the tree, and on the locks that guard them. The pass of `seat` makes each, and `gate` is told of it.
 
 ghost use Rattle.std.specs.Prelude.{◌≡◌, ◌<◌, ◌+◌, ◌*◌, ◌^◌, ℕ, List};
 ghost use Rattle.record_words.specs.Layout.{IsInTable};

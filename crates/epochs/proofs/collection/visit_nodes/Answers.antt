@@ -1,5 +1,5 @@
 -- One record more.
-use Rattle.std.proofs.Common.{rules, arith, Bool, true, false, if◌then◌else◌, ◌≤◌}
+use Rattle.std.proofs.Common.{rules, arith}
 use Rattle.versions.specs.declared.Rec.TheVariants.{Node as a_node}
 use Rattle.epochs.specs.Rounds.{is_given}
 use Rattle.epochs.proofs.Visiting.{one_most, visits_more}

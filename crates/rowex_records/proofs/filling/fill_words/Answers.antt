@@ -1,35 +1,14 @@
 -- The first word, and eight by eight all of them, which spell the node.
-use Rattle.std.proofs.Common.{rules, length, lit<, ◌≡◌}
+use Rattle.std.proofs.Common.{rules, length, ◌≡◌}
 use Rattle.versions.specs.declared.Rec.TheVariants.{Node as a_node}
 use Rattle.rowex_core.specs.Reading.{IsPacked}
 use Rattle.rowex_records.proofs.SetAll.{set_claimed, sets_eights, sets_node, sets_count, sets_give}
-use Rattle.rowex_records.proofs.Used.{entries_below, numbers_used, positions_below, rows_below}
+use Rattle.rowex_records.proofs.Used.{numbers_used}
 use Rattle.rowex_records.proofs.filling.fill_words.Goals as goal
 
 -- the first word has something
 pub store_word-requires-clause-stored : goal.store_word-requires-clause-stored
 store_word-requires-clause-stored g c = let (node, has, same) = c.requires.spelling in numbers_used node c.args.words.now has same
-
-pub set_eight-requires-clause-have : goal.set_eight-requires-clause-have
-set_eight-requires-clause-have g c = let (node, has, same) = c.requires.spelling in positions_below node c.args.words.now has same
-
-pub set_eight-requires-2-clause-have : goal.set_eight-requires-2-clause-have
-set_eight-requires-2-clause-have g c = let (node, has, same) = c.requires.spelling in rows_below node c.args.words.now has same 9 (lit< tt) (lit< tt)
-
-pub set_eight-requires-3-clause-have : goal.set_eight-requires-3-clause-have
-set_eight-requires-3-clause-have g c = let (node, has, same) = c.requires.spelling in rows_below node c.args.words.now has same 17 (lit< tt) (lit< tt)
-
-pub set_eight-requires-4-clause-have : goal.set_eight-requires-4-clause-have
-set_eight-requires-4-clause-have g c = let (node, has, same) = c.requires.spelling in entries_below node c.args.words.now has same 25 (lit< tt) (lit< tt)
-
-pub set_eight-requires-5-clause-have : goal.set_eight-requires-5-clause-have
-set_eight-requires-5-clause-have g c = let (node, has, same) = c.requires.spelling in entries_below node c.args.words.now has same 33 (lit< tt) (lit< tt)
-
-pub set_eight-requires-6-clause-have : goal.set_eight-requires-6-clause-have
-set_eight-requires-6-clause-have g c = let (node, has, same) = c.requires.spelling in entries_below node c.args.words.now has same 41 (lit< tt) (lit< tt)
-
-pub set_eight-requires-7-clause-have : goal.set_eight-requires-7-clause-have
-set_eight-requires-7-clause-have g c = let (node, has, same) = c.requires.spelling in entries_below node c.args.words.now has same 49 (lit< tt) (lit< tt)
 
 pub set_eight-requires-clause-held : goal.set_eight-requires-clause-held
 set_eight-requires-clause-held g c = set_claimed _ _ (a_node c.args.number) 1 _ _ _ c.store_word.ensures c.requires.held

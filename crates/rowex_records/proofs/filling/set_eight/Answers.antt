@@ -1,5 +1,5 @@
 -- One word more.
-use Rattle.std.proofs.Common.{rules, arith, get_or, refl, ◌≡◌, ◌+◌, ◌<◌}
+use Rattle.std.proofs.Common.{arith, get_or, refl, ◌+◌, ◌<◌}
 use Rattle.versions.specs.declared.Rec.TheVariants.{Node as a_node}
 use Rattle.rowex_records.specs.Records.{Sets}
 use Rattle.rowex_records.proofs.SetAll.{more_sets}

@@ -6,13 +6,13 @@ use Rattle.rowex_table.proofs.Rights.{fills}
 use Rattle.rowex_records.proofs.SetAll.{load_claimed, sets_found, sets_mended}
 use Rattle.rowex_records.proofs.filling.set_word.Goals as goal
 
-pub fill_from-requires-clause-may : goal.fill_from-requires-clause-may
-fill_from-requires-clause-may g c =
+pub fill_at-requires-clause-may : goal.fill_at-requires-clause-may
+fill_at-requires-clause-may g c =
     let held = load_claimed _ _ c.args.at.rec c.args.offset _ _ _ c.load_word.ensures c.requires.held in
     fills c.args.table.now.layout _ c.args.at.rec _ _ held.0 c.requires.start.0 c.requires.range.0 (search rules) c.requires.range.1 held.2
 
 pub returns-then-load_word-word : goal.returns-then-load_word-word
-returns-then-load_word-word g c = sets_mended _ _ c.args.at.rec c.args.offset c.args.word _ _ _ _ c.requires.looked c.if-load_word-word.true c.load_word.ensures c.fill_from.ensures
+returns-then-load_word-word g c = sets_mended _ _ c.args.at.rec c.args.offset c.args.word _ _ _ _ c.requires.looked c.if-load_word-word.true c.load_word.ensures c.fill_at.ensures
 
 pub returns-else-load_word-word : goal.returns-else-load_word-word
 returns-else-load_word-word g c =

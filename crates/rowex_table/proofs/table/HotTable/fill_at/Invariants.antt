@@ -1,7 +1,7 @@
 -- The event of this step.
 use Rattle.std.specs.Prelude.{Some}
 use Rattle.rowex_table.specs.Runs.{silent}
-use Rattle.rowex_table.proofs.table.HotTable.fill_from.Given as goal
+use Rattle.rowex_table.proofs.table.HotTable.fill_at.Given as goal
 
 abbrev pub ghosts-store_at : goal.ghosts-store_at
 ghosts-store_at g a = record { layout = Some a.self.now.layout; act = a.act; said = silent }
