@@ -19,9 +19,9 @@ use Rattle.rowex_core.specs.Reading.{IsPacked}
 use Rattle.rowex_table.specs.Runs.{silent}
 use Rattle.version_laws.specs.Scan.{IsRead}
 use Rattle.rowex_reading.specs.Possible.{IsPossible}
-use Rattle.rowex_reading.specs.Seen.{seen, Sure, IsLedTo, IsCompared}
+use Rattle.rowex_reading.specs.Seen.{seen, AreLoaded, Sure, IsLedTo, IsCompared}
 use Rattle.rowex_reading.proofs.Leafing.{leaf_packed, leaf_read, leaf_stood}
-use Rattle.rowex_reading.proofs.Wording.{AreLoaded, led_stood, none_loaded, one_loaded, word_now}
+use Rattle.rowex_reading.proofs.Wording.{from_first, led_stood, none_loaded, one_loaded, word_now}
 
 -- the words of a leaf with the key, but for its value
 abbrev pub words_with : Key → List ℕ
@@ -68,29 +68,29 @@ IsKeyWord i o = (1 ≤ o) × (o < i)
 
 module _ (layout : Layout) (k : Known) (n : ℕ) (key : Key) (m : ℕ) (led : IsLedTo k m (Leaf n)) where
   -- one more is the key's
-  pub next_same : (j i : Known) (p w : ℕ) → AreLoaded k j (a_leaf n) (IsKeyWord p) (words_with key) → p < LEAF_FIELDS → IsEvent layout (LoadFixed (a_leaf n) (p + 1) w) silent j i →
-      w ≡ get_or (words_with key) p 0 → AreLoaded k i (a_leaf n) (IsKeyWord (p + 1)) (words_with key)
+  pub next_same : (j i : Known) (p w : ℕ) → AreLoaded k j (a_leaf n) 0 (IsKeyWord p) (words_with key) → p < LEAF_FIELDS → IsEvent layout (LoadFixed (a_leaf n) (p + 1) w) silent j i →
+      w ≡ get_or (words_with key) p 0 → AreLoaded k i (a_leaf n) 0 (IsKeyWord (p + 1)) (words_with key)
   next_same j i p w loaded low event is =
-      subst (AreLoaded k i (a_leaf n) (IsKeyWord (p + 1))) (ap (set (words_with key) p) is ∙ set-get_or (words_with key) p 0)
-      (one_loaded layout k j i (a_leaf n) (IsKeyWord p) (IsKeyWord (p + 1)) p w (words_with key) loaded (omega (arith, low, words_long key))
+      subst (AreLoaded k i (a_leaf n) 0 (IsKeyWord (p + 1))) (ap (set (words_with key) p) is ∙ set-get_or (words_with key) p 0)
+      (one_loaded layout k j i (a_leaf n) 0 (IsKeyWord p) (IsKeyWord (p + 1)) p w (words_with key) loaded (omega (arith, low, words_long key))
       (λ o both. ⊎_elim (λ (older : o < p). inl ((both.0, older), (λ e. omega (arith, e, older)))) (λ (newest : p ≤ o). inr (let b = both.1 in omega (arith, newest, b))) (cases_lt o p))
-      event m (led_stood k m (Leaf n) led))
+      (from_first p event) m (led_stood k m (Leaf n) led))
 
   -- the first is
-  pub first_same : (i : Known) (w : ℕ) → IsEvent layout (LoadFixed (a_leaf n) 2 w) silent k i → w ≡ length key → AreLoaded k i (a_leaf n) (IsKeyWord 2) (words_with key)
+  pub first_same : (i : Known) (w : ℕ) → IsEvent layout (LoadFixed (a_leaf n) 2 w) silent k i → w ≡ length key → AreLoaded k i (a_leaf n) 0 (IsKeyWord 2) (words_with key)
   first_same i w event is = next_same k i 1 w none (omega arith) event (is ∙ sym (length_word key))
     where
-      none : AreLoaded k k (a_leaf n) (IsKeyWord 1) (words_with key)
-      none = record { later = (none_loaded k (a_leaf n) (words_with key)).later; each = λ o stood a both. absurd (let low = both.0 in let high = both.1 in omega (arith, low, high)) }
+      none : AreLoaded k k (a_leaf n) 0 (IsKeyWord 1) (words_with key)
+      none = record { later = (none_loaded k (a_leaf n) 0 (words_with key)).later; each = λ o stood a both. absurd (let low = both.0 in let high = both.1 in omega (arith, low, high)) }
 
   -- one is not: the leaf has another key
-  pub other_key : (j i : Known) (p w : ℕ) (IsLoaded : ℕ → Type 0) → AreLoaded k j (a_leaf n) IsLoaded (words_with key) → 1 ≤ p → p < LEAF_FIELDS → (p ≡ 1) ⊎ (IsLoaded 1 × (p < 2 + words_of_key (length key))) →
+  pub other_key : (j i : Known) (p w : ℕ) (IsLoaded : ℕ → Type 0) → AreLoaded k j (a_leaf n) 0 IsLoaded (words_with key) → 1 ≤ p → p < LEAF_FIELDS → (p ≡ 1) ⊎ (IsLoaded 1 × (p < 2 + words_of_key (length key))) →
       IsEvent layout (LoadFixed (a_leaf n) (p + 1) w) silent j i → w ≢ get_or (words_with key) p 0 → Sure i (λ s. IsCompared s m n key None)
   unfolding IsPacked
   other_key j i p w IsLoaded loaded some low used event differs c lawful known = go (leaf_packed k i now.later n m led c lawful known)
     where
-      now : AreLoaded k i (a_leaf n) (IsThisToo IsLoaded p) (set (words_with key) p w)
-      now = one_loaded layout k j i (a_leaf n) IsLoaded (IsThisToo IsLoaded p) p w (words_with key) loaded (omega (arith, low, words_long key)) (λ o is. is) event m (led_stood k m (Leaf n) led)
+      now : AreLoaded k i (a_leaf n) 0 (IsThisToo IsLoaded p) (set (words_with key) p w)
+      now = one_loaded layout k j i (a_leaf n) 0 IsLoaded (IsThisToo IsLoaded p) p w (words_with key) loaded (omega (arith, low, words_long key)) (λ o is. is) (from_first p event) m (led_stood k m (Leaf n) led)
 
       word : (o : ℕ) → IsThisToo IsLoaded p o → 1 ≤ o → o < LEAF_FIELDS → o + 1 < words_for (get_or (c.words (a_leaf n)) 1 0) → get_or (set (words_with key) p w) o 0 ≡ get_or (c.words (a_leaf n)) o 0
       word o is past inside before = word_now k i (a_leaf n) (IsThisToo IsLoaded p) (set (words_with key) p w) now m (led_stood k m (Leaf n) led) c lawful known o is (omega arith, omega (arith, inside)) before
@@ -117,16 +117,16 @@ module _ (layout : Layout) (k : Known) (n : ℕ) (key : Key) (m : ℕ) (led : Is
           another is = differs (there ∙ (same_words pair.0 pair.1 p some low ∙ ap (λ z. get_or (words_with z) p 0) (sym is)))
 
   -- all are: it has the key, and the value that was loaded then
-  pub same_key : (j i : Known) (p value : ℕ) → IsPossible layout i → AreLoaded k j (a_leaf n) (IsKeyWord p) (words_with key) → p ≡ 2 + words_of_key (length key) → IsEvent layout (LoadFixed (a_leaf n) 1 value) silent j i →
+  pub same_key : (j i : Known) (p value : ℕ) → IsPossible layout i → AreLoaded k j (a_leaf n) 0 (IsKeyWord p) (words_with key) → p ≡ 2 + words_of_key (length key) → IsEvent layout (LoadFixed (a_leaf n) 1 value) silent j i →
       HasLeafWords (key, value) → Sure i (λ s. IsRead s m n key value)
   same_key j i p value possible loaded all event has =
       leaf_read layout k i n p (leaf_words (key, value)) possible whole (all ∙ ap (λ z. 2 + words_of_key z) (sym (parts key value).size))
       (λ o past. rest o past (cases_lt o LEAF_FIELDS)) (parts key value).count m led (key, value)
       record { is_value = has; spells = refl; only = λ other its same. same_leaf (key, value) other has its (sym same) }
     where
-      whole : AreLoaded k i (a_leaf n) (λ o. o < p) (leaf_words (key, value))
-      whole = subst (AreLoaded k i (a_leaf n) (λ o. o < p)) (value_set key value)
-          (one_loaded layout k j i (a_leaf n) (IsKeyWord p) (λ o. o < p) 0 value (words_with key) loaded (omega (arith, words_long key))
+      whole : AreLoaded k i (a_leaf n) 0 (λ o. o < p) (leaf_words (key, value))
+      whole = subst (AreLoaded k i (a_leaf n) 0 (λ o. o < p)) (value_set key value)
+          (one_loaded layout k j i (a_leaf n) 0 (IsKeyWord p) (λ o. o < p) 0 value (words_with key) loaded (omega (arith, words_long key))
           (λ o low. ⊎_elim (λ (none : o < 1). inr (omega (arith, none))) (λ (some : 1 ≤ o). inl ((some, low), (λ e. omega (arith, e, some)))) (cases_lt o 1))
           event m (led_stood k m (Leaf n) led))
 

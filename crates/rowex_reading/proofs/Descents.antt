@@ -28,7 +28,7 @@ use Rattle.version_laws.specs.Scan.{EntryStoodSince, IsRooted, IsPlaced, IsShape
 use Rattle.rowex_reading.specs.Lookups.{HasFound}
 use Rattle.rowex_reading.specs.Possible.{IsPossible}
 use Rattle.rowex_reading.specs.Reads.{Reads}
-use Rattle.rowex_reading.specs.Seen.{Sure, seen, since, HasPlace, IsLedTo, shape_of}
+use Rattle.rowex_reading.specs.Seen.{Sure, seen, since, HasPlace, IsLedTo, shape_of, IsHeadSeen}
 use Rattle.rowex_reading.proofs.Led.{reads_later, reads_trans, same_since}
 use Rattle.rowex_reading.proofs.Looking.{IsAt, at_led, leaf_found, next_of, place_of}
 use Rattle.rowex_reading.proofs.Seeing.{sure_later, since_later, seen_stable, rooted_stable, shaped_stable}
@@ -151,14 +151,13 @@ module _ (head : HeadView) (lawful : IsLawfulNode (node_of head (leaves (length 
 module _ {G : Type 0} {table : TableView} {becomes : G → Event → G → Type 0} {a b c : SeatView × G} {key : Key} {d : Entry} (at : IsAt table becomes a b key d)
     (way : List PathNode) (going : IsGoing table.layout b.0.known (since b.0.known) key way d) where
   -- It is a node, of which the head was read, and so the step there: there is an entry at the key's place.
-  module _ (n height : ℕ) (step : PathNode) (head : HeadView) (is : d ≡ Node n height) (reads : Reads table becomes 0 HEAD_WORDS b c) (high : head.height ≡ height)
-      (lawful : IsLawfulNode (node_of head (leaves (length head.rows)))) (shaped : Sure c.0.known (λ s. IsShaped s (since b.0.known) n (shape_of head)))
+  module _ (n height : ℕ) (step : PathNode) (head : HeadView) (is : d ≡ Node n height) (reads : Reads table becomes 0 HEAD_WORDS b c) (seen : IsHeadSeen c.0.known (since b.0.known) n height head)
       (stepped : step ≡ step_at head n (spot key (shape_of head))) where
     spot_is : step.at ≡ spot key (shape_of head)
     spot_is = ap (λ (s : PathNode). s.at) stepped
 
     pub there : HasPlace c.0.known (since b.0.known) n height step.at
-    there = place_of at n height (shape_of head) step.at is (le_refl HEAD_WORDS) reads shaped spot_is
+    there = place_of at n height (shape_of head) step.at is (le_refl HEAD_WORDS) reads seen.shaped spot_is
 
     -- The entry was read.
     module _ {i : SeatView × G} (e : Entry) (one : Reads table becomes 1 1 c i)
@@ -175,7 +174,7 @@ module _ {G : Type 0} {table : TableView} {becomes : G → Event → G → Type 
 
       -- the search has been led to it
       pub led_down : IsAt table becomes a i key e
-      led_down = next_of at n height (shape_of head) step.at is (le_refl HEAD_WORDS) reads shaped spot_is e one stood
+      led_down = next_of at n height (shape_of head) step.at is (le_refl HEAD_WORDS) reads seen.shaped spot_is e one stood
 
       -- the way has room for the node
       pub way_room : length way < 9 * MAX_BYTES
@@ -188,12 +187,12 @@ module _ {G : Type 0} {table : TableView} {becomes : G → Event → G → Type 
             forks = shape_of head;
             range = led_in_table table.layout b.0.known (since b.0.known) (Node n height) possible led;
             seen = sure_later {P = λ s. EntryStoodSince s (since b.0.known) (Node n height)} (seen_stable (since b.0.known) (Node n height)) (reads_later both) led.1;
-            shaped = sure_later {P = λ s. IsShaped s (since b.0.known) n (shape_of head)} (shaped_stable (since b.0.known) n (shape_of head)) (reads_later one) shaped;
+            shaped = sure_later {P = λ s. IsShaped s (since b.0.known) n (shape_of head)} (shaped_stable (since b.0.known) n (shape_of head)) (reads_later one) seen.shaped;
             placed = stood.1;
             at = spot_is;
             below = stood.0;
             count = refl;
-            room = let r = lawful.room in let q = head_size head lawful in let l = length-replicate (length head.rows) (LeafEntry 0) in omega arith;
+            room = let r = seen.lawful.room in let q = head_size head seen.lawful in let l = length-replicate (length head.rows) (LeafEntry 0) in omega arith;
             first = refl;
           }
 
@@ -201,7 +200,7 @@ module _ {G : Type 0} {table : TableView} {becomes : G → Event → G → Type 
       pub way_on : IsPossible table.layout b.0.known → IsGoing table.layout i.0.known (since i.0.known) key (way ++ step ∷ []) e
       way_on possible =
           let t : PathNode = record (step_at head n step.at) { height = height } in
-          let same : t ≡ step = ap (λ z. let x : PathNode = record (step_at head n step.at) { height = z } in x) (sym high) ∙ (ap (step_at head n) spot_is ∙ sym stepped) in
+          let same : t ≡ step = ap (λ z. let x : PathNode = record (step_at head n step.at) { height = z } in x) (sym seen.height) ∙ (ap (step_at head n) spot_is ∙ sym stepped) in
           let here : IsGoing table.layout b.0.known (since b.0.known) key way (Node n height) = subst (IsGoing table.layout b.0.known (since b.0.known) key way) is going in
           subst (λ z. IsGoing table.layout i.0.known (since i.0.known) key (way ++ z ∷ []) e) same
           (subst (λ o. IsGoing table.layout i.0.known o key (way ++ t ∷ []) e) (sym (same_since both))

@@ -32,11 +32,11 @@ use Rattle.version_laws.proofs.Loads.{loads_shape}
 use Rattle.version_laws.proofs.Search.{same_record_now}
 use Rattle.version_laws.proofs.Scans.{node_of as node_there, shaped}
 use Rattle.rowex_reading.specs.Possible.{IsPossible}
-use Rattle.rowex_reading.specs.Seen.{seen, AreHeadWords, IsLedTo, shape_of}
+use Rattle.rowex_reading.specs.Seen.{seen, AreHeadWords, AreLoaded, IsLedTo, shape_of}
 use Rattle.rowex_reading.proofs.Seeing.{recalls_before, seen_within, seen_past, seen_grown, seen_stable, stands_in, stands_seen}
 use Rattle.rowex_reading.proofs.Standing.{reach, is_packed}
 use Rattle.rowex_reading.proofs.Placing.{stood_if_stands}
-use Rattle.rowex_reading.proofs.Wording.{AreLoaded, led_stood, word_now, words_now}
+use Rattle.rowex_reading.proofs.Wording.{led_stood, word_now, words_now}
 use Rattle.rowex_core.proofs.Loading.{view}
 
 -- The forks of a node are those of one with its head and leaves at its places
@@ -76,7 +76,7 @@ same_fixed heap n x b (node m y d) r i f = ap (λ z. (heap.nodes z).fixed) (numb
     number e = cc
 
 -- All words of a node's head have been loaded.
-module _ (layout : Layout) (k j : Known) (n : ℕ) (words : List ℕ) (possible : IsPossible layout j) (loaded : AreLoaded k j (a_node n) (λ o. o < HEAD_WORDS) words)
+module _ (layout : Layout) (k j : Known) (n : ℕ) (words : List ℕ) (possible : IsPossible layout j) (loaded : AreLoaded k j (a_node n) 0 (λ o. o < length words) words)
     (long : length words ≡ HEAD_WORDS) (m h : ℕ) (led : IsLedTo k m (Node n h)) where
   -- in each core of which j is true, the words are those of a node's head
   record HeadNow (c : Core) : Type 0 where
@@ -95,7 +95,7 @@ module _ (layout : Layout) (k j : Known) (n : ℕ) (words : List ℕ) (possible 
       go (v, has, same) =
           let sized : IsSized (a_node n) (c.words (a_node n)) = lawful.records.sized (a_node n) in
           let are = words_now HEAD_WORDS words (c.words (a_node n)) long (omega (arith, sized.0))
-          (λ o low. word_now k j (a_node n) (λ o. o < HEAD_WORDS) words loaded m (led_stood k m (Node n h) led) c lawful known o low (omega arith, omega (arith, low)) tt) in
+          (λ o low. word_now k j (a_node n) (λ o. o < length words) words loaded m (led_stood k m (Node n h) led) c lawful known o (omega (arith, low, long)) (omega arith, omega (arith, low)) tt) in
           record {
             view_now = v;
             lawful_now = has.lawful;
@@ -155,12 +155,14 @@ module _ (layout : Layout) (k j : Known) (n : ℕ) (words : List ℕ) (possible 
   pub head_read : AreHeadWords j m n h words
   head_read = record {
     head = its;
-    height = head_height possible.core possible.lawful (recalls possible.core j possible.knows);
-    lawful = with_leaves some_now.view_now some_now.lawful_now (length its.rows) (same_count some_now.view_now some_now.lawful_now);
+    seen = record {
+      height = head_height possible.core possible.lawful (recalls possible.core j possible.knows);
+      lawful = with_leaves some_now.view_now some_now.lawful_now (length its.rows) (same_count some_now.view_now some_now.lawful_now);
+      shaped = head_shaped;
+    };
     words_are = some_now.spelled;
-    shaped = head_shaped;
   }
 
 -- the words of a head spell it
 pub spelled_so : {k : Known} {m n h : ℕ} {words : List ℕ} → AreHeadWords k m n h words → IsSpelling HasHeadWords head_words words
-spelled_so are = (are.head, (node_of are.head (leaves (length are.head.rows)), are.lawful, refl), are.words_are)
+spelled_so are = (are.head, (node_of are.head (leaves (length are.head.rows)), are.seen.lawful, refl), are.words_are)

@@ -35,26 +35,26 @@ use Rattle.version_laws.proofs.Search.{leaf_now}
 use Rattle.version_laws.proofs.Scans.{leaf_of}
 use Rattle.rowex_reading.specs.Possible.{IsPossible}
 use Rattle.rowex_reading.specs.Reads.{IsReader, Reads}
-use Rattle.rowex_reading.specs.Seen.{seen, Sure, IsLedTo}
+use Rattle.rowex_reading.specs.Seen.{seen, AreLoaded, Sure, IsLedTo}
 use Rattle.rowex_reading.proofs.Led.{reader_then, reads_one, reads_trans}
 use Rattle.rowex_reading.proofs.Seeing.{recalls_before, seen_within, seen_grown, stands_in, stands_seen}
 use Rattle.record_words.specs.Layout.{leaf_size}
 use Rattle.rowex_reading.proofs.Standing.{reach, is_packed, fits_in}
-use Rattle.rowex_reading.proofs.Wording.{AreLoaded, none_loaded, next_loaded, led_stood, word_now}
+use Rattle.rowex_reading.proofs.Wording.{from_first, none_loaded, next_loaded, led_stood, word_now}
 use Rattle.rowex_core.proofs.Loading.{view}
 
 -- they have been loaded
 first_loaded : (layout : Layout) (k i j : Known) (n value size : ℕ) → IsEvent layout (LoadFixed (a_leaf n) 1 value) silent k i → IsEvent layout (LoadFixed (a_leaf n) 2 size) silent i j →
-    (m : ℕ) → IsLedTo k m (Leaf n) → AreLoaded k j (a_leaf n) (λ o. o < 2) (first_words value size)
+    (m : ℕ) → IsLedTo k m (Leaf n) → AreLoaded k j (a_leaf n) 0 (λ o. o < 2) (first_words value size)
 first_loaded layout k i j n value size one two m led =
     let stood = led_stood k m (Leaf n) led in
     let long = length-replicate {A = ℕ} LEAF_FIELDS 0 in
-    next_loaded layout k i j (a_leaf n) 1 size (set (replicate LEAF_FIELDS 0) 0 value)
-    (next_loaded layout k k i (a_leaf n) 0 value (replicate LEAF_FIELDS 0) (none_loaded k (a_leaf n) (replicate LEAF_FIELDS 0)) (omega (arith, long)) one m stood)
+    next_loaded layout k i j (a_leaf n) 0 1 size (set (replicate LEAF_FIELDS 0) 0 value)
+    (next_loaded layout k k i (a_leaf n) 0 0 value (replicate LEAF_FIELDS 0) (none_loaded k (a_leaf n) 0 (replicate LEAF_FIELDS 0)) (omega (arith, long)) one m stood)
     (omega (arith, long, length-set (replicate LEAF_FIELDS 0) 0 value)) two m stood
 
 -- the length that was loaded is that of a key
-length_low : (layout : Layout) (k j : Known) (n : ℕ) (words : List ℕ) → IsPossible layout j → AreLoaded k j (a_leaf n) (λ o. o < 2) words → (m : ℕ) → IsLedTo k m (Leaf n) → get_or words 1 0 ≤ MAX_BYTES
+length_low : (layout : Layout) (k j : Known) (n : ℕ) (words : List ℕ) → IsPossible layout j → AreLoaded k j (a_leaf n) 0 (λ o. o < 2) words → (m : ℕ) → IsLedTo k m (Leaf n) → get_or words 1 0 ≤ MAX_BYTES
 unfolding IsPacked
 length_low layout k j n words possible loaded m led =
     let c = possible.core in
@@ -66,7 +66,7 @@ length_low layout k j n words possible loaded m led =
     let short = packed.1.key.short in omega (arith, now, size, short)
 
 -- and its bytes have room in the record
-pub room_of : (layout : Layout) (k j : Known) (n : ℕ) (IsLoaded : ℕ → Type 0) (words : List ℕ) → IsPossible layout j → AreLoaded k j (a_leaf n) IsLoaded words → IsLoaded 1 → (m : ℕ) → IsLedTo k m (Leaf n) →
+pub room_of : (layout : Layout) (k j : Known) (n : ℕ) (IsLoaded : ℕ → Type 0) (words : List ℕ) → IsPossible layout j → AreLoaded k j (a_leaf n) 0 IsLoaded words → IsLoaded 1 → (m : ℕ) → IsLedTo k m (Leaf n) →
     words_for (get_or words 1 0) ≤ leaf_size layout n
 room_of layout k j n IsLoaded words possible loaded here m led =
     let c = possible.core in
@@ -80,7 +80,7 @@ room_of layout k j n IsLoaded words possible loaded here m led =
 pub record HasFirst {G : Type 0} (table : TableView) (becomes : G → Event → G → Type 0) (a b : SeatView × G) (n value size : ℕ) : Type 0 where
   pub reads : Reads table becomes 0 2 a b
   pub reader : IsReader table b.0
-  pub loaded : AreLoaded a.0.known b.0.known (a_leaf n) (λ o. o < 2) (first_words value size)
+  pub loaded : AreLoaded a.0.known b.0.known (a_leaf n) 0 (λ o. o < 2) (first_words value size)
   pub short : size ≤ MAX_BYTES
   pub room : words_for size ≤ leaf_size table.layout n
 
@@ -122,7 +122,7 @@ module _ (k j : Known) (later : IsLater k j) (n m : ℕ) (led : IsLedTo k m (Lea
           (led_there.0, led_there.2, le_trans led_there.3 (seen_grown c later).longer, stands_seen c j st)
 
 -- The first words of a leaf have been loaded, with all that have bytes of its key, and the others are 0.
-module _ (layout : Layout) (k j : Known) (n i : ℕ) (words : List ℕ) (possible : IsPossible layout j) (loaded : AreLoaded k j (a_leaf n) (λ o. o < i) words)
+module _ (layout : Layout) (k j : Known) (n i : ℕ) (words : List ℕ) (possible : IsPossible layout j) (loaded : AreLoaded k j (a_leaf n) 0 (λ o. o < i) words)
     (all : i ≡ 2 + words_of_key (get_or words 1 0)) (rest : (o : ℕ) → i ≤ o → get_or words o 0 ≡ 0) (long : length words ≡ LEAF_FIELDS) (m : ℕ) (led : IsLedTo k m (Leaf n)) where
   -- in each core of which j is true, the words are those of a leaf
   record LeafNow (c : Core) : Type 0 where
@@ -171,7 +171,7 @@ pub record AreSoFar (k j : Known) (n i value size : ℕ) (bytes : List ℕ) : Ty
   pub long : length words ≡ LEAF_FIELDS
   pub value_is : get_or words 0 0 ≡ value
   pub size_is : get_or words 1 0 ≡ size
-  pub loaded : AreLoaded k j (a_leaf n) (λ o. o < i) words
+  pub loaded : AreLoaded k j (a_leaf n) 0 (λ o. o < i) words
   pub rest : (o : ℕ) → i ≤ o → get_or words o 0 ≡ 0
   pub count : length bytes ≡ MAX_BYTES
   pub bytes_are : (b : ℕ) → b < 30 → key_word bytes b ≡ get_or words (2 + b) 0
@@ -181,7 +181,7 @@ first_value value size =
     get_or-set_other (set (replicate LEAF_FIELDS 0) 0 value) 1 0 size 0 (λ e. omega (arith, e)) ∙
     get_or-set_same (replicate LEAF_FIELDS 0) 0 value 0 (omega (arith, length-replicate {A = ℕ} LEAF_FIELDS 0))
 
-pub so_far_first : (k j : Known) (n value size : ℕ) → AreLoaded k j (a_leaf n) (λ o. o < 2) (first_words value size) → AreSoFar k j n 2 value size (replicate MAX_BYTES 0)
+pub so_far_first : (k j : Known) (n value size : ℕ) → AreLoaded k j (a_leaf n) 0 (λ o. o < 2) (first_words value size) → AreSoFar k j n 2 value size (replicate MAX_BYTES 0)
 so_far_first k j n value size loaded = record {
   words = first_words value size;
   long = first_long value size;
@@ -208,7 +208,7 @@ so_far_next layout k j h n i value size w bytes more so_far past low event m led
   long = length-set so_far.words i w ∙ so_far.long;
   value_is = get_or-set_other so_far.words i 0 w 0 (λ e. omega (arith, e, past)) ∙ so_far.value_is;
   size_is = get_or-set_other so_far.words i 1 w 0 (λ e. omega (arith, e, past)) ∙ so_far.size_is;
-  loaded = next_loaded layout k j h (a_leaf n) i w so_far.words so_far.loaded inside event m (led_stood k m (Leaf n) led);
+  loaded = next_loaded layout k j h (a_leaf n) 0 i w so_far.words so_far.loaded inside (from_first i event) m (led_stood k m (Leaf n) led);
   rest = λ o behind. get_or-set_other so_far.words i o w 0 (λ e. omega (arith, e, behind)) ∙ so_far.rest o (omega (arith, behind));
   count = count;
   bytes_are = λ b few. ⊎_elim (λ (same : b ≡ i - 2). at_word b same) (λ (other : b ≢ i - 2).

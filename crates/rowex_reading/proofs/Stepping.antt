@@ -1,6 +1,6 @@
 -- A head's words, loaded in two parts, one after the other; and the step at their node.
-use Rattle.std.proofs.Common.{◌≡◌, ℕ, ◌+◌, ◌/◌, ◌%◌, ◌^◌, ◌<◌, ◌≤◌, ◌++◌, List, length, length-append, get_or, set, take, drop, refl, ap, ap₂, sym, ◌∙◌, subst, arith, lit≤}
-use Rattle.std.proofs.lemmas.List.{drop_at, get_or_append_left, set-append_right, take-take, take_at}
+use Rattle.std.proofs.Common.{◌≡◌, ℕ, ◌+◌, ◌/◌, ◌%◌, ◌^◌, ◌<◌, ◌≤◌, ◌++◌, List, length, length-append, get_or, take, drop, refl, ap, ap₂, sym, ◌∙◌, subst, arith, lit≤}
+use Rattle.std.proofs.lemmas.List.{drop_at, get_or_append_left, take-take, take_at}
 use Rattle.compound_node.proofs.Roots.{root_of_head}
 use Rattle.compound_node.specs.declared.entries.Entry.TheVariants.{Node}
 use Rattle.compound_node.specs.Nodes.{NodeView, IsLawfulNode, head_of, leaves, node_of, piece}
@@ -17,25 +17,22 @@ use Rattle.record_words.proofs.Spelled.{count_read, first_read, height-lt, heigh
 use Rattle.rowex_core.proofs.Owning.{recalls}
 use Rattle.rowex_core.proofs.Reading.{head_is}
 use Rattle.rowex_core.specs.Cores.{IsSized}
-use Rattle.rowex_core.specs.Knowing.{IsEvent}
 use Rattle.rowex_core.specs.Reading.{IsPacked}
-use Rattle.rowex_core.specs.declared.event.Act.TheVariants.{LoadFixed}
 use Rattle.rowex_core.specs.declared.known.Known.{Known}
-use Rattle.rowex_table.specs.Runs.{silent}
 use Rattle.tries.specs.Keys.{Key}
 use Rattle.tries.specs.Place.{spot}
 use Rattle.versions.specs.declared.Rec.TheVariants.{Node as a_node}
 use Rattle.rowex_reading.specs.Possible.{IsPossible}
-use Rattle.rowex_reading.specs.Seen.{AreHeadWords, IsLedTo, shape_of}
+use Rattle.rowex_reading.specs.Seen.{AreHeadWords, AreLoaded, IsLedTo, shape_of}
 use Rattle.rowex_reading.specs.Ways.{step_at}
 use Rattle.rowex_reading.proofs.Descents.{step_is}
 use Rattle.rowex_reading.proofs.Heading.{head_read, spelled_so}
 use Rattle.rowex_reading.proofs.Seeing.{recalls_before, search_spot}
 use Rattle.rowex_reading.proofs.Standing.{is_packed}
-use Rattle.rowex_reading.proofs.Wording.{AreLoaded, fewer_loaded, led_stood, next_loaded, same_loaded, word_now, words_now}
+use Rattle.rowex_reading.proofs.Wording.{both_loaded, led_stood, word_now, words_now}
 
 -- the first part has been loaded: it is that of some node
-pub front_spelled : (layout : Layout) (k j : Known) (n : ℕ) (front : List ℕ) → IsPossible layout j → AreLoaded k j (a_node n) (λ o. o < FIRST_ROWS) front → length front ≡ FIRST_ROWS → (m h : ℕ) → IsLedTo k m (Node n h) →
+pub front_spelled : (layout : Layout) (k j : Known) (n : ℕ) (front : List ℕ) → IsPossible layout j → AreLoaded k j (a_node n) 0 (λ o. o < length front) front → length front ≡ FIRST_ROWS → (m h : ℕ) → IsLedTo k m (Node n h) →
     IsSpelling HasHeadWords front_words front
 unfolding IsPacked
 front_spelled layout k j n front possible loaded long m h led =
@@ -46,29 +43,15 @@ front_spelled layout k j n front possible loaded long m h led =
     let sized : IsSized (a_node n) (c.words (a_node n)) = possible.lawful.records.sized (a_node n) in
     let head = head_is packed.0 (c.words (a_node n)) sized.1 packed.1 packed.2 in
     let now = words_now FIRST_ROWS front (c.words (a_node n)) long (omega (arith, sized.0))
-    (λ o low. word_now k j (a_node n) (λ o. o < FIRST_ROWS) front loaded m (led_stood k m (Node n h) led) c possible.lawful known o low (omega arith, omega (arith, low)) tt) in
+    (λ o low. word_now k j (a_node n) (λ o. o < length front) front loaded m (led_stood k m (Node n h) led) c possible.lawful known o (omega (arith, low, long)) (omega arith, omega (arith, low)) tt) in
     (head_of packed.0, (packed.0, packed.1.lawful, refl), ap (take FIRST_ROWS) head ∙ (take-take FIRST_ROWS HEAD_WORDS (c.words (a_node n)) (lit≤ tt) ∙ sym now))
 
--- the words of the second part are still to be loaded
-pub back_begun : (k j : Known) (n : ℕ) (front back : List ℕ) → length front ≡ FIRST_ROWS → AreLoaded k j (a_node n) (λ o. o < FIRST_ROWS) front → AreLoaded k j (a_node n) (λ o. o < FIRST_ROWS) (front ++ back)
-back_begun k j n front back long = same_loaded k j (a_node n) (λ o. o < FIRST_ROWS) front (front ++ back) (λ o low. sym (get_or_append_left front back 0 o (omega (arith, long, low))))
-
--- one of them more
-pub back_loaded : (layout : Layout) (k j i : Known) (n at w : ℕ) (front back : List ℕ) → length front ≡ FIRST_ROWS → length back ≡ ROW_WORDS → at < ROW_WORDS →
-    AreLoaded k j (a_node n) (λ o. o < FIRST_ROWS + at) (front ++ back) → IsEvent layout (LoadFixed (a_node n) (FIRST_ROWS + at + 1) w) silent j i → (m h : ℕ) → IsLedTo k m (Node n h) →
-    AreLoaded k i (a_node n) (λ o. o < FIRST_ROWS + (at + 1)) (front ++ set back at w)
-back_loaded layout k j i n at w front back long back_long low loaded event m h led =
-    let more = next_loaded layout k j i (a_node n) (FIRST_ROWS + at) w (front ++ back) loaded (omega (arith, length-append front back, long, back_long, low)) event m (led_stood k m (Node n h) led) in
-    let here : set (front ++ back) (FIRST_ROWS + at) w ≡ front ++ set back at w = set-append_right front back FIRST_ROWS (FIRST_ROWS + at) w long (omega arith) ∙ ap (λ o. front ++ set back o w) (omega arith) in
-    subst (λ words. AreLoaded k i (a_node n) (λ o. o < FIRST_ROWS + (at + 1)) words) here
-    (fewer_loaded k i (a_node n) (λ o. o < FIRST_ROWS + at + 1) (λ o. o < FIRST_ROWS + (at + 1)) (set (front ++ back) (FIRST_ROWS + at) w) (λ o now. omega (arith, now)) more)
-
--- all of them
-pub both_read : (layout : Layout) (k j : Known) (n at : ℕ) (front back : List ℕ) → IsPossible layout j → ROW_WORDS ≤ at → AreLoaded k j (a_node n) (λ o. o < FIRST_ROWS + at) (front ++ back) → length front ≡ FIRST_ROWS → length back ≡ ROW_WORDS → (m h : ℕ) → IsLedTo k m (Node n h) →
-    AreHeadWords j m n h (front ++ back)
-both_read layout k j n at front back possible end loaded long back_long m h led =
-    head_read layout k j n (front ++ back) possible
-    (fewer_loaded k j (a_node n) (λ o. o < FIRST_ROWS + at) (λ o. o < HEAD_WORDS) (front ++ back) (λ o low. omega (arith, low, end)) loaded)
+-- both parts have been
+pub both_read : (layout : Layout) (k j i : Known) (n : ℕ) (front back : List ℕ) → IsPossible layout i → AreLoaded k j (a_node n) 0 (λ o. o < length front) front →
+    AreLoaded j i (a_node n) FIRST_ROWS (λ o. o < length back) back → length front ≡ FIRST_ROWS → length back ≡ ROW_WORDS → (m h : ℕ) → IsLedTo k m (Node n h) → AreHeadWords i m n h (front ++ back)
+both_read layout k j i n front back possible first second long back_long m h led =
+    head_read layout k i n (front ++ back) possible
+    (both_loaded k j i (a_node n) front back first (subst (λ b. AreLoaded j i (a_node n) b (λ o. o < length back) back) (sym long) second))
     (length-append front back ∙ omega (arith, long, back_long)) m h led
 
 -- A node's head has these words.
@@ -77,14 +60,14 @@ module _ {k : Known} {m n h : ℕ} (words : List ℕ) (are : AreHeadWords k m n 
   node = node_of are.head (leaves (length are.head.rows))
 
   pub height_low : get_or words 0 0 / 65536 < 2 ^ 16
-  height_low = height-lt node are.lawful words are.words_are
+  height_low = height-lt node are.seen.lawful words are.words_are
 
   -- the step there
   pub step_spelled : (number at : ℕ) →
       (let s : PathNode = record { number = number; height = get_or words 0 0 / 65536; first_position = get_or words 1 0 % 65536; count = get_or words 0 0 % 256; at = at } in s) ≡ step_at are.head number at
   step_spelled number at =
-      ap (λ h. let s : PathNode = record { number = number; height = h; first_position = get_or words 1 0 % 65536; count = get_or words 0 0 % 256; at = at } in s) (height_read node are.lawful words are.words_are)
-      ∙ step_is are.head are.lawful number at (get_or words 0 0 % 256) (get_or words 1 0 % 65536) (count_read node are.lawful words are.words_are) (root_of_head are.head (get_or words 1 0 % 65536) (first_read node are.lawful words are.words_are))
+      ap (λ h. let s : PathNode = record { number = number; height = h; first_position = get_or words 1 0 % 65536; count = get_or words 0 0 % 256; at = at } in s) (height_read node are.seen.lawful words are.words_are)
+      ∙ step_is are.head are.seen.lawful number at (get_or words 0 0 % 256) (get_or words 1 0 % 65536) (count_read node are.seen.lawful words are.words_are) (root_of_head are.head (get_or words 1 0 % 65536) (first_read node are.seen.lawful words are.words_are))
 
 -- Both parts are a node's.
 module _ {k : Known} {m n h : ℕ} (front back : List ℕ) (long : length front ≡ FIRST_ROWS) (are : AreHeadWords k m n h (front ++ back)) where
@@ -101,7 +84,7 @@ module _ {k : Known} {m n h : ℕ} (front back : List ℕ) (long : length front 
   module _ (key : Key) (dense at : ℕ) (gathered : (other : NodeView) → IsLawfulNode other → front_words (head_of other) ≡ front → dense ≡ dense_of other.columns (bit_of key))
       (leads : (other : NodeView) → IsLawfulNode other → back_words (head_of other) ≡ back → (bit : ℕ → _) → dense ≡ dense_of other.columns bit → at ≡ leads_to bit (piece other)) where
     spot_is : at ≡ spot key (shape_of are.head)
-    spot_is = search_spot are.head key at are.lawful
+    spot_is = search_spot are.head key at are.seen.lawful
         (λ other law is. (let words : head_words (head_of other) ≡ front ++ back = ap head_words is ∙ are.words_are in
         leads other law (ap (drop FIRST_ROWS) words ∙ drop_at front back FIRST_ROWS long) (bit_of key) (gathered other law (ap (take FIRST_ROWS) words ∙ take_at front back FIRST_ROWS long))))
 

@@ -1,7 +1,7 @@
 -- Turns that are remembered: what a pass that has gone on knows of them still.
-use Rattle.std.proofs.Common.{◌≡◌, ◌⊎◌, inl, inr, ⊎_elim, ℕ, zero, suc, ◌+◌, ◌*◌, ◌<◌, ◌≤◌, List, [], ◌∷◌, length, cond, get_or, set, take, replicate, Option, Some, None, refl, sym, ap, subst, ◌∙◌, arith, le_trans}
+use Rattle.std.proofs.Common.{◌≡◌, ◌⊎◌, inl, inr, ⊎_elim, ℕ, zero, suc, zero-add, ◌+◌, ◌-◌, ◌*◌, ◌<◌, ◌≤◌, List, [], ◌∷◌, length, cond, get_or, set, take, drop, replicate, Option, Some, None, refl, sym, ap, subst, ◌∙◌, arith, le_trans}
 use Rattle.std.specs.Prelude.{slice_get, IfSome, is_some}
-use Rattle.std.proofs.lemmas.List.{length-take, take_more, take_more_set}
+use Rattle.std.proofs.lemmas.List.{length-take, take_more, take_more_set, take_rest}
 use Rattle.std.proofs.lemmas.List.Sums.{count_by-le-length, sum_by-append}
 use Rattle.std.proofs.lemmas.Bool.{cases_lt}
 use Rattle.std.proofs.Math.Nat.{suc-mul}
@@ -123,6 +123,17 @@ no_turns k keys first n i t key at is = absurd (let e : None ≡ Some t = in_rep
 pub no_rows : (k : Known) (keys : List Key) (first n m : ℕ) → AreRows k keys first (replicate m (replicate n None))
 no_rows k keys first n m depth row at = subst (AreTurns k keys first) (in_replicate m depth (replicate n None) row at) (no_turns k keys first n)
 
+-- turns of the keys from the first one on
+key_behind : (keys : List Key) (first i at : ℕ) (key : Key) → at ≡ first + i → slice_get keys at ≡ Some key → slice_get (drop first keys) i ≡ Some key
+key_behind keys zero i at key e is = subst (λ n. slice_get keys n ≡ Some key) (e ∙ zero-add i) is
+key_behind [] (suc first) i at key e is = is
+key_behind (x ∷ keys) (suc first) i zero key e is = absurd (omega (arith, e))
+key_behind (x ∷ keys) (suc first) i (suc at) key e is = key_behind keys first i at key (omega (arith, e)) is
+
+pub turns_from : (k : Known) (keys : List Key) (first : ℕ) (row : List (Option Turn)) → AreTurns k (take (length keys - first) (drop first keys)) 0 row → AreTurns k keys first row
+turns_from k keys first row are i t key at is =
+    are i t key at (subst (λ z. slice_get z (0 + i) ≡ Some key) (sym (take_rest keys first)) (key_behind keys first (0 + i) (first + i) key (omega arith) is))
+
 -- one turn more
 pub turns_more : (k : Known) (keys : List Key) (first : ℕ) (row : List (Option Turn)) (i : ℕ) (key : Key) (o : Option Turn) → AreTurns k keys first row →
     slice_get keys (first + i) ≡ Some key → IfSome o (IsTurn k key) → AreTurns k keys first (set row i o)
@@ -185,17 +196,10 @@ read_rows [] depth i t is = absurd (let z : None ≡ Some t = is in cc)
 read_rows (row ∷ rows) zero i t is = (row, refl, read_turn row i t is)
 read_rows (row ∷ rows) (suc depth) i t is = read_rows rows depth i t is
 
-pub stands_at : (rows : List (List (Option Turn))) (depth i : ℕ) → IfSome (get_or (get_or rows depth []) i None) (StandsAt rows depth i)
-stands_at rows depth i = go (get_or (get_or rows depth []) i None) refl
-  where
-    go : (o : Option Turn) → get_or (get_or rows depth []) i None ≡ o → IfSome o (StandsAt rows depth i)
-    go None is = tt
-    go (Some t) is = read_rows rows depth i t is
-
 -- the turns that stand there are those of the key
-pub along_at : {k : Known} (key : Key) (i depth : ℕ) (rows : List (List (Option Turn))) (o : Option Turn) → AreTurnsOfKey k key i rows → IfSome o (StandsAt rows depth i) → IfSome o (IsTurn k key)
-along_at key i depth rows None are at = tt
-along_at key i depth rows (Some t) are at = are depth t at
+pub along_at : {k : Known} (key : Key) (i depth : ℕ) (rows : List (List (Option Turn))) (o : Option Turn) → AreTurnsOfKey k key i rows → o ≡ get_or (get_or rows depth []) i None → IfSome o (IsTurn k key)
+along_at key i depth rows None are is = tt
+along_at key i depth rows (Some t) are is = are depth t (read_rows rows depth i t (sym is))
 
 -- How many turns there are
 

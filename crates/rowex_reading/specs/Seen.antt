@@ -1,5 +1,5 @@
 -- What a pass may conclude of the versions that it has seen, and what loads teach it.
-use Rattle.std.specs.Prelude.{◌≡◌, ◌≢◌, ℕ, ◌<◌, List, length, Option, Some, None}
+use Rattle.std.specs.Prelude.{◌≡◌, ◌≢◌, ℕ, ◌+◌, ◌<◌, List, length, get_or, Option, Some, None}
 use Rattle.compound_node.specs.Nodes.{HeadView, IsLawfulNode, piece, node_of, leaves}
 use Rattle.compound_node.specs.declared.entries.Entry.{Entry}
 use Rattle.compound_node.specs.declared.entries.Entry.TheVariants.{Node}
@@ -8,9 +8,12 @@ use Rattle.record_words.specs.Node.{head_words}
 use Rattle.tries.specs.Keys.{Key}
 use Rattle.tries.specs.Tree.{Subtrie}
 use Rattle.versions.specs.State.{Past}
+use Rattle.versions.specs.declared.Rec.{Rec}
 use Rattle.rowex_core.specs.declared.known.Known.{Known}
 use Rattle.rowex_core.specs.Cores.{Core, IsLawful}
-use Rattle.rowex_core.specs.Knowing.{IsPinnedSince, Recalls}
+use Rattle.rowex_core.specs.Knowing.{IsPinnedSince, Recalls, StoodAs, StoodBetween}
+use Rattle.rowex_core.specs.Reading.{HasWordAt}
+use Rattle.rowex_table.specs.Made.{IsLater}
 use Rattle.version_laws.specs.Scan.{EntryStoodSince, IsRooted, IsBlank, IsRead, IsShaped}
 
 -- the versions that the pass has seen, of those of a core: up to the one after the changes of its front
@@ -50,13 +53,31 @@ HasRoom s m n i = (x : Subtrie) × IsShaped s m n x × (i < size x)
 abbrev pub HasPlace : Known → ℕ → ℕ → ℕ → ℕ → Type 0
 HasPlace k m n h i = IsLedTo k m (Node n h) × Sure k (λ s. HasRoom s m n i)
 
--- These words are those of a head of this height, with whose forks the node has stood since m.
-pub record AreHeadWords (k : Known) (m n h : ℕ) (words : List ℕ) : Type 0 where
-  pub head : HeadView
+-- The pass has read this head of the node, which has this height: with its forks the node has stood since m.
+pub record IsHeadSeen (k : Known) (m n h : ℕ) (head : HeadView) : Type 0 where
   pub height : head.height ≡ h
   pub lawful : IsLawfulNode (node_of head (leaves (length head.rows)))
-  pub words_are : head_words head ≡ words
   pub shaped : Sure k (λ s. IsShaped s m n (shape_of head))
+
+-- These words are those of a head that the pass has read of the node.
+pub record AreHeadWords (k : Known) (m n h : ℕ) (words : List ℕ) : Type 0 where
+  pub head : HeadView
+  pub seen : IsHeadSeen k m n h head
+  pub words_are : head_words head ≡ words
+
+-- the record stood since m with this word at this offset
+abbrev pub StoodWithWord : Past → ℕ → Rec → ℕ → ℕ → Type 0
+StoodWithWord s m r offset w = StoodAs s m s.now r (λ u. HasWordAt u offset w)
+
+-- since m, to which its pin goes back, the pass knows that the record stood
+abbrev pub IsStood : Known → ℕ → Rec → Type 0
+IsStood k m r = IsPinnedSince k m × Sure k (λ s. StoodBetween s m s.now r)
+
+-- A pass that knew k, and knows j now, has loaded some of these words of the record: word i stands at the offset before + i + 1. Of each
+-- that is loaded it is sure, if it knew that the record stood.
+pub record AreLoaded (k j : Known) (r : Rec) (before : ℕ) (IsLoaded : ℕ → Type 0) (words : List ℕ) : Type 0 where
+  pub later : IsLater k j
+  pub each : (m : ℕ) → IsStood k m r → (i : ℕ) → IsLoaded i → Sure j (λ s. StoodWithWord s m r (before + i + 1) (get_or words i 0))
 
 -- The leaf stood with this key and this value; where there is no value, with another key.
 abbrev pub IsCompared : Past → ℕ → ℕ → Key → Option ℕ → Type 0

@@ -1,5 +1,5 @@
 -- Ways that keys went, as far as they are remembered.
-use Rattle.std.specs.Prelude.{◌≡◌, ℕ, ◌+◌, ◌<◌, List, slice_get, Option, Some, is_some, count_by}
+use Rattle.std.specs.Prelude.{◌≡◌, ℕ, ◌+◌, ◌<◌, List, slice_get, Bool, false, true, Option, Some, is_some, count_by}
 use Rattle.compound_node.specs.declared.entries.Entry.{Entry}
 use Rattle.compound_node.specs.declared.entries.Entry.TheVariants.{Node}
 use Rattle.tries.specs.Keys.{Key}
@@ -13,6 +13,11 @@ use Rattle.rowex_reading.specs.declared.along.Turn.{Turn}
 -- the pass was led to the record that the entry names, since some version
 abbrev pub IsWayTip : Known → Entry → Type 0
 IsWayTip k e = (m : ℕ) × IsLedTo k m e
+
+-- whether there is an entry, and it is a node
+abbrev pub is_node : Option Entry → Bool
+is_node (Some (Node number height)) = true
+is_node tip = false
 
 -- each of these, where there is one
 abbrev pub AreTips : Known → List (Option Entry) → Type 0

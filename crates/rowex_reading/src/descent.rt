@@ -7,7 +7,7 @@ ghost use Rattle.rowex_reading.specs.Possible.{IsPossible};
 ghost use Rattle.rowex_reading.specs.Seen.{since};
 ghost use Rattle.rowex_reading.specs.Ways.{IsWayOf, value_of};
 
-use crate::reading::{find_step, load_entry_from, load_places, load_root};
+use crate::reading::{LeafAt, NodeAt, load_entry, load_leaf, load_root, search_node};
 use arrayvec::ArrayVec;
 use compound_node::Entry;
 use insert_cases::PathNode;
@@ -59,7 +59,9 @@ pub fn search_way<G: Gate>(
         match entry {
             Entry::Leaf(number) => {
                 let mut places = [0; MAX_BYTES];
-                let (length, value) = load_places(table, seat, gate, number, &mut places);
+                let start = table.start_of(Rec::Leaf(number));
+                let leaf = LeafAt { number, start };
+                let (length, value) = load_leaf(table, seat, gate, leaf, &mut places);
                 return Found::Leaf {
                     number,
                     value,
@@ -68,8 +70,9 @@ pub fn search_way<G: Gate>(
             }
             Entry::Node { number, .. } => {
                 let start = table.start_of(Rec::Node(number));
-                let step = find_step(table, seat, gate, number, start, key);
-                entry = load_entry_from(table, seat, gate, number, start, step.at);
+                let node = NodeAt { number, start };
+                let step = search_node(table, seat, gate, node, key);
+                entry = load_entry(table, seat, gate, node, step.at);
                 way.push(step);
             }
         }

@@ -40,9 +40,7 @@ mod lookup;
 mod reading;
 
 pub use affected::find_affected;
-pub use along::{MOST_TURNS, TOGETHER, Turn, go_down, look_up_along};
+pub use along::{MOST_TURNS, TOGETHER, Turn, go_down};
 pub use descent::{Found, MOST_NODES, search_way};
-pub use lookup::look_up;
-pub use reading::{
-    enter_node, load_entry, load_entry_from, load_places, load_places_from, load_root, load_value,
-};
+pub use lookup::{look_up, look_up_along};
+pub use reading::{LeafAt, NodeAt, enter_node, load_entry, load_leaf, load_root};

@@ -1,20 +1,19 @@
 //! What a pinned pass reads of the tree: the root's entry, the head and the entries of a node, and a leaf.
 
-ghost use Rattle.std.specs.Prelude.{◌≡◌, ◌*◌, ◌<◌, ◌≤◌, ℕ, length, replicate, take, IfSome, IsSome};
+ghost use Rattle.std.specs.Prelude.{◌≡◌, ◌+◌, ◌*◌, ◌<◌, ◌≤◌, ℕ, length, replicate, take, IfSome, IsSome};
 ghost use Rattle.key_bits.specs.Key.{HoldsKey, IsKey};
 ghost use Rattle.key_bits.specs.declared.TheConstants.{MAX_BYTES};
-ghost use Rattle.compound_node.specs.Nodes.{HeadView, IsLawfulNode, height_of, leaves, node_of};
+ghost use Rattle.compound_node.specs.Nodes.{HeadView, height_of};
 ghost use Rattle.compound_node.specs.declared.entries.Entry.TheVariants.{Leaf as LeafEntry, Node as NodeEntry};
 ghost use Rattle.record_words.specs.declared.TheConstants.{HEAD_WORDS, LEAF_FIELDS};
-ghost use Rattle.version_laws.specs.Scan.{IsShaped, IsPlaced, IsRead};
+ghost use Rattle.version_laws.specs.Scan.{IsPlaced, IsRead};
 ghost use Rattle.rowex_reading.specs.Reads.{IsReader, Reads, ReadsRoot, leaf_loads};
 ghost use Rattle.rowex_reading.specs.Ways.{step_at};
-ghost use Rattle.rowex_reading.specs.Seen.{Sure, RootIs, IsCompared, IsLedTo, HasPlace, AreHeadWords, shape_of};
+ghost use Rattle.rowex_reading.specs.Seen.{Sure, RootIs, IsCompared, IsHeadSeen, IsLedTo, HasPlace, AreHeadWords, AreLoaded, shape_of};
 ghost use Rattle.versions.specs.declared.Rec.TheVariants.{Leaf as a_leaf, Node as a_node};
 ghost use Rattle.rowex_table.specs.Rule.{IsStartOf};
 ghost use Rattle.rowex_table.specs.Seats.{IsSeatOf};
 ghost use Rattle.tries.specs.Place.{spot};
-ghost use Rattle.tries.specs.Tree.{Subtrie};
 
 use compound_node::Entry;
 use insert_cases::PathNode;
@@ -26,7 +25,25 @@ use record_words::{
 use rowex_core::{Gate, Rec, Spot};
 use rowex_table::{HotTable, TableSeat};
 
-/// Loads the root's entry; `None` if the tree is empty.
+/// A node's record.
+#[derive(Clone, Copy)]
+pub struct NodeAt {
+    /// The record's number.
+    pub number: u32,
+    /// The word of the table at which the record begins. Several loads find it once.
+    pub start: usize,
+}
+
+/// A leaf's record.
+#[derive(Clone, Copy)]
+pub struct LeafAt {
+    /// The record's number.
+    pub number: u32,
+    /// The word of the table at which the record begins.
+    pub start: usize,
+}
+
+/// Loads the root's entry. Returns `None` if the tree is empty.
 pub fn load_root<G: Gate>(table: &HotTable, seat: &mut TableSeat, gate: &mut G) -> Option<Entry>
     requires own { IsSeatOf table.now seat.old }
     requires pinned { IsSome seat.old.known.pin }
@@ -36,6 +53,36 @@ pub fn load_root<G: Gate>(table: &HotTable, seat: &mut TableSeat, gate: &mut G) 
 {
     let word = table.load_ref(seat, gate, Spot::Root);
     read_entry(word)
+}
+
+/// Loads words of the head of `node` into `words`, until these are full. The first of them is word `first` of the head.
+#[inline(always)]
+fn load_words<G: Gate>(
+    table: &HotTable,
+    seat: &mut TableSeat,
+    gate: &mut G,
+    node: NodeAt,
+    first: usize,
+    words: &mut [u64],
+)
+    requires reader { IsReader table.now seat.old }
+    requires led { (m h : ℕ) × IsLedTo seat.old.known m (NodeEntry node.number h) }
+    requires start { IsStartOf table.now.layout (a_node node.number) node.start }
+    requires range { first + length words.old ≤ HEAD_WORDS }
+    ensures reads { Reads table.now G.becomes 0 (length words.old) (seat.old, gate.old) (seat.new, gate.new) }
+    ensures long { length words.new ≡ length words.old }
+    ensures loaded { AreLoaded seat.old.known seat.new.known (a_node node.number) first (λ i. i < length words.new) words.new }
+{
+    for index in 0..words.len() {
+        let offset = (first + index) as u8 + 1;
+        words[index] = table.load_fixed_from(
+            seat,
+            gate,
+            Rec::Node(node.number),
+            node.start,
+            offset,
+        );
+    }
 }
 
 /// Loads all words of the head of node `number` into `words`, those of unused places too. So no load waits for the numbers of entries and
@@ -53,14 +100,11 @@ pub(crate) fn load_head_words<G: Gate>(
     ensures reads { Reads table.now G.becomes 0 HEAD_WORDS (seat.old, gate.old) (seat.new, gate.new) }
     ensures words { (m h : ℕ) → IsLedTo seat.old.known m (NodeEntry number h) → AreHeadWords seat.new.known m number h words.new }
 {
-    let rec = Rec::Node(number);
-    let start = table.start_of(rec);
-    for index in 0..HEAD_WORDS {
-        words[index] = table.load_fixed_from(seat, gate, rec, start, index as u8 + 1);
-    }
+    let start = table.start_of(Rec::Node(number));
+    load_words(table, seat, gate, NodeAt { number, start }, 0, words);
 }
 
-/// The step of a way at node `number` that takes the node's first entry: loads all words of the node's head.
+/// Loads all words of the head of node `number`. Returns the node of a path at which its first entry is taken.
 #[inline(always)]
 pub fn enter_node<G: Gate>(
     table: &HotTable,
@@ -72,8 +116,7 @@ pub fn enter_node<G: Gate>(
     requires led { (m h : ℕ) × IsLedTo seat.old.known m (NodeEntry number h) }
     ensures reads { Reads table.now G.becomes 0 HEAD_WORDS (seat.old, gate.old) (seat.new, gate.new) }
     ensures step { (m h : ℕ) → IsLedTo seat.old.known m (NodeEntry number h) →
-        (head : HeadView) × (head.height ≡ h) × IsLawfulNode (node_of head (leaves (length head.rows))) ×
-        Sure seat.new.known (λ s. IsShaped s m number (shape_of head)) × (result ≡ step_at head number 0) }
+        (head : HeadView) × IsHeadSeen seat.new.known m number h head × (result ≡ step_at head number 0) }
 {
     let mut words = [0; HEAD_WORDS];
     load_head_words(table, seat, gate, number, &mut words);
@@ -86,61 +129,32 @@ pub fn enter_node<G: Gate>(
     }
 }
 
-/// The place to which the bits of `key` lead in node `number`, whose record begins at word `start`.
-#[inline(always)]
-pub fn find_place<G: Gate>(
-    table: &HotTable,
-    seat: &mut TableSeat,
-    gate: &mut G,
-    number: u32,
-    start: usize,
-    key: &Key,
-) -> u8
-    requires reader { IsReader table.now seat.old }
-    requires led { (m h : ℕ) × IsLedTo seat.old.known m (NodeEntry number h) }
-    requires start { IsStartOf table.now.layout (a_node number) start }
-    ensures reads { Reads table.now G.becomes 0 HEAD_WORDS (seat.old, gate.old) (seat.new, gate.new) }
-    ensures place { (m h : ℕ) → IsLedTo seat.old.known m (NodeEntry number h) →
-        (forks : Subtrie) × Sure seat.new.known (λ s. IsShaped s m number forks) × (result ≡ spot key.now forks) }
-{
-    find_step(table, seat, gate, number, start, key).at
-}
-
-/// Loads the head of node `number`, whose record begins at word `start`, and searches it for `key`. Returns the node's `PathNode`, with the
-/// place to which the bits of `key` lead.
+/// Loads the head of `node` and searches it for `key`. Returns the node of the key's path, with the place to which the bits of `key` lead.
 ///
 /// All 25 words are loaded, whatever the node's size, so no load waits for another. The key's bits are gathered before the rows are loaded.
 /// So the rows stay in registers until the search.
 #[inline(always)]
-pub fn find_step<G: Gate>(
+pub fn search_node<G: Gate>(
     table: &HotTable,
     seat: &mut TableSeat,
     gate: &mut G,
-    number: u32,
-    start: usize,
+    node: NodeAt,
     key: &Key,
 ) -> PathNode
     requires reader { IsReader table.now seat.old }
-    requires led { (m h : ℕ) × IsLedTo seat.old.known m (NodeEntry number h) }
-    requires start { IsStartOf table.now.layout (a_node number) start }
+    requires led { (m h : ℕ) × IsLedTo seat.old.known m (NodeEntry node.number h) }
+    requires start { IsStartOf table.now.layout (a_node node.number) node.start }
     ensures reads { Reads table.now G.becomes 0 HEAD_WORDS (seat.old, gate.old) (seat.new, gate.new) }
-    ensures step { (m h : ℕ) → IsLedTo seat.old.known m (NodeEntry number h) →
-        (head : HeadView) × (head.height ≡ h) × IsLawfulNode (node_of head (leaves (length head.rows))) ×
-        Sure seat.new.known (λ s. IsShaped s m number (shape_of head)) × (result ≡ step_at head number (spot key.now (shape_of head))) }
+    ensures step { (m h : ℕ) → IsLedTo seat.old.known m (NodeEntry node.number h) →
+        (head : HeadView) × IsHeadSeen seat.new.known m node.number h head × (result ≡ step_at head node.number (spot key.now (shape_of head))) }
 {
-    let rec = Rec::Node(number);
     let mut front = [0; FIRST_ROWS];
-    for index in 0..FIRST_ROWS {
-        front[index] = table.load_fixed_from(seat, gate, rec, start, index as u8 + 1);
-    }
+    load_words(table, seat, gate, node, 0, &mut front);
     let dense = dense_in(&front, key);
     let mut back = [0; ROW_WORDS];
-    for index in 0..ROW_WORDS {
-        let offset = (FIRST_ROWS + index) as u8 + 1;
-        back[index] = table.load_fixed_from(seat, gate, rec, start, offset);
-    }
+    load_words(table, seat, gate, node, FIRST_ROWS, &mut back);
     PathNode {
-        number,
+        number: node.number,
         height: (front[0] / 65_536) as u16,
         first_position: (front[1] % 65_536) as u16,
         count: (front[0] % 256) as u8,
@@ -148,94 +162,52 @@ pub fn find_step<G: Gate>(
     }
 }
 
-/// Loads the entry at `place` of node `number`, which has that place.
+/// Loads the entry at `place` of `node`, which has that place.
+#[inline(always)]
 pub fn load_entry<G: Gate>(
     table: &HotTable,
     seat: &mut TableSeat,
     gate: &mut G,
-    number: u32,
+    node: NodeAt,
     place: u8,
 ) -> Entry
     requires reader { IsReader table.now seat.old }
-    requires place { (m h : ℕ) × HasPlace seat.old.known m number h place }
+    requires place { (m h : ℕ) × HasPlace seat.old.known m node.number h place }
+    requires start { IsStartOf table.now.layout (a_node node.number) node.start }
     ensures reads { Reads table.now G.becomes 1 1 (seat.old, gate.old) (seat.new, gate.new) }
-    ensures entry { (m h : ℕ) → HasPlace seat.old.known m number h place →
-        (height_of result < h) × Sure seat.new.known (λ s. IsPlaced s m number place result) }
+    ensures entry { (m h : ℕ) → HasPlace seat.old.known m node.number h place →
+        (height_of result < h) × Sure seat.new.known (λ s. IsPlaced s m node.number place result) }
 {
-    let start = table.start_of(Rec::Node(number));
-    load_entry_from(table, seat, gate, number, start, place)
-}
-
-/// Loads the entry at `place` of node `number`, which has that place. The node's record begins at word `start`, which several loads find
-/// once.
-#[inline(always)]
-pub fn load_entry_from<G: Gate>(
-    table: &HotTable,
-    seat: &mut TableSeat,
-    gate: &mut G,
-    number: u32,
-    start: usize,
-    place: u8,
-) -> Entry
-    requires reader { IsReader table.now seat.old }
-    requires place { (m h : ℕ) × HasPlace seat.old.known m number h place }
-    requires start { IsStartOf table.now.layout (a_node number) start }
-    ensures reads { Reads table.now G.becomes 1 1 (seat.old, gate.old) (seat.new, gate.new) }
-    ensures entry { (m h : ℕ) → HasPlace seat.old.known m number h place →
-        (height_of result < h) × Sure seat.new.known (λ s. IsPlaced s m number place result) }
-{
-    let word = table.load_slot_from(seat, gate, number, start, place);
+    let word = table.load_slot_from(seat, gate, node.number, node.start, place);
     read_some(word)
 }
 
-/// Loads leaf `number`: its value, its key's length, and the words with bytes of the key, which go at once to the first of `places`.
-/// Returns the length and the value.
+/// Loads `leaf`: its value, its key's length, and the words with bytes of the key, which go at once to the first of `places`. Returns the
+/// key's length and the value.
 ///
-/// The words behind are not loaded, and their places stay. If all were 0, `places` are the key's (`Key::of_places`); else those behind
-/// the key mean nothing. Inline, so that a caller has the bytes where they were read.
+/// The words behind are not loaded, and their places stay. If all were 0, `places` are the key's (`Key::of_places`); else those behind the
+/// key mean nothing. Keys of eight bytes are common, and their one word needs no loop. Inline, so that a caller has the bytes where they
+/// were read.
 #[inline(always)]
-pub fn load_places<G: Gate>(
+pub fn load_leaf<G: Gate>(
     table: &HotTable,
     seat: &mut TableSeat,
     gate: &mut G,
-    number: u32,
+    leaf: LeafAt,
     places: &mut [u8; MAX_BYTES],
 ) -> (usize, u64)
     requires reader { IsReader table.now seat.old }
-    requires led { (m : ℕ) × IsLedTo seat.old.known m (LeafEntry number) }
+    requires led { (m : ℕ) × IsLedTo seat.old.known m (LeafEntry leaf.number) }
+    requires start { IsStartOf table.now.layout (a_leaf leaf.number) leaf.start }
     ensures reads { Reads table.now G.becomes 0 (leaf_loads (take result.0 places.new)) (seat.old, gate.old) (seat.new, gate.new) }
     ensures few { leaf_loads (take result.0 places.new) ≤ LEAF_FIELDS }
     ensures key { IsKey (take result.0 places.new) × (result.0 ≤ MAX_BYTES) }
     ensures places { places.old ≡ replicate MAX_BYTES 0 → HoldsKey places.new result.0 }
-    ensures leaf { (m : ℕ) → IsLedTo seat.old.known m (LeafEntry number) →
-        Sure seat.new.known (λ s. IsRead s m number (take result.0 places.new) result.1) }
+    ensures leaf { (m : ℕ) → IsLedTo seat.old.known m (LeafEntry leaf.number) →
+        Sure seat.new.known (λ s. IsRead s m leaf.number (take result.0 places.new) result.1) }
 {
-    let start = table.start_of(Rec::Leaf(number));
-    load_places_from(table, seat, gate, number, start, places)
-}
-
-/// `load_places` of leaf `number`, whose record begins at word `start`: so a caller can find that in a way of its own. Returns the key's
-/// length and the value. Keys of eight bytes are common, and their one word needs no loop.
-#[inline(always)]
-pub fn load_places_from<G: Gate>(
-    table: &HotTable,
-    seat: &mut TableSeat,
-    gate: &mut G,
-    number: u32,
-    start: usize,
-    places: &mut [u8; MAX_BYTES],
-) -> (usize, u64)
-    requires reader { IsReader table.now seat.old }
-    requires led { (m : ℕ) × IsLedTo seat.old.known m (LeafEntry number) }
-    requires start { IsStartOf table.now.layout (a_leaf number) start }
-    ensures reads { Reads table.now G.becomes 0 (leaf_loads (take result.0 places.new)) (seat.old, gate.old) (seat.new, gate.new) }
-    ensures few { leaf_loads (take result.0 places.new) ≤ LEAF_FIELDS }
-    ensures key { IsKey (take result.0 places.new) × (result.0 ≤ MAX_BYTES) }
-    ensures places { places.old ≡ replicate MAX_BYTES 0 → HoldsKey places.new result.0 }
-    ensures leaf { (m : ℕ) → IsLedTo seat.old.known m (LeafEntry number) →
-        Sure seat.new.known (λ s. IsRead s m number (take result.0 places.new) result.1) }
-{
-    let rec = Rec::Leaf(number);
+    let rec = Rec::Leaf(leaf.number);
+    let start = leaf.start;
     let value = table.load_fixed_from(seat, gate, rec, start, 1);
     let length = table.load_fixed_from(seat, gate, rec, start, 2);
     if length == 8 {
@@ -251,8 +223,8 @@ pub fn load_places_from<G: Gate>(
     (length as usize, value)
 }
 
-/// Loads the value of leaf `number`, if the leaf has `key`; `None` if it has another key. It loads the key's length first, then its words
-/// up to the first that differs, and the value last. Keys of eight bytes are common: what is compiled for them alone has no loop.
+/// Loads the value of leaf `number`, if the leaf has `key`; `None` if it has another key. Keys of eight bytes are common: what is compiled
+/// for them alone has no loop.
 pub fn load_value<G: Gate>(
     table: &HotTable,
     seat: &mut TableSeat,
@@ -266,41 +238,43 @@ pub fn load_value<G: Gate>(
     ensures leaf { (m : ℕ) → IsLedTo seat.old.known m (LeafEntry number) → Sure seat.new.known (λ s. IsCompared s m number key.now result) }
 {
     let start = table.start_of(Rec::Leaf(number));
+    let leaf = LeafAt { number, start };
     let size = key.as_bytes().len() as u64;
     if size == 8 {
-        return load_value_of(table, seat, gate, number, start, key, 8);
+        return compare_leaf(table, seat, gate, leaf, key, 8);
     }
-    load_value_of(table, seat, gate, number, start, key, size)
+    compare_leaf(table, seat, gate, leaf, key, size)
 }
 
-/// `load_value` of leaf `number`, whose record begins at word `start`, for a key of `size` bytes. `None` if the leaf has another key.
+/// Compares the key of `leaf` with `key`, which has `size` bytes: loads its length, and then its words up to the first that differs.
+/// Returns the leaf's value, loaded last; `None` if the leaf has another key.
 #[inline(always)]
-fn load_value_of<G: Gate>(
+fn compare_leaf<G: Gate>(
     table: &HotTable,
     seat: &mut TableSeat,
     gate: &mut G,
-    number: u32,
-    start: usize,
+    leaf: LeafAt,
     key: &Key,
     size: u64,
 ) -> Option<u64>
     requires reader { IsReader table.now seat.old }
-    requires led { (m : ℕ) × IsLedTo seat.old.known m (LeafEntry number) }
-    requires start { IsStartOf table.now.layout (a_leaf number) start }
+    requires led { (m : ℕ) × IsLedTo seat.old.known m (LeafEntry leaf.number) }
+    requires start { IsStartOf table.now.layout (a_leaf leaf.number) leaf.start }
     requires key { IsKey key.now × (size ≡ length key.now) }
     ensures reads { (n : ℕ) × (n ≤ LEAF_FIELDS) × Reads table.now G.becomes 0 n (seat.old, gate.old) (seat.new, gate.new) }
-    ensures leaf { (m : ℕ) → IsLedTo seat.old.known m (LeafEntry number) → Sure seat.new.known (λ s. IsCompared s m number key.now result) }
+    ensures leaf { (m : ℕ) → IsLedTo seat.old.known m (LeafEntry leaf.number) →
+        Sure seat.new.known (λ s. IsCompared s m leaf.number key.now result) }
 {
-    let rec = Rec::Leaf(number);
-    if table.load_fixed_from(seat, gate, rec, start, 2) != size {
+    let rec = Rec::Leaf(leaf.number);
+    if table.load_fixed_from(seat, gate, rec, leaf.start, 2) != size {
         return None;
     }
     let end = 2 + key_words(size);
     for index in 2..end {
-        let word = table.load_fixed_from(seat, gate, rec, start, index as u8 + 1);
+        let word = table.load_fixed_from(seat, gate, rec, leaf.start, index as u8 + 1);
         if word != key_word_at(key, index - 2) {
             return None;
         }
     }
-    Some(table.load_fixed_from(seat, gate, rec, start, 1))
+    Some(table.load_fixed_from(seat, gate, rec, leaf.start, 1))
 }

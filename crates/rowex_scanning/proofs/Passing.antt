@@ -30,8 +30,8 @@ at_gap top gap = record top { at = gap }
 module _ (d : Direction) (m : ℕ) (top : PathNode) where
   -- after more loads
   module _ {k j : Known} (l : IsLater k j) where
-    pub places_later : (count : ℕ) → HasPlaces d k m top count → HasPlaces d j m top count
-    places_later count has i low = let ((pinned, stood), room) = has i low in (
+    pub places_later : HasPlaces d k m top → HasPlaces d j m top
+    places_later has i low = let ((pinned, stood), room) = has i low in (
       (since_later l pinned, sure_later {P = λ s. EntryStoodSince s m (Node top.number top.height)} (seen_stable m (Node top.number top.height)) l stood),
       sure_later {P = λ s. HasRoom s m top.number (place_ahead d top.at i)} (room_stable m top.number (place_ahead d top.at i)) l room,
     )
@@ -63,10 +63,10 @@ module _ (d : Direction) (m : ℕ) (top : PathNode) where
       (cases_lt o i)
 
 -- Before any leaf.
-pub passed_none : {d : Direction} {k : Known} {m : ℕ} {g : Range} {top : PathNode} {frames : List PathNode} {xs : List (Key × ℕ)} → IsWalk d k m g top frames xs → IsBound d k m (first_key d g) top frames → HavePassed d k m g frames (top, xs) 0 xs
+pub passed_none : {d : Direction} {k : Known} {m : ℕ} {g : Range} {top : PathNode} {frames : List PathNode} {xs : List (Key × ℕ)} → IsWalk k m (d, g) top frames xs → IsBound d k m (first_key d g) top frames → HavePassed k m (d, g) frames (top, xs) 0 xs
 passed_none {d} {k} {m} {g} {top} {frames} {xs} w b = record {
   more = omega arith;
-  walk = subst (λ (z : PathNode). IsWalk d k m g z frames xs) same w;
+  walk = subst (λ (z : PathNode). IsWalk k m (d, g) z frames xs) same w;
   bound = subst (λ (z : PathNode). IsBound d k m (first_key d g) z frames) same b;
 }
   where
@@ -74,7 +74,7 @@ passed_none {d} {k} {m} {g} {top} {frames} {xs} w b = record {
     same = ap (at_gap top) (sym (gap_none d top.at))
 
 -- Behind some leaves, at one more.
-module _ {d : Direction} {k : Known} {m : ℕ} {g : Range} {top : PathNode} {frames : List PathNode} {i : ℕ} {xs ys : List (Key × ℕ)} (fits : top.at ≤ top.count) (come : i < to_come d top.count top.at) (p : HavePassed d k m g frames (top, xs) i ys)
+module _ {d : Direction} {k : Known} {m : ℕ} {g : Range} {top : PathNode} {frames : List PathNode} {i : ℕ} {xs ys : List (Key × ℕ)} (fits : top.at ≤ top.count) (come : i < to_come d top.count top.at) (p : HavePassed k m (d, g) frames (top, xs) i ys)
     {number : ℕ} (placed : Sure k (λ s. IsPlaced s m top.number (place_ahead d top.at i) (Leaf number))) where
   pub leaf_at : IsAtEntry d k m g (record top { at = place_ahead d top.at i }) frames ys (Leaf number)
   leaf_at = record { walk = walk_at_place i fits come p.walk; placed = placed }
@@ -84,13 +84,13 @@ module _ {d : Direction} {k : Known} {m : ℕ} {g : Range} {top : PathNode} {fra
 
   -- which doesn't come before the range
   pub leaf_reached : (layout : Layout) → IsLedTo k m (Leaf number) × IsReached d layout k m (first_key d g) number
-  leaf_reached layout = (entry_led leaf_at, bound_leaf d m (first_key d g) (record top { at = place_ahead d top.at i }) bound_at number leaf_at.walk.pinned placed)
+  leaf_reached layout = (entry_led leaf_at, bound_leaf d m (first_key d g) (record top { at = place_ahead d top.at i }) bound_at number leaf_at.walk.stands.pinned placed)
 
   -- and which was taken
-  pub passed_more : {j : Known} {zs : List (Key × ℕ)} {verdict : Verdict} → IsLater k j → IsLeafTaken d k j g number ys zs verdict → verdict ≡ Further → HavePassed d j m g frames (top, xs) (i + 1) zs
+  pub passed_more : {j : Known} {zs : List (Key × ℕ)} {verdict : Verdict} → IsLater k j → IsLeafTaken k j (d, g) number ys zs verdict → verdict ≡ Further → HavePassed j m (d, g) frames (top, xs) (i + 1) zs
   passed_more {j} {zs} l t is = record {
     more = let one = taken_more leaf_at l t is in let before = p.more in omega (arith, one, before);
-    walk = subst (λ z. IsWalk d j m g (at_gap top z) frames zs) (gap_behind_place d top.at i) (walk_further leaf_at l t is);
+    walk = subst (λ z. IsWalk j m (d, g) (at_gap top z) frames zs) (gap_behind_place d top.at i) (walk_further leaf_at l t is);
     bound = subst (λ z. IsBound d j m (first_key d g) (at_gap top z) frames) (gap_behind_place d top.at i)
         (bound_next d m (first_key d g) (record top { at = place_ahead d top.at i }) (bound_later d m (first_key d g) l bound_at));
   }
@@ -100,6 +100,6 @@ pub taken_all : (Passed : Type 0) (Ended : Bool → Type 0) {verdict : Verdict} 
 taken_all Passed Ended taken is = subst (λ z. AreTaken Passed Ended z) is taken
 
 -- At the node that comes behind them.
-pub node_at : {d : Direction} {k : Known} {m : ℕ} {g : Range} {top : PathNode} {frames : List PathNode} {count number : ℕ} {xs ys : List (Key × ℕ)} → top.at ≤ top.count → count < to_come d top.count top.at → HavePassed d k m g frames (top, xs) count ys →
+pub node_at : {d : Direction} {k : Known} {m : ℕ} {g : Range} {top : PathNode} {frames : List PathNode} {count number : ℕ} {xs ys : List (Key × ℕ)} → top.at ≤ top.count → count < to_come d top.count top.at → HavePassed k m (d, g) frames (top, xs) count ys →
     (ahead : IsNodeAhead d k m top count number) → IsAtEntry d k m g (record top { at = place_ahead d top.at count }) frames ys (Node number ahead.0)
 node_at {count = count} fits come p ahead = record { walk = walk_at_place count fits come p.walk; placed = ahead.2 }

@@ -43,7 +43,8 @@ use Rattle.rowex_reading.specs.declared.descent.Found.{Found}
 use Rattle.rowex_reading.specs.declared.descent.Found.TheVariants.{Leaf, Nothing}
 use Rattle.version_laws.specs.Directions.{IsNoLater, IsPastKey, IsScanBy, first_key, gap_before, gap_behind}
 use Rattle.rowex_scanning.specs.Scanning.{ArePastKey, AreInside, IsBound, IsReached, IsWalk, frame, frames_of}
-use Rattle.rowex_scanning.specs.Starts.{IsBegun, IsFirst, IsParting, IsStart}
+use Rattle.rowex_scanning.specs.declared.start.SearchEnd.{SearchEnd}
+use Rattle.rowex_scanning.specs.Starts.{IsSearchEnd, IsBegun, IsFirst, IsParting, IsStart}
 use Rattle.version_laws.specs.declared.direction.Direction.{Direction}
 use Rattle.version_laws.specs.declared.direction.Direction.TheVariants.{Upwards, Downwards}
 use Rattle.rowex_scanning.specs.declared.start.Start.{Start}
@@ -196,7 +197,7 @@ module _ (layout : Layout) (k : Known) (m : ℕ) (key : Key) (way : List PathNod
 
   -- ---- the walk from a node on
   begins : (i : ℕ) (h : i < length way) (g : Range) → g.from ≡ key → (place : ℕ) → place ≤ size (stage i h).shape → Sure k (λ s. IsScanBy Upwards s m g (record (stage i h) { place = place } ∷ stages i (down h)) []) →
-      (top : PathNode) → top ≡ record (step i h).0 { at = place } → IsWalk Upwards k m g top (take i way) []
+      (top : PathNode) → top ≡ record (step i h).0 { at = place } → IsWalk k m (Upwards, g) top (take i way) []
   begins i h g from place fits scan top is = record {
     lowest = record (stage i h) { place = place };
     others = stages i (down h);
@@ -236,7 +237,7 @@ module _ (layout : Layout) (k : Known) (m : ℕ) (key : Key) (way : List PathNod
     starts_at_leaf le top is = record {
       upwards = record {
         within = h;
-        begun = subst (λ z. IsBegun true Upwards k m key number z (take i way)) (sym is) (
+        begun = subst (λ z. IsBegun Upwards k m key number (take i way) (record { level = 0; top = z; leaf = true })) (sym is) (
           record {
             found = leaf_key;
             value = value;
@@ -538,33 +539,33 @@ pub record HasBegun (d : Direction) (layout : Layout) (k : Known) (m : ℕ) (g :
   pub reached : start.leaf ≡ true → IsReached d layout k m (first_key d g) number
   pub behind : start.leaf ≡ true → IsBound d k m (first_key d g) (record start.top { at = gap_behind d start.top.at }) frames
   -- or the walk is at a gap
-  pub walk : start.leaf ≡ false → IsWalk d k m g start.top frames pairs
+  pub walk : start.leaf ≡ false → IsWalk k m (d, g) start.top frames pairs
   pub bound : start.leaf ≡ false → IsBound d k m (first_key d g) start.top frames
 
 -- From a start on the search's way, of which the nodes above the start are left.
-pub begun : {d : Direction} {layout : Layout} {j k : Known} {m : ℕ} {key : Key} {way steps frames : List PathNode} {number value : ℕ} {differ : Option ℕ} {start : Start} {pairs : List (Key × ℕ)} (g : Range) →
-    key ≡ first_key d g → IsWayOf layout j m (first_key d g) way (Leaf number value differ) → steps ≡ way →
-    ((n v : ℕ) → IsWayOf layout j n key steps (Leaf number v differ) → IsStart d k n key steps number start) → frames ≡ take start.level way → pairs ≡ [] →
-    HasBegun d layout k m g number start frames pairs
-begun {d} {layout} {j} {k} {m} {key} {way} {steps} {frames} {number} {value} {differ} {start} {pairs} g key_is w same starts left none = record {
-  entry = λ is. record { walk = walk_before start.top (there (record start.top { at = gap_before d start.top.at }) ((first is).1 g (sym key_is))) (first is).0.inside refl; placed = (first is).0.placed };
-  reached = λ is. subst (λ z. IsReached d layout k m z number) key_is (first_reached layout m key number (first is).0 ((first is).1 g (sym key_is)).pinned);
-  behind = λ is. subst (λ z. IsBound d k m z (record start.top { at = gap_behind d start.top.at }) frames) key_is (first is).0.bound;
-  walk = λ is. there start.top ((begins is).1 g (sym key_is));
-  bound = λ is. subst (λ z. IsBound d k m z start.top frames) key_is (begins is).0;
+pub begun : {d : Direction} {layout : Layout} {j k : Known} {m : ℕ} {way steps frames : List PathNode} {start : Start} {pairs : List (Key × ℕ)} (found : SearchEnd) (g : Range) →
+    IsSearchEnd layout j m (first_key d g) way found → steps ≡ way → ((n : ℕ) → IsSearchEnd layout j n (first_key d g) steps found → IsStart d k n (first_key d g) steps found.number start) → frames ≡ take start.level way → pairs ≡ [] →
+    HasBegun d layout k m g found.number start frames pairs
+begun {d} {layout} {j} {k} {m} {way} {steps} {frames} {start} {pairs} found g w same starts left none = record {
+  entry = λ is. record { walk = walk_before start.top (there (record start.top { at = gap_before d start.top.at }) ((first is).1 g refl)) (first is).0.inside refl; placed = (first is).0.placed };
+  reached = λ is. first_reached layout m (first_key d g) found.number (first is).0 ((first is).1 g refl).pinned;
+  behind = λ is. (first is).0.bound;
+  walk = λ is. there start.top ((begins is).1 g refl);
+  bound = λ is. (begins is).0;
 }
   where
-    s : IsStart d k m key steps number start
-    s = starts m value (subst (λ z. IsWayOf layout j m key z (Leaf number value differ)) (sym same) (subst (λ z. IsWayOf layout j m z way (Leaf number value differ)) (sym key_is) w))
+    s : IsStart d k m (first_key d g) steps found.number start
+    s = starts m (subst (λ z. IsSearchEnd layout j m (first_key d g) z found) (sym same) w)
 
     above_are : take start.level steps ≡ frames
     above_are = ap (take start.level) same ∙ sym left
 
-    there : (top : PathNode) → IsWalk d k m g top frames [] → IsWalk d k m g top frames pairs
-    there top = subst (λ z. IsWalk d k m g top frames z) (sym none)
+    there : (top : PathNode) → IsWalk k m (d, g) top frames [] → IsWalk k m (d, g) top frames pairs
+    there top = subst (λ z. IsWalk k m (d, g) top frames z) (sym none)
 
-    begins : {b : Bool} → start.leaf ≡ b → IsBegun b d k m key number start.top frames
-    begins {b} is = subst (λ z. IsBegun b d k m key number start.top z) above_are (subst (λ z. IsBegun z d k m key number start.top (take start.level steps)) is s.begun)
+    begins : {b : Bool} → start.leaf ≡ b → IsBegun d k m (first_key d g) found.number frames (record { level = 0; top = start.top; leaf = b })
+    begins {b} is = subst (λ z. IsBegun d k m (first_key d g) found.number z (record { level = 0; top = start.top; leaf = b })) above_are
+        (subst (λ z. IsBegun d k m (first_key d g) found.number (take start.level steps) (record { level = 0; top = start.top; leaf = z })) is s.begun)
 
-    first : start.leaf ≡ true → IsBegun true d k m key number start.top frames
+    first : start.leaf ≡ true → IsBegun d k m (first_key d g) found.number frames (record { level = 0; top = start.top; leaf = true })
     first is = begins is

@@ -61,7 +61,7 @@ walk_at {k} {m} {key} {top} {frames} walks place fits bound g is = record {
       (seen c k) (same_past (seen c k)) (seen_steady lawful known w.pinned));
 }
   where
-    w : IsWalk Upwards k m (record { from = key; upto = key; limit = 0 }) top frames []
+    w : IsWalk k m (Upwards, (record { from = key; upto = key; limit = 0 })) top frames []
     w = walks (record { from = key; upto = key; limit = 0 }) refl
 
 -- From the way of the search and the start of a scan upwards.
@@ -84,17 +84,17 @@ module _ (layout : Layout) (k j : Known) (m : ℕ) (key : Key) (way : List PathN
   beneath_first : start.leaf ≡ true → Sure j (λ p. IsPastKey Downwards p m key start.top.number start.top.at)
   beneath_first is = ⊎_elim (λ low. low) (λ b. absurd (false≢true (sym b.apart ∙ is))) s.side
 
-  first : start.leaf ≡ true → IsBegun true Upwards j m key number start.top (take start.level way)
-  first is = subst (λ z. IsBegun z Upwards j m key number start.top (take start.level way)) is s.upwards.begun
+  first : start.leaf ≡ true → IsBegun Upwards j m key number (take start.level way) (record { level = 0; top = start.top; leaf = true })
+  first is = subst (λ z. IsBegun Upwards j m key number (take start.level way) (record { level = 0; top = start.top; leaf = z })) is s.upwards.begun
 
-  gap : start.leaf ≡ false → IsBegun false Upwards j m key number start.top (take start.level way)
-  gap is = subst (λ z. IsBegun z Upwards j m key number start.top (take start.level way)) is s.upwards.begun
+  gap : start.leaf ≡ false → IsBegun Upwards j m key number (take start.level way) (record { level = 0; top = start.top; leaf = false })
+  gap is = subst (λ z. IsBegun Upwards j m key number (take start.level way) (record { level = 0; top = start.top; leaf = z })) is s.upwards.begun
 
   -- The scan upwards has a leaf with the key: it comes first.
   pub turns_same : start.leaf ≡ true → differ ≡ None → (comes : Bool) → comes ≡ true → IsStart Downwards j m key way number (record { level = start.level; top = start.top; leaf = comes })
   turns_same is none comes first_is = record {
     within = s.upwards.within;
-    begun = subst (λ z. IsBegun z Downwards j m key number start.top (take start.level way)) (sym first_is) (
+    begun = subst (λ z. IsBegun Downwards j m key number (take start.level way) (record { level = 0; top = start.top; leaf = z })) (sym first_is) (
       record {
         found = w.found_at.0;
         value = value;
@@ -112,7 +112,7 @@ module _ (layout : Layout) (k j : Known) (m : ℕ) (key : Key) (way : List PathN
   pub turns_before : start.leaf ≡ true → (d : ℕ) → differ ≡ Some d → (comes : Bool) → comes ≡ false → IsStart Downwards j m key way number (record { level = start.level; top = start.top; leaf = comes })
   turns_before is d differs comes apart_is = record {
     within = s.upwards.within;
-    begun = subst (λ z. IsBegun z Downwards j m key number start.top (take start.level way)) (sym apart_is) (
+    begun = subst (λ z. IsBegun Downwards j m key number (take start.level way) (record { level = 0; top = start.top; leaf = z })) (sym apart_is) (
       record { there = beneath_first is; above = s.left },
       λ g upto. skipped g upto (walk_before start.top (walk_at (first is).1 (suc start.top.at) f.inside f.bound g upto) f.inside refl),
     );
@@ -130,21 +130,21 @@ module _ (layout : Layout) (k j : Known) (m : ℕ) (key : Key) (way : List PathN
           one : w.found_at.0 ≡ f.found
           one = read_same (seen c j) m (seen_steady lawful known pinned) number w.found_at.0 f.found value f.value (found_read c lawful known) (f.read c lawful known)
 
-      skipped : (g : Range) → g.upto ≡ key → IsBeforeEntry Downwards j m g start.top (take start.level way) [] → IsWalk Downwards j m g start.top (take start.level way) []
+      skipped : (g : Range) → g.upto ≡ key → IsBeforeEntry Downwards j m g start.top (take start.level way) [] → IsWalk j m (Downwards, g) start.top (take start.level way) []
       skipped g upto n = record {
-        lowest = n.stage;
-        others = n.others;
-        taken = n.taken;
-        top_is = n.at_is;
-        frames_are = n.frames_are;
-        pairs_are = n.pairs_are;
-        room = n.room;
-        fits = let low = n.low in omega (arith, low);
-        inside = n.inside;
-        pinned = n.pinned;
+        lowest = n.stands.stage;
+        others = n.stands.others;
+        taken = n.stands.taken;
+        top_is = n.stands.at_is;
+        frames_are = n.stands.frames_are;
+        pairs_are = n.stands.pairs_are;
+        room = n.stands.room;
+        fits = let low = n.stands.low in omega (arith, low);
+        inside = n.stands.inside;
+        pinned = n.stands.pinned;
         scan = λ c lawful known.
-            scan_skipped (seen c j) m g (seen_steady lawful known pinned) n.stage n.others n.taken number f.found f.value
-            (subst (λ (z : PathNode). IsPlaced (seen c j) m z.number z.at (Leaf number)) n.at_is (f.placed c lawful known)) (f.read c lawful known) Downwards (n.scan c lawful known)
+            scan_skipped (seen c j) m g (seen_steady lawful known pinned) n.stands.stage n.stands.others n.stands.taken number f.found f.value
+            (subst (λ (z : PathNode). IsPlaced (seen c j) m z.number z.at (Leaf number)) n.stands.at_is (f.placed c lawful known)) (f.read c lawful known) Downwards (n.scan c lawful known)
             (subst (λ z. IsBefore z f.found) (sym upto) (high c lawful known));
       }
 
@@ -153,7 +153,7 @@ module _ (layout : Layout) (k j : Known) (m : ℕ) (key : Key) (way : List PathN
       IsStart Downwards j m key way number (record { level = start.level; top = top; leaf = comes })
   turns_behind is last next_to top top_is comes first_is = record {
     within = s.upwards.within;
-    begun = subst (λ z. IsBegun z Downwards j m key number top (take start.level way)) (sym first_is) (subst (λ z. IsBegun true Downwards j m key number z (take start.level way)) (sym top_is) (
+    begun = subst (λ z. IsBegun Downwards j m key number (take start.level way) (record { level = 0; top = top; leaf = z })) (sym first_is) (subst (λ z. IsBegun Downwards j m key number (take start.level way) (record { level = 0; top = z; leaf = true })) (sym top_is) (
       record {
         found = w.found_at.0;
         value = value;
@@ -215,7 +215,7 @@ module _ (layout : Layout) (k j : Known) (m : ℕ) (key : Key) (way : List PathN
   pub turns_there : start.leaf ≡ false → (start.level + 1 ≡ length way → lowest.at + 1 ≡ start.top.at → ⊥) → (comes : Bool) → comes ≡ false → IsStart Downwards j m key way number (record { level = start.level; top = start.top; leaf = comes })
   turns_there is not_behind comes apart_is = record {
     within = s.upwards.within;
-    begun = subst (λ z. IsBegun z Downwards j m key number start.top (take start.level way)) (sym apart_is) (
+    begun = subst (λ z. IsBegun Downwards j m key number (take start.level way) (record { level = 0; top = start.top; leaf = z })) (sym apart_is) (
       record { there = beneath_there is not_behind; above = s.left },
       walk_at (gap is).1 start.top.at (walk_fits ((gap is).1 (record { from = key; upto = key; limit = 0 }) refl)) (gap is).0,
     );

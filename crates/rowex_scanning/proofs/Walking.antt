@@ -199,7 +199,7 @@ pop_less d top frames lower rest e = let after = ap (rest_of_frames d) e ∙ res
 -- The walk
 
 -- what the pass knows of its topmost node
-module _ {d : Direction} {k : Known} {m : ℕ} {g : Range} {top : PathNode} {frames : List PathNode} {pairs : List (Key × ℕ)} (w : IsWalk d k m g top frames pairs) where
+module _ {d : Direction} {k : Known} {m : ℕ} {g : Range} {top : PathNode} {frames : List PathNode} {pairs : List (Key × ℕ)} (w : IsWalk k m (d, g) top frames pairs) where
   walk_stack : Sure k (λ s. IsStack s m (w.lowest ∷ w.others))
   walk_stack c lawful recalls = (w.scan c lawful recalls).stack
 
@@ -213,12 +213,12 @@ module _ {d : Direction} {k : Known} {m : ℕ} {g : Range} {top : PathNode} {fra
   walk_fits = subst (λ (z : PathNode). z.at ≤ z.count) (sym w.top_is) w.fits
 
   -- there are entries at the places that come next
-  pub walk_places : (count : ℕ) → count ≤ to_come d top.count top.at → HasPlaces d k m top count
-  walk_places count come i low =
-      shape_place walk_shape (subst (λ z. place_ahead d top.at i < z) (ap (λ (z : PathNode). z.count) w.top_is) (place_inside d top.count top.at i walk_fits (omega (arith, low, come))))
+  pub walk_places : HasPlaces d k m top
+  walk_places i low =
+      shape_place walk_shape (subst (λ z. place_ahead d top.at i < z) (ap (λ (z : PathNode). z.count) w.top_is) (place_inside d top.count top.at i walk_fits low))
 
 -- after more loads
-pub walk_later : {d : Direction} {k j : Known} {m : ℕ} {g : Range} {top : PathNode} {frames : List PathNode} {pairs : List (Key × ℕ)} → IsLater k j → IsWalk d k m g top frames pairs → IsWalk d j m g top frames pairs
+pub walk_later : {d : Direction} {k j : Known} {m : ℕ} {g : Range} {top : PathNode} {frames : List PathNode} {pairs : List (Key × ℕ)} → IsLater k j → IsWalk k m (d, g) top frames pairs → IsWalk j m (d, g) top frames pairs
 walk_later {d} {k} {j} {m} {g} l w = record {
   lowest = w.lowest;
   others = w.others;
@@ -234,11 +234,11 @@ walk_later {d} {k} {j} {m} {g} l w = record {
 }
 
 -- from the last load of the root on
-pub walk_since : {d : Direction} {k : Known} {m : ℕ} {g : Range} {top : PathNode} {frames : List PathNode} {pairs : List (Key × ℕ)} → since k ≡ m → IsWalk d k m g top frames pairs → IsWalk d k (since k) g top frames pairs
-walk_since {d = d} {k = k} {g = g} {top = top} {frames = frames} {pairs = pairs} e = subst (λ z. IsWalk d k z g top frames pairs) (sym e)
+pub walk_since : {d : Direction} {k : Known} {m : ℕ} {g : Range} {top : PathNode} {frames : List PathNode} {pairs : List (Key × ℕ)} → since k ≡ m → IsWalk k m (d, g) top frames pairs → IsWalk k (since k) (d, g) top frames pairs
+walk_since {d = d} {k = k} {g = g} {top = top} {frames = frames} {pairs = pairs} e = subst (λ z. IsWalk k z (d, g) top frames pairs) (sym e)
 
--- The walk is before the entry at this place.
-pub record IsBeforeEntry (d : Direction) (k : Known) (m : ℕ) (g : Range) (at : PathNode) (frames : List PathNode) (pairs : List (Key × ℕ)) : Type 0 where
+-- A walk stands at this place in a node of this way, with these pairs so far.
+pub record IsStanding (k : Known) (m : ℕ) (at : PathNode) (frames : List PathNode) (pairs : List (Key × ℕ)) : Type 0 where
   pub stage : Stage
   pub others : List Stage
   pub taken : List Pair
@@ -249,21 +249,27 @@ pub record IsBeforeEntry (d : Direction) (k : Known) (m : ℕ) (g : Range) (at :
   pub low : stage.place < size stage.shape
   pub inside : AreInside others
   pub pinned : IsPinnedSince k m
-  pub scan : Sure k (λ s. IsScanBy d s m g (before d stage ∷ others) taken)
 
-pub walk_before : {d : Direction} {k : Known} {m : ℕ} {g : Range} {frames : List PathNode} {pairs : List (Key × ℕ)} (at : PathNode) {top : PathNode} → IsWalk d k m g top frames pairs → at.at < at.count → top ≡ record at { at = gap_before d at.at } →
+-- It is before the entry there.
+pub record IsBeforeEntry (d : Direction) (k : Known) (m : ℕ) (g : Range) (at : PathNode) (frames : List PathNode) (pairs : List (Key × ℕ)) : Type 0 where
+  pub stands : IsStanding k m at frames pairs
+  pub scan : Sure k (λ s. IsScanBy d s m g (before d stands.stage ∷ stands.others) stands.taken)
+
+pub walk_before : {d : Direction} {k : Known} {m : ℕ} {g : Range} {frames : List PathNode} {pairs : List (Key × ℕ)} (at : PathNode) {top : PathNode} → IsWalk k m (d, g) top frames pairs → at.at < at.count → top ≡ record at { at = gap_before d at.at } →
     IsBeforeEntry d k m g at frames pairs
 walk_before {d} {k} {m} {g} at w inside is = record {
-  stage = record w.lowest { place = at.at };
-  others = w.others;
-  taken = w.taken;
-  at_is = ap (λ (z : PathNode). let x : PathNode = record z { at = at.at } in x) (sym is ∙ w.top_is);
-  frames_are = w.frames_are;
-  pairs_are = w.pairs_are;
-  room = w.room;
-  low = subst (λ z. at.at < z) (ap (λ (z : PathNode). z.count) (sym is ∙ w.top_is)) inside;
-  inside = w.inside;
-  pinned = w.pinned;
+  stands = record {
+    stage = record w.lowest { place = at.at };
+    others = w.others;
+    taken = w.taken;
+    at_is = ap (λ (z : PathNode). let x : PathNode = record z { at = at.at } in x) (sym is ∙ w.top_is);
+    frames_are = w.frames_are;
+    pairs_are = w.pairs_are;
+    room = w.room;
+    low = subst (λ z. at.at < z) (ap (λ (z : PathNode). z.count) (sym is ∙ w.top_is)) inside;
+    inside = w.inside;
+    pinned = w.pinned;
+  };
   scan = λ c lawful known. subst (λ n. IsScanBy d (seen c k) m g (record w.lowest { place = n } ∷ w.others) w.taken) place_is (w.scan c lawful known);
 }
   where
@@ -272,17 +278,17 @@ walk_before {d} {k} {m} {g} at w inside is = record {
 
 -- Before the entry that comes behind so many others.
 pub walk_at_place : {d : Direction} {k : Known} {m : ℕ} {g : Range} {top : PathNode} {frames : List PathNode} {pairs : List (Key × ℕ)} (i : ℕ) → top.at ≤ top.count → i < to_come d top.count top.at →
-    IsWalk d k m g (record top { at = gap_after d top.at i }) frames pairs → IsBeforeEntry d k m g (record top { at = place_ahead d top.at i }) frames pairs
+    IsWalk k m (d, g) (record top { at = gap_after d top.at i }) frames pairs → IsBeforeEntry d k m g (record top { at = place_ahead d top.at i }) frames pairs
 walk_at_place {d} {top = top} i fits come w =
     walk_before (record top { at = place_ahead d top.at i }) w (place_inside d top.count top.at i fits come) (ap (λ z. let x : PathNode = record top { at = z } in x) (gap_before_place d top.count top.at i come))
 
 -- what the pass knows of the node
 module _ {d : Direction} {k : Known} {m : ℕ} {g : Range} {at : PathNode} {frames : List PathNode} {pairs : List (Key × ℕ)} (w : IsBeforeEntry d k m g at frames pairs) where
   pub entry_inside : at.at < at.count
-  entry_inside = subst (λ (z : PathNode). z.at < z.count) (sym w.at_is) w.low
+  entry_inside = subst (λ (z : PathNode). z.at < z.count) (sym w.stands.at_is) w.stands.low
 
   pub entry_low : at.at < 32
-  entry_low = subst (λ (z : PathNode). z.at < 32) (sym w.at_is) (let low = w.low in let room = w.room in omega (arith, low, room))
+  entry_low = subst (λ (z : PathNode). z.at < 32) (sym w.stands.at_is) (let low = w.stands.low in let room = w.stands.room in omega (arith, low, room))
 
 -- Where a walk is, and the entry that the pass knows at its place.
 pub record IsAtEntry (d : Direction) (k : Known) (m : ℕ) (g : Range) (at : PathNode) (frames : List PathNode) (pairs : List (Key × ℕ)) (e : Entry) : Type 0 where
@@ -291,55 +297,38 @@ pub record IsAtEntry (d : Direction) (k : Known) (m : ℕ) (g : Range) (at : Pat
 
 -- the scan's invariant after more loads
 entry_scan : {d : Direction} {k j : Known} {m : ℕ} {g : Range} {at : PathNode} {frames : List PathNode} {pairs : List (Key × ℕ)} → (w : IsBeforeEntry d k m g at frames pairs) → IsLater k j →
-    Sure j (λ s. IsScanBy d s m g (before d w.stage ∷ w.others) w.taken)
-entry_scan {d} {k} {j} {m} {g} w l c lawful recalls = scan_grown (seen c k) m g d (seen c j) (before d w.stage ∷ w.others) w.taken (seen_grown c l) (w.scan c lawful (recalls_before l recalls))
-
--- the same place, in another range
-pub before_with : {d : Direction} {k : Known} {m : ℕ} {g : Range} {at : PathNode} {frames : List PathNode} {pairs : List (Key × ℕ)} (w : IsBeforeEntry d k m g at frames pairs) (h : Range) →
-    Sure k (λ s. IsScanBy d s m h (before d w.stage ∷ w.others) w.taken) → IsBeforeEntry d k m h at frames pairs
-before_with w h scan = record {
-  stage = w.stage;
-  others = w.others;
-  taken = w.taken;
-  at_is = w.at_is;
-  frames_are = w.frames_are;
-  pairs_are = w.pairs_are;
-  room = w.room;
-  low = w.low;
-  inside = w.inside;
-  pinned = w.pinned;
-  scan = scan;
-}
+    Sure j (λ s. IsScanBy d s m g (before d w.stands.stage ∷ w.stands.others) w.stands.taken)
+entry_scan {d} {k} {j} {m} {g} w l c lawful recalls = scan_grown (seen c k) m g d (seen c j) (before d w.stands.stage ∷ w.stands.others) w.stands.taken (seen_grown c l) (w.scan c lawful (recalls_before l recalls))
 
 module _ {d : Direction} {k : Known} {m : ℕ} {g : Range} {at : PathNode} {frames : List PathNode} {pairs : List (Key × ℕ)} {e : Entry} (a : IsAtEntry d k m g at frames pairs e) where
   pub entry_led : IsLedTo k m e
-  entry_led = placed_led at.number at.at e a.walk.pinned a.placed
+  entry_led = placed_led at.number at.at e a.walk.stands.pinned a.placed
 
   module _ {j : Known} (l : IsLater k j) where
     steady : (c : Core) → IsLawful c → Recalls c j → IsSteady (seen c j) m
-    steady c lawful recalls = seen_steady lawful recalls (since_later l a.walk.pinned)
+    steady c lawful recalls = seen_steady lawful recalls (since_later l a.walk.stands.pinned)
 
     -- the entry, by the frame
-    there : Sure j (λ s. IsPlaced s m a.walk.stage.number a.walk.stage.place e)
-    there = sure_later (placed_stable m a.walk.stage.number a.walk.stage.place e) l (subst (λ (z : PathNode). Sure k (λ s. IsPlaced s m z.number z.at e)) a.walk.at_is a.placed)
+    there : Sure j (λ s. IsPlaced s m a.walk.stands.stage.number a.walk.stands.stage.place e)
+    there = sure_later (placed_stable m a.walk.stands.stage.number a.walk.stands.stage.place e) l (subst (λ (z : PathNode). Sure k (λ s. IsPlaced s m z.number z.at e)) a.walk.stands.at_is a.placed)
 
 -- At a node, which was entered.
 module _ {d : Direction} {k j : Known} {m : ℕ} {g : Range} {at : PathNode} {frames : List PathNode} {pairs : List (Key × ℕ)} {number height : ℕ} (a : IsAtEntry d k m g at frames pairs (Node number height)) (l : IsLater k j) {into : PathNode}
     (e : IsEntered d j m number height into) {more : List PathNode} (q : more ≡ frames ++ at ∷ []) where
-  pub walk_push : IsWalk d j m g into more pairs
+  pub walk_push : IsWalk j m (d, g) into more pairs
   walk_push = record {
     lowest = record { number = number; height = height; shape = e.forks; place = first_gap d (size e.forks) };
-    others = a.walk.stage ∷ a.walk.others;
-    taken = a.walk.taken;
+    others = a.walk.stands.stage ∷ a.walk.stands.others;
+    taken = a.walk.stands.taken;
     top_is = e.top_is;
-    frames_are = q ∙ (ap (λ z. z ++ at ∷ []) a.walk.frames_are ∙ ap (λ z. frames_of a.walk.others ++ z ∷ []) a.walk.at_is);
-    pairs_are = a.walk.pairs_are;
+    frames_are = q ∙ (ap (λ z. z ++ at ∷ []) a.walk.stands.frames_are ∙ ap (λ z. frames_of a.walk.stands.others ++ z ∷ []) a.walk.stands.at_is);
+    pairs_are = a.walk.stands.pairs_are;
     room = e.room;
     fits = first_fits d (size e.forks);
-    inside = (a.walk.low, a.walk.room, a.walk.inside);
-    pinned = since_later l a.walk.pinned;
+    inside = (a.walk.stands.low, a.walk.stands.room, a.walk.stands.inside);
+    pinned = since_later l a.walk.stands.pinned;
     scan = λ c lawful recalls.
-        scan_pushed (seen c j) m g (steady a l c lawful recalls) d a.walk.stage a.walk.others a.walk.taken (entry_scan a.walk l c lawful recalls) number height e.forks
+        scan_pushed (seen c j) m g (steady a l c lawful recalls) d a.walk.stands.stage a.walk.stands.others a.walk.stands.taken (entry_scan a.walk l c lawful recalls) number height e.forks
         (there a l c lawful recalls) (e.shaped c lawful recalls);
   }
 
@@ -350,32 +339,32 @@ module _ {d : Direction} {k j : Known} {m : ℕ} {g : Range} {at : PathNode} {fr
 
 -- At a leaf, which was read.
 module _ {d : Direction} {k j : Known} {m : ℕ} {g : Range} {at : PathNode} {frames : List PathNode} {pairs : List (Key × ℕ)} {number : ℕ} (a : IsAtEntry d k m g at frames pairs (Leaf number)) (l : IsLater k j) {more : List (Key × ℕ)}
-    {verdict : Verdict} (t : IsLeafTaken d k j g number pairs more verdict) where
+    {verdict : Verdict} (t : IsLeafTaken k j (d, g) number pairs more verdict) where
   read : Sure j (λ s. IsRead s m number t.key t.value)
   read = t.read m (entry_led a)
 
-  taken : {v : Verdict} → verdict ≡ v → IsPairTaken d g pairs t.key t.value more v
-  taken e = subst (λ z. IsPairTaken d g pairs t.key t.value more z) e t.taken
+  taken : {v : Verdict} → verdict ≡ v → IsPairTaken (d, g) pairs t.key t.value more v
+  taken e = subst (λ z. IsPairTaken (d, g) pairs t.key t.value more z) e t.taken
 
-  taken_length : length pairs ≡ length a.walk.taken
-  taken_length = ap length a.walk.pairs_are ∙ length_in_order_taken a.walk.taken
+  taken_length : length pairs ≡ length a.walk.stands.taken
+  taken_length = ap length a.walk.stands.pairs_are ∙ length_in_order_taken a.walk.stands.taken
 
-  pub walk_further : verdict ≡ Further → IsWalk d j m g (record at { at = gap_behind d at.at }) frames more
+  pub walk_further : verdict ≡ Further → IsWalk j m (d, g) (record at { at = gap_behind d at.at }) frames more
   walk_further is = let (within, room, e) = taken is in record {
-    lowest = behind d a.walk.stage;
-    others = a.walk.others;
-    taken = record { key = t.key; value = t.value } ∷ a.walk.taken;
-    top_is = ap (λ (z : PathNode). let x : PathNode = record z { at = gap_behind d z.at } in x) a.walk.at_is;
-    frames_are = a.walk.frames_are;
-    pairs_are = e ∙ ap (λ z. z ++ (t.key, t.value) ∷ []) a.walk.pairs_are;
-    room = a.walk.room;
-    fits = behind_fits d a.walk.stage.place (size a.walk.stage.shape) a.walk.low;
-    inside = a.walk.inside;
-    pinned = since_later l a.walk.pinned;
+    lowest = behind d a.walk.stands.stage;
+    others = a.walk.stands.others;
+    taken = record { key = t.key; value = t.value } ∷ a.walk.stands.taken;
+    top_is = ap (λ (z : PathNode). let x : PathNode = record z { at = gap_behind d z.at } in x) a.walk.stands.at_is;
+    frames_are = a.walk.stands.frames_are;
+    pairs_are = e ∙ ap (λ z. z ++ (t.key, t.value) ∷ []) a.walk.stands.pairs_are;
+    room = a.walk.stands.room;
+    fits = behind_fits d a.walk.stands.stage.place (size a.walk.stands.stage.shape) a.walk.stands.low;
+    inside = a.walk.stands.inside;
+    pinned = since_later l a.walk.stands.pinned;
     scan = λ c lawful recalls.
         let s = entry_scan a.walk l c lawful recalls in
         let short = s.short in
-        scan_taken (seen c j) m g (steady a l c lawful recalls) a.walk.stage a.walk.others a.walk.taken number t.key t.value (there a l c lawful recalls) (read c lawful recalls) d s within
+        scan_taken (seen c j) m g (steady a l c lawful recalls) a.walk.stands.stage a.walk.stands.others a.walk.stands.taken number t.key t.value (there a l c lawful recalls) (read c lawful recalls) d s within
         (let n = taken_length in omega (arith, short, n, room));
   }
 
@@ -383,25 +372,25 @@ module _ {d : Direction} {k j : Known} {m : ℕ} {g : Range} {at : PathNode} {fr
   taken_more is = ap length (taken is).2 ∙ length-append pairs ((t.key, t.value) ∷ [])
 
   module _ (e : since j ≡ m) where
-    ends : (b : Bool) → more ≡ pairs → Sure j (λ s. IsAnswer d s m g a.walk.taken b) → HasScanned d j g more b
+    ends : (b : Bool) → more ≡ pairs → Sure j (λ s. IsAnswer d s m g a.walk.stands.taken b) → HasScanned d j g more b
     ends b stay answer = record {
-      taken = a.walk.taken;
-      pairs_are = stay ∙ a.walk.pairs_are;
-      answer = subst (λ z. Sure j (λ s. IsAnswer d s z g a.walk.taken b)) (sym e) answer;
+      taken = a.walk.stands.taken;
+      pairs_are = stay ∙ a.walk.stands.pairs_are;
+      answer = subst (λ z. Sure j (λ s. IsAnswer d s z g a.walk.stands.taken b)) (sym e) answer;
     }
 
     pub walk_past : verdict ≡ IsPast → HasScanned d j g more false
     walk_past is = let (late, stay) = taken is in ends false stay (λ c lawful recalls.
-        scan_passed (seen c j) m g (steady a l c lawful recalls) a.walk.stage a.walk.others a.walk.taken number t.key t.value (there a l c lawful recalls) (read c lawful recalls) d
+        scan_passed (seen c j) m g (steady a l c lawful recalls) a.walk.stands.stage a.walk.stands.others a.walk.stands.taken number t.key t.value (there a l c lawful recalls) (read c lawful recalls) d
         (entry_scan a.walk l c lawful recalls) late)
 
     pub walk_full : verdict ≡ Full → HasScanned d j g more true
     walk_full is = let (within, full, stay) = taken is in ends true stay (λ c lawful recalls.
-        scan_filled (seen c j) m g (steady a l c lawful recalls) a.walk.stage a.walk.others a.walk.taken number t.key t.value (there a l c lawful recalls) (read c lawful recalls) d
+        scan_filled (seen c j) m g (steady a l c lawful recalls) a.walk.stands.stage a.walk.stands.others a.walk.stands.taken number t.key t.value (there a l c lawful recalls) (read c lawful recalls) d
         (entry_scan a.walk l c lawful recalls) within (sym taken_length ∙ full))
 
 -- The topmost node is done.
-module _ {d : Direction} {k : Known} {m : ℕ} {g : Range} {top : PathNode} {frames : List PathNode} {pairs : List (Key × ℕ)} (w : IsWalk d k m g top frames pairs) where
+module _ {d : Direction} {k : Known} {m : ℕ} {g : Range} {top : PathNode} {frames : List PathNode} {pairs : List (Key × ℕ)} (w : IsWalk k m (d, g) top frames pairs) where
   -- the frame below
   pub record IsBelow (below : PathNode) (rest : List PathNode) : Type 0 where
     pub stage : Stage
@@ -429,7 +418,7 @@ module _ {d : Direction} {k : Known} {m : ℕ} {g : Range} {top : PathNode} {fra
     place_done : to_come d (size w.lowest.shape) w.lowest.place ≡ 0
     place_done = subst (λ (z : PathNode). to_come d z.count z.at ≡ 0) w.top_is done
 
-    pub walk_pop : (lower : PathNode) (rest : List PathNode) → frames ≡ rest ++ lower ∷ [] → IsWalk d k m g (record lower { at = gap_behind d lower.at }) rest pairs
+    pub walk_pop : (lower : PathNode) (rest : List PathNode) → frames ≡ rest ++ lower ∷ [] → IsWalk k m (d, g) (record lower { at = gap_behind d lower.at }) rest pairs
     walk_pop lower rest e =
         let b = below lower rest e in
         let i : AreInside (b.stage ∷ b.stages) = subst AreInside b.others w.inside in
@@ -464,7 +453,7 @@ module _ {d : Direction} {k : Known} {m : ℕ} {g : Range} {top : PathNode} {fra
 
 -- What a walk comes to
 
-module _ {layout : Layout} {d : Direction} {k : Known} {m : ℕ} {g : Range} {top : PathNode} {frames : List PathNode} {pairs : List (Key × ℕ)} (w : IsWalk d k m g top frames pairs) (possible : IsPossible layout k) where
+module _ {layout : Layout} {d : Direction} {k : Known} {m : ℕ} {g : Range} {top : PathNode} {frames : List PathNode} {pairs : List (Key × ℕ)} (w : IsWalk k m (d, g) top frames pairs) (possible : IsPossible layout k) where
   known : Recalls possible.core k
   known = recalls possible.core k possible.knows
 
@@ -555,7 +544,7 @@ paid_most d loads entries seen more pairs limit top frames (low, paid) few short
     let most = spare_most d frames in record { most = omega (arith, paid, short, within, asked, most); few = omega (arith, low, few, asked) }
 
 pub paid_last : {G : Type 0} {table : TableView} {becomes : G → Event → G → Type 0} {a b y z : SeatView × G} {d : Direction} {m : ℕ} {g : Range} {top : PathNode} {frames : List PathNode} {pairs : List (Key × ℕ)} →
-    (loads entries : ℕ) × IsPaid d loads entries (length pairs) top frames × Reads table becomes entries loads a b → IsWalk d b.0.known m g top frames pairs → IsPossible table.layout b.0.known → (ahead : Ahead) →
+    (loads entries : ℕ) × IsPaid d loads entries (length pairs) top frames × Reads table becomes entries loads a b → IsWalk b.0.known m (d, g) top frames pairs → IsPossible table.layout b.0.known → (ahead : Ahead) →
     length pairs + entries_ahead ahead ≤ g.limit + 1 → (n : ℕ) × (n ≤ entries_ahead ahead + ahead.count) × Reads table becomes (entries_ahead ahead) n b y → (n : ℕ) × (n ≤ LEAF_FIELDS * ahead.count) × Reads table becomes 0 n y z →
     Walks table becomes 0 g.limit a z
 paid_last {d = d} {g = g} {top = top} {frames = frames} {pairs = pairs} (loads, entries, paid, before) w possible ahead asked (seen, few, looks) (leaves, less, reads) = (
@@ -681,42 +670,45 @@ module _ {d : Direction} {k : Known} (g : Range) {pairs : List (Key × ℕ)} (no
   nothing_scanned low = record { taken = []; pairs_are = none; answer = λ c lawful recalls. none_between (seen c k) (since k) g d low }
 
 -- what was taken, of no pairs
-at_first : (d : Direction) (g : Range) (key : Key) (value : ℕ) (pairs more : List (Key × ℕ)) (verdict v : Verdict) → pairs ≡ [] → verdict ≡ v → IsPairTaken d g pairs key value more verdict → IsPairTaken d g [] key value more v
-at_first d g key value pairs more verdict v none is t = subst (λ z. IsPairTaken d g z key value more v) none (subst (λ z. IsPairTaken d g pairs key value more z) is t)
+at_first : (d : Direction) (g : Range) (key : Key) (value : ℕ) (pairs more : List (Key × ℕ)) (verdict v : Verdict) → pairs ≡ [] → verdict ≡ v → IsPairTaken (d, g) pairs key value more verdict → IsPairTaken (d, g) [] key value more v
+at_first d g key value pairs more verdict v none is t = subst (λ z. IsPairTaken (d, g) z key value more v) none (subst (λ z. IsPairTaken (d, g) pairs key value more z) is t)
 
--- the root is a leaf
-module _ (d : Direction) {k j : Known} (g : Range) (number : ℕ) (key : Key) (value : ℕ) (l : IsLater k j) (root : IsAtRoot k (Leaf number)) (same : since j ≡ since k)
-    (read : Sure j (λ s. IsRead s (since k) number key value)) where
+-- The root, when it was loaded last, was a leaf, which has been read since.
+pub record IsRootRead (k j : Known) (number : ℕ) (key : Key) (value : ℕ) : Type 0 where
+  pub later : IsLater k j
+  pub root : IsAtRoot k (Leaf number)
+  pub same : since j ≡ since k
+  pub read : Sure j (λ s. IsRead s (since k) number key value)
+
+module _ (d : Direction) {k j : Known} (g : Range) {number : ℕ} {key : Key} {value : ℕ} (of : IsRootRead k j number key value) where
   rooted : Sure j (λ s. IsRooted s (since k) (Leaf number))
-  rooted c lawful recalls = rooted_grown (seen c k) (seen c j) (seen_grown c l) (since k) (Leaf number) (root.1 c lawful (recalls_before l recalls))
+  rooted c lawful recalls = rooted_grown (seen c k) (seen c j) (seen_grown c of.later) (since k) (Leaf number) (of.root.1 c lawful (recalls_before of.later recalls))
 
   fixed : (c : Core) → IsLawful c → Recalls c j → IsSteady (seen c j) (since k)
-  fixed c lawful recalls = seen_steady lawful recalls (since_later l root.0)
+  fixed c lawful recalls = seen_steady lawful recalls (since_later of.later of.root.0)
 
   answered : {pairs : List (Key × ℕ)} (taken : List Pair) → pairs ≡ in_order_taken taken → (more : Bool) → Sure j (λ s. IsAnswer d s (since k) g taken more) → HasScanned d j g pairs more
-  answered taken e more answer = record { taken = taken; pairs_are = e; answer = subst (λ z. Sure j (λ s. IsAnswer d s z g taken more)) (sym same) answer }
+  answered taken e more answer = record { taken = taken; pairs_are = e; answer = subst (λ z. Sure j (λ s. IsAnswer d s z g taken more)) (sym of.same) answer }
 
   pub leaf_outside : {pairs : List (Key × ℕ)} → pairs ≡ [] → IsBefore key g.from ⊎ IsBefore g.upto key → HasScanned d j g pairs false
   leaf_outside e out =
-      answered [] e false (λ c lawful recalls. answer_outside (seen c j) (since k) g (fixed c lawful recalls) d number key value (rooted c lawful recalls) (read c lawful recalls) out)
+      answered [] e false (λ c lawful recalls. answer_outside (seen c j) (since k) g (fixed c lawful recalls) d number key value (rooted c lawful recalls) (of.read c lawful recalls) out)
 
   pub leaf_early : {pairs : List (Key × ℕ)} → pairs ≡ [] → IsEarlier d key (first_key d g) → HasScanned d j g pairs false
   leaf_early e early = leaf_outside e (out_first d g key early)
 
-  module _ {pairs more : List (Key × ℕ)} (none : pairs ≡ []) {verdict : Verdict} (t : IsPairTaken d g pairs key value more verdict) where
-    pub leaf_further : verdict ≡ Further → HasScanned d j g more false
-    leaf_further is =
+  module _ {pairs more : List (Key × ℕ)} (none : pairs ≡ []) {verdict : Verdict} (t : IsPairTaken (d, g) pairs key value more verdict) where
+    pub leaf_unfilled : (verdict ≡ Further) ⊎ (verdict ≡ IsPast) → HasScanned d j g more false
+    leaf_unfilled (inl is) =
         let (within, room, e) = at_first d g key value pairs more verdict Further none is t in
         answered (record { key = key; value = value } ∷ []) e false
-        (λ c lawful recalls. answer_one (seen c j) (since k) g (fixed c lawful recalls) d number key value (rooted c lawful recalls) (read c lawful recalls) within (let ne : 0 ≢ g.limit = room in omega (arith, ne)))
-
-    pub leaf_past : verdict ≡ IsPast → HasScanned d j g more false
-    leaf_past is = let (late, e) = at_first d g key value pairs more verdict IsPast none is t in leaf_outside e (out_last d g key late)
+        (λ c lawful recalls. answer_one (seen c j) (since k) g (fixed c lawful recalls) d number key value (rooted c lawful recalls) (of.read c lawful recalls) within (let ne : 0 ≢ g.limit = room in omega (arith, ne)))
+    leaf_unfilled (inr is) = let (late, e) = at_first d g key value pairs more verdict IsPast none is t in leaf_outside e (out_last d g key late)
 
     pub leaf_full : verdict ≡ Full → HasScanned d j g more true
     leaf_full is =
         let (within, full, e) = at_first d g key value pairs more verdict Full none is t in
-        answered [] e true (λ c lawful recalls. answer_nought (seen c j) (since k) g d number key value (read c lawful recalls) within (sym full))
+        answered [] e true (λ c lawful recalls. answer_nought (seen c j) (since k) g d number key value (of.read c lawful recalls) within (sym full))
 
 -- A head's forks
 

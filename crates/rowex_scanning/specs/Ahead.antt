@@ -1,21 +1,21 @@
 -- What a walk has seen at the places that come next.
-use Rattle.std.specs.Prelude.{◌≡◌, ℕ, ◌+◌, ◌<◌, List, length, slice_index, Bool, IfSome, option_to_list, false, true}
+use Rattle.std.specs.Prelude.{◌≡◌, ℕ, ◌+◌, ◌<◌, ◌≤◌, List, length, slice_index, Bool, IfSome, option_to_list, false, true}
 use Rattle.compound_node.specs.declared.entries.Entry.TheVariants.{Leaf, Node}
 use Rattle.insert_cases.specs.declared.choice.PathNode.{PathNode}
 use Rattle.tries.specs.Keys.{Key}
 use Rattle.rowex_core.specs.declared.known.Known.{Known}
-use Rattle.version_laws.specs.Scan.{Range, IsPlaced}
+use Rattle.version_laws.specs.Scan.{IsPlaced}
 use Rattle.rowex_reading.specs.Seen.{HasPlace, Sure, since}
-use Rattle.version_laws.specs.Directions.{first_key, gap_after, place_ahead}
-use Rattle.rowex_scanning.specs.Scanning.{HasScanned, IsBound, IsWalk}
+use Rattle.version_laws.specs.Directions.{first_key, gap_after, place_ahead, to_come}
+use Rattle.rowex_scanning.specs.Scanning.{HasScanned, IsBound, IsBoundWalk, IsWalk, Request}
 use Rattle.rowex_scanning.specs.declared.ahead.Ahead.{Ahead}
 use Rattle.version_laws.specs.declared.direction.Direction.{Direction}
 use Rattle.rowex_scanning.specs.declared.scanning.Verdict.{Verdict}
 use Rattle.rowex_scanning.specs.declared.scanning.Verdict.TheVariants.{Further, Past as IsPast, Full}
 
--- the node has entries at so many places that come next
-abbrev pub HasPlaces : Direction → Known → ℕ → PathNode → ℕ → Type 0
-HasPlaces d k m top count = (i : ℕ) → i < count → HasPlace k m top.number top.height (place_ahead d top.at i)
+-- the node has entries at all places that are to come
+abbrev pub HasPlaces : Direction → Known → ℕ → PathNode → Type 0
+HasPlaces d k m top = (i : ℕ) → i < to_come d top.count top.at → HasPlace k m top.number top.height (place_ahead d top.at i)
 
 -- how many entries were looked at
 abbrev pub entries_ahead : Ahead → ℕ
@@ -39,10 +39,10 @@ abbrev pub Reached : Type 0
 Reached = PathNode × List (Key × ℕ)
 
 -- From there the walk has passed so many leaves: it stands behind them, with their pairs.
-pub record HavePassed (d : Direction) (k : Known) (m : ℕ) (g : Range) (frames : List PathNode) (before : Reached) (count : ℕ) (pairs : List (Key × ℕ)) : Type 0 where
+pub record HavePassed (k : Known) (m : ℕ) (r : Request) (frames : List PathNode) (before : Reached) (count : ℕ) (pairs : List (Key × ℕ)) : Type 0 where
   pub more : length pairs ≡ length before.1 + count
-  pub walk : IsWalk d k m g (record before.0 { at = gap_after d before.0.at count }) frames pairs
-  pub bound : IsBound d k m (first_key d g) (record before.0 { at = gap_after d before.0.at count }) frames
+  pub walk : IsWalk k m r (record before.0 { at = gap_after r.0 before.0.at count }) frames pairs
+  pub bound : IsBound r.0 k m (first_key r.0 r.1) (record before.0 { at = gap_after r.0 before.0.at count }) frames
 
 -- What became of a scan at some leaves: it has passed all of them; or it has ended at one, and there is a further key or not.
 abbrev pub AreTaken : Type 0 → (Bool → Type 0) → Verdict → Type 0
@@ -50,17 +50,14 @@ AreTaken Passed Ended Further = Passed
 AreTaken Passed Ended IsPast = Ended false
 AreTaken Passed Ended Full = Ended true
 
--- The walk is at a gap of this node on this way, with these pairs so far; and what stands behind it comes later than the range's first key.
-abbrev pub IsBoundWalk : Direction → Known → ℕ → Range → PathNode → List PathNode → List (Key × ℕ) → Type 0
-IsBoundWalk d k m g top frames xs = IsWalk d k m g top frames xs × IsBound d k m (first_key d g) top frames
+-- A walk is at a gap of this node on this way, with these pairs so far, and these leaves come next in the node.
+pub record AreNext (k : Known) (r : Request) (top : PathNode) (frames : List PathNode) (pairs : List (Key × ℕ)) (leaves : List ℕ) : Type 0 where
+  pub bound : IsBoundWalk k (since k) r top frames pairs
+  pub ahead : AreAhead r.0 k (since k) top (length leaves) leaves
+  pub come : length leaves ≤ to_come r.0 top.count top.at
 
--- there is a way on which it is so
-abbrev pub IsOnSomeWay : Direction → Known → ℕ → Range → PathNode → List (Key × ℕ) → Type 0
-IsOnSomeWay d k m g top xs = (frames : List PathNode) × IsBoundWalk d k m g top frames xs
-
--- What became of so many leaves, on each way on which it is so, since the last load of the root.
-abbrev pub AreTakenOnWays : Direction → Known → Known → Range → Reached → ℕ → Reached → Verdict → Type 0
-AreTakenOnWays d k j g before count after verdict =
-    (frames : List PathNode) → IsBoundWalk d k (since k) g before.0 frames before.1 →
-    AreTaken ((after.0 ≡ record before.0 { at = gap_after d before.0.at count }) × HavePassed d j (since k) g frames before count after.1)
-    (HasScanned d j g after.1) verdict
+-- What became of these leaves on each way on which they came next, since the last load of the root.
+abbrev pub AreTakenOnWays : Known → Known → Request → List (Key × ℕ) → List ℕ → List (Key × ℕ) → Verdict → Type 0
+AreTakenOnWays k j r xs leaves ys verdict =
+    (top : PathNode) (frames : List PathNode) → AreNext k r top frames xs leaves →
+    AreTaken (HavePassed j (since k) r frames (top, xs) (length leaves) ys) (HasScanned r.0 j r.1 ys) verdict

@@ -12,7 +12,7 @@ use Rattle.version_laws.specs.Scan.{Pair, Range, IsInRange, IsRead, IsShaped, in
 use Rattle.rowex_table.specs.Made.{IsLater}
 use Rattle.rowex_reading.specs.Possible.{IsPossible}
 use Rattle.rowex_reading.specs.Seen.{IsLedTo, Sure, since}
-use Rattle.version_laws.specs.Directions.{IsAnswer, IsPastKey, IsEarlier, IsNoLater, IsScanBy, first_gap, gap_behind, last_key}
+use Rattle.version_laws.specs.Directions.{IsAnswer, IsPastKey, IsEarlier, IsNoLater, IsScanBy, first_gap, first_key, gap_behind, last_key}
 use Rattle.version_laws.specs.declared.direction.Direction.{Direction}
 use Rattle.rowex_scanning.specs.declared.scanning.Range.{Range as Asked}
 use Rattle.rowex_scanning.specs.declared.scanning.Verdict.{Verdict}
@@ -20,6 +20,20 @@ use Rattle.rowex_scanning.specs.declared.scanning.Verdict.TheVariants.{Further, 
 
 abbrev pub asked_range : Asked → Range
 asked_range r = record { from = r.from.now; upto = r.upto.now; limit = r.limit }
+
+-- what is asked of a scan: a direction, and a range with its limit
+abbrev pub Request : Type 0
+Request = Direction × Range
+
+abbrev pub request_of : Asked → Request
+request_of r = (r.direction, asked_range r)
+
+-- the keys with which such a scan begins and ends
+abbrev pub first_key_of : Asked → Key
+first_key_of r = first_key r.direction (asked_range r)
+
+abbrev pub last_key_of : Asked → Key
+last_key_of r = last_key r.direction (asked_range r)
 
 -- the pass is sure of the pairs that a scan gives, since its last load of the root, and of whether there is a further one
 pub record HasScanned (d : Direction) (k : Known) (g : Range) (pairs : List (Key × ℕ)) (more : Bool) : Type 0 where
@@ -37,17 +51,17 @@ HasScannedPart d k g pairs = (length pairs < g.limit) × HasScanned d k (limited
 
 -- What became of the pairs at one with this key and value, which doesn't come before the range: it belonged to the range; or it was past
 -- the range; or it belonged to the range and there was no room.
-abbrev pub IsPairTaken : Direction → Range → List (Key × ℕ) → Key → ℕ → List (Key × ℕ) → Verdict → Type 0
-IsPairTaken d g xs k v ys Further = IsInRange g k × (length xs ≢ g.limit) × (ys ≡ xs ++ (k, v) ∷ [])
-IsPairTaken d g xs k v ys IsPast = IsEarlier d (last_key d g) k × (ys ≡ xs)
-IsPairTaken d g xs k v ys Full = IsInRange g k × (length xs ≡ g.limit) × (ys ≡ xs)
+abbrev pub IsPairTaken : Request → List (Key × ℕ) → Key → ℕ → List (Key × ℕ) → Verdict → Type 0
+IsPairTaken (d, g) xs k v ys Further = IsInRange g k × (length xs ≢ g.limit) × (ys ≡ xs ++ (k, v) ∷ [])
+IsPairTaken (d, g) xs k v ys IsPast = IsEarlier d (last_key d g) k × (ys ≡ xs)
+IsPairTaken (d, g) xs k v ys Full = IsInRange g k × (length xs ≡ g.limit) × (ys ≡ xs)
 
 -- The leaf has been read; and what became of the pairs at its key and value.
-pub record IsLeafTaken (d : Direction) (k j : Known) (g : Range) (number : ℕ) (xs ys : List (Key × ℕ)) (verdict : Verdict) : Type 0 where
+pub record IsLeafTaken (k j : Known) (r : Request) (number : ℕ) (xs ys : List (Key × ℕ)) (verdict : Verdict) : Type 0 where
   pub key : Key
   pub value : ℕ
   pub read : (m : ℕ) → IsLedTo k m (Leaf number) → Sure j (λ s. IsRead s m number key value)
-  pub taken : IsPairTaken d g xs key value ys verdict
+  pub taken : IsPairTaken r xs key value ys verdict
 
 -- Memory was refused for a pair with this key, which belonged to the range and for which there was room by the limit: the pairs stay.
 abbrev pub IsPairRefused : Range → List (Key × ℕ) → Key → List (Key × ℕ) → Type 0
@@ -87,7 +101,7 @@ AreInside [] = Unit {0}
 AreInside (f ∷ fs) = (f.place < size f.shape) × (size f.shape ≤ 32) × AreInside fs
 
 -- Where a scan is: at a gap of the topmost of the frames, with these pairs so far.
-pub record IsWalk (d : Direction) (k : Known) (m : ℕ) (g : Range) (top : PathNode) (frames : List PathNode) (pairs : List (Key × ℕ)) : Type 0 where
+pub record IsWalk (k : Known) (m : ℕ) (r : Request) (top : PathNode) (frames : List PathNode) (pairs : List (Key × ℕ)) : Type 0 where
   pub lowest : Stage
   pub others : List Stage
   pub taken : List Pair
@@ -98,7 +112,7 @@ pub record IsWalk (d : Direction) (k : Known) (m : ℕ) (g : Range) (top : PathN
   pub fits : lowest.place ≤ size lowest.shape
   pub inside : AreInside others
   pub pinned : IsPinnedSince k m
-  pub scan : Sure k (λ s. IsScanBy d s m g (lowest ∷ others) taken)
+  pub scan : Sure k (λ s. IsScanBy r.0 s m r.1 (lowest ∷ others) taken)
 
 -- The pass is sure that all keys that stand behind the places of these frames come later than this one,
 abbrev pub ArePastKey : Direction → Known → ℕ → Key → List PathNode → Type 0
@@ -109,3 +123,14 @@ ArePastKey d k m key (f ∷ fs) = Sure k (λ s. IsPastKey d s m key f.number (ga
 pub record IsBound (d : Direction) (k : Known) (m : ℕ) (key : Key) (top : PathNode) (frames : List PathNode) : Type 0 where
   pub there : Sure k (λ s. IsPastKey d s m key top.number top.at)
   pub above : ArePastKey d k m key frames
+
+-- The walk is at a gap of this node on this way, with these pairs so far; and what stands behind it comes later than the range's first key.
+abbrev pub IsBoundWalk : Known → ℕ → Request → PathNode → List PathNode → List (Key × ℕ) → Type 0
+IsBoundWalk k m r top frames pairs = IsWalk k m r top frames pairs × IsBound r.0 k m (first_key r.0 r.1) top frames
+
+-- The walk is so at a gap of the last node of this way.
+pub record IsWalkAlong (k : Known) (m : ℕ) (r : Request) (way : List PathNode) (pairs : List (Key × ℕ)) : Type 0 where
+  pub top : PathNode
+  pub frames : List PathNode
+  pub way_is : way ≡ frames ++ top ∷ []
+  pub bound : IsBoundWalk k m r top frames pairs

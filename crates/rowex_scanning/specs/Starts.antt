@@ -1,5 +1,5 @@
 -- Where a scan starts.
-use Rattle.std.specs.Prelude.{◌≡◌, ◌⊎◌, ℕ, suc, ◌+◌, ◌<◌, List, [], length, take, slice_get, Some, Bool, false, true}
+use Rattle.std.specs.Prelude.{◌≡◌, ◌⊎◌, ℕ, suc, ◌+◌, ◌<◌, List, [], length, take, slice_get, MatchBool, Some, false}
 use Rattle.compound_node.specs.declared.entries.Entry.TheVariants.{Leaf}
 use Rattle.insert_cases.specs.declared.choice.PathNode.{PathNode}
 use Rattle.tries.specs.Keys.{Key, IsBefore}
@@ -10,7 +10,15 @@ use Rattle.version_laws.specs.Directions.{IsNoLater, IsPastKey, first_key, gap_b
 use Rattle.rowex_scanning.specs.Scanning.{ArePastKey, IsBound, IsWalk}
 use Rattle.version_laws.specs.declared.direction.Direction.{Direction}
 use Rattle.version_laws.specs.declared.direction.Direction.TheVariants.{Upwards, Downwards}
+use Rattle.record_words.specs.declared.layout.Layout.{Layout}
+use Rattle.rowex_reading.specs.Ways.{IsWayOf}
+use Rattle.rowex_reading.specs.declared.descent.Found.TheVariants.{Leaf as FoundLeaf}
+use Rattle.rowex_scanning.specs.declared.start.SearchEnd.{SearchEnd}
 use Rattle.rowex_scanning.specs.declared.start.Start.{Start}
+
+-- The search for the key has gone along this way since version m, through one node at least, and has ended so.
+abbrev pub IsSearchEnd : Layout → Known → ℕ → Key → List PathNode → SearchEnd → Type 0
+IsSearchEnd layout k m key way found = (0 < length way) × (value : ℕ) × IsWayOf layout k m key way (FoundLeaf found.number value found.mismatch)
 
 -- The leaf at which the search has ended stands at the place, with a key that does not come before this one; all that is behind it comes
 -- later.
@@ -25,17 +33,18 @@ pub record IsFirst (d : Direction) (k : Known) (m : ℕ) (key : Key) (number : �
 
 -- the walk of any scan that starts at the key, with no pairs so far
 abbrev pub IsWalkFrom : Direction → Known → ℕ → Key → PathNode → List PathNode → Type 0
-IsWalkFrom d k m key top frames = (g : Range) → first_key d g ≡ key → IsWalk d k m g top frames []
+IsWalkFrom d k m key top frames = (g : Range) → first_key d g ≡ key → IsWalk k m (d, g) top frames []
 
 -- The scan starts before the leaf at which the search has ended, or at a gap.
-abbrev pub IsBegun : Bool → Direction → Known → ℕ → Key → ℕ → PathNode → List PathNode → Type 0
-IsBegun true d k m key number top frames = IsFirst d k m key number top frames × IsWalkFrom d k m key (record top { at = gap_before d top.at }) frames
-IsBegun false d k m key number top frames = IsBound d k m key top frames × IsWalkFrom d k m key top frames
+abbrev pub IsBegun : Direction → Known → ℕ → Key → ℕ → List PathNode → Start → Type 0
+IsBegun d k m key number frames start = MatchBool start.leaf
+    (IsFirst d k m key number start.top frames × IsWalkFrom d k m key (record start.top { at = gap_before d start.top.at }) frames)
+    (IsBound d k m key start.top frames × IsWalkFrom d k m key start.top frames)
 
 -- Where a scan from the key starts on the way of the key's search, which has ended at this leaf.
 pub record IsStart (d : Direction) (k : Known) (m : ℕ) (key : Key) (way : List PathNode) (number : ℕ) (start : Start) : Type 0 where
   pub within : start.level < length way
-  pub begun : IsBegun start.leaf d k m key number start.top (take start.level way)
+  pub begun : IsBegun d k m key number (take start.level way) start
 
 -- The scan starts behind the leaf, at which the search has ended: its key is below this one, and so is all that stands left of it.
 pub record IsBehindLeaf (k : Known) (m : ℕ) (key : Key) (way : List PathNode) (number : ℕ) (start : Start) : Type 0 where

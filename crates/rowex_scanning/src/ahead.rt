@@ -6,16 +6,16 @@ ghost use Rattle.compound_node.specs.declared.entries.Entry.TheVariants.{Leaf as
 ghost use Rattle.rowex_reading.specs.Reads.{IsReader, Reads};
 ghost use Rattle.rowex_reading.specs.Seen.{IsLedTo};
 ghost use Rattle.rowex_scanning.specs.Ahead.{HasPlaces, HasSeenAhead, entries_ahead};
-ghost use Rattle.version_laws.specs.Directions.{to_come};
+ghost use Rattle.version_laws.specs.Directions.{to_come as to_come_of};
 
-use crate::direction::place_ahead;
+use crate::direction::{place_ahead, to_come};
 use crate::scanning::Scan;
 use compound_node::Entry;
 use insert_cases::PathNode;
 use packed_pairs::Pairs;
 use record_words::Origins;
 use rowex_core::{Gate, Rec};
-use rowex_reading::load_entry_from;
+use rowex_reading::{NodeAt, load_entry};
 use rowex_table::{HotTable, TableSeat};
 
 /// How many places of a node a walk looks at together, at most.
@@ -33,20 +33,22 @@ pub(crate) struct Ahead {
     pub node: Option<u32>,
 }
 
-/// Whether a walk that has listed `pairs` touches the leaves at the next `count` places. The leaf at one place alone is read at once. And
-/// where the keys so far take a word each, or less, reading a leaf takes few instructions, always as many. So a processor reads ahead by
+/// Whether a walk that has listed `pairs` touches the leaves at the next `count` places: if these are several, and the keys so far have
+/// more than eight bytes on average.
+///
+/// The leaf at one place alone is read at once. Shorter keys take few instructions each, always as many, so a processor reads ahead by
 /// itself.
 #[inline(always)]
-fn touches(count: u8, pairs: &Pairs) -> bool
+fn should_touch(count: u8, pairs: &Pairs) -> bool
     ensures { IsTrue result ↔ (1 < count) × (length pairs.now < length (keys_in pairs.now) / 8) }
 {
     count > 1 && pairs.key_bytes() / 8 > pairs.len()
 }
 
-/// At how many places a walk that has listed `pairs` looks together: those of the pairs that `limit` leaves, and one more. It is
-/// `MOST_AHEAD` at most, and one place, if fewer than `LEAST_PAIRS` are left.
+/// At how many places a walk that has listed `pairs` looks together: those of the pairs that `limit` leaves, and one more. `MOST_AHEAD` at
+/// most, and one if fewer than `LEAST_PAIRS` are left.
 #[inline(always)]
-pub(crate) fn most_together(limit: usize, pairs: &Pairs) -> u8
+fn most_together(limit: usize, pairs: &Pairs) -> u8
     requires { length pairs.now ≤ limit }
     ensures some { 0 < result }
     ensures most { result ≤ MOST_AHEAD }
@@ -62,38 +64,42 @@ pub(crate) fn most_together(limit: usize, pairs: &Pairs) -> u8
     }
 }
 
-/// Loads the entries at the next `count` places in the node `top`, up to the first that leads to a node. The numbers of the leaves go to
-/// the first of `leaves`, and the leaves are touched, where [`touches`] says so. Returns how many these are, and that node, if there is
-/// one.
+/// Loads the entries at the next places in the node `top`, up to the first that leads to a node: at [`most_together`] places, or fewer if
+/// fewer are to come. The leaves' numbers go to the first of `leaves`, and the leaves are touched where [`should_touch`] says so. Returns
+/// how many these are, and that node, if there is one.
 #[inline(always)]
 pub(crate) fn look_ahead<G: Gate>(
     scan: &Scan,
     seat: &mut TableSeat,
     gate: &mut G,
     top: &PathNode,
-    count: u8,
     pairs: &Pairs,
     leaves: &mut [u32; MOST_AHEAD as usize],
 ) -> Ahead
     requires reader { IsReader scan.now.table.now seat.old }
     requires origins { scan.now.origins.now.layout ≡ scan.now.table.now.layout }
     requires fits { top.now.at ≤ top.now.count }
-    requires come { count ≤ to_come scan.now.range.now.direction top.now.count top.now.at }
-    requires some { 0 < count }
-    requires most { count ≤ MOST_AHEAD }
-    requires places { (m : ℕ) × HasPlaces scan.now.range.now.direction seat.old.known m top.now count }
+    requires come { 0 < to_come_of scan.now.range.now.direction top.now.count top.now.at }
+    requires limit { length pairs.now ≤ scan.now.range.now.limit }
+    requires places { (m : ℕ) × HasPlaces scan.now.range.now.direction seat.old.known m top.now }
     ensures reads { (n : ℕ) × (n ≤ entries_ahead result + result.count) ×
         Reads scan.now.table.now G.becomes (entries_ahead result) n (seat.old, gate.old) (seat.new, gate.new) }
     ensures some { 0 < entries_ahead result }
-    ensures few { entries_ahead result ≤ count }
-    ensures ahead { (m : ℕ) → HasPlaces scan.now.range.now.direction seat.old.known m top.now count →
+    ensures come { entries_ahead result ≤ to_come_of scan.now.range.now.direction top.now.count top.now.at }
+    ensures most { result.count ≤ MOST_AHEAD }
+    ensures few { length pairs.now + entries_ahead result ≤ scan.now.range.now.limit + 1 }
+    ensures ahead { (m : ℕ) → HasPlaces scan.now.range.now.direction seat.old.known m top.now →
         HasSeenAhead scan.now.range.now.direction seat.new.known m top.now leaves.new result }
 {
-    let start = scan.origins.node(top.number);
-    let is_touching = touches(count, pairs);
+    let count = to_come(scan.range.direction, top).min(most_together(scan.range.limit, pairs));
+    let node = NodeAt {
+        number: top.number,
+        start: scan.origins.node(top.number),
+    };
+    let is_touching = should_touch(count, pairs);
     for index in 0..count {
         let place = place_ahead(scan.range.direction, *top, index);
-        match load_entry_from(scan.table, seat, gate, top.number, start, place) {
+        match load_entry(scan.table, seat, gate, node, place) {
             Entry::Node { number, .. } => {
                 return Ahead {
                     count: index,
@@ -102,7 +108,7 @@ pub(crate) fn look_ahead<G: Gate>(
             }
             Entry::Leaf(number) => {
                 if is_touching {
-                    touch(scan.table, scan.origins, seat, gate, number);
+                    touch_leaf(scan.table, scan.origins, seat, gate, number);
                 }
                 leaves[index as usize] = number;
             }
@@ -114,7 +120,7 @@ pub(crate) fn look_ahead<G: Gate>(
 /// Loads a word of the record of leaf `number` and ignores it, so that its cache line is there when the leaf is read. `origins` are those
 /// of `table`.
 #[inline(always)]
-fn touch<G: Gate>(
+fn touch_leaf<G: Gate>(
     table: &HotTable,
     origins: &Origins,
     seat: &mut TableSeat,

@@ -4,8 +4,8 @@
 ghost use Rattle.std.specs.Prelude.{◌≡◌, ◌<◌, ◌≤◌, IsTrue, false};
 ghost use Rattle.key_bits.specs.Key.{IsKey};
 ghost use Rattle.tries.specs.Keys.{IsAtMost, IsBefore};
-ghost use Rattle.version_laws.specs.Directions.{IsEarlier, IsNoLater, gap_behind};
-ghost use Rattle.version_laws.specs.Directions.{first_gap as first_gap_of, gap_after as gap_after_of, place_ahead as place_ahead_of, to_come as to_come_of};
+ghost use Rattle.version_laws.specs.Directions.{IsEarlier, IsNoLater};
+ghost use Rattle.version_laws.specs.Directions.{gap_behind as gap_behind_of, first_gap as first_gap_of, gap_after as gap_after_of, place_ahead as place_ahead_of, to_come as to_come_of};
 
 use insert_cases::PathNode;
 use version_laws::Direction;
@@ -50,9 +50,9 @@ pub(crate) fn place_ahead(direction: Direction, top: PathNode, entries: u8) -> u
 
 /// The gap at which a walk in the direction `direction` stands after the entry at `place`.
 #[inline(always)]
-pub(crate) fn behind(direction: Direction, place: u8) -> u8
+pub(crate) fn gap_behind(direction: Direction, place: u8) -> u8
     requires { place < 32 }
-    ensures { result ≡ gap_behind direction place }
+    ensures { result ≡ gap_behind_of direction place }
 {
     match direction {
         Direction::Upwards => place + 1,

@@ -1,6 +1,6 @@
 //! The walk of a scan: the pairs of a range of keys, in the order of its direction, as a pinned pass reads them.
 
-ghost use Rattle.std.specs.Prelude.{◌≡◌, ◌≢◌, ◌≤◌, ◌<◌, ◌+◌, ◌*◌, ℕ, [], IfOk, IsSome, IsTrue, OnErr, false, length, take};
+ghost use Rattle.std.specs.Prelude.{◌≡◌, ◌≢◌, ◌≤◌, ◌<◌, ◌+◌, ◌*◌, ℕ, [], IfOk, IsSome, IsTrue, List, OnErr, false, length, take};
 ghost use Rattle.compound_node.specs.declared.entries.Entry.TheVariants.{Leaf as LeafEntry, Node as NodeEntry};
 ghost use Rattle.key_bits.specs.Key.{IsKey};
 ghost use Rattle.key_bits.specs.declared.TheConstants.{MAX_BYTES};
@@ -9,26 +9,26 @@ ghost use Rattle.record_words.specs.Leaf.{key_word};
 ghost use Rattle.rowex_table.specs.Seats.{IsSeatOf};
 ghost use Rattle.rowex_reading.specs.Reads.{IsReader, Reads};
 ghost use Rattle.rowex_reading.specs.Seen.{IsAtRoot, IsLedTo, since};
-ghost use Rattle.rowex_reading.specs.Ways.{IsWayOf};
-ghost use Rattle.rowex_reading.specs.declared.descent.Found.TheVariants.{Leaf as FoundLeaf};
-ghost use Rattle.rowex_scanning.specs.Ahead.{AreAhead, AreTakenOnWays, IsOnSomeWay};
+ghost use Rattle.insert_cases.specs.declared.choice.PathNode.{PathNode};
+ghost use Rattle.rowex_scanning.specs.Ahead.{AreNext, AreTakenOnWays};
+ghost use Rattle.rowex_scanning.specs.Starts.{IsSearchEnd};
 ghost use Rattle.rowex_scanning.specs.Counts.{Scans, Walks, scan_loads};
-ghost use Rattle.version_laws.specs.Directions.{IsEarlier, IsNoLater, last_key};
-ghost use Rattle.version_laws.specs.Directions.{first_key as first_key_of, to_come as to_come_of};
-ghost use Rattle.rowex_scanning.specs.Scanning.{HasScanned, HasScannedPart, IsBound, IsEntered, IsLeafRefused, IsLeafTaken, IsPairRefused, IsPairTaken, IsReached, IsWalk, asked_range};
+ghost use Rattle.version_laws.specs.Directions.{IsEarlier, IsNoLater};
+ghost use Rattle.rowex_scanning.specs.Scanning.{HasScanned, HasScannedPart};
+ghost use Rattle.rowex_scanning.specs.Scanning.{IsEntered, IsLeafRefused, IsLeafTaken, IsPairRefused, IsPairTaken, IsReached, IsWalkAlong, asked_range, first_key_of, last_key_of, request_of};
 
-use crate::ahead::{MOST_AHEAD, look_ahead, most_together};
-use crate::direction::{behind, first_gap, gap_after, is_before, is_earlier, place_ahead, to_come};
-use crate::start::{SearchEnd, start_from};
+use crate::ahead::{MOST_AHEAD, look_ahead};
+use crate::direction::{
+    first_gap, gap_after, gap_behind, is_before, is_earlier, place_ahead, to_come,
+};
+use crate::start::{SearchEnd, find_start};
 use arrayvec::ArrayVec;
 use insert_cases::PathNode;
 use key_bits::{Key, MAX_BYTES};
 use packed_pairs::Pairs;
 use record_words::{Origins, key_word_at};
-use rowex_core::Gate;
-use rowex_reading::{
-    Found, MOST_NODES, enter_node, load_places, load_places_from, load_root, search_way,
-};
+use rowex_core::{Gate, Rec};
+use rowex_reading::{Found, LeafAt, MOST_NODES, enter_node, load_leaf, load_root, search_way};
 use rowex_table::{HotTable, TableSeat};
 use std::alloc::AllocError;
 use version_laws::Direction;
@@ -68,12 +68,12 @@ pub(crate) enum Verdict {
     Full,
 }
 
-/// The scan of a pinned pass: the first pairs of `range` in its direction, `range.limit` at most, take the place of those in `pairs`.
-/// Returns whether there is a further one.
+/// Lists the first pairs of `range` in its direction, `range.limit` at most, in place of those in `pairs`. Returns whether there is a
+/// further one.
 ///
-/// If memory is refused, it is an error. Then `pairs` has the first of these pairs, fewer than the limit, and there is a further one. In
-/// each case the pass has made loads alone. `way` is room for the nodes of its way, and need not be empty. Inline, as what it does at its
-/// root is, so that a caller has a walk of its own direction.
+/// An error if memory is refused. Then `pairs` has the first of these pairs, fewer than the limit, and there is a further one. The pass
+/// makes loads alone. `way` is room for the nodes of its way, and need not be empty. Inline, so that a caller has a walk of its own
+/// direction.
 #[inline(always)]
 pub fn scan_root<G: Gate>(
     table: &HotTable,
@@ -106,17 +106,23 @@ pub fn scan_root<G: Gate>(
             if way.len() == 0 {
                 scan_leaf(table, seat, gate, range, number, pairs)
             } else {
+                let origins = table.origins();
+                let scan = Scan {
+                    table,
+                    origins: &origins,
+                    range,
+                };
                 let found = SearchEnd { number, mismatch };
-                scan_node(table, seat, gate, way, range, found, pairs)
+                scan_node(&scan, seat, gate, way, found, pairs)
             }
         }
     }
 }
 
-/// The first key of `range` in its direction.
+/// The first key of `range` in its direction: the last one of a scan downwards.
 #[inline(always)]
-fn first_key<'a>(range: &'a Range) -> &'a Key
-    ensures { result.now ≡ first_key_of range.now.direction (asked_range range.now) }
+pub(crate) fn first_key<'a>(range: &'a Range) -> &'a Key
+    ensures { result.now ≡ first_key_of range.now }
 {
     match range.direction {
         Direction::Upwards => range.from,
@@ -124,8 +130,8 @@ fn first_key<'a>(range: &'a Range) -> &'a Key
     }
 }
 
-/// The scan from a root that is leaf `number`: lists the leaf's pair, if it belongs to `range` and the limit leaves room. Returns whether
-/// it belongs there and has no room; an error if memory is refused.
+/// Scans from a root that is leaf `number`: adds its pair to `pairs`, if it belongs to `range` and the limit leaves room. Returns whether
+/// it belongs there and has no room. An error if memory is refused.
 #[inline(always)]
 fn scan_leaf<G: Gate>(
     table: &HotTable,
@@ -142,8 +148,10 @@ fn scan_leaf<G: Gate>(
     ensures scanned { IfOk result (HasScanned range.now.direction seat.new.known (asked_range range.now) pairs.new) }
     ensures part { OnErr result (HasScannedPart range.now.direction seat.new.known (asked_range range.now) pairs.new) }
 {
+    let start = table.start_of(Rec::Leaf(number));
     let mut places = [0; MAX_BYTES];
-    let (length, value) = load_places(table, seat, gate, number, &mut places);
+    let leaf = LeafAt { number, start };
+    let (length, value) = load_leaf(table, seat, gate, leaf, &mut places);
     if is_earlier(
         range.direction,
         &places[..length],
@@ -157,49 +165,43 @@ fn scan_leaf<G: Gate>(
     }
 }
 
-/// The scan from a root that is a node, where the search for the range's first key went through `way` and ended at `found`. It fills
-/// `pairs`, which is empty before, and returns whether there is a further pair; an error if memory is refused.
+/// Scans from a root that is a node. The search for the range's first key went through `way` and ended as `found` says. Fills `pairs`,
+/// which is empty before, and returns whether there is a further pair. An error if memory is refused.
 #[inline(always)]
 fn scan_node<G: Gate>(
-    table: &HotTable,
+    scan: &Scan,
     seat: &mut TableSeat,
     gate: &mut G,
     way: &mut ArrayVec<PathNode, MOST_NODES>,
-    range: &Range,
     found: SearchEnd,
     pairs: &mut Pairs,
 ) -> Result<bool, AllocError>
-    requires reader { IsReader table.now seat.old }
-    requires nodes { 0 < length way.old.items }
-    requires way { (v : ℕ) × IsWayOf table.now.layout seat.old.known (since seat.old.known) (first_key_of range.now.direction (asked_range range.now)) way.old.items (FoundLeaf found.number v found.mismatch) }
+    requires reader { IsReader scan.now.table.now seat.old }
+    requires origins { scan.now.origins.now.layout ≡ scan.now.table.now.layout }
+    requires way { IsSearchEnd scan.now.table.now.layout seat.old.known (since seat.old.known) (first_key_of scan.now.range.now) way.old.items found }
     requires empty { pairs.old ≡ [] }
-    ensures reads { Walks table.now G.becomes (HEAD_WORDS + LEAF_FIELDS) range.now.limit (seat.old, gate.old) (seat.new, gate.new) }
-    ensures scanned { IfOk result (HasScanned range.now.direction seat.new.known (asked_range range.now) pairs.new) }
-    ensures part { OnErr result (HasScannedPart range.now.direction seat.new.known (asked_range range.now) pairs.new) }
+    ensures reads { Walks scan.now.table.now G.becomes (HEAD_WORDS + LEAF_FIELDS) scan.now.range.now.limit (seat.old, gate.old) (seat.new, gate.new) }
+    ensures scanned { IfOk result (HasScanned scan.now.range.now.direction seat.new.known (asked_range scan.now.range.now) pairs.new) }
+    ensures part { OnErr result (HasScannedPart scan.now.range.now.direction seat.new.known (asked_range scan.now.range.now) pairs.new) }
 {
-    let direction = range.direction;
-    let start = start_from(table, seat, gate, way, direction, first_key(range), found);
+    let direction = scan.range.direction;
+    let start = find_start(scan, seat, gate, way, found);
     let mut top = start.top;
     way.truncate(start.level);
-    let origins = table.origins();
-    let scan = Scan {
-        table,
-        origins: &origins,
-        range,
-    };
     let places = &mut [0; MAX_BYTES];
     if start.leaf {
-        match read_leaf(&scan, seat, gate, found.number, places, pairs)? {
-            Verdict::Further => top.at = behind(direction, top.at),
+        match take_leaf(scan, seat, gate, found.number, places, pairs)? {
+            Verdict::Further => top.at = gap_behind(direction, top.at),
             Verdict::Past => return Ok(false),
             Verdict::Full => return Ok(true),
         }
     }
-    walk(&scan, seat, gate, way, top, places, pairs)
+    way.push(top);
+    walk(scan, seat, gate, way, places, pairs)
 }
 
-/// The walk over the places of `lowest` from the gap `lowest.at` on, and of the nodes above it, `way`, in the scan's direction. It adds
-/// to `pairs`, and returns whether there is a further pair; an error if memory is refused.
+/// Walks over the places of the last node of `way`, from its gap `at` on, and of the nodes above it, in the scan's direction. Adds the
+/// pairs of the range to `pairs`, and returns whether there is a further one. An error if memory is refused.
 ///
 /// It looks at several places together, so that it doesn't wait for each leaf alone. The bytes of each key go to the same `places`,
 /// whatever stands there.
@@ -209,91 +211,78 @@ fn walk<G: Gate>(
     seat: &mut TableSeat,
     gate: &mut G,
     way: &mut ArrayVec<PathNode, MOST_NODES>,
-    lowest: PathNode,
     places: &mut [u8; MAX_BYTES],
     pairs: &mut Pairs,
 ) -> Result<bool, AllocError>
     requires reader { IsReader scan.now.table.now seat.old }
     requires origins { scan.now.origins.now.layout ≡ scan.now.table.now.layout }
-    requires walk { IsWalk scan.now.range.now.direction seat.old.known (since seat.old.known) (asked_range scan.now.range.now) lowest way.old.items pairs.old }
-    requires bound { IsBound scan.now.range.now.direction seat.old.known (since seat.old.known) (first_key_of scan.now.range.now.direction (asked_range scan.now.range.now)) lowest way.old.items }
+    requires walk { IsWalkAlong seat.old.known (since seat.old.known) (request_of scan.now.range.now) way.old.items pairs.old }
     ensures reads { Walks scan.now.table.now G.becomes 0 scan.now.range.now.limit (seat.old, gate.old) (seat.new, gate.new) }
     ensures scanned { IfOk result (HasScanned scan.now.range.now.direction seat.new.known (asked_range scan.now.range.now) pairs.new) }
     ensures part { OnErr result (HasScannedPart scan.now.range.now.direction seat.new.known (asked_range scan.now.range.now) pairs.new) }
 {
     let direction = scan.range.direction;
-    let mut top = lowest;
     let mut leaves = [0; MOST_AHEAD as usize];
+    let Some(mut top) = way.pop() else {
+        return Ok(false);
+    };
     loop {
-        let count = to_come(direction, &top).min(most_together(scan.range.limit, pairs));
-        if count > 0 {
-            let ahead = look_ahead(scan, seat, gate, &top, count, pairs, &mut leaves);
-            match take_leaves(
-                scan,
-                seat,
-                gate,
-                &mut top,
-                &leaves[..ahead.count as usize],
-                places,
-                pairs,
-            )? {
+        if to_come(direction, &top) > 0 {
+            let ahead = look_ahead(scan, seat, gate, &top, pairs, &mut leaves);
+            let next = &leaves[..ahead.count as usize];
+            match take_leaves(scan, seat, gate, next, places, pairs)? {
                 Verdict::Further => (),
                 Verdict::Past => return Ok(false),
                 Verdict::Full => return Ok(true),
             }
-            if let Some(number) = ahead.node {
-                top.at = place_ahead(direction, top, 0);
-                way.push(top);
-                top = enter(scan.table, seat, gate, direction, number);
+            match ahead.node {
+                Some(number) => {
+                    top.at = place_ahead(direction, top, ahead.count);
+                    way.push(top);
+                    top = enter_at_gap(scan.table, seat, gate, direction, number);
+                }
+                None => top.at = gap_after(direction, top, ahead.count),
             }
         } else {
             let Some(above) = way.pop() else {
                 return Ok(false);
             };
             top = above;
-            top.at = behind(direction, above.at);
+            top.at = gap_behind(direction, above.at);
         }
     }
 }
 
-/// Adds the pairs of the next leaves, `leaves`, to `pairs`. At one that is past the range or has no room it stops, and returns that
-/// verdict. If all are added, `top` goes behind them, and it returns `Further`. An error if memory is refused.
+/// Adds the pairs of `leaves`, which come next on the walk, to `pairs`. At one that is past the range or has no room it stops, and returns
+/// that verdict. If all are added, it returns `Further`. An error if memory is refused. `places` is room for a key's bytes.
 #[inline(always)]
 fn take_leaves<G: Gate>(
     scan: &Scan,
     seat: &mut TableSeat,
     gate: &mut G,
-    top: &mut PathNode,
     leaves: &[u32],
     places: &mut [u8; MAX_BYTES],
     pairs: &mut Pairs,
 ) -> Result<Verdict, AllocError>
     requires reader { IsReader scan.now.table.now seat.old }
     requires origins { scan.now.origins.now.layout ≡ scan.now.table.now.layout }
-    requires walk { IsOnSomeWay scan.now.range.now.direction seat.old.known (since seat.old.known) (asked_range scan.now.range.now) top.old pairs.old }
-    requires ahead { AreAhead scan.now.range.now.direction seat.old.known (since seat.old.known) top.old (length leaves.now) leaves.now }
-    requires come { length leaves.now ≤ to_come_of scan.now.range.now.direction top.old.count top.old.at }
-    requires most { length leaves.now ≤ MOST_AHEAD }
+    requires next { (top : PathNode) × (frames : List PathNode) × AreNext seat.old.known (request_of scan.now.range.now) top frames pairs.old leaves.now }
     ensures reads { (n : ℕ) × (n ≤ LEAF_FIELDS * length leaves.now) × Reads scan.now.table.now G.becomes 0 n (seat.old, gate.old) (seat.new, gate.new) }
-    ensures taken { IfOk result (AreTakenOnWays scan.now.range.now.direction seat.old.known seat.new.known (asked_range scan.now.range.now)
-        (top.old, pairs.old) (length leaves.now) (top.new, pairs.new)) }
+    ensures taken { IfOk result (AreTakenOnWays seat.old.known seat.new.known (request_of scan.now.range.now) pairs.old leaves.now pairs.new) }
     ensures part { OnErr result (HasScannedPart scan.now.range.now.direction seat.new.known (asked_range scan.now.range.now) pairs.new) }
 {
     for index in 0..leaves.len() {
-        let number = leaves[index];
-        match read_leaf(scan, seat, gate, number, places, pairs)? {
+        match take_leaf(scan, seat, gate, leaves[index], places, pairs)? {
             Verdict::Further => (),
             Verdict::Past => return Ok(Verdict::Past),
             Verdict::Full => return Ok(Verdict::Full),
         }
     }
-    top.at = gap_after(scan.range.direction, *top, leaves.len() as u8);
     Ok(Verdict::Further)
 }
 
-/// Loads the head of node `number`, and returns the walk's step there. The step is at the gap before the first entry in the direction
-/// `direction`.
-fn enter<G: Gate>(
+/// Loads the head of node `number`. Returns the node of a walk that stands at the gap before its first entry in the direction `direction`.
+fn enter_at_gap<G: Gate>(
     table: &HotTable,
     seat: &mut TableSeat,
     gate: &mut G,
@@ -311,9 +300,11 @@ fn enter<G: Gate>(
 }
 
 /// Loads leaf `number`, whose key does not come before `scan.range`, and adds its pair to `pairs`, as [`take_pair`] does. Returns what
-/// becomes of the scan; an error if memory is refused. `places` is room for the key's bytes.
+/// becomes of the scan. An error if memory is refused. `places` is room for the key's bytes.
+///
+/// Keys of eight bytes are common: what is compiled for them alone has each as a number.
 #[inline(always)]
-fn read_leaf<G: Gate>(
+fn take_leaf<G: Gate>(
     scan: &Scan,
     seat: &mut TableSeat,
     gate: &mut G,
@@ -324,21 +315,23 @@ fn read_leaf<G: Gate>(
     requires reader { IsReader scan.now.table.now seat.old }
     requires origins { scan.now.origins.now.layout ≡ scan.now.table.now.layout }
     requires leaf { (m : ℕ) × IsLedTo seat.old.known m (LeafEntry number) ×
-        IsReached scan.now.range.now.direction scan.now.table.now.layout seat.old.known m (first_key_of scan.now.range.now.direction (asked_range scan.now.range.now)) number }
+        IsReached scan.now.range.now.direction scan.now.table.now.layout seat.old.known m (first_key_of scan.now.range.now) number }
     ensures reads { (n : ℕ) × (n ≤ LEAF_FIELDS) × Reads scan.now.table.now G.becomes 0 n (seat.old, gate.old) (seat.new, gate.new) }
-    ensures taken { IfOk result (IsLeafTaken scan.now.range.now.direction seat.old.known seat.new.known (asked_range scan.now.range.now) number pairs.old pairs.new) }
+    ensures taken { IfOk result (IsLeafTaken seat.old.known seat.new.known (request_of scan.now.range.now) number pairs.old pairs.new) }
     ensures refused { OnErr result (IsLeafRefused seat.old.known seat.new.known (asked_range scan.now.range.now) number pairs.old pairs.new) }
 {
     let start = scan.origins.leaf(number);
-    let (length, value) = load_places_from(scan.table, seat, gate, number, start, places);
+    let leaf = LeafAt { number, start };
+    let (length, value) = load_leaf(scan.table, seat, gate, leaf, places);
+    if length == 8 {
+        return take_pair(pairs, scan.range, places, 8, value);
+    }
     take_pair(pairs, scan.range, places, length, value)
 }
 
 /// Adds a pair to `pairs`, if it belongs to `range` and the limit leaves room, and returns what becomes of the scan. An error if memory
-/// is refused. The pair's key has the first `length` of `places`, and does not come before the range.
-///
-/// Keys of eight bytes are common: what is compiled for them alone has each as a number. Inline, so that the key's bytes go at once from
-/// where they were read to their place among the pairs.
+/// is refused. The pair's key has the first `length` of `places`, and does not come before the range. Inline, so that the key's bytes go at
+/// once from where they were read to their place among the pairs.
 #[inline(always)]
 fn take_pair(
     pairs: &mut Pairs,
@@ -349,29 +342,8 @@ fn take_pair(
 ) -> Result<Verdict, AllocError>
     requires key { IsKey (take length places.now) }
     requires fits { length ≤ MAX_BYTES }
-    requires reached { IsNoLater range.now.direction (first_key_of range.now.direction (asked_range range.now)) (take length places.now) }
-    ensures taken { IfOk result (IsPairTaken range.now.direction (asked_range range.now) pairs.old (take length places.now) value pairs.new) }
-    ensures refused { OnErr result (IsPairRefused (asked_range range.now) pairs.old (take length places.now) pairs.new) }
-{
-    if length == 8 {
-        return take_key(pairs, range, places, 8, value);
-    }
-    take_key(pairs, range, places, length, value)
-}
-
-/// Does what [`take_pair`] does, for keys of each length alike.
-#[inline(always)]
-fn take_key(
-    pairs: &mut Pairs,
-    range: &Range,
-    places: &[u8; MAX_BYTES],
-    length: usize,
-    value: u64,
-) -> Result<Verdict, AllocError>
-    requires key { IsKey (take length places.now) }
-    requires fits { length ≤ MAX_BYTES }
-    requires reached { IsNoLater range.now.direction (first_key_of range.now.direction (asked_range range.now)) (take length places.now) }
-    ensures taken { IfOk result (IsPairTaken range.now.direction (asked_range range.now) pairs.old (take length places.now) value pairs.new) }
+    requires reached { IsNoLater range.now.direction (first_key_of range.now) (take length places.now) }
+    ensures taken { IfOk result (IsPairTaken (request_of range.now) pairs.old (take length places.now) value pairs.new) }
     ensures refused { OnErr result (IsPairRefused (asked_range range.now) pairs.old (take length places.now) pairs.new) }
 {
     if is_past(range, &places[..length]) {
@@ -384,13 +356,13 @@ fn take_key(
     Ok(Verdict::Further)
 }
 
-/// Whether the key with the bytes `key` is past the last key of `range` in its direction. In a scan upwards mostly the first eight bytes
-/// tell that it is not, as one number each.
+/// Whether the key with the bytes `key` is past the last key of `range` in its direction. In a scan upwards two numbers of eight bytes
+/// mostly tell that it is not.
 #[inline(always)]
 fn is_past(range: &Range, key: &[u8]) -> bool
     requires key { IsKey key.now }
-    ensures past { IsTrue result → IsEarlier range.now.direction (last_key range.now.direction (asked_range range.now)) key.now }
-    ensures inside { result ≡ false → IsNoLater range.now.direction key.now (last_key range.now.direction (asked_range range.now)) }
+    ensures past { IsTrue result → IsEarlier range.now.direction (last_key_of range.now) key.now }
+    ensures inside { result ≡ false → IsNoLater range.now.direction key.now (last_key_of range.now) }
 {
     match range.direction {
         Direction::Upwards => {
@@ -404,7 +376,7 @@ fn is_past(range: &Range, key: &[u8]) -> bool
     }
 }
 
-/// The first eight bytes of `key` as a number, the first of them highest. The key has at least eight.
+/// The first eight bytes of `key` as a number, of which the first byte is the highest. The key has at least eight.
 #[inline(always)]
 fn first_word(key: &[u8]) -> u64
     requires { 8 ≤ length key.now }

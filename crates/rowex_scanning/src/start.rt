@@ -1,12 +1,12 @@
 //! Where a scan starts.
 
-ghost use Rattle.std.specs.Prelude.{◌<◌, ◌≤◌, ℕ, length};
+ghost use Rattle.std.specs.Prelude.{◌≤◌, ℕ};
 ghost use Rattle.record_words.specs.declared.TheConstants.{HEAD_WORDS};
 ghost use Rattle.rowex_reading.specs.Reads.{IsReader, Reads};
-ghost use Rattle.rowex_reading.specs.Ways.{IsWayOf};
-ghost use Rattle.rowex_reading.specs.declared.descent.Found.TheVariants.{Leaf as FoundLeaf};
-ghost use Rattle.rowex_scanning.specs.Starts.{IsParting, IsStart};
+ghost use Rattle.rowex_scanning.specs.Scanning.{first_key_of};
+ghost use Rattle.rowex_scanning.specs.Starts.{IsSearchEnd, IsParting, IsStart};
 
+use crate::scanning::{Scan, first_key};
 use insert_cases::{PathNode, choose, level_below};
 use key_bits::Key;
 use rowex_core::Gate;
@@ -31,31 +31,30 @@ pub(crate) struct Start {
 pub(crate) struct SearchEnd {
     /// The number of its record.
     pub number: u32,
-    /// The position at which its key differs first from the key that was searched for, if there is one.
+    /// The position at which its key first differs from the key that was searched for. `None` if it is that key.
     pub mismatch: Option<u16>,
 }
 
-/// Where a scan from `key` in this direction starts on `way`, the way of the key's search, which ended at `found`. One downwards starts
-/// left of the place at which one upwards does. If the leaf stands there with a key that is not above, it comes first, and the scan goes
-/// on left of it.
-pub(crate) fn start_from<G: Gate>(
-    table: &HotTable,
+/// Finds where `scan` starts on `way`, the way of the search for its first key, which ended at `found`.
+///
+/// A scan downwards starts left of the place at which one upwards does. If the leaf stands there with a key that is not above, it comes
+/// first, and the scan goes on left of it.
+pub(crate) fn find_start<G: Gate>(
+    scan: &Scan,
     seat: &mut TableSeat,
     gate: &mut G,
     way: &[PathNode],
-    direction: Direction,
-    key: &Key,
     found: SearchEnd,
 ) -> Start
-    requires reader { IsReader table.now seat.old }
-    requires nodes { 0 < length way.now }
-    requires way { (m v : ℕ) × IsWayOf table.now.layout seat.old.known m key.now way.now (FoundLeaf found.number v found.mismatch) }
-    ensures reads { (n : ℕ) × (n ≤ HEAD_WORDS) × Reads table.now G.becomes 0 n (seat.old, gate.old) (seat.new, gate.new) }
-    ensures start { (m v : ℕ) → IsWayOf table.now.layout seat.old.known m key.now way.now (FoundLeaf found.number v found.mismatch) →
-        IsStart direction seat.new.known m key.now way.now found.number result }
+    requires reader { IsReader scan.now.table.now seat.old }
+    requires way { (m : ℕ) × IsSearchEnd scan.now.table.now.layout seat.old.known m (first_key_of scan.now.range.now) way.now found }
+    ensures reads { (n : ℕ) × (n ≤ HEAD_WORDS) × Reads scan.now.table.now G.becomes 0 n (seat.old, gate.old) (seat.new, gate.new) }
+    ensures start { (m : ℕ) → IsSearchEnd scan.now.table.now.layout seat.old.known m (first_key_of scan.now.range.now) way.now found →
+        IsStart scan.now.range.now.direction seat.new.known m (first_key_of scan.now.range.now) way.now found.number result }
 {
-    let mut start = start_at(table, seat, gate, way, key, found.number, found.mismatch);
-    match direction {
+    let key = first_key(scan.range);
+    let mut start = find_start_upwards(scan.table, seat, gate, way, key, found);
+    match scan.range.direction {
         Direction::Upwards => start,
         Direction::Downwards => {
             let lowest = way[way.len() - 1];
@@ -70,28 +69,27 @@ pub(crate) fn start_from<G: Gate>(
     }
 }
 
-/// Where a scan upwards from `key` starts on `way`, the way of the key's search. If that ended at a leaf with the key, it is there.
+/// Finds where a scan upwards from `key` starts on `way`, the way of the key's search, which ended at `found`. If that leaf has the key, it
+/// is there.
 ///
-/// Else the leaf's key differs first at the position `mismatch`. That parts `key` from the keys of the entries that it affects, and these
-/// from all others. So the scan starts at the first of them, or behind the last.
-fn start_at<G: Gate>(
+/// Else the leaf's key differs first at the position `found.mismatch`. That parts `key` from the keys of the entries that it affects, and
+/// these from all others. So the scan starts at the first of them, or behind the last.
+fn find_start_upwards<G: Gate>(
     table: &HotTable,
     seat: &mut TableSeat,
     gate: &mut G,
     way: &[PathNode],
     key: &Key,
-    _number: u32,
-    mismatch: Option<u16>,
+    found: SearchEnd,
 ) -> Start
     requires reader { IsReader table.now seat.old }
-    requires nodes { 0 < length way.now }
-    requires way { (m v : ℕ) × IsWayOf table.now.layout seat.old.known m key.now way.now (FoundLeaf _number v mismatch) }
+    requires way { (m : ℕ) × IsSearchEnd table.now.layout seat.old.known m key.now way.now found }
     ensures reads { (n : ℕ) × (n ≤ HEAD_WORDS) × Reads table.now G.becomes 0 n (seat.old, gate.old) (seat.new, gate.new) }
-    ensures start { (m v : ℕ) → IsWayOf table.now.layout seat.old.known m key.now way.now (FoundLeaf _number v mismatch) →
-        IsParting seat.new.known m key.now way.now _number result }
+    ensures start { (m : ℕ) → IsSearchEnd table.now.layout seat.old.known m key.now way.now found →
+        IsParting seat.new.known m key.now way.now found.number result }
 {
     let lowest = way.len() - 1;
-    let Some(position) = mismatch else {
+    let Some(position) = found.mismatch else {
         return Start {
             level: lowest,
             top: way[lowest],

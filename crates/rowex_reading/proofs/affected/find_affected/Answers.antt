@@ -21,11 +21,11 @@ pub affected_in-requires-clause-in_range : goal.affected_in-requires-clause-in_r
 affected_in-requires-clause-in_range g c = λ node lawful same.
     let (m, h, has) = c.requires.place in let e = c.load_head_words.ensures in let are = e.words m h has.0 in
     let here : HasPlace c.load_head_words.new.seat.known m c.args.number h c.args.found = (led_on m (Node c.args.number h) e.reads has.0, sure_later {P = λ s. HasRoom s m c.args.number c.args.found} (room_stable m c.args.number c.args.found) (reads_later e.reads) has.1) in
-    let inside = place_inside _ _ m c.args.number h c.args.found _ (reader_then c.requires.reader e.reads).1 here are.shaped in
-    let heads = same_head (node_of are.head (leaves (length are.head.rows))) node are.lawful lawful (are.words_are ∙ sym same) in
-    omega (arith, inside, rows_are are.head are.lawful, ap (λ (v : HeadView). length v.rows) heads, same_count node lawful)
+    let inside = place_inside _ _ m c.args.number h c.args.found _ (reader_then c.requires.reader e.reads).1 here are.seen.shaped in
+    let heads = same_head (node_of are.head (leaves (length are.head.rows))) node are.seen.lawful lawful (are.words_are ∙ sym same) in
+    omega (arith, inside, rows_are are.head are.seen.lawful, ap (λ (v : HeadView). length v.rows) heads, same_count node lawful)
 
 pub returns-clause-affected : goal.returns-clause-affected
 returns-clause-affected g c = λ m h has.
     let are = c.load_head_words.ensures.words m h has.0 in let v = node_of are.head (leaves (length are.head.rows)) in
-    (_, are.shaped, c.affected_in.ensures.from v are.lawful are.words_are, c.affected_in.ensures.upto v are.lawful are.words_are)
+    (_, are.seen.shaped, c.affected_in.ensures.from v are.seen.lawful are.words_are, c.affected_in.ensures.upto v are.seen.lawful are.words_are)

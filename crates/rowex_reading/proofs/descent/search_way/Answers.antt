@@ -3,7 +3,7 @@ use Rattle.std.proofs.Common.{◌≡◌, ◌↔◌, IsNone, length, take, sym, a
 use Rattle.std.specs.Prelude.{IfSome}
 use Rattle.key_bits.specs.Bits.{IsFirstDifference}
 use Rattle.rowex_reading.specs.Seen.{since, RootIs}
-use Rattle.compound_node.specs.declared.entries.Entry.TheVariants.{Node}
+use Rattle.compound_node.specs.declared.entries.Entry.TheVariants.{Leaf, Node}
 use Rattle.rowex_reading.proofs.Looking.{none_searched, none_found, at_root, at_led, leaf_searched}
 use Rattle.rowex_reading.proofs.Led.{reader_then, root_reader, root_pinned}
 use Rattle.rowex_reading.proofs.Descents.{IsGoing, going_first, ends_nowhere, there, falls_on, led_down, way_on, way_room, way_ends, end_found}
@@ -40,65 +40,69 @@ loop-entry-init g c =
       going = going_first _ _ _ _ _ _ c.clear.ensures e.low e.root;
     }
 
-pub load_places-length-requires-clause-led : goal.load_places-length-requires-clause-led
-load_places-length-requires-clause-led g c = (since c.loop-entry.seat.known, at_led c.loop-entry.invariant.at _ c.in-Leaf.is)
+pub load_leaf-length-requires-clause-led : goal.load_leaf-length-requires-clause-led
+load_leaf-length-requires-clause-led g c = (since c.loop-entry.seat.known, at_led c.loop-entry.invariant.at _ c.in-Leaf.is)
 
 pub returns-in-Leaf-clause-searched : goal.returns-in-Leaf-clause-searched
 returns-in-Leaf-clause-searched g c =
-    let e = c.load_places-length.ensures in leaf_searched c.loop-entry.invariant.at c.in-Leaf.number c.in-Leaf.is e.few e.reads
+    let e = c.load_leaf-length.ensures in leaf_searched c.loop-entry.invariant.at c.in-Leaf.number c.in-Leaf.is e.few e.reads
 
 pub returns-in-Leaf-clause-possible : goal.returns-in-Leaf-clause-possible
-returns-in-Leaf-clause-possible g c = (reader_then c.loop-entry.invariant.reader c.load_places-length.ensures.reads).1
+returns-in-Leaf-clause-possible g c = (reader_then c.loop-entry.invariant.reader c.load_leaf-length.ensures.reads).1
 
 pub returns-in-Leaf-clause-way : goal.returns-in-Leaf-clause-way
 returns-in-Leaf-clause-way g c =
-    let i = c.loop-entry.invariant in let e = c.load_places-length.ensures in let l = c.load_places-length.result in let p = c.mismatch_in.ensures in
-    way_ends i.at _ i.going c.in-Leaf.number c.in-Leaf.is e.few e.reads (take l.0 c.load_places-length.new.places) l.1 e.leaf c.as_bytes-in-Leaf.ensures.key c.mismatch_in.result
-    (subst (λ k. IsNone c.mismatch_in.result ↔ (k ≡ take l.0 c.load_places-length.new.places)) c.as_bytes-in-Leaf.ensures.bytes p.none)
-    (subst (λ k. IfSome c.mismatch_in.result (IsFirstDifference k (take l.0 c.load_places-length.new.places))) c.as_bytes-in-Leaf.ensures.bytes p.first)
+    let i = c.loop-entry.invariant in let e = c.load_leaf-length.ensures in let l = c.load_leaf-length.result in let p = c.mismatch_in.ensures in
+    way_ends i.at _ i.going c.in-Leaf.number c.in-Leaf.is e.few e.reads (take l.0 c.load_leaf-length.new.places) l.1 e.leaf c.as_bytes-in-Leaf.ensures.key c.mismatch_in.result
+    (subst (λ k. IsNone c.mismatch_in.result ↔ (k ≡ take l.0 c.load_leaf-length.new.places)) c.as_bytes-in-Leaf.ensures.bytes p.none)
+    (subst (λ k. IfSome c.mismatch_in.result (IsFirstDifference k (take l.0 c.load_leaf-length.new.places))) c.as_bytes-in-Leaf.ensures.bytes p.first)
 
 pub returns-in-Leaf-clause-found : goal.returns-in-Leaf-clause-found
 returns-in-Leaf-clause-found g c =
-    let i = c.loop-entry.invariant in let e = c.load_places-length.ensures in let l = c.load_places-length.result in let p = c.mismatch_in.ensures in
-    end_found i.at _ i.going c.in-Leaf.number c.in-Leaf.is e.few e.reads (take l.0 c.load_places-length.new.places) l.1 e.leaf c.as_bytes-in-Leaf.ensures.key c.mismatch_in.result
-    (subst (λ k. IsNone c.mismatch_in.result ↔ (k ≡ take l.0 c.load_places-length.new.places)) c.as_bytes-in-Leaf.ensures.bytes p.none)
+    let i = c.loop-entry.invariant in let e = c.load_leaf-length.ensures in let l = c.load_leaf-length.result in let p = c.mismatch_in.ensures in
+    end_found i.at _ i.going c.in-Leaf.number c.in-Leaf.is e.few e.reads (take l.0 c.load_leaf-length.new.places) l.1 e.leaf c.as_bytes-in-Leaf.ensures.key c.mismatch_in.result
+    (subst (λ k. IsNone c.mismatch_in.result ↔ (k ≡ take l.0 c.load_leaf-length.new.places)) c.as_bytes-in-Leaf.ensures.bytes p.none)
 
 pub start_of-start-requires : goal.start_of-start-requires
 start_of-start-requires g c =
+    let i = c.loop-entry.invariant in led_in_table c.args.table.now.layout c.loop-entry.seat.known (since c.loop-entry.seat.known) (Leaf c.in-Leaf.number) i.reader.1 (at_led i.at _ c.in-Leaf.is)
+
+pub start_of-start-requires-in-Node : goal.start_of-start-requires-in-Node
+start_of-start-requires-in-Node g c =
     let i = c.loop-entry.invariant in led_in_table c.args.table.now.layout c.loop-entry.seat.known (since c.loop-entry.seat.known) (Node c.in-Node.number c.in-Node.height) i.reader.1 (at_led i.at _ c.in-Node.is)
 
-pub find_step-step-requires-clause-led : goal.find_step-step-requires-clause-led
-find_step-step-requires-clause-led g c = (since c.loop-entry.seat.known, c.in-Node.height, at_led c.loop-entry.invariant.at _ c.in-Node.is)
+pub search_node-step-requires-clause-led : goal.search_node-step-requires-clause-led
+search_node-step-requires-clause-led g c = (since c.loop-entry.seat.known, c.in-Node.height, at_led c.loop-entry.invariant.at _ c.in-Node.is)
 
-pub load_entry_from-entry-requires-clause-reader : goal.load_entry_from-entry-requires-clause-reader
-load_entry_from-entry-requires-clause-reader g c = reader_then c.loop-entry.invariant.reader c.find_step-step.ensures.reads
+pub load_entry-entry-requires-clause-reader : goal.load_entry-entry-requires-clause-reader
+load_entry-entry-requires-clause-reader g c = reader_then c.loop-entry.invariant.reader c.search_node-step.ensures.reads
 
-pub load_entry_from-entry-requires-clause-place : goal.load_entry_from-entry-requires-clause-place
-load_entry_from-entry-requires-clause-place g c =
-    let i = c.loop-entry.invariant in let n = c.in-Node in let e = c.find_step-step.ensures in let m = since c.loop-entry.seat.known in
-    let (head, high, lawful, shaped, stepped) = e.step m n.height (at_led i.at _ n.is) in
-    (m, n.height, there i.at _ i.going n.number n.height c.find_step-step.result head n.is e.reads high lawful shaped stepped)
+pub load_entry-entry-requires-clause-place : goal.load_entry-entry-requires-clause-place
+load_entry-entry-requires-clause-place g c =
+    let i = c.loop-entry.invariant in let n = c.in-Node in let e = c.search_node-step.ensures in let m = since c.loop-entry.seat.known in
+    let (head, seen, stepped) = e.step m n.height (at_led i.at _ n.is) in
+    (m, n.height, there i.at _ i.going n.number n.height c.search_node-step.result head n.is e.reads seen stepped)
 
 pub push-requires : goal.push-requires
 push-requires g c =
-    let i = c.loop-entry.invariant in let n = c.in-Node in let e = c.find_step-step.ensures in let o = c.load_entry_from-entry.ensures in
-    let (head, high, lawful, shaped, stepped) = e.step (since c.loop-entry.seat.known) n.height (at_led i.at _ n.is) in
-    (omega arith, way_room i.at _ i.going n.number n.height c.find_step-step.result head n.is e.reads high lawful shaped stepped _ o.reads o.entry)
+    let i = c.loop-entry.invariant in let n = c.in-Node in let e = c.search_node-step.ensures in let o = c.load_entry-entry.ensures in
+    let (head, seen, stepped) = e.step (since c.loop-entry.seat.known) n.height (at_led i.at _ n.is) in
+    (omega arith, way_room i.at _ i.going n.number n.height c.search_node-step.result head n.is e.reads seen stepped _ o.reads o.entry)
 
 pub loop-entry-smaller : goal.loop-entry-smaller
 loop-entry-smaller g c =
-    let i = c.loop-entry.invariant in let n = c.in-Node in let e = c.find_step-step.ensures in let o = c.load_entry_from-entry.ensures in
-    let (head, high, lawful, shaped, stepped) = e.step (since c.loop-entry.seat.known) n.height (at_led i.at _ n.is) in
-    falls_on i.at _ i.going n.number n.height c.find_step-step.result head n.is e.reads high lawful shaped stepped _ o.reads o.entry
+    let i = c.loop-entry.invariant in let n = c.in-Node in let e = c.search_node-step.ensures in let o = c.load_entry-entry.ensures in
+    let (head, seen, stepped) = e.step (since c.loop-entry.seat.known) n.height (at_led i.at _ n.is) in
+    falls_on i.at _ i.going n.number n.height c.search_node-step.result head n.is e.reads seen stepped _ o.reads o.entry
 
 pub loop-entry-preserved : goal.loop-entry-preserved
 loop-entry-preserved g c =
-    let i = c.loop-entry.invariant in let n = c.in-Node in let e = c.find_step-step.ensures in let o = c.load_entry_from-entry.ensures in
-    let known = c.load_entry_from-entry.new.seat.known in
-    let (head, high, lawful, shaped, stepped) = e.step (since c.loop-entry.seat.known) n.height (at_led i.at _ n.is) in
+    let i = c.loop-entry.invariant in let n = c.in-Node in let e = c.search_node-step.ensures in let o = c.load_entry-entry.ensures in
+    let known = c.load_entry-entry.new.seat.known in
+    let (head, seen, stepped) = e.step (since c.loop-entry.seat.known) n.height (at_led i.at _ n.is) in
     record {
       reader = reader_then (reader_then i.reader e.reads) o.reads;
-      at = led_down i.at _ i.going n.number n.height c.find_step-step.result head n.is e.reads high lawful shaped stepped _ o.reads o.entry;
-      going = subst (λ z. IsGoing c.args.table.now.layout known (since known) c.args.key.now z c.load_entry_from-entry.result) (sym c.push.ensures.items)
-          (way_on i.at _ i.going n.number n.height c.find_step-step.result head n.is e.reads high lawful shaped stepped _ o.reads o.entry i.reader.1);
+      at = led_down i.at _ i.going n.number n.height c.search_node-step.result head n.is e.reads seen stepped _ o.reads o.entry;
+      going = subst (λ z. IsGoing c.args.table.now.layout known (since known) c.args.key.now z c.load_entry-entry.result) (sym c.push.ensures.items)
+          (way_on i.at _ i.going n.number n.height c.search_node-step.result head n.is e.reads seen stepped _ o.reads o.entry i.reader.1);
     }

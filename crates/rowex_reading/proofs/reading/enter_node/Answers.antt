@@ -8,4 +8,4 @@ overflow_cast-result g c = let (m, h, led) = c.requires.led in record { fits = h
 pub returns-clause-step : goal.returns-clause-step
 returns-clause-step g c = λ m h led.
     let are = c.load_head_words.ensures.words m h led in
-    (are.head, are.height, are.lawful, are.shaped, step_spelled c.load_head_words.new.words are c.args.number 0)
+    (are.head, are.seen, step_spelled c.load_head_words.new.words are c.args.number 0)

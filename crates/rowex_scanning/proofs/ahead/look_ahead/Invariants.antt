@@ -10,5 +10,5 @@ invariant-loop-index g l = record {
   reader : IsReader l.scan.table.now l.seat;
   reads : (n : ℕ) × (n ≤ 2 * l.index) × Reads l.scan.table.now g.G.Gate.becomes l.index n (l.fn.seat, l.fn.gate) (l.seat, l.gate);
   long : length l.leaves ≡ MOST_AHEAD;
-  ahead : (m : ℕ) → HasPlaces l.scan.range.now.direction l.fn.seat.known m l.top l.count → AreAhead l.scan.range.now.direction l.seat.known m l.top l.index l.leaves;
+  ahead : (m : ℕ) → HasPlaces l.scan.range.now.direction l.fn.seat.known m l.top → AreAhead l.scan.range.now.direction l.seat.known m l.top l.index l.leaves;
 }

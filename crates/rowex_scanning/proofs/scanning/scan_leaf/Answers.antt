@@ -1,69 +1,66 @@
 -- A scan of one leaf.
-use Rattle.std.proofs.Common.{◌∙◌, inl, inr, subst, take}
+use Rattle.std.proofs.Common.{◌∙◌, ◌≤◌, ℕ, subst, take}
 use Rattle.std.proofs.lemmas.Result.{err_from_is_err_and}
 use Rattle.compound_node.specs.declared.entries.Entry.TheVariants.{Leaf}
-use Rattle.rowex_reading.specs.Reads.{leaf_loads}
+use Rattle.record_words.specs.declared.TheConstants.{LEAF_FIELDS}
+use Rattle.rowex_reading.specs.Reads.{Reads, leaf_loads}
 use Rattle.rowex_reading.specs.Seen.{since}
 use Rattle.rowex_reading.proofs.Led.{reads_later, rooted_led, same_since}
+use Rattle.rowex_reading.proofs.Standing.{led_in_table}
 use Rattle.version_laws.specs.Directions.{IsEarlier, IsNoLater}
 use Rattle.rowex_scanning.specs.Scanning.{asked_range}
 use Rattle.rowex_scanning.proofs.Parts.{leaf_part}
-use Rattle.rowex_scanning.proofs.Walking.{leaf_early, leaf_further, leaf_past, leaf_full}
+use Rattle.rowex_scanning.proofs.Walking.{IsRootRead, leaf_early, leaf_full, leaf_unfilled}
+use Rattle.rowex_scanning.proofs.scanning.scan_leaf.Given as given
 use Rattle.rowex_scanning.proofs.scanning.scan_leaf.Goals as goal
+use Rattle.rowex_scanning.proofs.scanning.scan_leaf.Goals.{After-load_leaf-length}
 
-pub load_places-length-requires-clause-led : goal.load_places-length-requires-clause-led
-load_places-length-requires-clause-led g c = (since c.args.seat.now.known, rooted_led (Leaf c.args.number) c.requires.root)
+-- the leaf has been read
+root_read : (g : given.Over) (c : After-load_leaf-length g) →
+    IsRootRead c.args.seat.now.known c.load_leaf-length.new.seat.known c.args.number (take c.load_leaf-length.result.0 c.load_leaf-length.new.places) c.load_leaf-length.result.1
+root_read g c =
+    let e = c.load_leaf-length.ensures in
+    record { later = reads_later e.reads; root = c.requires.root; same = same_since e.reads; read = e.leaf (since c.args.seat.now.known) (rooted_led (Leaf c.args.number) c.requires.root) }
+
+loads : (g : given.Over) (c : After-load_leaf-length g) → (n : ℕ) × (n ≤ LEAF_FIELDS) × Reads c.args.table.now g.G.Gate.becomes 0 n (c.args.seat.now, c.args.gate.now) (c.load_leaf-length.new.seat, c.load_leaf-length.new.gate)
+loads g c = let e = c.load_leaf-length.ensures in (leaf_loads (take c.load_leaf-length.result.0 c.load_leaf-length.new.places), e.few, e.reads)
+
+pub start_of-start-requires : goal.start_of-start-requires
+start_of-start-requires g c = led_in_table c.args.table.now.layout c.args.seat.now.known (since c.args.seat.now.known) (Leaf c.args.number) c.requires.reader.1 (rooted_led (Leaf c.args.number) c.requires.root)
+
+pub load_leaf-length-requires-clause-led : goal.load_leaf-length-requires-clause-led
+load_leaf-length-requires-clause-led g c = (since c.args.seat.now.known, rooted_led (Leaf c.args.number) c.requires.root)
 
 pub returns-then-is_earlier-clause-reads : goal.returns-then-is_earlier-clause-reads
-returns-then-is_earlier-clause-reads g c = (leaf_loads (take c.load_places-length.result.0 c.load_places-length.new.places), c.load_places-length.ensures.few, c.load_places-length.ensures.reads)
+returns-then-is_earlier-clause-reads g c = loads g (goal.at.returns-then-is_earlier-clause-reads g c).After-load_leaf-length
 
 pub returns-then-is_earlier-clause-scanned : goal.returns-then-is_earlier-clause-scanned
 returns-then-is_earlier-clause-scanned g c =
-    let e = c.load_places-length.ensures in
-    leaf_early c.args.range.now.direction (asked_range c.args.range.now) c.args.number (take c.load_places-length.result.0 c.load_places-length.new.places) c.load_places-length.result.1 (reads_later e.reads) c.requires.root
-    (same_since e.reads) (e.leaf (since c.args.seat.now.known) (rooted_led (Leaf c.args.number) c.requires.root)) c.requires.empty
-    (subst (IsEarlier c.args.range.now.direction (take c.load_places-length.result.0 c.load_places-length.new.places)) (c.as_bytes.ensures.bytes ∙ c.first_key.ensures) (c.is_earlier.ensures.earlier c.if-is_earlier.true))
-
-pub take_pair-requires-clause-key : goal.take_pair-requires-clause-key
-take_pair-requires-clause-key g c = c.load_places-length.ensures.key.0
+    leaf_early c.args.range.now.direction (asked_range c.args.range.now) (root_read g (goal.at.returns-then-is_earlier-clause-scanned g c).After-load_leaf-length) c.requires.empty
+    (subst (IsEarlier c.args.range.now.direction (take c.load_leaf-length.result.0 c.load_leaf-length.new.places)) (c.as_bytes.ensures.bytes ∙ c.first_key.ensures) (c.is_earlier.ensures.earlier c.if-is_earlier.true))
 
 pub take_pair-requires-clause-reached : goal.take_pair-requires-clause-reached
 take_pair-requires-clause-reached g c =
-    subst (λ z. IsNoLater c.args.range.now.direction z (take c.load_places-length.result.0 c.load_places-length.new.places)) (c.as_bytes.ensures.bytes ∙ c.first_key.ensures) (c.is_earlier.ensures.no_later c.if-is_earlier.false)
+    subst (λ z. IsNoLater c.args.range.now.direction z (take c.load_leaf-length.result.0 c.load_leaf-length.new.places)) (c.as_bytes.ensures.bytes ∙ c.first_key.ensures) (c.is_earlier.ensures.no_later c.if-is_earlier.false)
 
 pub returns-in_err-take_pair-clause-reads : goal.returns-in_err-take_pair-clause-reads
-returns-in_err-take_pair-clause-reads g c = (leaf_loads (take c.load_places-length.result.0 c.load_places-length.new.places), c.load_places-length.ensures.few, c.load_places-length.ensures.reads)
+returns-in_err-take_pair-clause-reads g c = loads g (goal.at.returns-in_err-take_pair-clause-reads g c).After-load_leaf-length
 
 pub returns-in_err-take_pair-clause-part : goal.returns-in_err-take_pair-clause-part
 returns-in_err-take_pair-clause-part g c =
-    let e = c.load_places-length.ensures in
     rw (err_from_is_err_and c.from_residual.result c.from_residual.ensures.1).1
-    (leaf_part c.args.range.now.direction (asked_range c.args.range.now) c.args.number (take c.load_places-length.result.0 c.load_places-length.new.places) c.load_places-length.result.1 (reads_later e.reads) c.requires.root
-    (same_since e.reads) (e.leaf (since c.args.seat.now.known) (rooted_led (Leaf c.args.number) c.requires.root)) c.requires.empty c.in_err-take_pair.ensures.refused)
+    (leaf_part c.args.range.now.direction (asked_range c.args.range.now) (root_read g (goal.at.returns-in_err-take_pair-clause-part g c).After-load_leaf-length) c.requires.empty c.in_err-take_pair.ensures.refused)
 
 pub returns-in-Full : goal.returns-in-Full
-returns-in-Full g c =
-    let e = c.load_places-length.ensures in
-    record {
-      reads = (leaf_loads (take c.load_places-length.result.0 c.load_places-length.new.places), e.few, e.reads);
-      part = tt;
-      scanned =
-          leaf_full c.args.range.now.direction (asked_range c.args.range.now) c.args.number (take c.load_places-length.result.0 c.load_places-length.new.places) c.load_places-length.result.1 (reads_later e.reads) c.requires.root
-          (same_since e.reads) (e.leaf (since c.args.seat.now.known) (rooted_led (Leaf c.args.number) c.requires.root)) c.requires.empty c.in_ok-take_pair.ensures.taken c.in-Full.is;
-    }
+returns-in-Full g c = let at = (goal.at.returns-in-Full g c).After-load_leaf-length in record {
+  reads = loads g at;
+  part = tt;
+  scanned = leaf_full c.args.range.now.direction (asked_range c.args.range.now) (root_read g at) c.requires.empty c.in_ok-take_pair.ensures.taken c.in-Full.is;
+}
 
 pub returns-in-Further : goal.returns-in-Further
-returns-in-Further g c =
-    let e = c.load_places-length.ensures in
-    record {
-      reads = (leaf_loads (take c.load_places-length.result.0 c.load_places-length.new.places), e.few, e.reads);
-      part = tt;
-      scanned = elim c.in-Further.is [
-        | inl is ↦
-            leaf_further c.args.range.now.direction (asked_range c.args.range.now) c.args.number (take c.load_places-length.result.0 c.load_places-length.new.places) c.load_places-length.result.1 (reads_later e.reads) c.requires.root
-            (same_since e.reads) (e.leaf (since c.args.seat.now.known) (rooted_led (Leaf c.args.number) c.requires.root)) c.requires.empty c.in_ok-take_pair.ensures.taken is
-        | inr is ↦
-            leaf_past c.args.range.now.direction (asked_range c.args.range.now) c.args.number (take c.load_places-length.result.0 c.load_places-length.new.places) c.load_places-length.result.1 (reads_later e.reads) c.requires.root
-            (same_since e.reads) (e.leaf (since c.args.seat.now.known) (rooted_led (Leaf c.args.number) c.requires.root)) c.requires.empty c.in_ok-take_pair.ensures.taken is
-      ];
-    }
+returns-in-Further g c = let at = (goal.at.returns-in-Further g c).After-load_leaf-length in record {
+  reads = loads g at;
+  part = tt;
+  scanned = leaf_unfilled c.args.range.now.direction (asked_range c.args.range.now) (root_read g at) c.requires.empty c.in_ok-take_pair.ensures.taken c.in-Further.is;
+}

@@ -19,9 +19,6 @@ returns-then-is_before-clause-scanned g c =
     subst (λ z. IsBefore z c.args.range.now.from.now) c.as_bytes.ensures.bytes (subst (IsBefore c.as_bytes.result.now) c.as_bytes-2.ensures.bytes (c.is_before.ensures.before c.if-is_before.true)) in
     nothing_scanned (asked_range c.args.range.now) c.clear.ensures before
 
-pub returns-then-is_before-clause-part : goal.returns-then-is_before-clause-part
-returns-then-is_before-clause-part g c = tt
-
 pub returns-then-is_before-clause-few : goal.returns-then-is_before-clause-few
 returns-then-is_before-clause-few g c = scans_few c.args.range.now.limit (0, 0, record { most = omega arith; few = omega arith }, looks_first c.load_root.ensures.reads)
 
@@ -33,9 +30,6 @@ pub returns-in-Nothing-clause-scanned : goal.returns-in-Nothing-clause-scanned
 returns-in-Nothing-clause-scanned g c =
     let w = subst (IsWayOf c.args.table.now.layout c.search_way.new.seat.known (since c.search_way.new.seat.known) c.first_key.result.now c.search_way.new.way.items) c.in-Nothing.is c.search_way.ensures.way in
     blank_scanned (asked_range c.args.range.now) c.clear.ensures (nothing_blank _ _ _ _ c.search_way.new.way.items w)
-
-pub returns-in-Nothing-clause-part : goal.returns-in-Nothing-clause-part
-returns-in-Nothing-clause-part g c = tt
 
 pub returns-in-Nothing-clause-few : goal.returns-in-Nothing-clause-few
 returns-in-Nothing-clause-few g c = scans_few c.args.range.now.limit
@@ -49,17 +43,8 @@ scan_leaf-requires-clause-root g c =
     let w = subst (IsWayOf c.args.table.now.layout c.search_way.new.seat.known (since c.search_way.new.seat.known) c.first_key.result.now c.search_way.new.way.items) c.in-Leaf.is c.search_way.ensures.way in
     leaf_rooted _ _ _ c.search_way.new.way.items c.in-Leaf.number _ _ (empty_is c.search_way.new.way.items (let n = c.len.ensures.value in let e = c.if-len-eq0.true in omega (arith, n, e))) w
 
-pub scan_leaf-requires-clause-empty : goal.scan_leaf-requires-clause-empty
-scan_leaf-requires-clause-empty g c = c.clear.ensures
-
 pub returns-then-len-eq0-clause-looks : goal.returns-then-len-eq0-clause-looks
 returns-then-len-eq0-clause-looks g c = searched_scans c.args.range.now.limit c.search_way.ensures.searched (omega arith) (walks_alone c.args.range.now.limit c.scan_leaf.ensures.reads)
-
-pub returns-then-len-eq0-clause-scanned : goal.returns-then-len-eq0-clause-scanned
-returns-then-len-eq0-clause-scanned g c = c.scan_leaf.ensures.scanned
-
-pub returns-then-len-eq0-clause-part : goal.returns-then-len-eq0-clause-part
-returns-then-len-eq0-clause-part g c = c.scan_leaf.ensures.part
 
 pub returns-then-len-eq0-clause-few : goal.returns-then-len-eq0-clause-few
 returns-then-len-eq0-clause-few g c =
@@ -68,25 +53,14 @@ returns-then-len-eq0-clause-few g c =
 pub scan_node-requires-clause-reader : goal.scan_node-requires-clause-reader
 scan_node-requires-clause-reader g c = ((looks_same c.search_way.ensures.searched.looks).0 ∙ c.requires.own, c.search_way.ensures.possible)
 
-pub scan_node-requires-clause-nodes : goal.scan_node-requires-clause-nodes
-scan_node-requires-clause-nodes g c = let n = c.len.ensures.value in let e = c.if-len-eq0.false in omega (arith, n, e)
-
 pub scan_node-requires-clause-way : goal.scan_node-requires-clause-way
 scan_node-requires-clause-way g c =
+    let n = c.len.ensures.value in let e = c.if-len-eq0.false in
     let found = subst (IsWayOf c.args.table.now.layout c.search_way.new.seat.known (since c.search_way.new.seat.known) c.first_key.result.now c.search_way.new.way.items) c.in-Leaf.is c.search_way.ensures.way in
-    (_, subst (λ key. IsWayOf c.args.table.now.layout c.search_way.new.seat.known (since c.search_way.new.seat.known) key c.search_way.new.way.items (Leaf c.in-Leaf.number c.in-Leaf.value c.in-Leaf.mismatch)) c.first_key.ensures found)
-
-pub scan_node-requires-clause-empty : goal.scan_node-requires-clause-empty
-scan_node-requires-clause-empty g c = c.clear.ensures
+    (omega (arith, n, e), _, subst (λ key. IsWayOf c.args.table.now.layout c.search_way.new.seat.known (since c.search_way.new.seat.known) key c.search_way.new.way.items (Leaf c.in-Leaf.number c.in-Leaf.value c.in-Leaf.mismatch)) c.first_key.ensures found)
 
 pub returns-else-len-eq0-clause-looks : goal.returns-else-len-eq0-clause-looks
 returns-else-len-eq0-clause-looks g c = searched_scans c.args.range.now.limit c.search_way.ensures.searched (omega arith) c.scan_node.ensures.reads
-
-pub returns-else-len-eq0-clause-scanned : goal.returns-else-len-eq0-clause-scanned
-returns-else-len-eq0-clause-scanned g c = c.scan_node.ensures.scanned
-
-pub returns-else-len-eq0-clause-part : goal.returns-else-len-eq0-clause-part
-returns-else-len-eq0-clause-part g c = c.scan_node.ensures.part
 
 pub returns-else-len-eq0-clause-few : goal.returns-else-len-eq0-clause-few
 returns-else-len-eq0-clause-few g c = scans_few c.args.range.now.limit (searched_scans c.args.range.now.limit c.search_way.ensures.searched (omega arith) c.scan_node.ensures.reads)

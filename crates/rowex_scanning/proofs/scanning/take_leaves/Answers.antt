@@ -1,5 +1,5 @@
 -- No leaf, and one more.
-use Rattle.std.proofs.Common.{◌≡◌, ℕ, ◌+◌, ◌*◌, ◌≤◌, List, ap, arith, length, get_or, subst}
+use Rattle.std.proofs.Common.{◌≡◌, ℕ, ◌+◌, ◌*◌, ◌≤◌, List, arith, length, get_or, subst}
 use Rattle.std.proofs.lemmas.Result.{err_from_is_err_and}
 use Rattle.compound_node.specs.declared.entries.Entry.TheVariants.{Leaf}
 use Rattle.record_words.specs.declared.TheConstants.{LEAF_FIELDS}
@@ -7,116 +7,90 @@ use Rattle.insert_cases.specs.declared.choice.PathNode.{PathNode}
 use Rattle.rowex_reading.specs.Reads.{Reads}
 use Rattle.rowex_reading.specs.Seen.{since}
 use Rattle.rowex_reading.proofs.Led.{reader_then, reads_later, reads_none, reads_trans, same_since}
-use Rattle.rowex_scanning.specs.Ahead.{IsBoundWalk, HavePassed}
+use Rattle.rowex_scanning.specs.Ahead.{AreNext, HavePassed}
 use Rattle.version_laws.specs.Directions.{place_ahead}
-use Rattle.rowex_scanning.specs.Scanning.{asked_range}
+use Rattle.rowex_scanning.specs.Scanning.{asked_range, request_of}
 use Rattle.rowex_scanning.proofs.Parts.{walk_part}
 use Rattle.rowex_scanning.proofs.Passing.{ahead_later, leaf_at, leaf_reached, passed_more, passed_none}
 use Rattle.rowex_scanning.proofs.Walking.{IsAtEntry, walk_fits, walk_full, walk_past, walk_short}
 use Rattle.rowex_scanning.proofs.scanning.take_leaves.Given as given
 use Rattle.rowex_scanning.proofs.scanning.take_leaves.Goals as goal
-use Rattle.rowex_scanning.proofs.scanning.take_leaves.Goals.{After-read_leaf}
+use Rattle.rowex_scanning.proofs.scanning.take_leaves.Goals.{After-take_leaf}
 
 -- The walk is at the leaf that was read.
-leaf : (g : given.Over) (c : After-read_leaf g) (frames : List PathNode) →
-    IsBoundWalk c.args.scan.now.range.now.direction c.args.seat.now.known (since c.args.seat.now.known) (asked_range c.args.scan.now.range.now) c.args.top.now frames c.args.pairs.now →
+leaf : (g : given.Over) (c : After-take_leaf g) (top : PathNode) (frames : List PathNode) → AreNext c.args.seat.now.known (request_of c.args.scan.now.range.now) top frames c.args.pairs.now c.args.leaves.now →
     IsAtEntry c.args.scan.now.range.now.direction c.loop-index.seat.known (since c.args.seat.now.known) (asked_range c.args.scan.now.range.now)
-    (record c.args.top.now { at = place_ahead c.args.scan.now.range.now.direction c.args.top.now.at c.loop-index.index })
+    (record top { at = place_ahead c.args.scan.now.range.now.direction top.at c.loop-index.index })
     frames c.loop-index.pairs (Leaf (get_or c.args.leaves.now c.loop-index.index 0))
-leaf g c frames w =
-    let i = c.loop-index.invariant in leaf_at (walk_fits w.0) (let come = c.requires.come in omega (arith, come, c.loop-index-test.true)) (i.passed frames w) (i.ahead c.loop-index.index c.loop-index-test.true)
+leaf g c top frames next =
+    let (ahead, p) = c.loop-index.invariant.passed top frames next in leaf_at (walk_fits next.bound.0) (let come = next.come in omega (arith, come, c.loop-index-test.true)) p (ahead c.loop-index.index c.loop-index-test.true)
 
 -- So many loads were made; and the root has not been loaded again.
-loads : (g : given.Over) (c : After-read_leaf g) → (n : ℕ) × (n ≤ LEAF_FIELDS * (c.loop-index.index + 1)) × Reads c.args.scan.now.table.now g.G.Gate.becomes 0 n (c.args.seat.now, c.args.gate.now) (c.read_leaf.new.seat, c.read_leaf.new.gate)
-loads g c = let (n, few, before) = c.loop-index.invariant.reads in let (m, less, read) = c.read_leaf.ensures.reads in (n + m, omega (arith, few, less), reads_trans before read)
+loads : (g : given.Over) (c : After-take_leaf g) → (n : ℕ) × (n ≤ LEAF_FIELDS * (c.loop-index.index + 1)) × Reads c.args.scan.now.table.now g.G.Gate.becomes 0 n (c.args.seat.now, c.args.gate.now) (c.take_leaf.new.seat, c.take_leaf.new.gate)
+loads g c = let (n, few, before) = c.loop-index.invariant.reads in let (m, less, read) = c.take_leaf.ensures.reads in (n + m, omega (arith, few, less), reads_trans before read)
 
 -- which is no more than for all leaves
-ended : (g : given.Over) (c : After-read_leaf g) → (n : ℕ) × (n ≤ LEAF_FIELDS * length c.args.leaves.now) × Reads c.args.scan.now.table.now g.G.Gate.becomes 0 n (c.args.seat.now, c.args.gate.now) (c.read_leaf.new.seat, c.read_leaf.new.gate)
+ended : (g : given.Over) (c : After-take_leaf g) → (n : ℕ) × (n ≤ LEAF_FIELDS * length c.args.leaves.now) × Reads c.args.scan.now.table.now g.G.Gate.becomes 0 n (c.args.seat.now, c.args.gate.now) (c.take_leaf.new.seat, c.take_leaf.new.gate)
 ended g c = let (n, few, reads) = loads g c in (n, omega (arith, few, c.loop-index-test.true), reads)
 
-same : (g : given.Over) (c : After-read_leaf g) → since c.read_leaf.new.seat.known ≡ since c.args.seat.now.known
+same : (g : given.Over) (c : After-take_leaf g) → since c.take_leaf.new.seat.known ≡ since c.args.seat.now.known
 same g c = same_since (loads g c).2
 
 pub loop-index-init : goal.loop-index-init
 loop-index-init g c = record {
   reader = c.requires.reader;
   reads = (0, omega arith, reads_none (c.args.seat.now, c.args.gate.now));
-  ahead = c.requires.ahead;
-  passed = λ frames w. passed_none w.0 w.1;
+  passed = λ top frames next. (next.ahead, passed_none next.bound.0 next.bound.1);
 }
 
-pub read_leaf-requires-clause-reader : goal.read_leaf-requires-clause-reader
-read_leaf-requires-clause-reader g c = c.loop-index.invariant.reader
-
-pub read_leaf-requires-clause-origins : goal.read_leaf-requires-clause-origins
-read_leaf-requires-clause-origins g c = c.requires.origins
-
-pub read_leaf-requires-clause-leaf : goal.read_leaf-requires-clause-leaf
-read_leaf-requires-clause-leaf g c =
-    let i = c.loop-index.invariant in let (frames, w) = c.requires.walk in
+pub take_leaf-requires-clause-leaf : goal.take_leaf-requires-clause-leaf
+take_leaf-requires-clause-leaf g c =
+    let (top, frames, next) = c.requires.next in let (ahead, p) = c.loop-index.invariant.passed top frames next in
     let (led, reached) =
-    leaf_reached (walk_fits w.0) (let come = c.requires.come in omega (arith, come, c.loop-index-test.true)) (i.passed frames w) (i.ahead c.loop-index.index c.loop-index-test.true) c.args.scan.now.table.now.layout in
+    leaf_reached (walk_fits next.bound.0) (let come = next.come in omega (arith, come, c.loop-index-test.true)) p (ahead c.loop-index.index c.loop-index-test.true) c.args.scan.now.table.now.layout in
     (since c.args.seat.now.known, led, reached)
 
-pub returns-in_err-read_leaf-clause-reads : goal.returns-in_err-read_leaf-clause-reads
-returns-in_err-read_leaf-clause-reads g c = ended g (goal.at.returns-in_err-read_leaf-clause-reads g c).After-read_leaf
+pub returns-in_err-take_leaf-clause-reads : goal.returns-in_err-take_leaf-clause-reads
+returns-in_err-take_leaf-clause-reads g c = ended g (goal.at.returns-in_err-take_leaf-clause-reads g c).After-take_leaf
 
-pub returns-in_err-read_leaf-clause-taken : goal.returns-in_err-read_leaf-clause-taken
-returns-in_err-read_leaf-clause-taken g c = rw (err_from_is_err_and c.from_residual.result c.from_residual.ensures.1).1 tt
-
-pub returns-in_err-read_leaf-clause-part : goal.returns-in_err-read_leaf-clause-part
-returns-in_err-read_leaf-clause-part g c =
-    let at = (goal.at.returns-in_err-read_leaf-clause-part g c).After-read_leaf in let i = c.loop-index.invariant in let (frames, w) = c.requires.walk in
+pub returns-in_err-take_leaf-clause-part : goal.returns-in_err-take_leaf-clause-part
+returns-in_err-take_leaf-clause-part g c =
+    let at = (goal.at.returns-in_err-take_leaf-clause-part g c).After-take_leaf in let i = c.loop-index.invariant in let (top, frames, next) = c.requires.next in
     rw (err_from_is_err_and c.from_residual.result c.from_residual.ensures.1).1
-    (walk_part (reads_later c.read_leaf.ensures.reads.2) c.in_err-read_leaf.ensures.refused (walk_short (i.passed frames w).walk i.reader.1) (same g at) (leaf g at frames w))
+    (walk_part (reads_later c.take_leaf.ensures.reads.2) c.in_err-take_leaf.ensures.refused (walk_short (i.passed top frames next).1.walk i.reader.1) (same g at) (leaf g at top frames next))
 
 pub returns-in-Past-clause-reads : goal.returns-in-Past-clause-reads
-returns-in-Past-clause-reads g c = ended g (goal.at.returns-in-Past-clause-reads g c).After-read_leaf
-
-pub returns-in-Past-clause-part : goal.returns-in-Past-clause-part
-returns-in-Past-clause-part g c = tt
+returns-in-Past-clause-reads g c = ended g (goal.at.returns-in-Past-clause-reads g c).After-take_leaf
 
 pub returns-in-Past-clause-taken : goal.returns-in-Past-clause-taken
-returns-in-Past-clause-taken g c = λ frames w.
-    let at = (goal.at.returns-in-Past-clause-taken g c).After-read_leaf in walk_past (leaf g at frames w) (reads_later c.read_leaf.ensures.reads.2) c.in_ok-read_leaf.ensures.taken (same g at) c.in-Past.is
+returns-in-Past-clause-taken g c = λ top frames next.
+    let at = (goal.at.returns-in-Past-clause-taken g c).After-take_leaf in walk_past (leaf g at top frames next) (reads_later c.take_leaf.ensures.reads.2) c.in_ok-take_leaf.ensures.taken (same g at) c.in-Past.is
 
 pub returns-in-Full-clause-reads : goal.returns-in-Full-clause-reads
-returns-in-Full-clause-reads g c = ended g (goal.at.returns-in-Full-clause-reads g c).After-read_leaf
-
-pub returns-in-Full-clause-part : goal.returns-in-Full-clause-part
-returns-in-Full-clause-part g c = tt
+returns-in-Full-clause-reads g c = ended g (goal.at.returns-in-Full-clause-reads g c).After-take_leaf
 
 pub returns-in-Full-clause-taken : goal.returns-in-Full-clause-taken
-returns-in-Full-clause-taken g c = λ frames w.
-    let at = (goal.at.returns-in-Full-clause-taken g c).After-read_leaf in walk_full (leaf g at frames w) (reads_later c.read_leaf.ensures.reads.2) c.in_ok-read_leaf.ensures.taken (same g at) c.in-Full.is
+returns-in-Full-clause-taken g c = λ top frames next.
+    let at = (goal.at.returns-in-Full-clause-taken g c).After-take_leaf in walk_full (leaf g at top frames next) (reads_later c.take_leaf.ensures.reads.2) c.in_ok-take_leaf.ensures.taken (same g at) c.in-Full.is
 
 pub loop-index-preserved : goal.loop-index-preserved
 loop-index-preserved g c =
-    let i = c.loop-index.invariant in let d = c.args.scan.now.range.now.direction in let m = since c.args.seat.now.known in let read = c.read_leaf.ensures.reads.2 in
+    let i = c.loop-index.invariant in let d = c.args.scan.now.range.now.direction in let m = since c.args.seat.now.known in let read = c.take_leaf.ensures.reads.2 in
     record {
       reader = reader_then i.reader read;
-      reads = loads g (goal.at.loop-index-preserved g c).After-read_leaf;
-      ahead = ahead_later d m c.args.top.now (reads_later read) (length c.args.leaves.now) c.args.leaves.now i.ahead;
-      passed = λ frames w. passed_more (walk_fits w.0) (let come = c.requires.come in omega (arith, come, c.loop-index-test.true)) (i.passed frames w) (i.ahead c.loop-index.index c.loop-index-test.true) (reads_later read)
-          c.in_ok-read_leaf.ensures.taken c.in-Further.is;
+      reads = loads g (goal.at.loop-index-preserved g c).After-take_leaf;
+      passed = λ top frames next.
+          let (ahead, p) = i.passed top frames next in (
+            ahead_later d m top (reads_later read) (length c.args.leaves.now) c.args.leaves.now ahead,
+            passed_more (walk_fits next.bound.0) (let come = next.come in omega (arith, come, c.loop-index-test.true)) p (ahead c.loop-index.index c.loop-index-test.true) (reads_later read) c.in_ok-take_leaf.ensures.taken
+                c.in-Further.is,
+          );
     }
-
--- Behind the last one, it has passed all of them.
-pub gap_after-top-requires-clause-fits : goal.gap_after-top-requires-clause-fits
-gap_after-top-requires-clause-fits g c = walk_fits c.requires.walk.1.0
-
-pub gap_after-top-requires-clause-come : goal.gap_after-top-requires-clause-come
-gap_after-top-requires-clause-come g c = c.requires.come
 
 pub returns-clause-reads : goal.returns-clause-reads
 returns-clause-reads g c = let (n, few, reads) = c.loop-index.invariant.reads in (n, omega (arith, few, c.loop-index.auto.index-end), reads)
 
 pub returns-clause-taken : goal.returns-clause-taken
-returns-clause-taken g c = λ frames w. (
-  ap (λ z. let x : PathNode = record c.args.top.now { at = z } in x) c.gap_after-top.ensures,
-  subst (λ z. HavePassed c.args.scan.now.range.now.direction c.loop-index.seat.known (since c.args.seat.now.known) (asked_range c.args.scan.now.range.now) frames (c.args.top.now, c.args.pairs.now) z c.loop-index.pairs)
-      (omega (arith, c.loop-index-test.false, c.loop-index.auto.index-end)) (c.loop-index.invariant.passed frames w),
-)
-
-pub returns-clause-part : goal.returns-clause-part
-returns-clause-part g c = tt
+returns-clause-taken g c = λ top frames next.
+    subst (λ z. HavePassed c.loop-index.seat.known (since c.args.seat.now.known) (request_of c.args.scan.now.range.now) frames (top, c.args.pairs.now) z c.loop-index.pairs)
+    (omega (arith, c.loop-index-test.false, c.loop-index.auto.index-end)) (c.loop-index.invariant.passed top frames next).1

@@ -3,7 +3,7 @@ use Rattle.std.proofs.Common.{ℕ, length}
 use Rattle.rowex_reading.specs.Reads.{IsReader, Reads}
 use Rattle.rowex_reading.specs.Seen.{since}
 use Rattle.version_laws.specs.Directions.{first_key}
-use Rattle.rowex_scanning.specs.Scanning.{asked_range, IsBound, IsWalk}
+use Rattle.rowex_scanning.specs.Scanning.{asked_range, request_of, IsBound, IsWalk}
 use Rattle.rowex_scanning.proofs.Walking.{IsPaid, rest_of}
 use Rattle.rowex_scanning.proofs.scanning.walk.Given as goal
 
@@ -11,7 +11,7 @@ abbrev pub invariant-loop-seat : goal.invariant-loop-seat
 invariant-loop-seat g l = record {
   reader : IsReader l.scan.table.now l.seat;
   reads : (loads entries : ℕ) × IsPaid l.scan.range.now.direction loads entries (length l.pairs) l.top l.way.items × Reads l.scan.table.now g.G.Gate.becomes entries loads (l.fn.seat, l.fn.gate) (l.seat, l.gate);
-  walk : IsWalk l.scan.range.now.direction l.seat.known (since l.fn.seat.known) (asked_range l.scan.range.now) l.top l.way.items l.pairs;
+  walk : IsWalk l.seat.known (since l.fn.seat.known) (request_of l.scan.range.now) l.top l.way.items l.pairs;
   bound : IsBound l.scan.range.now.direction l.seat.known (since l.fn.seat.known) (first_key l.scan.range.now.direction (asked_range l.scan.range.now)) l.top l.way.items;
 }
 

@@ -1,0 +1,16 @@
+-- The record is one of the table's, and has this word.
+use Rattle.std.proofs.Common.{arith, lit≤}
+use Rattle.versions.specs.declared.Rec.TheVariants.{Leaf as a_leaf}
+use Rattle.record_words.proofs.Locations.{size_fits}
+use Rattle.rowex_core.specs.declared.event.Act.TheVariants.{LoadFixed}
+use Rattle.rowex_reading.proofs.Led.{reads_one}
+use Rattle.rowex_scanning.proofs.Begins.{leaf_begins}
+use Rattle.rowex_scanning.proofs.ahead.touch_leaf.Goals as goal
+
+pub load_fixed_from-requires : goal.load_fixed_from-requires
+load_fixed_from-requires g c =
+    let start = leaf_begins c.args.table.now.layout c.args.origins.now.layout c.args.seat.now.known c.requires.led.0 c.args.number c.leaf.result c.requires.reader.1 c.requires.led.1 c.requires.origins c.leaf.ensures in
+    record { own = c.requires.reader.0; range = (start.0, (lit≤ tt, lit≤ tt), omega (arith, size_fits c.args.table.now.layout c.args.number)); start = start }
+
+pub returns : goal.returns
+returns g c = record { reads = reads_one (LoadFixed (a_leaf c.args.number) 2 c.load_fixed_from.result) tt c.load_fixed_from.ensures }

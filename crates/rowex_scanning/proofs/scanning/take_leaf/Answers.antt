@@ -1,0 +1,61 @@
+-- The leaf is read, and then its pair is taken.
+use Rattle.std.proofs.Common.{ℕ, subst, take}
+use Rattle.std.proofs.lemmas.Result.{IfOk-weaker, on_err_weaker}
+use Rattle.compound_node.specs.declared.entries.Entry.TheVariants.{Leaf}
+use Rattle.version_laws.specs.Directions.{IsNoLater, first_key}
+use Rattle.version_laws.specs.Scan.{IsRead}
+use Rattle.rowex_reading.specs.Seen.{IsLedTo, Sure}
+use Rattle.rowex_reading.proofs.Led.{reader_then, reads_later}
+use Rattle.rowex_scanning.specs.Scanning.{asked_range, request_of, IsLeafRefused, IsLeafTaken, IsPairRefused, IsPairTaken}
+use Rattle.rowex_scanning.proofs.Begins.{leaf_begins}
+use Rattle.rowex_scanning.proofs.scanning.take_leaf.Given as given
+use Rattle.rowex_scanning.proofs.scanning.take_leaf.Goals as goal
+use Rattle.rowex_scanning.proofs.scanning.take_leaf.Goals.{After-load_leaf-length, Then-length-eq8}
+
+-- the key that was read does not come before the range
+late : (g : given.Over) (c : After-load_leaf-length g) →
+    IsNoLater c.args.scan.now.range.now.direction (first_key c.args.scan.now.range.now.direction (asked_range c.args.scan.now.range.now)) (take c.load_leaf-length.result.0 c.load_leaf-length.new.places)
+late g c =
+    let e = c.load_leaf-length.ensures in let (m, led, reached) = c.requires.leaf in
+    reached c.load_leaf-length.new.seat.known (reads_later e.reads) (reader_then c.requires.reader e.reads).1 _ _ (e.leaf m led)
+
+-- a key of eight bytes
+read_eight : (g : given.Over) (c : Then-length-eq8 g) (m : ℕ) → IsLedTo c.args.seat.now.known m (Leaf c.args.number) →
+    Sure c.load_leaf-length.new.seat.known (λ s. IsRead s m c.args.number (take 8 c.load_leaf-length.new.places) c.load_leaf-length.result.1)
+read_eight g c m led =
+    subst (λ n. Sure c.load_leaf-length.new.seat.known (λ s. IsRead s m c.args.number (take n c.load_leaf-length.new.places) c.load_leaf-length.result.1)) c.if-length-eq8.true (c.load_leaf-length.ensures.leaf m led)
+
+pub load_leaf-length-requires-clause-led : goal.load_leaf-length-requires-clause-led
+load_leaf-length-requires-clause-led g c = (c.requires.leaf.0, c.requires.leaf.1)
+
+pub load_leaf-length-requires-clause-start : goal.load_leaf-length-requires-clause-start
+load_leaf-length-requires-clause-start g c =
+    leaf_begins c.args.scan.now.table.now.layout c.args.scan.now.origins.now.layout c.args.seat.now.known c.requires.leaf.0 c.args.number c.leaf-start.result c.requires.reader.1 c.requires.leaf.1 c.requires.origins c.leaf-start.ensures
+
+pub take_pair-requires-clause-reached : goal.take_pair-requires-clause-reached
+take_pair-requires-clause-reached g c =
+    subst (λ n. IsNoLater c.args.scan.now.range.now.direction (first_key c.args.scan.now.range.now.direction (asked_range c.args.scan.now.range.now)) (take n c.load_leaf-length.new.places)) c.if-length-eq8.true
+    (late g (goal.at.take_pair-requires-clause-reached g c).After-load_leaf-length)
+
+pub returns-then-length-eq8-clause-taken : goal.returns-then-length-eq8-clause-taken
+returns-then-length-eq8-clause-taken g c =
+    let key = take 8 c.load_leaf-length.new.places in let value = c.load_leaf-length.result.1 in let r = request_of c.args.scan.now.range.now in
+    IfOk-weaker c.take_pair.result (IsPairTaken r c.args.pairs.now key value c.take_pair.new.pairs) (IsLeafTaken c.args.seat.now.known c.load_leaf-length.new.seat.known r c.args.number c.args.pairs.now c.take_pair.new.pairs)
+    (λ verdict taken. record { key = key; value = value; read = read_eight g (goal.at.returns-then-length-eq8-clause-taken g c).Then-length-eq8; taken = taken }) c.take_pair.ensures.taken
+
+pub returns-then-length-eq8-clause-refused : goal.returns-then-length-eq8-clause-refused
+returns-then-length-eq8-clause-refused g c =
+    let key = take 8 c.load_leaf-length.new.places in let range = asked_range c.args.scan.now.range.now in
+    let of_leaf : IsPairRefused range c.args.pairs.now key c.take_pair.new.pairs → IsLeafRefused c.args.seat.now.known c.load_leaf-length.new.seat.known range c.args.number c.args.pairs.now c.take_pair.new.pairs =
+    λ refused. record { key = key; value = c.load_leaf-length.result.1; read = read_eight g (goal.at.returns-then-length-eq8-clause-refused g c).Then-length-eq8; refused = refused } in
+    on_err_weaker c.take_pair.result of_leaf c.take_pair.ensures.refused
+
+pub take_pair-requires-2-clause-reached : goal.take_pair-requires-2-clause-reached
+take_pair-requires-2-clause-reached g c = late g (goal.at.take_pair-requires-2-clause-reached g c).After-load_leaf-length
+
+pub returns-clause-refused : goal.returns-clause-refused
+returns-clause-refused g c =
+    let key = take c.load_leaf-length.result.0 c.load_leaf-length.new.places in let range = asked_range c.args.scan.now.range.now in
+    let of_leaf : IsPairRefused range c.args.pairs.now key c.take_pair-2.new.pairs → IsLeafRefused c.args.seat.now.known c.load_leaf-length.new.seat.known range c.args.number c.args.pairs.now c.take_pair-2.new.pairs =
+    λ refused. record { key = key; value = c.load_leaf-length.result.1; read = c.load_leaf-length.ensures.leaf; refused = refused } in
+    on_err_weaker c.take_pair-2.result of_leaf c.take_pair-2.ensures.refused
