@@ -8,7 +8,7 @@ use Rattle.std.specs.Map.{keys_of}
 use Rattle.finite_map.specs.declared.Change.{Change}
 use Rattle.finite_map.specs.declared.Scan.{Scan}
 use Rattle.finite_map.specs.Maps.{Map, key_order}
-use Rattle.finite_map.specs.Scans.{range_of, IsLawfulScanWith}
+use Rattle.finite_map.specs.Scans.{range_of, IsLawfulScanWith, ScanOrder}
 
 -- the order of keys, turned round
 abbrev pub falling_order : List ℕ → List ℕ → Ordering
@@ -31,6 +31,10 @@ IsDownToLast pairs key = Any (λ e. key_order key e.0 ≢ Less) pairs
 abbrev pub IsBelowLast : Map → List ℕ → Type 0
 IsBelowLast pairs key = All (λ e. key_order key e.0 ≡ Less) pairs
 
+-- the order from `upto` down to `from`
+abbrev pub falling_scan : ScanOrder
+falling_scan = record { ordered = HasFallingKeys; reached = IsDownToLast; beyond = IsBelowLast }
+
 -- a scan from `upto` down to `from`
 abbrev pub IsLawfulReverseScan : List Change → List Change → List ℕ → List ℕ → ℕ → Scan → Type 0
-IsLawfulReverseScan = IsLawfulScanWith HasFallingKeys IsDownToLast IsBelowLast
+IsLawfulReverseScan = IsLawfulScanWith falling_scan

@@ -39,25 +39,33 @@ IsUpToLast pairs key = Any (λ e. key_order key e.0 ≢ Greater) pairs
 abbrev pub IsPastLast : Map → List ℕ → Type 0
 IsPastLast pairs key = All (λ e. key_order e.0 key ≡ Less) pairs
 
--- A scan of the keys between `from` and `upto`, while the front `before` grew to `after`. How its keys are ordered, which keys are not
--- beyond its last pair and which ones are, each direction says for itself.
-pub record IsLawfulScanWith (IsOrdered : Map → Type 0) (IsReached IsBeyond : Map → List ℕ → Type 0)
-    (before after : List Change) (from upto : List ℕ) (limit : ℕ) (scan : Scan) : Type 0 where
+-- How a direction orders the pairs of a scan: which pairs are in order, which keys are not beyond the last pair's, and which ones are.
+pub record ScanOrder : Type 1 where
+  pub ordered : Map → Type 0
+  pub reached : Map → List ℕ → Type 0
+  pub beyond : Map → List ℕ → Type 0
+
+-- a scan in this order of the keys between `from` and `upto`, while the front `before` grew to `after`
+pub record IsLawfulScanWith (order : ScanOrder) (before after : List Change) (from upto : List ℕ) (limit : ℕ) (scan : Scan) : Type 0 where
   pub begins : BeginsWith after before
-  pub ordered : IsOrdered scan.pairs.items
+  pub ordered : order.ordered scan.pairs.items
   pub within : All (λ e. IsTrue (is_within from upto e.0)) scan.pairs.items
   pub short : length scan.pairs.items ≤ limit
   pub held : All (λ e. IsHeldBetween before after e.0 e.1) scan.pairs.items
   -- without `more`, each key of the range that was there all along is listed
   pub whole : scan.more ≡ false → (key : List ℕ) → IsTrue (is_within from upto key) → IsNeverRemoved before after key → Contains (keys_of scan.pairs.items) key
   -- with `more`, each such key as far as the last pair's is listed
-  pub part : scan.more ≡ true → (key : List ℕ) → IsTrue (is_within from upto key) → IsNeverRemoved before after key → IsReached scan.pairs.items key →
+  pub part : scan.more ≡ true → (key : List ℕ) → IsTrue (is_within from upto key) → IsNeverRemoved before after key → order.reached scan.pairs.items key →
       Contains (keys_of scan.pairs.items) key
   -- with `more`, the scan is full, and some key of the range beyond the last pair's was there meanwhile
   pub full : scan.more ≡ true → length scan.pairs.items ≡ limit
   pub further : scan.more ≡ true → (key : List ℕ) × (value : ℕ) × IsTrue (is_within from upto key) × IsHeldBetween before after key value ×
-      IsBeyond scan.pairs.items key
+      order.beyond scan.pairs.items key
+
+-- the order from `from` up to `upto`
+abbrev pub rising_scan : ScanOrder
+rising_scan = record { ordered = IsRising; reached = IsUpToLast; beyond = IsPastLast }
 
 -- a scan from `from` up to `upto`
 abbrev pub IsLawfulScan : List Change → List Change → List ℕ → List ℕ → ℕ → Scan → Type 0
-IsLawfulScan = IsLawfulScanWith IsRising IsUpToLast IsPastLast
+IsLawfulScan = IsLawfulScanWith rising_scan

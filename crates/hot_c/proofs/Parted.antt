@@ -17,7 +17,7 @@ use Rattle.finite_map.specs.declared.Change.{Change}
 use Rattle.finite_map.specs.declared.Scan.{Scan}
 use Rattle.finite_map.specs.Maps.{Map, key_order}
 use Rattle.finite_map.specs.Reverse.{falling_order, IsLawfulReverseScan}
-use Rattle.finite_map.specs.Scans.{is_within, IsHeldBetween, IsLawfulScan, IsLawfulScanWith, IsNeverRemoved}
+use Rattle.finite_map.specs.Scans.{is_within, IsHeldBetween, IsLawfulScan, IsLawfulScanWith, IsNeverRemoved, ScanOrder}
 
 -- a pair that is read where there is none
 abbrev some : List ℕ × ℕ
@@ -37,6 +37,9 @@ module _ (order : List ℕ → List ℕ → Ordering) (total : IsTotalOrder orde
 
   abbrev pub IsBeyond : Map → List ℕ → Type 0
   IsBeyond pairs key = All (λ e. order e.0 key ≡ Less) pairs
+
+  abbrev pub scan_order : ScanOrder
+  scan_order = record { ordered = AreSorted; reached = IsReached; beyond = IsBeyond }
 
   module _ (pairs : List (List ℕ × ℕ)) (rising : AreSorted pairs) (n : ℕ) (few : n < length pairs) where
     below : (i j : ℕ) (d e : List ℕ × ℕ) → i < j → j < length pairs → order (get_or pairs i d).0 (get_or pairs j e).0 ≡ Less
@@ -73,7 +76,7 @@ module _ (order : List ℕ → List ℕ → Ordering) (total : IsTotalOrder orde
         absurd (apart e.0 key (subst (λ (x : List ℕ). order x key ≡ Less) (ap (λ (x : List ℕ × ℕ). x.0) e_is) (subst (λ (x : List ℕ). order (get_or pairs j e).0 x ≡ Less) key_is (below j k e (key, 0) (omega (arith, j_first, over)) (omega (arith, low, all))))) up))
         (cases_Bool (leb (k + 1) n))
 
-  module _ {before after : List Change} {from upto : List ℕ} {limit : ℕ} (whole : Scan) (law : IsLawfulScanWith AreSorted IsReached IsBeyond before after from upto limit whole) (pairs : List (List ℕ × ℕ)) (all : whole.pairs.items ≡ pairs) (n : ℕ) (few : n < length pairs) where
+  module _ {before after : List Change} {from upto : List ℕ} {limit : ℕ} (whole : Scan) (law : IsLawfulScanWith scan_order before after from upto limit whole) (pairs : List (List ℕ × ℕ)) (all : whole.pairs.items ≡ pairs) (n : ℕ) (few : n < length pairs) where
     -- a key that was there all along is among all pairs, if it isn't above them
     held_all : (is_more : Bool) → whole.more ≡ is_more → (key : List ℕ) → IsTrue (is_within from upto key) → IsNeverRemoved before after key → IsReached whole.pairs.items key → Contains (keys_of whole.pairs.items) key
     held_all true more key inside kept up = law.part more key inside kept up
@@ -86,7 +89,7 @@ module _ (order : List ℕ → List ℕ → Ordering) (total : IsTotalOrder orde
         let inside : j < n = omega (arith, front, long) in
         (j, e, omega (arith, inside, few), sym (get_or-take n pairs j e inside) ∙ at, up)
 
-    pub cut : (scan : Scan) → scan.pairs.items ≡ take n pairs → scan.more ≡ true → IsLawfulScanWith AreSorted IsReached IsBeyond before after from upto n scan
+    pub cut : (scan : Scan) → scan.pairs.items ≡ take n pairs → scan.more ≡ true → IsLawfulScanWith scan_order before after from upto n scan
     cut scan is more =
         let rising = subst AreSorted all law.ordered in
         let next = get_or pairs n ([], 0) in

@@ -11,8 +11,8 @@ use Rattle.finite_map.specs.declared.Kind.TheVariants.{Added, Replaced, Removed}
 use Rattle.finite_map.specs.declared.Scan.{Scan}
 use Rattle.finite_map.specs.Fronts.{BeginsWith, changed_by, map_of}
 use Rattle.finite_map.specs.Maps.{IsRising, Map, value_at, without}
-use Rattle.finite_map.specs.Reverse.{HasFallingKeys, IsBelowLast, IsDownToLast}
-use Rattle.finite_map.specs.Scans.{IsHeldBetween, IsLawfulScanWith, IsPastLast, IsUpToLast}
+use Rattle.finite_map.specs.Reverse.{falling_scan}
+use Rattle.finite_map.specs.Scans.{IsHeldBetween, IsLawfulScanWith, ScanOrder, rising_scan}
 use Rattle.finite_map.proofs.Growth.{map_of-push, map_of-rising}
 use Rattle.finite_map.proofs.Held.{value_at-without_same}
 use Rattle.record_words.specs.declared.layout.Layout.{Layout}
@@ -108,9 +108,9 @@ module _ (layout : Layout) (last : ℕ) (at : ℕ → Moment) (happens : ℕ →
         let whole : take n (at until).core.changes ≡ (at t).core.changes = ap (λ k. take k (at until).core.changes) (sym found.3) ∙ ap (take (count t)) more.1 ∙ take-append_seam (at t).core.changes more.0 in
         (t, found.1, found.2, sym front ∙ whole)
 
-    scanned : (IsOrdered : Map → Type 0) (IsReached IsBeyond : Map → List ℕ → Type 0) (from upto : List ℕ) (limit : ℕ) (scan : Scan) →
-        IsLawfulScanWith IsOrdered IsReached IsBeyond before after from upto limit scan → IsScanInTime IsReached at since until from upto scan
-    scanned IsOrdered IsReached IsBeyond from upto limit scan h = record {
+    scanned : (order : ScanOrder) (from upto : List ℕ) (limit : ℕ) (scan : Scan) →
+        IsLawfulScanWith order before after from upto limit scan → IsScanInTime order.reached at since until from upto scan
+    scanned order from upto limit scan h = record {
       held = All-weaker (λ e. IsHeldBetween before after e.0 e.1) (λ e. WasHeld at since until e.0 e.1)
           (λ e held. (let m = moment_of held.0 held.1 held.2 in (m.0, m.1, m.2, subst (λ l. value_at (map_of l) e.0 ≡ Some e.1) m.3 held.3))) scan.pairs.items h.held;
       whole = λ key inside reached there.
@@ -127,6 +127,6 @@ module _ (layout : Layout) (last : ℕ) (at : ℕ → Moment) (happens : ℕ →
 
 pub scans_in_time : ScansInTime
 scans_in_time layout last at happens run q since until pass order within loaded from upto limit scan = (
-  scanned layout last at happens run q since until pass order within loaded IsRising IsUpToLast IsPastLast from upto limit scan,
-  scanned layout last at happens run q since until pass order within loaded HasFallingKeys IsDownToLast IsBelowLast from upto limit scan,
+  scanned layout last at happens run q since until pass order within loaded rising_scan from upto limit scan,
+  scanned layout last at happens run q since until pass order within loaded falling_scan from upto limit scan,
 )

@@ -211,7 +211,7 @@ last_is_newest Downwards k (x ∷ xs) i a f (n, e, lt, at, h) =
 
 -- What is said of lawful scans of a direction.
 abbrev IsLawfulIn : Direction → List Change → List Change → List ℕ → List ℕ → ℕ → Scan → Type 0
-IsLawfulIn d = IsLawfulScanWith (λ z. IsStrictlySortedBy (order_by d) (keys_of z)) (IsReachedByLast d) (λ z k. All (λ e. order_by d e.0 k ≡ Less) z)
+IsLawfulIn d = IsLawfulScanWith (record { ordered = λ z. IsStrictlySortedBy (order_by d) (keys_of z); reached = IsReachedByLast d; beyond = λ z k. All (λ e. order_by d e.0 k ≡ Less) z })
 
 lawful_by : (d : Direction) (before after : List Change) (from upto : Key) (limit : ℕ) (scan : Scan) → IsLawfulIn d before after from upto limit scan → IsLawfulBy d before after from upto limit scan
 lawful_by Upwards before after from upto limit scan w = w
