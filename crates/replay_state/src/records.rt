@@ -7,7 +7,7 @@ ghost use Rattle.replay_state.specs.declared.fate.Fate.TheVariants.{Held, InTree
 ghost use Rattle.versions.specs.declared.Rec.TheVariants.{Node as a_node, Leaf as a_leaf};
 
 use crate::fate::Fate;
-use crate::links::{all_may_be_linked, all_may_be_unlinked, update_each_fate};
+use crate::links::{may_link, may_unlink, update_each_fate};
 use record_words::{LEAF_FIELDS, Layout, NODE_FIELDS, Tag, unpack_state};
 use replay_trees::{unpack_leaf, unpack_node};
 use rowex_core::Rec;
@@ -126,16 +126,16 @@ impl Records {
 
     /// Whether fates and locks allow `pass` to publish a tree that links just the nodes and leaves that `nodes` and `leaves` mark. A record
     /// past the last flag isn't linked.
-    pub(crate) fn may_link(&self, pass: u16, nodes: &[bool], leaves: &[bool]) -> bool
+    pub(crate) fn may_publish(&self, pass: u16, nodes: &[bool], leaves: &[bool]) -> bool
         ensures { IsTrue result ↔ MayLink self.now pass nodes.now leaves.now }
     {
-        if !all_may_be_linked(&self.node_fates, pass, nodes) {
+        if !may_link(&self.node_fates, pass, nodes) {
             return false;
         }
-        if !all_may_be_linked(&self.leaf_fates, pass, leaves) {
+        if !may_link(&self.leaf_fates, pass, leaves) {
             return false;
         }
-        all_may_be_unlinked(&self.node_fates, &self.locks, pass, nodes)
+        may_unlink(&self.node_fates, &self.locks, pass, nodes)
     }
 
     /// Gives each record its fate after `pass` has published version `now + 1`, which links just the nodes and leaves that `nodes` and

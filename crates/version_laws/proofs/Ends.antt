@@ -1,8 +1,8 @@
 -- A scan of an empty map, or of one leaf; the depth of the way.
-use Rattle.std.proofs.Common.{◌≡◌, ◌⊎◌, inl, inr, ℕ, ◌+◌, ◌*◌, ◌<◌, ◌≤◌, List, [], ◌∷◌, length, sym, ◌∙◌, subst, arith, Some, None}
+use Rattle.std.proofs.Common.{◌≡◌, ◌⊎◌, inl, inr, ℕ, ◌+◌, ◌*◌, ◌<◌, ◌≤◌, List, [], ◌∷◌, length, sym, ◌∙◌, subst, arith}
 use Rattle.key_bits.specs.declared.TheConstants.{MAX_BYTES}
 use Rattle.tries.specs.Keys.{IsAtMost, Key, IsBefore}
-use Rattle.tries.specs.Tree.{Tree, leaf, node, fork, subtrie, IsBuilt, IsLower}
+use Rattle.tries.specs.Tree.{node, subtrie, IsBuilt}
 use Rattle.compound_node.specs.declared.entries.Entry.{Entry}
 use Rattle.compound_node.specs.declared.entries.Entry.TheVariants.{Leaf, Node}
 use Rattle.pieces.specs.Piece.{Place}
@@ -16,6 +16,8 @@ use Rattle.version_laws.specs.declared.direction.Direction.{Direction}
 use Rattle.tries.proofs.Tries.{built_within}
 use Rattle.version_laws.proofs.Scans.{node_of, root_had_key, leaf_had_key, read_held, before_most, never_before}
 use Rattle.version_laws.proofs.Loads.{lower_at, subtrie_at, rooted_seen, placed_seen, fixed_height}
+use Rattle.tries.proofs.Fitting.{lower_positive as some_height}
+use Rattle.std.proofs.lemmas.Option.{none-some}
 
 -- The height of the lowest frame: that of the root's node.
 abbrev pub top_height : ℕ → List Frame → ℕ
@@ -33,10 +35,7 @@ module _ (s : Past) (m : ℕ) (g : Range) where
 
   -- The root is None.
   pub answer_blank : (d : Direction) → IsBlank s m → IsComplete d s m g []
-  answer_blank d (n, lo, hi, e) = nothing d s m g (λ k kept r. let o = kept n lo hi in none_some (sym e ∙ o.1))
-    where
-      none_some : {t : Tree} → None ≡ Some t → ⊥
-      none_some e = cc
+  answer_blank d (n, lo, hi, e) = nothing d s m g (λ k kept r. let o = kept n lo hi in none-some o.0 (sym e ∙ o.1))
 
   -- The limit is 0.
   pub answer_nought : (d : Direction) (n : ℕ) (l : Key) (v : ℕ) → IsRead s m n l v → IsInRange g l → g.limit ≡ 0 → IsCut d s m g []
@@ -93,11 +92,6 @@ stack_depth s m law f (g ∷ gs) h =
     let a = stack_depth s m law g gs h.2 in
     let b : f.height < g.height = placed_falls s m law g.number g.height g.place (Node f.number f.height) (stack_seen s m g gs h.2) h.0 in
     omega arith
-
-some_height : (h : ℕ) (b : Tree) → IsLower h b → 0 < h
-some_height h (leaf n k v) l = l
-some_height h (node n x b) l = omega (arith, l)
-some_height h (fork p a b) l = some_height h a l.0
 
 -- Each node on it is higher than nothing.
 pub stack_high : (s : Past) (m : ℕ) → IsSteady s m → (f : Frame) (fs : List Frame) → IsStack s m (f ∷ fs) → 0 < f.height
