@@ -3,14 +3,14 @@
 ghost use Rattle.std.specs.Prelude.{◌≡◌, ◌↔◌, ◌+◌, ◌<◌, ◌^◌, IsTrue, None, false, get_or};
 ghost use Rattle.versions.specs.Steps.{next_fate};
 ghost use Rattle.replay_state.specs.Fates.{stored_fate};
-ghost use Rattle.replay_state.specs.Links.{AllMayCome, AllMayGo, AreNextFates, MayCome, MayGo};
+ghost use Rattle.replay_state.specs.Links.{AllMayBeLinked, AllMayBeUnlinked, AreNextFates, MayBeLinked, MayBeUnlinked};
 
 use crate::fate::Fate;
 
 impl Fate {
     /// Whether `pass` may publish a tree that links this record: it is in the tree, or ready by `pass`. `true` unless `is_linked`.
     fn may_be_linked(self, pass: u16, is_linked: bool) -> bool
-        ensures { IsTrue result ↔ MayCome pass is_linked self }
+        ensures { IsTrue result ↔ MayBeLinked pass is_linked self }
     {
         match self {
             Fate::InTree { .. } => true,
@@ -21,7 +21,7 @@ impl Fate {
 
     /// Whether `pass` may publish a tree without this node: it isn't in the tree, or `lock` is `pass`. `true` if `is_linked`.
     fn may_be_unlinked(self, pass: u16, is_linked: bool, lock: Option<u16>) -> bool
-        ensures { IsTrue result ↔ MayGo pass is_linked lock self }
+        ensures { IsTrue result ↔ MayBeUnlinked pass is_linked lock self }
     {
         match self {
             Fate::InTree { .. } => is_linked || lock == Some(pass),
@@ -49,7 +49,7 @@ impl Fate {
 
 /// Whether `pass` may publish a tree that links just those of these records that `linked` marks, as `may_be_linked` says of each.
 pub(crate) fn may_link(fates: &[Fate], pass: u16, linked: &[bool]) -> bool
-    ensures { IsTrue result ↔ AllMayCome pass linked.now fates.now }
+    ensures { IsTrue result ↔ AllMayBeLinked pass linked.now fates.now }
 {
     for (i, fate) in fates.iter().enumerate() {
         if !fate.may_be_linked(pass, flag_at(linked, i)) {
@@ -61,7 +61,7 @@ pub(crate) fn may_link(fates: &[Fate], pass: u16, linked: &[bool]) -> bool
 
 /// Whether `pass` may publish a tree that links just those of these nodes that `linked` marks, as `may_be_unlinked` says of each.
 pub(crate) fn may_unlink(fates: &[Fate], locks: &[Option<u16>], pass: u16, linked: &[bool]) -> bool
-    ensures { IsTrue result ↔ AllMayGo pass linked.now locks.now fates.now }
+    ensures { IsTrue result ↔ AllMayBeUnlinked pass linked.now locks.now fates.now }
 {
     for (i, fate) in fates.iter().enumerate() {
         if !fate.may_be_unlinked(pass, flag_at(linked, i), lock_at(locks, i)) {

@@ -42,7 +42,7 @@ impl Model for Records {
 
 impl Records {
     ghost use Rattle.rowex_core.specs.Opening.{opening};
-    ghost use Rattle.replay_state.specs.Records.{AreRecordsOf, HasState, AreNextRecords, MayLink, HasWordStored, IsPackedIn, fate_in, lock_in, marked_in, tag_in, words_in, with_fate_in, with_lock_in, with_words_in};
+    ghost use Rattle.replay_state.specs.Records.{AreRecordsOf, HasState, AreNextRecords, MayPublishTree, HasWordStored, IsPackedIn, fate_in, lock_in, marked_in, tag_in, words_in, with_fate_in, with_lock_in, with_words_in};
 
     /// Free records of a table of `layout`: all words are 0, and nothing is locked. An error if memory is refused.
     pub(crate) fn new(alloc: Global, layout: Layout) -> Result<Records, AllocError>
@@ -127,7 +127,7 @@ impl Records {
     /// Whether fates and locks allow `pass` to publish a tree that links just the nodes and leaves that `nodes` and `leaves` mark. A record
     /// past the last flag isn't linked.
     pub(crate) fn may_publish(&self, pass: u16, nodes: &[bool], leaves: &[bool]) -> bool
-        ensures { IsTrue result ↔ MayLink self.now pass nodes.now leaves.now }
+        ensures { IsTrue result ↔ MayPublishTree self.now pass nodes.now leaves.now }
     {
         if !may_link(&self.node_fates, pass, nodes) {
             return false;
