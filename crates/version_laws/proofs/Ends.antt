@@ -14,7 +14,7 @@ use Rattle.version_laws.specs.Scan.{IsRooted, IsPlaced, IsRead, EntryStoodSince,
 use Rattle.version_laws.specs.Directions.{IsComplete, IsCut}
 use Rattle.version_laws.specs.declared.direction.Direction.{Direction}
 use Rattle.tries.proofs.Tries.{built_within}
-use Rattle.version_laws.proofs.Scans.{node_of, root_had_key, leaf_had_key, read_held, before_most, never_before}
+use Rattle.version_laws.proofs.Scans.{node_of, root_had_key, leaf_had_key, read_held, before_most, never_before, place_same}
 use Rattle.version_laws.proofs.Loads.{lower_at, subtrie_at, rooted_seen, placed_seen, fixed_height}
 use Rattle.tries.proofs.Fitting.{lower_positive as some_height}
 use Rattle.std.proofs.lemmas.Option.{none-some}
@@ -76,10 +76,7 @@ placed_falls s m law r h j e (n, u, lo, hi, sn, pg) (b, st, lt, pe) =
     let q : st.fixed ≡ o.0 = (subst (λ z. IsSameRecord (node r st.fixed b) z) o.2 same).0 in
     let built : IsBuilt (node r st.fixed b) = built_within st.stands.within (law.trees st.at st.stands.tree st.until st.stands.is_version).1 in
     let f : Place (entry_at (subtrie b) j) ≡ Place e = sym (subtrie_at b j lt) ∙ pe in
-    subst (λ z. height_of z < h) (tip_same f) (subst (λ z. height_of (entry_at (subtrie b) j) < z) (fixed_height q ∙ o.3) (lower_at st.fixed.height b j built.1))
-  where
-    tip_same : {a b : Entry} → Place a ≡ Place b → a ≡ b
-    tip_same e = cc
+    subst (λ z. height_of z < h) (place_same f) (subst (λ z. height_of (entry_at (subtrie b) j) < z) (fixed_height q ∙ o.3) (lower_at st.fixed.height b j built.1))
 
 pub stack_seen : (s : Past) (m : ℕ) (f : Frame) (fs : List Frame) → IsStack s m (f ∷ fs) → EntryStoodSince s m (Node f.number f.height)
 stack_seen s m f [] h = rooted_seen s m (Node f.number f.height) h.0

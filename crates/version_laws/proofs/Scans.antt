@@ -20,6 +20,9 @@ use Rattle.tries.specs.Content.{first}
 use Rattle.version_laws.proofs.Search.{holds_within}
 use Rattle.tries.proofs.Reading.{some_injective as some_same}
 
+pub place_same : {a b : Entry} → Place a ≡ Place b → a ≡ b
+place_same e = cc
+
 -- Places of a body.
 at_low : (p : ℕ) (a b : Tree) (i : ℕ) → i < size (subtrie a) → at_place (fork p a b) i ≡ at_place a i
 at_low p a b i h = cond-true (ltb i (size (subtrie a))) _ _ (lt-ltb i (size (subtrie a)) h)

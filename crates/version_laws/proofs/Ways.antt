@@ -16,7 +16,7 @@ use Rattle.versions.proofs.Stored.{lower_within}
 use Rattle.version_laws.specs.Scan.{IsRooted, IsBlank, at_place, IsPlaced}
 use Rattle.version_laws.specs.Ways.{IsOnWay, IsWayFrom, from_leaf, from_node, WayBegins, WayGoesOn, WayEnds, WayOfLeaf, WayIsBelow, StillRooted, StillPlaced, StillGrows, OneBody, RootedSame, PlacedSame, FoundSame}
 use Rattle.version_laws.specs.Writer.{BeganAt, IsWayBelow, at_leaf, below}
-use Rattle.version_laws.proofs.Scans.{node_of, leaf_of, within_at, placed_stands, at_spot, shaped}
+use Rattle.version_laws.proofs.Scans.{node_of, leaf_of, within_at, placed_stands, at_spot, shaped, place_same}
 use Rattle.tries.proofs.Places.{spot_shape}
 use Rattle.tries.proofs.Contents.{found_child}
 use Rattle.tries.proofs.Reading.{some_injective as some_same}
@@ -148,9 +148,6 @@ pub still_grows : StillGrows
 still_grows a b g m k e low f same =
     let now : m ≡ a.now = (let l = g.longer in omega arith) in
     let (t, u, is, w, pg, o) = f now in (t, u, g.kept m low ∙ is, w, pg, o)
-
-place_same : {a b : Entry} → Place a ≡ Place b → a ≡ b
-place_same e = cc
 
 pub still_placed : StillPlaced
 still_placed s m steady seen k n h j x e shape_is at (b, stood, low, pe) f same = go (f same)
