@@ -3,18 +3,19 @@ use Rattle.std.proofs.Common.{◌≡◌, ℕ, ◌+◌, ◌*◌, ◌≤◌, List,
 use Rattle.compound_node.specs.Nodes.{NodeView, greatest_height, piece}
 use Rattle.key_bits.specs.declared.TheConstants.{MAX_BYTES}
 use Rattle.pieces.specs.Piece.{size, places}
-use Rattle.tries.proofs.Building.{fork_of, fork_of_two_places, new_bound}
+use Rattle.tries.proofs.Building.{fork_of, fork_of_two_places, new_bound, size-piece}
 use Rattle.record_words.specs.declared.layout.Layout.{Layout}
 use Rattle.tries.specs.Tree.{Subtrie, Tree, fork, subtrie, IsTrie, IsBuilt, first_position}
-use Rattle.version_laws.specs.Rise.{IsRise, Side, body, entry}
+use Rattle.version_laws.specs.Rise.{IsRise, Side}
 use Rattle.version_laws.proofs.Standing.{stands_now, newest_tree_if_node}
 use Rattle.rowex_core.specs.declared.known.Known.{Known}
 use Rattle.rowex_core.specs.declared.known.Locked.{Locked}
 use Rattle.rowex_core.specs.Cores.{Core, bare}
 use Rattle.versions.specs.Trades.{IsOneOf}
+pub use Rattle.version_laws.proofs.Rising.{number_of}
 use Rattle.version_laws.proofs.Rising.{risen}
 use Rattle.version_laws.specs.Writer.{Newcomer}
-use Rattle.publish_laws.proofs.Stages.{size_is, locked_node, made_leaf}
+use Rattle.publish_laws.proofs.Stages.{locked_node, made_leaf}
 use Rattle.rowex_table.specs.Made.{Made}
 use Rattle.publish_laws.specs.Stages.{HasLeaf, IsStage}
 use Rattle.publish_laws.specs.Rises.{IsBuiltAnew}
@@ -22,7 +23,7 @@ use Rattle.publish_laws.specs.Rises.{IsBuiltAnew}
 pub bound_of : (v : NodeView) (s : Tree) → IsBuiltAnew v → piece v ≡ subtrie s → IsTrie s → IsBuilt s → v.height + first_position (piece v) ≤ 9 * MAX_BYTES
 bound_of v s (has, height) shows trie built =
     let l = has.lawful in
-    let big : 2 ≤ size (subtrie s) = subst (λ p. 2 ≤ size p) shows (omega (arith, size_is v l, l.several)) in
+    let big : 2 ≤ size (subtrie s) = subst (λ p. 2 ≤ size p) shows (omega (arith, size-piece v l, l.several)) in
     let (q, a, c, is) = fork_of s (fork_of_two_places s big) in
     let low = new_bound q a c (subst IsTrie is trie) (subst IsBuilt is built) in
     let pg : piece v ≡ subtrie (fork q a c) = shows ∙ ap subtrie is in
@@ -30,28 +31,16 @@ bound_of v s (has, height) shows trie built =
     let first : first_position (piece v) ≡ q = ap first_position pg in
     omega (arith, height)
 
--- the node whose body or entry it is
-abbrev pub number_of : Side → ℕ
-number_of (body n) = n
-number_of (entry n) = n
-
 module _ (layout : Layout) (k : Known) (held : List Locked) (news : List Made) (c : Core) (stage : IsStage layout k held news c) (x : Newcomer) where
   -- what has risen is the subtrie of a lawful tree
   pub tree_risen : (d : Side) (words : List ℕ) → HasLeaf news x.item → IsOneOf (record { node = number_of d; words = words }) held → (r : Subtrie) → IsRise (bare c) k.pass x d r →
       (s : Tree) × (subtrie s ≡ r) × IsTrie s × IsBuilt s
-  tree_risen (body n) words leaf at r i =
+  tree_risen d words leaf at r i =
       let new = made_leaf layout k held news c stage x.item leaf in
-      let node = (locked_node layout k held news c stage n words at).0 in
-      let (t, now) = newest_tree_if_node (bare c) stage.lawful.core.state n node.linked node.fate in
-      let (b, v, pg) = stands_now (bare c) stage.lawful.core.state t now n node.linked node.fate in
-      let (s, e, g, tr) = risen (bare c) k.pass stage.lawful.core.state t now x new (body n) r i ((bare c).heap.nodes n).fixed b v in
-      (s, e, g.adds.trie, g.hand.built)
-  tree_risen (entry n) words leaf at r i =
-      let new = made_leaf layout k held news c stage x.item leaf in
-      let node = (locked_node layout k held news c stage n words at).0 in
-      let (t, now) = newest_tree_if_node (bare c) stage.lawful.core.state n node.linked node.fate in
-      let (b, v, pg) = stands_now (bare c) stage.lawful.core.state t now n node.linked node.fate in
-      let (s, e, g, tr) = risen (bare c) k.pass stage.lawful.core.state t now x new (entry n) r i ((bare c).heap.nodes n).fixed b v in
+      let node = (locked_node layout k held news c stage (number_of d) words at).0 in
+      let (t, now) = newest_tree_if_node (bare c) stage.lawful.core.state (number_of d) node.linked node.fate in
+      let (b, v, pg) = stands_now (bare c) stage.lawful.core.state t now (number_of d) node.linked node.fate in
+      let (s, e, g, tr) = risen (bare c) k.pass stage.lawful.core.state t now x new d r i ((bare c).heap.nodes (number_of d)).fixed b v in
       (s, e, g.adds.trie, g.hand.built)
 
   pub bound_risen : (d : Side) (words : List ℕ) → HasLeaf news x.item → IsOneOf (record { node = number_of d; words = words }) held → (r : Subtrie) → IsRise (bare c) k.pass x d r →

@@ -39,8 +39,8 @@ insertion layout k held news gone has x n w e at risen has_leaf place word = pub
         let heap = heap_of (stored_words c at w) in
         let root = stored_root c at w in
         let published = insert_at_spot (bare c) k.pass law.core.state x new n place.height e i s.spot (s.alone x.mismatch place.alone) s.low heap root s.stored in
-        publish_words c k.pass law known.pass at w (Some e) s.locked word.0 word.1 s.packed (added_change k.pass x.item) None (recs_of news) gone
-        (subst (λ z. IsPublished (bare c) k.pass heap root (added_change k.pass x.item) z gone) news_are (subst (λ z. IsPublished (bare c) k.pass heap root (added_change k.pass x.item) (linked_by_rise i) z) gone_is published))
+        publish_words c (added_change k.pass x.item) law known.pass at w (Some e) s.locked word.0 word.1 s.packed None (recs_of news) gone
+        (subst (λ z. IsPublished (bare c) heap root (added_change k.pass x.item) z gone) news_are (subst (λ z. IsPublished (bare c) heap root (added_change k.pass x.item) (linked_by_rise i) z) gone_is published))
         (λ f. f)
 
 pub pair : MayPair
@@ -61,7 +61,7 @@ pair layout k held x fresh p j m w value l view at has spelled holds alone fits 
         let is_key = trie_within (leaf_at (bare c) k.pass law.core.state t now x.key j s.spot).place (trie_now (bare c) law.core.state t now) in
         let (both, pg, trie, built) = pair_tree x p j value (leaf_of (c.words (a_leaf j))).key new.key is_key agreed differs in
         let subtrie_made = subst (IsNewSubtrie (bare c) k.pass m (node_fixed view)) shows (made_node layout k held news c stage m view (inl refl) anew.0 (bound_of view both anew (shows ∙ sym pg) trie built)) in
-        publish_words c k.pass law known.pass at w (Some (Node m view.height)) s.locked word.0 word.1 s.packed (added_change k.pass x) None (a_node m ∷ a_leaf x.number ∷ []) []
+        publish_words c (added_change k.pass x) law known.pass at w (Some (Node m view.height)) s.locked word.0 word.1 s.packed None (a_node m ∷ a_leaf x.number ∷ []) []
         (pair_at_spot (bare c) k.pass law.core.state x p new j m (node_fixed view) s.spot (s.alone p alone) agreed differs subtrie_made s.low (heap_of (stored_words c at w)) (stored_root c at w) s.stored) (λ f. f)
 
 pub first_made : MayAddFirstKey
@@ -72,5 +72,5 @@ first_made layout k held x fresh w has spelled word anchor = publishes_made layo
         let stage = stage_of layout k held (made_of_leaf x fresh ∷ []) has c law layout_is known in
         let new = made_leaf layout k held (made_of_leaf x fresh ∷ []) c stage x (fresh, inl refl, spelled) in
         let (lock, root) = (knows_all c k known).anchor None anchor in
-        publish_root c k.pass law known.pass w (Some (Leaf x.number)) lock word.0 word.1 (added_change k.pass x) None (a_leaf x.number ∷ []) []
+        publish_root c (added_change k.pass x) law known.pass w (Some (Leaf x.number)) lock word.0 word.1 None (a_leaf x.number ∷ []) []
         (first_root (bare c) k.pass law.core.state x lock root new) (λ f. f)

@@ -1,5 +1,5 @@
 -- Removals that merge may be published; and what a pass knows of the nodes beside each other.
-use Rattle.std.proofs.Common.{◌≡◌, ◌≢◌, ◌<◌, ◌+◌, inl, ℕ, Bool, true, false, List, [], ◌∷◌, ◌++◌, Some, refl, sym, ap, ap₂, subst, ◌∙◌, arith, if◌then◌else◌}
+use Rattle.std.proofs.Common.{◌≡◌, ◌<◌, ◌+◌, inl, ℕ, Bool, true, false, List, [], ◌∷◌, ◌++◌, Some, refl, sym, ap, ap₂, subst, ◌∙◌, arith, if◌then◌else◌}
 use Rattle.compound_node.specs.Nodes.{NodeView, greatest_height, height_of, piece}
 use Rattle.compound_node.specs.declared.entries.Entry.{Entry}
 use Rattle.compound_node.specs.declared.entries.Entry.TheVariants.{Node}
@@ -14,17 +14,16 @@ use Rattle.tries.specs.Tree.{Subtrie, Tree, subtrie, Within, here, inside, node}
 use Rattle.tries.proofs.Building.{greatest-append}
 use Rattle.tries.proofs.Tries.{built_within, trie_within, within_trans}
 use Rattle.versions.specs.Heap.{NodeWords, LeafWords}
-use Rattle.versions.specs.State.{Links}
 use Rattle.versions.specs.declared.Rec.{Rec}
 use Rattle.versions.specs.declared.Rec.TheVariants.{Node as a_node, Leaf as a_leaf}
 use Rattle.versions.specs.Trades.{IsOneOf}
 use Rattle.versions.proofs.Heaps.{shown_within}
 use Rattle.versions.proofs.Members.{all_of, of_left, of_right}
-use Rattle.versions.proofs.Stored.{links_of, not_above}
+use Rattle.versions.proofs.Stored.{links_of}
 use Rattle.version_laws.specs.Rise.{IsBesideNode, IsEntryFor, IsLeafOf, IsNewSubtrie, linked_for_entry, subtrie_merged}
 use Rattle.version_laws.specs.Statements.{IsPublished}
 use Rattle.version_laws.specs.Writer.{removed_change}
-use Rattle.version_laws.proofs.Beside.{StandBeside, beside_now, first_within, both_low, both_rise, last_fork, second_within, two, two_differ, two_within}
+use Rattle.version_laws.proofs.Beside.{StandBeside, beside_now, first_within, both_low, both_rise, last_fork, second_within, two, two_within}
 use Rattle.version_laws.proofs.Merging.{collapsed_tree, merge_at_spot, merged_tree}
 use Rattle.version_laws.proofs.Now.{built_now, shown_now, trie_now}
 use Rattle.version_laws.proofs.Replaced.{linked_fate}
@@ -130,9 +129,9 @@ merge layout k held us key o n m j z height w value view e at has b may shows si
         let heap = heap_of (stored_words c at w) in
         let root = stored_root c at w in
         let published = merge_at_spot (bare c) k.pass law.core.state key n j seen o m (beside_in layout k held news c stage key o n m j b) z (node_fixed view) joined height e i s.spot s.low heap root s.stored in
-        publish_words c k.pass law known.pass at w (Some e) s.locked word.0 word.1 s.packed change (Some value) (recs_of news) gone
-        (subst (λ xs. IsPublished (bare c) k.pass heap root change xs gone) (ap (λ xs. xs ++ a_node z ∷ []) linked ∙ sym (recs_append us (made_of_node z view ∷ [])))
-        (subst (λ (y : LeafWords). IsPublished (bare c) k.pass heap root (removed_change k.pass (item j key y.value)) (linked_for_entry i ++ a_node z ∷ []) gone) is_leaf published)) (λ f. f)
+        publish_words c change law known.pass at w (Some e) s.locked word.0 word.1 s.packed (Some value) (recs_of news) gone
+        (subst (λ xs. IsPublished (bare c) heap root change xs gone) (ap (λ xs. xs ++ a_node z ∷ []) linked ∙ sym (recs_append us (made_of_node z view ∷ [])))
+        (subst (λ (y : LeafWords). IsPublished (bare c) heap root (removed_change k.pass (item j key y.value)) (linked_for_entry i ++ a_node z ∷ []) gone) is_leaf published)) (λ f. f)
 
 -- What a pass knows by its locks
 

@@ -1,5 +1,5 @@
 -- A publish that the laws on versions give is one for words.
-use Rattle.std.proofs.Common.{◌≡◌, ◌<◌, inl, inr, ℕ, List, Option, Some, refl, sym, ap, subst, ◌∙◌, arith, le_refl}
+use Rattle.std.proofs.Common.{◌≡◌, ◌<◌, ℕ, List, Option, Some, refl, sym, ap, subst, ◌∙◌, arith, le_refl}
 use Rattle.std.proofs.lemmas.List.{take_all}
 use Rattle.compound_node.specs.declared.entries.Entry.{Entry}
 use Rattle.finite_map.specs.declared.Change.{Change}
@@ -7,7 +7,7 @@ use Rattle.finite_map.specs.Maps.{Map, value_at}
 use Rattle.finite_map.specs.Fronts.{map_of, Fits}
 use Rattle.record_words.specs.Entry.{HasEntryWord, entry_word}
 use Rattle.tries.specs.Keys.{Key}
-use Rattle.tries.specs.Tree.{Tree, leaf, Holds, Within, here, inside, zero_side, one_side}
+use Rattle.tries.specs.Tree.{Tree, leaf, Within}
 use Rattle.tries.proofs.Maps.{holds_value}
 use Rattle.versions.specs.declared.Rec.{Rec}
 use Rattle.versions.specs.Told.{content}
@@ -23,14 +23,15 @@ use Rattle.rowex_core.proofs.Reading.{entry_of_word}
 use Rattle.rowex_core.proofs.Promises.{publish_is_a_step}
 use Rattle.rowex_core.proofs.Bridging.{publish_is_legal}
 use Rattle.rowex_table.proofs.ActsAfter.{IsPublishOf}
+use Rattle.version_laws.proofs.Search.{holds_within}
 
-pub publish_words : (c : Core) (q : ℕ) → IsLawful c → q < c.layout.passes → (spot : Spot) (w : ℕ) (e : Option Entry) → IsLockedAt c q spot → HasEntryWord e → entry_word e ≡ w → IsPackedAt c spot w →
-    (x : Change) (was : Option ℕ) (new gone : List Rec) → IsPublished (bare c) q (heap_of (stored_words c spot w)) (stored_root c spot w) x new gone →
-    (Fits (map_of c.changes) x → value_at (map_of c.changes) x.key ≡ was) → IsPublishOf c q spot w x was new gone
-publish_words c q law low spot w e locked fits is packed x was new gone p held =
+pub publish_words : (c : Core) (x : Change) → IsLawful c → x.pass < c.layout.passes → (spot : Spot) (w : ℕ) (e : Option Entry) → IsLockedAt c x.pass spot → HasEntryWord e → entry_word e ≡ w → IsPackedAt c spot w →
+    (was : Option ℕ) (new gone : List Rec) → IsPublished (bare c) (heap_of (stored_words c spot w)) (stored_root c spot w) x new gone →
+    (Fits (map_of c.changes) x → value_at (map_of c.changes) x.key ≡ was) → IsPublishOf c x.pass spot w x was new gone
+publish_words c x law low spot w e locked fits is packed was new gone p held =
     let entry : entry_of w ≡ e = ap entry_of (sym is) ∙ entry_of_word e fits in
-    let (legal, next, change) = publish_is_legal c q spot w law locked (subst HasEntryWord (sym entry) fits, ap entry_word entry ∙ is) packed p.tree x p.legal p.differs in
-    let (told, by, fit, after) = publish_is_a_step c q spot w law (low, legal) in
+    let (legal, next, change) = publish_is_legal c x.pass spot w law locked (subst HasEntryWord (sym entry) fits, ap entry_word entry ∙ is) packed p.tree x p.legal p.differs in
+    let (told, by, fit, after) = publish_is_a_step c x.pass spot w law (low, legal) in
     record {
       legal = legal;
       change = change;
@@ -39,20 +40,14 @@ publish_words c q law low spot w e locked fits is packed x was new gone p held =
     }
 
 -- at the root
-pub publish_root : (c : Core) (q : ℕ) → IsLawful c → q < c.layout.passes → (w : ℕ) (e : Option Entry) → c.anchor ≡ Some q → HasEntryWord e → entry_word e ≡ w →
-    (x : Change) (was : Option ℕ) (new gone : List Rec) → IsPublished (bare c) q (heap_of c.words) e x new gone →
-    (Fits (map_of c.changes) x → value_at (map_of c.changes) x.key ≡ was) → IsPublishOf c q Root w x was new gone
-publish_root c q law low w e lock fits is x was new gone p held =
-    publish_words c q law low Root w e lock fits is tt x was new gone
-    (subst (λ z. IsPublished (bare c) q (heap_of c.words) z x new gone) (sym (ap entry_of (sym is) ∙ entry_of_word e fits)) p) held
+pub publish_root : (c : Core) (x : Change) → IsLawful c → x.pass < c.layout.passes → (w : ℕ) (e : Option Entry) → c.anchor ≡ Some x.pass → HasEntryWord e → entry_word e ≡ w →
+    (was : Option ℕ) (new gone : List Rec) → IsPublished (bare c) (heap_of c.words) e x new gone →
+    (Fits (map_of c.changes) x → value_at (map_of c.changes) x.key ≡ was) → IsPublishOf c x.pass Root w x was new gone
+publish_root c x law low w e lock fits is was new gone p held =
+    publish_words c x law low Root w e lock fits is tt was new gone
+    (subst (λ z. IsPublished (bare c) (heap_of c.words) z x new gone) (sym (ap entry_of (sym is) ∙ entry_of_word e fits)) p) held
 
 -- What a leaf of the present tree holds
-
-holds_within : {s t : Tree} → Within s t → (k : Key) (v : ℕ) → Holds s k v → Holds t k v
-holds_within here k v h = h
-holds_within (inside w) k v h = holds_within w k v h
-holds_within (zero_side w) k v h = inl (holds_within w k v h)
-holds_within (one_side w) k v h = inr (holds_within w k v h)
 
 pub leaf_held : (c : Core) → IsLawful c → (t : Tree) → c.past.version c.past.now ≡ Some t → (j : ℕ) (k : Key) (v : ℕ) → Within (leaf j k v) t → value_at (map_of c.changes) k ≡ Some v
 leaf_held c law t now j k v w =

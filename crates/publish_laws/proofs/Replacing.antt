@@ -59,7 +59,7 @@ upsert layout k held x fresh j w value at has spelled holds fits there word = pu
         let is_leaf = there c stage in
         let (t, now) = newest_tree_if_spot_held (bare c) k.pass law.core.state s.spot in
         let stands : Within (leaf j x.key value) t = subst (λ (z : LeafWords). Within (leaf j z.key z.value) t) is_leaf (leaf_at (bare c) k.pass law.core.state t now x.key j s.spot).place in
-        publish_words c k.pass law known.pass at w (Some (Leaf x.number)) s.locked word.0 word.1 s.packed (replaced_change k.pass x) (Some value) (a_leaf x.number ∷ []) (a_leaf j ∷ [])
+        publish_words c (replaced_change k.pass x) law known.pass at w (Some (Leaf x.number)) s.locked word.0 word.1 s.packed (Some value) (a_leaf x.number ∷ []) (a_leaf j ∷ [])
         (upsert_at_spot (bare c) k.pass law.core.state x new j s.spot (ap (λ (z : LeafWords). z.key) is_leaf) (heap_of (stored_words c at w)) (stored_root c at w) s.stored)
         (λ f. leaf_held c law t now j x.key value stands)
 
@@ -84,9 +84,9 @@ remove layout k held news key n j height w value e words at has side below names
         let heap = heap_of (stored_words c at w) in
         let root = stored_root c at w in
         let published = remove_at_spot (bare c) k.pass law.core.state key n j seen height e z s.spot s.low heap root s.stored in
-        publish_words c k.pass law known.pass at w (Some e) s.locked word.0 word.1 s.packed change (Some value) (recs_of news) (a_node n ∷ a_leaf j ∷ [])
-        (subst (λ us. IsPublished (bare c) k.pass heap root change us (a_node n ∷ a_leaf j ∷ [])) (still ∙ made)
-        (subst (λ (y : LeafWords). IsPublished (bare c) k.pass heap root (removed_change k.pass (item j key y.value)) (linked_for_entry z) (a_node n ∷ a_leaf j ∷ [])) is_leaf published)) (λ f. f)
+        publish_words c change law known.pass at w (Some e) s.locked word.0 word.1 s.packed (Some value) (recs_of news) (a_node n ∷ a_leaf j ∷ [])
+        (subst (λ us. IsPublished (bare c) heap root change us (a_node n ∷ a_leaf j ∷ [])) (still ∙ made)
+        (subst (λ (y : LeafWords). IsPublished (bare c) heap root (removed_change k.pass (item j key y.value)) (linked_for_entry z) (a_node n ∷ a_leaf j ∷ [])) is_leaf published)) (λ f. f)
 
 pub remove_the_last : MayRemoveLast
 remove_the_last layout k held j value key has anchor there = publishes_made layout k Root 0 change (Some value) [] (a_leaf j ∷ []) has.own may
@@ -98,6 +98,6 @@ remove_the_last layout k held j value key has anchor there = publishes_made layo
     may c law layout_is known =
         let stage = stage_of layout k held [] has c law layout_is known in
         let (lock, root) = (knows_all c k known).anchor (Some (Leaf j)) anchor in
-        publish_root c k.pass law known.pass 0 None lock tt refl change (Some value) [] (a_leaf j ∷ [])
-        (subst (λ (y : LeafWords). IsPublished (bare c) k.pass (heap_of c.words) None (removed_change k.pass (item j y.key y.value)) [] (a_leaf j ∷ [])) (there c stage)
+        publish_root c change law known.pass 0 None lock tt refl (Some value) [] (a_leaf j ∷ [])
+        (subst (λ (y : LeafWords). IsPublished (bare c) (heap_of c.words) None (removed_change k.pass (item j y.key y.value)) [] (a_leaf j ∷ [])) (there c stage)
         (remove_only (bare c) k.pass law.core.state j lock root)) (λ f. f)

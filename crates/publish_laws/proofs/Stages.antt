@@ -3,10 +3,9 @@ use Rattle.std.proofs.Common.{◌≡◌, inl, inr, ℕ, ◌+◌, ◌-◌, ◌*�
 use Rattle.std.specs.Prelude.{All}
 use Rattle.compound_node.specs.declared.entries.Entry.{Entry}
 use Rattle.compound_node.specs.declared.entries.Entry.TheVariants.{Leaf, Node}
-use Rattle.compound_node.specs.Nodes.{NodeView, StandsBelow, IsLawfulNode, height_of, piece}
+use Rattle.compound_node.specs.Nodes.{NodeView, StandsBelow, height_of, piece}
 use Rattle.key_bits.specs.declared.TheConstants.{MAX_BYTES}
 use Rattle.pieces.specs.Piece.{Place, Fork, size, places}
-use Rattle.pieces.proofs.Paths.{length-places}
 use Rattle.partial_keys.specs.Shows.{ShowsPiece}
 use Rattle.record_words.specs.declared.layout.Layout.{Layout}
 use Rattle.record_words.specs.Entry.{HasEntryWord, entry_word}
@@ -44,15 +43,8 @@ use Rattle.rowex_core.proofs.Having.{node_used}
 use Rattle.rowex_core.proofs.Slots.{slot_is_stored}
 use Rattle.rowex_table.specs.Made.{Made, held_as}
 use Rattle.publish_laws.specs.Stages.{HasReady, HasLeaf, IsLockedAbove, IsStage}
-
-node_number : {n o : ℕ} → a_node n ≡ a_node o → n ≡ o
-node_number e = cc
-
-leaf_node : {n m : ℕ} → a_leaf n ≡ a_node m → ⊥
-leaf_node e = cc
-
-pub size_is : (v : NodeView) → IsLawfulNode v → size (piece v) ≡ length v.entries
-size_is v l = sym (length-places (piece v)) ∙ ap length (sym l.shows.entries_are)
+use Rattle.versions.proofs.Heaps.{node_number, leaf_node}
+use Rattle.tries.proofs.Building.{size-piece}
 
 abbrev pub node_fixed : NodeView → Fixed
 node_fixed v = record { height = v.height; columns = v.columns; rows = v.rows }
@@ -94,7 +86,7 @@ module _ (layout : Layout) (k : Known) (held : List Locked) (news : List Made) (
       let view_subtrie : (node_words_of words).subtrie ≡ piece view = ap (λ (z : NodeWords). z.subtrie) (sym now ∙ is_node) in
       let view_height : (node_words_of words).fixed.height ≡ view.height = ap (λ (z : NodeWords). z.fixed.height) (sym now ∙ is_node) in
       let inside : j < length view.entries = subst (λ i. i < length view.entries) at
-      (subst (λ q. spot key (node_words_of words).subtrie < q) (size_is view has.lawful) (subst (λ (q : Subtrie). spot key (node_words_of words).subtrie < size q) view_subtrie (spot_below key (node_words_of words).subtrie))) in
+      (subst (λ q. spot key (node_words_of words).subtrie < q) (size-piece view has.lawful) (subst (λ (q : Subtrie). spot key (node_words_of words).subtrie < size q) view_subtrie (spot_below key (node_words_of words).subtrie))) in
       let stands : StandsBelow view.height e = below_stands view.height e has.lawful.bound fits (subst (λ z. IsLowerSubtrie z (Place e)) view_height low) in
       let offset : 26 + j - 1 ≡ 25 + j = omega arith in
       let here : stored_words c (Slot o j) w (a_node o) ≡ set (c.words (a_node o)) (25 + j) (entry_word (Some e)) =
@@ -141,12 +133,12 @@ module _ (layout : Layout) (k : Known) (held : List Locked) (news : List Made) (
       record {
         fate = fate;
         words = node_is view (c.words (a_node m)) (stage.lawful.records.sized (a_node m)).1 has (sym words);
-        two = not_tip (piece view) (omega (arith, size_is view l, l.several));
+        two = not_tip (piece view) (omega (arith, size-piece view l, l.several));
         lower = lower_subtrie_from view.height (piece view) (λ e i. all_of (λ e. height_of e < view.height) e (places (piece view)) (subst (All (λ e. height_of e < view.height)) l.shows.entries_are l.above) i);
         fit = record {
           positions = l.positions;
           shows = subst (λ es. ShowsPiece view.columns view.rows es (piece view)) l.shows.entries_are l.shows;
-          room = omega (arith, size_is view l, l.room);
+          room = omega (arith, size-piece view l, l.room);
           bound = bound;
         };
       }

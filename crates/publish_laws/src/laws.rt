@@ -26,87 +26,87 @@ pub fn beside_may_lock()
     ensures { BesideMayLock }
 {}
 
-/// What a pass loads of a node that it has locked is a word of those that it holds.
-pub fn loads_of_locked()
+/// What a pass loads of a node that it has locked is one of the words that it holds of that node.
+pub fn loads_are_locked_words()
     ensures { LoadsOfLocked }
 {}
 
 /// After each act but a publish, a pin or an unpin a pass recalls all that it did before.
-pub fn act_goes_on()
+pub fn acts_keep_recall()
     ensures { ActGoesOn }
 {}
 
 // What rises
 
-/// Once one level's place alone is affected, so it is at each level above.
-pub fn above_goes_on()
+/// If an insertion affects no more of a locked node than the place of the one below, the node's first fork is before its position.
+pub fn upper_fork_is_before()
     ensures { AboveGoesOn }
 {}
 
 // Insertion
 
-/// The first key may be published at an empty root.
-pub fn first_key()
+/// A pass may publish the first key, a new leaf at an empty root.
+pub fn may_add_first_key()
     ensures { MayAddFirstKey }
 {}
 
-/// What has risen may be published at the spot of the topmost node that changes, be that in a node or at the root.
-pub fn insertion()
+/// A pass may publish what has risen, one entry, at the spot of the topmost node that changes. That is in a node, or at the root.
+pub fn may_insert()
     ensures { Insertion }
 {}
 
 /// A pass may publish a normal insert: a copy of the node with the new leaf takes the node's place, and the node is unlinked.
-pub fn normal_insert()
+pub fn may_insert_normally()
     ensures { NormalInsert }
 {}
 
 /// A pass may publish an overflow: the node is cut, and an intermediate node, or a new root, of its halves takes its place.
-pub fn overflow()
+pub fn may_overflow()
     ensures { Overflow }
 {}
 
 /// A pass may publish an overflow in which the full node stays whole beside the new leaf.
-pub fn stays_whole()
+pub fn may_keep_whole()
     ensures { StaysWhole }
 {}
 
 /// A pass may publish a pull up, over any number of levels, that ends in a copy of the node above.
-pub fn pull_up()
+pub fn may_pull_up()
     ensures { PullUp }
 {}
 
 /// A pass may publish a pull up at whose end the node above is full, and is cut in its turn.
-pub fn pull_up_overflow()
+pub fn may_pull_up_and_overflow()
     ensures { PullUpOverflow }
 {}
 
-/// A pass may publish a pair: a node of the old leaf and the new one takes the old one's place, in a node or at the root.
-pub fn pair()
+/// A pass may publish a leaf pushdown, or the second key: a node of the old leaf and the new one takes the old one's place.
+pub fn may_pair_leaves()
     ensures { MayPair }
 {}
 
 // Upsert and removal
 
 /// A pass may publish an upsert of a held key: the new leaf takes the old one's place, and the value that was held is known.
-pub fn upsert()
+pub fn may_upsert()
     ensures { MayUpsert }
 {}
 
-/// A pass may publish a removal: in the place of the locked node that names the leaf, what is left of that node. The publish unlinks node
-/// and leaf, and the value that the key had is known.
-pub fn remove()
+/// A pass may publish a removal: what is left of the locked node that names the leaf takes the node's place. The publish unlinks node and
+/// leaf, and the value that the key had is known.
+pub fn may_remove()
     ensures { MayRemove }
 {}
 
-/// A pass may publish a removal that merges: in the place of the node above, that node with one entry for two. That entry names the node of
-/// what is left beside the leaf and of the node beside it. The publish unlinks the leaf and the three nodes, and the value that the key had
-/// is known.
-pub fn merge()
+/// A pass may publish a merge: one new node has what is left beside the leaf, and the entries of the sibling. What is left of the node above
+/// takes its place, with that node as one entry for two. The publish unlinks the leaf and the three old nodes, and the value that the key
+/// had is known.
+pub fn may_merge()
     ensures { MayMerge }
 {}
 
-/// A pass may publish the removal of the last key, which leaves the root empty.
-pub fn remove_last()
+/// A pass may publish the removal of the last key, which leaves the root empty. The value that the key had is known.
+pub fn may_remove_last()
     ensures { MayRemoveLast }
 {}
 
@@ -117,37 +117,37 @@ pub fn kept_are_not_gone()
     ensures { KeptAreNotGone }
 {}
 
-/// After a publish the load of the epoch begins the end.
+/// The first load of the epoch after a publish begins its end: from then on what was unlinked may be marked with that epoch.
 pub fn end_begins()
     ensures { EndBegins }
 {}
 
-/// At the end of a publish each record that was unlinked may be marked, and is the pass's no more.
-pub fn end_marks()
+/// At the end of a publish the first record that was unlinked may be marked, and is the pass's no more.
+pub fn end_may_mark()
     ensures { EndMarks }
 {}
 
-/// At the end of a publish each node that stays may be unlocked.
-pub fn end_unlocks()
+/// At the end of a publish the first locked node may be unlocked.
+pub fn end_may_unlock_node()
     ensures { EndUnlocks }
 {}
 
 /// At the end of a publish the anchor may be unlocked.
-pub fn end_unlocks_anchor()
+pub fn end_may_unlock_anchor()
     ensures { EndUnlocksAnchor }
 {}
 
-/// The marks and the unlocks may be made in any order.
-pub fn end_in_any_order()
+/// At the end of a publish the records and the locked nodes may be taken in any order.
+pub fn end_takes_any_order()
     ensures { EndInAnyOrder }
 {}
 
-/// With no mark and no unlock left the pass has nothing of its own and no lock.
-pub fn end_rests()
+/// At the end of a publish, with no record and no locked node left, the pass has nothing of its own and no lock.
+pub fn end_leaves_nothing()
     ensures { EndRests }
 {}
 
-/// So the loops of marks and unlocks bring a pass to that end, which has seen its own change last.
-pub fn settles()
+/// A pass that has published, loaded the epoch, marked and unlocked has nothing of its own, and has seen its own change last.
+pub fn loops_leave_nothing()
     ensures { Settles }
 {}

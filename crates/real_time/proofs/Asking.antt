@@ -17,7 +17,7 @@ use Rattle.real_time.specs.Histories.{ChangesAsAsked, HasChangedOnce, replied}
 use Rattle.real_time.specs.Moments.{Happening, IsPlacedSince, IsRefusal, IsResponse, IsSoundMoment, IsWholeRun, Moment, Pending}
 use Rattle.real_time.specs.Statements.{RefusedChangeNothing, RespondersChangeAsAsked}
 use Rattle.real_time.proofs.Calling.{LegalUpTo, calls_legal}
-use Rattle.real_time.proofs.Growing.{cancelled, grown, loaded_since, longer, runs_stay_sound}
+use Rattle.real_time.proofs.Growing.{all_behind, cancelled, grown, loaded_since, longer, runs_stay_sound, parts_none}
 
 -- A pass's own changes
 
@@ -33,10 +33,10 @@ own_takes q c cs e = ap (λ b. cond b (c ∷ own_changes q cs) (own_changes q cs
 not_none : (c : Change) (cs : List Change) (P : Type 0) → c ∷ cs ≡ [] → P
 not_none c cs P e = cc
 
-head_is : (c d : Change) (cs ds : List Change) → c ∷ cs ≡ d ∷ ds → c ≡ d
+pub head_is : {X : Type 0} (c d : X) (cs ds : List X) → c ∷ cs ≡ d ∷ ds → c ≡ d
 head_is c d cs ds e = cc
 
-tail_is : (c d : Change) (cs ds : List Change) → c ∷ cs ≡ d ∷ ds → cs ≡ ds
+pub tail_is : {X : Type 0} (c d : X) (cs ds : List X) → c ∷ cs ≡ d ∷ ds → cs ≡ ds
 tail_is c d cs ds e = cc
 
 -- where none is its own, all are others'
@@ -89,10 +89,6 @@ stands_behind : (q : ℕ) (c : Change) (front first last : List Change) (i : ℕ
 stands_behind q c [] first last i low before after e is = stands_between q c first last i before after e is
 stands_behind q c (x ∷ front) first last zero low before after e is = absurd (omega arith)
 stands_behind q c (x ∷ front) first last (suc i) low before after e is = ap suc (stands_behind q c front first last i (omega arith) before after e is)
-
-parts_none : (xs ys : List Change) → xs ++ ys ≡ [] → xs ≡ []
-parts_none [] ys e = refl
-parts_none (x ∷ xs) ys e = cc
 
 parts_one : (c : Change) (xs ys : List Change) → xs ++ ys ≡ c ∷ [] → (xs ≡ []) ⊎ ((xs ≡ c ∷ []) × (ys ≡ []))
 parts_one c [] ys e = inl refl
@@ -185,17 +181,13 @@ module _ (layout : Layout) (last : ℕ) (at : ℕ → Moment) (happens : ℕ →
       looked_up : changes_of q notes ≡ [] → OthersGoOn q (at s).core.changes (at m).core.changes
       looked_up none = nothing_made q (at s).core.changes (at m).core.changes (at t).core.changes ((at s).known q).notes notes more on first second none
 
-      behind : (xs ys : List Note) → All (StandsIn (at t).core.changes q) (xs ++ ys) → All (StandsIn (at t).core.changes q) ys
-      behind [] ys h = h
-      behind (y ∷ xs) ys h = behind xs ys (All-tail (StandsIn (at t).core.changes q) y (xs ++ ys) h)
-
       one_asked : (asked : Call) → call.calls ≡ asked ∷ [] → (ms : List Note) → notes ≡ ms → map (λ n. n.call) ms ≡ asked ∷ [] → ChangesAsAsked q call.calls (at s).core.changes (at m).core.changes
       one_asked asked is [] e same = cc
       one_asked asked is (n ∷ k ∷ ms) e same = cc
       one_asked asked is (n ∷ []) e same = by (change_of q n) refl
         where
           stands : StandsIn (at t).core.changes q n
-          stands = All-head (StandsIn (at t).core.changes q) n [] (subst (All (StandsIn (at t).core.changes q)) e (behind ((at s).known q).notes notes second.each))
+          stands = All-head (StandsIn (at t).core.changes q) n [] (subst (All (StandsIn (at t).core.changes q)) e (all_behind (StandsIn (at t).core.changes q) ((at s).known q).notes notes second.each))
 
           placed : IsPlacedSince at q s t n
           placed = All-head (IsPlacedSince at q s t) n [] (subst (All (IsPlacedSince at q s t)) e x.placed)

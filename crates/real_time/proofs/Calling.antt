@@ -16,7 +16,7 @@ use Rattle.record_words.specs.declared.layout.Layout.{Layout}
 use Rattle.rowex_core.specs.declared.known.Known.{Known}
 use Rattle.real_time.specs.Histories.{answers, complete_calls}
 use Rattle.real_time.specs.Moments.{Continues, Happening, IsSoundMoment, IsWholeRun, Moment, Pending, invokes, refuses, responds, shows, steps}
-use Rattle.real_time.proofs.Growing.{cancelled, runs_stay_sound}
+use Rattle.real_time.proofs.Growing.{cancelled, runs_stay_sound, parts_none}
 use Rattle.real_time.proofs.Passes.{notes_more, notes_same, passes_below}
 
 -- Fronts
@@ -30,10 +30,6 @@ others_until : (q : ℕ) (a b c : List Change) → OthersGoOn q a c → BeginsWi
 others_until q a b c h g m =
     let same : h.0 ≡ g.0 ++ m.0 = cancelled a h.0 (g.0 ++ m.0) (sym h.1 ∙ m.1 ∙ ap (λ z. z ++ m.0) g.1 ∙ append_assoc a g.0 m.0) in
     (g.0, g.1, all_before (λ x. x.pass ≢ q) g.0 m.0 (subst (All (λ x. x.pass ≢ q)) same h.2))
-
-none_of : (xs ys : List Change) → [] ≡ xs ++ ys → xs ≡ []
-none_of [] ys e = refl
-none_of (x ∷ xs) ys e = cc
 
 module _ (at : ℕ → Moment) (q : ℕ) where
   -- between two calls a pass's notes are legal in its front, and when it invoked the call that is pending they were
@@ -155,7 +151,7 @@ module _ (layout : Layout) (last : ℕ) (at : ℕ → Moment) (happens : ℕ →
       let sound = runs_stay_sound layout last at happens run 0 within in
       let k : Known = (at 0).known q in
       let seen = (sound.knows q low).seen.front in
-      let none : k.front ≡ [] = none_of k.front seen.0 (sym run.new.changes ∙ seen.1) in
+      let none : k.front ≡ [] = parts_none k.front seen.0 (sym (sym run.new.changes ∙ seen.1)) in
       subst (LegalUpTo at q 0) (sym (run.new.pending q)) (subst (λ f. LegalCalls f q k.notes) (sym none) (subst (LegalCalls [] q) (sym (run.new.notes q)) (legal_at_first q)))
   calls_legal (suc t) within q low =
       next_legal layout at t (runs_stay_sound layout last at happens run t (omega (arith, within))) q low (happens t) (run.next t (omega (arith, within))) (calls_legal t (omega (arith, within)) q low)

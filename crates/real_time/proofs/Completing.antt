@@ -21,7 +21,7 @@ use Rattle.real_time.specs.Effects.{completion_of, completions}
 use Rattle.real_time.specs.Histories.{ChangesAsAsked, HasChangedOnce, IsAppended, AsksOneOrLooksUp, EndsWithin, PendingEndOrChangeAsAsked, replied}
 use Rattle.real_time.specs.Moments.{Happening, IsSoundMoment, IsWholeRun, Moment, Pending}
 use Rattle.real_time.specs.Statements.{IsLinearizable, Linearizable, OrderedByEffect}
-use Rattle.real_time.proofs.Asking.{refused_change_nothing, responders_change_as_asked}
+use Rattle.real_time.proofs.Asking.{head_is, tail_is, refused_change_nothing, responders_change_as_asked}
 use Rattle.real_time.proofs.Calling.{LegalUpTo, calls_legal}
 use Rattle.real_time.proofs.Growing.{grown, longer, runs_stay_sound}
 use Rattle.real_time.proofs.Makers.{legal_on, makers_behind, makers_legal}
@@ -168,14 +168,8 @@ look_ups : (q : ℕ) (notes : List Note) (keys : List (List ℕ)) → map (λ n.
 look_ups q [] keys e = refl
 look_ups q (n ∷ notes) [] e = cc
 look_ups q (n ∷ notes) (key ∷ keys) e =
-    ap (λ o. cons_option o (changes_of q notes)) (no_change q n key (first n.call (Get key) (map (λ n. n.call) notes) (map Get keys) e))
-    ∙ look_ups q notes keys (rest n.call (Get key) (map (λ n. n.call) notes) (map Get keys) e)
-  where
-    first : (a b : Call) (xs ys : List Call) → a ∷ xs ≡ b ∷ ys → a ≡ b
-    first a b xs ys e = cc
-
-    rest : (a b : Call) (xs ys : List Call) → a ∷ xs ≡ b ∷ ys → xs ≡ ys
-    rest a b xs ys e = cc
+    ap (λ o. cons_option o (changes_of q notes)) (no_change q n key (head_is n.call (Get key) (map (λ n. n.call) notes) (map Get keys) e))
+    ∙ look_ups q notes keys (tail_is n.call (Get key) (map (λ n. n.call) notes) (map Get keys) e)
 
 module _ (layout : Layout) (last later : ℕ) (at : ℕ → Moment) (happens : ℕ → Happening) (low : last ≤ later) (run : IsWholeRun layout later at happens) where
   until : IsWholeRun layout last at happens

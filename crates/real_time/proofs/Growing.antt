@@ -32,7 +32,11 @@ pub cancelled : (a xs ys : List Change) → a ++ xs ≡ a ++ ys → xs ≡ ys
 cancelled [] xs ys e = e
 cancelled (x ∷ a) xs ys e = cancelled a xs ys cc
 
-all_behind : (P : Change → Type 0) (xs ys : List Change) → All P (xs ++ ys) → All P ys
+pub parts_none : (xs ys : List Change) → xs ++ ys ≡ [] → xs ≡ []
+parts_none [] ys e = refl
+parts_none (x ∷ xs) ys e = cc
+
+pub all_behind : {X : Type 0} (P : X → Type 0) (xs ys : List X) → All P (xs ++ ys) → All P ys
 all_behind P [] ys h = h
 all_behind P (x ∷ xs) ys h = all_behind P xs ys (All-tail P x (xs ++ ys) h)
 

@@ -1,9 +1,8 @@
 -- Each reply is the map's at a moment of its call.
-use Rattle.std.proofs.Common.{◌≡◌, ℕ, ◌<◌, ◌≤◌, List, [], ◌∷◌, ◌++◌, get_or, length, take, sym, ap, subst, ◌∙◌, arith}
+use Rattle.std.proofs.Common.{◌≡◌, ℕ, ◌<◌, ◌≤◌, List, get_or, length, take, sym, ap, subst, ◌∙◌, arith}
 use Rattle.std.specs.Prelude.{All}
 use Rattle.std.proofs.Math.Seq.{take-append_seam}
 use Rattle.std.proofs.lemmas.List.{take-append-le}
-use Rattle.std.proofs.lemmas.List.Elements.{All-tail}
 use Rattle.finite_map.specs.declared.Change.{Change}
 use Rattle.finite_map.specs.declared.Note.{Note}
 use Rattle.finite_map.specs.Calls.{StandsIn}
@@ -14,12 +13,9 @@ use Rattle.rowex_core.proofs.Keeping.{seen_by}
 use Rattle.real_time.specs.Moments.{Happening, IsPlacedSince, IsWholeRun, Moment}
 use Rattle.real_time.specs.Scanning.{map_at}
 use Rattle.real_time.specs.Statements.{RepliesInTime}
+pub use Rattle.real_time.proofs.Growing.{all_behind as behind}
 use Rattle.real_time.proofs.Growing.{grown, loaded_since, longer, runs_stay_sound}
 use Rattle.real_time.proofs.Scanning.{goes_through}
-
-pub behind : (P : Note → Type 0) (xs ys : List Note) → All P (xs ++ ys) → All P ys
-behind P [] ys h = h
-behind P (x ∷ xs) ys h = behind P xs ys (All-tail P x (xs ++ ys) h)
 
 module _ (layout : Layout) (last : ℕ) (at : ℕ → Moment) (happens : ℕ → Happening) (run : IsWholeRun layout last at happens) (q t : ℕ) (below : q < layout.passes) (within : t ≤ last) where
   abbrev front : List Change

@@ -2,7 +2,7 @@
 use Rattle.std.proofs.Common.{◌≡◌, ◌≢◌, ℕ, zero, suc, ◌+◌, ◌-◌, ◌<◌, ◌≤◌, List, [], ◌∷◌, ◌++◌, length, get_or, map, Bool, cond, nat_lt, Option, Some, None, refl, sym, ap, ap₂, subst, ◌∙◌, arith, ⊎_elim, le_refl, append-nil, append_assoc}
 use Rattle.std.specs.Prelude.{All, AllPairs, IsPermutation}
 use Rattle.std.proofs.lemmas.Bool.{cases_lt, leb-true, lt-leb, lt-ltb, le-ltb}
-use Rattle.std.proofs.lemmas.List.Elements.{All-append, All-contains, All-map, All-nil, All-push, All-tail, All-weaker}
+use Rattle.std.proofs.lemmas.List.Elements.{All-append, All-contains, All-map, All-nil, All-push, All-weaker}
 use Rattle.std.proofs.lemmas.List.Quantifiers.{all_pairs_push}
 use Rattle.std.proofs.lemmas.List.Sorted.{IsPermutation-append_left, IsPermutation-sym, IsPermutation-trans}
 use Rattle.finite_map.specs.declared.Change.{Change}
@@ -18,7 +18,7 @@ use Rattle.real_time.specs.Histories.{answers, complete_calls, completed, had_re
 use Rattle.real_time.specs.Moments.{Continues, Happening, IsPlacedSince, IsResponse, IsSoundMoment, IsWholeRun, Moment, Pending, invokes, refuses, responds, shows, steps}
 use Rattle.real_time.specs.Statements.{HaveOneOrder}
 use Rattle.real_time.proofs.Calling.{LegalUpTo, calls_legal, noted-append, noted_at, notes_by, notes_complete, notes_up_to}
-use Rattle.real_time.proofs.Growing.{grown, loaded_since, longer, runs_stay_sound}
+use Rattle.real_time.proofs.Growing.{all_behind, grown, loaded_since, longer, runs_stay_sound}
 use Rattle.real_time.proofs.Hits.{all_calls}
 use Rattle.real_time.proofs.Passes.{all_legal, notes_more, notes_same, passes_below}
 
@@ -114,10 +114,6 @@ module _ (layout : Layout) (last : ℕ) (at : ℕ → Moment) (happens : ℕ →
     pub low : length (at (begun x.0)).core.changes ≤ x.1.place
     pub high : x.0 < last → place_after x.1 ≤ length (at x.0).core.changes
 
-  behind : (P : Note → Type 0) (xs ys : List Note) → All P (xs ++ ys) → All P ys
-  behind P [] ys h = h
-  behind P (x ∷ xs) ys h = behind P xs ys (All-tail P x (xs ++ ys) h)
-
   begun_is : (t : ℕ) → t < last → (h : Happening) → happens t ≡ h → begun t ≡ since_of ((at t).pending (responder h))
   begun_is t low h e = ap (λ (m : Moment). since_of (m.pending (responder (goes t)))) (stays_before t low) ∙ ap (λ g. since_of ((at t).pending (responder g))) (goes_before t low ∙ e)
 
@@ -136,7 +132,7 @@ module _ (layout : Layout) (last : ℕ) (at : ℕ → Moment) (happens : ℕ →
     early = (subst (LegalUpTo at q t) x.called (calls_legal layout last at happens run t (omega (arith, low)) q pass)).0
 
     stands : All (StandsIn ((at t).known q).front q) notes
-    stands = behind (StandsIn ((at t).known q).front q) ((at s).known q).notes notes (subst (All (StandsIn ((at t).known q).front q)) x.noted x.legal.each)
+    stands = all_behind (StandsIn ((at t).known q).front q) ((at s).known q).notes notes (subst (All (StandsIn ((at t).known q).front q)) x.noted x.legal.each)
 
     seen : length ((at t).known q).front ≤ length (at t).core.changes
     seen = longer (at t).core.changes ((at t).known q).front (seen_by (at t).core ((at t).known q) ((sound_at t (omega (arith, low))).knows q pass))

@@ -7,7 +7,7 @@ pub fn runs_stay_sound()
 {}
 
 /// The look-ups and changes of a run are linearizable.
-pub fn linearizable()
+pub fn runs_are_linearizable()
     ensures { Linearizable }
 {}
 
@@ -17,12 +17,12 @@ pub fn responders_change_as_asked()
 {}
 
 /// A call that is refused changes nothing.
-pub fn refused_change_nothing()
+pub fn refusals_change_nothing()
     ensures { RefusedChangeNothing }
 {}
 
 /// The look-ups and changes of a run have one order whatever the calls that are pending do.
-pub fn ordered_by_effect()
+pub fn runs_are_ordered_by_effect()
     ensures { OrderedByEffect }
 {}
 
@@ -32,11 +32,11 @@ pub fn runs_are_events()
 {}
 
 /// A scan shows the maps of moments between its invocation and its response.
-pub fn scans_in_time()
+pub fn scans_are_in_time()
     ensures { ScansInTime }
 {}
 
 /// Each answered call's reply is the map's at a moment between its invocation and its response.
-pub fn replies_in_time()
+pub fn replies_are_in_time()
     ensures { RepliesInTime }
 {}

@@ -24,8 +24,8 @@ use Rattle.replay_trees.specs.declared.trees.Linked.{Linked}
 use Rattle.replay_state.specs.declared.fate.Fate.{Fate as Stored}
 use Rattle.replay_state.specs.declared.fate.Fate.TheVariants.{Free as IsFree, Held as IsHeld, Ready as IsReady, InTree as IsTree, Unlinked as IsUnlinked, Marked as IsMarked}
 use Rattle.replay_state.specs.Fates.{stored_fate}
-use Rattle.replay_state.specs.Links.{AllMayCome, AllMayGo}
-use Rattle.replay_state.specs.Records.{RecordsView, AreRecordsOf, MayLink}
+use Rattle.replay_state.specs.Links.{AllMayBeLinked, AllMayBeUnlinked}
+use Rattle.replay_state.specs.Records.{RecordsView, AreRecordsOf, MayPublishTree}
 use Rattle.replay_state.specs.States.{StateView}
 use Rattle.replay_state.specs.Publishing.{IsWordStored, AreWordsPacked, MayMakeVersion}
 use Rattle.replay_state.proofs.Reading.{tree_stored}
@@ -36,8 +36,8 @@ use Rattle.replay_state.proofs.Sound.{used}
 pub refused : {b : Bool} {P M : Type 0} → b ≡ false → ((b ≡ true) ↔ P) → (M → P) → (false ≡ true → M) × (M → false ≡ true)
 refused f test from = ((λ t. absurd (false≢true t)), λ m. sym f ∙ test.1 (from m))
 
-pub linked_by : (s : RecordsView) (q : ℕ) (nodes leaves : List Bool) (b : Bool) → AllMayCome q nodes s.node_fates → AllMayCome q leaves s.leaf_fates →
-    ((b ≡ true) ↔ AllMayGo q nodes s.locks s.node_fates) → (b ≡ true → MayLink s q nodes leaves) × (MayLink s q nodes leaves → b ≡ true)
+pub linked_by : (s : RecordsView) (q : ℕ) (nodes leaves : List Bool) (b : Bool) → AllMayBeLinked q nodes s.node_fates → AllMayBeLinked q leaves s.leaf_fates →
+    ((b ≡ true) ↔ AllMayBeUnlinked q nodes s.locks s.node_fates) → (b ≡ true → MayPublishTree s q nodes leaves) × (MayPublishTree s q nodes leaves → b ≡ true)
 linked_by s q nodes leaves b come leaves_come test =
     ((λ t. record { nodes_come = come; leaves_come = leaves_come; nodes_go = test.0 t }), λ m. test.1 m.nodes_go)
 

@@ -19,7 +19,7 @@ use Rattle.replay_trees.specs.declared.trees.Linked.{Linked}
 use Rattle.replay_state.specs.declared.fate.Fate.{Fate as Stored}
 use Rattle.replay_state.specs.declared.fate.Fate.TheVariants.{Ready as IsReady, InTree as IsTree}
 use Rattle.replay_state.specs.Fates.{stored_fate}
-use Rattle.replay_state.specs.Records.{RecordsView, MayLink, AreNextRecords, words_in, fate_in}
+use Rattle.replay_state.specs.Records.{RecordsView, MayPublishTree, AreNextRecords, words_in, fate_in}
 use Rattle.replay_state.specs.States.{StateView, IsStateOf}
 use Rattle.replay_state.specs.Publishing.{IsWordStored, AreWordsPacked, MayMakeVersion, published}
 use Rattle.replay_state.proofs.Tables as table
@@ -33,13 +33,13 @@ not_true b f = elim (cases_Bool b) [ inl e ↦ absurd (f e) | inr e ↦ e ]
 module _ (s : StateView) (c : Core) (words : Rec → List ℕ) (q : ℕ) (root : Option Entry) (st : IsWordStored s c words) (linked : Linked)
     (tells : Tells (table_of s.records) (tree_of (heap_of words) root) linked) where
   -- the tests of fates say what is asked of the records
-  come_stored : (r : Rec) (f : Stored) → MayLink s.records q linked.nodes.items linked.leaves.items → fate_in s.records r ≡ Some f → flag linked r ≡ true →
+  come_stored : (r : Rec) (f : Stored) → MayPublishTree s.records q linked.nodes.items linked.leaves.items → fate_in s.records r ≡ Some f → flag linked r ≡ true →
       ((since : ℕ) × (f ≡ IsTree since)) ⊎ (f ≡ IsReady q)
   unfolding flag
   come_stored (a_node n) f m e on = m.nodes_come n f e on
   come_stored (a_leaf n) f m e on = m.leaves_come n f e on
 
-  pub all_come : IsVersion (table_of s.records) words root → MayLink s.records q linked.nodes.items linked.leaves.items →
+  pub all_come : IsVersion (table_of s.records) words root → MayPublishTree s.records q linked.nodes.items linked.leaves.items →
       (r : Rec) → IsLinked (tree_of (heap_of words) root) r → ((since : ℕ) × (c.fate r ≡ InTreeSince since)) ⊎ (c.fate r ≡ ReadyBy q)
   all_come version m r in_tree =
       let there = of_table s.records c.layout words c.fate c.lock st.at.records r (version.spelled r in_tree).0 in
@@ -47,7 +47,7 @@ module _ (s : StateView) (c : Core) (words : Rec → List ℕ) (q : ℕ) (root :
       subst (λ z. ((since : ℕ) × (z ≡ InTreeSince since)) ⊎ (z ≡ ReadyBy q)) (sym (st.at.records.fates_are r x.0 x.1))
       (comes q x.0 (come_stored r x.0 m x.1 ((linked_flag (table_of s.records) (tree_of (heap_of words) root) linked tells r).1 in_tree)))
 
-  pub all_go : MayLink s.records q linked.nodes.items linked.leaves.items → (n : ℕ) → IsInTree c n → ¬ (IsLinked (tree_of (heap_of words) root) (a_node n)) → c.lock n ≡ Some q
+  pub all_go : MayPublishTree s.records q linked.nodes.items linked.leaves.items → (n : ℕ) → IsInTree c n → ¬ (IsLinked (tree_of (heap_of words) root) (a_node n)) → c.lock n ≡ Some q
   all_go m n (since, e) out =
       let there : HasRecord c.layout (a_node n) = used c (a_node n) st.lawful (λ x. let y : Free ≡ InTreeSince since = sym x ∙ e in cc) in
       let x = table.fate_there s.records c.layout words c.fate c.lock st.at.records (a_node n) there in
@@ -55,7 +55,7 @@ module _ (s : StateView) (c : Core) (words : Rec → List ℕ) (q : ℕ) (root :
       let off = not_true (get_or linked.nodes.items n false) (λ on. out ((tells.nodes_are n).0 on)) in
       st.at.records.locks_are n y.0 y.1 ∙ (sym (get_or_from_slice_get s.records.locks n y.0 None y.1) ∙ m.nodes_go n x.0 x.1 off (since, tree_stored x.0 since (sym (st.at.records.fates_are (a_node n) x.0 x.1) ∙ e)))
 
-  pub may_link_from : MayMakeVersion c q words root → MayLink s.records q linked.nodes.items linked.leaves.items
+  pub may_link_from : MayMakeVersion c q words root → MayPublishTree s.records q linked.nodes.items linked.leaves.items
   may_link_from may = record {
     nodes_come = λ i f e on. came q f (subst (λ z. ((since : ℕ) × (z ≡ InTreeSince since)) ⊎ (z ≡ ReadyBy q)) (st.at.records.fates_are (a_node i) f e) (may.comes (a_node i) ((tells.nodes_are i).0 on)));
     leaves_come = λ i f e on. came q f (subst (λ z. ((since : ℕ) × (z ≡ InTreeSince since)) ⊎ (z ≡ ReadyBy q)) (st.at.records.fates_are (a_leaf i) f e) (may.comes (a_leaf i) ((tells.leaves_are i).0 on)));
@@ -120,7 +120,7 @@ none_read s q root read c words st packed may = read words (words_read s.records
 
 pub not_linked : (s : StateView) (q : ℕ) (root : Option Entry) (linked : Linked) →
     ((words : Rec → List ℕ) → AreWordsOf (table_of s.records) words → IsReadVersion (table_of s.records) words root (Some linked)) →
-    ¬ (MayLink s.records q linked.nodes.items linked.leaves.items) → (c : Core) (words : Rec → List ℕ) → IsWordStored s c words → AreWordsPacked c words → ¬ (MayMakeVersion c q words root)
+    ¬ (MayPublishTree s.records q linked.nodes.items linked.leaves.items) → (c : Core) (words : Rec → List ℕ) → IsWordStored s c words → AreWordsPacked c words → ¬ (MayMakeVersion c q words root)
 not_linked s q root linked read fails c words st packed may =
     fails (may_link_from s c words q root st linked (read words (words_read s.records c.layout words c.fate c.lock st.at.records)).1 may)
 
@@ -134,7 +134,7 @@ not_changed s q root linked read none c words st packed may =
 
 pub publishes : (s : StateView) (q : ℕ) (root : Option Entry) (linked : Linked) (x : Change) (now : ℕ) (t : RecordsView) →
     ((words : Rec → List ℕ) → AreWordsOf (table_of s.records) words → IsReadVersion (table_of s.records) words root (Some linked)) →
-    MayLink s.records q linked.nodes.items linked.leaves.items →
+    MayPublishTree s.records q linked.nodes.items linked.leaves.items →
     (AreSame (map read_item s.items) (map read_item linked.items.items) → IsFoundChange q (map read_item s.items) (map read_item linked.items.items) (Some x)) →
     now ≡ length s.changes → AreNextRecords now q linked.nodes.items linked.leaves.items s.records t → (c : Core) (words : Rec → List ℕ) → IsWordStored s c words →
     MayMakeVersion c q words root × IsStateOf (record s { records = t; root = root; changes = s.changes ++ x ∷ []; items = linked.items.items }) (published c q words root)

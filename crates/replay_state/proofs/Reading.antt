@@ -1,8 +1,8 @@
 -- What a replay stores, and what the core says that it is at.
-use Rattle.std.proofs.Common.{◌≡◌, ◌+◌, ◌*◌, ◌^◌, ◌<◌, ◌≤◌, ℕ, Option, Some, None, option_map, option_and_then, refl, sym, ap, ◌∙◌, arith, List}
+use Rattle.std.proofs.Common.{◌≡◌, ◌<◌, ℕ, Option, Some, None, option_map, option_and_then, refl, sym, ap, ◌∙◌, List}
 use Rattle.std.proofs.lemmas.Option.{same_Some, none-some}
 use Rattle.record_words.specs.declared.state.Tag.{Tag}
-use Rattle.record_words.specs.State.{HasStateWord, state_word}
+use Rattle.record_words.specs.State.{state_word}
 use Rattle.versions.specs.declared.Rec.{Rec}
 use Rattle.versions.specs.declared.Rec.TheVariants.{Node as a_node, Leaf as a_leaf}
 use Rattle.versions.specs.Core.{Fate, Free, Held, Ready, InTree, Unlinked, Marked}
@@ -14,6 +14,7 @@ use Rattle.replay_state.specs.Fates.{stored_fate}
 use Rattle.replay_state.specs.Records.{HasState, words_in, fate_in, lock_in, AreRecordsOf, RecordsView}
 use Rattle.replay_state.specs.States.{StateView, IsStateOf}
 use Rattle.replay_state.proofs.Tables as table
+use Rattle.rowex_core.proofs.States.{has_state_word}
 
 -- ---- a stored fate is that of one fate
 
@@ -67,18 +68,6 @@ tag_parts (Some f) (Some o) t e = (f, o, refl, refl, same_Some (tag_of o (stored
 tag_parts (Some f) None t e = absurd (none-some t e)
 tag_parts None lo t e = absurd (none-some t e)
 
--- a fate of a lawful core has a state word
-pub has_word : (o : Option ℕ) (f : Fate) → ((since last epoch : ℕ) → f ≡ Marked since last epoch → (1 ≤ epoch) × (epoch < 2 ^ 60)) → HasStateWord (tag_of o f)
-has_word o Free h = tt
-has_word o (Held q) h = tt
-has_word None (Ready q) h = tt
-has_word (Some p) (Ready q) h = tt
-has_word None (InTree i) h = tt
-has_word (Some p) (InTree i) h = tt
-has_word None (Unlinked i l q) h = tt
-has_word (Some p) (Unlinked i l q) h = tt
-has_word o (Marked i l s) h = h i l s refl
-
 pub state_from : (s : StateView) (c : Core) → IsStateOf s c → (r : Rec) (w : ℕ) → HasState s.records r w → HasRecord c.layout r × (w ≡ state_at c r)
 state_from s c h r w (t, e, fits, is) =
     let (f, o, a, b, x) = tag_parts (fate_in s.records r) (lock_in s.records r) t e in
@@ -90,22 +79,9 @@ state_is s c lawful h r w there is =
     let x = fate_from s c h r there in (
       tag_of (lock_of c r) (c.fate r),
       rw (x.1, lock_from s c h r there) (ap (λ z. Some (tag_of (lock_of c r) z)) (sym x.2)),
-      has_word (lock_of c r) (c.fate r) (lawful.epochs.marked r),
+      has_state_word (lock_of c r) (c.fate r) (lawful.epochs.marked r),
       sym is,
     )
-
--- which states have the words 0 and 2
-
-pub word_0 : (o : Option ℕ) (f : Fate) → 0 ≡ state_word (tag_of o f) → f ≡ Free
-word_0 o Free e = refl
-word_0 o (Held q) e = absurd (let x : 0 ≡ 1 = e in omega (arith, x))
-word_0 None (Ready q) e = absurd (let x : 0 ≡ 2 = e in omega (arith, x))
-word_0 (Some p) (Ready q) e = absurd (let x : 0 ≡ 3 = e in omega (arith, x))
-word_0 None (InTree i) e = absurd (let x : 0 ≡ 2 = e in omega (arith, x))
-word_0 (Some p) (InTree i) e = absurd (let x : 0 ≡ 3 = e in omega (arith, x))
-word_0 None (Unlinked i l q) e = absurd (let x : 0 ≡ 2 = e in omega (arith, x))
-word_0 (Some p) (Unlinked i l q) e = absurd (let x : 0 ≡ 3 = e in omega (arith, x))
-word_0 o (Marked i l s) e = absurd (let x : 0 ≡ 8 * s + 4 = e in omega (arith, x))
 
 -- the replay with other records is at the core with what these stand for
 pub with_records_is : (s : StateView) (c : Core) → IsStateOf s c → (t : RecordsView) (words : Rec → List ℕ) (fate : Rec → Fate) (lock : ℕ → Option ℕ) →

@@ -14,8 +14,9 @@ use Rattle.replay_state.specs.Fates.{stored_fate}
 use Rattle.replay_state.specs.Records.{RecordsView, HasState, IsPackedIn, words_in, fate_in, with_fate_in, with_words_in}
 use Rattle.replay_state.specs.States.{StateView, IsStateOf}
 use Rattle.replay_state.proofs.Tables as table
-use Rattle.replay_state.proofs.Reading.{held_at, state_from, state_is, word_0, words_from, with_records_is}
+use Rattle.replay_state.proofs.Reading.{held_at, state_from, state_is, words_from, with_records_is}
 use Rattle.versions.specs.Steps.{with_fate}
+use Rattle.rowex_core.proofs.States.{free_tag}
 
 -- the replay with one fate changed is at the core with that fate changed
 pub with_fate_is : (s : StateView) (c : Core) → IsStateOf s c → (r : Rec) (g : Stored) → IsStateOf (record s { records = with_fate_in s.records r g }) (record c { shared = with_fate c.shared r (stored_fate g) })
@@ -38,7 +39,7 @@ pub claims : (s : StateView) (q : ℕ) (r : Rec) (w : ℕ) → HasState s.record
     LegalAct c q (Claim r w) × IsStateOf (record s { records = with_fate_in s.records r (IsHeld q) }) (after c q (Claim r w))
 claims s q r w has zero_is c lawful h =
     let x = state_from s c h r w has in
-    (x, claim_taken s c q r (c.fate r) (word_0 (lock_of c r) (c.fate r) (sym zero_is ∙ x.1)) h)
+    (x, claim_taken s c q r (c.fate r) (free_tag (lock_of c r) (c.fate r) (sym x.1 ∙ zero_is)) h)
 
 pub claims_nothing : (s : StateView) (q : ℕ) (r : Rec) (w : ℕ) → HasState s.records r w → w ≢ 0 → (c : Core) → ∥ IsLawful c ∥₁ → IsStateOf s c →
     LegalAct c q (Claim r w) × IsStateOf s (after c q (Claim r w))

@@ -10,20 +10,20 @@ abbrev pub IsStoredInTree : Stored → Type 0
 IsStoredInTree f = (since : ℕ) × (f ≡ InTree since)
 
 -- what is linked is in the tree, or pass q has made it ready
-abbrev pub MayCome : ℕ → Bool → Stored → Type 0
-MayCome q linked f = linked ≡ true → IsStoredInTree f ⊎ (f ≡ Ready q)
+abbrev pub MayBeLinked : ℕ → Bool → Stored → Type 0
+MayBeLinked q linked f = linked ≡ true → IsStoredInTree f ⊎ (f ≡ Ready q)
 
 -- what is in the tree is linked, or pass q has locked it
-abbrev pub MayGo : ℕ → Bool → Option ℕ → Stored → Type 0
-MayGo q linked lock f = linked ≡ false → IsStoredInTree f → lock ≡ Some q
+abbrev pub MayBeUnlinked : ℕ → Bool → Option ℕ → Stored → Type 0
+MayBeUnlinked q linked lock f = linked ≡ false → IsStoredInTree f → lock ≡ Some q
 
 -- so it is with each of these
-abbrev pub AllMayCome : ℕ → List Bool → List Stored → Type 0
-AllMayCome q linked fates = (i : ℕ) (f : Stored) → slice_get fates i ≡ Some f → MayCome q (get_or linked i false) f
+abbrev pub AllMayBeLinked : ℕ → List Bool → List Stored → Type 0
+AllMayBeLinked q linked fates = (i : ℕ) (f : Stored) → slice_get fates i ≡ Some f → MayBeLinked q (get_or linked i false) f
 
-abbrev pub AllMayGo : ℕ → List Bool → List (Option ℕ) → List Stored → Type 0
-AllMayGo q linked locks fates =
-    (i : ℕ) (f : Stored) → slice_get fates i ≡ Some f → MayGo q (get_or linked i false) (get_or locks i None) f
+abbrev pub AllMayBeUnlinked : ℕ → List Bool → List (Option ℕ) → List Stored → Type 0
+AllMayBeUnlinked q linked locks fates =
+    (i : ℕ) (f : Stored) → slice_get fates i ≡ Some f → MayBeUnlinked q (get_or linked i false) (get_or locks i None) f
 
 -- the fates after a publish by pass q in version `now`
 abbrev pub AreNextFates : ℕ → ℕ → List Bool → List Stored → List Stored → Type 0

@@ -11,7 +11,7 @@ use Rattle.rowex_core.specs.Reading.{IsPacked}
 use Rattle.rowex_core.specs.Words.{tag_of}
 use Rattle.replay_state.specs.declared.fate.Fate.{Fate as Stored}
 use Rattle.replay_state.specs.Fates.{stored_fate}
-use Rattle.replay_state.specs.Links.{AllMayCome, AllMayGo, AreNextFates}
+use Rattle.replay_state.specs.Links.{AllMayBeLinked, AllMayBeUnlinked, AreNextFates}
 
 -- the table's layout; of each node its words but the state, its fate and its lock; of each leaf its words but the state, and its fate
 pub record RecordsView : Type 0 where
@@ -71,10 +71,10 @@ with_words_in s (a_node n) words = record s { nodes = set s.nodes n words }
 with_words_in s (a_leaf n) words = record s { leaves = set s.leaves n words }
 
 -- fates and locks allow pass q to publish a tree that links these nodes and leaves and no other
-pub record MayLink (s : RecordsView) (q : ℕ) (nodes leaves : List Bool) : Type 0 where
-  pub nodes_come : AllMayCome q nodes s.node_fates
-  pub leaves_come : AllMayCome q leaves s.leaf_fates
-  pub nodes_go : AllMayGo q nodes s.locks s.node_fates
+pub record MayPublishTree (s : RecordsView) (q : ℕ) (nodes leaves : List Bool) : Type 0 where
+  pub nodes_come : AllMayBeLinked q nodes s.node_fates
+  pub leaves_come : AllMayBeLinked q leaves s.leaf_fates
+  pub nodes_go : AllMayBeUnlinked q nodes s.locks s.node_fates
 
 -- from the first records to the second fates alone have changed, as a publish changes them
 pub record AreNextRecords (now q : ℕ) (nodes leaves : List Bool) (s t : RecordsView) : Type 0 where

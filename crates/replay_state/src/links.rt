@@ -3,15 +3,14 @@
 ghost use Rattle.std.specs.Prelude.{◌≡◌, ◌↔◌, ◌+◌, ◌<◌, ◌^◌, IsTrue, None, false, get_or};
 ghost use Rattle.versions.specs.Steps.{next_fate};
 ghost use Rattle.replay_state.specs.Fates.{stored_fate};
-ghost use Rattle.replay_state.specs.Links.{AllMayCome, AllMayGo, AreNextFates, MayCome, MayGo};
+ghost use Rattle.replay_state.specs.Links.{AllMayBeLinked, AllMayBeUnlinked, AreNextFates, MayBeLinked, MayBeUnlinked};
 
 use crate::fate::Fate;
 
 impl Fate {
-    /// Whether `pass` may publish a tree of which `is_linked` says whether it links a record of this fate. What it links must be in the tree
-    /// already, or made ready by `pass`.
+    /// Whether `pass` may publish a tree that links this record: it is in the tree, or ready by `pass`. `true` unless `is_linked`.
     fn may_be_linked(self, pass: u16, is_linked: bool) -> bool
-        ensures { IsTrue result ↔ MayCome pass is_linked self }
+        ensures { IsTrue result ↔ MayBeLinked pass is_linked self }
     {
         match self {
             Fate::InTree { .. } => true,
@@ -20,10 +19,9 @@ impl Fate {
         }
     }
 
-    /// Whether `pass` may publish a tree of which `is_linked` says whether it links a node of this fate. What is in the tree and isn't linked
-    /// must be locked by `pass`; `lock` is the pass that has locked it, if any.
+    /// Whether `pass` may publish a tree without this node: it isn't in the tree, or `lock` is `pass`. `true` if `is_linked`.
     fn may_be_unlinked(self, pass: u16, is_linked: bool, lock: Option<u16>) -> bool
-        ensures { IsTrue result ↔ MayGo pass is_linked lock self }
+        ensures { IsTrue result ↔ MayBeUnlinked pass is_linked lock self }
     {
         match self {
             Fate::InTree { .. } => is_linked || lock == Some(pass),
@@ -50,8 +48,8 @@ impl Fate {
 }
 
 /// Whether `pass` may publish a tree that links just those of these records that `linked` marks, as `may_be_linked` says of each.
-pub(crate) fn all_may_be_linked(fates: &[Fate], pass: u16, linked: &[bool]) -> bool
-    ensures { IsTrue result ↔ AllMayCome pass linked.now fates.now }
+pub(crate) fn may_link(fates: &[Fate], pass: u16, linked: &[bool]) -> bool
+    ensures { IsTrue result ↔ AllMayBeLinked pass linked.now fates.now }
 {
     for (i, fate) in fates.iter().enumerate() {
         if !fate.may_be_linked(pass, flag_at(linked, i)) {
@@ -61,15 +59,9 @@ pub(crate) fn all_may_be_linked(fates: &[Fate], pass: u16, linked: &[bool]) -> b
     true
 }
 
-/// Whether `pass` may publish a tree that links just those of these nodes that `linked` marks, as `may_be_unlinked` says of each. Node `i`
-/// has fate `fates[i]` and lock `locks[i]`.
-pub(crate) fn all_may_be_unlinked(
-    fates: &[Fate],
-    locks: &[Option<u16>],
-    pass: u16,
-    linked: &[bool],
-) -> bool
-    ensures { IsTrue result ↔ AllMayGo pass linked.now locks.now fates.now }
+/// Whether `pass` may publish a tree that links just those of these nodes that `linked` marks, as `may_be_unlinked` says of each.
+pub(crate) fn may_unlink(fates: &[Fate], locks: &[Option<u16>], pass: u16, linked: &[bool]) -> bool
+    ensures { IsTrue result ↔ AllMayBeUnlinked pass linked.now locks.now fates.now }
 {
     for (i, fate) in fates.iter().enumerate() {
         if !fate.may_be_unlinked(pass, flag_at(linked, i), lock_at(locks, i)) {

@@ -19,8 +19,7 @@ impl State {
         self.anchor == Some(pass)
     }
 
-    /// Tries to lock `target` for `pass`, and finds the state word `found` there; it is locked if it was unlocked. Returns whether that is
-    /// legal; if not, nothing changes.
+    /// Locks `target` if it is unlocked; `found` is its state word before. Returns whether that is legal; if not, nothing changes.
     pub(crate) fn lock(&mut self, pass: u16, target: Target, found: u64) -> bool
         ensures { IsStepped result self.old self.new pass (Lock target found) }
     {

@@ -39,11 +39,11 @@ impl PassState {
         ensures { result ≡ in_round self epoch version }
     {
         PassState {
-            pin: self.pin,
             epoch,
             version,
             bound: epoch,
             seen: [false; PASSES],
+            ..self
         }
     }
 
@@ -60,11 +60,9 @@ impl PassState {
             Some(word) => self.bound.min(word),
         };
         PassState {
-            pin: self.pin,
-            epoch: self.epoch,
-            version: self.version,
             bound,
             seen,
+            ..self
         }
     }
 
@@ -77,7 +75,7 @@ impl PassState {
 
     /// Whether no pass can reach what was marked with `epoch`: that is below the bound of the round, which has loaded the pins of the first
     /// `passes` passes.
-    pub(crate) fn is_out_of_reach(&self, epoch: u64, passes: usize) -> bool
+    pub(crate) fn is_unreachable(&self, epoch: u64, passes: usize) -> bool
         ensures { IsTrue result ↔ IsOutOfReach self.now epoch passes }
     {
         if epoch < 1 || epoch >= self.bound {

@@ -106,7 +106,10 @@ impl State {
         let Some(linked) = read_tree(self.alloc, nodes, leaves, root)? else {
             return Ok(false);
         };
-        if !self.records.may_link(pass, &linked.nodes, &linked.leaves) {
+        if !self
+            .records
+            .may_publish(pass, &linked.nodes, &linked.leaves)
+        {
             return Ok(false);
         }
         let before = self.items.as_slice();

@@ -13,8 +13,7 @@ use record_words::{FIRST_ENTRY, Layout, NODE_WORDS, Tag, pack_state};
 use rowex_core::Rec;
 
 impl State {
-    /// Tries to claim `rec` for `pass`, and finds the state word `found` there; the pass holds the record if it was free. Returns whether
-    /// that is legal; if not, nothing changes.
+    /// Claims `rec` if it is free; `found` is its state word before. Returns whether that is legal; if not, nothing changes.
     pub(crate) fn claim(&mut self, pass: u16, rec: Rec, found: u64) -> bool
         ensures { IsStepped result self.old self.new pass (Claim rec found) }
     {
@@ -66,7 +65,7 @@ impl State {
         requires { pass < length self.old.passes }
         ensures { IsStepped result self.old self.new pass (Mark rec epoch) }
     {
-        let own = self.own_state(pass);
+        let own = self.state_of(pass);
         let Some(Fate::Unlinked { since, last, by }) = self.records.fate(rec) else {
             return false;
         };
@@ -78,16 +77,13 @@ impl State {
         true
     }
 
-    /// Tries to free `rec`, and finds the state word `found` there; it is freed if it is marked with `epoch`. That epoch must be below the
-    /// bound of the pass's round over all pins. Returns whether that is legal; if not, nothing changes.
+    /// Frees `rec` if it is marked with `epoch`, below the bound of the pass's round over all pins; `found` is its state word before. Returns
+    /// whether that is legal; if not, nothing changes.
     pub(crate) fn give_back(&mut self, pass: u16, rec: Rec, epoch: u64, found: u64) -> bool
         requires { pass < length self.old.passes }
         ensures { IsStepped result self.old self.new pass (GiveBack rec epoch found) }
     {
-        if !self
-            .own_state(pass)
-            .is_out_of_reach(epoch, self.passes.len())
-        {
+        if !self.state_of(pass).is_unreachable(epoch, self.passes.len()) {
             return false;
         }
         if !self.records.has_state(rec, found) {

@@ -7,7 +7,7 @@ ghost use Rattle.replay_state.specs.declared.fate.Fate.TheVariants.{Held, InTree
 ghost use Rattle.versions.specs.declared.Rec.TheVariants.{Node as a_node, Leaf as a_leaf};
 
 use crate::fate::Fate;
-use crate::links::{all_may_be_linked, all_may_be_unlinked, update_each_fate};
+use crate::links::{may_link, may_unlink, update_each_fate};
 use record_words::{LEAF_FIELDS, Layout, NODE_FIELDS, Tag, unpack_state};
 use replay_trees::{unpack_leaf, unpack_node};
 use rowex_core::Rec;
@@ -42,7 +42,7 @@ impl Model for Records {
 
 impl Records {
     ghost use Rattle.rowex_core.specs.Opening.{opening};
-    ghost use Rattle.replay_state.specs.Records.{AreRecordsOf, HasState, AreNextRecords, MayLink, HasWordStored, IsPackedIn, fate_in, lock_in, marked_in, tag_in, words_in, with_fate_in, with_lock_in, with_words_in};
+    ghost use Rattle.replay_state.specs.Records.{AreRecordsOf, HasState, AreNextRecords, MayPublishTree, HasWordStored, IsPackedIn, fate_in, lock_in, marked_in, tag_in, words_in, with_fate_in, with_lock_in, with_words_in};
 
     /// Free records of a table of `layout`: all words are 0, and nothing is locked. An error if memory is refused.
     pub(crate) fn new(alloc: Global, layout: Layout) -> Result<Records, AllocError>
@@ -126,16 +126,16 @@ impl Records {
 
     /// Whether fates and locks allow `pass` to publish a tree that links just the nodes and leaves that `nodes` and `leaves` mark. A record
     /// past the last flag isn't linked.
-    pub(crate) fn may_link(&self, pass: u16, nodes: &[bool], leaves: &[bool]) -> bool
-        ensures { IsTrue result ↔ MayLink self.now pass nodes.now leaves.now }
+    pub(crate) fn may_publish(&self, pass: u16, nodes: &[bool], leaves: &[bool]) -> bool
+        ensures { IsTrue result ↔ MayPublishTree self.now pass nodes.now leaves.now }
     {
-        if !all_may_be_linked(&self.node_fates, pass, nodes) {
+        if !may_link(&self.node_fates, pass, nodes) {
             return false;
         }
-        if !all_may_be_linked(&self.leaf_fates, pass, leaves) {
+        if !may_link(&self.leaf_fates, pass, leaves) {
             return false;
         }
-        all_may_be_unlinked(&self.node_fates, &self.locks, pass, nodes)
+        may_unlink(&self.node_fates, &self.locks, pass, nodes)
     }
 
     /// Gives each record its fate after `pass` has published version `now + 1`, which links just the nodes and leaves that `nodes` and

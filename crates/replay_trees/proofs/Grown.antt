@@ -12,6 +12,7 @@ use Rattle.replay_trees.specs.declared.trees.Item.{Item as ReadItem}
 use Rattle.replay_trees.specs.declared.trees.Linked.{Linked}
 use Rattle.replay_trees.specs.Versions.{read_item}
 use Rattle.replay_trees.specs.Parts.{GrowsBy}
+use Rattle.versions.proofs.Heaps.{leaf_number, node_number}
 
 -- a mark set
 marked : (xs : List Bool) (n m : ℕ) → n < length xs → (get_or (set xs n true) m false ≡ true) ↔ ((get_or xs m false ≡ true) ⊎ (m ≡ n))
@@ -24,12 +25,6 @@ marked xs n m h = go (cases_eq m n)
         back : (get_or xs m false ≡ true) ⊎ (m ≡ n) → get_or (set xs n true) m false ≡ true
         back (inl x) = get_or-set_other xs n m true false e ∙ x
         back (inr x) = absurd (e x)
-
-same_leaf : {n m : ℕ} → a_leaf n ≡ a_leaf m → n ≡ m
-same_leaf e = cc
-
-same_node : {n m : ℕ} → a_node n ≡ a_node m → n ≡ m
-same_node e = cc
 
 pub leaf_grown : (old new : Linked) (n : ℕ) (k : Key) (v : ℕ) → new.items.items ≡ old.items.items ++ record { number = n; key = k; value = v } ∷ [] → new.nodes ≡ old.nodes →
     new.leaves.items ≡ set old.leaves.items n true → n < length old.leaves.items → GrowsBy (leaf n k v) old new
@@ -48,7 +43,7 @@ leaf_grown old new n k v items_are nodes_are leaves_are h = record {
       where
         back : (m : ℕ) → (get_or old.leaves.items m false ≡ true) ⊎ (a_leaf m ≡ a_leaf n) → get_or (set old.leaves.items n true) m false ≡ true
         back m (inl x) = (marked old.leaves.items n m h).1 (inl x)
-        back m (inr e) = (marked old.leaves.items n m h).1 (inr (same_leaf e))
+        back m (inr e) = (marked old.leaves.items n m h).1 (inr (leaf_number e))
 
 -- The mark of a node, and then what its body links.
 pub node_grown : (old mid new : Linked) (n : ℕ) (x : HeadView) (b : Tree) → mid.items ≡ old.items → mid.nodes.items ≡ set old.nodes.items n true → mid.leaves ≡ old.leaves →
@@ -65,7 +60,7 @@ node_grown old mid new n x b items_are nodes_are leaves_are h g = record {
 
     back : (m : ℕ) → (get_or old.nodes.items m false ≡ true) ⊎ ((a_node m ≡ a_node n) ⊎ Links b (a_node m)) → (get_or mid.nodes.items m false ≡ true) ⊎ Links b (a_node m)
     back m (inl y) = inl (subst (λ z. get_or z m false ≡ true) (sym nodes_are) ((marked old.nodes.items n m h).1 (inl y)))
-    back m (inr (inl e)) = inl (subst (λ z. get_or z m false ≡ true) (sym nodes_are) ((marked old.nodes.items n m h).1 (inr (same_node e))))
+    back m (inr (inl e)) = inl (subst (λ z. get_or z m false ≡ true) (sym nodes_are) ((marked old.nodes.items n m h).1 (inr (node_number e))))
     back m (inr (inr y)) = inr y
 
     leaf_into : (m : ℕ) → (get_or mid.leaves.items m false ≡ true) ⊎ Links b (a_leaf m) → (get_or old.leaves.items m false ≡ true) ⊎ ((a_leaf m ≡ a_node n) ⊎ Links b (a_leaf m))

@@ -1,5 +1,5 @@
 -- What was read from a root, and whether it is a lawful version.
-use Rattle.std.proofs.Common.{◌≡◌, ◌⊎◌, ◌↔◌, inl, inr, ℕ, ◌<◌, ◌≤◌, List, [], ◌++◌, Bool, true, false, length, get_or, map, replicate, Option, Some, None, refl, ap, sym, ◌∙◌, subst, arith}
+use Rattle.std.proofs.Common.{◌≡◌, ◌⊎◌, ◌↔◌, inl, inr, ℕ, List, [], ◌++◌, Bool, true, false, length, get_or, map, replicate, Option, Some, None, refl, ap, sym, ◌∙◌, subst, arith}
 use Rattle.std.proofs.lemmas.Bool.{false≢true, cases_lt}
 use Rattle.std.proofs.lemmas.List.{get_or-replicate, get_or_past, length-replicate}
 use Rattle.pieces.specs.Piece.{Place}
@@ -28,11 +28,7 @@ pub record IsEmpty (table : Table) (linked : Linked) : Type 0 where
   pub leaves_are : linked.leaves.items ≡ replicate (length table.leaves) false
 
 unmarked : (n m : ℕ) → get_or (replicate n false) m false ≡ true → ⊥
-unmarked n m e = go (cases_lt m n)
-  where
-    go : (m < n) ⊎ (n ≤ m) → ⊥
-    go (inl h) = false≢true (sym (get_or-replicate n m false false h) ∙ e)
-    go (inr h) = false≢true (sym (get_or_past (replicate n false) m false (let l = length-replicate {A = Bool} n false in omega arith)) ∙ e)
+unmarked n m e = elim (cases_lt m n) [ inl h ↦ false≢true (sym (get_or-replicate n m false false h) ∙ e) | inr h ↦ false≢true (sym (get_or_past (replicate n false) m false (let l = length-replicate {A = Bool} n false in omega arith)) ∙ e) ]
 
 no_mark : (marks : List Bool) (n m : ℕ) → marks ≡ replicate n false → get_or marks m false ≡ true → ⊥
 no_mark marks n m i e = unmarked n m (subst (λ z. get_or z m false ≡ true) i e)

@@ -44,12 +44,12 @@ pub record GrowsBy (t : Tree) (old new : Linked) : Type 0 where
   pub nodes_are : (n : ℕ) → (slice_index_or new.nodes.items n false ≡ true) ↔ ((slice_index_or old.nodes.items n false ≡ true) ⊎ Links t (a_node n))
   pub leaves_are : (n : ℕ) → (slice_index_or new.leaves.items n false ≡ true) ↔ ((slice_index_or old.leaves.items n false ≡ true) ⊎ Links t (a_leaf n))
 
--- A tree of which this holds was read, exactly where there is one; and what is told has grown by it.
+-- A tree of which this holds was read exactly where there is one, and what is told has grown by it.
 abbrev pub IsTreeRead : (Tree → Type 0) → Bool → Linked → Linked → Type 0
 IsTreeRead shows true old new = (t : Tree) × shows t × GrowsBy t old new
 IsTreeRead shows false old new = (t : Tree) → ¬ (shows t)
 
--- So a part was read, of a subtrie for which that holds, in whichever words the words of the table's records may be.
+-- A part of a tree was read, for a subtrie of which `is` holds, exactly where the words show one: whatever words the table's are part of.
 abbrev pub IsPartRead : Table → ℕ → (Subtrie → Type 0) → Bool → Linked → Linked → Type 0
 IsPartRead table least is good old new = (words : Rec → List ℕ) → AreWordsOf table words → (p : Subtrie) → is p → IsTreeRead (ShowsPart table words least p) good old new
 

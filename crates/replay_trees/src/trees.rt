@@ -25,12 +25,10 @@ pub struct Linked {
     pub leaves: Vec<bool>,
 }
 
-/// Reads the tree that the words of a table's records show from a root entry, and tells what it links. `None` exactly
-/// where they show no lawful tree, or one that links a record outside the table or one whose words spell no value. Only
-/// a growth that is refused is an error.
+/// What the tree links that the words of a table's records, each from offset 1 on, show from the entry `root`. `None` if they show no
+/// lawful tree, or one that links a record outside the table or one whose words spell no value. An error if memory is refused.
 ///
-/// The words of a record are those from offset 1 on. The time is linear in the tree; what is not lawful is left at the
-/// first fault.
+/// The time is linear in the tree; what is not lawful is left at the first fault.
 pub fn read_tree(
     alloc: Global,
     nodes: &[[u64; NODE_FIELDS]],

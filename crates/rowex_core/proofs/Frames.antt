@@ -1,5 +1,5 @@
 -- Each legal step of one pass leaves to another what it knows.
-use Rattle.std.proofs.Common.{◌≡◌, ◌≢◌, ◌⊎◌, inl, inr, ℕ, suc, List, [], ◌∷◌, true, false, if◌then◌else◌, nat_eq, eqb, Option, Some, None, refl, sym, ap, ◌∙◌, subst, arith, le_refl}
+use Rattle.std.proofs.Common.{◌≡◌, ◌≢◌, ◌⊎◌, inl, inr, ℕ, suc, List, [], ◌∷◌, true, false, eqb, Option, Some, None, refl, sym, ap, ◌∙◌, subst, arith, le_refl}
 use Rattle.std.proofs.lemmas.Bool.{eqb-true, cases_Bool}
 use Rattle.std.proofs.lemmas.List.Elements.{All-from_recursion}
 use Rattle.finite_map.specs.Fronts.{OthersGoOn}
@@ -67,14 +67,7 @@ round_frame c p q o ne = quiet q c _ refl refl refl (same_share (λ r. refl) (λ
 
 -- the epoch
 pub advance_frame : (c : Core) (q expected : ℕ) → IsFrame q c (record c { shared = advanced c.shared expected })
-advance_frame c q expected = go (cases_Bool (eqb c.epoch expected))
-  where
-    go : ((eqb c.epoch expected ≡ true) ⊎ (eqb c.epoch expected ≡ false)) → IsFrame q c (record c { shared = advanced c.shared expected })
-    go (inl e) = rw e (quiet q c _ refl refl refl refl)
-    go (inr e) = rw e (unchanged q c)
-
-some_pass_injective : {p q : ℕ} → Some p ≡ Some q → p ≡ q
-some_pass_injective e = cc
+advance_frame c q expected = elim (cases_Bool (eqb c.epoch expected)) [ inl e ↦ rw e (quiet q c _ refl refl refl refl) | inr e ↦ rw e (unchanged q c) ]
 
 -- another has it
 not_by : {p q : ℕ} (o : Option ℕ) → p ≢ q → o ≡ Some p → is_by q o ≡ false
@@ -85,11 +78,7 @@ claim_frame c p q r Free ne e = fate_frame c q r (Held p) Free e refl refl (rw (
 claim_frame c p q r _ ne e = unchanged q c
 
 pub give_back_frame : (c : Core) (q : ℕ) (r : Rec) (epoch : ℕ) (f : Fate) → c.fate r ≡ f → IsFrame q c (record c { shared = given_back c.shared r epoch f })
-give_back_frame c q r epoch (Marked s l m) e = go (cases_Bool (eqb m epoch))
-  where
-    go : ((eqb m epoch ≡ true) ⊎ (eqb m epoch ≡ false)) → IsFrame q c (record c { shared = if nat_eq m epoch then with_fate c.shared r Free else c.shared })
-    go (inl x) = rw x (fate_frame c q r Free (Marked s l m) e refl refl refl)
-    go (inr x) = rw x (unchanged q c)
+give_back_frame c q r epoch (Marked s l m) e = elim (cases_Bool (eqb m epoch)) [ inl x ↦ rw x (fate_frame c q r Free (Marked s l m) e refl refl refl) | inr x ↦ rw x (unchanged q c) ]
 give_back_frame c q r epoch _ e = unchanged q c
 
 mark_frame : (c : Core) (p q : ℕ) (r : Rec) (epoch since last : ℕ) → p ≢ q → c.fate r ≡ Unlinked since last p → IsFrame q c (record c { shared = marked c.shared r epoch (c.fate r) })

@@ -66,7 +66,7 @@ version_has : (t : Option Tree) (r : Rec) → IsLinked t r → IsOneOf r (record
 version_has None r h = absurd h
 version_has (Some t) r h = records_have t r h
 
-not_true : (b : Bool) → not b ≡ true → b ≡ false
+pub not_true : (b : Bool) → not b ≡ true → b ≡ false
 not_true true e = absurd (false≢true e)
 not_true false e = refl
 

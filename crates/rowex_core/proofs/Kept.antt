@@ -9,6 +9,7 @@ use Rattle.versions.specs.Trades.{IsOneOf, AreApart}
 use Rattle.versions.proofs.Legal.{same_rec_refl, same_rec_true}
 use Rattle.versions.proofs.Members.{of_filter, filter_of}
 use Rattle.rowex_core.specs.Having.{AreKept, is_among, kept_locks}
+use Rattle.rowex_core.proofs.Having.{not_true as was_true}
 
 among : (r : Rec) (xs : List Rec) → is_among r xs ≡ true → IsOneOf r xs
 among r [] e = absurd (false≢true e)
@@ -26,10 +27,6 @@ not_among r (x ∷ xs) e h = go (λ e i. not_among r xs e i) (same_rec r x) refl
     go rest true s h i = false≢true (sym h)
     go rest false s h (inl i) = false≢true (sym s ∙ subst (λ z. same_rec r z ≡ true) i (same_rec_refl r))
     go rest false s h (inr i) = rest h i
-
-was_true : (b : Bool) → not b ≡ true → b ≡ false
-was_true true e = absurd (false≢true e)
-was_true false e = refl
 
 -- of the locked nodes that are unlinked go, and the others are kept
 pub kept_are_not_gone : (held : List ℕ) (gone : List Rec) → AreKept held gone (kept_locks held gone)

@@ -36,7 +36,7 @@ use Rattle.rowex_core.specs.Words.{record_word}
 use Rattle.versions.proofs.Publish.{version_old}
 use Rattle.rowex_core.specs.declared.event.Spot.{Spot}
 use Rattle.rowex_core.specs.Events.{IsLegalPublish, IsLockedAt, stored_words, stored_root, next_tree, next_change, Legal, after, with_word, claimed, marked, anchored, word_of, target_word, IsInTree}
-use Rattle.rowex_core.specs.Knowing.{IsFact, HasSeen, facts_with, AreCounted, Knows, learned_by, learned, entry_learned, with_holding, with_filled_word, without_record, failed_with, claim_learned, anchor_learned, node_learned, state_learned, blocking_pass_of, without_lock, records_in, owned_unlinked, own_after, locked_with_words, locks_after, anchor_after, publish_learned}
+use Rattle.rowex_core.specs.Knowing.{IsFact, HasSeen, facts_with, AreCounted, Knows, learned_by, learned, entry_learned, with_holding, with_filled_word, without_record, failed_with, claim_learned, anchor_learned, node_learned, blocking_pass_of, without_lock, records_in, owned_unlinked, own_after, locked_with_words, locks_after, anchor_after, publish_learned}
 use Rattle.record_words.specs.declared.layout.Location.{Location}
 use Rattle.rowex_core.proofs.Frames.{advance_frame, give_back_frame, unlocked_node}
 use Rattle.rowex_core.proofs.Keeping.{fact_grown, knows_kept}
@@ -386,11 +386,7 @@ learns_by c k (Advance expected found) law h l = is_true (knows_kept c _ k (adva
 learns_by c k (SetPin w) law h l = pin_learns c k h _
 learns_by c k ClearPin law h l = pin_learns c k h None
 learns_by c k (LoadPin o w) law h l = round_learns c k h _ _ (ap (λ (s : Share). let z = s.round in let x : Round = record { epoch = z.epoch; version = z.version; bound = lowered z.bound (c.pins o); seen = o ∷ z.seen } in x) h.own)
-learns_by c k (LoadState r w) law h l = go (cases_Bool (eqb w 0))
-  where
-    go : ((eqb w 0 ≡ true) ⊎ (eqb w 0 ≡ false)) → IsTrue c (state_learned c r w k)
-    go (inl e) = rw e (is_true h)
-    go (inr e) = rw e (with_failed c k (a_load (holder_of (c.fate r))) (word_of r 0) w h)
+learns_by c k (LoadState r w) law h l = elim (cases_Bool (eqb w 0)) [ inl e ↦ rw e (is_true h) | inr e ↦ rw e (with_failed c k (a_load (holder_of (c.fate r))) (word_of r 0) w h) ]
 learns_by c k (GiveBack r epoch found) law h l = is_true (knows_kept c _ k (give_back_frame c k.pass r epoch (c.fate r) refl) h)
 
 -- The step is counted, and with it the last load of the root and what failed.

@@ -1,5 +1,6 @@
 -- The lemmas of the crate.
 pub mod Lists
+pub mod States
 pub mod Reading
 pub mod Leafing
 pub mod Sharing

@@ -21,6 +21,7 @@ use Rattle.rowex_core.specs.Events.{IsFixedOffset}
 use Rattle.rowex_core.specs.Knowing.{StoodBetween, IsFact}
 use Rattle.rowex_core.proofs.Leafing.{leaf_is, leaf_size_is}
 use Rattle.rowex_core.proofs.Reading.{node_is, entry_at_is, fixed_word_is}
+use Rattle.versions.proofs.Heaps.{node_number, leaf_number}
 
 -- the core without the words: versions, lives and pins
 abbrev pub view : Core → State
@@ -67,12 +68,6 @@ last c law since reach r (n, u, lo, hi, st) =
 later_word : (c : Core) (r : Rec) (offset : ℕ) → 1 ≤ offset → record_word c r offset ≡ get_or (c.words r) (offset - 1) 0
 later_word c r zero h = absurd (omega arith)
 later_word c r (suc offset) h = ap (λ z. get_or (c.words r) z 0) (let e : offset ≡ suc offset - 1 = omega arith in e)
-
-node_number : {n m : ℕ} → a_node n ≡ a_node m → n ≡ m
-node_number e = cc
-
-leaf_number : {n m : ℕ} → a_leaf n ≡ a_leaf m → n ≡ m
-leaf_number e = cc
 
 same_words : {x y : NodeWords} → x ≡ y → (x.subtrie ≡ y.subtrie) × (x.fixed ≡ y.fixed)
 same_words e = (ap (λ (z : NodeWords). z.subtrie) e, ap (λ (z : NodeWords). z.fixed) e)

@@ -11,8 +11,7 @@ use Rattle.versions.specs.declared.Rec.TheVariants.{Node as a_node, Leaf as a_le
 use Rattle.versions.specs.State.{IsLinked}
 use Rattle.versions.specs.Told.{items_of}
 use Rattle.versions.specs.Core.{Fate, Free, Held, Ready as ReadyBy, InTree, Unlinked, Marked}
-use Rattle.versions.specs.Steps.{same_rec, is_linked, next_fate, publishes, IsStore, at_root, at_slot}
-use Rattle.versions.specs.Steps.{IsVersionPublish as IsVersionsPublish}
+use Rattle.versions.specs.Steps.{same_rec, is_linked, next_fate, publishes, IsStore, at_root, at_slot, IsVersionPublish as IsVersionsPublish}
 use Rattle.versions.proofs.Legal.{same_rec_true, linked_cases}
 use Rattle.versions.proofs.Stepping.{step_lawful}
 use Rattle.rowex_core.specs.declared.event.Act.TheVariants.{Publish}
@@ -26,51 +25,40 @@ use Rattle.rowex_core.proofs.Records.{sized_after}
 use Rattle.rowex_core.proofs.Publishing.{other_words, unlinked_words, true_linked}
 use Rattle.rowex_core.proofs.Storing.{near_store}
 use Rattle.versions.proofs.Pace.{next_marked}
+use Rattle.versions.proofs.Heaps.{node_number}
 
 whole_before : (now q : ℕ) (b : Bool) (f : Fate) → IsWhole (next_fate now q b f) → IsWhole f
-whole_before now q true Free h = h
-whole_before now q true (Held p) h = h
+whole_before now q b Free h = h
+whole_before now q b (Held p) h = h
 whole_before now q true (ReadyBy p) h = tt
 whole_before now q true (InTree s) h = tt
-whole_before now q true (Unlinked s l p) h = tt
-whole_before now q true (Marked s l p) h = tt
-whole_before now q false Free h = h
-whole_before now q false (Held p) h = h
+whole_before now q b (Unlinked s l p) h = tt
+whole_before now q b (Marked s l p) h = tt
 whole_before now q false (ReadyBy p) h = tt
 whole_before now q false (InTree s) h = tt
-whole_before now q false (Unlinked s l p) h = tt
-whole_before now q false (Marked s l p) h = tt
 
 -- what a publish makes an unlinked record was one, or was in the tree and went
 unlinked_before : (now q : ℕ) (b : Bool) (f : Fate) (since last p : ℕ) → next_fate now q b f ≡ Unlinked since last p →
     (f ≡ Unlinked since last p) ⊎ ((s : ℕ) × (f ≡ InTree s) × (b ≡ false) × (q ≡ p))
-unlinked_before now q true Free since last p e = absurd cc
-unlinked_before now q true (Held i) since last p e = absurd cc
+unlinked_before now q b Free since last p e = absurd cc
+unlinked_before now q b (Held i) since last p e = absurd cc
 unlinked_before now q true (ReadyBy i) since last p e = absurd cc
 unlinked_before now q true (InTree s) since last p e = absurd cc
-unlinked_before now q true (Unlinked s l i) since last p e = inl e
-unlinked_before now q true (Marked s l i) since last p e = absurd cc
-unlinked_before now q false Free since last p e = absurd cc
-unlinked_before now q false (Held i) since last p e = absurd cc
+unlinked_before now q b (Unlinked s l i) since last p e = inl e
+unlinked_before now q b (Marked s l i) since last p e = absurd cc
 unlinked_before now q false (ReadyBy i) since last p e = absurd cc
 unlinked_before now q false (InTree s) since last p e = inr (s, refl, refl, cc)
-unlinked_before now q false (Unlinked s l i) since last p e = inl e
-unlinked_before now q false (Marked s l i) since last p e = absurd cc
 
 -- who has a record then: the pass that publishes, of what it unlinks
 holder_after : (now q passes : ℕ) (b : Bool) (f : Fate) → q < passes → (p : ℕ) → (holder_of f ≡ Some p → p < passes) → holder_of (next_fate now q b f) ≡ Some p → p < passes
-holder_after now q passes true Free low p old e = old e
-holder_after now q passes true (Held i) low p old e = old e
+holder_after now q passes b Free low p old e = old e
+holder_after now q passes b (Held i) low p old e = old e
 holder_after now q passes true (ReadyBy i) low p old e = absurd (let x : None ≡ Some p = e in cc)
 holder_after now q passes true (InTree s) low p old e = old e
-holder_after now q passes true (Unlinked s l i) low p old e = old e
-holder_after now q passes true (Marked s l i) low p old e = old e
-holder_after now q passes false Free low p old e = old e
-holder_after now q passes false (Held i) low p old e = old e
+holder_after now q passes b (Unlinked s l i) low p old e = old e
+holder_after now q passes b (Marked s l i) low p old e = old e
 holder_after now q passes false (ReadyBy i) low p old e = old e
 holder_after now q passes false (InTree s) low p old e = subst (λ z. z < passes) (let x : q ≡ p = cc in x) low
-holder_after now q passes false (Unlinked s l i) low p old e = old e
-holder_after now q passes false (Marked s l i) low p old e = old e
 
 pub entry_small : (e : Option Entry) → HasEntryWord e → entry_word e < 2 ^ 64
 entry_small None h = omega arith
@@ -81,19 +69,11 @@ module _ (c : Core) (q : ℕ) (spot : Spot) (w : ℕ) (law : IsLawful c) (l : Is
   store : (s : Spot) → IsLockedAt c q s → IsStore (bare c) q (heap_of (stored_words c s w)) (stored_root c s w)
   store Root e = at_root e refl
   store (Slot n j) e = at_slot n e.2
-      (λ m ne. ap node_words_of (other_words c n j w (a_node m) (λ x. ne (number x))))
+      (λ m ne. ap node_words_of (other_words c n j w (a_node m) (λ x. ne (node_number x))))
       (λ m. ap leaf_of (other_words c n j w (a_leaf m) (λ x. absurd cc))) refl
-    where
-      number : {a b : ℕ} → a_node a ≡ a_node b → a ≡ b
-      number e = cc
 
   kept : (s : Spot) → IsLegalPublish c q s w → (n : ℕ) → IsLinked (next_tree c s w) (a_node n) ⊎ ((heap_of c.words).nodes n ≡ (heap_of (stored_words c s w)).nodes n)
-  kept s k n = go (linked_cases (next_tree c s w) (a_node n))
-    where
-      go : (IsLinked (next_tree c s w) (a_node n) × (is_linked (next_tree c s w) (a_node n) ≡ true)) ⊎ ((¬ (IsLinked (next_tree c s w) (a_node n))) × (is_linked (next_tree c s w) (a_node n) ≡ false)) →
-          IsLinked (next_tree c s w) (a_node n) ⊎ ((heap_of c.words).nodes n ≡ (heap_of (stored_words c s w)).nodes n)
-      go (inl x) = inl x.0
-      go (inr x) = inr (ap node_words_of (sym (unlinked_words c q law s w k (a_node n) x.0)))
+  kept s k n = elim (linked_cases (next_tree c s w) (a_node n)) [ inl x ↦ inl x.0 | inr x ↦ inr (ap node_words_of (sym (unlinked_words c q law s w k (a_node n) x.0))) ]
 
   pub versions_publish : IsVersionsPublish (bare c) q (heap_of (stored_words c spot w)) (stored_root c spot w) (next_tree c spot w) (next_change c q spot w)
   versions_publish = record {
@@ -106,11 +86,7 @@ module _ (c : Core) (q : ℕ) (spot : Spot) (w : ℕ) (law : IsLawful c) (l : Is
 
   published_words : (s : Spot) → IsPackedAt c s w → (r : Rec) → IsWhole (c.fate r) → IsPacked r (stored_words c s w r)
   published_words Root p r h = law.records.packed r h
-  published_words (Slot n j) p r h = go (cases_Bool (same_rec r (a_node n)))
-    where
-      go : ((same_rec r (a_node n) ≡ true) ⊎ (same_rec r (a_node n) ≡ false)) → IsPacked r (stored_words c (Slot n j) w r)
-      go (inl e) = subst (λ z. IsPacked z (stored_words c (Slot n j) w z)) (sym (same_rec_true r (a_node n) e)) p
-      go (inr e) = rw e (law.records.packed r h)
+  published_words (Slot n j) p r h = elim (cases_Bool (same_rec r (a_node n))) [ inl e ↦ subst (λ z. IsPacked z (stored_words c (Slot n j) w z)) (sym (same_rec_true r (a_node n) e)) p | inr e ↦ rw e (law.records.packed r h) ]
 
   published_sizes : (s : Spot) (r : Rec) → IsSized r (stored_words c s w r)
   published_sizes Root r = law.records.sized r
@@ -127,12 +103,7 @@ module _ (c : Core) (q : ℕ) (spot : Spot) (w : ℕ) (law : IsLawful c) (l : Is
   published_root (Slot n j) = law.root
 
   published_used : (r : Rec) → (next_fate c.past.now q (is_linked (next_tree c spot w) r) (c.fate r) ≡ Free) ⊎ HasRecord c.layout r
-  published_used r = elim (law.records.used r) [ inr h ↦ inr h | inl e ↦ go e (linked_cases (next_tree c spot w) r) ]
-    where
-      go : c.fate r ≡ Free → (IsLinked (next_tree c spot w) r × (is_linked (next_tree c spot w) r ≡ true)) ⊎ ((¬ (IsLinked (next_tree c spot w) r)) × (is_linked (next_tree c spot w) r ≡ false)) →
-          (next_fate c.past.now q (is_linked (next_tree c spot w) r) (c.fate r) ≡ Free) ⊎ HasRecord c.layout r
-      go e (inr x) = inl (rw (x.1, e) refl)
-      go e (inl x) = inl (rw (x.1, e) refl)
+  published_used r = elim (law.records.used r) [ inr h ↦ inr h | inl e ↦ inl (rw e refl) ]
 
   published_locks : (n since last p : ℕ) → next_fate c.past.now q (is_linked (next_tree c spot w) (a_node n)) (c.fate (a_node n)) ≡ Unlinked since last p → c.lock n ≡ Some p
   published_locks n since last p e =

@@ -19,7 +19,7 @@ use Rattle.versions.specs.Core.{Fate, Free, Held, Ready as ReadyBy, InTree, Unli
 use Rattle.versions.specs.Steps.{same_rec, links, is_linked, next_fate, IsLockable}
 use Rattle.versions.specs.Told.{items_of, item_of, IsChanged, IsChange}
 use Rattle.versions.proofs.Publish.{links_within, within_links}
-use Rattle.versions.proofs.Heaps.{determined, shown_within}
+use Rattle.versions.proofs.Heaps.{determined, shown_within, node_number, leaf_number}
 use Rattle.versions.proofs.Quiet.{slot_linked}
 use Rattle.versions.proofs.Legal.{same_rec_true, links_true, linked_cases}
 use Rattle.rowex_core.specs.declared.event.Act.TheVariants.{Publish}
@@ -31,12 +31,7 @@ use Rattle.rowex_core.specs.Events.{after, stored_words, stored_root, next_tree,
 use Rattle.rowex_core.specs.Sharing.{share, holding_of, is_by, is_in_tree, owned, locked, anchored_at}
 use Rattle.rowex_core.specs.Knowing.{records_of, records_in}
 use Rattle.rowex_core.proofs.Sharing.{same_share, by_another, is_by_true, and_false}
-
-node_number : {n m : ℕ} → a_node n ≡ a_node m → n ≡ m
-node_number e = cc
-
-leaf_number : {n m : ℕ} → a_leaf n ≡ a_leaf m → n ≡ m
-leaf_number e = cc
+use Rattle.versions.proofs.Stepping.{some_pass_injective}
 
 -- From a list of leaves to itself there is no change.
 
@@ -68,11 +63,7 @@ same_top m o (Some e) n (Some s) (Some t) i j f g l = ap Some (slot_linked m o n
 
 -- every record but the one that is stored to keeps its words
 pub other_words : (c : Core) (n j w : ℕ) (r : Rec) → r ≢ a_node n → stored_words c (Slot n j) w r ≡ c.words r
-other_words c n j w r ne = go (cases_Bool (same_rec r (a_node n)))
-  where
-    go : ((same_rec r (a_node n) ≡ true) ⊎ (same_rec r (a_node n) ≡ false)) → stored_words c (Slot n j) w r ≡ c.words r
-    go (inl e) = absurd (ne (same_rec_true r (a_node n) e))
-    go (inr e) = rw e refl
+other_words c n j w r ne = elim (cases_Bool (same_rec r (a_node n))) [ inl e ↦ absurd (ne (same_rec_true r (a_node n) e)) | inr e ↦ rw e refl ]
 
 module _ (c : Core) (q : ℕ) (law : IsLawful c) where
   -- The node that a legal publish stores to is linked then.
@@ -135,11 +126,7 @@ sides_apart m p a b trie i j r x y =
     false≢true (sym zero ∙ one)
 
 records_once : (m : Heap) (t : Tree) → IsTrie t → IsBuilt t → IsShown m t → (r : Rec) → filter (same_rec r) (records_of t) ≡ once r (links t r)
-records_once m (leaf n k v) trie built shown r = go (cases_Bool (same_rec r (a_leaf n)))
-  where
-    go : ((same_rec r (a_leaf n) ≡ true) ⊎ (same_rec r (a_leaf n) ≡ false)) → filter (same_rec r) (a_leaf n ∷ []) ≡ once r (same_rec r (a_leaf n))
-    go (inl e) = rw e (ap (λ (z : Rec). z ∷ []) (sym (same_rec_true r (a_leaf n) e)))
-    go (inr e) = rw e refl
+records_once m (leaf n k v) trie built shown r = elim (cases_Bool (same_rec r (a_leaf n))) [ inl e ↦ rw e (ap (λ (z : Rec). z ∷ []) (sym (same_rec_true r (a_leaf n) e))) | inr e ↦ rw e refl ]
 records_once m (node n x b) trie built shown r = go (cases_Bool (same_rec r (a_node n))) (records_once m b trie built.2 shown.1 r)
   where
     go : ((same_rec r (a_node n) ≡ true) ⊎ (same_rec r (a_node n) ≡ false)) → filter (same_rec r) (records_of b) ≡ once r (links b r) → filter (same_rec r) (a_node n ∷ records_of b) ≡ once r (same_rec r (a_node n) || links b r)
@@ -207,9 +194,6 @@ listed_once c law r = go (c.past.version c.past.now) c.root law.core.state.top (
 
 -- What a publish by pass p makes of what pass q has
 
-some_pass_injective : {p q : ℕ} → Some p ≡ Some q → p ≡ q
-some_pass_injective e = cc
-
 unlinked_stays : (now p : ℕ) (b : Bool) (since last o : ℕ) → is_in_tree (next_fate now p b (UnlinkedBy since last o)) ≡ false
 unlinked_stays now p true since last o = refl
 unlinked_stays now p false since last o = refl
@@ -222,11 +206,7 @@ module _ (c : Core) (p : ℕ) (spot : Spot) (w : ℕ) (law : IsLawful c) (l : Is
     out : ¬ (IsLinked (next_tree c spot w) r) → is_linked (next_tree c spot w) r ≡ false → stored_words c spot w r ≡ c.words r → Linking r
 
   pub linking : (r : Rec) → Linking r
-  linking r = go (linked_cases (next_tree c spot w) r)
-    where
-      go : (IsLinked (next_tree c spot w) r × (is_linked (next_tree c spot w) r ≡ true)) ⊎ ((¬ (IsLinked (next_tree c spot w) r)) × (is_linked (next_tree c spot w) r ≡ false)) → Linking r
-      go (inl (h, e)) = elim (l.comes r h) [ inl f ↦ stays f.0 f.1 e | inr f ↦ comes f e ]
-      go (inr (h, e)) = out h e (unlinked_words c p law spot w l r h)
+  linking r = elim (linked_cases (next_tree c spot w) r) [ inl x ↦ elim (l.comes r x.0) [ inl f ↦ stays f.0 f.1 x.1 | inr f ↦ comes f x.1 ] | inr x ↦ out x.0 x.1 (unlinked_words c p law spot w l r x.0) ]
 
   module _ (q : ℕ) (ne : p ≢ q) where
     held_then : (f : Fate) → holding_of q (next_fate c.past.now p false f) ≡ holding_of q f

@@ -1,5 +1,5 @@
 -- Reading the words of a record that spell a value gives the value's parts.
-use Rattle.std.proofs.Common.{◌≡◌, ◌⊎◌, inl, inr, ⊎_elim, ℕ, zero, suc, ◌+◌, ◌-◌, ◌*◌, ◌/◌, ◌%◌, ◌^◌, ◌<◌, ◌≤◌, List, [], ◌∷◌, ◌++◌, length, get_or, take, drop, map, Option, Some, None, nat_lt, eqb, ltb, if◌then◌else◌, true, false, refl, sym, ap, ap₂, ◌∙◌, arith, lit<, length-take, get_or-take, get_or-drop, length-append}
+use Rattle.std.proofs.Common.{◌≡◌, ◌⊎◌, inl, inr, ⊎_elim, ℕ, zero, suc, ◌+◌, ◌-◌, ◌*◌, ◌/◌, ◌%◌, ◌^◌, ◌<◌, ◌≤◌, List, [], ◌∷◌, ◌++◌, length, get_or, take, drop, map, Option, Some, None, nat_lt, eqb, ltb, if◌then◌else◌, true, false, refl, sym, ap, ap₂, ◌∙◌, arith, lit<, length-take, get_or-take, get_or-drop}
 use Rattle.std.specs.Prelude.{All, slice_get}
 use Rattle.std.specs.Option.{unwrap_or}
 use Rattle.std.proofs.lemmas.Bool.{eq-eqb, ne_eqb, cases_lt, lt-ltb, le-ltb}
@@ -24,6 +24,7 @@ use Rattle.tries.specs.Tree.{Subtrie}
 use Rattle.tries.specs.Place.{entry_at}
 use Rattle.versions.specs.Heap.{NodeWords}
 use Rattle.rowex_core.specs.Reading.{entry_of, positions_in, rows_in, fixed_of, entries_of, node_words_of}
+use Rattle.pieces.proofs.Paths.{length-places}
 
 -- Entries
 
@@ -51,10 +52,6 @@ high_place [] ys j h = ap (slice_get ys) (let e : j ≡ j - 0 = omega arith in e
 high_place (x ∷ xs) ys zero h = absurd (omega arith)
 high_place (x ∷ xs) ys (suc j) h = high_place xs ys j (omega arith) ∙ ap (slice_get ys) (let e : j - length xs ≡ suc j - suc (length xs) = omega arith in e)
 
-size_places : (p : Subtrie) → length (places p) ≡ size p
-size_places (Place e) = refl
-size_places (Fork q a b) = length-append (places a) (places b) ∙ ap₂ (λ x y. x + y) (size_places a) (size_places b)
-
 pub place_is : (p : Subtrie) (j : ℕ) → (if nat_lt j (size p) then Some (entry_at p j) else None) ≡ slice_get (places p) j
 place_is (Place e) zero = refl
 place_is (Place e) (suc j) = rw (le-ltb (suc j) 1 (omega arith)) refl
@@ -68,12 +65,12 @@ place_is (Fork q a b) j = go (place_is a j) (place_is b (j - size a)) (cases_lt 
         (if nat_lt (j - size a) (size b) then Some (entry_at b (j - size a)) else None) ≡ slice_get (places b) (j - size a) → (j < size a) ⊎ (size a ≤ j) →
         (if nat_lt j (size a + size b) then Some (if nat_lt j (size a) then entry_at a j else entry_at b (j - size a)) else None) ≡ slice_get (places a ++ places b) j
     go x y (inl h) =
-        let s = size_places a in
+        let s = length-places a in
         let low : ltb j (size a) ≡ true = lt-ltb j (size a) h in
         let all : ltb j (size a + size b) ≡ true = lt-ltb j (size a + size b) (omega arith) in
         rw (all, low) ((rw low at x) ∙ sym (low_place (places a) (places b) j (omega arith)))
     go x y (inr h) =
-        let s = size_places a in
+        let s = length-places a in
         let high : ltb j (size a) ≡ false = le-ltb j (size a) h in
         rw (high, same h (cases_lt (j - size a) (size b))) (y ∙ (ap (λ z. slice_get (places b) (j - z)) (sym s) ∙ sym (high_place (places a) (places b) j (omega arith))))
 

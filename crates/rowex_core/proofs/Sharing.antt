@@ -1,5 +1,5 @@
 -- What a change of the core makes of what a pass has.
-use Rattle.std.proofs.Common.{◌≡◌, ◌≢◌, ◌⊎◌, inl, inr, ℕ, ◌-◌, ◌&&◌, set, Bool, true, false, if◌then◌else◌, nat_eq, eqb, Option, Some, None, refl, sym, ap, subst}
+use Rattle.std.proofs.Common.{◌≡◌, ◌≢◌, inl, inr, ℕ, ◌-◌, ◌&&◌, set, Bool, true, false, if◌then◌else◌, nat_eq, eqb, Option, Some, None, refl, sym, ap, subst}
 use Rattle.std.proofs.lemmas.Bool.{eq-eqb, eqb-true, cases_Bool, false≢true}
 use Rattle.versions.specs.declared.Rec.{Rec}
 use Rattle.versions.specs.declared.Rec.TheVariants.{Node as a_node}
@@ -20,18 +20,10 @@ and_false false = refl
 
 -- a property of what stands at each record, or at each number, after it has changed at one
 pub at_record : {X : Type 0} (P : Rec → X → Type 0) (r : Rec) (x : X) (f : Rec → X) → P r x → ((i : Rec) → same_rec i r ≡ false → P i (f i)) → (i : Rec) → P i (if same_rec i r then x else f i)
-at_record P r x f here there i = go (cases_Bool (same_rec i r))
-  where
-    go : ((same_rec i r ≡ true) ⊎ (same_rec i r ≡ false)) → P i (if same_rec i r then x else f i)
-    go (inl e) = rw e (subst (λ z. P z x) (sym (same_rec_true i r e)) here)
-    go (inr e) = rw e (there i e)
+at_record P r x f here there i = elim (cases_Bool (same_rec i r)) [ inl e ↦ rw e (subst (λ z. P z x) (sym (same_rec_true i r e)) here) | inr e ↦ rw e (there i e) ]
 
 pub at_number : {X : Type 0} (P : ℕ → X → Type 0) (n : ℕ) (x : X) (f : ℕ → X) → P n x → ((i : ℕ) → nat_eq i n ≡ false → P i (f i)) → (i : ℕ) → P i (if nat_eq i n then x else f i)
-at_number P n x f here there i = go (cases_Bool (eqb i n))
-  where
-    go : ((eqb i n ≡ true) ⊎ (eqb i n ≡ false)) → P i (if nat_eq i n then x else f i)
-    go (inl e) = rw e (subst (λ z. P z x) (sym (eqb-true i n e)) here)
-    go (inr e) = rw e (there i e)
+at_number P n x f here there i = elim (cases_Bool (eqb i n)) [ inl e ↦ rw e (subst (λ z. P z x) (sym (eqb-true i n e)) here) | inr e ↦ rw e (there i e) ]
 
 -- who has what
 
@@ -39,11 +31,7 @@ pub by_itself : (q : ℕ) → nat_eq q q ≡ true
 by_itself q = eq-eqb q q refl
 
 pub by_another : {p q : ℕ} → p ≢ q → nat_eq p q ≡ false
-by_another {p} {q} ne = go (cases_Bool (eqb p q))
-  where
-    go : ((eqb p q ≡ true) ⊎ (eqb p q ≡ false)) → nat_eq p q ≡ false
-    go (inl e) = absurd (ne (eqb-true p q e))
-    go (inr e) = e
+by_another {p} {q} ne = elim (cases_Bool (eqb p q)) [ inl e ↦ absurd (ne (eqb-true p q e)) | inr e ↦ e ]
 
 pub is_by_true : (q : ℕ) (o : Option ℕ) → is_by q o ≡ true → o ≡ Some q
 is_by_true q None e = absurd (false≢true e)

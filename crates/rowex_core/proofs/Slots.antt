@@ -1,7 +1,7 @@
 -- An entry word stored to a node: the words spell the node with that entry.
-use Rattle.std.proofs.Common.{◌≡◌, ◌≢◌, ◌⊎◌, inl, inr, ⊎_elim, ℕ, ◌+◌, ◌-◌, ◌<◌, ◌≤◌, ◌^◌, List, ◌++◌, length, get_or, set, Bool, true, false, nat_lt, eqb, Some, refl, sym, ap, subst, ◌∙◌, arith}
+use Rattle.std.proofs.Common.{◌≡◌, ◌≢◌, ◌⊎◌, inl, inr, ⊎_elim, ℕ, ◌+◌, ◌-◌, ◌<◌, ◌≤◌, ◌^◌, List, ◌++◌, length, get_or, set, Bool, true, false, nat_lt, Some, refl, sym, ap, subst, ◌∙◌, arith}
 use Rattle.std.specs.Prelude.{All, slice_get, if◌then◌else◌}
-use Rattle.std.proofs.lemmas.Bool.{cases_Bool, cases_lt, false≢true, eqb-true, eq-eqb}
+use Rattle.std.proofs.lemmas.Bool.{cases_eq, cases_lt}
 use Rattle.std.proofs.lemmas.List.{length-set, get_or-set_same, get_or-set_other, set-append_right}
 use Rattle.std.proofs.lemmas.Option.{slice_get-get_or, slice_get_past}
 use Rattle.std.proofs.lemmas.List.Elements.{All-set}
@@ -40,9 +40,6 @@ slice_set xs j i x low = (
       (λ (h : length xs ≤ i). slice_get_past (set xs j x) i (omega (arith, length-set xs j x)) ∙ sym (slice_get_past xs i h)) (cases_lt i (length xs)),
 )
 
-is_it? : (i j : ℕ) → (i ≡ j) ⊎ (i ≢ j)
-is_it? i j = elim (cases_Bool (eqb i j)) [ inl e ↦ inl (eqb-true i j e) | inr e ↦ inr (λ z. false≢true (sym e ∙ eq-eqb i j z)) ]
-
 module _ (view : NodeView) (words : List ℕ) (has : HasNodeWords view) (same : node_words view ≡ words) (j : ℕ) (low : j < length view.entries) (e : Entry) (word : HasEntryWord (Some e))
     (stands : StandsBelow view.height e) where
   abbrev stored : NodeView
@@ -54,7 +51,7 @@ module _ (view : NodeView) (words : List ℕ) (has : HasNodeWords view) (same : 
     entries = record {
       room = omega (arith, length-set view.entries j e, has.entries.room);
       each = λ i. (let s = slice_set view.entries j i e low in
-          elim (is_it? i j) [ inl z ↦ subst HasEntryWord (sym (s.0 z)) word | inr z ↦ subst HasEntryWord (sym (s.1 z)) (has.entries.each i) ]);
+          elim (cases_eq i j) [ inl z ↦ subst HasEntryWord (sym (s.0 z)) word | inr z ↦ subst HasEntryWord (sym (s.1 z)) (has.entries.each i) ]);
     };
   }
 
@@ -62,7 +59,7 @@ module _ (view : NodeView) (words : List ℕ) (has : HasNodeWords view) (same : 
   tail_words = entry_words_made stored.entries (set (entry_words view.entries) j (entry_word (Some e))) (length-set (entry_words view.entries) j (entry_word (Some e)) ∙ length-entry_words view.entries)
       (λ i h. let s = slice_set view.entries j i e low in
       let long : length (entry_words view.entries) ≡ 32 = length-entry_words view.entries in
-      elim (is_it? i j) [
+      elim (cases_eq i j) [
         | inl z ↦ ap (λ n. get_or (set (entry_words view.entries) j (entry_word (Some e))) n 0) z ∙
             (get_or-set_same (entry_words view.entries) j (entry_word (Some e)) 0 (omega (arith, has.entries.room)) ∙ ap entry_word (sym (s.0 z)))
         | inr z ↦ get_or-set_other (entry_words view.entries) j i (entry_word (Some e)) 0 z ∙ (entry_words_at view.entries (entry_words view.entries) refl i h ∙ ap entry_word (sym (s.1 z)))

@@ -25,11 +25,7 @@ use Rattle.rowex_core.proofs.Published.{publish_stays}
 
 -- a property of each record and its fate, after one fate has changed
 fate_at : (c : Core) (r : Rec) (f : Fate) (P : Rec → Fate → Type 0) → P r f → ((i : Rec) → same_rec i r ≡ false → P i (c.fate i)) → (i : Rec) → P i ((with_fate c.shared r f).fate i)
-fate_at c r f P here there i = go (cases_Bool (same_rec i r))
-  where
-    go : ((same_rec i r ≡ true) ⊎ (same_rec i r ≡ false)) → P i (if same_rec i r then f else c.fate i)
-    go (inl e) = rw e (subst (λ z. P z f) (sym (same_rec_true i r e)) here)
-    go (inr e) = rw e (there i e)
+fate_at c r f P here there i = elim (cases_Bool (same_rec i r)) [ inl e ↦ rw e (subst (λ z. P z f) (sym (same_rec_true i r e)) here) | inr e ↦ rw e (there i e) ]
 
 -- a fate before the record is linked
 abbrev IsNew : Fate → Type 0
@@ -199,11 +195,7 @@ no_pin : IsSome {T = Pin} None → ⊥
 no_pin h = false≢true h
 
 pin_at : (c : Core) (q : ℕ) (o : Option Pin) (P : ℕ → Option Pin → Type 0) → P q o → ((i : ℕ) → P i (c.pins i)) → (i : ℕ) → P i ((with_pin c.shared q o).pins i)
-pin_at c q o P here there i = go (cases_Bool (eqb i q))
-  where
-    go : ((eqb i q ≡ true) ⊎ (eqb i q ≡ false)) → P i (if nat_eq i q then o else c.pins i)
-    go (inl e) = rw e (subst (λ z. P z o) (sym (eqb-true i q e)) here)
-    go (inr e) = rw e (there i)
+pin_at c q o P here there i = elim (cases_Bool (eqb i q)) [ inl e ↦ rw e (subst (λ z. P z o) (sym (eqb-true i q e)) here) | inr e ↦ rw e (there i) ]
 
 pin_stays : (c : Core) (q : ℕ) (o : Option Pin) → IsLawful c → IsLawfulCore (bare (record c { shared = with_pin c.shared q o })) → ((p : Pin) → o ≡ Some p → (q < c.layout.passes) × (1 ≤ p.word)) → IsLawful (record c { shared = with_pin c.shared q o })
 pin_stays c q o law core new = record {

@@ -53,11 +53,7 @@ record_write c d r offset w layout epoch root anchor pins here there = record { 
     at (a_leaf n) h = h
 
     apart : (i : Rec) (o : ℕ) → word_of i o ≢ word_of r offset → (same_rec i r ≡ false) ⊎ (o ≢ offset)
-    apart i o ne = go (cases_Bool (same_rec i r))
-      where
-        go : ((same_rec i r ≡ true) ⊎ (same_rec i r ≡ false)) → (same_rec i r ≡ false) ⊎ (o ≢ offset)
-        go (inl e) = inr (λ x. ne (ap (λ z. word_of z o) (same_rec_true i r e) ∙ ap (word_of r) x))
-        go (inr e) = inl e
+    apart i o ne = elim (cases_Bool (same_rec i r)) [ inl e ↦ inr (λ x. ne (ap (λ z. word_of z o) (same_rec_true i r e) ∙ ap (word_of r) x)) | inr e ↦ inl e ]
 
     others : (other : Location) → other ≢ word_of r offset → word_at d other ≡ word_at c other
     others Epoch ne = epoch
@@ -234,29 +230,20 @@ lock_exchange c q n found e live = go (cases_Bool (eqb found 2))
     go (inr x) = rw x (nothing c (NodeWord n 0) _ (sym (exchanged_not (state_at c (a_node n)) 2 3 (λ z. false≢true (sym x ∙ eq-eqb found 2 (e ∙ z))))))
 
 advance_write : (c : Core) (expected : ℕ) → IsWrite c (record c { shared = advanced c.shared expected }) Epoch (exchanged c.epoch expected (expected + 1))
-advance_write c expected = go (cases_Bool (eqb c.epoch expected))
-  where
-    go : ((eqb c.epoch expected ≡ true) ⊎ (eqb c.epoch expected ≡ false)) →
-        IsWrite c (record c { shared = advanced c.shared expected }) Epoch (if nat_eq c.epoch expected then expected + 1 else c.epoch)
-    go (inl x) = rw x (epoch_write c (suc c.epoch) (expected + 1) (let y = eqb-true c.epoch expected x in omega arith))
-    go (inr x) = rw x (nothing c Epoch c.epoch refl)
+advance_write c expected = elim (cases_Bool (eqb c.epoch expected)) [ inl x ↦ rw x (epoch_write c (suc c.epoch) (expected + 1) (let y = eqb-true c.epoch expected x in omega arith)) | inr x ↦ rw x (nothing c Epoch c.epoch refl) ]
 
 -- Publish
 
 -- a publish leaves the state words: what comes or goes is locked as before
 next_state : (o : Option ℕ) (now q : ℕ) (b : Bool) (f : Fate) → state_word (tag_of o (next_fate now q b f)) ≡ state_word (tag_of o f)
-next_state o now q true Free = refl
-next_state o now q true (Held p) = refl
+next_state o now q b Free = refl
+next_state o now q b (Held p) = refl
 next_state o now q true (ReadyBy p) = refl
 next_state o now q true (InTree s) = refl
-next_state o now q true (Unlinked s l p) = refl
-next_state o now q true (Marked s l p) = refl
-next_state o now q false Free = refl
-next_state o now q false (Held p) = refl
+next_state o now q b (Unlinked s l p) = refl
+next_state o now q b (Marked s l p) = refl
 next_state o now q false (ReadyBy p) = refl
 next_state o now q false (InTree s) = refl
-next_state o now q false (Unlinked s l p) = refl
-next_state o now q false (Marked s l p) = refl
 
 publish_write : (c : Core) (q : ℕ) (spot : Spot) (w : ℕ) → IsLawful c → IsLegalPublish c q spot w → IsWrite c (after c q (Publish spot w)) (spot_word spot) w
 publish_write c q Root w law l = record { layout = refl; here = l.entry.1; others = others }

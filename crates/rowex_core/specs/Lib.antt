@@ -3,7 +3,7 @@
 pub mod Reading
 pub mod Cores
 pub mod Words
--- Then what happens: when a step is legal and what it makes, whose each thing is, what a pass knows and is taught.
+-- Then what happens: when a step is legal and what it makes, whose each thing is, what a pass knows and is taught, and lists of steps.
 pub mod Events
 pub mod Sharing
 pub mod Knowing

@@ -70,9 +70,10 @@ pub struct Event {
 pub trait Gate {
     ghost use Rattle.rowex_core.specs.declared.event.Event.{Event};
 
-    /// That the one gate, told this event, has become the other.
+    /// That the first gate, told this event, has become the second.
     ghost becomes: { Self → Event → Self → Type 0 };
 
+    /// Tells the gate `event`, whose step has just been made.
     fn at(&mut self, event: &Event)
         ensures { becomes self.old event.now self.new };
 }
@@ -84,5 +85,6 @@ pub struct NoGate;
 impl Gate for NoGate {
     ghost becomes = { λ _ _ _. Unit {0} };
 
+    /// Does nothing.
     fn at(&mut self, _event: &Event) {}
 }

@@ -65,8 +65,7 @@ pub enum FailedAct {
     LoadState { by: Option<u64> },
 }
 
-/// A claim or a lock that failed, or a load of a state that was not free: the word that it found, and the number of the
-/// step.
+/// A claim or a lock that failed, or a load of a state that was not free: the word that it found, and the number of the step.
 pub struct Failed {
     pub act: FailedAct,
     pub location: Location,
@@ -74,8 +73,8 @@ pub struct Failed {
     pub step: u64,
 }
 
-/// The front that the last load of the root left, the number of that step, and the version at which the pass had set the pin that
-/// it had then. Before the first load the step is 0, the number of none; and so is the version, where there was no pin.
+/// What the last load of the root left: the front, the number of that step, and the version at which the pass had set its pin. Before the
+/// first load the step is 0, the number of none; and so is the version, where there was no pin.
 pub struct Fresh {
     pub front: Listed<Change>,
     pub step: u64,

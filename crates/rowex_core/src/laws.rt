@@ -3,12 +3,12 @@
 ghost use Rattle.rowex_core.specs.Statements.{EntriesInReach, FindsChange, Hindsight, InReach, Keeps, KnowsAll, Learns, LeavesOthers, LocksApart, OnlyPublishAppends, OpeningIsLawful, Parting, PublishIsAStep, RunsKeep, RunsStayLawful, SeesAll, StaysLawful, WritesOne};
 
 /// A legal step keeps the core lawful.
-pub fn stays_lawful()
+pub fn steps_stay_lawful()
     ensures { StaysLawful }
 {}
 
 /// A legal step of one pass leaves to another what it has: its records, locks, pin and round.
-pub fn leaves_others()
+pub fn steps_leave_others()
     ensures { LeavesOthers }
 {}
 
@@ -18,22 +18,22 @@ pub fn keeps()
 {}
 
 /// What a pass knows after its own step is true.
-pub fn learns()
+pub fn learned_is_true()
     ensures { Learns }
 {}
 
 /// A load of the root leaves its pass all changes that were made before it, and so all that any pass had seen by then.
-pub fn sees_all()
+pub fn root_load_sees_all()
     ensures { SeesAll }
 {}
 
 /// What a pass knows that it has, it has, and no more.
-pub fn knows_all()
+pub fn knows_all_it_has()
     ensures { KnowsAll }
 {}
 
 /// A legal step changes at most one word of the table, and its words show the core after it.
-pub fn writes_one()
+pub fn steps_write_one_word()
     ensures { WritesOne }
 {}
 
@@ -48,7 +48,7 @@ pub fn runs_stay_lawful()
 {}
 
 /// A list of legal events of other passes leaves true what a pass knows.
-pub fn runs_keep()
+pub fn runs_keep_knowledge()
     ensures { RunsKeep }
 {}
 
@@ -57,8 +57,7 @@ pub fn only_publish_appends()
     ensures { OnlyPublishAppends }
 {}
 
-/// A search of a pinned pass that goes on at a record goes on at what it finds there, whatever has been published since: in
-/// each version since the pin.
+/// A search of a pinned pass goes on at what it finds in a record, whatever has been published since the pin.
 pub fn hindsight()
     ensures { Hindsight }
 {}
@@ -69,26 +68,26 @@ pub fn parting()
 {}
 
 /// No record of a pinned pass's reach is free or held, and what it loads of one, states and entries aside, is of one content.
-pub fn in_reach()
+pub fn reach_is_kept()
     ensures { InReach }
 {}
 
-/// Each entry that a pinned pass loads of a node of its reach is one that the node had when it stood last, since it was met.
-pub fn entries_in_reach()
+/// Each entry that a pinned pass loads of a node of its reach is one that the node had when it stood last.
+pub fn entries_in_reach_stood()
     ensures { EntriesInReach }
 {}
 
 /// A publish is one step of the map, whatever other locks are held.
-pub fn publish_is_a_step()
+pub fn publish_is_map_step()
     ensures { PublishIsAStep }
 {}
 
 /// Where a publish would change the leaves by one change of its pass, its legality asks for that change and no other.
-pub fn finds_change()
+pub fn legality_finds_change()
     ensures { FindsChange }
 {}
 
 /// Locks of two passes on different nodes are lawful at once.
-pub fn locks_apart()
+pub fn locks_stay_apart()
     ensures { LocksApart }
 {}

@@ -8,7 +8,7 @@ pub fn publish_is_legal()
 {}
 
 /// A node's words with one entry stored spell the node with that entry.
-pub fn slot_is_stored()
+pub fn stored_slot_is_shown()
     ensures { SlotIsStored }
 {}
 
@@ -18,6 +18,6 @@ pub fn led_is_in_tree()
 {}
 
 /// After a publish a pass owns just what it has unlinked, and has locked just what is still linked.
-pub fn owned_after_publish()
+pub fn publish_leaves_unlinked()
     ensures { OwnedAfterPublish }
 {}

@@ -1,5 +1,5 @@
 -- Two nodes that stand beside each other: on the sides of the last fork on a key's way.
-use Rattle.std.proofs.Common.{◌≡◌, ◌≢◌, ◌<◌, ◌≤◌, ◌+◌, ◌-◌, ◌++◌, [], ◌∷◌, inl, inr, ℕ, Bool, true, false, refl, ap, sym, ◌∙◌, subst, Some, None, Option, if◌then◌else◌, arith}
+use Rattle.std.proofs.Common.{◌≡◌, ◌≢◌, ◌<◌, ◌+◌, ◌-◌, [], inl, inr, ℕ, Bool, true, false, refl, ap, sym, ◌∙◌, subst, Some, Option, if◌then◌else◌, arith}
 use Rattle.tries.specs.Keys.{Key, bit, AgreeBelow}
 use Rattle.compound_node.specs.declared.entries.Entry.{Entry}
 use Rattle.compound_node.specs.declared.entries.Entry.TheVariants.{Node}
@@ -9,7 +9,7 @@ use Rattle.pieces.proofs.Removing.{RisesFrom-without}
 use Rattle.tries.specs.Tree.{Fixed, Tree, leaf, node, fork, subtrie, Has, IsLower, IsTrie, IsBuilt, Subtrie, Within, here, inside, zero_side, one_side}
 use Rattle.tries.specs.Search.{child, seek}
 use Rattle.tries.proofs.Changes.{put, IsInOwnSubtrie}
-use Rattle.tries.specs.Place.{fork_of, joined, side_beside, spot, subtrie_collapsed, subtrie_sibling, subtrie_without}
+use Rattle.tries.specs.Place.{fork_of, side_beside, spot, subtrie_collapsed, subtrie_sibling, subtrie_without}
 use Rattle.versions.specs.Heap.{NodeWords, Heap, IsShown}
 use Rattle.versions.specs.State.{IsLawfulState, Links}
 use Rattle.versions.specs.Core.{BareCore, view}
@@ -19,11 +19,11 @@ use Rattle.tries.proofs.Building.{greatest-append, greatest_if_lower, greatest_w
 use Rattle.tries.proofs.Spots.{without_spot}
 use Rattle.tries.proofs.Tries.{built_within, rises, within_trans}
 use Rattle.versions.proofs.Heaps.{shown_within}
-use Rattle.versions.proofs.Stored.{lower_within}
+use Rattle.versions.proofs.Stored.{lower_within, not_beside}
 use Rattle.version_laws.proofs.Now.{shown_now}
 use Rattle.version_laws.proofs.Standing.{entry_node}
-use Rattle.version_laws.proofs.Trading.{not_beside}
 use Rattle.version_laws.proofs.Scans.{node_of}
+use Rattle.std.proofs.lemmas.Option.{none-some}
 
 -- The last fork on a key's way
 
@@ -48,9 +48,6 @@ last_as k b {u} {w} {p} {q} {x} {z} y f g h l =
 
 some_same : {X : Type 0} {a b : X} → Some a ≡ Some b → a ≡ b
 some_same e = cc
-
-none_some : {X : Type 0} {a : X} → None ≡ Some a → ⊥
-none_some e = cc
 
 -- The last fork on a key's way has its child on one side, and on the other what the words show there.
 abbrev pub IsLastFork : Key → Tree → ℕ → Entry → Type 0
@@ -90,8 +87,8 @@ last_zero k q (fork n l v) y p e g h rest =
     )
 
 pub last_fork : (k : Key) (b : Tree) (p : ℕ) (e : Entry) → subtrie_sibling k (subtrie b) ≡ Some (p, Place e) → IsLastFork k b p e
-last_fork k (leaf n l v) p e h = absurd (none_some h)
-last_fork k (node n l v) p e h = absurd (none_some h)
+last_fork k (leaf n l v) p e h = absurd (none-some _ h)
+last_fork k (node n l v) p e h = absurd (none-some _ h)
 last_fork k (fork q x y) p e h = go (bit k q) refl h (last_fork k x p e) (last_fork k y p e)
   where
     go : (u : Bool) → bit k q ≡ u → side_beside q u (subtrie x) (subtrie y) (if u then subtrie_sibling k (subtrie y) else subtrie_sibling k (subtrie x)) ≡ Some (p, Place e) →

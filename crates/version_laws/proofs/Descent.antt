@@ -1,5 +1,5 @@
 -- The descent below the lowest locked node.
-use Rattle.std.proofs.Common.{◌≡◌, ◌⊎◌, ℕ, ◌<◌, ◌≤◌, refl, ap, sym, ◌∙◌, subst, arith, le_refl, Some}
+use Rattle.std.proofs.Common.{◌≡◌, ℕ, ◌<◌, refl, ap, sym, ◌∙◌, subst, arith, le_refl, Some}
 use Rattle.tries.specs.Keys.{Key, AgreeBelow}
 use Rattle.tries.specs.Tree.{Fixed, Subtrie, Tree, leaf, node, fork, subtrie, Has, Within, here, inside}
 use Rattle.compound_node.specs.declared.entries.Entry.TheVariants.{Leaf, Node}

@@ -6,7 +6,7 @@ use Rattle.tries.specs.Tree.{Tree, leaf, node, fork, here}
 use Rattle.tries.specs.Content.{Item, items}
 use Rattle.versions.specs.Heap.{Heap}
 use Rattle.versions.specs.declared.Rec.{Rec}
-use Rattle.versions.specs.declared.Rec.TheVariants.{Node as a_node, Leaf as a_leaf}
+use Rattle.versions.specs.declared.Rec.TheVariants.{Leaf as a_leaf}
 use Rattle.versions.specs.State.{Links, IsLinked, IsLawfulState}
 use Rattle.versions.specs.Told.{items_of}
 use Rattle.versions.specs.Core.{BareCore, view}
@@ -15,12 +15,7 @@ use Rattle.versions.specs.Trades.{IsOneOf, HasTraded}
 use Rattle.versions.proofs.Members.{of_append, of_left, of_right}
 use Rattle.version_laws.specs.Statements.{IsPublished}
 use Rattle.version_laws.proofs.Trading.{IsTrade, old_now}
-
-leaf_node : {n m : ℕ} → a_leaf n ≡ a_node m → ⊥
-leaf_node e = cc
-
-leaf_number : {n m : ℕ} → a_leaf n ≡ a_leaf m → n ≡ m
-leaf_number e = cc
+use Rattle.versions.proofs.Heaps.{leaf_node, leaf_number}
 
 -- a leaf is linked where its number is among the leaves
 leaf_among : (t : Tree) (n : ℕ) → Links t (a_leaf n) → (x : Item) × IsOneOf x (items t) × (x.number ≡ n)
@@ -55,10 +50,10 @@ trade_differs s t new gone n trade (inr h) e = let w = trade.went (a_leaf n) h i
 
 -- a legal publish of a tree in the place of another, with its trade
 pub published : (c : BareCore) (q : ℕ) → IsLawfulState (view c) → (t : Tree) → c.past.version c.past.now ≡ Some t → (heap : Heap) (root : Option Entry) (x : Change) (r : Tree) (n : ℕ) (new gone : List Rec) →
-    IsVersionPublish c q heap root (Some r) x → IsTrade c q t r new gone → IsOneOf (a_leaf n) new ⊎ IsOneOf (a_leaf n) gone → IsPublished c q heap root x new gone
+    IsVersionPublish c q heap root (Some r) x → IsTrade c q t r new gone → IsOneOf (a_leaf n) new ⊎ IsOneOf (a_leaf n) gone → IsPublished c heap root x new gone
 published c q law t now heap root x r n new gone legal trade one = record {
   tree = Some r;
-  legal = legal;
+  legal = subst (λ p. IsVersionPublish c p heap root (Some r) x) (sym legal.own) legal;
   differs = trade_differs (c.past.version c.past.now) (Some r) new gone n traded one;
   trade = traded;
 }

@@ -1,8 +1,8 @@
 -- A scan of an empty map, or of one leaf; the depth of the way.
-use Rattle.std.proofs.Common.{◌≡◌, ◌⊎◌, inl, inr, ℕ, ◌+◌, ◌*◌, ◌<◌, ◌≤◌, List, [], ◌∷◌, length, sym, ◌∙◌, subst, arith, Some, None}
+use Rattle.std.proofs.Common.{◌≡◌, ◌⊎◌, inl, inr, ℕ, ◌+◌, ◌*◌, ◌<◌, ◌≤◌, List, [], ◌∷◌, length, sym, ◌∙◌, subst, arith}
 use Rattle.key_bits.specs.declared.TheConstants.{MAX_BYTES}
 use Rattle.tries.specs.Keys.{IsAtMost, Key, IsBefore}
-use Rattle.tries.specs.Tree.{Tree, leaf, node, fork, subtrie, IsBuilt, IsLower}
+use Rattle.tries.specs.Tree.{node, subtrie, IsBuilt}
 use Rattle.compound_node.specs.declared.entries.Entry.{Entry}
 use Rattle.compound_node.specs.declared.entries.Entry.TheVariants.{Leaf, Node}
 use Rattle.pieces.specs.Piece.{Place}
@@ -14,8 +14,10 @@ use Rattle.version_laws.specs.Scan.{IsRooted, IsPlaced, IsRead, EntryStoodSince,
 use Rattle.version_laws.specs.Directions.{IsComplete, IsCut}
 use Rattle.version_laws.specs.declared.direction.Direction.{Direction}
 use Rattle.tries.proofs.Tries.{built_within}
-use Rattle.version_laws.proofs.Scans.{node_of, root_had_key, leaf_had_key, read_held, before_most, never_before}
+use Rattle.version_laws.proofs.Scans.{node_of, root_had_key, leaf_had_key, read_held, before_most, never_before, place_same}
 use Rattle.version_laws.proofs.Loads.{lower_at, subtrie_at, rooted_seen, placed_seen, fixed_height}
+use Rattle.tries.proofs.Fitting.{lower_positive as some_height}
+use Rattle.std.proofs.lemmas.Option.{none-some}
 
 -- The height of the lowest frame: that of the root's node.
 abbrev pub top_height : ℕ → List Frame → ℕ
@@ -33,10 +35,7 @@ module _ (s : Past) (m : ℕ) (g : Range) where
 
   -- The root is None.
   pub answer_blank : (d : Direction) → IsBlank s m → IsComplete d s m g []
-  answer_blank d (n, lo, hi, e) = nothing d s m g (λ k kept r. let o = kept n lo hi in none_some (sym e ∙ o.1))
-    where
-      none_some : {t : Tree} → None ≡ Some t → ⊥
-      none_some e = cc
+  answer_blank d (n, lo, hi, e) = nothing d s m g (λ k kept r. let o = kept n lo hi in none-some o.0 (sym e ∙ o.1))
 
   -- The limit is 0.
   pub answer_nought : (d : Direction) (n : ℕ) (l : Key) (v : ℕ) → IsRead s m n l v → IsInRange g l → g.limit ≡ 0 → IsCut d s m g []
@@ -77,10 +76,7 @@ placed_falls s m law r h j e (n, u, lo, hi, sn, pg) (b, st, lt, pe) =
     let q : st.fixed ≡ o.0 = (subst (λ z. IsSameRecord (node r st.fixed b) z) o.2 same).0 in
     let built : IsBuilt (node r st.fixed b) = built_within st.stands.within (law.trees st.at st.stands.tree st.until st.stands.is_version).1 in
     let f : Place (entry_at (subtrie b) j) ≡ Place e = sym (subtrie_at b j lt) ∙ pe in
-    subst (λ z. height_of z < h) (tip_same f) (subst (λ z. height_of (entry_at (subtrie b) j) < z) (fixed_height q ∙ o.3) (lower_at st.fixed.height b j built.1))
-  where
-    tip_same : {a b : Entry} → Place a ≡ Place b → a ≡ b
-    tip_same e = cc
+    subst (λ z. height_of z < h) (place_same f) (subst (λ z. height_of (entry_at (subtrie b) j) < z) (fixed_height q ∙ o.3) (lower_at st.fixed.height b j built.1))
 
 pub stack_seen : (s : Past) (m : ℕ) (f : Frame) (fs : List Frame) → IsStack s m (f ∷ fs) → EntryStoodSince s m (Node f.number f.height)
 stack_seen s m f [] h = rooted_seen s m (Node f.number f.height) h.0
@@ -93,11 +89,6 @@ stack_depth s m law f (g ∷ gs) h =
     let a = stack_depth s m law g gs h.2 in
     let b : f.height < g.height = placed_falls s m law g.number g.height g.place (Node f.number f.height) (stack_seen s m g gs h.2) h.0 in
     omega arith
-
-some_height : (h : ℕ) (b : Tree) → IsLower h b → 0 < h
-some_height h (leaf n k v) l = l
-some_height h (node n x b) l = omega (arith, l)
-some_height h (fork p a b) l = some_height h a l.0
 
 -- Each node on it is higher than nothing.
 pub stack_high : (s : Past) (m : ℕ) → IsSteady s m → (f : Frame) (fs : List Frame) → IsStack s m (f ∷ fs) → 0 < f.height

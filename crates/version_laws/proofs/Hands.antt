@@ -14,12 +14,7 @@ use Rattle.tries.proofs.Places.{grown}
 use Rattle.tries.proofs.Puts.{built_in_own_subtrie}
 use Rattle.version_laws.proofs.Replaced.{linked_after_put, linked_before_put, links_new, links_old, shown_in_own_subtrie}
 use Rattle.version_laws.proofs.AtHand.{IsAtHand, IsNewNode}
-
-leaf_node : {n m : ℕ} → a_node n ≡ a_leaf m → ⊥
-leaf_node e = cc
-
-node_number : {n o : ℕ} → a_node n ≡ a_node o → n ≡ o
-node_number e = cc
+use Rattle.versions.proofs.Heaps.{node_number, node_leaf as leaf_node}
 
 module _ (c : BareCore) (q : ℕ) where
   -- what stays

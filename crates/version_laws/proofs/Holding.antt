@@ -118,7 +118,7 @@ module _ (c : BareCore) (q : ℕ) (law : IsLawfulState (view c)) (t : Tree) (now
   -- The publish, with what it trades.
   pub published_at : (k : Key) (d : Entry) (s : HoldsSpot c q k d) (u : Tree) (at : StandsAt k d s u) (r : Tree) (e : Entry) → subtrie r ≡ Place e → IsLowAt s e → IsAtHand c q u r →
       (n : ℕ) (new gone : List Rec) → IsTrade c q u r new gone → IsOneOf (a_leaf n) new ⊎ IsOneOf (a_leaf n) gone → IsTrie (put at.place r) →
-      (ch : Change) → ch.pass ≡ q → IsChange (Some t) ch (Some (put at.place r)) → (heap : Heap) (top : Option Entry) → IsStoredAt s heap top e → IsPublished c q heap top ch new gone
+      (ch : Change) → ch.pass ≡ q → IsChange (Some t) ch (Some (put at.place r)) → (heap : Heap) (top : Option Entry) → IsStoredAt s heap top e → IsPublished c heap top ch new gone
   published_at k d s u at r e pg low hand n new gone tr one trie ch pass told heap top st =
       published c q law t now heap top ch (put at.place r) n new gone (at.legal r e pg low hand trie ch pass told heap top st)
       (record { trade = traded_in_whole c.heap at.place r new gone (trie_now c law t now) (built_now c law t now) (shown_now c law t now) tr.trade; ready = tr.ready; apart = tr.apart }) one

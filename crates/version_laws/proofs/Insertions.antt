@@ -5,9 +5,8 @@ use Rattle.tries.specs.Tree.{Fixed, Tree, leaf, node, fork, Has, IsTrie, IsFork,
 use Rattle.compound_node.specs.declared.entries.Entry.TheVariants.{Leaf}
 use Rattle.tries.specs.Search.{Follows, child}
 use Rattle.versions.specs.State.{IsLawfulState}
-use Rattle.versions.specs.declared.Rec.TheVariants.{Node as a_node}
-use Rattle.versions.specs.Core.{InTree, BareCore, view}
-use Rattle.versions.specs.Steps.{IsVersionPublish, at_root}
+use Rattle.versions.specs.Core.{BareCore, view}
+use Rattle.versions.specs.Steps.{IsVersionPublish}
 use Rattle.tries.specs.Content.{Item, added}
 use Rattle.tries.specs.Changes.{IsAdded}
 use Rattle.tries.proofs.Changes.{put}
@@ -15,7 +14,7 @@ use Rattle.versions.specs.Told.{IsChange}
 use Rattle.version_laws.specs.Writer.{added_change, IsNewLeaf, IsFoundBelow, Newcomer}
 use Rattle.tries.specs.Affected.{affected, IsPart}
 use Rattle.tries.proofs.Tries.{trie_within, built_within, within_trans}
-use Rattle.versions.proofs.Heaps.{shown_within, near_refl}
+use Rattle.versions.proofs.Heaps.{shown_within}
 use Rattle.tries.proofs.Places.{grown, without_marks}
 use Rattle.versions.proofs.Growth.{in_tree_now}
 use Rattle.tries.proofs.Adding.{added as added_at}
@@ -24,13 +23,13 @@ use Rattle.version_laws.proofs.Now.{built_now, shown_now, trie_now}
 use Rattle.version_laws.proofs.Descent.{way_follows}
 use Rattle.version_laws.proofs.Hands.{hand_stay, hand_put, hand_grown}
 use Rattle.version_laws.proofs.AtHand.{IsAtHand}
+use Rattle.tries.proofs.Reading.{some_injective as some_same}
+use Rattle.version_laws.proofs.Replaced.{root_publish}
+use Rattle.std.proofs.lemmas.Option.{none-some}
 
 -- The body with the new leaf at the affected part.
 abbrev pub with_leaf : Item → ℕ → Tree → Tree
 with_leaf x p b = put (part_place p x.key b).0 (grown (bit x.key p) p (affected p x.key b) x)
-
-some_same : {a b : Tree} → Some a ≡ Some b → a ≡ b
-some_same e = cc
 
 pub part_of : (b : Tree) → IsFork b → IsPart b
 part_of (leaf n k v) f = tt
@@ -67,22 +66,10 @@ module _ (c : BareCore) (q : ℕ) (law : IsLawfulState (view c)) (t : Tree) (now
 -- The first key.
 pub first_key : (c : BareCore) (q : ℕ) → IsLawfulState (view c) → c.past.version c.past.now ≡ None → (x : Item) → c.anchor ≡ Some q → IsNewLeaf c q x →
     IsVersionPublish c q c.heap (Some (Leaf x.number)) (Some (leaf x.number x.key x.value)) (added_change q x)
-first_key c q law now x lock new = record {
-  store = at_root lock refl;
-  near = near_refl c.heap;
-  kept = λ i. inr refl;
-  own = refl;
-  next = record {
-    top = (refl, new.words);
-    tree = λ u y. subst (λ o. IsTrie o × IsBuilt o) (some_same y) (new.key, tt);
-    comes = λ r h. inr (ap c.fate h ∙ new.fate);
-    goes = λ n f e g. absurd (none_linked n f e);
-    change = subst (λ z. IsChange z (added_change q x) (Some (leaf x.number x.key x.value))) (sym now) (x.number, added);
-  };
-}
-  where
-    none_some : {u : Tree} → None ≡ Some u → ⊥
-    none_some e = cc
-
-    none_linked : (n f : ℕ) → c.fate (a_node n) ≡ InTree f → ⊥
-    none_linked n f e = let u = (in_tree_now c law n f e).1 in none_some (sym now ∙ u.is_version)
+first_key c q law now x lock new = root_publish c q lock (Some (Leaf x.number)) (Some (leaf x.number x.key x.value)) (added_change q x) refl (record {
+  top = (refl, new.words);
+  tree = λ u y. subst (λ o. IsTrie o × IsBuilt o) (some_same y) (new.key, tt);
+  comes = λ r h. inr (ap c.fate h ∙ new.fate);
+  goes = λ n f e g. let u = (in_tree_now c law n f e).1 in absurd (none-some u.tree (sym now ∙ u.is_version));
+  change = subst (λ z. IsChange z (added_change q x) (Some (leaf x.number x.key x.value))) (sym now) (x.number, added);
+})

@@ -19,14 +19,14 @@ use Rattle.version_laws.specs.Writer.{removed_change}
 use Rattle.version_laws.specs.Rise.{IsNewSubtrie, IsEntryFor, alone, in_node, IsLeafOf, IsBesideNode, subtrie_merged, linked_for_entry}
 use Rattle.version_laws.specs.Statements.{MergeAtSpot}
 use Rattle.tries.proofs.Tries.{trie_within, built_within, within_trans}
-use Rattle.versions.proofs.Heaps.{shown_within}
-use Rattle.versions.proofs.Stored.{not_above}
+use Rattle.versions.proofs.Heaps.{shown_within, node_number}
+use Rattle.versions.proofs.Stored.{not_above, not_beside}
 use Rattle.version_laws.proofs.Now.{built_now, shown_now, trie_now}
 use Rattle.version_laws.proofs.AtHand.{IsAtHand, IsNewNode}
 use Rattle.version_laws.proofs.Hands.{hand_around, hand_open, hand_put}
 use Rattle.version_laws.proofs.Removal.{removed_in_whole, removed_open}
 use Rattle.version_laws.proofs.Standing.{entry_leaf}
-use Rattle.version_laws.proofs.Trading.{IsTrade, IsTraded, old_now, not_beside, traded_in_whole, traded_around, traded_open}
+use Rattle.version_laws.proofs.Trading.{IsTrade, IsTraded, old_now, traded_in_whole, traded_around, traded_open}
 use Rattle.version_laws.proofs.Rising.{new_node}
 use Rattle.version_laws.proofs.Holding.{newest_tree_if_spot_held, node_at, published_at}
 use Rattle.version_laws.proofs.Taking.{IsWithout, without}
@@ -126,13 +126,10 @@ module _ (c : BareCore) (q : ℕ) (x : Item) where
     goes = goes;
   }
     where
-      number : {n o : ℕ} → a_node n ≡ a_node o → n ≡ o
-      number e = cc
-
       goes : (n : ℕ) → Links (fork p (node a y b) (node d z e)) (a_node n) → Links r (a_node n) ⊎ (c.lock n ≡ Some q)
-      goes n (inl (inl f)) = inr (ap c.lock (number f) ∙ first)
+      goes n (inl (inl f)) = inr (ap c.lock (node_number f) ∙ first)
       goes n (inl (inr f)) = h.goes n (inl f)
-      goes n (inr (inl f)) = inr (ap c.lock (number f) ∙ second)
+      goes n (inr (inl f)) = inr (ap c.lock (node_number f) ∙ second)
       goes n (inr (inr f)) = h.goes n (inr f)
 
   left_both : (p a d : ℕ) (y z : Fixed) (b e r : Tree) (new gone : List Rec) → IsTrie (fork p (node a y b) (node d z e)) → IsBuilt (fork p (node a y b) (node d z e)) → IsShown c.heap (fork p (node a y b) (node d z e)) →

@@ -8,7 +8,7 @@ use Rattle.versions.specs.State.{Past, IsHeldSince, IsKeptSince}
 use Rattle.versions.specs.declared.Rec.{Rec}
 use Rattle.versions.specs.declared.Rec.TheVariants.{Node as a_node, Leaf as a_leaf}
 use Rattle.versions.specs.Frames.{IsGrown}
-use Rattle.version_laws.specs.Scan.{Stood, IsRooted, IsPlaced, IsShaped, IsRead, MayStandAt, HadKeyBelow, Frame, IsStack, Pair, IsKeyListed, Range}
+use Rattle.version_laws.specs.Scan.{Stood, IsRooted, IsPlaced, IsShaped, IsRead, MayStandAt, HadKeyBelow, Frame, IsStack, Pair, Range}
 use Rattle.version_laws.specs.Directions.{WasPassedOnWay, HasPassed, ComesOnWay, Comes, IsScanBy}
 use Rattle.version_laws.specs.declared.direction.Direction.{Direction}
 use Rattle.version_laws.proofs.Walk.{every_map}

@@ -5,18 +5,19 @@ use Rattle.tries.specs.Keys.{Key}
 use Rattle.tries.specs.Tree.{Fixed, Tree, leaf, node, fork, IsTrie, IsBuilt, Within, here, inside, zero_side, one_side}
 use Rattle.versions.specs.Heap.{IsShown}
 use Rattle.versions.specs.State.{Links, IsLawfulState}
-use Rattle.versions.specs.declared.Rec.TheVariants.{Node as a_node, Leaf as a_leaf}
+use Rattle.versions.specs.declared.Rec.TheVariants.{Node as a_node}
 use Rattle.versions.specs.Core.{BareCore, view}
-use Rattle.versions.specs.Steps.{IsVersionPublish, at_root}
+use Rattle.versions.specs.Steps.{IsVersionPublish}
 use Rattle.tries.specs.Content.{Item, items, IsMore, added, item}
 use Rattle.tries.proofs.Changes.{put, IsRemoved}
 use Rattle.version_laws.specs.Writer.{removed_change}
-use Rattle.versions.proofs.Heaps.{near_refl}
+use Rattle.versions.proofs.Heaps.{node_leaf as leaf_node}
 use Rattle.tries.proofs.Contents.{more_left, more_right}
 use Rattle.tries.proofs.Adding.{put_less, has_less}
-use Rattle.version_laws.proofs.Replaced.{fate_linked}
+use Rattle.version_laws.proofs.Replaced.{fate_linked, root_publish}
 use Rattle.version_laws.proofs.AtHand.{IsAtHand}
 use Rattle.tries.proofs.Places.{more_after}
+use Rattle.std.proofs.lemmas.Option.{none-some}
 
 -- A fork loses the leaf on one of its sides, and the other side is left.
 pub removed_zero : (p n : ℕ) (k : Key) (v : ℕ) (b : Tree) → IsTrie b → IsRemoved (item n k v) (fork p (leaf n k v) b) b
@@ -40,9 +41,6 @@ removed_marks b r n m y g x a = record { trie = a.trie; less = a.less; keys = a.
 pub removed_open : (b r : Tree) (n : ℕ) (y : Fixed) (x : Item) → IsRemoved x b r → IsRemoved x (node n y b) r
 removed_open b r n y x a = record { trie = a.trie; less = a.less; keys = a.keys }
 
-leaf_node : {n m : ℕ} → a_node n ≡ a_leaf m → ⊥
-leaf_node e = cc
-
 module _ (c : BareCore) (q : ℕ) where
   pub hand_zero : (p n : ℕ) (k : Key) (v : ℕ) (b : Tree) → IsBuilt b → IsShown c.heap b → IsAtHand c q (fork p (leaf n k v) b) b
   hand_zero p n k v b i j = record {
@@ -63,19 +61,10 @@ module _ (c : BareCore) (q : ℕ) where
 module _ (c : BareCore) (q : ℕ) (law : IsLawfulState (view c)) (t : Tree) (now : c.past.version c.past.now ≡ Some t) where
   -- The one leaf: the index is empty then.
   pub remove_last : (n : ℕ) (k : Key) (a : ℕ) → t ≡ leaf n k a → c.anchor ≡ Some q → IsVersionPublish c q c.heap None None (removed_change q (item n k a))
-  remove_last n k a e lock = record {
-    store = at_root lock refl;
-    near = near_refl c.heap;
-    kept = λ i. inr refl;
-    own = refl;
-    next = record {
-      top = tt;
-      tree = λ u y. absurd (none_some y);
-      comes = λ r h. elim h [ ];
-      goes = λ m f i g. absurd (leaf_node (subst (λ s. Links s (a_node m)) e (fate_linked c law t now m f i)));
-      change = subst (λ z. IsChange z (removed_change q (item n k a)) None) (sym now) (n, subst (λ s. IsMore (item n k a) [] (items s)) (sym e) added);
-    };
-  }
-    where
-      none_some : {u : Tree} → None ≡ Some u → ⊥
-      none_some e = cc
+  remove_last n k a e lock = root_publish c q lock None None (removed_change q (item n k a)) refl (record {
+    top = tt;
+    tree = λ u y. absurd (none-some u y);
+    comes = λ r h. elim h [ ];
+    goes = λ m f i g. absurd (leaf_node (subst (λ s. Links s (a_node m)) e (fate_linked c law t now m f i)));
+    change = subst (λ z. IsChange z (removed_change q (item n k a)) None) (sym now) (n, subst (λ s. IsMore (item n k a) [] (items s)) (sym e) added);
+  })

@@ -1,7 +1,7 @@
 -- A publish that puts one tree in the place of another is legal.
 use Rattle.versions.specs.Told.{IsChange}
-use Rattle.std.proofs.Common.{◌≡◌, ◌⊎◌, ◌≢◌, inl, inr, ℕ, ◌<◌, true, false, refl, ap, sym, ◌∙◌, subst, arith, Option, Some, None, le_refl, eqb}
-use Rattle.std.proofs.lemmas.Bool.{eqb-true, cases_Bool, false≢true}
+use Rattle.std.proofs.Common.{◌≡◌, ◌⊎◌, ◌≢◌, inl, inr, ℕ, ◌<◌, refl, ap, sym, ◌∙◌, subst, arith, Option, Some, None, le_refl}
+use Rattle.std.proofs.lemmas.Bool.{cases_eq}
 use Rattle.tries.specs.Tree.{Fixed, Tree, leaf, node, fork, subtrie, IsTrie, IsTip, IsFork, IsLower, IsBuilt, Within, here, inside, zero_side, one_side}
 use Rattle.compound_node.specs.declared.entries.Entry.{Entry}
 use Rattle.pieces.specs.Piece.{Place}
@@ -12,12 +12,12 @@ use Rattle.versions.specs.declared.Rec.{Rec}
 use Rattle.versions.specs.declared.Rec.TheVariants.{Node as a_node}
 use Rattle.finite_map.specs.declared.Change.{Change}
 use Rattle.versions.specs.Core.{Fate, Free, Held, Ready, InTree, Unlinked, Marked, life_of, BareCore, view}
-use Rattle.versions.specs.Steps.{at_root, at_slot, IsVersionPublish}
+use Rattle.versions.specs.Steps.{at_root, at_slot, IsNextVersion, IsVersionPublish}
 use Rattle.tries.proofs.Changes.{put, IsInOwnSubtrie}
 use Rattle.version_laws.specs.Writer.{IsSubtrieStored}
 use Rattle.versions.proofs.Publish.{links_within, within_links}
 use Rattle.versions.proofs.Quiet.{shown_if_same_words}
-use Rattle.versions.proofs.Heaps.{shown_within, near_refl}
+use Rattle.versions.proofs.Heaps.{shown_within, near_refl, node_number}
 use Rattle.versions.proofs.Stored.{not_above, lower_within, put_shown, put_built}
 use Rattle.versions.proofs.Growth.{in_tree_now}
 use Rattle.tries.proofs.Tries.{built_within}
@@ -25,25 +25,30 @@ use Rattle.tries.proofs.Fitting.{fit_swap}
 use Rattle.tries.proofs.Puts.{subtrie_put, lower_in_own_subtrie, built_in_own_subtrie}
 use Rattle.version_laws.proofs.Now.{built_now, shown_now, trie_now}
 use Rattle.version_laws.proofs.AtHand.{IsAtHand}
+use Rattle.tries.proofs.Reading.{some_injective as some_same}
 
--- What is linked in the tree with another part in one place.
+-- A part put in its own place leaves the tree.
+put_own : {s t : Tree} (w : Within s t) → put w s ≡ t
+put_own here = refl
+put_own (inside {n = n} {x = x} w) = ap (node n x) (put_own w)
+put_own (zero_side {p = p} {b = b} w) = ap (λ z. fork p z b) (put_own w)
+put_own (one_side {p = p} {a = a} w) = ap (fork p a) (put_own w)
+
+-- What is linked in the tree with a part in one place is linked with another part there, or by the part.
+linked_put : {s t : Tree} (w : Within s t) (r u : Tree) (i : Rec) → Links (put w r) i → Links (put w u) i ⊎ Links r i
+linked_put here r u i h = inr h
+linked_put (inside w) r u i (inl e) = inl (inl e)
+linked_put (inside w) r u i (inr h) = elim (linked_put w r u i h) [ inl x ↦ inl (inr x) | inr x ↦ inr x ]
+linked_put (zero_side w) r u i (inl h) = elim (linked_put w r u i h) [ inl x ↦ inl (inl x) | inr x ↦ inr x ]
+linked_put (zero_side w) r u i (inr h) = inl (inr h)
+linked_put (one_side w) r u i (inl h) = inl (inl h)
+linked_put (one_side w) r u i (inr h) = elim (linked_put w r u i h) [ inl x ↦ inl (inr x) | inr x ↦ inr x ]
+
 pub linked_after_put : {s t : Tree} (w : Within s t) (r : Tree) (i : Rec) → Links (put w r) i → Links t i ⊎ Links r i
-linked_after_put here r i h = inr h
-linked_after_put (inside w) r i (inl e) = inl (inl e)
-linked_after_put (inside w) r i (inr h) = elim (linked_after_put w r i h) [ inl x ↦ inl (inr x) | inr x ↦ inr x ]
-linked_after_put (zero_side w) r i (inl h) = elim (linked_after_put w r i h) [ inl x ↦ inl (inl x) | inr x ↦ inr x ]
-linked_after_put (zero_side w) r i (inr h) = inl (inr h)
-linked_after_put (one_side w) r i (inl h) = inl (inl h)
-linked_after_put (one_side w) r i (inr h) = elim (linked_after_put w r i h) [ inl x ↦ inl (inr x) | inr x ↦ inr x ]
+linked_after_put {s} w r i h = subst (λ z. Links z i ⊎ Links r i) (put_own w) (linked_put w r s i h)
 
 pub linked_before_put : {s t : Tree} (w : Within s t) (r : Tree) (i : Rec) → Links t i → Links (put w r) i ⊎ Links s i
-linked_before_put here r i h = inr h
-linked_before_put (inside w) r i (inl e) = inl (inl e)
-linked_before_put (inside w) r i (inr h) = elim (linked_before_put w r i h) [ inl x ↦ inl (inr x) | inr x ↦ inr x ]
-linked_before_put (zero_side w) r i (inl h) = elim (linked_before_put w r i h) [ inl x ↦ inl (inl x) | inr x ↦ inr x ]
-linked_before_put (zero_side w) r i (inr h) = inl (inr h)
-linked_before_put (one_side w) r i (inl h) = inl (inl h)
-linked_before_put (one_side w) r i (inr h) = elim (linked_before_put w r i h) [ inl x ↦ inl (inr x) | inr x ↦ inr x ]
+linked_before_put {s} w r i h = linked_put w s r i (subst (λ z. Links z i) (sym (put_own w)) h)
 
 pub links_new : {s t : Tree} (w : Within s t) (r : Tree) (i : Rec) → Links r i → Links (put w r) i
 links_new here r i h = h
@@ -52,10 +57,7 @@ links_new (zero_side w) r i h = inl (links_new w r i h)
 links_new (one_side w) r i h = inr (links_new w r i h)
 
 pub links_old : {s t : Tree} (w : Within s t) (i : Rec) → Links s i → Links t i
-links_old here i h = h
-links_old (inside w) i h = inr (links_old w i h)
-links_old (zero_side w) i h = inl (links_old w i h)
-links_old (one_side w) i h = inr (links_old w i h)
+links_old {s} w i h = subst (λ z. Links z i) (put_own w) (links_new w s i h)
 
 -- A record that is linked now is in the tree, by its fate; and the other way round.
 in_tree : (now : ℕ) (f : Fate) → IsLived now (life_of f) → Spans now (life_of f) now → (s : ℕ) × (f ≡ InTree s)
@@ -71,9 +73,6 @@ linked_fate c law t e r h =
     let u = links_within t r h in
     in_tree c.past.now (c.fate r) (law.lived r)
     (law.present c.past.now (le_refl c.past.now) (le_refl c.past.now) r u.0 (record { tree = t; is_version = e; within = u.1; is_record = u.2 }))
-
-some_same : {a b : Tree} → Some a ≡ Some b → a ≡ b
-some_same e = cc
 
 pub fate_linked : (c : BareCore) → IsLawfulState (view c) → (t : Tree) → c.past.version c.past.now ≡ Some t → (n f : ℕ) → c.fate (a_node n) ≡ InTree f → Links t (a_node n)
 fate_linked c law t e n f h =
@@ -111,24 +110,19 @@ swap_in_own_subtrie (one_side w) f i r j = in_one (swap_in_own_subtrie w f i r j
 pub not_higher : (m : Heap) (n : ℕ) (x : Fixed) (r : Tree) → IsBuilt r → IsShown m r → IsLower x.height r → (m.nodes n).fixed ≡ x → Links r (a_node n) → ⊥
 not_higher m n x r b i l e h = go (links_within r (a_node n) h)
   where
-    number : {a b : ℕ} → a_node a ≡ a_node b → a ≡ b
-    number e = cc
-
     go : (u : Tree) × Within u r × IsRecord (a_node n) u → ⊥
     go (leaf a k w, u, z) = absurd cc
     go (fork a k w, u, z) = elim z [ ]
     go (node a y d, u, z) =
         let o : y.height < x.height = lower_within x.height u l b in
-        let f : (m.nodes n).fixed ≡ y = ap (λ z. (m.nodes z).fixed) (number z) ∙ ap (λ (w : NodeWords). w.fixed) (shown_within m u i).0 in
+        let f : (m.nodes n).fixed ≡ y = ap (λ z. (m.nodes z).fixed) (node_number z) ∙ ap (λ (w : NodeWords). w.fixed) (shown_within m u i).0 in
         let g : x.height ≡ y.height = ap (λ (z : Fixed). z.height) (sym e ∙ f) in
         omega arith
 
-pub is_node? : (i n : ℕ) → (i ≡ n) ⊎ (i ≢ n)
-is_node? i n = go (cases_Bool (eqb i n))
-  where
-    go : ((eqb i n ≡ true) ⊎ (eqb i n ≡ false)) → (i ≡ n) ⊎ (i ≢ n)
-    go (inl e) = inl (eqb-true i n e)
-    go (inr e) = inr (λ z. false≢true (sym e ∙ (rw z (Rattle.std.proofs.lemmas.Bool.eq-eqb n n refl))))
+-- A store of the root entry under the anchor's lock is a legal publish, where it makes the next version.
+pub root_publish : (c : BareCore) (q : ℕ) → c.anchor ≡ Some q → (root : Option Entry) (t : Option Tree) (x : Change) → x.pass ≡ q → IsNextVersion c.shared q c.heap root t x →
+    IsVersionPublish c q c.heap root t x
+root_publish c q lock root t x own next = record { store = at_root lock refl; near = near_refl c.heap; kept = λ i. inr refl; own = own; next = next }
 
 -- A store of one entry of a locked node, under which stood `s` and then stands `r`, is a legal publish of the tree
 -- with `r` in the place of `s`, where that is a bit trie.
@@ -155,8 +149,8 @@ module _ (c : BareCore) (q : ℕ) (law : IsLawfulState (view c)) (t : Tree) (now
       IsVersionPublish c q heap c.root (Some (put v (node n x (put w r)))) ch
   slot_legal {n} {x} {b} {s} v w flat ts r is_tip lock hand low trie heap st ch e one = record {
     store = at_slot n lock (λ m h. sym (st.others m h)) (λ m. sym (st.leaves m)) refl;
-    near = (st.leaves, λ i. same_fixed i (is_node? i n), λ i. subtries i (is_node? i n));
-    kept = λ i. kept i (is_node? i n);
+    near = (st.leaves, λ i. same_fixed i (cases_eq i n), λ i. subtries i (cases_eq i n));
+    kept = λ i. kept i (cases_eq i n);
     own = e;
     next = record {
       top = top_new c.root (c.past.version c.past.now) law.top now;
@@ -225,34 +219,26 @@ module _ (c : BareCore) (q : ℕ) (law : IsLawfulState (view c)) (t : Tree) (now
       kept i (inr z) = inr (st.others i z)
 
       links_in : (i : Rec) → Links (put v (node n x (put w r))) i → Links t i ⊎ Links r i
-      links_in i h = go (linked_after_put v (node n x (put w r)) i h)
-        where
-          go : Links t i ⊎ ((i ≡ a_node n) ⊎ Links (put w r) i) → Links t i ⊎ Links r i
-          go (inl y) = inl y
-          go (inr (inl y)) = inl (links_old v i (inl y))
-          go (inr (inr y)) = elim (linked_after_put w r i y) [ inl z ↦ inl (links_old v i (inr z)) | inr z ↦ inr z ]
+      links_in i h =
+          elim (linked_after_put v (node n x (put w r)) i h) [
+            | inl y ↦ inl y
+            | inr y ↦ elim y [ inl z ↦ inl (links_old v i (inl z)) | inr z ↦ elim (linked_after_put w r i z) [ inl u ↦ inl (links_old v i (inr u)) | inr u ↦ inr u ] ]
+          ]
 
       links_out : (i : Rec) → Links t i → Links (put v (node n x (put w r))) i ⊎ Links s i
-      links_out i h = go (linked_before_put v (node n x (put w r)) i h)
-        where
-          go : Links (put v (node n x (put w r))) i ⊎ ((i ≡ a_node n) ⊎ Links b i) → Links (put v (node n x (put w r))) i ⊎ Links s i
-          go (inl y) = inl y
-          go (inr (inl y)) = inl (links_new v (node n x (put w r)) i (inl y))
-          go (inr (inr y)) = elim (linked_before_put w r i y) [ inl z ↦ inl (links_new v (node n x (put w r)) i (inr z)) | inr z ↦ inr z ]
+      links_out i h =
+          elim (linked_before_put v (node n x (put w r)) i h) [
+            | inl y ↦ inl y
+            | inr y ↦ elim y [ inl z ↦ inl (links_new v (node n x (put w r)) i (inl z)) | inr z ↦ elim (linked_before_put w r i z) [ inl u ↦ inl (links_new v (node n x (put w r)) i (inr u)) | inr u ↦ inr u ] ]
+          ]
 
   -- A store of the root entry under the anchor's lock.
   pub root_legal : (r : Tree) (e : Entry) → subtrie r ≡ Place e → c.anchor ≡ Some q → IsAtHand c q t r → IsTrie r → (ch : Change) → ch.pass ≡ q → IsChange (Some t) ch (Some r) →
       IsVersionPublish c q c.heap (Some e) (Some r) ch
-  root_legal r e pg lock hand trie ch z one = record {
-    store = at_root lock refl;
-    near = near_refl c.heap;
-    kept = λ i. inr refl;
-    own = z;
-    next = record {
-      top = (pg, hand.shown);
-      tree = λ u y. subst (λ o. IsTrie o × IsBuilt o) (some_same y) (trie, hand.built);
-      comes = comes_now t r r (λ i h. h) (λ i h. inr h) hand;
-      goes = goes_now t r r (λ i h. h) (λ i h. inr h) hand;
-      change = subst (λ z. IsChange z ch (Some r)) (sym now) one;
-    };
-  }
+  root_legal r e pg lock hand trie ch z one = root_publish c q lock (Some e) (Some r) ch z (record {
+    top = (pg, hand.shown);
+    tree = λ u y. subst (λ o. IsTrie o × IsBuilt o) (some_same y) (trie, hand.built);
+    comes = comes_now t r r (λ i h. h) (λ i h. inr h) hand;
+    goes = goes_now t r r (λ i h. h) (λ i h. inr h) hand;
+    change = subst (λ z. IsChange z ch (Some r)) (sym now) one;
+  })

@@ -133,6 +133,15 @@ first_path p (leaf a k s) w i h = absurd h
 first_path p (node a k s) w i h = absurd h
 first_path p (fork a k s) w i h = path_rises_node w i (omega arith)
 
+-- The node of which a rise tells, and the part of it in whose place something comes.
+abbrev pub number_of : Side → ℕ
+number_of (body n) = n
+number_of (entry n) = n
+
+abbrev part_of_node : Side → Fixed → Tree → Tree
+part_of_node (body n) y b = b
+part_of_node (entry n) y b = node n y b
+
 module _ (c : BareCore) (q : ℕ) (law : IsLawfulState (view c)) (t : Tree) (now : c.past.version c.past.now ≡ Some t) (x : Newcomer)
     (new : IsNewLeaf c q x.item) where
   words_of : {n : ℕ} {y : Fixed} {b : Tree} → Within (node n y b) t → c.heap.nodes n ≡ record { fixed = y; subtrie = subtrie b }
@@ -166,15 +175,11 @@ module _ (c : BareCore) (q : ℕ) (law : IsLawfulState (view c)) (t : Tree) (now
 
   -- What the rise of a node is the subtrie of: a tree in the place of its body, or of its entry; and what it trades.
   abbrev HasRisen : Side → Subtrie → List Rec → List Rec → Type 0
-  HasRisen (body n) r us gs = (y : Fixed) (b : Tree) → Within (node n y b) t → (s : Tree) × (subtrie s ≡ r) × IsGrowth c q x.item x.mismatch b s × IsTrade c q b s us gs
-  HasRisen (entry n) r us gs = (y : Fixed) (b : Tree) → Within (node n y b) t → (s : Tree) × (subtrie s ≡ r) × IsGrowth c q x.item x.mismatch (node n y b) s × IsTrade c q (node n y b) s us gs
+  HasRisen d r us gs =
+      (y : Fixed) (b : Tree) → Within (node (number_of d) y b) t → (s : Tree) × (subtrie s ≡ r) × IsGrowth c q x.item x.mismatch (part_of_node d y b) s × IsTrade c q (part_of_node d y b) s us gs
 
   -- The node is locked.
-  abbrev IsLockedSide : Side → Type 0
-  IsLockedSide (body n) = c.lock n ≡ Some q
-  IsLockedSide (entry n) = c.lock n ≡ Some q
-
-  rise_locked : (d : Side) (r : Subtrie) → IsRise c q x d r → IsLockedSide d
+  rise_locked : (d : Side) (r : Subtrie) → IsRise c q x d r → c.lock (number_of d) ≡ Some q
   rise_locked d r (grows n found i) = found.lock
   rise_locked d r (pulls k n s u i) = u.locked.lock
   rise_locked d r (copies n s m g i z) = rise_locked (body n) s i

@@ -2,7 +2,7 @@
 use Rattle.std.proofs.Common.{◌≡◌, ◌⊎◌, inl, inr, ℕ, suc, ◌+◌, ◌-◌, ◌<◌, ◌≤◌, true, false, refl, ap, ap₂, sym, ◌∙◌, subst, arith, Some, if◌then◌else◌, ltb}
 use Rattle.std.proofs.lemmas.Bool.{cases_order, cases_lt, cond-true, cond-false, lt-ltb, le-ltb, false≢true}
 use Rattle.tries.specs.Keys.{IsAtMost, Key, bit, AgreeBelow, IsParted, IsBefore}
-use Rattle.tries.specs.Tree.{Fixed, Subtrie, Tree, leaf, node, fork, subtrie, Has, IsTrie, IsFork, IsBuilt, Within, here, inside, zero_side, one_side, first_position}
+use Rattle.tries.specs.Tree.{Fixed, Subtrie, Tree, leaf, node, fork, subtrie, Has, IsTip, IsTrie, IsFork, IsBuilt, Within, here, inside, zero_side, one_side, first_position}
 use Rattle.compound_node.specs.declared.entries.Entry.{Entry}
 use Rattle.compound_node.specs.declared.entries.Entry.TheVariants.{Leaf, Node}
 use Rattle.pieces.proofs.Paths.{size_pos}
@@ -18,6 +18,10 @@ use Rattle.tries.proofs.Contents.{before_irrefl}
 use Rattle.tries.proofs.Places.{spot_below, shape_tips, spot_shape}
 use Rattle.tries.specs.Content.{first}
 use Rattle.version_laws.proofs.Search.{holds_within}
+use Rattle.tries.proofs.Reading.{some_injective as some_same}
+
+pub place_same : {a b : Entry} → Place a ≡ Place b → a ≡ b
+place_same e = cc
 
 -- Places of a body.
 at_low : (p : ℕ) (a b : Tree) (i : ℕ) → i < size (subtrie a) → at_place (fork p a b) i ≡ at_place a i
@@ -97,15 +101,14 @@ alike_right (Fork p u v) i j h b k y f =
       ]
     ]
 
+tip_shape : (t : Tree) → IsTip t → shape (subtrie t) ≡ Place (Leaf 0)
+tip_shape (leaf n k v) i = refl
+tip_shape (node n x b) i = refl
+tip_shape (fork p a b) i = elim i [ ]
+
 -- Kin bodies have the same forks.
 pub kin_shape : {b c : Tree} → Kin b c → shape (subtrie b) ≡ shape (subtrie c)
-kin_shape (tips {a = leaf n k v} {b = leaf m l w} x y) = refl
-kin_shape (tips {a = leaf n k v} {b = node m l w} x y) = refl
-kin_shape (tips {a = node n k v} {b = leaf m l w} x y) = refl
-kin_shape (tips {a = node n k v} {b = node m l w} x y) = refl
-kin_shape (tips {a = fork n k v} {b = t} x y) = elim x [ ]
-kin_shape (tips {a = leaf n k v} {b = fork m l w} x y) = elim y [ ]
-kin_shape (tips {a = node n k v} {b = fork m l w} x y) = elim y [ ]
+kin_shape (tips {a = a} {b = b} x y) = tip_shape a x ∙ sym (tip_shape b y)
 kin_shape (forks {p = p} e x y) = ap₂ (Fork p) (kin_shape x) (kin_shape y)
 
 between_shape : (x : Subtrie) (i j : ℕ) → between (shape x) i j ≡ between x i j
@@ -267,9 +270,6 @@ had_key_may_stand s m law r p k sh on =
     let o = on_stood s m r k on in
     let e = shaped_spot s m law r p o.0 k sh o.1 in
     (o.0, k, o.1, subst (λ z. IsUnder o.0 z k) e (under_spot o.0 k (stood_trie s m law r o.0 o.1) o.2), alike_refl (subtrie o.0) (spot k p) k)
-
-some_same : {a b : Tree} → Some a ≡ Some b → a ≡ b
-some_same e = cc
 
 kept_has : (s : Past) (m : ℕ) (k : Key) → IsKeptSince s m k → (n : ℕ) (t : Tree) → m ≤ n → n ≤ s.now → s.version n ≡ Some t → Has t k
 kept_has s m k kept n t lo hi e = let o = kept n lo hi in subst (λ z. Has z k) (some_same (sym o.1 ∙ e)) o.2

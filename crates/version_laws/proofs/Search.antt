@@ -1,5 +1,5 @@
 -- The search of a key, from the root to a leaf.
-use Rattle.std.proofs.Common.{◌≡◌, ◌≢◌, ◌⊎◌, inl, inr, ℕ, ◌<◌, ◌≤◌, refl, ap, ap₂, sym, ◌∙◌, subst, Option, Some, None, le_refl, if◌then◌else◌}
+use Rattle.std.proofs.Common.{◌≡◌, ◌≢◌, ◌⊎◌, inl, inr, ℕ, ◌≤◌, refl, ap, ap₂, sym, ◌∙◌, subst, Option, Some, None, le_refl}
 use Rattle.tries.specs.Keys.{Key}
 use Rattle.tries.specs.Tree.{Tree, leaf, node, fork, Has, Holds, Within, here, inside, zero_side, one_side}
 use Rattle.compound_node.specs.declared.entries.Entry.{Entry}
@@ -11,6 +11,7 @@ use Rattle.versions.specs.declared.Rec.{Rec}
 use Rattle.versions.specs.declared.Rec.TheVariants.{Leaf as a_leaf}
 use Rattle.tries.proofs.Tries.{same_key}
 use Rattle.versions.proofs.States.{spans_last}
+use Rattle.versions.proofs.Heaps.{leaf_number}
 
 -- What a record that stood in a version of its life says of the words as they are now.
 pub same_record_now : (s : State) → IsLawfulState s → (r : Rec) (n : ℕ) (u : Tree) → Spans s.now (s.life r) n → Stands s.past n r u →
@@ -19,9 +20,6 @@ same_record_now s law r n u h st =
     let g = spans_last s.now (s.life r) n (law.lived r) h in
     let v = law.alive r (last_of s.now (s.life r)) g in
     (v.0, v.1, law.same r n u v.0 h st v.1, law.frozen r v.0 g v.1)
-
-leaf_number : {n o : ℕ} → a_leaf n ≡ a_leaf o → n ≡ o
-leaf_number e = cc
 
 -- And so are a leaf's.
 pub leaf_now : (s : State) → IsLawfulState s → (m : ℕ) → IsReach s m → (n o a : ℕ) (k : Key) (w : ℕ) → m ≤ n → n ≤ s.now →

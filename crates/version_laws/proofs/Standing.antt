@@ -15,9 +15,7 @@ use Rattle.versions.proofs.Growth.{in_tree_now}
 use Rattle.compound_node.specs.declared.entries.Entry.{Entry}
 use Rattle.version_laws.proofs.Now.{shown_now}
 use Rattle.version_laws.proofs.Scans.{node_of, leaf_of as leaf_named}
-
-some_same : {a b : Tree} → Some a ≡ Some b → a ≡ b
-some_same e = cc
+use Rattle.tries.proofs.Reading.{some_injective as some_same}
 
 -- A leaf is the one of its number, with its words.
 pub leaf_of : (c : BareCore) {j : ℕ} (u : Tree) → IsShown c.heap u → subtrie u ≡ Place (Leaf j) → u ≡ leaf j (c.heap.leaves j).key (c.heap.leaves j).value

@@ -16,19 +16,20 @@ use Rattle.versions.specs.declared.Rec.TheVariants.{Node as a_node, Leaf as a_le
 use Rattle.version_laws.specs.Writer.{removed_change}
 use Rattle.version_laws.specs.Rise.{IsNewSubtrie, IsEntryFor, alone, in_node, IsLeafOf, linked_for_entry}
 use Rattle.tries.proofs.Tries.{trie_within, built_within, within_trans}
-use Rattle.versions.proofs.Heaps.{shown_within}
+use Rattle.versions.proofs.Heaps.{shown_within, node_leaf}
 use Rattle.version_laws.proofs.Now.{built_now, shown_now, trie_now}
 use Rattle.version_laws.proofs.Hands.{hand_around, hand_open, hand_put}
 use Rattle.version_laws.proofs.Removal.{removed_zero, removed_one, removed_in_whole, removed_marks, removed_open, hand_zero, hand_one, remove_last}
 use Rattle.version_laws.proofs.Standing.{stands_now, entry_leaf, root_leaf, newest_tree_if_rooted}
 use Rattle.versions.specs.Trades.{HasTraded}
-use Rattle.version_laws.proofs.Trading.{IsTrade, old_now, not_beside, traded_in_whole, traded_around, traded_open, IsTraded}
+use Rattle.version_laws.proofs.Trading.{IsTrade, old_now, traded_in_whole, traded_around, traded_open, IsTraded}
 use Rattle.version_laws.proofs.Rising.{new_node}
 use Rattle.version_laws.proofs.Holding.{newest_tree_if_spot_held, node_at, published_at}
 use Rattle.version_laws.proofs.Differing.{trade_differs}
 use Rattle.version_laws.specs.Statements.{RemoveAtSpot, RemoveLast}
 use Rattle.version_laws.proofs.AtHand.{IsAtHand}
 use Rattle.tries.specs.Content.{item}
+use Rattle.versions.proofs.Stored.{not_beside}
 
 -- A body without one of its leaves: what is left, its subtrie, that the pass has it at hand, and that the leaf alone goes.
 abbrev pub IsWithout : BareCore → ℕ → Key → ℕ → ℕ → Tree → Type 0
@@ -95,9 +96,6 @@ module _ (c : BareCore) (q : ℕ) (k : Key) (j a : ℕ) where
 -- What is left of a locked node, in the place of its entry.
 abbrev MayStandLeft : BareCore → ℕ → Key → ℕ → ℕ → ℕ → Entry → Tree → List Rec → Type 0
 MayStandLeft c q k j a n e u new = (s : Tree) × (subtrie s ≡ Place e) × IsRemoved (item j k a) u s × IsAtHand c q u s × IsTrade c q u s new (a_node n ∷ a_leaf j ∷ [])
-
-node_leaf : {n m : ℕ} → a_node n ≡ a_leaf m → ⊥
-node_leaf e = cc
 
 pub same_entry : (c : BareCore) (q : ℕ) (p r : Subtrie) → p ≡ r → (e : Entry) (i : IsEntryFor c q p e) → (z : IsEntryFor c q r e) × (linked_for_entry z ≡ linked_for_entry i)
 same_entry c q p r g e (alone d z) = (alone d (sym g ∙ z), refl)

@@ -1,20 +1,16 @@
 -- What a publish links anew and unlinks, put together step by step.
-use Rattle.std.proofs.Common.{◌≡◌, inl, inr, ℕ, List, [], ◌∷◌, Bool, true, false, refl, ap, ap₂, sym, ◌∙◌, subst, Some, ◌⊎◌}
-use Rattle.std.proofs.lemmas.Bool.{false≢true}
-use Rattle.tries.specs.Tree.{Fixed, Tree, leaf, node, fork, IsTrie, IsBuilt, Within, here, inside, zero_side, one_side, Has}
+use Rattle.std.proofs.Common.{◌≡◌, inl, inr, ℕ, List, [], ◌∷◌, Bool, true, false, refl, ap, sym, ◌∙◌, subst, Some, ◌⊎◌}
+use Rattle.tries.specs.Tree.{Fixed, Tree, leaf, node, IsTrie, IsBuilt, Within, here, inside, zero_side, one_side}
 use Rattle.tries.proofs.Changes.{put}
-use Rattle.tries.specs.Content.{Item, first}
+use Rattle.tries.specs.Content.{Item}
 use Rattle.tries.proofs.Places.{grown}
-use Rattle.tries.proofs.Tries.{has_first, has_within, built_within}
-use Rattle.versions.specs.Heap.{Heap, IsShown, NodeWords, LeafWords}
-use Rattle.versions.specs.State.{Links, IsRecord, IsLawfulState}
+use Rattle.tries.proofs.Tries.{built_within}
+use Rattle.versions.specs.Heap.{Heap, IsShown}
+use Rattle.versions.specs.State.{Links, IsLawfulState}
 use Rattle.versions.specs.declared.Rec.{Rec}
 use Rattle.versions.specs.declared.Rec.TheVariants.{Node as a_node, Leaf as a_leaf}
-use Rattle.versions.proofs.Stored.{not_above}
-use Rattle.versions.proofs.Publish.{links_within}
-use Rattle.versions.proofs.Heaps.{shown_within, determined}
-use Rattle.compound_node.specs.declared.entries.Entry.TheVariants.{Node}
-use Rattle.pieces.specs.Piece.{Place}
+use Rattle.versions.proofs.Stored.{not_above, not_beside}
+use Rattle.versions.proofs.Heaps.{shown_within}
 use Rattle.version_laws.proofs.Replaced.{linked_after_put, linked_before_put, links_new, links_old, linked_fate}
 use Rattle.versions.specs.Trades.{IsOneOf, AreApart}
 use Rattle.tries.specs.Keys.{Key, bit}
@@ -28,43 +24,6 @@ pub record IsTraded (s r : Tree) (new gone : List Rec) : Type 0 where
   pub came : (i : Rec) → IsOneOf i new → Links r i
   pub goes : (i : Rec) → Links s i → Links r i ⊎ IsOneOf i gone
   pub went : (i : Rec) → IsOneOf i gone → Links s i × (Links r i → ⊥)
-
--- A record is linked at one place
-
--- two trees of one record are one tree
-same_tree : (m : Heap) (i : Rec) (u v : Tree) → IsRecord i u → IsRecord i v → IsShown m u → IsShown m v → u ≡ v
-same_tree m i (leaf a k w) (leaf c l z) x y f g = go (leaf_number (sym x ∙ y)) f g
-  where
-    leaf_number : {a c : ℕ} → a_leaf a ≡ a_leaf c → a ≡ c
-    leaf_number e = cc
-
-    go : a ≡ c → m.leaves a ≡ record { key = k; value = w } → m.leaves c ≡ record { key = l; value = z } → leaf a k w ≡ leaf c l z
-    go e f g =
-        let same : record { key = k; value = w } ≡ record { key = l; value = z } = sym f ∙ (ap m.leaves e ∙ g) in
-        equal e (ap (λ (q : LeafWords). q.key) same) (ap (λ (q : LeafWords). q.value) same)
-      where
-        equal : a ≡ c → k ≡ l → w ≡ z → leaf a k w ≡ leaf c l z
-        equal a b c = rw (a, b, c) refl
-same_tree m i (leaf a k w) (node c g d) x y f h = absurd (let e : a_leaf a ≡ a_node c = sym x ∙ y in cc)
-same_tree m i (leaf a k w) (fork c g d) x y f h = elim y [ ]
-same_tree m i (fork a k w) v x y f h = elim x [ ]
-same_tree m i (node a f b) (leaf c k w) x y g h = absurd (let e : a_node a ≡ a_leaf c = sym x ∙ y in cc)
-same_tree m i (node a f b) (fork c k w) x y g h = elim y [ ]
-same_tree m i (node a f b) (node c g d) x y s t =
-    let z : a ≡ c = node_number (sym x ∙ y) in
-    let w : f ≡ g = ap (λ (q : NodeWords). q.fixed) (sym s.0 ∙ (ap m.nodes z ∙ t.0)) in
-    determined m (node a f b) (node c g d) s t (ap₂ (λ a f. Place (Node a f)) z (ap (λ (q : Fixed). q.height) w))
-  where
-    node_number : {n o : ℕ} → a_node n ≡ a_node o → n ≡ o
-    node_number e = cc
-
-pub not_beside : (m : Heap) (p : ℕ) (i : Rec) (a b : Tree) → IsTrie (fork p a b) → IsShown m (fork p a b) → Links a i → Links b i → ⊥
-not_beside m p i a b t s x y =
-    let u = links_within a i x in
-    let v = links_within b i y in
-    let e = same_tree m i u.0 v.0 u.2 v.2 (shown_within m u.1 s.0) (shown_within m v.1 s.1) in
-    let k = first u.0 in
-    false≢true (sym (t.3 k (has_within u.1 k (has_first u.0))) ∙ t.4 k (has_within v.1 k (subst (λ z. Has z k) e (has_first u.0))))
 
 -- what a place has is not linked outside it
 outside : (m : Heap) (i : Rec) {s t : Tree} (w : Within s t) (r : Tree) → IsTrie t → IsBuilt t → IsShown m t → Links s i → Links (put w r) i → Links r i

@@ -1,5 +1,5 @@
 -- A locked node above another one: what an insertion affects there is so upwards.
-use Rattle.std.proofs.Common.{◌≡◌, ◌⊎◌, inl, inr, ℕ, ◌<◌, ◌≤◌, ap, sym, subst, arith, Some}
+use Rattle.std.proofs.Common.{◌≡◌, inl, inr, ℕ, ◌<◌, ◌≤◌, ap, sym, subst, arith, Some}
 use Rattle.std.proofs.lemmas.Bool.{cases_lt, le-ltb}
 use Rattle.tries.specs.Keys.{Key}
 use Rattle.compound_node.specs.declared.entries.Entry.TheVariants.{Node}
@@ -21,11 +21,7 @@ use Rattle.version_laws.proofs.Standing.{stands_now, entry_node, newest_tree_if_
 
 -- where the affected part of a subtrie is one entry, the subtrie's first fork is before p
 first_below : (p q : ℕ) (k : Key) (x y : Subtrie) → IsTipSubtrie (subtrie_affected p k (Fork q x y)) → q < p
-first_below p q k x y tip = go (cases_lt q p)
-  where
-    go : (q < p) ⊎ (p ≤ q) → q < p
-    go (inl h) = h
-    go (inr h) = absurd (let z : IsTipSubtrie (Fork q x y) = rw (le-ltb q p h) at tip in z)
+first_below p q k x y tip = elim (cases_lt q p) [ inl h ↦ h | inr h ↦ absurd (let z : IsTipSubtrie (Fork q x y) = rw (le-ltb q p h) at tip in z) ]
 
 module _ (c : BareCore) (q : ℕ) (law : IsLawfulState (view c)) (t : Tree) (now : c.past.version c.past.now ≡ Some t) (k : Key) (p : ℕ) where
   -- what is below p in a node is so in the one above it

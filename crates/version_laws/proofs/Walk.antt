@@ -1,7 +1,7 @@
 -- The steps of a scan keep what it knows, in either direction.
-use Rattle.std.proofs.Common.{◌≡◌, ◌⊎◌, inl, inr, ℕ, suc, ◌-◌, ◌<◌, ◌≤◌, List, [], ◌∷◌, length, refl, sym, subst, arith, le_refl, ⊎_elim}
+use Rattle.std.proofs.Common.{◌≡◌, ◌⊎◌, inl, inr, ℕ, ◌<◌, List, [], ◌∷◌, length, sym, subst, arith, le_refl, ⊎_elim}
 use Rattle.std.proofs.lemmas.Bool.{cases_lt}
-use Rattle.tries.specs.Keys.{Key, IsBefore, IsAtMost}
+use Rattle.tries.specs.Keys.{Key}
 use Rattle.compound_node.specs.declared.entries.Entry.TheVariants.{Leaf, Node}
 use Rattle.tries.specs.Tree.{Subtrie}
 use Rattle.pieces.specs.Piece.{size}
@@ -148,18 +148,25 @@ comes_next d s m k f fs (inr x) = inr (inr x)
 comes_next d s m k f fs (inl (on, come)) = ⊎_elim (λ e. inl (on, e)) (λ h. inr (inl (on, h))) (come_further d f.place (spot k f.shape) come)
 
 module _ (s : Past) (m : ℕ) (g : Range) (law : IsSteady s m) where
-  -- A node is loaded at the place: one frame more.
-  pub scan_pushed : (d : Direction) (f : Frame) (fs : List Frame) (xs : List Pair) → IsScanBy d s m g (before d f ∷ fs) xs → (c h : ℕ) (p : Subtrie) →
-      IsPlaced s m f.number f.place (Node c h) → IsShaped s m c p → IsScanBy d s m g (record { number = c; height = h; shape = p; place = first_gap d (size p) } ∷ f ∷ fs) xs
-  scan_pushed d f fs xs w c h p at sh = record {
-    stack = (at, sh, stack_place s m f f.place fs w.stack);
+  -- From one way to another of which as much is known.
+  scan_moved : (d : Direction) (fs gs : List Frame) (xs : List Pair) → IsScanBy d s m g fs xs → IsStack s m gs → ((k : Key) → HasPassed d s m k fs → HasPassed d s m k gs) →
+      ((k : Key) → IsKeptSince s m k → IsInRange g k → IsKeyListed k xs ⊎ Comes d s m k fs → IsKeyListed k xs ⊎ Comes d s m k gs) → IsScanBy d s m g gs xs
+  scan_moved d fs gs xs w stack passed covered = record {
+    stack = stack;
     ordered = w.ordered;
     within = w.within;
     held = w.held;
-    passed = every_map (λ x. HasPassed d s m x.key (before d f ∷ fs)) (λ x. HasPassed d s m x.key (top ∷ f ∷ fs)) xs (λ x y. inr y) w.passed;
+    passed = every_map (λ x. HasPassed d s m x.key fs) (λ x. HasPassed d s m x.key gs) xs (λ x. passed x.key) w.passed;
     short = w.short;
-    covered = λ k kept r. ⊎_elim (λ y. inl y) (λ y. inr (go k kept (comes_next d s m k f fs y))) (w.covered k kept r);
+    covered = λ k kept r. covered k kept r (w.covered k kept r);
   }
+
+  -- A node is loaded at the place: one frame more.
+  pub scan_pushed : (d : Direction) (f : Frame) (fs : List Frame) (xs : List Pair) → IsScanBy d s m g (before d f ∷ fs) xs → (c h : ℕ) (p : Subtrie) →
+      IsPlaced s m f.number f.place (Node c h) → IsShaped s m c p → IsScanBy d s m g (record { number = c; height = h; shape = p; place = first_gap d (size p) } ∷ f ∷ fs) xs
+  scan_pushed d f fs xs w c h p at sh =
+      scan_moved d (before d f ∷ fs) (top ∷ f ∷ fs) xs w (at, sh, stack_place s m f f.place fs w.stack) (λ k y. inr y)
+      (λ k kept r. ⊎_elim (λ y. inl y) (λ y. inr (go k kept (comes_next d s m k f fs y))))
     where
       top : Frame
       top = record { number = c; height = h; shape = p; place = first_gap d (size p) }
@@ -175,15 +182,7 @@ module _ (s : Past) (m : ℕ) (g : Range) (law : IsSteady s m) where
   -- A frame has no place more: the one above it goes on.
   pub scan_popped : (d : Direction) (f e : Frame) (fs : List Frame) (xs : List Pair) → IsScanBy d s m g (f ∷ e ∷ fs) xs → to_come d (size f.shape) f.place ≡ 0 →
       IsScanBy d s m g (behind d e ∷ fs) xs
-  scan_popped d f e fs xs w done = record {
-    stack = stack_place s m e (gap_behind d e.place) fs w.stack.2;
-    ordered = w.ordered;
-    within = w.within;
-    held = w.held;
-    passed = every_map (λ x. HasPassed d s m x.key (f ∷ e ∷ fs)) (λ x. HasPassed d s m x.key (behind d e ∷ fs)) xs (λ x y. back x.key y) w.passed;
-    short = w.short;
-    covered = λ k kept r. go k (w.covered k kept r);
-  }
+  scan_popped d f e fs xs w done = scan_moved d (f ∷ e ∷ fs) (behind d e ∷ fs) xs w (stack_place s m e (gap_behind d e.place) fs w.stack.2) back (λ k kept r. go k)
     where
       back : (k : Key) → HasPassed d s m k (f ∷ e ∷ fs) → HasPassed d s m k (behind d e ∷ fs)
       back k (inl (j, passed, x)) = inl (e.place, passed_behind d e.place, may_stand_at_child_place s m law e.number e.place f.number f.height j k w.stack.0 x)
@@ -233,15 +232,9 @@ module _ (s : Past) (m : ℕ) (g : Range) (law : IsSteady s m) where
 
     -- It comes before the range: left out.
     pub scan_skipped : IsEarlier d l (first_key d g) → IsScanBy d s m g (behind d f ∷ fs) xs
-    scan_skipped early = record {
-      stack = stack_place s m f (gap_behind d f.place) fs w.stack;
-      ordered = w.ordered;
-      within = w.within;
-      held = w.held;
-      passed = passed_then;
-      short = w.short;
-      covered = λ k kept r. go k r (leaf_covers k kept r);
-    }
+    scan_skipped early =
+        scan_moved d (before d f ∷ fs) (behind d f ∷ fs) xs w (stack_place s m f (gap_behind d f.place) fs w.stack) (λ k y. passed_next d s m k f fs y)
+        (λ k kept r listed. go k r (leaf_covers k kept r))
       where
         go : (k : Key) → IsInRange g k → IsKeyListed k xs ⊎ ((k ≡ l) ⊎ Comes d s m k (behind d f ∷ fs)) → IsKeyListed k xs ⊎ Comes d s m k (behind d f ∷ fs)
         go k r (inl y) = inl y

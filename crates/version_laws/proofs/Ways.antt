@@ -1,5 +1,5 @@
 -- The descent of a writer below its lock; and where nothing has changed since.
-use Rattle.std.proofs.Common.{◌≡◌, ◌⊎◌, inl, inr, ℕ, ◌<◌, ◌≤◌, false, true, refl, ap, sym, ◌∙◌, subst, arith, Some, Bool, None}
+use Rattle.std.proofs.Common.{◌≡◌, ◌⊎◌, inl, inr, ℕ, ◌<◌, ◌≤◌, false, true, refl, ap, sym, ◌∙◌, subst, arith, Some, Bool}
 use Rattle.std.proofs.lemmas.Bool.{false≢true, cases_lt}
 use Rattle.compound_node.specs.declared.entries.Entry.{Entry}
 use Rattle.compound_node.specs.declared.entries.Entry.TheVariants.{Node}
@@ -16,9 +16,11 @@ use Rattle.versions.proofs.Stored.{lower_within}
 use Rattle.version_laws.specs.Scan.{IsRooted, IsBlank, at_place, IsPlaced}
 use Rattle.version_laws.specs.Ways.{IsOnWay, IsWayFrom, from_leaf, from_node, WayBegins, WayGoesOn, WayEnds, WayOfLeaf, WayIsBelow, StillRooted, StillPlaced, StillGrows, OneBody, RootedSame, PlacedSame, FoundSame}
 use Rattle.version_laws.specs.Writer.{BeganAt, IsWayBelow, at_leaf, below}
-use Rattle.version_laws.proofs.Scans.{node_of, leaf_of, within_at, placed_stands, at_spot, shaped}
+use Rattle.version_laws.proofs.Scans.{node_of, leaf_of, within_at, placed_stands, at_spot, shaped, place_same}
 use Rattle.tries.proofs.Places.{spot_shape}
 use Rattle.tries.proofs.Contents.{found_child}
+use Rattle.tries.proofs.Reading.{some_injective as some_same}
+use Rattle.std.proofs.lemmas.Option.{none-some}
 
 -- keys of a body that is kin to one whose keys agree with `like` before r agree with it too
 kin_like : (r : ℕ) (like : Key) {b d : Tree} → Kin b d → IsFork b → IsTrie b → ((y : Key) → Has b y → AgreeBelow r like y) → (y : Key) → Has d y → AgreeBelow r like y
@@ -147,15 +149,6 @@ still_grows a b g m k e low f same =
     let now : m ≡ a.now = (let l = g.longer in omega arith) in
     let (t, u, is, w, pg, o) = f now in (t, u, g.kept m low ∙ is, w, pg, o)
 
-some_same : {a b : Tree} → Some a ≡ Some b → a ≡ b
-some_same e = cc
-
-some_none : {a : Tree} → Some a ≡ None → ⊥
-some_none e = cc
-
-place_same : {a b : Entry} → Place a ≡ Place b → a ≡ b
-place_same e = cc
-
 pub still_placed : StillPlaced
 still_placed s m steady seen k n h j x e shape_is at (b, stood, low, pe) f same = go (f same)
   where
@@ -203,7 +196,7 @@ rooted_same s m same = (both, not_blank)
         place_same (sym pg ∙ (ap subtrie one ∙ pg2))
 
     not_blank : (e : Entry) → IsRooted s m e → IsBlank s m → ⊥
-    not_blank e (n, t, lo, hi, is, pg) (o, lo2, hi2, none) = some_none (sym is ∙ (at_now n lo hi ∙ (sym (at_now o lo2 hi2) ∙ none)))
+    not_blank e (n, t, lo, hi, is, pg) (o, lo2, hi2, none) = none-some t (sym (sym is ∙ (at_now n lo hi ∙ (sym (at_now o lo2 hi2) ∙ none))))
 
 pub placed_same : PlacedSame
 placed_same s m steady same n j e f (b, stood, low, pe) (c, other, low2, pf) =

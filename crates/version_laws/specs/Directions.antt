@@ -147,7 +147,11 @@ IsAnswer d s m g xs true = IsCut d s m g xs
 abbrev pub IsPastKey : Direction → Past → ℕ → Key → ℕ → ℕ → Type 0
 IsPastKey d s m key r gap = (t : Past) → IsGrown s t → IsSteady t m → (j : ℕ) (z : Key) → IsToCome d gap j → MayStandAt t m r j z → IsEarlier d key z
 
--- the scan is lawful while the front `before` grew to `after`
-abbrev pub IsLawfulBy : Direction → List Change → List Change → Key → Key → ℕ → Scan → Type 0
-IsLawfulBy Upwards before after from upto limit scan = IsLawfulScan before after from upto limit scan
-IsLawfulBy Downwards before after from upto limit scan = IsLawfulReverseScan before after from upto limit scan
+-- What is said of a scan: of the fronts before and after it, of its first and last key, of its limit, and of what it found.
+abbrev pub ScanLaw : Type 1
+ScanLaw = List Change → List Change → Key → Key → ℕ → Scan → Type 0
+
+-- the scan is lawful while the front grew
+abbrev pub IsLawfulBy : Direction → ScanLaw
+IsLawfulBy Upwards = IsLawfulScan
+IsLawfulBy Downwards = IsLawfulReverseScan

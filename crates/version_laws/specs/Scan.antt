@@ -1,16 +1,15 @@
 -- What a scan knows: facts of the past alone.
-use Rattle.std.specs.Prelude.{◌≡◌, ◌⊎◌, ℕ, suc, ◌<◌, ◌≤◌, ◌-◌, List, [], ◌∷◌, ◌++◌, length, Some, None, if◌then◌else◌, nat_lt}
-use Rattle.tries.specs.Keys.{IsAtMost, Key, AgreeBelow, IsBefore}
+use Rattle.std.specs.Prelude.{◌≡◌, ◌⊎◌, ℕ, suc, ◌<◌, ◌≤◌, ◌-◌, List, [], ◌∷◌, ◌++◌, Some, None, if◌then◌else◌, nat_lt}
+use Rattle.tries.specs.Keys.{IsAtMost, Key, AgreeBelow}
 use Rattle.tries.specs.Tree.{Fixed, Subtrie, Tree, leaf, node, fork, subtrie, Has}
 use Rattle.compound_node.specs.declared.entries.Entry.{Entry}
 use Rattle.compound_node.specs.declared.entries.Entry.TheVariants.{Node}
 use Rattle.pieces.specs.Piece.{Place, Fork, size}
 use Rattle.tries.specs.Search.{IsUnder}
-use Rattle.versions.specs.State.{rec_of, Past, Stands, IsHeldSince, IsKeptSince, IsSteady}
-use Rattle.versions.specs.Frames.{IsGrown}
+use Rattle.versions.specs.State.{rec_of, Past, Stands}
 use Rattle.versions.specs.declared.Rec.{Rec}
 use Rattle.versions.specs.declared.Rec.TheVariants.{Node as a_node, Leaf as a_leaf}
-use Rattle.tries.specs.Place.{spot, shape}
+use Rattle.tries.specs.Place.{shape}
 
 -- What stands at a place of a body.
 abbrev pub at_place : Tree → ℕ → Tree

@@ -1,4 +1,4 @@
--- The laws of walks.
+-- The laws of versions for writers, searches and scans, as the functions of the module `laws` promise them.
 use Rattle.std.specs.Prelude.{◌≡◌, ◌≢◌, ◌⊎◌, ℕ, ◌++◌, List, [], ◌∷◌, length, Bool, Option, Some, None, ◌≤◌, ◌<◌}
 use Rattle.finite_map.specs.declared.Change.{Change}
 use Rattle.finite_map.specs.declared.Scan.{Scan as Answer}
@@ -29,11 +29,11 @@ use Rattle.version_laws.specs.declared.direction.Direction.{Direction}
 use Rattle.compound_node.specs.Nodes.{height_of}
 use Rattle.versions.specs.Frames.{IsGrown}
 
--- The store is a legal publish of this tree, which may be empty, and tells this change: the leaves are others than before, just
--- the records `new` are linked anew, and just the records `gone` are linked no more.
-pub record IsPublished (c : BareCore) (q : ℕ) (heap : Heap) (root : Option Entry) (x : Change) (new gone : List Rec) : Type 0 where
+-- The store is a legal publish of this tree, which may be empty, by the change's pass, and tells this change: the leaves are others than
+-- before, just the records `new` are linked anew, and just the records `gone` are linked no more.
+pub record IsPublished (c : BareCore) (heap : Heap) (root : Option Entry) (x : Change) (new gone : List Rec) : Type 0 where
   pub tree : Option Tree
-  pub legal : IsVersionPublish c q heap root tree x
+  pub legal : IsVersionPublish c x.pass heap root tree x
   pub differs : items_of (c.past.version c.past.now) ≢ items_of tree
   pub trade : HasTraded (c.past.version c.past.now) tree new gone
 
@@ -43,7 +43,7 @@ abbrev pub InsertAtSpot : Type 0
 InsertAtSpot =
     (c : BareCore) (q : ℕ) → IsLawfulState (view c) → (x : Newcomer) → IsNewLeaf c q x.item → (n h : ℕ) (e : Entry) →
     (i : IsRise c q x (entry n) (Place e)) → (s : HoldsSpot c q x.item.key (Node n h)) → AffectsSpotAloneInCore s x.mismatch → IsLowAt s e →
-    (heap : Heap) (root : Option Entry) → IsStoredAt s heap root e → IsPublished c q heap root (added_change q x.item) (linked_by_rise i) (unlinked_by_rise i)
+    (heap : Heap) (root : Option Entry) → IsStoredAt s heap root e → IsPublished c heap root (added_change q x.item) (linked_by_rise i) (unlinked_by_rise i)
 
 -- Where a locked node's place of the node below is all that an insertion at p affects, its own first fork is before p: so the node
 -- above it needs no other check than that its entry names it.
@@ -57,20 +57,20 @@ PairAtSpot =
     (s : HoldsSpot c q x.key (Leaf j)) → AffectsSpotAloneInCore s p → AgreeBelow p x.key (c.heap.leaves j).key → bit x.key p ≢ bit (c.heap.leaves j).key p →
     IsNewSubtrie c q m g (subtrie_forked (bit x.key p) p (Leaf x.number) (Place (Leaf j))) → IsLowAt s (Node m g.height) →
     (heap : Heap) (root : Option Entry) → IsStoredAt s heap root (Node m g.height) →
-    IsPublished c q heap root (added_change q x) (a_node m ∷ a_leaf x.number ∷ []) []
+    IsPublished c heap root (added_change q x) (a_node m ∷ a_leaf x.number ∷ []) []
 
 -- The first key: where the root is empty, the new leaf.
 abbrev pub FirstKey : Type 0
 FirstKey =
     (c : BareCore) (q : ℕ) → IsLawfulState (view c) → (x : Item) → c.anchor ≡ Some q → c.root ≡ None → IsNewLeaf c q x →
-    IsPublished c q c.heap (Some (Leaf x.number)) (added_change q x) (a_leaf x.number ∷ []) []
+    IsPublished c c.heap (Some (Leaf x.number)) (added_change q x) (a_leaf x.number ∷ []) []
 
 -- Upsert of a held key: a new leaf in the place of the old one.
 abbrev pub UpsertAtSpot : Type 0
 UpsertAtSpot =
     (c : BareCore) (q : ℕ) → IsLawfulState (view c) → (x : Item) → IsNewLeaf c q x → (j : ℕ) (s : HoldsSpot c q x.key (Leaf j)) → (c.heap.leaves j).key ≡ x.key →
     (heap : Heap) (root : Option Entry) → IsStoredAt s heap root (Leaf x.number) →
-    IsPublished c q heap root (replaced_change q x) (a_leaf x.number ∷ []) (a_leaf j ∷ [])
+    IsPublished c heap root (replaced_change q x) (a_leaf x.number ∷ []) (a_leaf j ∷ [])
 
 -- Removal of an entry: what is left of its node, one entry or a new node, takes the node's place.
 abbrev pub RemoveAtSpot : Type 0
@@ -78,7 +78,7 @@ RemoveAtSpot =
     (c : BareCore) (q : ℕ) → IsLawfulState (view c) → (k : Key) (n j : ℕ) → IsLeafOf c q k n j → (h : ℕ) (e : Entry) →
     (i : IsEntryFor c q (subtrie_without k (c.heap.nodes n).subtrie) e) → (s : HoldsSpot c q k (Node n h)) → IsLowAt s e →
     (heap : Heap) (root : Option Entry) → IsStoredAt s heap root e →
-    IsPublished c q heap root (removed_change q (item j k (c.heap.leaves j).value)) (linked_for_entry i) (a_node n ∷ a_leaf j ∷ [])
+    IsPublished c heap root (removed_change q (item j k (c.heap.leaves j).value)) (linked_for_entry i) (a_node n ∷ a_leaf j ∷ [])
 
 -- Removal that merges: what is left of the leaf's node and the node beside it become one new node, whose entry closes the fork between
 -- them in the node above. What is left of that, one entry or a new node, takes its place.
@@ -88,14 +88,14 @@ MergeAtSpot =
     (z : ℕ) (g : Fixed) → IsNewSubtrie c q z g (subtrie_merged c q k o n m b) →
     (h : ℕ) (e : Entry) (i : IsEntryFor c q (subtrie_collapsed k (Node z g.height) (c.heap.nodes o).subtrie) e) →
     (s : HoldsSpot c q k (Node o h)) → IsLowAt s e → (heap : Heap) (root : Option Entry) → IsStoredAt s heap root e →
-    IsPublished c q heap root (removed_change q (item j k (c.heap.leaves j).value)) (linked_for_entry i ++ a_node z ∷ [])
+    IsPublished c heap root (removed_change q (item j k (c.heap.leaves j).value)) (linked_for_entry i ++ a_node z ∷ [])
     (a_node o ∷ a_node n ∷ a_node m ∷ a_leaf j ∷ [])
 
 -- Removal of the last key.
 abbrev pub RemoveLast : Type 0
 RemoveLast =
     (c : BareCore) (q : ℕ) → IsLawfulState (view c) → (j : ℕ) → c.anchor ≡ Some q → c.root ≡ Some (Leaf j) →
-    IsPublished c q c.heap None (removed_change q (item j (c.heap.leaves j).key (c.heap.leaves j).value)) [] (a_leaf j ∷ [])
+    IsPublished c c.heap None (removed_change q (item j (c.heap.leaves j).key (c.heap.leaves j).value)) [] (a_leaf j ∷ [])
 
 -- A lookup that was led to a leaf: the leaf's key tells whether its key was held, with this value, or absent meanwhile.
 abbrev pub GetEnds : Type 0
@@ -106,7 +106,8 @@ GetEnds =
 -- The end of a scan of this direction, with or without more pairs, makes it lawful in the fronts: it came to its end, or was cut at the limit.
 abbrev pub ScanIsLawful : Type 0
 ScanIsLawful =
-    (d : Direction) (more : Bool) (s : Past) (before rest : List Change) (m : ℕ) → IsSteady s m → TellChanges s (before ++ rest) → (g : Range) → IsKey g.from → IsKey g.upto →
+    (d : Direction) (more : Bool) (s : Past) (before rest : List Change) (m : ℕ) → IsSteady s m → TellChanges s (before ++ rest) →
+    (g : Range) → IsKey g.from → IsKey g.upto →
     (xs : List Pair) (scan : Answer) → scan.pairs.items ≡ in_order_taken xs → scan.more ≡ more → IsAnswer d s (length before) g xs more →
     IsLawfulBy d before (before ++ rest) g.from g.upto g.limit scan
 

@@ -32,7 +32,8 @@ IsStill s m k e = m ≡ s.now → (t : Tree) × (u : Tree) × (s.version m ≡ S
 -- it begins at a node to which it was led, and of which it has read the forks;
 abbrev pub WayBegins : Type 0
 WayBegins =
-    (s : Past) (m : ℕ) → IsSteady s m → (a h r : ℕ) (x : Subtrie) → EntryStoodSince s m (Node a h) → IsShaped s m a x → first_position x ≡ r → IsOnWay s m r a (Node a h)
+    (s : Past) (m : ℕ) → IsSteady s m → (a h r : ℕ) (x : Subtrie) → EntryStoodSince s m (Node a h) → IsShaped s m a x → first_position x ≡ r →
+    IsOnWay s m r a (Node a h)
 
 -- it goes on by an entry that was read, whatever was published in between;
 abbrev pub WayGoesOn : Type 0

@@ -1,4 +1,4 @@
-//! The laws of walks. The functions do nothing: their contracts are the laws.
+//! The laws of versions for writers, searches and scans. The functions do nothing: their contracts are the laws.
 
 ghost use Rattle.version_laws.specs.Ways.{FoundSame, OneBody, PlacedSame, RootedSame, StillGrows, StillPlaced, StillRooted, WayBegins, WayEnds, WayGoesOn, WayIsBelow, WayOfLeaf};
 ghost use Rattle.version_laws.specs.Statements.{FirstKey, FoundIsKept, GetEnds, InsertAtSpot, LedPlaced, LoadsLeaf, LoadsNone, LoadsPlace, LoadsRoot, LoadsShape, MergeAtSpot, PairAtSpot, RemoveAtSpot, RemoveLast, ScanIsLawful, UpperGoesOn, UpsertAtSpot};
@@ -8,9 +8,8 @@ pub fn insert_at_spot()
     ensures { InsertAtSpot }
 {}
 
-/// If an insertion at `p` affects only the place of the node below in a locked node, the locked node's first fork is before `p`. So the
-/// node above it needs no check but that its entry names it.
-pub fn upper_goes_on()
+/// If an insertion affects only the place of the node below in a locked node, that node's first fork is before its position.
+pub fn first_fork_is_before()
     ensures { UpperGoesOn }
 {}
 
@@ -20,7 +19,7 @@ pub fn pair_at_spot()
 {}
 
 /// The first key at an empty root is a legal publish.
-pub fn first_key()
+pub fn add_first_key()
     ensures { FirstKey }
 {}
 
@@ -50,37 +49,37 @@ pub fn found_is_kept()
 {}
 
 /// A load of the root tells its entry in a version.
-pub fn loads_root()
+pub fn load_tells_root()
     ensures { LoadsRoot }
 {}
 
-/// A load of an empty root tells that each key was absent in a version.
-pub fn loads_none()
+/// A load of an empty root tells that each key was absent in a version since any that is no later.
+pub fn load_tells_empty_root()
     ensures { LoadsNone }
 {}
 
 /// A load of an entry of a node in reach tells that it stood there in a version, and that it is lower.
-pub fn loads_place()
+pub fn load_tells_entry()
     ensures { LoadsPlace }
 {}
 
 /// The loads of the fixed words of a node in reach tell its forks.
-pub fn loads_shape()
+pub fn loads_tell_forks()
     ensures { LoadsShape }
 {}
 
 /// The loads of the words of a leaf in reach tell its key and value.
-pub fn loads_leaf()
+pub fn loads_tell_leaf()
     ensures { LoadsLeaf }
 {}
 
 /// A search goes from a node to the entry at its place, whatever was published between the loads.
-pub fn led_placed()
+pub fn search_goes_on()
     ensures { LedPlaced }
 {}
 
 /// A lookup that came to a leaf stands in a version since its pin.
-pub fn get_ends()
+pub fn lookup_is_current()
     ensures { GetEnds }
 {}
 
@@ -90,61 +89,61 @@ pub fn scan_is_lawful()
 {}
 
 /// The descent of a writer below its lock begins at a node of which it has read the forks.
-pub fn way_begins()
+pub fn descent_begins()
     ensures { WayBegins }
 {}
 
 /// The descent goes on by each entry that it reads, whatever is published in between.
-pub fn way_goes_on()
+pub fn descent_goes_on()
     ensures { WayGoesOn }
 {}
 
 /// The descent ends at a leaf. Before the first node's first fork, the leaf's key agrees with a key that the node had.
-pub fn way_ends()
+pub fn descent_ends()
     ensures { WayEnds }
 {}
 
-/// Or the descent begins and ends at a leaf.
-pub fn way_of_leaf()
+/// A descent may begin and end at one leaf.
+pub fn descent_ends_at_once()
     ensures { WayOfLeaf }
 {}
 
 /// From the entry of a locked node on, the descent is the way below that node.
-pub fn way_is_below()
+pub fn descent_is_way_below()
     ensures { WayIsBelow }
 {}
 
 /// If no change was made since a version, each search in the newest tree begins at the root's entry that was read since.
-pub fn still_rooted()
+pub fn still_at_root()
     ensures { StillRooted }
 {}
 
-/// If no change was made since a version, a search in the newest tree goes on by each entry that was read since, from there on.
-pub fn still_placed()
+/// If no change was made since a version, a search in the newest tree goes on by each entry that was read since.
+pub fn still_at_entry()
     ensures { StillPlaced }
 {}
 
-/// What is so known of the entry to which a search comes stays true as more versions are known.
-pub fn still_grows()
+/// What `still_at_root` and `still_at_entry` tell stays true while more versions are published.
+pub fn still_known_later()
     ensures { StillGrows }
 {}
 
 /// In one version a node stands at one place.
-pub fn one_body()
+pub fn node_has_one_body()
     ensures { OneBody }
 {}
 
 /// Two reads of the root find one entry, if no change was made in between.
-pub fn rooted_same()
+pub fn root_loads_agree()
     ensures { RootedSame }
 {}
 
 /// Two reads of one place of a node find one entry, if no change was made in between.
-pub fn placed_same()
+pub fn entry_loads_agree()
     ensures { PlacedSame }
 {}
 
 /// Two searches for a key end at one leaf, if no change was made in between.
-pub fn found_same()
+pub fn searches_agree()
     ensures { FoundSame }
 {}

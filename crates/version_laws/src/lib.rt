@@ -1,4 +1,4 @@
-//! Walks over the core: readers, scans and writers. Definitions and laws alone.
+//! What writers, searches and scans may conclude from what they read. Definitions and laws alone.
 #![tactic(auto)]
 
 mod direction;

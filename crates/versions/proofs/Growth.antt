@@ -10,6 +10,7 @@ use Rattle.versions.specs.declared.Rec.TheVariants.{Node as a_node, Leaf as a_le
 use Rattle.versions.specs.Frames.{IsGrown}
 use Rattle.versions.specs.Core.{has_seen, InTree, Marked, life_of, BareCore, pin_version, view, IsPaced}
 use Rattle.versions.specs.declared.Pin.{Pin}
+use Rattle.versions.proofs.Heaps.{node_number}
 
 -- The record was linked in no version since `m`.
 abbrev pub IsUnlinkedSince : Past → ℕ → Rec → Type 0
@@ -57,15 +58,12 @@ in_tree_now c law n f e = go at_now.0 at_now.1 (law.frozen (a_node n) at_now.0 l
     at_now : (u : Tree) × Stands c.past c.past.now (a_node n) u
     at_now = law.alive (a_node n) c.past.now spans
 
-    number : {a b : ℕ} → a_node a ≡ a_node b → a ≡ b
-    number e = cc
-
     go : (u : Tree) → Stands c.past c.past.now (a_node n) u → IsCopied c.heap u →
         (b : Tree) × Stands c.past c.past.now (a_node n) (node n (c.heap.nodes n).fixed b) × (subtrie b ≡ (c.heap.nodes n).subtrie)
     go (leaf a k w) st i = absurd (let r : a_node n ≡ a_leaf a = st.is_record in cc)
     go (fork a k w) st i = elim st.is_record [ ]
     go (node a x b) st i =
-        let z : a ≡ n = sym (number st.is_record) in
+        let z : a ≡ n = sym (node_number st.is_record) in
         let y : c.heap.nodes n ≡ record { fixed = x; subtrie = subtrie b } = ap c.heap.nodes (sym z) ∙ i in
         let v : node a x b ≡ node n (c.heap.nodes n).fixed b = ap₂ (λ p q. node p q b) z (sym (ap (λ (w : NodeWords). w.fixed) y)) in
         (b, subst (Stands c.past c.past.now (a_node n)) v st, sym (ap (λ (w : NodeWords). w.subtrie) y))

@@ -8,6 +8,19 @@ use Rattle.tries.specs.Search.{Kin, tips, forks}
 use Rattle.tries.proofs.Tries.{has_within}
 use Rattle.versions.specs.Heap.{NodeWords, LeafWords, Heap, IsCopied, IsShown, IsNear}
 use Rattle.tries.specs.Place.{Swap, in_zero, in_one}
+use Rattle.versions.specs.declared.Rec.TheVariants.{Node as a_node, Leaf as a_leaf}
+
+pub node_number : {n o : ℕ} → a_node n ≡ a_node o → n ≡ o
+node_number e = cc
+
+pub leaf_number : {n o : ℕ} → a_leaf n ≡ a_leaf o → n ≡ o
+leaf_number e = cc
+
+pub node_leaf : {n o : ℕ} → a_node n ≡ a_leaf o → ⊥
+node_leaf e = cc
+
+pub leaf_node : {n o : ℕ} → a_leaf n ≡ a_node o → ⊥
+leaf_node e = cc
 
 pub shown_within : (m : Heap) {s t : Tree} → Within s t → IsShown m t → IsShown m s
 shown_within m here i = i

@@ -39,11 +39,7 @@ true_links (fork p a b) r (inr x) = or_right (links a r) (links b r) (true_links
 
 pub linked_cases : (t : Option Tree) (r : Rec) → (IsLinked t r × (is_linked t r ≡ true)) ⊎ ((¬ (IsLinked t r)) × (is_linked t r ≡ false))
 linked_cases None r = inr ((λ x. x), refl)
-linked_cases (Some t) r = go (cases_Bool (links t r))
-  where
-    go : ((links t r ≡ true) ⊎ (links t r ≡ false)) → (Links t r × (links t r ≡ true)) ⊎ ((¬ (Links t r)) × (links t r ≡ false))
-    go (inl e) = inl (links_true t r e, e)
-    go (inr e) = inr ((λ x. false≢true (sym e ∙ true_links t r x)), e)
+linked_cases (Some t) r = elim (cases_Bool (links t r)) [ inl e ↦ inl (links_true t r e, e) | inr e ↦ inr ((λ x. false≢true (sym e ∙ true_links t r x)), e) ]
 
 -- The lives after a publish are those that it may make.
 next_linked : (now q : ℕ) (L : Type 0) (f : Fate) → L → ((s : ℕ) × (f ≡ InTree s)) ⊎ (f ≡ Ready q) → IsNext now L (life_of f) (life_of (next_fate now q true f))
@@ -60,12 +56,7 @@ next_unlinked now q L (Marked f l s) n = gone n
 
 lives : (c : BareCore) (q : ℕ) (heap : Heap) (root : Option Entry) (t : Option Tree) (x : Change) → IsVersionPublish c q heap root t x →
     (r : Rec) → IsNext c.past.now (IsLinked t r) (life_of (c.fate r)) (life_of (next_fate c.past.now q (is_linked t r) (c.fate r)))
-lives c q heap root t x p r = go (linked_cases t r)
-  where
-    go : (IsLinked t r × (is_linked t r ≡ true)) ⊎ ((¬ (IsLinked t r)) × (is_linked t r ≡ false)) →
-        IsNext c.past.now (IsLinked t r) (life_of (c.fate r)) (life_of (next_fate c.past.now q (is_linked t r) (c.fate r)))
-    go (inl (l, e)) = rw e (next_linked c.past.now q (IsLinked t r) (c.fate r) l (p.comes r l))
-    go (inr (l, e)) = rw e (next_unlinked c.past.now q (IsLinked t r) (c.fate r) l)
+lives c q heap root t x p r = elim (linked_cases t r) [ inl y ↦ rw y.1 (next_linked c.past.now q (IsLinked t r) (c.fate r) y.0 (p.comes r y.0)) | inr y ↦ rw y.1 (next_unlinked c.past.now q (IsLinked t r) (c.fate r) y.0) ]
 
 -- A legal publish keeps the core lawful.
 pub legal_publish_lawful : (c : BareCore) (q : ℕ) (heap : Heap) (root : Option Entry) (t : Option Tree) (x : Change) →

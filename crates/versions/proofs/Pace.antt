@@ -101,18 +101,14 @@ mark_paced c q r f l late p = record {
     new a b s k x e h (inr y) = inr (subst (λ z. z < x.version) (same_mark h).0 (omega arith))
 
 pub next_marked : (now q : ℕ) (b : Bool) (g : Fate) (f l s : ℕ) → next_fate now q b g ≡ Marked f l s → g ≡ Marked f l s
-next_marked now q true Free f l s e = absurd cc
-next_marked now q true (Held p) f l s e = absurd cc
+next_marked now q linked Free f l s e = absurd cc
+next_marked now q linked (Held p) f l s e = absurd cc
 next_marked now q true (Ready p) f l s e = absurd cc
 next_marked now q true (InTree p) f l s e = absurd cc
-next_marked now q true (Unlinked a b p) f l s e = absurd cc
-next_marked now q true (Marked a b p) f l s e = e
-next_marked now q false Free f l s e = absurd cc
-next_marked now q false (Held p) f l s e = absurd cc
+next_marked now q linked (Unlinked a b p) f l s e = absurd cc
+next_marked now q linked (Marked a b p) f l s e = e
 next_marked now q false (Ready p) f l s e = absurd cc
 next_marked now q false (InTree p) f l s e = absurd cc
-next_marked now q false (Unlinked a b p) f l s e = absurd cc
-next_marked now q false (Marked a b p) f l s e = e
 
 pub publish_paced : (c : BareCore) (q : ℕ) (root : Option Entry) (t : Option Tree) (x : Change) → IsPaced c.shared → IsPaced (published_by c.shared q root t x)
 publish_paced c q root t x p = record {

@@ -6,10 +6,11 @@ use Rattle.tries.specs.Tree.{Tree, leaf, node, fork, IsTrie, IsBuilt, Within, he
 use Rattle.versions.specs.Heap.{NodeWords, LeafWords, Heap, IsCopied, IsShown, IsNear}
 use Rattle.versions.specs.State.{IsRecord, Links, Life, Out, Linked, Retired, Spans, last_of, State, Stands, IsSameRecord, IsTop, IsReach, IsLawfulState, IsLived, with_version, IsLinked}
 use Rattle.versions.specs.declared.Rec.{Rec}
-use Rattle.versions.specs.declared.Rec.TheVariants.{Node as a_node, Leaf as a_leaf}
-use Rattle.tries.proofs.Tries.{trie_within, built_within, kin_trans}
-use Rattle.versions.proofs.States.{spans_last, spans_ended}
-use Rattle.versions.proofs.Heaps.{shown_within, copied_if_shown, kin_step, near_subtrie, near_refl}
+use Rattle.versions.specs.declared.Rec.TheVariants.{Node as a_node}
+use Rattle.tries.proofs.Tries.{trie_within, built_within}
+use Rattle.versions.proofs.States.{same_trans, spans_last, spans_ended}
+use Rattle.versions.proofs.Heaps.{shown_within, copied_if_shown, kin_step, near_subtrie, near_refl, node_number, leaf_number}
+use Rattle.tries.proofs.Reading.{some_injective as some_same}
 
 -- What a publish makes of a record's life, where `L` says that the new version links it.
 pub data IsNext (now : ℕ) (L : Type 0) : Life → Life → Type 0 where
@@ -43,9 +44,6 @@ version_old f n t i h = cond-false (eqb i n) t (f i) (ne_eqb i n (λ e. omega ar
 pub version_new : (f : ℕ → Option Tree) (n : ℕ) (t : Option Tree) → with_version f n t n ≡ t
 version_new f n t = cond-true (eqb n n) t (f n) (eq-eqb n n refl)
 
-some_same : {a b : Tree} → Some a ≡ Some b → a ≡ b
-some_same e = cc
-
 pub links_within : (t : Tree) (r : Rec) → Links t r → (u : Tree) × Within u t × IsRecord r u
 links_within (leaf n k v) r l = (leaf n k v, here, l)
 links_within (node n h b) r (inl l) = (node n h b, here, l)
@@ -68,11 +66,7 @@ next_down : (now : ℕ) (L : Type 0) (l m : Life) (n : ℕ) → IsLived now l �
     (Spans now l n × (n ≤ now)) ⊎ ((n ≡ suc now) × L)
 next_down now L l m n i (comes x) h = inr (omega arith, x)
 next_down now L l m n i (stays_out x) h = elim h [ ]
-next_down now L l m n i (stays {since = f} x) h = go (cases_lt now n)
-  where
-    go : (now < n) ⊎ (n ≤ now) → (Spans now (Linked f) n × (n ≤ now)) ⊎ ((n ≡ suc now) × L)
-    go (inl y) = inr (omega arith, x)
-    go (inr y) = inl ((h.0, y), y)
+next_down now L l m n i (stays {since = f} x) h = elim (cases_lt now n) [ inl y ↦ inr (omega arith, x) | inr y ↦ inl ((h.0, y), y) ]
 next_down now L l m n i (goes {since = f} x) h = inl (h, h.1)
 next_down now L l m n i (gone {since = f} {last = e} x) h = inl (h, omega arith)
 
@@ -106,12 +100,6 @@ next_last now L l m (stays x) h = inl (x, refl)
 next_last now L l m (goes x) h = inr (x, refl)
 next_last now L l m (gone x) h = inr (x, refl)
 
-leaf_number : {n o : ℕ} → a_leaf n ≡ a_leaf o → n ≡ o
-leaf_number e = cc
-
-node_number : {n o : ℕ} → a_node n ≡ a_node o → n ≡ o
-node_number e = cc
-
 -- One record in two heaps, the second of which differs by one entry a subtrie.
 same_step : (m o : Heap) → IsNear m o → (r : Rec) (u v : Tree) → IsRecord r u → IsRecord r v → IsBuilt u → IsTrie u → IsTrie v →
     IsShown m u → IsShown o v → IsSameRecord u v
@@ -129,19 +117,6 @@ same_step m o near r (node n a b) (node q e f) x y c l k i j =
       ap (λ (z : NodeWords). z.fixed) (sym i.0) ∙ (near.1 n ∙ ap (λ (z : NodeWords). z.fixed) (ap o.nodes z ∙ j.0)),
       kin_step m o near b f c.2 l k i.1 j.1 (near_subtrie m o near z i.0 j.0),
     )
-
-same_trans : (a b c : Tree) → IsSameRecord a b → IsSameRecord b c → IsSameRecord a c
-same_trans (leaf n k v) (leaf m l w) (leaf o x y) e f = (e.0 ∙ f.0, e.1 ∙ f.1)
-same_trans (node n h b) (node m i c) (node o j d) e f = (e.0 ∙ f.0, kin_trans e.1 f.1)
-same_trans (leaf n k v) (leaf m l w) (node o x y) e f = elim f [ ]
-same_trans (leaf n k v) (leaf m l w) (fork o x y) e f = elim f [ ]
-same_trans (node n k v) (node m l w) (leaf o x y) e f = elim f [ ]
-same_trans (node n k v) (node m l w) (fork o x y) e f = elim f [ ]
-same_trans (leaf n k v) (node m l w) c e f = elim e [ ]
-same_trans (leaf n k v) (fork m l w) c e f = elim e [ ]
-same_trans (node n k v) (leaf m l w) c e f = elim e [ ]
-same_trans (node n k v) (fork m l w) c e f = elim e [ ]
-same_trans (fork n k v) b c e f = elim e [ ]
 
 -- A record that is linked on both sides was in its life before.
 next_stays : (now : ℕ) (L : Type 0) (l m : Life) (n : ℕ) → IsNext now L l m → L → Spans now l n → n ≤ now → (last_of now l ≡ now) × Spans now l now
@@ -230,11 +205,7 @@ module _ (s : State) (law : IsLawfulState s) (heap : Heap) (root : Option Entry)
   unlinked_copied : (r : Rec) (u : Tree) → ¬ (IsLinked t r) → IsRecord r u → IsCopied s.heap u → IsCopied heap u
   unlinked_copied r (leaf n k v) l i c = sym (p.near.0 n) ∙ c
   unlinked_copied r (fork q a b) l i c = tt
-  unlinked_copied r (node n h b) l i c = go (p.kept n)
-    where
-      go : IsLinked t (a_node n) ⊎ (s.heap.nodes n ≡ heap.nodes n) → IsCopied heap (node n h b)
-      go (inl x) = absurd (l (subst (IsLinked t) (sym i) x))
-      go (inr x) = sym x ∙ c
+  unlinked_copied r (node n h b) l i c = elim (p.kept n) [ inl x ↦ absurd (l (subst (IsLinked t) (sym i) x)) | inr x ↦ sym x ∙ c ]
 
   now_last : (r : Rec) → Spans (suc s.now) (life r) (last_of (suc s.now) (life r)) →
       (IsLinked t r × (last_of (suc s.now) (life r) ≡ suc s.now)) ⊎ ((¬ (IsLinked t r)) × (last_of (suc s.now) (life r) ≡ last_of s.now (s.life r)))
@@ -242,11 +213,7 @@ module _ (s : State) (law : IsLawfulState s) (heap : Heap) (root : Option Entry)
 
   -- where the record is not linked any more, its last version is that of before
   old_last : (r : Rec) (n : ℕ) → Spans (suc s.now) (life r) n → ¬ (IsLinked t r) → Spans s.now (s.life r) n × (n ≤ s.now)
-  old_last r n h x = go (next_down s.now (IsLinked t r) (s.life r) (life r) n (law.lived r) (p.lives r) h)
-    where
-      go : (Spans s.now (s.life r) n × (n ≤ s.now)) ⊎ ((n ≡ suc s.now) × IsLinked t r) → Spans s.now (s.life r) n × (n ≤ s.now)
-      go (inl y) = y
-      go (inr y) = absurd (x y.1)
+  old_last r n h x = elim (next_down s.now (IsLinked t r) (s.life r) (life r) n (law.lived r) (p.lives r) h) [ inl y ↦ y | inr y ↦ absurd (x y.1) ]
 
   now_frozen : (r : Rec) (u : Tree) → Spans (suc s.now) (life r) (last_of (suc s.now) (life r)) →
       Stands o.past (last_of (suc s.now) (life r)) r u → IsCopied heap u

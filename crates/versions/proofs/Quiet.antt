@@ -41,25 +41,13 @@ module _ (s : State) (law : IsLawfulState s) (heap : Heap) (life : Rec → Life)
 
   -- a life that is left is that of before
   same_life : (r : Rec) (n : ℕ) → Spans s.now (life r) n → life r ≡ s.life r
-  same_life r n h = go (p.lives r)
-    where
-      go : (life r ≡ s.life r) ⊎ ((life r ≡ Out) × IsUnlinkedSince s.past s.now r × ((q m : ℕ) → pin q ≡ Some m → IsUnlinkedSince s.past m r)) → life r ≡ s.life r
-      go (inl e) = e
-      go (inr e) = absurd (subst (λ l. Spans s.now l n) e.0 h)
+  same_life r n h = elim (p.lives r) [ inl e ↦ e | inr e ↦ absurd (subst (λ l. Spans s.now l n) e.0 h) ]
 
   -- the words of a record in its life are those of before
   copied : (r : Rec) (u : Tree) (n : ℕ) → Spans s.now (s.life r) n → IsRecord r u → IsCopied s.heap u → IsCopied heap u
   copied r (fork q a b) n h i c = tt
-  copied r (leaf m k v) n h i c = go (p.leaves m)
-    where
-      go : (s.life (a_leaf m) ≡ Out) ⊎ (s.heap.leaves m ≡ heap.leaves m) → IsCopied heap (leaf m k v)
-      go (inl e) = absurd (subst (λ l. Spans s.now l n) (ap s.life i ∙ e) h)
-      go (inr e) = sym e ∙ c
-  copied r (node m g b) n h i c = go (p.nodes m)
-    where
-      go : (s.life (a_node m) ≡ Out) ⊎ (s.heap.nodes m ≡ heap.nodes m) → IsCopied heap (node m g b)
-      go (inl e) = absurd (subst (λ l. Spans s.now l n) (ap s.life i ∙ e) h)
-      go (inr e) = sym e ∙ c
+  copied r (leaf m k v) n h i c = elim (p.leaves m) [ inl e ↦ absurd (subst (λ l. Spans s.now l n) (ap s.life i ∙ e) h) | inr e ↦ sym e ∙ c ]
+  copied r (node m g b) n h i c = elim (p.nodes m) [ inl e ↦ absurd (subst (λ l. Spans s.now l n) (ap s.life i ∙ e) h) | inr e ↦ sym e ∙ c ]
 
   linked_alive : (t : Tree) → s.version s.now ≡ Some t → (r : Rec) → Links t r → Spans s.now (s.life r) s.now
   linked_alive t e r l =
@@ -67,21 +55,11 @@ module _ (s : State) (law : IsLawfulState s) (heap : Heap) (life : Rec → Life)
       law.present s.now (le_refl s.now) (le_refl s.now) r x.0 (record { tree = t; is_version = e; within = x.1; is_record = x.2 })
 
   shown_now : (t : Tree) → s.version s.now ≡ Some t → IsShown s.heap t → IsShown heap t
-  shown_now t e i = shown_if_same_words s.heap heap t node_words leaf_words i
+  shown_now t e i = shown_if_same_words s.heap heap t (λ n l. kept (a_node n) l (p.nodes n)) (λ n l. kept (a_leaf n) l (p.leaves n)) i
     where
-      node_words : (n : ℕ) → Links t (a_node n) → s.heap.nodes n ≡ heap.nodes n
-      node_words n l = go (p.nodes n)
-        where
-          go : (s.life (a_node n) ≡ Out) ⊎ (s.heap.nodes n ≡ heap.nodes n) → s.heap.nodes n ≡ heap.nodes n
-          go (inl e') = absurd (subst (λ z. Spans s.now z s.now) e' (linked_alive t e (a_node n) l))
-          go (inr e') = e'
-
-      leaf_words : (n : ℕ) → Links t (a_leaf n) → s.heap.leaves n ≡ heap.leaves n
-      leaf_words n l = go (p.leaves n)
-        where
-          go : (s.life (a_leaf n) ≡ Out) ⊎ (s.heap.leaves n ≡ heap.leaves n) → s.heap.leaves n ≡ heap.leaves n
-          go (inl e') = absurd (subst (λ z. Spans s.now z s.now) e' (linked_alive t e (a_leaf n) l))
-          go (inr e') = e'
+      kept : {A : Type 0} (r : Rec) → Links t r → (s.life r ≡ Out) ⊎ A → A
+      kept r l (inl out) = absurd (subst (λ z. Spans s.now z s.now) out (linked_alive t e r l))
+      kept r l (inr x) = x
 
   top_now : (root : Option Entry) (f : Option Tree) → s.version s.now ≡ f → IsTop s.heap root f → IsTop heap root f
   top_now None None e i = tt
@@ -90,11 +68,7 @@ module _ (s : State) (law : IsLawfulState s) (heap : Heap) (life : Rec → Life)
   top_now (Some x) (Some t) e i = (i.0, shown_now t e i.1)
 
   now_reach : (m : ℕ) → IsReach s m → ((r : Rec) → (life r ≡ s.life r) ⊎ IsUnlinkedSince s.past m r) → IsReach o m
-  now_reach m reach left n lo hi r u st = go (left r)
-    where
-      go : (life r ≡ s.life r) ⊎ IsUnlinkedSince s.past m r → Spans s.now (life r) n
-      go (inl e) = subst (λ l. Spans s.now l n) (sym e) (reach n lo hi r u (down n r u st))
-      go (inr x) = absurd (x n lo hi u (down n r u st))
+  now_reach m reach left n lo hi r u st = elim (left r) [ inl e ↦ subst (λ l. Spans s.now l n) (sym e) (reach n lo hi r u (down n r u st)) | inr x ↦ absurd (x n lo hi u (down n r u st)) ]
 
   left_now : (r : Rec) → (life r ≡ s.life r) ⊎ IsUnlinkedSince s.past s.now r
   left_now r = elim (p.lives r) [ inl e ↦ inl e | inr e ↦ inr e.1 ]
@@ -103,18 +77,10 @@ module _ (s : State) (law : IsLawfulState s) (heap : Heap) (life : Rec → Life)
   left_pin q m f r = elim (p.lives r) [ inl e ↦ inl e | inr e ↦ inr (e.2 q m f) ]
 
   quiet_lived : (r : Rec) → IsLived s.now (life r)
-  quiet_lived r = go (p.lives r)
-    where
-      go : (life r ≡ s.life r) ⊎ ((life r ≡ Out) × IsUnlinkedSince s.past s.now r × ((q m : ℕ) → pin q ≡ Some m → IsUnlinkedSince s.past m r)) → IsLived s.now (life r)
-      go (inl e) = subst (IsLived s.now) (sym e) (law.lived r)
-      go (inr e) = subst (IsLived s.now) (sym e.0) tt
+  quiet_lived r = elim (p.lives r) [ inl e ↦ subst (IsLived s.now) (sym e) (law.lived r) | inr e ↦ subst (IsLived s.now) (sym e.0) tt ]
 
   quiet_reach : (q m : ℕ) → pin q ≡ Some m → IsReach o m
-  quiet_reach q m f = go (p.pins q m f)
-    where
-      go : (s.pin q ≡ Some m) ⊎ (m ≡ s.now) → IsReach o m
-      go (inl e) = now_reach m (law.reach q m e) (left_pin q m f)
-      go (inr e) = now_reach m (subst (IsReach s) (sym e) law.present) (left_pin q m f)
+  quiet_reach q m f = elim (p.pins q m f) [ inl e ↦ now_reach m (law.reach q m e) (left_pin q m f) | inr e ↦ now_reach m (subst (IsReach s) (sym e) law.present) (left_pin q m f) ]
 
   quiet_frozen : (r : Rec) (u : Tree) → Spans s.now (life r) (last_of s.now (life r)) → Stands o.past (last_of s.now (life r)) r u → IsCopied heap u
   quiet_frozen r u h st =

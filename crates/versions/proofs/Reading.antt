@@ -1,5 +1,5 @@
 -- Reading gives the tree that the words show, and finds one that is well built.
-use Rattle.std.proofs.Common.{◌≡◌, ◌⊎◌, ℕ, suc, zero, ap, ap₂, ◌∙◌, Some, None, eqb}
+use Rattle.std.proofs.Common.{◌≡◌, ℕ, suc, zero, ap, ap₂, ◌∙◌, Some, None, eqb}
 use Rattle.std.proofs.lemmas.Bool.{cond-true, eq-eqb}
 use Rattle.tries.specs.Keys.{Key}
 use Rattle.tries.specs.Tree.{Fixed, Tree, leaf, node, subtrie, IsBuilt}

@@ -1,5 +1,5 @@
 -- The laws of the core.
-use Rattle.std.proofs.Common.{◌≡◌, ◌⊎◌, inl, inr, ℕ, ◌<◌, ◌≤◌, if◌then◌else◌, ap, sym, ◌∙◌, subst, arith, Some, le_refl, le_trans}
+use Rattle.std.proofs.Common.{◌≡◌, ◌⊎◌, inl, inr, ℕ, ◌<◌, ◌≤◌, ap, sym, ◌∙◌, subst, arith, le_refl, le_trans}
 use Rattle.tries.specs.Keys.{Key, IsParted}
 use Rattle.tries.specs.Tree.{Fixed, Tree, leaf, node, fork, subtrie, Has, IsTrie, IsBuilt, here, inside}
 use Rattle.compound_node.specs.declared.entries.Entry.{Entry}
@@ -11,6 +11,8 @@ use Rattle.versions.specs.State.{rec_of, IsRecord, Life, Out, Linked, Retired, S
 use Rattle.versions.specs.declared.Rec.{Rec}
 use Rattle.versions.specs.declared.Rec.TheVariants.{Node as a_node}
 use Rattle.tries.proofs.Tries.{within_trans, trie_within, built_within, descend, within_child, subtrie_child, follows_kin, kin_trans, kin_sym, parting}
+use Rattle.tries.proofs.Reading.{some_injective as some_same}
+use Rattle.versions.proofs.Heaps.{node_number}
 
 pub record_of_subtrie : (e : Entry) (u : Tree) → subtrie u ≡ Place e → IsRecord (rec_of e) u
 record_of_subtrie (Leaf n) (leaf m k v) x = cc
@@ -25,12 +27,6 @@ is_trie s law n r u h st = (law.trees n st.tree h st.is_version).0
 
 pub is_built : (s : State) → IsLawfulState s → (n : ℕ) (r : Rec) (u : Tree) → n ≤ s.now → Stands s.past n r u → IsBuilt u
 is_built s law n r u h st = built_within st.within (law.trees n st.tree h st.is_version).1
-
-node_number : {n o : ℕ} → a_node n ≡ a_node o → n ≡ o
-node_number e = cc
-
-some_same : {a b : Tree} → Some a ≡ Some b → a ≡ b
-some_same e = cc
 
 -- What stands in a node that stands in a version.
 pub stands_child : (s : State) (n m : ℕ) (h : Fixed) (c : Tree) (k : Key) (r : Rec) → Stands s.past n r (node m h c) →
@@ -116,23 +112,27 @@ state_parting s law r n o x y g h b c bn bo sn so tn tp i j lt k l u v =
         parting (kin_trans f.1 (kin_sym z.1)) (trie_within (within_trans (inside here) tn.within) (is_trie s law n r (node x g b) bn tn))
         (trie_within (within_trans (inside here) tp.within) (is_trie s law o r (node y h c) bo tp)) i j lt k l u v
 
--- Two trees that are the same as a third are the same.
-same_join : (u v w : Tree) → IsSameRecord u w → IsSameRecord v w → IsSameRecord u v
-same_join (leaf n k v) (leaf m l w) (leaf o x y) f g = (f.0 ∙ sym g.0, f.1 ∙ sym g.1)
-same_join (node n h b) (node m i c) (node o j d) f g = (f.0 ∙ sym g.0, kin_trans f.1 (kin_sym g.1))
-same_join (leaf n k v) (leaf m l w) (node o x y) f g = absurd f
-same_join (leaf n k v) (leaf m l w) (fork o x y) f g = absurd f
-same_join (leaf n k v) (node m l w) (leaf o x y) f g = absurd g
-same_join (leaf n k v) (node m l w) (node o x y) f g = absurd f
-same_join (leaf n k v) (node m l w) (fork o x y) f g = absurd f
-same_join (leaf n k v) (fork m l w) t f g = absurd g
-same_join (node n k v) (leaf m l w) (leaf o x y) f g = absurd f
-same_join (node n k v) (leaf m l w) (node o x y) f g = absurd g
-same_join (node n k v) (leaf m l w) (fork o x y) f g = absurd f
-same_join (node n k v) (node m l w) (leaf o x y) f g = absurd f
-same_join (node n k v) (node m l w) (fork o x y) f g = absurd f
-same_join (node n k v) (fork m l w) t f g = absurd g
-same_join (fork n k v) u t f g = absurd f
+pub same_trans : (a b c : Tree) → IsSameRecord a b → IsSameRecord b c → IsSameRecord a c
+same_trans (leaf n k v) (leaf m l w) (leaf o x y) e f = (e.0 ∙ f.0, e.1 ∙ f.1)
+same_trans (node n h b) (node m i c) (node o j d) e f = (e.0 ∙ f.0, kin_trans e.1 f.1)
+same_trans (leaf n k v) (leaf m l w) (node o x y) e f = elim f [ ]
+same_trans (leaf n k v) (leaf m l w) (fork o x y) e f = elim f [ ]
+same_trans (node n k v) (node m l w) (leaf o x y) e f = elim f [ ]
+same_trans (node n k v) (node m l w) (fork o x y) e f = elim f [ ]
+same_trans (leaf n k v) (node m l w) c e f = elim e [ ]
+same_trans (leaf n k v) (fork m l w) c e f = elim e [ ]
+same_trans (node n k v) (leaf m l w) c e f = elim e [ ]
+same_trans (node n k v) (fork m l w) c e f = elim e [ ]
+same_trans (fork n k v) b c e f = elim e [ ]
+
+same_sym : (u v : Tree) → IsSameRecord u v → IsSameRecord v u
+same_sym (leaf n k v) (leaf m l w) f = (sym f.0, sym f.1)
+same_sym (node n h b) (node m i c) f = (sym f.0, kin_sym f.1)
+same_sym (leaf n k v) (node m i c) f = elim f [ ]
+same_sym (leaf n k v) (fork p a b) f = elim f [ ]
+same_sym (node n h b) (leaf m l w) f = elim f [ ]
+same_sym (node n h b) (fork p a c) f = elim f [ ]
+same_sym (fork p a b) v f = elim f [ ]
 
 -- What is in reach keeps its fixed words and stems.
 pub steady : (s : State) → IsLawfulState s → (m : ℕ) → IsReach s m → IsSteady s.past m
@@ -142,7 +142,7 @@ steady s law m reach = record {
       let sn = reach n ln hn r u st in
       let so = reach o lo ho r v su in
       let l = law.alive r (last_of s.now (s.life r)) (spans_last s.now (s.life r) n (law.lived r) sn) in
-      same_join u v l.0 (law.same r n u l.0 sn st l.1) (law.same r o v l.0 so su l.1);
+      same_trans u l.0 v (law.same r n u l.0 sn st l.1) (same_sym v l.0 (law.same r o v l.0 so su l.1));
 }
 
 -- What was linked since a version is in its life; so is what was linked since a later one.

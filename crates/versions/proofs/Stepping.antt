@@ -19,12 +19,10 @@ use Rattle.finite_map.specs.Fronts.{map_of}
 use Rattle.finite_map.specs.Maps.{IsRising}
 use Rattle.versions.specs.Told.{content}
 use Rattle.versions.proofs.States.{steady}
+use Rattle.std.proofs.lemmas.Option.{none-some}
 
 pub some_pass_injective : {p q : ℕ} → Some p ≡ Some q → p ≡ q
 some_pass_injective e = cc
-
-none_some : {q : ℕ} → None ≡ Some q → ⊥
-none_some e = cc
 
 -- A record that no pass can have locked gets another fate.
 fate_locked : (c : BareCore) (r : Rec) (f g : Fate) → IsLawfulCore c → c.fate r ≡ g → ((q : ℕ) → IsLockable q g → ⊥) → (n q : ℕ) → c.lock n ≡ Some q → IsLockable q ((with_fate c.shared r f).fate (a_node n))
@@ -56,11 +54,7 @@ module _ (c : BareCore) (q : ℕ) (law : IsLawfulCore c) where
   }
     where
       either : (i : Rec) {P : Type 0} → (r ≢ i → P) → (life_of (c.fate i) ≡ Out) ⊎ P
-      either i {P} g = go (cases_Bool (same_rec r i))
-        where
-          go : (same_rec r i ≡ true) ⊎ (same_rec r i ≡ false) → (life_of (c.fate i) ≡ Out) ⊎ P
-          go (inl h) = inl (ap (λ z. life_of (c.fate z)) (sym (same_rec_true r i h)) ∙ ap life_of e)
-          go (inr h) = inr (g (λ z. false≢true (sym h ∙ subst (λ y. same_rec r y ≡ true) z (same_rec_refl r))))
+      either i {P} g = elim (cases_Bool (same_rec r i)) [ inl h ↦ inl (ap (λ z. life_of (c.fate z)) (sym (same_rec_true r i h)) ∙ ap life_of e) | inr h ↦ inr (g (λ z. false≢true (sym h ∙ subst (λ y. same_rec r y ≡ true) z (same_rec_refl r)))) ]
 
   publish_locked : (heap : Heap) (root : Option Entry) (t : Option Tree) (x : Change) → IsVersionPublish c q heap root t x → (n p : ℕ) → c.lock n ≡ Some p →
       IsLockable p (next_fate c.past.now q (is_linked t (a_node n)) (c.fate (a_node n)))
@@ -70,8 +64,7 @@ module _ (c : BareCore) (q : ℕ) (law : IsLawfulCore c) where
           IsLockable p (next_fate c.past.now q (is_linked t (a_node n)) f)
       go (InTree s) i m (inl (h, z)) = rw z tt
       go (InTree s) i m (inr (h, z)) = rw z (some_pass_injective (sym (l.goes n s i h) ∙ e))
-      go (Unlinked s o k) i m (inl (h, z)) = rw z m
-      go (Unlinked s o k) i m (inr (h, z)) = rw z m
+      go (Unlinked s o k) i m z = m
       go Free i m z = absurd m
       go (Held k) i m z = absurd m
       go (Ready k) i m z = absurd m
@@ -82,7 +75,7 @@ module _ (c : BareCore) (q : ℕ) (law : IsLawfulCore c) where
     where
       go : (same_rec (a_node n) r ≡ true) ⊎ (same_rec (a_node n) r ≡ false) → (if same_rec (a_node n) r then None else c.lock n) ≡ Some p →
           IsLockable p (if same_rec (a_node n) r then Marked f l (c.rounds q).epoch else c.fate (a_node n))
-      go (inl h) z = absurd (none_some (rw h at z))
+      go (inl h) z = absurd (none-some _ (rw h at z))
       go (inr h) z = rw h (law.locked n p (rw h at z))
 
   lock_locked : (n s : ℕ) → c.fate (a_node n) ≡ InTree s → (o : Option ℕ) → (i p : ℕ) → (with_lock c.shared n o).lock i ≡ Some p → IsLockable p (c.fate (a_node i))
@@ -140,19 +133,16 @@ pub opening_core : (heap : Heap) → IsLawfulCore (bare_opening heap)
 opening_core heap = record {
   state = opening_lawful heap (λ q. None);
   paced = record {
-    floors = λ q p e. absurd (no_pin e);
+    floors = λ q p e. absurd (none-some _ e);
     loads = λ q. (omega arith, le_refl 0, le_refl 0);
-    after = λ q o p e. absurd (no_pin e);
-    marks = λ r f l s m q p e. absurd (no_pin e);
-    bounds = λ q o p e h. absurd (no_pin e);
+    after = λ q o p e. absurd (none-some _ e);
+    marks = λ r f l s m q p e. absurd (none-some _ e);
+    bounds = λ q o p e h. absurd (none-some _ e);
   };
   told = record { count = refl; content_is = λ n h. empty n h; legal = tt };
-  locked = λ n q e. absurd (none_some e);
+  locked = λ n q e. absurd (none-some _ e);
 }
   where
-    no_pin : {p : Pin} → None ≡ Some p → ⊥
-    no_pin e = cc
-
     empty : (n : ℕ) → n ≤ 0 → content None ≡ map_of (take n [])
     empty n h = let e : n ≡ 0 = omega arith in rw e refl
 

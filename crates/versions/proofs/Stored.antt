@@ -2,39 +2,39 @@
 use Rattle.std.proofs.Common.{◌≡◌, ◌≢◌, inl, inr, ℕ, ◌<◌, refl, ap, ap₂, sym, ◌∙◌, subst, arith, Option, Some, None, lt_trans}
 use Rattle.std.proofs.lemmas.Bool.{false≢true}
 use Rattle.tries.specs.Tree.{Fixed, Tree, leaf, node, fork, Has, IsTrie, IsFork, IsLower, IsBuilt, Within, here, inside, zero_side, one_side, IsFit}
-use Rattle.compound_node.specs.declared.entries.Entry.TheVariants.{Node}
+use Rattle.compound_node.specs.declared.entries.Entry.TheVariants.{Leaf, Node}
 use Rattle.pieces.specs.Piece.{Place}
 use Rattle.versions.specs.Heap.{NodeWords, Heap, IsShown}
 use Rattle.versions.specs.State.{IsRecord, Links, Out, IsLawfulState}
 use Rattle.versions.specs.declared.Rec.TheVariants.{Node as a_node}
 use Rattle.tries.proofs.Changes.{put}
 use Rattle.tries.proofs.Tries.{has_first, has_within}
-use Rattle.versions.proofs.Heaps.{shown_within, determined}
+use Rattle.versions.proofs.Heaps.{shown_within, determined, leaf_node, leaf_number, node_leaf, node_number}
 use Rattle.versions.proofs.Publish.{links_within}
 use Rattle.versions.proofs.Quiet.{shown_if_same_words}
 use Rattle.tries.specs.Content.{first}
 use Rattle.tries.proofs.Puts.{subtrie_put}
+use Rattle.versions.specs.declared.Rec.{Rec}
 
-node_number : {n o : ℕ} → a_node n ≡ a_node o → n ≡ o
-node_number e = cc
-
--- Two trees of one node, shown by the same words, are the same.
-same_node_tree : (m : Heap) (n : ℕ) (u v : Tree) → IsRecord (a_node n) u → IsRecord (a_node n) v → IsShown m u → IsShown m v → u ≡ v
-same_node_tree m n (leaf a k w) v x y i j = absurd cc
-same_node_tree m n (fork a k w) v x y i j = elim x [ ]
-same_node_tree m n (node a f b) (leaf c k w) x y i j = absurd cc
-same_node_tree m n (node a f b) (fork c k w) x y i j = elim y [ ]
-same_node_tree m n (node a f b) (node c g d) x y i j =
+-- Two trees of one record, shown by the same words, are the same.
+same_tree : (m : Heap) (i : Rec) (u v : Tree) → IsRecord i u → IsRecord i v → IsShown m u → IsShown m v → u ≡ v
+same_tree m i (fork p c d) v x y s t = elim x [ ]
+same_tree m i (leaf a k w) (fork p c d) x y s t = elim y [ ]
+same_tree m i (node a f b) (fork p c d) x y s t = elim y [ ]
+same_tree m i (leaf a k w) (node c g d) x y s t = absurd (leaf_node (sym x ∙ y))
+same_tree m i (node a f b) (leaf c l z) x y s t = absurd (node_leaf (sym x ∙ y))
+same_tree m i (leaf a k w) (leaf c l z) x y s t = determined m (leaf a k w) (leaf c l z) s t (ap (λ n. Place (Leaf n)) (leaf_number (sym x ∙ y)))
+same_tree m i (node a f b) (node c g d) x y s t =
     let z : a ≡ c = node_number (sym x ∙ y) in
-    let w : f ≡ g = ap (λ (q : NodeWords). q.fixed) (sym i.0 ∙ (ap m.nodes z ∙ j.0)) in
-    determined m (node a f b) (node c g d) i j (ap₂ (λ a f. Place (Node a f)) z (ap (λ (q : Fixed). q.height) w))
+    let w : f ≡ g = ap (λ (q : NodeWords). q.fixed) (sym s.0 ∙ (ap m.nodes z ∙ t.0)) in
+    determined m (node a f b) (node c g d) s t (ap₂ (λ a f. Place (Node a f)) z (ap (λ (q : Fixed). q.height) w))
 
--- A node of one side of a fork isn't on the other side.
-not_beside : (m : Heap) (p n : ℕ) (a b : Tree) → IsTrie (fork p a b) → IsShown m (fork p a b) → Links a (a_node n) → Links b (a_node n) → ⊥
-not_beside m p n a b t i x y =
-    let u = links_within a (a_node n) x in
-    let v = links_within b (a_node n) y in
-    let e = same_node_tree m n u.0 v.0 u.2 v.2 (shown_within m u.1 i.0) (shown_within m v.1 i.1) in
+-- A record of one side of a fork isn't on the other side.
+pub not_beside : (m : Heap) (p : ℕ) (i : Rec) (a b : Tree) → IsTrie (fork p a b) → IsShown m (fork p a b) → Links a i → Links b i → ⊥
+not_beside m p i a b t s x y =
+    let u = links_within a i x in
+    let v = links_within b i y in
+    let e = same_tree m i u.0 v.0 u.2 v.2 (shown_within m u.1 s.0) (shown_within m v.1 s.1) in
     let k = first u.0 in
     false≢true (sym (t.3 k (has_within u.1 k (has_first u.0))) ∙ t.4 k (has_within v.1 k (subst (λ z. Has z k) e (has_first u.0))))
 
@@ -53,7 +53,7 @@ not_above m n x b t i l = go (links_within b (a_node n) l)
     go (leaf a k w, u, r) = absurd cc
     go (fork a k w, u, r) = elim r [ ]
     go (node a y d, u, r) =
-        let e = same_node_tree m n (node n x b) (node a y d) refl r i (shown_within m u i.1) in
+        let e = same_tree m (a_node n) (node n x b) (node a y d) refl r i (shown_within m u i.1) in
         let f : x ≡ y = cc in
         let h : y.height < x.height = lower_within x.height u t.1 t.2 in
         let g : x.height ≡ y.height = ap (λ (z : Fixed). z.height) f in omega arith
@@ -75,10 +75,10 @@ put_shown m o n x b c (inside {n = a} {x = y} {b = d} w) i j k f g s = (
 )
 put_shown m o n x b c (zero_side {p = p} {a = a} {b = d} w) i j k f g s = (
   put_shown m o n x b c w i.0 j.0 k.0 f g s,
-  shown_if_same_words m o d (λ e l. f e (λ z. not_beside m p n a d i k (links_of w) (subst (λ y. Links d (a_node y)) z l))) (λ e l. g e) k.1,
+  shown_if_same_words m o d (λ e l. f e (λ z. not_beside m p (a_node n) a d i k (links_of w) (subst (λ y. Links d (a_node y)) z l))) (λ e l. g e) k.1,
 )
 put_shown m o n x b c (one_side {p = p} {a = a} {b = d} w) i j k f g s = (
-  shown_if_same_words m o a (λ e l. f e (λ z. not_beside m p n a d i k (subst (λ y. Links a (a_node y)) z l) (links_of w))) (λ e l. g e) k.0,
+  shown_if_same_words m o a (λ e l. f e (λ z. not_beside m p (a_node n) a d i k (subst (λ y. Links a (a_node y)) z l) (links_of w))) (λ e l. g e) k.0,
   put_shown m o n x b c w i.1 j.1 k.1 f g s,
 )
 

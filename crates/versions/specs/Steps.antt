@@ -29,18 +29,14 @@ is_linked (Some t) r = links t r
 
 -- What a publish by pass `q` makes of a record.
 abbrev pub next_fate : ℕ → ℕ → Bool → Fate → Fate
-next_fate now q true Free = Free
-next_fate now q true (Held p) = Held p
+next_fate now q linked Free = Free
+next_fate now q linked (Held p) = Held p
 next_fate now q true (Ready p) = InTree (suc now)
-next_fate now q true (InTree f) = InTree f
-next_fate now q true (Unlinked f l p) = Unlinked f l p
-next_fate now q true (Marked f l s) = Marked f l s
-next_fate now q false Free = Free
-next_fate now q false (Held p) = Held p
 next_fate now q false (Ready p) = Ready p
+next_fate now q true (InTree f) = InTree f
 next_fate now q false (InTree f) = Unlinked f now q
-next_fate now q false (Unlinked f l p) = Unlinked f l p
-next_fate now q false (Marked f l s) = Marked f l s
+next_fate now q linked (Unlinked f l p) = Unlinked f l p
+next_fate now q linked (Marked f l s) = Marked f l s
 
 -- What the publish stores: the root entry, under the anchor's lock; or an entry of a node under its lock.
 pub data IsStore (c : BareCore) (q : ℕ) (heap : Heap) (root : Option Entry) : Type 0 where

@@ -1,4 +1,4 @@
-//! The laws of the core. The functions do nothing: their contracts are the laws.
+//! The laws of versions and of the lives of records. The functions do nothing: their contracts are the laws.
 
 ghost use Rattle.versions.specs.Statements.{ContentIsMap, StateHindsight, BareOpeningIsLawful, StateParting, BareReachIsKept, ReachIsSteady, StepKeepsLawful};
 

@@ -7,8 +7,7 @@ use std::collections::LinkedList;
 use std::marker::Model;
 use std::mem::ManuallyDrop;
 
-/// A list for contracts alone, of which no value is made. So there is nothing to do where what holds one is dropped, and no crate
-/// proves that anew.
+/// A list for contracts alone. No value of it is made, so dropping what holds one does nothing, which no crate proves anew.
 pub struct Listed<T> {
     list: ManuallyDrop<LinkedList<T>>,
 }
@@ -30,8 +29,12 @@ pub enum Rec {
 }
 
 impl Default for Rec {
-    /// What stands in unused places of a list: the first node.
-    fn default() -> Rec {
+    ghost use Rattle.std.specs.Prelude.{◌≡◌};
+
+    /// The first node, which stands in unused places of a list.
+    fn default() -> Rec
+        ensures { result ≡ Rec.Node 0 }
+    {
         Rec::Node(0)
     }
 }
@@ -43,8 +46,7 @@ pub struct Pin {
     pub floor: u64,
 }
 
-/// A pass's last load of the epoch: what it found, at which version, the least of it and of the pins loaded since, and
-/// whose they were. No value of it is made.
+/// A pass's last load of the epoch, its version, the least of it and of the pins loaded since, and whose these were. No value is made.
 pub struct Round {
     pub epoch: u64,
     pub version: u64,

@@ -1,4 +1,3 @@
--- The law beside_may_lock.
 use Rattle.publish_laws.proofs.Merging.{beside_may_lock}
 use Rattle.publish_laws.proofs.laws.beside_may_lock.Goals as goal
 

@@ -1,4 +1,3 @@
--- The law descent_finds.
 use Rattle.publish_laws.proofs.Sure.{descent_finds}
 use Rattle.publish_laws.proofs.laws.descent_finds.Goals as goal
 

@@ -1,4 +1,3 @@
--- The law end_begins.
 use Rattle.publish_laws.proofs.Ending.{end_begins}
 use Rattle.publish_laws.proofs.laws.end_begins.Goals as goal
 

@@ -1,4 +1,3 @@
--- The law kept_are_not_gone.
 use Rattle.publish_laws.proofs.Ending.{kept_apart}
 use Rattle.publish_laws.proofs.laws.kept_are_not_gone.Goals as goal
 

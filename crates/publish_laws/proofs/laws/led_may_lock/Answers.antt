@@ -1,4 +1,3 @@
--- The law led_may_lock.
 use Rattle.publish_laws.proofs.Acting.{led_may_lock}
 use Rattle.publish_laws.proofs.laws.led_may_lock.Goals as goal
 

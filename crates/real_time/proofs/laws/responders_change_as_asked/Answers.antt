@@ -1,4 +1,3 @@
--- The law responders_change_as_asked.
 use Rattle.real_time.proofs.Asking.{responders_change_as_asked}
 use Rattle.real_time.proofs.laws.responders_change_as_asked.Goals as goal
 

@@ -1,4 +1,3 @@
--- The law runs_are_events.
 use Rattle.real_time.proofs.Growing.{runs_are_events}
 use Rattle.real_time.proofs.laws.runs_are_events.Goals as goal
 

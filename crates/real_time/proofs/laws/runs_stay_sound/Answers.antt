@@ -1,4 +1,3 @@
--- The law runs_stay_sound.
 use Rattle.real_time.proofs.Growing.{runs_stay_sound}
 use Rattle.real_time.proofs.laws.runs_stay_sound.Goals as goal
 

@@ -1,4 +1,3 @@
--- What stays true in the loop of `update_each_fate`.
 use Rattle.std.proofs.Common.{◌≡◌, ℕ, ◌<◌, ◌≤◌, get_or, slice_get, false, Some}
 use Rattle.versions.specs.Steps.{next_fate}
 use Rattle.replay_state.specs.declared.fate.Fate.{Fate}

@@ -1,4 +1,3 @@
--- What stays true in the loop of `repeat_item`.
 use Rattle.std.proofs.Common.{◌≡◌, replicate}
 use Rattle.replay_state.proofs.records.repeat_item.Given as goal
 

@@ -1,4 +1,3 @@
--- The law leaves_are_one.
 use Rattle.replay_trees.proofs.Leaves.{leaves_are_one}
 use Rattle.replay_trees.proofs.laws.leaves_are_one.Goals as goal
 

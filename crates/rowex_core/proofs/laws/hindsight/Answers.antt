@@ -1,4 +1,3 @@
--- The law hindsight.
 use Rattle.rowex_core.proofs.Promises.{hindsight}
 use Rattle.rowex_core.proofs.laws.hindsight.Goals as goal
 

@@ -1,4 +1,3 @@
--- The law keeps.
 use Rattle.rowex_core.proofs.Keeping.{keeps}
 use Rattle.rowex_core.proofs.laws.keeps.Goals as goal
 

@@ -1,4 +1,3 @@
--- The law only_publish_appends.
 use Rattle.rowex_core.proofs.Appending.{only_publish_appends}
 use Rattle.rowex_core.proofs.laws.only_publish_appends.Goals as goal
 

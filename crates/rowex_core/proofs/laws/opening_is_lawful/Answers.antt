@@ -1,4 +1,3 @@
--- The law opening_is_lawful.
 use Rattle.rowex_core.proofs.Promises.{opening_is_lawful}
 use Rattle.rowex_core.proofs.laws.opening_is_lawful.Goals as goal
 

@@ -1,4 +1,3 @@
--- The law parting.
 use Rattle.rowex_core.proofs.Promises.{parting}
 use Rattle.rowex_core.proofs.laws.parting.Goals as goal
 

@@ -1,4 +1,3 @@
--- The law runs_stay_lawful.
 use Rattle.rowex_core.proofs.Runs.{runs_stay_lawful}
 use Rattle.rowex_core.proofs.laws.runs_stay_lawful.Goals as goal
 

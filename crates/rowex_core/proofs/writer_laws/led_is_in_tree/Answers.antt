@@ -1,4 +1,3 @@
--- The law led_is_in_tree.
 use Rattle.rowex_core.proofs.Leading.{led_is_in_tree}
 use Rattle.rowex_core.proofs.writer_laws.led_is_in_tree.Goals as goal
 

@@ -1,4 +1,3 @@
--- The law publish_is_legal.
 use Rattle.rowex_core.proofs.Bridging.{publish_is_legal}
 use Rattle.rowex_core.proofs.writer_laws.publish_is_legal.Goals as goal
 

@@ -1,4 +1,3 @@
--- The law found_is_kept.
 use Rattle.version_laws.proofs.Steady.{found_kept}
 use Rattle.version_laws.proofs.laws.found_is_kept.Goals as goal
 

@@ -1,4 +1,3 @@
--- The law insert_at_spot.
 use Rattle.version_laws.proofs.Rising.{insert_at_spot}
 use Rattle.version_laws.proofs.laws.insert_at_spot.Goals as goal
 

@@ -1,4 +1,3 @@
--- The law merge_at_spot.
 use Rattle.version_laws.proofs.Merging.{merge_at_spot}
 use Rattle.version_laws.proofs.laws.merge_at_spot.Goals as goal
 

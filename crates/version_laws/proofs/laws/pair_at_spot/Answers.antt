@@ -1,4 +1,3 @@
--- The law pair_at_spot.
 use Rattle.version_laws.proofs.Leaves.{pair_at_spot}
 use Rattle.version_laws.proofs.laws.pair_at_spot.Goals as goal
 

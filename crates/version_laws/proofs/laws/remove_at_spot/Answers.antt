@@ -1,4 +1,3 @@
--- The law remove_at_spot.
 use Rattle.version_laws.proofs.Taking.{remove_at_spot}
 use Rattle.version_laws.proofs.laws.remove_at_spot.Goals as goal
 

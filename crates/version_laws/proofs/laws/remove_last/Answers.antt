@@ -1,4 +1,3 @@
--- The law remove_last.
 use Rattle.version_laws.proofs.Taking.{remove_only}
 use Rattle.version_laws.proofs.laws.remove_last.Goals as goal
 

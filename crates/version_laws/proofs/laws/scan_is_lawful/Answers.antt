@@ -1,4 +1,3 @@
--- The law scan_is_lawful.
 use Rattle.version_laws.proofs.Fronts.{scan_is_lawful}
 use Rattle.version_laws.proofs.laws.scan_is_lawful.Goals as goal
 

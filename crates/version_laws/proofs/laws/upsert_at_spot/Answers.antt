@@ -1,4 +1,3 @@
--- The law upsert_at_spot.
 use Rattle.version_laws.proofs.Leaves.{upsert_at_spot}
 use Rattle.version_laws.proofs.laws.upsert_at_spot.Goals as goal
 

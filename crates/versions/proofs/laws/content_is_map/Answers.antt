@@ -1,4 +1,3 @@
--- The law content_is_map.
 use Rattle.versions.proofs.Stepping.{content_is_map}
 use Rattle.versions.proofs.laws.content_is_map.Goals as goal
 

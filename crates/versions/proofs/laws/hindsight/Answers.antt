@@ -1,4 +1,3 @@
--- The law hindsight.
 use Rattle.versions.proofs.States.{hindsight}
 use Rattle.versions.proofs.laws.hindsight.Goals as goal
 

@@ -1,4 +1,3 @@
--- The law opening_is_lawful.
 use Rattle.versions.proofs.Stepping.{opening_core}
 use Rattle.versions.proofs.laws.opening_is_lawful.Goals as goal
 

@@ -1,4 +1,3 @@
--- The law parting.
 use Rattle.versions.proofs.States.{state_parting}
 use Rattle.versions.proofs.laws.parting.Goals as goal
 

@@ -1,4 +1,3 @@
--- The law reach_is_kept.
 use Rattle.versions.proofs.Stepping.{core_reach}
 use Rattle.versions.proofs.laws.reach_is_kept.Goals as goal
 

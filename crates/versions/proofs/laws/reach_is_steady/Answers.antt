@@ -1,4 +1,3 @@
--- The law reach_is_steady.
 use Rattle.versions.proofs.Stepping.{core_steady}
 use Rattle.versions.proofs.laws.reach_is_steady.Goals as goal
 

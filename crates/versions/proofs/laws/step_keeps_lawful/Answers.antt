@@ -1,4 +1,3 @@
--- The law step_keeps_lawful.
 use Rattle.versions.proofs.Stepping.{step_lawful}
 use Rattle.versions.proofs.laws.step_keeps_lawful.Goals as goal
 

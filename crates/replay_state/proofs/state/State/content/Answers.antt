@@ -1,6 +1,5 @@
 -- The items are those of the newest version.
-use Rattle.std.proofs.Common.{sym}
-use Rattle.std.proofs.Common.{◌∙◌, ap, map}
+use Rattle.std.proofs.Common.{sym, ◌∙◌, ap, map}
 use Rattle.std.proofs.lemmas.List.{take_all}
 use Rattle.replay_trees.specs.declared.trees.Item.{Item}
 use Rattle.replay_state.proofs.Opening.{content_is}

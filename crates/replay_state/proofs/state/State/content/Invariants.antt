@@ -1,4 +1,3 @@
--- What stays true in the loop of `content`.
 use Rattle.std.proofs.Common.{◌≡◌, map, take}
 use Rattle.replay_state.proofs.state.State.content.Given as goal
 

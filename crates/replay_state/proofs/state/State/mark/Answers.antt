@@ -1,6 +1,5 @@
 -- The pass has unlinked the record, before it loaded the epoch.
-use Rattle.std.proofs.Common.{sym}
-use Rattle.std.proofs.Common.{◌∙◌, ap, Some}
+use Rattle.std.proofs.Common.{sym, ◌∙◌, ap, Some}
 use Rattle.replay_state.specs.declared.fate.Fate.TheVariants.{Unlinked}
 use Rattle.replay_state.proofs.EpochSteps.{pass_in}
 use Rattle.replay_state.proofs.Retiring.{marks}
@@ -8,5 +7,5 @@ use Rattle.replay_state.proofs.state.State.mark.Goals as goal
 
 pub returns : goal.returns
 returns c = rw (sym c.self.view_is, c.set_fate_unlocked.ensures)
-    (marks _ c.args.pass c.args.rec c.args.epoch c.in-Some-Unlinked.since c.in-Some-Unlinked.last c.own_state-own.result (pass_in _ _ c.self.view_is _ _ c.own_state-own.ensures)
+    (marks _ c.args.pass c.args.rec c.args.epoch c.in-Some-Unlinked.since c.in-Some-Unlinked.last c.state_of-own.result (pass_in _ _ c.self.view_is _ _ c.state_of-own.ensures)
     (sym c.fate.ensures ∙ c.in-Some-Unlinked.is ∙ ap Some (c.in-Some-Unlinked.field-0-is ∙ ap (Unlinked c.in-Some-Unlinked.since c.in-Some-Unlinked.last) c.if-by-pass.false)) c.if-own-epoch.false c.if-own-last.false)

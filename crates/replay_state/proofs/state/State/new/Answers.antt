@@ -1,6 +1,5 @@
 -- All is as at the opening.
-use Rattle.std.proofs.Common.{refl}
-use Rattle.std.proofs.Common.{◌∙◌, ap, replicate}
+use Rattle.std.proofs.Common.{refl, ◌∙◌, ap, replicate}
 use Rattle.replay_state.proofs.Opening.{opening_replay}
 use Rattle.replay_state.proofs.state.State.new.Goals as goal
 

@@ -1,6 +1,0 @@
--- The law above_goes_on.
-use Rattle.publish_laws.proofs.Rising.{above_goes_on}
-use Rattle.publish_laws.proofs.laws.above_goes_on.Goals as goal
-
-pub returns : goal.returns
-returns c = above_goes_on

@@ -1,6 +1,0 @@
--- The law end_rests.
-use Rattle.publish_laws.proofs.Ending.{end_rests}
-use Rattle.publish_laws.proofs.laws.end_rests.Goals as goal
-
-pub returns : goal.returns
-returns c = end_rests

@@ -1,6 +1,0 @@
--- The law loads_of_locked.
-use Rattle.publish_laws.proofs.Acting.{loads_of_locked}
-use Rattle.publish_laws.proofs.laws.loads_of_locked.Goals as goal
-
-pub returns : goal.returns
-returns c = loads_of_locked

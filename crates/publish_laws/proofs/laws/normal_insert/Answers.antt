@@ -1,6 +1,0 @@
--- The law normal_insert.
-use Rattle.publish_laws.proofs.Insertions.{normal_insert}
-use Rattle.publish_laws.proofs.laws.normal_insert.Goals as goal
-
-pub returns : goal.returns
-returns c = normal_insert

@@ -1,6 +1,0 @@
--- The law overflow.
-use Rattle.publish_laws.proofs.Insertions.{overflow}
-use Rattle.publish_laws.proofs.laws.overflow.Goals as goal
-
-pub returns : goal.returns
-returns c = overflow

@@ -1,6 +1,0 @@
--- The law pull_up.
-use Rattle.publish_laws.proofs.Insertions.{pull_up}
-use Rattle.publish_laws.proofs.laws.pull_up.Goals as goal
-
-pub returns : goal.returns
-returns c = pull_up

@@ -1,6 +1,0 @@
--- The law remove.
-use Rattle.publish_laws.proofs.Replacing.{remove}
-use Rattle.publish_laws.proofs.laws.remove.Goals as goal
-
-pub returns : goal.returns
-returns c = remove

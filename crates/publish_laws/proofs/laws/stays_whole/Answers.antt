@@ -1,6 +1,0 @@
--- The law stays_whole.
-use Rattle.publish_laws.proofs.Insertions.{stays_as_it_is}
-use Rattle.publish_laws.proofs.laws.stays_whole.Goals as goal
-
-pub returns : goal.returns
-returns c = stays_as_it_is

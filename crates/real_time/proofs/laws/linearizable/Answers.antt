@@ -1,6 +1,0 @@
--- The law linearizable.
-use Rattle.real_time.proofs.Completing.{linearizable}
-use Rattle.real_time.proofs.laws.linearizable.Goals as goal
-
-pub returns : goal.returns
-returns c = linearizable

@@ -1,6 +1,0 @@
--- The law refused_change_nothing.
-use Rattle.real_time.proofs.Asking.{refused_change_nothing}
-use Rattle.real_time.proofs.laws.refused_change_nothing.Goals as goal
-
-pub returns : goal.returns
-returns c = refused_change_nothing

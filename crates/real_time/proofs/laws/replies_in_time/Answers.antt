@@ -1,6 +1,0 @@
--- The law replies_in_time.
-use Rattle.real_time.proofs.Replies.{replies_in_time}
-use Rattle.real_time.proofs.laws.replies_in_time.Goals as goal
-
-pub returns : goal.returns
-returns c = replies_in_time

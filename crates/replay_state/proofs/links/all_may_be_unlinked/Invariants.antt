@@ -1,8 +1,0 @@
--- What stays true in the loop of `all_may_be_unlinked`.
-use Rattle.std.proofs.Common.{◌≡◌, ℕ, ◌<◌, get_or, slice_get, false, Some, None}
-use Rattle.replay_state.specs.declared.fate.Fate.{Fate}
-use Rattle.replay_state.specs.Links.{MayGo}
-use Rattle.replay_state.proofs.links.all_may_be_unlinked.Given as goal
-
-abbrev pub invariant-loop-i : goal.invariant-loop-i
-invariant-loop-i l = (k : ℕ) → k < l.i → (f : Fate) → slice_get l.fates k ≡ Some f → MayGo l.pass (get_or l.linked k false) (get_or l.locks k None) f

@@ -1,6 +1,0 @@
--- The law finds_change.
-use Rattle.rowex_core.proofs.Finding.{finds_change}
-use Rattle.rowex_core.proofs.laws.finds_change.Goals as goal
-
-pub returns : goal.returns
-returns c = finds_change

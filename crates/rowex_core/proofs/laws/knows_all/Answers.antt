@@ -1,6 +1,0 @@
--- The law knows_all.
-use Rattle.rowex_core.proofs.Owning.{knows_all}
-use Rattle.rowex_core.proofs.laws.knows_all.Goals as goal
-
-pub returns : goal.returns
-returns c = knows_all

@@ -1,6 +1,0 @@
--- The law locks_apart.
-use Rattle.rowex_core.proofs.Promises.{locks_apart}
-use Rattle.rowex_core.proofs.laws.locks_apart.Goals as goal
-
-pub returns : goal.returns
-returns c = locks_apart

@@ -1,6 +1,0 @@
--- The law publish_is_a_step.
-use Rattle.rowex_core.proofs.Promises.{publish_is_a_step}
-use Rattle.rowex_core.proofs.laws.publish_is_a_step.Goals as goal
-
-pub returns : goal.returns
-returns c = publish_is_a_step

@@ -1,6 +1,0 @@
--- The law sees_all.
-use Rattle.rowex_core.proofs.Keeping.{sees_all}
-use Rattle.rowex_core.proofs.laws.sees_all.Goals as goal
-
-pub returns : goal.returns
-returns c = sees_all

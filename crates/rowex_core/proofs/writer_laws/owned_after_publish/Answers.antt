@@ -1,6 +1,0 @@
--- The law owned_after_publish.
-use Rattle.rowex_core.proofs.Having.{owned_after_publish}
-use Rattle.rowex_core.proofs.writer_laws.owned_after_publish.Goals as goal
-
-pub returns : goal.returns
-returns c = owned_after_publish

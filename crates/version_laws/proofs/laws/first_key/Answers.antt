@@ -1,6 +1,0 @@
--- The law first_key.
-use Rattle.version_laws.proofs.Leaves.{first_root}
-use Rattle.version_laws.proofs.laws.first_key.Goals as goal
-
-pub returns : goal.returns
-returns c = first_root

@@ -1,6 +1,0 @@
--- The law found_same.
-use Rattle.version_laws.proofs.Ways.{found_same}
-use Rattle.version_laws.proofs.laws.found_same.Goals as goal
-
-pub returns : goal.returns
-returns c = found_same

@@ -1,6 +1,0 @@
--- The law led_placed.
-use Rattle.version_laws.proofs.Scans.{led_placed}
-use Rattle.version_laws.proofs.laws.led_placed.Goals as goal
-
-pub returns : goal.returns
-returns c = led_placed

@@ -1,6 +1,0 @@
--- The law loads_root.
-use Rattle.version_laws.proofs.Loads.{loads_root}
-use Rattle.version_laws.proofs.laws.loads_root.Goals as goal
-
-pub returns : goal.returns
-returns c = loads_root

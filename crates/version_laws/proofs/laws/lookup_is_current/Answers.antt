@@ -1,0 +1,5 @@
+use Rattle.version_laws.proofs.Search.{end}
+use Rattle.version_laws.proofs.laws.lookup_is_current.Goals as goal
+
+pub returns : goal.returns
+returns c = end

@@ -1,6 +1,0 @@
--- The law one_body.
-use Rattle.version_laws.proofs.Ways.{one_body}
-use Rattle.version_laws.proofs.laws.one_body.Goals as goal
-
-pub returns : goal.returns
-returns c = one_body

@@ -1,6 +1,0 @@
--- The law placed_same.
-use Rattle.version_laws.proofs.Ways.{placed_same}
-use Rattle.version_laws.proofs.laws.placed_same.Goals as goal
-
-pub returns : goal.returns
-returns c = placed_same

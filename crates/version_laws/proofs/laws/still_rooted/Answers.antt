@@ -1,6 +1,0 @@
--- The law still_rooted.
-use Rattle.version_laws.proofs.Ways.{still_rooted}
-use Rattle.version_laws.proofs.laws.still_rooted.Goals as goal
-
-pub returns : goal.returns
-returns c = still_rooted

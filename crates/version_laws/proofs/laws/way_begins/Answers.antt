@@ -1,6 +1,0 @@
--- The law way_begins.
-use Rattle.version_laws.proofs.Ways.{way_begins}
-use Rattle.version_laws.proofs.laws.way_begins.Goals as goal
-
-pub returns : goal.returns
-returns c = way_begins
