@@ -9,7 +9,7 @@ use std::io::ErrorKind;
 use std::sync::Wait;
 use std::thread::{Threads, join};
 
-/// Gives two words these values, in this order.
+/// Inserts two words with their values, in this order, by the calls of `handle`. Returns the handle.
 fn put_both<'a, R: Wait>(
     rt: &R,
     mut handle: Handle<&'a Index>,
@@ -23,7 +23,7 @@ fn put_both<'a, R: Wait>(
     handle
 }
 
-/// Gives a word a value, unless it has one already.
+/// Inserts `word` with `value`. If it has a value already, that stays. A word too long for a key is left out.
 fn put<R: Wait>(rt: &R, handle: &mut Handle<&Index>, word: &str, value: u64)
     ensures { handle.new.index ≡ handle.old.index }
 {
@@ -32,6 +32,7 @@ fn put<R: Wait>(rt: &R, handle: &mut Handle<&Index>, word: &str, value: u64)
     }
 }
 
+/// Fills an index by two threads, lets their passes meet, and prints what they find. An error if memory is refused, or the output.
 fn run<R: Threads + Wait + AllocGlobal + Print + Sync>(rt: &R) -> io::Result<()> {
     // Two passes, 64 node records and 1,024 leaf records.
     let (index, mut passes) = create(rt.alloc(), 2, 64, 1024).map_err(as_error)?;
@@ -65,7 +66,7 @@ fn run<R: Threads + Wait + AllocGlobal + Print + Sync>(rt: &R) -> io::Result<()>
     read_on(rt, &mut first)
 }
 
-/// Looks two words up by one call, and lists the first words of all by a cursor.
+/// Looks two words up by one call, lists the first words of all by a cursor, and prints both. An error as of `run`.
 fn read_on<R: AllocGlobal + Print>(rt: &R, handle: &mut Handle<&Index>) -> io::Result<()> {
     let keys = [key("ash")?, key("elm")?];
     let mut found = [None; 2];
@@ -80,12 +81,12 @@ fn read_on<R: AllocGlobal + Print>(rt: &R, handle: &mut Handle<&Index>) -> io::R
     println!(rt; "the first {} keys, more: {}", part.len(), more)
 }
 
-/// A text as a key.
+/// The key with the bytes of `text`. An error if they are more than a key may have.
 fn key(text: &str) -> io::Result<Key> {
     Key::from_bytes(text.as_bytes()).map_err(|_| io::Error::from(ErrorKind::InvalidInput))
 }
 
-/// What a fault of `create` is in the terms of a program.
+/// The error of a program for a fault of `create`: numbers out of range, or out of memory.
 fn as_error(fault: IndexFault) -> io::Error {
     io::Error::from(match fault {
         IndexFault::Layout(_) => ErrorKind::InvalidInput,
@@ -93,6 +94,7 @@ fn as_error(fault: IndexFault) -> io::Error {
     })
 }
 
+/// Runs the example, with the output of the program.
 fn main(rt: HostRuntime) -> io::Result<()> {
     run(&rt)
 }

@@ -27,10 +27,10 @@ use Rattle.seat_calls.specs.Answers.{GoesOn}
 use Rattle.seat_calls.specs.Many.{AreNoted, AreRight, HasGotMany, HasLookedUp, gets, most_entries}
 use Rattle.seat_calls.specs.Noting.{answers_so, same_reply}
 use Rattle.seat_calls.specs.Passes.{IsSettled, PassView, pass_of}
-use Rattle.seat_calls.specs.Traces.{reading, untold}
+use Rattle.seat_calls.specs.Traces.{reading}
 use Rattle.seat_calls.proofs.LookedUp.{looked_on}
 use Rattle.seat_calls.proofs.Noting.{HasLooked, get_changes_nothing, goes_on, same_reply_reflexive, legal_front, longer, looked_then, reply_is, settles}
-use Rattle.seat_calls.proofs.Tracing.{pinned_sees, runs_untold, step_untold}
+use Rattle.seat_calls.proofs.Tracing.{pinned_sees}
 use Rattle.hot_index.specs.Passes.{IsSettledWith}
 use Rattle.hot_index.proofs.Counted.{count_goes, count_stays}
 
@@ -250,35 +250,3 @@ module _ {G : Type 0} {table : TableView} {becomes : G → Event → G → Type 
     where
       begun : Runs table becomes (reading pins.0 up.looks.root.0 []) a up.looks.at
       begun = runs_append table becomes (LoadEpoch pins.0 ∷ SetPin pins.0 ∷ []) (LoadRef Root up.looks.root.0 ∷ []) a b up.looks.at pins.1.steps (runs_one table becomes (LoadRef Root up.looks.root.0) b up.looks.at up.looks.root.1)
-
--- nobody need be told of them
-module _ {G : Type 0} (table : TableView) (becomes : G → Event → G → Type 0) where
-  pub many_untold : (count : ℕ) (a b : PassView × G) → HasGotMany table becomes count a b → HasGotMany table untold count (a.0, tt) (b.0, tt)
-  many_untold count a b x = record {
-    epoch = x.epoch;
-    root = x.root;
-    loads = x.loads;
-    said = x.said;
-    first = (x.first.0, tt);
-    begins = x.begins;
-    ends = x.ends;
-    pinned = begun;
-    sees = x.sees;
-    looks = x.looks;
-    steps = ((x.steps.0.0, tt), rest, last);
-    fresh = x.fresh;
-    told = subst (λ (z : PassView). IsTold untold (events_of z.number (reading x.epoch x.root x.loads ++ ClearPin ∷ [])) tt tt) (sym x.begins)
-        (ends_told table untold (reading x.epoch x.root x.loads) ClearPin x.said (a.0.seat, tt) (b.0.seat, tt)
-        ((x.steps.0.0, tt), runs_append table untold (reading x.epoch x.root []) x.loads (a.0.seat, tt) (x.first.0, tt) (x.steps.0.0, tt) begun rest, last));
-    depth = x.depth;
-    few = x.few;
-  }
-    where
-      begun : Runs table untold (reading x.epoch x.root []) (a.0.seat, tt) (x.first.0, tt)
-      begun = runs_untold table becomes (reading x.epoch x.root []) (a.0.seat, a.1) x.first x.pinned
-
-      rest : Runs table untold x.loads (x.first.0, tt) (x.steps.0.0, tt)
-      rest = runs_untold table becomes x.loads x.first x.steps.0 x.steps.1
-
-      last : StepsWith table untold ClearPin x.said (x.steps.0.0, tt) (b.0.seat, tt)
-      last = step_untold table becomes ClearPin x.said x.steps.0 (b.0.seat, b.1) x.steps.2

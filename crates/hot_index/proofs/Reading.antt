@@ -22,16 +22,10 @@ use Rattle.tries.specs.Keys.{Key}
 use Rattle.seat_calls.specs.Answers.{IsFoundBy, IsListedBy, IsUnnoted, ScanLaw, range_from}
 use Rattle.seat_calls.specs.Calls.{IsListReadBy, IsRangeReadWith, IsScanReadBy, no_part}
 use Rattle.seat_calls.specs.Passes.{PassView, IsSettled, pass_of}
-use Rattle.seat_calls.specs.Traces.{untold}
 use Rattle.hot_index.proofs.Found.{listed_found, part_found}
 use Rattle.seat_calls.proofs.Noting.{looked}
 use Rattle.seat_calls.proofs.Scanned.{if_answered, if_refused, listed_scanned, listed_unnoted, scan_answered, scan_counted, scan_refused}
-use Rattle.seat_calls.proofs.Tracing.{has_walked, walked_untold}
-
--- nobody need be told
-pub range_untold : {A E G : Type 0} {IsAnswer : Layout → PassView → PassView → A → Type 0} {IsPart : Layout → PassView → PassView → Type 0} {range : Range} {r : Result A E} {index : TableView}
-    {becomes : G → Event → G → Type 0} {a b : PassView × G} → IsRangeReadWith IsAnswer IsPart range r index becomes a b → IsRangeReadWith IsAnswer IsPart range r index untold (a.0, tt) (b.0, tt)
-range_untold x = record { own = x.own; ok = x.ok; err = x.err; part = x.part; memory = x.memory; steps = x.steps; read = walked_untold _ _ _ _ _ x.read }
+use Rattle.seat_calls.proofs.Tracing.{has_walked}
 
 module _ {G : Type 0} {range : Range} {index : TableView} {becomes : G → Event → G → Type 0} {a b : PassView × G} where
   -- whatever part is left

@@ -1,11 +1,8 @@
 -- What a cursor lists, and where it goes on.
 use Rattle.std.specs.Prelude.{◌≡◌, ◌⊎◌, ℕ, List, [], Bool, true, false, Option, Some, None}
-use Rattle.seat_calls.specs.Answers.{IsListed, range_from}
-use Rattle.seat_calls.specs.Passes.{PassView}
 use Rattle.hot_index.specs.declared.cursor.Rest.{Rest}
 use Rattle.key_ranges.specs.Ranges.{IsNextKey, NoKeyAbove}
 use Rattle.packed_pairs.specs.Last.{IsLastKey}
-use Rattle.record_words.specs.declared.layout.Layout.{Layout}
 use Rattle.tries.specs.Keys.{Key}
 
 -- the keys from one to another
@@ -25,8 +22,3 @@ IsAtEnd pairs = (last : Key) × IsLastKey pairs last × NoKeyAbove last
 abbrev pub IsLeft : Rest → List (Key × ℕ) → Bool → Option Rest → Type 0
 IsLeft rest pairs true left = ((next : Key) × (left ≡ Some (rest_of next rest.upto)) × GoesOnAt rest.from pairs next) ⊎ ((left ≡ None) × IsAtEnd pairs)
 IsLeft rest pairs false left = left ≡ None
-
--- A part was listed by a scan of the keys that were left, and these are left now.
-pub record IsPartListed (layout : Layout) (k j : PassView) (rest : Rest) (limit : ℕ) (pairs : List (Key × ℕ)) (left : Option Rest) (more : Bool) : Type 0 where
-  pub listed : IsListed layout k j (range_from rest.from rest.upto limit) pairs more
-  pub rest_is : IsLeft rest pairs more left

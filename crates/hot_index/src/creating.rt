@@ -28,8 +28,9 @@ pub enum IndexFault {
 }
 
 /// Makes an empty index with this number of passes (1 to 64), node records (1 to 65,535) and leaf records (1 to 262,143). Returns it with
-/// its passes in the order of their numbers. It checks the three numbers first, in this order, and the fault names the first that is out
-/// of range; `Memory` if memory is refused.
+/// its passes in the order of their numbers.
+///
+/// It checks the three numbers first, in this order. The fault names the first that is out of range; `Memory` if memory is refused.
 ///
 /// All leaf records are long. So a call that lacks one has found each of them taken (`laws::all_long_full_is_full`).
 pub fn create(
@@ -47,12 +48,14 @@ pub fn create(
     ensures leaves { (result ≡ Err (IndexFault.Layout LayoutFault.Leaves)) ↔ (IsPassCount passes × IsNodeCount nodes × ¬ IsLeafCount leaves) }
     ensures memory { result ≡ Err IndexFault.Memory → IsPassCount passes × IsNodeCount nodes × IsLeafCount leaves }
 {
-    make_opened(alloc, Layout::of(passes, nodes, leaves))
+    make_with_open_passes(alloc, Layout::of(passes, nodes, leaves))
 }
 
-/// Makes an empty index with this number of passes (1 to 1,024) and this stock of records. A stock has 1 to 4,294,967,295 node records,
-/// and 1 to 4,294,967,295 leaf records of all classes together. It checks the numbers first, in this order, and the fault names the first
-/// that is out of range; `Memory` if memory is refused.
+/// Makes an empty index with this number of passes (1 to 1,024) and this stock of records. Returns it with its passes in the order of
+/// their numbers.
+///
+/// A stock has 1 to 4,294,967,295 node records, and 1 to 4,294,967,295 leaf records of all classes together. It checks the numbers first,
+/// in this order. The fault names the first that is out of range; `Memory` if memory is refused.
 ///
 /// `Layout::bytes` returns the bytes of the table. Twice as many are in use while it is made.
 pub fn create_with(
@@ -68,10 +71,10 @@ pub fn create_with(
     ensures leaves { (result ≡ Err (IndexFault.Layout LayoutFault.Leaves)) ↔ (IsStockPassCount passes × IsRecordCount stock.nodes × ¬ IsRecordCount (leaves_of stock)) }
     ensures memory { result ≡ Err IndexFault.Memory → IsStockPassCount passes × IsRecordCount stock.nodes × IsRecordCount (leaves_of stock) }
 {
-    make_opened(alloc, Layout::with_stock(passes, stock))
+    make_with_open_passes(alloc, Layout::with_stock(passes, stock))
 }
 
-/// Does what `create_with` does, but the passes are closed: each takes 16 bytes until it is opened.
+/// Does what `create_with` does, with its faults, but the passes are closed. Each takes 16 bytes until it is opened.
 pub fn create_closed(
     alloc: Global,
     passes: u32,
@@ -85,11 +88,12 @@ pub fn create_closed(
     ensures leaves { (result ≡ Err (IndexFault.Layout LayoutFault.Leaves)) ↔ (IsStockPassCount passes × IsRecordCount stock.nodes × ¬ IsRecordCount (leaves_of stock)) }
     ensures memory { result ≡ Err IndexFault.Memory → IsStockPassCount passes × IsRecordCount stock.nodes × IsRecordCount (leaves_of stock) }
 {
-    make_closed(alloc, Layout::with_stock(passes, stock))
+    make_with_closed_passes(alloc, Layout::with_stock(passes, stock))
 }
 
-/// The index of the layout `found`, and its passes, opened. If `found` is a fault, that is returned; `Memory` if memory is refused.
-fn make_opened(
+/// Makes the index of the layout `found`, and opens its passes. Returns both. If `found` is a fault, that is returned; `Memory` if memory is
+/// refused.
+fn make_with_open_passes(
     alloc: Global,
     found: Result<Layout, LayoutFault>,
 ) -> Result<(Index, Vec<Pass>), IndexFault>
@@ -99,7 +103,7 @@ fn make_opened(
     ensures fault { (fault : LayoutFault) → (result ≡ Err (IndexFault.Layout fault)) ↔ (found ≡ Err fault) }
     ensures memory { result ≡ Err IndexFault.Memory → IsOk found }
 {
-    let (index, closed) = match make_closed(alloc, found) {
+    let (index, closed) = match make_with_closed_passes(alloc, found) {
         Ok(made) => made,
         Err(fault) => return Err(fault),
     };
@@ -109,7 +113,7 @@ fn make_opened(
     }
 }
 
-/// The passes `closed`, opened for calls at `index`, in their order; an error if memory is refused.
+/// Opens the passes `closed` for calls at `index`, and returns them in their order; an error if memory is refused.
 fn open_each(alloc: Global, index: &Index, closed: Vec<ClosedPass>) -> Result<Vec<Pass>, AllocError>
     ensures { IfOk result (λ passes. passes.items ≡ closed.items) }
 {
@@ -120,8 +124,9 @@ fn open_each(alloc: Global, index: &Index, closed: Vec<ClosedPass>) -> Result<Ve
     Ok(passes)
 }
 
-/// The index of the layout `found`, and its passes, closed. If `found` is a fault, that is returned; `Memory` if memory is refused.
-fn make_closed(
+/// Makes the index of the layout `found`, and its passes, closed. Returns both. If `found` is a fault, that is returned; `Memory` if memory
+/// is refused.
+fn make_with_closed_passes(
     alloc: Global,
     found: Result<Layout, LayoutFault>,
 ) -> Result<(Index, Vec<ClosedPass>), IndexFault>
@@ -137,7 +142,7 @@ fn make_closed(
     }
 }
 
-/// The index of `layout`, and its passes, closed; an error if memory is refused.
+/// Makes the index of `layout`, and its passes, closed. Returns both; an error if memory is refused.
 fn make_index(alloc: Global, layout: Layout) -> Result<(Index, Vec<ClosedPass>), AllocError>
     ensures layout { IfOk result (λ made. made.0.layout ≡ layout) }
     ensures count { IfOk result (λ made. length made.1.items ≡ layout.passes) }

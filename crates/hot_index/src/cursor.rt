@@ -1,10 +1,9 @@
 //! Cursors, which list a range of keys in parts, each by a scan of its own.
 
-ghost use Rattle.std.specs.Prelude.{◌≡◌, ◌+◌, ◌≤◌, [], false, IfOk, None, Ok, OnErr, Some};
-ghost use Rattle.seat_calls.specs.Answers.{HasFoundPair, IsListedInPart, IsUnnoted, range_from};
-ghost use Rattle.seat_calls.specs.Counts.{scan_steps};
-ghost use Rattle.seat_calls.specs.Traces.{HasGotRange, untold};
-ghost use Rattle.hot_index.specs.Cursors.{IsLeft, IsPartListed, rest_of};
+ghost use Rattle.std.specs.Prelude.{◌≡◌, [], false, IfOk, None, Ok, OnErr, Some};
+ghost use Rattle.seat_calls.specs.Answers.{range_from};
+ghost use Rattle.seat_calls.specs.Calls.{IsListRead};
+ghost use Rattle.hot_index.specs.Cursors.{IsLeft, rest_of};
 ghost use Rattle.seat_calls.specs.Passes.{Owns};
 ghost use Rattle.key_ranges.specs.Ranges.{last_with};
 
@@ -61,7 +60,7 @@ impl Cursor {
     /// Lists the next pairs of the range, at most `limit`, and drops earlier pairs of the list. Returns whether there are more. If
     /// not, the cursor is at its end, and each later call lists nothing.
     ///
-    /// Before its end, each call is a scan of the keys that are left, with a scan's promise, reads and bound on steps. The next call
+    /// Before its end, each call is a `scan_into` of the keys that are left, with its promise and bound on steps. The next call
     /// goes on at the least key above the last one listed. So it lists a key that was inserted between two calls if that lies above,
     /// and not if it lies below.
     ///
@@ -76,27 +75,28 @@ impl Cursor {
         requires { Owns index.now pass.old }
         ensures own { Owns index.now pass.new }
         ensures ended { self.old ≡ None → (result ≡ Ok false) × (pairs.new ≡ []) × (pass.new ≡ pass.old) × (self.new ≡ None) }
-        ensures part { (rest : Rest) → self.old ≡ Some rest → IfOk result (IsPartListed index.now.layout pass.old pass.new rest limit pairs.new self.new) }
-        ensures err { OnErr result (IsUnnoted index.now.layout pass.old pass.new × self.new ≡ self.old) }
-        ensures refused { (rest : Rest) → self.old ≡ Some rest →
-            OnErr result (IsListedInPart index.now.layout pass.old pass.new (range_from rest.from rest.upto limit) pairs.new) }
-        ensures memory { (rest : Rest) → self.old ≡ Some rest → OnErr result (HasFoundPair index.now.layout pass.old pass.new (range_from rest.from rest.upto limit)) }
-        ensures steps { pass.new.steps ≤ pass.old.steps + scan_steps limit }
-        ensures read { (rest : Rest) → self.old ≡ Some rest → HasGotRange index.now untold limit (pass.old, tt) (pass.new, tt) }
+        ensures listed { (rest : Rest) → self.old ≡ Some rest →
+            IsListRead (range_from rest.from rest.upto limit) pairs.new result index.now pass.old pass.new }
+        ensures left { (rest : Rest) → self.old ≡ Some rest → IfOk result (λ more. IsLeft rest pairs.new more self.new) }
+        ensures kept { OnErr result (self.new ≡ self.old) }
     {
         let Some(rest) = &self.rest else {
             pairs.clear();
             return Ok(false);
         };
-        let more = index.scan_into(pass, &rest.from, &rest.upto, limit, pairs)?;
-        self.rest = left_of(rest, pairs, more);
-        Ok(more)
+        match index.scan_into(pass, &rest.from, &rest.upto, limit, pairs) {
+            Ok(more) => {
+                self.rest = rest_after(rest, pairs, more);
+                Ok(more)
+            }
+            Err(refused) => Err(refused),
+        }
     }
 }
 
 /// What is left of the keys `rest` after a part with `pairs`. That is what comes above the last pair's key, or all of `rest` if there is
-/// no pair. `None` if the range has no more, as `more` says.
-fn left_of(rest: &Rest, pairs: &Pairs, more: bool) -> Option<Rest>
+/// no pair. `None` if the range has no more, as `more` says, or no key comes above that one.
+fn rest_after(rest: &Rest, pairs: &Pairs, more: bool) -> Option<Rest>
     ensures { IsLeft rest.now pairs.now more result }
 {
     if !more {

@@ -37,7 +37,7 @@ pub trait ShowsIndex {
     /// The index that it shows.
     ghost shown: { Self → TableView };
 
-    /// The index.
+    /// Returns the index that it shows.
     fn show(&self) -> &Index
         ensures { result.now ≡ shown self.now };
 }

@@ -17,12 +17,12 @@ use epochs::{Given, collect_round, pin, unpin};
 use finite_map::{Call, Reply};
 use key_bits::Key;
 use key_counts::KeyCount;
-use rowex_core::{Gate, NoGate};
+use rowex_core::{Event, Gate};
 use rowex_reading::look_up;
 use rowex_table::{HotTable, TableSeat};
 use rowex_writing::{Full, TryFault};
 use seat_calls::{
-    RecordCounts, Scratch, change, count_records, end_get, end_gets, look_up_each, try_change,
+    RecordCounts, Scratch, count_records, end_get, end_gets, look_up_each, retry_change, try_change,
 };
 use std::marker::Model;
 use std::sync::Wait;
@@ -61,6 +61,24 @@ impl Model for Pass {
     ghost invariant = { λ p. IsSettledWith p.seat.known p.count };
 }
 
+/// The gate of the calls that take none. It does nothing, and contracts see nothing of it.
+#[derive(Drop)]
+pub(crate) struct Untold;
+
+impl Model for Untold {
+    ghost Value = { Unit {0} };
+
+    ghost view = { λ _. tt };
+}
+
+impl Gate for Untold {
+    ghost use Rattle.seat_calls.specs.Traces.{untold};
+
+    ghost becomes = { untold };
+
+    fn at(&mut self, _event: &Event) {}
+}
+
 impl Pass {
     /// The number of the pass: `create` gives its passes in the order of their numbers, from 0 on.
     pub fn number(&self) -> u16
@@ -90,7 +108,7 @@ impl Index {
         ensures call { IsNoted self.now.layout pass.old pass.new (Get key.now) (got result) }
         ensures made { HasGot self.now untold (pass.old, tt) (pass.new, tt) }
     {
-        self.get_with(pass, key, &mut NoGate)
+        self.get_with(pass, key, &mut Untold)
     }
 
     /// Looks up many keys, in their order, and writes to `found`, at each key's place, what `get` would return. `found` must have as
@@ -110,7 +128,7 @@ impl Index {
         ensures call { AreNoted self.now.layout pass.old pass.new (gets keys.now found.new) }
         ensures made { HasGotMany self.now untold (length keys.now) (pass.old, tt) (pass.new, tt) }
     {
-        self.get_many_with(pass, keys, found, &mut NoGate)
+        self.get_many_with(pass, keys, found, &mut Untold)
     }
 
     /// Inserts a key with a value: `Inserted`; or `Exists` with the value that the key has already, and keeps.
@@ -132,7 +150,7 @@ impl Index {
         requires { Owns self.now pass.old }
         ensures { IsTried (Insert key.now value) result self.now pass.old pass.new }
     {
-        self.try_insert_with(pass, key, value, &mut NoGate)
+        self.try_insert_with(pass, key, value, &mut Untold)
     }
 
     /// Gives `key` the value `value`, whether it has one or not: `New`, or `Was` with the value that it had.
@@ -142,7 +160,7 @@ impl Index {
         requires { Owns self.now pass.old }
         ensures { IsTried (Upsert key.now value) result self.now pass.old pass.new }
     {
-        self.try_upsert_with(pass, key, value, &mut NoGate)
+        self.try_upsert_with(pass, key, value, &mut Untold)
     }
 
     /// Removes `key`: `Removed` with the value that it had, or `Absent`.
@@ -153,7 +171,7 @@ impl Index {
         requires { Owns self.now pass.old }
         ensures { IsTried (Remove key.now) result self.now pass.old pass.new }
     {
-        self.try_remove_with(pass, key, &mut NoGate)
+        self.try_remove_with(pass, key, &mut Untold)
     }
 
     /// Inserts a key with a value: `Inserted`; or `Exists` with the value that the key has already, and keeps.
@@ -174,7 +192,7 @@ impl Index {
         requires { Owns self.now pass.old }
         ensures { IsAwaited (Insert key.now value) result self.now pass.old pass.new }
     {
-        self.change_with(rt, pass, &mut NoGate, &Call::Insert(key.copy(), value))
+        self.retry_change_with(rt, pass, &mut Untold, &Call::Insert(key.copy(), value))
     }
 
     /// Gives `key` the value `value`, whether it has one or not: `New`, or `Was` with the value that it had.
@@ -190,7 +208,7 @@ impl Index {
         requires { Owns self.now pass.old }
         ensures { IsAwaited (Upsert key.now value) result self.now pass.old pass.new }
     {
-        self.change_with(rt, pass, &mut NoGate, &Call::Upsert(key.copy(), value))
+        self.retry_change_with(rt, pass, &mut Untold, &Call::Upsert(key.copy(), value))
     }
 
     /// Removes `key`: `Removed` with the value that it had, or `Absent`.
@@ -201,7 +219,7 @@ impl Index {
         requires { Owns self.now pass.old }
         ensures { IsAwaited (Remove key.now) result self.now pass.old pass.new }
     {
-        self.change_with(rt, pass, &mut NoGate, &Call::Remove(key.copy()))
+        self.retry_change_with(rt, pass, &mut Untold, &Call::Remove(key.copy()))
     }
 
     /// Lets two passes meet, and returns them. Each has then seen what the other had seen, and all that was published before. Both know
@@ -247,7 +265,7 @@ impl Index {
         ensures call { IsUnnoted self.now.layout pass.old pass.new }
         ensures made { HasCollected self.now untold (pass.old, tt) (pass.new, tt) result.nodes result.leaves }
     {
-        self.collect_with(pass, &mut NoGate)
+        self.collect_with(pass, &mut Untold)
     }
 
     /// Counts how many node records, and leaf records of each class, are free, held, live and obsolete. Returns these counts with the
@@ -261,7 +279,7 @@ impl Index {
         ensures call { IsUnnoted self.now.layout pass.old pass.new }
         ensures made { HasCounted self.now untold (pass.old, tt) (pass.new, tt) result }
     {
-        self.census_with(pass, &mut NoGate)
+        self.census_with(pass, &mut Untold)
     }
 
     /// Does what `get` does, and reports each of its steps to `gate`.
@@ -358,7 +376,8 @@ impl Index {
         count_records(&self.table, &mut pass.seat, gate)
     }
 
-    /// Tries to make the change `call`, at most twice, and reports each step to `gate`. Returns the reply, or why it was refused.
+    /// Tries to make the change `call`, at most twice, and reports each step to `gate`. Returns the reply, or why it was refused. The pass
+    /// counts the key that it puts in or takes out.
     pub(crate) fn try_change_with<G: Gate>(
         &self,
         pass: &mut Pass,
@@ -373,9 +392,11 @@ impl Index {
         answer
     }
 
-    /// Makes the change `call`, and reports each step to `gate`. It begins again as long as another pass is in its way, or records may
-    /// come back. Returns the reply, or the kind of records of which none was free.
-    pub(crate) fn change_with<R: Wait, G: Gate>(
+    /// Makes the change `call`, and reports each step to `gate`. Returns the reply, or the kind of records of which none was free. The pass
+    /// counts the key that it puts in or takes out.
+    ///
+    /// It begins again as long as another pass is in its way, or records may come back. Before that it lets other threads run, by `rt`.
+    pub(crate) fn retry_change_with<R: Wait, G: Gate>(
         &self,
         rt: &R,
         pass: &mut Pass,
@@ -385,7 +406,7 @@ impl Index {
         requires { Owns self.now pass.old }
         ensures { IsAwaitedWith call.now result self.now G.becomes (pass.old, gate.old) (pass.new, gate.new) }
     {
-        let answer = change(
+        let answer = retry_change(
             rt,
             &self.table,
             &mut pass.seat,

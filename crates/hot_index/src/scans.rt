@@ -6,12 +6,12 @@ ghost use Rattle.seat_calls.specs.Answers.{IsFoundBy, range_from};
 ghost use Rattle.seat_calls.specs.Calls.{IsListRead, IsListReadBy, IsListReadWith, IsRangeRead, IsScanRead, IsScanReadBy, IsScanReadWith};
 ghost use Rattle.seat_calls.specs.Passes.{Owns};
 
-use crate::index::{Index, Pass};
+use crate::index::{Index, Pass, Untold};
 use epochs::{pin, unpin};
 use finite_map::Scan;
 use key_bits::Key;
 use packed_pairs::Pairs;
-use rowex_core::{Gate, NoGate};
+use rowex_core::Gate;
 use rowex_scanning::{Direction, Range, scan_root};
 use std::alloc::{AllocError, Global};
 
@@ -38,7 +38,7 @@ impl Index {
         requires { Owns self.now pass.old }
         ensures { IsScanRead (range_from from.now upto.now limit) result self.now pass.old pass.new }
     {
-        self.scan_with(alloc, pass, from, upto, limit, &mut NoGate)
+        self.scan_with(alloc, pass, from, upto, limit, &mut Untold)
     }
 
     /// Does what `scan` does, and reports each of its steps to `gate`.
@@ -60,7 +60,7 @@ impl Index {
             direction: Direction::Upwards,
             limit,
         };
-        self.scan_by(alloc, pass, &range, gate)
+        self.scan_range(alloc, pass, &range, gate)
     }
 
     /// `scan` into a list, whose earlier pairs are dropped. Returns whether the range has more.
@@ -81,7 +81,7 @@ impl Index {
         requires { Owns self.now pass.old }
         ensures { IsListRead (range_from from.now upto.now limit) pairs.new result self.now pass.old pass.new }
     {
-        self.scan_into_with(pass, from, upto, limit, pairs, &mut NoGate)
+        self.scan_into_with(pass, from, upto, limit, pairs, &mut Untold)
     }
 
     /// Does what `scan_into` does, and reports each of its steps to `gate`.
@@ -103,13 +103,15 @@ impl Index {
             direction: Direction::Upwards,
             limit,
         };
-        self.list_by(pass, &range, pairs, gate)
+        self.list_range(pass, &range, pairs, gate)
     }
 
-    /// What `scan_into_with` does, or, in the other direction, `scan_reverse_into_with`. Inline, so that each has a walk of its own
-    /// direction.
+    /// Lists the pairs of `range` into `pairs`, in its direction, and drops earlier ones. Returns whether the range has more. If memory is
+    /// refused, an error: `pairs` then holds the first of these pairs, fewer than its limit.
+    ///
+    /// Inline, so that each direction has a walk of its own.
     #[inline(always)]
-    pub(crate) fn list_by<G: Gate>(
+    pub(crate) fn list_range<G: Gate>(
         &self,
         pass: &mut Pass,
         range: &Range,
@@ -132,9 +134,11 @@ impl Index {
         scan
     }
 
-    /// What `scan_with` does, or, in the other direction, `scan_reverse` with a gate. Inline, as `list_by` is.
+    /// Lists the pairs of `range`, in its direction. Returns them, and whether the range has more. If memory is refused, an error.
+    ///
+    /// Inline, as `list_range` is.
     #[inline(always)]
-    pub(crate) fn scan_by<G: Gate>(
+    pub(crate) fn scan_range<G: Gate>(
         &self,
         alloc: Global,
         pass: &mut Pass,
@@ -145,14 +149,16 @@ impl Index {
         ensures { IsScanReadBy (IsLawfulBy range.now.direction) (asked_range range.now) result self.now G.becomes (pass.old, gate.old) (pass.new, gate.new) }
     {
         let mut list = Pairs::new(alloc);
-        let more = self.list_by(pass, range, &mut list, gate)?;
+        let more = self.list_range(pass, range, &mut list, gate)?;
         let pairs = list.to_vec(alloc)?;
         Ok(Scan { pairs, more })
     }
 
-    /// The first pair from `from` to `upto` in this direction; `None` if no pair was found. An error if memory is refused.
+    /// The pair from `from` to `upto` that comes first in this direction; `None` if no pair was found. An error if memory is refused.
+    ///
+    /// Inline, as `list_range` is.
     #[inline(always)]
-    pub(crate) fn first_by(
+    pub(crate) fn find_first(
         &self,
         alloc: Global,
         pass: &mut Pass,
@@ -171,7 +177,7 @@ impl Index {
             limit: 1,
         };
         let mut list = Pairs::new(alloc);
-        self.list_by(pass, &range, &mut list, &mut NoGate)?;
+        self.list_range(pass, &range, &mut list, &mut Untold)?;
         let mut pairs = list.to_vec(alloc)?;
         Ok(pairs.pop())
     }

@@ -26,11 +26,9 @@ use Rattle.epochs.proofs.Doing.{collects_append, collects_look}
 use Rattle.seat_calls.specs.Census.{CountsAll, CountsFrom, FoundTags, HasCounted, OneForEach, counts_in, counts_of, is_free, is_held, is_live, is_obsolete, loads_in, loads_of, with_tag}
 use Rattle.seat_calls.specs.Answers.{IsUnnoted}
 use Rattle.seat_calls.specs.Passes.{IsSettled, PassView, pass_of}
-use Rattle.seat_calls.specs.Traces.{untold}
 use Rattle.seat_calls.specs.declared.census.RecordCounts.{RecordCounts}
 use Rattle.seat_calls.specs.declared.census.StateCounts.{StateCounts}
 use Rattle.seat_calls.proofs.Collected.{does_settled, does_unnoted}
-use Rattle.seat_calls.proofs.Tracing.{runs_untold}
 
 -- Counts
 
@@ -214,19 +212,3 @@ module _ {G : Type 0} {table : TableView} {becomes : G → Event → G → Type 
       front = ap (λ (z : Known). z.front) all.3.rest;
       many = ap (λ (z : Known). z.steps) all.3.rest ∙ ap (λ n. a.0.known.steps + n) many;
     }
-
-  pub counted_untold : (a b : PassView × G) (counts : RecordCounts) → HasCounted table becomes a b counts → HasCounted table untold (a.0, tt) (b.0, tt) counts
-  counted_untold a b counts x = record {
-    tags = x.tags;
-    begins = x.begins;
-    ends = x.ends;
-    each = x.each;
-    counts_are = x.counts_are;
-    steps = all;
-    told = subst (λ (z : PassView). IsTold untold (events_of z.number (loads_in table.layout x.tags)) tt tt) (sym x.begins) (runs_told table untold (loads_in table.layout x.tags) (a.0.seat, tt) (b.0.seat, tt) all);
-    front = x.front;
-    many = x.many;
-  }
-    where
-      all : Runs table untold (loads_in table.layout x.tags) (a.0.seat, tt) (b.0.seat, tt)
-      all = runs_untold table becomes (loads_in table.layout x.tags) (a.0.seat, a.1) (b.0.seat, b.1) x.steps

@@ -171,17 +171,24 @@ longer later front b = let e = ap length b.1 ∙ length-append front b.0 in omeg
 pub fits_then : (table : TableView) (s t : SeatView) → IsSame s t → IsPassOf table s → IsPassOf table t
 fits_then table s t same fits = (same.0 ∙ fits.0, subst (λ q. q < table.layout.passes) (sym same.2) fits.1)
 
+-- the pin changes neither its number nor its front
+pub pinned_pass : {G : Type 0} {table : TableView} {becomes : G → Event → G → Type 0} {a b : SeatView × G} → Pins table becomes a b → b.0.known.pass ≡ a.0.known.pass
+pinned_pass pins = ap (λ (z : Known). z.pass) pins.1.rest
+
+pub pinned_front : {G : Type 0} {table : TableView} {becomes : G → Event → G → Type 0} {a b : SeatView × G} → Pins table becomes a b → b.0.known.front ≡ a.0.known.front
+pinned_front pins = ap (λ (z : Known). z.front) pins.1.rest
+
 -- a pass that was settled, was pinned and has looked then
 pub looked_then : {G : Type 0} {table : TableView} {becomes : G → Event → G → Type 0} {n : ℕ} {a b : SeatView × G} (i : Known) → IsSettled a.0.known → Pins table becomes a b → HasLookedAt n b.0.known i → HasLooked a.0.known i
 looked_then {n = n} {a = a} {b = b} i settled pins at = record {
   on = record {
-    pass = at.later.pass ∙ pass;
+    pass = at.later.pass ∙ pinned_pass pins;
     notes = ap (λ (z : Known). z.notes) at.sees ∙ ap (λ (z : Known). z.notes) pinned;
     own = ap (λ (z : Known). z.own) at.sees ∙ (ap (λ (z : Known). z.own) pinned ∙ settled.own);
     locks = ap (λ (z : Known). z.locks) at.sees ∙ (ap (λ (z : Known). z.locks) pinned ∙ settled.locks);
     anchor = ap (λ (z : Known). z.anchor) at.sees ∙ (ap (λ (z : Known). z.anchor) pinned ∙ settled.anchor);
     front = others_begin a.0.known.pass a.0.known.front i.front others;
-    fresh = subst (λ (z : List Change). BeginsWith i.fresh.front z) front at.fresh;
+    fresh = subst (λ (z : List Change). BeginsWith i.fresh.front z) (pinned_front pins) at.fresh;
     now = let now = at.now in let steps = ap (λ (z : Known). z.steps) pinned in omega arith;
   };
   others = others;
@@ -190,14 +197,8 @@ looked_then {n = n} {a = a} {b = b} i settled pins at = record {
     pinned : b.0.known ≡ record a.0.known { pin = b.0.known.pin; round = b.0.known.round; steps = a.0.known.steps + 2 }
     pinned = pins.1.rest
 
-    pass : b.0.known.pass ≡ a.0.known.pass
-    pass = ap (λ (z : Known). z.pass) pinned
-
-    front : b.0.known.front ≡ a.0.known.front
-    front = ap (λ (z : Known). z.front) pinned
-
     others : OthersGoOn a.0.known.pass a.0.known.front i.front
-    others = subst (λ (z : ℕ × List Change). OthersGoOn z.0 z.1 i.front) (λ x. (pass x, front x)) at.later.front
+    others = subst (λ (z : ℕ × List Change). OthersGoOn z.0 z.1 i.front) (λ x. (pinned_pass pins x, pinned_front pins x)) at.later.front
 
 pub looked : {G : Type 0} {table : TableView} {becomes : G → Event → G → Type 0} {e n : ℕ} {a b c : SeatView × G} → IsSettled a.0.known → Pins table becomes a b → Looks table becomes e n b c →
     HasLooked a.0.known c.0.known

@@ -27,6 +27,7 @@ use Rattle.rowex_writing.specs.declared.attempts.TryFault.{TryFault}
 use Rattle.rowex_writing.specs.declared.plan.Full.{Full}
 use Rattle.seat_calls.specs.Answers.{IsRefused, fault_of}
 use Rattle.seat_calls.specs.Counts.{try_steps}
+use Rattle.seat_calls.specs.Noting.{change_notes}
 use Rattle.seat_calls.specs.Passes.{PassView, pass_of}
 use Rattle.seat_calls.specs.Traces.{AreAttempts, AreRoundSteps, AreSmallSteps, AreTries, HasCollected, HasEnded, HasGot, HasMade, HasRead, HasStepped, HasTold, HasGotRange, IsAttempt, Tidies, is_full, reading, untold}
 
@@ -136,98 +137,29 @@ module _ {G : Type 0} (table : TableView) (becomes : G → Event → G → Type 
 
   -- Nobody need be told.
 
-  pub step_untold : (act : Act) (said : Known → List Note) (a b : SeatView × G) → StepsWith table becomes act said a b → StepsWith table untold act said (a.0, tt) (b.0, tt)
+  step_untold : (act : Act) (said : Known → List Note) (a b : SeatView × G) → StepsWith table becomes act said a b → StepsWith table untold act said (a.0, tt) (b.0, tt)
   step_untold act said a b x = record { seat = x.seat; event = x.event; next = x.next; told = tt }
 
-  pub runs_untold : (acts : List Act) (a b : SeatView × G) → Runs table becomes acts a b → Runs table untold acts (a.0, tt) (b.0, tt)
+  runs_untold : (acts : List Act) (a b : SeatView × G) → Runs table becomes acts a b → Runs table untold acts (a.0, tt) (b.0, tt)
   runs_untold [] a b run = ap (λ (z : SeatView × G). (z.0, tt)) run
   runs_untold (act ∷ acts) a b run = ((run.0.0, tt), step_untold act (λ k. []) a run.0 run.1, runs_untold acts run.0 b run.2)
 
   ends_untold : (acts : List Act) (last : Act) (said : Known → List Note) (a b : SeatView × G) → Ends table becomes acts last said a b → Ends table untold acts last said (a.0, tt) (b.0, tt)
   ends_untold acts last said a b (m, run, end) = ((m.0, tt), runs_untold acts a m run, step_untold last said m b end)
 
-  pub read_untold : (a b : PassView × G) → HasRead table becomes a b → HasRead table untold (a.0, tt) (b.0, tt)
-  read_untold a b x = record {
-    epoch = x.epoch;
-    root = x.root;
-    loads = x.loads;
-    said = x.said;
-    begins = x.begins;
-    ends = x.ends;
-    below = x.below;
-    steps = all;
-    sees = x.sees;
-    told = subst (λ (z : PassView). IsTold untold (events_of z.number (reading x.epoch x.root x.loads ++ ClearPin ∷ [])) tt tt) (sym x.begins)
-        (ends_told table untold (reading x.epoch x.root x.loads) ClearPin x.said (a.0.seat, tt) (b.0.seat, tt) all);
-  }
-    where
-      all : Ends table untold (reading x.epoch x.root x.loads) ClearPin x.said (a.0.seat, tt) (b.0.seat, tt)
-      all = ends_untold (reading x.epoch x.root x.loads) ClearPin x.said (a.0.seat, a.1) (b.0.seat, b.1) x.steps
-
-  pub got_untold : (a b : PassView × G) → HasGot table becomes a b → HasGot table untold (a.0, tt) (b.0, tt)
-  unfolding read_untold
-  got_untold a b x = record { read = read_untold a b x.read; depth = x.depth; few = x.few }
-
-  pub walked_untold : (limit : ℕ) (a b : PassView × G) → HasGotRange table becomes limit a b → HasGotRange table untold limit (a.0, tt) (b.0, tt)
-  unfolding read_untold
-  walked_untold limit a b x = record { read = read_untold a b x.read; most = x.most; few = x.few }
-
   -- a call that ended on its seat
-  pub has_made : {said : Known → List Note} {call : Call} {r : Result Reply TryFault} (a b : SeatView × G) → HasEnded table becomes (AreAttempts table becomes call r said a b) said a b → b.0.known.steps ≤ a.0.known.steps + try_steps table.layout →
+  pub has_made : {call : Call} {r : Result Reply TryFault} (a b : SeatView × G) → HasEnded table becomes (AreAttempts table becomes call r a b) (change_notes call r) a b → b.0.known.steps ≤ a.0.known.steps + try_steps table.layout →
       a.0.known.steps ≤ b.0.known.fresh.step → HasMade table becomes call r (pass_of a.0, a.1) (pass_of b.0, b.1)
-  has_made {said = said} a b (acts, tries, ends) few loaded = record {
+  has_made {call = call} {r = r} a b (acts, tries, ends) few loaded = record {
     acts = acts;
-    said = said;
     begins = refl;
     ends = refl;
     tries = tries;
     steps = ends;
-    sees = ends_see table becomes acts ClearPin said a b ends loaded;
-    told = ends_told table becomes acts ClearPin said a b ends;
+    sees = ends_see table becomes acts ClearPin (change_notes call r) a b ends loaded;
+    told = ends_told table becomes acts ClearPin (change_notes call r) a b ends;
     few = few;
   }
-
-  tries_untold : (call : Call) (r : Result Reply TryFault) (said : Known → List Note) (a b : SeatView × G) (acts : List Act) → AreTries table becomes call r said a b acts →
-      AreTries table untold call r said (a.0, tt) (b.0, tt) acts
-  tries_untold call r said a b acts (inl once) = inl once
-  tries_untold call r said a b acts (inr two) = inr (record {
-    first = two.first;
-    between = two.between;
-    second = two.second;
-    acts_are = two.acts_are;
-    tries = two.tries;
-    round = two.round;
-    tries_again = two.tries_again;
-    refused = (two.refused.0, tt);
-    tried = ends_untold two.first ClearPin silent a two.refused two.tried;
-    full = two.full;
-    lacked = two.lacked;
-    goes_on = ends_untold (two.between ++ two.second) ClearPin said two.refused b two.goes_on;
-  })
-
-  pub made_untold : (call : Call) (r : Result Reply TryFault) (a b : PassView × G) → HasMade table becomes call r a b → HasMade table untold call r (a.0, tt) (b.0, tt)
-  made_untold call r a b x = record {
-    acts = x.acts;
-    said = x.said;
-    begins = x.begins;
-    ends = x.ends;
-    tries = record {
-      before = x.tries.before;
-      rest = x.tries.rest;
-      acts_are = x.tries.acts_are;
-      tidies = x.tries.tidies;
-      tidied = (x.tries.tidied.0, tt);
-      steps = runs_untold x.tries.before (a.0.seat, a.1) x.tries.tidied x.tries.steps;
-      tries = tries_untold call r x.said x.tries.tidied (b.0.seat, b.1) x.tries.rest x.tries.tries;
-    };
-    steps = all;
-    sees = x.sees;
-    told = subst (λ (z : PassView). IsTold untold (events_of z.number (x.acts ++ ClearPin ∷ [])) tt tt) (sym x.begins) (ends_told table untold x.acts ClearPin x.said (a.0.seat, tt) (b.0.seat, tt) all);
-    few = x.few;
-  }
-    where
-      all : Ends table untold x.acts ClearPin x.said (a.0.seat, tt) (b.0.seat, tt)
-      all = ends_untold x.acts ClearPin x.said (a.0.seat, a.1) (b.0.seat, b.1) x.steps
 
   -- Calls that wait
 
@@ -295,14 +227,14 @@ module _ {G : Type 0} (table : TableView) (becomes : G → Event → G → Type 
   attempt_run a b (acts, steps, run) = record { acts = acts; each = steps.pinned; tried_are = refl; steps = run }
 
   -- the call is over
-  pub ended_once : {said : Known → List Note} (call : Call) (r : Result Reply TryFault) (a b : SeatView × G) → is_full r ≡ false → HasEnded table becomes (IsAttempt table.layout) said a b →
-      HasEnded table becomes (AreTries table becomes call r said a b) said a b
+  pub ended_once : (call : Call) (r : Result Reply TryFault) (a b : SeatView × G) → is_full r ≡ false → HasEnded table becomes (IsAttempt table.layout) (change_notes call r) a b →
+      HasEnded table becomes (AreTries table becomes call r a b) (change_notes call r) a b
   ended_once call r a b stands (acts, tries, ends) = (acts, inl (tries, stands), ends)
 
   -- or it was refused as full; and there follow a round of collection and an attempt more
-  pub ended_again : {said : Known → List Note} {nodes leaves : ℕ} (call : Call) (r : Result Reply TryFault) (full : Full) (a b c d : SeatView × G) → HasEnded table becomes (IsAttempt table.layout) silent a b →
-      IsRefused table.layout call (pass_of a.0) (pass_of b.0) (fault_of full) → IsRound table becomes b c nodes leaves → HasEnded table becomes (IsAttempt table.layout) said c d →
-      HasEnded table becomes (AreTries table becomes call r said a d) said a d
+  pub ended_again : {nodes leaves : ℕ} (call : Call) (r : Result Reply TryFault) (full : Full) (a b c d : SeatView × G) → HasEnded table becomes (IsAttempt table.layout) silent a b →
+      IsRefused table.layout call (pass_of a.0) (pass_of b.0) (fault_of full) → IsRound table becomes b c nodes leaves → HasEnded table becomes (IsAttempt table.layout) (change_notes call r) c d →
+      HasEnded table becomes (AreTries table becomes call r a d) (change_notes call r) a d
   ended_again call r full a b c d (acts, tries, (m, steps, last)) lacked round (more, tries_again, (n, rest, end)) =
       let between = LoadEpoch round.epoch ∷ advance_steps round.epoch round.found ++ LoadEpoch round.next ∷ round.pins ++ round.nodes ++ round.leaves in
       let later = runs_append table becomes between more b c n round.does.steps rest in (
@@ -325,37 +257,13 @@ module _ {G : Type 0} (table : TableView) (becomes : G → Event → G → Type 
       )
 
   -- before them, a small round or nothing
-  pub ended_tidied : {said : Known → List Note} {call : Call} {r : Result Reply TryFault} (a b c : SeatView × G) → Tidies table becomes a b → HasEnded table becomes (AreTries table becomes call r said b c) said b c →
-      HasEnded table becomes (AreAttempts table becomes call r said a c) said a c
-  ended_tidied {said = said} a b c (inl none) (acts, tries, ends) =
-      (acts, record { before = []; rest = acts; acts_are = refl; tidies = inl refl; tidied = b; steps = none; tries = tries }, subst (λ (z : SeatView × G). Ends table becomes acts ClearPin said z c) none ends)
+  pub ended_tidied : {call : Call} {r : Result Reply TryFault} (a b c : SeatView × G) → Tidies table becomes a b → HasEnded table becomes (AreTries table becomes call r b c) (change_notes call r) b c →
+      HasEnded table becomes (AreAttempts table becomes call r a c) (change_notes call r) a c
+  ended_tidied {call = call} {r = r} a b c (inl none) (acts, tries, ends) =
+      (acts, record { before = []; rest = acts; acts_are = refl; tidies = inl refl; tidied = b; steps = none; tries = tries }, subst (λ (z : SeatView × G). Ends table becomes acts ClearPin (change_notes call r) z c) none ends)
   ended_tidied a b c (inr small) (acts, tries, (m, run, end)) =
       let before = LoadEpoch small.epoch ∷ advance_steps small.epoch small.found ++ LoadEpoch small.next ∷ small.pins ++ small.visits in (
         before ++ acts,
         record { before = before; rest = acts; acts_are = refl; tidies = inr (small_steps_of small); tidied = b; steps = small.does.steps; tries = tries },
         (m, runs_append table becomes before acts a b m small.does.steps run, end),
       )
-
-  pub collected_untold : (a b : PassView × G) (nodes leaves : ℕ) → HasCollected table becomes a b nodes leaves → HasCollected table untold (a.0, tt) (b.0, tt) nodes leaves
-  collected_untold a b nodes leaves x =
-      let r = x.round in
-      record {
-        begins = x.begins;
-        ends = x.ends;
-        round = record {
-          epoch = r.epoch;
-          found = r.found;
-          next = r.next;
-          pins = r.pins;
-          nodes = r.nodes;
-          leaves = r.leaves;
-          does = record { seat = r.does.seat; steps = runs_untold (LoadEpoch r.epoch ∷ advance_steps r.epoch r.found ++ LoadEpoch r.next ∷ r.pins ++ r.nodes ++ r.leaves) (a.0.seat, a.1) (b.0.seat, b.1) r.does.steps; rest = r.does.rest };
-          loads_pins = r.loads_pins;
-          visits_nodes = r.visits_nodes;
-          visits_leaves = r.visits_leaves;
-          nodes_given = r.nodes_given;
-          leaves_given = r.leaves_given;
-        };
-        front = x.front;
-        few = x.few;
-      }

@@ -48,16 +48,16 @@ use Rattle.rowex_writing.proofs.Keeping.{lacks_so}
 use Rattle.epochs.specs.Rounds.{IsRound}
 use Rattle.seat_calls.specs.Answers.{IsCause, IsNoted, IsRefused, IsUnnoted, MayLack, MayRefuse, fault_of}
 use Rattle.seat_calls.specs.Asked.{HasAsked, HasReplied, last_try}
-use Rattle.seat_calls.specs.Calls.{AreTriesRefused, GetsOrTries, IsAwaited, IsAwaitedWith, IsTriedWith, MakesSteps, MakesStepsWith, MakesTries}
+use Rattle.seat_calls.specs.Calls.{AreTriesRefused, GetsOr, IsAwaitedWith, IsTriedWith, MakesTries}
 use Rattle.seat_calls.specs.Counts.{once_steps, try_steps, twice_steps}
 use Rattle.seat_calls.specs.Noting.{change_notes, place_by}
 use Rattle.seat_calls.specs.Passes.{IsSettled, Owns, PassView, pass_of}
-use Rattle.seat_calls.specs.Traces.{AreAttempts, AreTries, HasMade, HasStepped, HasTold, IsOneAttempt, Tidies, is_full, untold}
-use Rattle.seat_calls.proofs.Noting.{HasGoneOn, HasLooked, WasRight, event_makers, found_had, goes_on, legal_front, longer, noted, settles, note_of}
+use Rattle.seat_calls.specs.Traces.{AreAttempts, AreTries, HasMade, HasStepped, HasTold, IsOneAttempt, Tidies, is_full}
+use Rattle.seat_calls.proofs.Noting.{HasGoneOn, HasLooked, WasRight, event_makers, found_had, goes_on, legal_front, longer, noted, note_of, pinned_front, pinned_pass, settles}
 use Rattle.seat_calls.proofs.Conflicts.{conflict_from_before, overtaken}
 use Rattle.seat_calls.proofs.Collected.{round_unnoted, small_few, small_later, small_unnoted}
 use Rattle.seat_calls.proofs.Scanned.{scan_refused, scan_settled}
-use Rattle.seat_calls.proofs.Tracing.{ended_once, ended_tidied, got_untold, has_made, has_told, made_untold, told_untold}
+use Rattle.seat_calls.proofs.Tracing.{ended_once, ended_tidied, has_made, has_told}
 
 -- Replies
 
@@ -230,31 +230,33 @@ module _ {G : Type 0} {table : TableView} {becomes : G → Event → G → Type 
 
 -- an attempt whose answer stands
 pub once_asked : {G : Type 0} {table : TableView} {becomes : G → Event → G → Type 0} {a b : SeatView × G} (call : Call) (r : Result Reply TryFault) → is_full r ≡ false →
-    HasAsked table becomes (IsOneAttempt table) (once_steps table.layout) call r a b → HasAsked table becomes (AreTries table becomes call r) (twice_steps table.layout) call r a b
-once_asked {table = table} {becomes = becomes} {a = a} {b = b} call r stands once = record { replied = once.replied; ended = ended_once table becomes call r a b stands once.ended; later = once.later; few = omega (arith, once.few) }
+    HasAsked table becomes (IsOneAttempt table) call r a b → HasAsked table becomes (AreTries table becomes call r) call r a b
+once_asked {table = table} {becomes = becomes} {a = a} {b = b} call r stands once = record { replied = once.replied; ended = ended_once table becomes call r a b stands once.ended; later = once.later }
 
 -- a small round or nothing, and then the tries
 module _ {G : Type 0} {table : TableView} {becomes : G → Event → G → Type 0} (a b c : SeatView × G) (call : Call) (r : Result Reply TryFault) (settled : IsSettled a.0.known)
-    (asked : HasAsked table becomes (AreTries table becomes call r) (twice_steps table.layout) call r b c) where
-  pub tidied_asked : Tidies table becomes a b → HasAsked table becomes (AreAttempts table becomes call r) (try_steps table.layout) call r a c
+    (asked : HasAsked table becomes (AreTries table becomes call r) call r b c) where
+  pub tidied_asked : Tidies table becomes a b → HasAsked table becomes (AreAttempts table becomes call r) call r a c
   tidied_asked (inl none) =
       let seats : b.0 ≡ a.0 = ap (λ (z : SeatView × G). z.0) none in
       record {
         replied = subst (λ (z : SeatView). HasReplied table call r z c.0) seats asked.replied;
         ended = ended_tidied table becomes a b c (inl none) asked.ended;
         later = subst (λ (z : SeatView). z.known.steps ≤ c.0.known.steps) seats asked.later;
-        few = (let s = ap (λ (z : SeatView). z.known.steps) seats in omega (arith, asked.few, s));
       }
   tidied_asked (inr small) =
-      let count = small_few small in
       let later = small_later small in
       let both = outcome_then table.layout (pass_of a.0) (pass_of b.0) (pass_of c.0) (small_unnoted small settled) later call r asked.replied.noted asked.replied.refused in
       record {
         replied = record { idle = asked.replied.idle; noted = both.0; refused = both.1; leafless = asked.replied.leafless; loaded = le_trans later asked.replied.loaded };
         ended = ended_tidied table becomes a b c (inr small) asked.ended;
         later = le_trans later asked.later;
-        few = omega (arith, asked.few, count);
       }
+
+  -- the small round is bounded, too
+  pub tidied_few : Tidies table becomes a b → c.0.known.steps ≤ b.0.known.steps + twice_steps table.layout → c.0.known.steps ≤ a.0.known.steps + try_steps table.layout
+  tidied_few (inl none) few = let s = ap (λ (z : SeatView × G). z.0.known.steps) none in omega (arith, few, s)
+  tidied_few (inr small) few = let count = small_few small in omega (arith, few, count)
 
 -- a call has not tried yet, or each try was refused
 abbrev pub HasWaited : Layout → PassView → PassView → Type 0
@@ -302,18 +304,12 @@ module _ {G : Type 0} {table : TableView} {becomes : G → Event → G → Type 
   pinned : b.0.known ≡ record a.0.known { pin = b.0.known.pin; round = b.0.known.round; steps = a.0.known.steps + 2 }
   pinned = pins.1.rest
 
-  same_pass : b.0.known.pass ≡ a.0.known.pass
-  same_pass = ap (λ (z : Known). z.pass) pinned
-
-  same_front : b.0.known.front ≡ a.0.known.front
-  same_front = ap (λ (z : Known). z.front) pinned
-
   counted : a.0.known.steps ≤ b.0.known.steps
   counted = let s = ap (λ (z : Known). z.steps) pinned in omega arith
 
   gone_on : HasGoneOn a.0.known c.0.known
   gone_on = record {
-    pass = (run_same table becomes b c run).2 ∙ same_pass;
+    pass = (run_same table becomes b c run).2 ∙ pinned_pass pins;
     notes = notes_stay table becomes run.acts b c run.steps ∙ ap (λ (z : Known). z.notes) pinned;
     own = rest.own;
     locks = rest.locks;
@@ -324,10 +320,10 @@ module _ {G : Type 0} {table : TableView} {becomes : G → Event → G → Type 
   }
     where
       fresh : BeginsWith c.0.known.fresh.front a.0.known.front
-      fresh = subst (λ (z : List Change). BeginsWith c.0.known.fresh.front z) same_front loaded.old
+      fresh = subst (λ (z : List Change). BeginsWith c.0.known.fresh.front z) (pinned_front pins) loaded.old
 
   others_since : (later : List Change) → OthersGoOn b.0.known.pass b.0.known.front later → OthersGoOn a.0.known.pass a.0.known.front later
-  others_since later h = subst (λ (z : ℕ × List Change). OthersGoOn z.0 z.1 later) (λ x. (same_pass x, same_front x)) h
+  others_since later h = subst (λ (z : ℕ × List Change). OthersGoOn z.0 z.1 later) (λ x. (pinned_pass pins x, pinned_front pins x)) h
 
   quiet : OthersGoOn b.0.known.pass b.0.known.front c.0.known.front → HasLooked a.0.known c.0.known
   quiet h = record { on = gone_on; others = others_since c.0.known.front h }
@@ -351,7 +347,7 @@ module _ {G : Type 0} {table : TableView} {becomes : G → Event → G → Type 
   when_changed : (call : Call) (reply : Reply) (x : Change) (was : Option ℕ) → IsChangeOf b.0.known.pass call reply x was → HasChanged b.0.known c.0.known x was →
       IsEvent table.layout ClearPin (change_notes {F = TryFault} call (Ok reply)) c.0.known d.0.known → Leaves call (Ok reply)
   when_changed call reply x was is changed event =
-      let tells = change_told a.0.known.pass call reply x was (subst (λ q. IsChangeOf q call reply x was) same_pass is) in
+      let tells = change_told a.0.known.pass call reply x was (subst (λ q. IsChangeOf q call reply x was) (pinned_pass pins) is) in
       let last : change_notes {F = TryFault} call (Ok reply) ≡ note_last call reply = ap (λ t k. record { place = place_by t call reply k; call = call; reply = reply } ∷ []) tells.changed in
       let n =
       change_noted table.layout call reply a.0 c.0.known d.0 x was changed.before settled gone_on (subst (λ s. IsEvent table.layout ClearPin s c.0.known d.0.known) last event)
@@ -415,10 +411,6 @@ waited_leafless (Add key delta) r h = tt
 waited_leafless (Remove key) r h = λ is. h (ap last_try is)
 waited_leafless (RemoveIf key expected) r h = λ is. h (ap last_try is)
 
--- nobody need be told
-pub tried_untold : {G : Type 0} {call : Call} {r : Result Reply TryFault} {index : TableView} {becomes : G → Event → G → Type 0} {a b : PassView × G} → IsTriedWith call r index becomes a b → IsTriedWith call r index untold (a.0, tt) (b.0, tt)
-tried_untold x = record { own = x.own; call = x.call; made = made_untold _ _ _ _ _ _ x.made; leafless = x.leafless }
-
 -- a call that is no get is refused where it may be
 may : (call : Call) (fault : TryFault) → ((key : Key) → call ≢ Get key) → IsLeafless FullLeaves call (Err fault) → MayRefuse call fault
 may (Insert key value) fault change h = tt
@@ -438,20 +430,9 @@ may_refuse call (Ok reply) change h = tt
 may_refuse call (Err fault) change h = may call fault change h
 
 -- and lacks then what it may lack
-lacks : (call : Call) (full : Full) → MayRefuse call (fault_of full) → MayLack call full
-lacks (Insert key value) full h = tt
-lacks (Upsert key value) full h = tt
-lacks (Exchange key expected value) full h = tt
-lacks (Add key delta) full h = tt
-lacks (Get key) full h = h
-lacks (Remove key) OfNodes h = tt
-lacks (Remove key) OfLeaves h = h
-lacks (RemoveIf key expected) OfNodes h = tt
-lacks (RemoveIf key expected) OfLeaves h = h
-
 pub may_lack : (call : Call) (r : Result Reply TryFault) → IfErr r (MayRefuse call) → IfErr r (λ fault. (full : Full) → fault ≡ fault_of full → MayLack call full)
 may_lack call (Ok reply) h = tt
-may_lack call (Err fault) h = λ full e. lacks call full (subst (MayRefuse call) e h)
+may_lack call (Err fault) h = λ full e. subst (MayRefuse call) e h
 
 -- where it waits
 waits_lack : (call : Call) (full : Full) → ((key : Key) → call ≢ Get key) → IsLeafless OfLeaves call (Err full) → MayLack call full
@@ -469,38 +450,15 @@ pub waited_lacks : (call : Call) (r : Result Reply Full) → ((key : Key) → ca
 waited_lacks call (Ok reply) change h = tt
 waited_lacks call (Err full) change h = waits_lack call full change h
 
--- and its steps are a change's
-pub makes_steps : {G : Type 0} (call : Call) (r : Result Reply TryFault) (index : TableView) (becomes : G → Event → G → Type 0) (a b : PassView × G) → ((key : Key) → call ≢ Get key) →
-    HasMade index becomes call r a b → MakesStepsWith call r index becomes a b
-makes_steps (Insert key value) r index becomes a b change made = made
-makes_steps (Upsert key value) r index becomes a b change made = made
-makes_steps (Exchange key expected value) r index becomes a b change made = made
-makes_steps (Add key delta) r index becomes a b change made = made
-makes_steps (Get key) r index becomes a b change made = absurd (change key refl)
-makes_steps (Remove key) r index becomes a b change made = made
-makes_steps (RemoveIf key expected) r index becomes a b change made = made
-
--- and its tries are a change's
-pub gets_or_tries : {G : Type 0} (call : Call) (r : Result Reply Full) (index : TableView) (becomes : G → Event → G → Type 0) (a b : PassView × G) → ((key : Key) → call ≢ Get key) →
-    MakesTries call r index becomes a b → GetsOrTries call r index becomes a b
-gets_or_tries (Insert key value) r index becomes a b change made = made
-gets_or_tries (Upsert key value) r index becomes a b change made = made
-gets_or_tries (Exchange key expected value) r index becomes a b change made = made
-gets_or_tries (Add key delta) r index becomes a b change made = made
-gets_or_tries (Get key) r index becomes a b change made = absurd (change key refl)
-gets_or_tries (Remove key) r index becomes a b change made = made
-gets_or_tries (RemoveIf key expected) r index becomes a b change made = made
-
--- nobody need be told
-pub steps_untold : {G : Type 0} (call : Call) (r : Result Reply TryFault) (index : TableView) (becomes : G → Event → G → Type 0) (a b : PassView × G) → MakesStepsWith call r index becomes a b →
-    MakesSteps call r index a.0 b.0
-steps_untold (Get key) r index becomes a b made = got_untold index becomes a b made
-steps_untold (Insert key value) r index becomes a b made = made_untold index becomes (Insert key value) r a b made
-steps_untold (Upsert key value) r index becomes a b made = made_untold index becomes (Upsert key value) r a b made
-steps_untold (Exchange key expected value) r index becomes a b made = made_untold index becomes (Exchange key expected value) r a b made
-steps_untold (Add key delta) r index becomes a b made = made_untold index becomes (Add key delta) r a b made
-steps_untold (Remove key) r index becomes a b made = made_untold index becomes (Remove key) r a b made
-steps_untold (RemoveIf key expected) r index becomes a b made = made_untold index becomes (RemoveIf key expected) r a b made
+-- what is said of changes is said of it
+pub unless_get : (call : Call) (Gets Changes : Type 0) → ((key : Key) → call ≢ Get key) → Changes → GetsOr call Gets Changes
+unless_get (Insert key value) Gets Changes change is = is
+unless_get (Upsert key value) Gets Changes change is = is
+unless_get (Exchange key expected value) Gets Changes change is = is
+unless_get (Add key delta) Gets Changes change is = is
+unless_get (Get key) Gets Changes change is = absurd (change key refl)
+unless_get (Remove key) Gets Changes change is = is
+unless_get (RemoveIf key expected) Gets Changes change is = is
 
 -- A call on the seat of a pass of an index, as the index and the pass see it.
 module _ {table index : TableView} {k : PassView} {s t : SeatView} {call : Call} (index_is : table ≡ index) (pass_is : pass_of s ≡ k) where
@@ -520,12 +478,12 @@ module _ {table index : TableView} {k : PassView} {s t : SeatView} {call : Call}
   waited_call (Ok reply) h = replied_call (Ok reply) h
   waited_call (Err full) h = replied_call (Err (fault_of full)) h
 
-  pub tried_seen : {G : Type 0} {becomes : G → Event → G → Type 0} {g h : G} {r : Result Reply TryFault} → HasAsked table becomes (AreAttempts table becomes call r) (try_steps table.layout) call r (s, g) (t, h) →
+  pub tried_seen : {G : Type 0} {becomes : G → Event → G → Type 0} {g h : G} {r : Result Reply TryFault} → HasAsked table becomes (AreAttempts table becomes call r) call r (s, g) (t, h) → t.known.steps ≤ s.known.steps + try_steps table.layout →
       IsTriedWith call r index becomes (k, g) (pass_of t, h)
-  tried_seen {becomes = becomes} {g = g} {h = h} {r = r} asked = record {
+  tried_seen {becomes = becomes} {g = g} {h = h} {r = r} asked few = record {
     own = replied_own asked.replied;
     call = replied_call r asked.replied;
-    made = subst (λ (x : TableView × PassView). HasMade x.0 becomes call r (x.1, g) (pass_of t, h)) (λ e. (index_is e, pass_is e)) (has_made table becomes (s, g) (t, h) asked.ended asked.few asked.replied.loaded);
+    made = subst (λ (x : TableView × PassView). HasMade x.0 becomes call r (x.1, g) (pass_of t, h)) (λ e. (index_is e, pass_is e)) (has_made table becomes (s, g) (t, h) asked.ended few asked.replied.loaded);
     leafless = asked.replied.leafless;
   }
 
@@ -552,20 +510,3 @@ awaited_seen {t = t} {call = call} {becomes = becomes} {g = g} {h = h} {r = r} i
   tries = subst (λ (x : TableView × PassView). MakesTries call r x.0 becomes (x.1, g) (pass_of t, h)) (λ e. (index_is e, pass_is e)) made;
   told = stepped_told index_is pass_is stepped replied.loaded;
 }
-
--- nobody need be told
-refused_untold : {G : Type 0} (call : Call) (index : TableView) (becomes : G → Event → G → Type 0) (a b : PassView × G) (faults : List TryFault) → AreTriesRefused call faults index becomes a b →
-    AreTriesRefused call faults index untold (a.0, tt) (b.0, tt)
-refused_untold {G = G} call index becomes a b [] none = ap (λ (z : PassView × G). (z.0, tt)) none
-refused_untold call index becomes a b (fault ∷ faults) (m, one, rest) = ((m.0, tt), tried_untold one, refused_untold call index becomes m b faults rest)
-
-tries_untold : {G : Type 0} {call : Call} {r : Result Reply Full} {index : TableView} {becomes : G → Event → G → Type 0} {a b : PassView × G} → MakesTries call r index becomes a b → MakesTries call r index untold (a.0, tt) (b.0, tt)
-tries_untold {call = call} {index = index} {becomes = becomes} {a = a} x = record {
-  faults = x.faults;
-  last = (x.last.0, tt);
-  refused = refused_untold call index becomes a x.last x.faults x.refused;
-  tried = tried_untold x.tried;
-}
-
-pub awaited_untold : {call : Call} {r : Result Reply Full} {index : TableView} {G : Type 0} {becomes : G → Event → G → Type 0} {a b : PassView × G} → IsAwaitedWith call r index becomes a b → IsAwaited call r index a.0 b.0
-awaited_untold {index = index} {becomes = becomes} {a = a} {b = b} x = record { own = x.own; call = x.call; leafless = x.leafless; tries = tries_untold x.tries; told = told_untold index becomes a b x.told }

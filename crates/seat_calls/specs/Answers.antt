@@ -143,24 +143,16 @@ abbrev pub fault_of : Full → TryFault
 fault_of Nodes = FullNodes
 fault_of Leaves = FullLeaves
 
--- the records of this kind may all be taken when this call asks for one
-abbrev pub MayLack : Call → Full → Type 0
-MayLack (Insert key value) full = Unit {0}
-MayLack (Upsert key value) full = Unit {0}
-MayLack (Exchange key expected value) full = Unit {0}
-MayLack (Add key delta) full = Unit {0}
-MayLack (Get key) full = ⊥
-MayLack (Remove key) Nodes = Unit {0}
-MayLack (Remove key) Leaves = ⊥
-MayLack (RemoveIf key expected) Nodes = Unit {0}
-MayLack (RemoveIf key expected) Leaves = ⊥
-
 -- a call may be refused so: a get never, and neither removal for want of a leaf record
 abbrev pub MayRefuse : Call → TryFault → Type 0
 MayRefuse (Get key) fault = ⊥
 MayRefuse (Remove key) FullLeaves = ⊥
 MayRefuse (RemoveIf key expected) FullLeaves = ⊥
 MayRefuse call fault = Unit {0}
+
+-- the records of this kind may all be taken when this call asks for one
+abbrev pub MayLack : Call → Full → Type 0
+MayLack call full = MayRefuse call (fault_of full)
 
 -- Two passes have met: both have seen one list of changes, which begins with what each had seen; the calls of both are legal
 -- in it, and stand together in one sequential history.

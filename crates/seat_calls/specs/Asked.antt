@@ -1,11 +1,9 @@
 -- What a call that may change the map leaves, on the seat of its pass.
-use Rattle.std.specs.Prelude.{◌≡◌, ℕ, ◌+◌, ◌≤◌, List, Result, Ok, Err, IfOk, IfErr}
+use Rattle.std.specs.Prelude.{◌≡◌, ◌+◌, ◌≤◌, List, Result, Ok, Err, IfOk, IfErr}
 use Rattle.finite_map.specs.declared.Call.{Call}
-use Rattle.finite_map.specs.declared.Note.{Note}
 use Rattle.finite_map.specs.declared.Reply.{Reply}
 use Rattle.rowex_core.specs.declared.event.Act.{Act}
 use Rattle.rowex_core.specs.declared.event.Event.{Event}
-use Rattle.rowex_core.specs.declared.known.Known.{Known}
 use Rattle.rowex_table.specs.Runs.{silent}
 use Rattle.rowex_table.specs.Seats.{TableView, SeatView, IsSeatOf}
 use Rattle.rowex_writing.specs.Attempts.{IsLeafless}
@@ -29,13 +27,12 @@ pub record HasReplied (table : TableView) (call : Call) (result : Result Reply T
   pub leafless : IsLeafless FullLeaves call result
   pub loaded : s.known.steps ≤ t.known.fresh.step
 
--- And it has made such steps, so many at most.
-pub record HasAsked {G : Type 0} (table : TableView) (becomes : G → Event → G → Type 0)
-    (Are : (Known → List Note) → SeatView × G → SeatView × G → List Act → Type 0) (most : ℕ) (call : Call) (result : Result Reply TryFault) (a b : SeatView × G) : Type 0 where
+-- And it has made such steps. With the last one comes its note, if it was answered.
+pub record HasAsked {G : Type 0} (table : TableView) (becomes : G → Event → G → Type 0) (Are : SeatView × G → SeatView × G → List Act → Type 0)
+    (call : Call) (result : Result Reply TryFault) (a b : SeatView × G) : Type 0 where
   pub replied : HasReplied table call result a.0 b.0
-  pub ended : HasEnded table becomes (Are (change_notes call result) a b) (change_notes call result) a b
+  pub ended : HasEnded table becomes (Are a b) (change_notes call result) a b
   pub later : a.0.known.steps ≤ b.0.known.steps
-  pub few : b.0.known.steps ≤ a.0.known.steps + most
 
 -- An attempt that does nothing: the pass pins itself and clears the pin, and is as it was.
 pub record HasRested {G : Type 0} (table : TableView) (becomes : G → Event → G → Type 0) (a b : SeatView × G) : Type 0 where

@@ -33,11 +33,16 @@ pub record IsTriedWith {G : Type 0} (asked : Call) (result : Result Reply TryFau
 abbrev pub IsTried : Call → Result Reply TryFault → TableView → PassView → PassView → Type 0
 IsTried asked result index k j = IsTriedWith asked result index untold (k, tt) (j, tt)
 
+-- the first is said of a get, and the second of each other call
+abbrev pub GetsOr : Call → Type 0 → Type 0 → Type 0
+GetsOr (Get key) Gets Changes = Gets
+GetsOr asked Gets Changes = Changes
+
 -- The steps of a call with this outcome, so many at most, of which the gate was told: those of a get, or of a change's attempts and rounds.
 abbrev pub MakesStepsWith : {G : Type 0} → Call → Result Reply TryFault → TableView → (G → Event → G → Type 0) → PassView × G → PassView × G → Type 0
-MakesStepsWith (Get key) result index becomes a b = HasGot index becomes a b
-MakesStepsWith asked result index becomes a b = HasMade index becomes asked result a b
+MakesStepsWith asked result index becomes a b = GetsOr asked (HasGot index becomes a b) (HasMade index becomes asked result a b)
 
+-- the same of a call with no gate
 abbrev pub MakesSteps : Call → Result Reply TryFault → TableView → PassView → PassView → Type 0
 MakesSteps asked result index k j = MakesStepsWith asked result index untold (k, tt) (j, tt)
 
@@ -65,8 +70,7 @@ pub record MakesTries {G : Type 0} (asked : Call) (result : Result Reply Full) (
 
 -- The steps of a call that waits and has this outcome: those of a get, or a change's tries.
 abbrev pub GetsOrTries : {G : Type 0} → Call → Result Reply Full → TableView → (G → Event → G → Type 0) → PassView × G → PassView × G → Type 0
-GetsOrTries (Get key) result index becomes a b = HasGot index becomes a b
-GetsOrTries asked result index becomes a b = MakesTries asked result index becomes a b
+GetsOrTries asked result index becomes a b = GetsOr asked (HasGot index becomes a b) (MakesTries asked result index becomes a b)
 
 -- A change that waits was answered or refused, by its steps, of which the gate was told: those of its tries. Its last load of the root has
 -- shown the pass all that any pass had seen by then.

@@ -24,6 +24,7 @@ use Rattle.rowex_writing.specs.declared.attempts.TryFault.TheVariants.{Busy, Ful
 use Rattle.rowex_writing.specs.declared.plan.Full.{Full}
 use Rattle.seat_calls.specs.Answers.{IsRefused, fault_of}
 use Rattle.seat_calls.specs.Counts.{round_steps, try_steps}
+use Rattle.seat_calls.specs.Noting.{change_notes}
 use Rattle.seat_calls.specs.Passes.{PassView, pass_of}
 
 -- nobody is told
@@ -101,12 +102,12 @@ pub record AreSmallSteps (layout : Layout) (acts : List Act) : Type 0 where
   pub few : length recs ≤ MOST_VISITED
 
 -- on a seat: one attempt
-abbrev pub IsOneAttempt : {G : Type 0} → TableView → (Known → List Note) → SeatView × G → SeatView × G → List Act → Type 0
-IsOneAttempt table said a b acts = IsAttempt table.layout acts
+abbrev pub IsOneAttempt : {G : Type 0} → TableView → SeatView × G → SeatView × G → List Act → Type 0
+IsOneAttempt table a b acts = IsAttempt table.layout acts
 
 -- On a seat: two attempts, and a round of collection between them. When the first had ended, the call was refused as full by it alone; and
--- from there the other steps lead on.
-pub record AreTwoAttempts {G : Type 0} (table : TableView) (becomes : G → Event → G → Type 0) (call : Call) (said : Known → List Note)
+-- from there the other steps lead on. The notes of the call come with the last.
+pub record AreTwoAttempts {G : Type 0} (table : TableView) (becomes : G → Event → G → Type 0) (call : Call) (result : Result Reply TryFault)
     (a b : SeatView × G) (acts : List Act) : Type 0 where
   pub first : List Act
   pub between : List Act
@@ -119,7 +120,7 @@ pub record AreTwoAttempts {G : Type 0} (table : TableView) (becomes : G → Even
   pub tried : Ends table becomes first ClearPin silent a refused
   pub full : Full
   pub lacked : IsRefused table.layout call (pass_of a.0) (pass_of refused.0) (fault_of full)
-  pub goes_on : Ends table becomes (between ++ second) ClearPin said refused b
+  pub goes_on : Ends table becomes (between ++ second) ClearPin (change_notes call result) refused b
 
 -- whether the call was refused as full
 abbrev pub is_full : Result Reply TryFault → Bool
@@ -129,20 +130,19 @@ is_full (Err FullNodes) = true
 is_full (Err FullLeaves) = true
 
 -- On a seat: one attempt, whose answer stands unless it is full; or two, with a round between them, where the first was full.
-abbrev pub AreTries : {G : Type 0} → TableView → (G → Event → G → Type 0) → Call → Result Reply TryFault → (Known → List Note) → SeatView × G → SeatView × G →
-    List Act → Type 0
-AreTries table becomes call result said a b acts = (IsAttempt table.layout acts × (is_full result ≡ false)) ⊎ AreTwoAttempts table becomes call said a b acts
+abbrev pub AreTries : {G : Type 0} → TableView → (G → Event → G → Type 0) → Call → Result Reply TryFault → SeatView × G → SeatView × G → List Act → Type 0
+AreTries table becomes call result a b acts = (IsAttempt table.layout acts × (is_full result ≡ false)) ⊎ AreTwoAttempts table becomes call result a b acts
 
 -- On a seat: these tries, and before them a small round or nothing.
 pub record AreAttempts {G : Type 0} (table : TableView) (becomes : G → Event → G → Type 0) (call : Call) (result : Result Reply TryFault)
-    (said : Known → List Note) (a b : SeatView × G) (acts : List Act) : Type 0 where
+    (a b : SeatView × G) (acts : List Act) : Type 0 where
   pub before : List Act
   pub rest : List Act
   pub acts_are : acts ≡ before ++ rest
   pub tidies : (before ≡ []) ⊎ AreSmallSteps table.layout before
   pub tidied : SeatView × G
   pub steps : Runs table becomes before a tidied
-  pub tries : AreTries table becomes call result said tidied b rest
+  pub tries : AreTries table becomes call result tidied b rest
 
 -- On a seat: the pass makes a small round, or no step.
 abbrev pub Tidies : {G : Type 0} → TableView → (G → Event → G → Type 0) → SeatView × G → SeatView × G → Type 0
@@ -154,17 +154,16 @@ HasEnded table becomes Are said a b = (acts : List Act) × Are acts × Ends tabl
 
 -- The call makes one attempt, or two with a round of collection between them, and a small round or nothing before; it makes no other
 -- step, from the seat that the pass has before to the one that it has after. An attempt tries each lock once at most. A second one follows
--- a first that was full, and no other. The last step clears the pin, and with it come the call's notes. The gate is told each of the
--- steps, in order, and nothing else. So many they are at most. Answered or refused, its last load of the root has shown the pass all
--- changes that the table's steps had made by then, and so all that any pass had seen.
+-- a first that was full, and no other. The last step clears the pin. With it comes the call's note, if it was answered. The gate is told
+-- each of the steps, in order, and nothing else. So many they are at most. Answered or refused, its last load of the root has shown the
+-- pass all changes that the table's steps had made by then, and so all that any pass had seen.
 pub record HasMade {G : Type 0} (index : TableView) (becomes : G → Event → G → Type 0) (call : Call) (result : Result Reply TryFault)
     (a b : PassView × G) : Type 0 where
   pub acts : List Act
-  pub said : Known → List Note
   pub begins : a.0 ≡ pass_of a.0.seat
   pub ends : b.0 ≡ pass_of b.0.seat
-  pub tries : AreAttempts index becomes call result said (a.0.seat, a.1) (b.0.seat, b.1) acts
-  pub steps : Ends index becomes acts ClearPin said (a.0.seat, a.1) (b.0.seat, b.1)
+  pub tries : AreAttempts index becomes call result (a.0.seat, a.1) (b.0.seat, b.1) acts
+  pub steps : Ends index becomes acts ClearPin (change_notes call result) (a.0.seat, a.1) (b.0.seat, b.1)
   pub sees : SeesAllOfRun index.layout a.0.seat b.0.seat
   pub told : IsTold becomes (events_of a.0.number (acts ++ ClearPin ∷ [])) a.1 b.1
   pub few : b.0.steps ≤ a.0.steps + try_steps index.layout

@@ -44,7 +44,7 @@ pub struct RecordCounts {
     pub bytes: usize,
 }
 
-/// Loads the state of each record, nodes first, and returns how many it found in each state.
+/// Loads the state of each record, nodes first. Returns how many records it found in each state, and the bytes of the table.
 pub fn count_records<G: Gate>(table: &HotTable, seat: &mut TableSeat, gate: &mut G) -> RecordCounts
     requires { IsSeatOf table.now seat.old }
     ensures pin { seat.new.known.pin ≡ seat.old.known.pin }
@@ -74,7 +74,7 @@ fn count_nodes<G: Gate>(table: &HotTable, seat: &mut TableSeat, gate: &mut G) ->
     ensures pin { seat.new.known.pin ≡ seat.old.known.pin }
     ensures steps { CountsFrom table.now G.becomes a_node 0 table.now.layout.nodes result (seat.old, gate.old) (seat.new, gate.new) }
 {
-    let mut counts = none();
+    let mut counts = zero_counts();
     for number in 0..table.layout().nodes {
         let word = table.load_state(seat, gate, Rec::Node(number));
         counts = count_state(counts, word);
@@ -95,7 +95,7 @@ fn count_leaves<G: Gate>(
     ensures pin { seat.new.known.pin ≡ seat.old.known.pin }
     ensures steps { CountsFrom table.now G.becomes a_leaf first behind result (seat.old, gate.old) (seat.new, gate.new) }
 {
-    let mut counts = none();
+    let mut counts = zero_counts();
     for number in first..behind {
         let word = table.load_state(seat, gate, Rec::Leaf(number));
         counts = count_state(counts, word);
@@ -103,8 +103,8 @@ fn count_leaves<G: Gate>(
     counts
 }
 
-/// The counts of no record.
-fn none() -> StateCounts
+/// The counts of no record: 0 in each state.
+fn zero_counts() -> StateCounts
     ensures { result ≡ counts_of [] }
 {
     StateCounts {

@@ -1,11 +1,13 @@
 //! A call that may change the index, made with a pass's seat and scratch lists: its attempts, and the note of an answer.
 
-ghost use Rattle.std.specs.Prelude.{◌≡◌, List, Err, None, IfSome, IsSome, false};
+ghost use Rattle.std.specs.Prelude.{◌≡◌, ◌⊎◌, ◌+◌, ◌<◌, ◌≤◌, ◌↔◌, List, Err, None, IfSome, IsSome, IsTrue, true, false};
 ghost use Rattle.finite_map.specs.declared.Note.{Note};
 ghost use Rattle.rowex_core.specs.declared.event.Act.TheVariants.{ClearPin};
 ghost use Rattle.rowex_core.specs.declared.known.Known.{Known};
 ghost use Rattle.rowex_table.specs.Runs.{StepsWith};
 ghost use Rattle.rowex_table.specs.Seats.{IsPassOf};
+ghost use Rattle.rowex_writing.specs.declared.attempts.TryFault.TheVariants.{Busy};
+ghost use Rattle.rowex_writing.specs.declared.plan.Full.TheVariants.{Nodes, Leaves};
 ghost use Rattle.seat_calls.specs.Answers.{fault_of};
 ghost use Rattle.seat_calls.specs.Asked.{HasAsked, HasReplied, HasRested, IsIdle, last_try};
 ghost use Rattle.seat_calls.specs.Calls.{MakesTries};
@@ -23,8 +25,8 @@ use rowex_writing::{Full, TryFault, attempt};
 use std::sync::Wait;
 use std::thread;
 
-/// Tries to make the change `call`, at most twice, after a small round if one is due. Returns the reply, or why the last attempt was
-/// refused.
+/// Tries to make the change `call`, at most twice, after a small round of collection if one is due. Returns the reply, or why the last
+/// attempt was refused.
 pub fn try_change<G: Gate>(
     table: &HotTable,
     seat: &mut TableSeat,
@@ -33,14 +35,20 @@ pub fn try_change<G: Gate>(
     call: &Call,
 ) -> Result<Reply, TryFault>
     requires idle { IsIdle table.now seat.old }
-    ensures asked { HasAsked table.now G.becomes (AreAttempts table.now G.becomes call.now result) (try_steps table.now.layout) call.now result (seat.old, gate.old) (seat.new, gate.new) }
+    ensures asked { HasAsked table.now G.becomes (AreAttempts table.now G.becomes call.now result) call.now result (seat.old, gate.old) (seat.new, gate.new) }
+    ensures few { seat.new.known.steps ≤ seat.old.known.steps + try_steps table.now.layout }
 {
-    tidy(table, seat, gate, scratch);
+    collect_if_due(table, seat, gate, scratch);
     try_twice(table, seat, gate, scratch, call)
 }
 
-/// Makes a small round, if one is due.
-fn tidy<G: Gate>(table: &HotTable, seat: &mut TableSeat, gate: &mut G, scratch: &mut Scratch)
+/// Makes a small round of collection, if one is due. Lets the next claims begin with the records that it gave back.
+fn collect_if_due<G: Gate>(
+    table: &HotTable,
+    seat: &mut TableSeat,
+    gate: &mut G,
+    scratch: &mut Scratch,
+)
     requires idle { IsIdle table.now seat.old }
     ensures idle { IsIdle table.now seat.new }
     ensures tidied { Tidies table.now G.becomes (seat.old, gate.old) (seat.new, gate.new) }
@@ -51,9 +59,11 @@ fn tidy<G: Gate>(table: &HotTable, seat: &mut TableSeat, gate: &mut G, scratch: 
     }
 }
 
-/// Tries to make the change `call`. If no record was free, it makes a round of collection and tries once more, and returns what the
-/// second attempt came to. If the round gave back no record of the kind, and no other pass could have, that attempt does nothing. It is
-/// refused as the first was.
+/// Tries to make the change `call`. If no record was free, it makes a round of collection and tries once more. Returns the reply, or why
+/// the last attempt was refused.
+///
+/// If the round gave back no record of the kind, and no other pass could have, the second attempt does nothing. It is refused as the
+/// first was.
 fn try_twice<G: Gate>(
     table: &HotTable,
     seat: &mut TableSeat,
@@ -62,10 +72,11 @@ fn try_twice<G: Gate>(
     call: &Call,
 ) -> Result<Reply, TryFault>
     requires idle { IsIdle table.now seat.old }
-    ensures asked { HasAsked table.now G.becomes (AreTries table.now G.becomes call.now result) (twice_steps table.now.layout) call.now result (seat.old, gate.old) (seat.new, gate.new) }
+    ensures asked { HasAsked table.now G.becomes (AreTries table.now G.becomes call.now result) call.now result (seat.old, gate.old) (seat.new, gate.new) }
+    ensures few { seat.new.known.steps ≤ seat.old.known.steps + twice_steps table.now.layout }
 {
     let first = try_once(table, seat, gate, scratch, call);
-    let Some(lacks) = find_lack(first) else {
+    let Some(lacks) = full_kind(first) else {
         return first;
     };
     let round = collect_round(table, seat, gate);
@@ -76,12 +87,12 @@ fn try_twice<G: Gate>(
     if has_room(passes, count) {
         return try_once(table, seat, gate, scratch, call);
     }
-    attempt_nothing(table, seat, gate);
+    pin_and_unpin(table, seat, gate);
     first
 }
 
 /// The kind of record of which none was free, if `answer` is a refusal for that. `None` for a reply, and for `Busy`.
-fn find_lack(answer: Result<Reply, TryFault>) -> Option<Full>
+fn full_kind(answer: Result<Reply, TryFault>) -> Option<Full>
     ensures some { IfSome result (λ full. answer ≡ Err (fault_of full)) }
     ensures none { result ≡ None → is_full answer ≡ false }
 {
@@ -93,27 +104,34 @@ fn find_lack(answer: Result<Reply, TryFault>) -> Option<Full>
 }
 
 /// How many records of the kind `kind` a round gave back, by its counts `given`.
-fn count_given(given: Given, kind: Full) -> u32 {
+fn count_given(given: Given, kind: Full) -> u32
+    ensures nodes { kind ≡ Nodes → result ≡ given.nodes }
+    ensures leaves { kind ≡ Leaves → result ≡ given.leaves }
+{
     match kind {
         Full::Nodes => given.nodes,
         Full::Leaves => given.leaves,
     }
 }
 
-/// Whether a record of a kind may be free after a round that gave back `given` of it. It may be one of these, or, if `passes` is above 1,
-/// one that another pass gave back meanwhile.
-fn has_room(passes: u32, given: u32) -> bool {
+/// Whether a record of a kind may be free after a round that gave back `given` of it, in an index of `passes` passes. It may be one of
+/// these, or one that another pass gave back meanwhile.
+fn has_room(passes: u32, given: u32) -> bool
+    ensures { IsTrue result ↔ ((1 < passes) ⊎ (0 < given)) }
+{
     passes > 1 || given > 0
 }
 
 /// Whether a round gave back records, `given` of a kind, that another of `passes` passes may take before the next attempt.
-fn may_be_taken(passes: u32, given: u32) -> bool {
+fn may_be_taken(passes: u32, given: u32) -> bool
+    ensures { IsTrue result ↔ ((1 < passes) × (0 < given)) }
+{
     passes > 1 && given > 0
 }
 
-/// Makes an attempt that does nothing: pins the pass and clears the pin, in three steps. No note is added, and what was found not free
-/// stays known.
-fn attempt_nothing<G: Gate>(table: &HotTable, seat: &mut TableSeat, gate: &mut G)
+/// Pins the pass and clears the pin, in three steps: an attempt that does nothing. No note is added, and what was found not free stays
+/// known.
+fn pin_and_unpin<G: Gate>(table: &HotTable, seat: &mut TableSeat, gate: &mut G)
     requires idle { IsIdle table.now seat.old }
     ensures rested { HasRested table.now G.becomes (seat.old, gate.old) (seat.new, gate.new) }
 {
@@ -121,9 +139,12 @@ fn attempt_nothing<G: Gate>(table: &HotTable, seat: &mut TableSeat, gate: &mut G
     unpin(table, seat, gate);
 }
 
-/// Tries to make the change `call` until it is made, or refused for want of records. It tries again as long as another pass is in its
-/// way, holds back records, or may have taken those given back. Returns the reply, or the kind of records of which none was free.
-pub fn change<R: Wait, G: Gate>(
+/// Tries to make the change `call` until it is made, or refused for want of records. Returns the reply, or the kind of records of which
+/// none was free.
+///
+/// It tries again as long as another pass is in its way, holds back records, or may have taken those given back. Before each further try
+/// it lets other threads run, by `rt`.
+pub fn retry_change<R: Wait, G: Gate>(
     rt: &R,
     table: &HotTable,
     seat: &mut TableSeat,
@@ -151,14 +172,18 @@ pub fn change<R: Wait, G: Gate>(
 }
 
 /// The refusal with which a call that waits ends after the fault `fault`: the kind of records of which none was free. `None` if it tries
-/// again, as another pass is in its way, or records are moving.
+/// again, as another pass is in its way, or `is_moving` says that records may come back.
 fn refusal(fault: TryFault, is_moving: bool) -> Option<Full>
-    ensures { IfSome result (λ full. fault ≡ fault_of full) }
+    ensures some { IfSome result (λ full. (fault ≡ fault_of full) × (is_moving ≡ false)) }
+    ensures none { result ≡ None → (fault ≡ Busy) ⊎ (is_moving ≡ true) }
 {
+    if is_moving {
+        return None;
+    }
     match fault {
-        TryFault::FullNodes if !is_moving => Some(Full::Nodes),
-        TryFault::FullLeaves if !is_moving => Some(Full::Leaves),
-        _ => None,
+        TryFault::FullNodes => Some(Full::Nodes),
+        TryFault::FullLeaves => Some(Full::Leaves),
+        TryFault::Busy => None,
     }
 }
 
@@ -172,7 +197,8 @@ fn try_once<G: Gate>(
     call: &Call,
 ) -> Result<Reply, TryFault>
     requires idle { IsIdle table.now seat.old }
-    ensures asked { HasAsked table.now G.becomes (IsOneAttempt table.now) (once_steps table.now.layout) call.now result (seat.old, gate.old) (seat.new, gate.new) }
+    ensures asked { HasAsked table.now G.becomes (IsOneAttempt table.now) call.now result (seat.old, gate.old) (seat.new, gate.new) }
+    ensures few { seat.new.known.steps ≤ seat.old.known.steps + once_steps table.now.layout }
 {
     pin(table, seat, gate);
     let outcome = attempt(
@@ -188,8 +214,8 @@ fn try_once<G: Gate>(
     outcome
 }
 
-/// Clears the pin at the end of an attempt. The note of a reply comes with this step. The caller's proof makes it of `_call` and
-/// `_outcome`, which the code doesn't read.
+/// Clears the pin at the end of an attempt. The notes `said` come with this step: that of a reply, or none. The caller's proof makes them
+/// of `_call` and `_outcome`, which the code doesn't read.
 fn end_try<G: Gate>(
     table: &HotTable,
     seat: &mut TableSeat,

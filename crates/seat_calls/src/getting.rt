@@ -12,8 +12,8 @@ use key_bits::Key;
 use rowex_core::Gate;
 use rowex_table::{HotTable, TableSeat};
 
-/// Clears the pin at the end of a get. The get's note comes with this step. The caller's proof makes it of `_key` and `_found`, which the
-/// code doesn't read.
+/// Clears the pin at the end of a get. The get's note, `said`, comes with this step. The caller's proof makes it of `_key` and `_found`,
+/// which the code doesn't read.
 pub fn end_get<G: Gate>(
     table: &HotTable,
     seat: &mut TableSeat,

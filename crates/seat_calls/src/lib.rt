@@ -9,7 +9,7 @@ mod many;
 mod scratch;
 
 pub use census::{RecordCounts, StateCounts, count_records};
-pub use changing::{change, try_change};
+pub use changing::{retry_change, try_change};
 pub use getting::end_get;
 pub use many::{end_gets, look_up_each};
 pub use scratch::{Scratch, new_scratch};

@@ -1,5 +1,7 @@
 //! Where a pass builds what it puts into the index.
 
+ghost use Rattle.std.specs.Prelude.{◌≡◌, []};
+
 use arrayvec::ArrayVec;
 use epochs::Limbo;
 use insert_cases::PathNode;
@@ -25,21 +27,23 @@ pub struct Scratch {
 }
 
 impl Scratch {
-    /// After an attempt: moves the records that it has unlinked, if any, to the end of the limbo list.
-    pub fn retire_later(&mut self) {
+    /// Moves the records that the last attempt has unlinked, if any, to the end of the limbo list.
+    pub fn retire_later(&mut self)
+        ensures { self.new.build.gone.items ≡ [] }
+    {
         while let Some(rec) = self.build.gone.pop() {
             self.limbo.push(rec);
         }
     }
 
-    /// Lets the next claims begin with what the last small round gave back.
+    /// Lets the next claims begin with the records that the last small round gave back. `layout` is that of the table.
     pub fn reuse_given(&mut self, layout: Layout) {
         for rec in self.limbo.given.as_slice() {
-            give_back(&mut self.build, layout, *rec);
+            keep_spare(&mut self.build, layout, *rec);
         }
     }
 
-    /// After a full round: claims look at each class of leaf records again.
+    /// Lets claims try each class of leaf records in its turn again, as after a full round each may have a free record.
     pub fn skip_none(&mut self) {
         for place in 0..LEAF_CLASSES {
             self.build.leaves[place].skips = 0;
@@ -47,21 +51,21 @@ impl Scratch {
     }
 }
 
-/// Adds `rec` to the spare numbers of its kind or class, so that the next claim there begins with `rec`. With 256 kept, `rec` is not added.
-/// Either way claims pass this class by no more.
-fn give_back(build: &mut Build, layout: Layout, rec: Rec) {
+/// Adds `rec` to the spare numbers of its kind or class, so that the next claim there begins with `rec`. If these are full, `rec` isn't
+/// kept. Either way claims of leaf records try its class in its turn again.
+fn keep_spare(build: &mut Build, layout: Layout, rec: Rec) {
     match rec {
         Rec::Node(number) => build.nodes.give_back(number),
         Rec::Leaf(number) => {
             let place = layout.class_of(number).place();
-            let first = class_begin(layout, number);
+            let first = first_of_class(layout, number);
             build.leaves[place].give_back(number.saturating_sub(first));
         }
     }
 }
 
-/// The number of the first leaf record of the class of leaf record `number`.
-fn class_begin(layout: Layout, number: u32) -> u32 {
+/// The number of the first leaf record of the class that leaf record `number` has.
+fn first_of_class(layout: Layout, number: u32) -> u32 {
     match layout.class_of(number) {
         LeafClass::Short => 0,
         LeafClass::Medium => layout.medium_from,
@@ -71,8 +75,8 @@ fn class_begin(layout: Layout, number: u32) -> u32 {
     }
 }
 
-/// Empty scratch lists for pass `number`; an error if memory is refused. The pass's claims begin at a part of the records of its own,
-/// so that passes begin apart.
+/// Empty scratch lists for pass `number` of a table with this layout; an error if memory is refused. The pass's claims begin at a part of
+/// the records of its own, so that passes begin apart.
 pub fn new_scratch(alloc: Global, layout: Layout, number: u16) -> Result<Box<Scratch>, AllocError> {
     let part = |from: u32, upto: u32| {
         Hint::begin_at(first_claim(number, layout.passes, upto.saturating_sub(from)))
@@ -99,7 +103,7 @@ pub fn new_scratch(alloc: Global, layout: Layout, number: u16) -> Result<Box<Scr
     Ok(Box::new(alloc, scratch)?)
 }
 
-/// Where the claims of pass `number` begin, if `passes` passes share `records` records.
+/// The number at which the claims of pass `number` begin, if `passes` passes share `records` records. 0 if there is no pass.
 fn first_claim(number: u16, passes: u32, records: u32) -> u32 {
     let first = (u64::from(number) * u64::from(records))
         .checked_div(u64::from(passes))

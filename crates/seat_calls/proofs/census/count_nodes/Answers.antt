@@ -5,7 +5,7 @@ use Rattle.seat_calls.proofs.Counted.{counts_few, counts_more, counts_none, foun
 use Rattle.seat_calls.proofs.census.count_nodes.Goals as goal
 
 pub loop-number-init : goal.loop-number-init
-loop-number-init g c = record { pin = search rules; steps = counts_none c.none-counts.ensures }
+loop-number-init g c = record { pin = search rules; steps = counts_none c.zero_counts-counts.ensures }
 
 pub loop-number-preserved : goal.loop-number-preserved
 loop-number-preserved g c = record {

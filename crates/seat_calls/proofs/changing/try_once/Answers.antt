@@ -39,6 +39,6 @@ returns g c =
         };
         ended = attempt_ended c.args.table.now g.G.Gate.becomes _ _ _ _ c.pin.ensures.steps o.run c.end_try.ensures.step;
         later = tried_later _ c.requires.idle.1 c.pin.ensures.steps run o.loaded o.rest c.end_try.ensures.step;
-        few = omega (arith, pinned, o.few, cleared);
       };
+      few = omega (arith, pinned, o.few, cleared);
     }

@@ -7,7 +7,6 @@ use Rattle.rowex_core.specs.declared.known.Known.{Known}
 use Rattle.rowex_writing.specs.declared.attempts.TryFault.{TryFault}
 use Rattle.seat_calls.specs.Answers.{fault_of}
 use Rattle.seat_calls.specs.Asked.{HasAsked}
-use Rattle.seat_calls.specs.Counts.{once_steps, twice_steps}
 use Rattle.seat_calls.specs.Traces.{AreTries, IsOneAttempt}
 use Rattle.seat_calls.specs.Passes.{pass_of}
 use Rattle.seat_calls.proofs.Collected.{does_idle, round_few}
@@ -26,19 +25,22 @@ pub try_once-requires : goal.try_once-requires
 try_once-requires g c =
     let round = c.collect_round-round.ensures in record { idle = does_idle round.round.does round.free c.try_once-first.ensures.asked.replied.idle }
 
-pub attempt_nothing-requires : goal.attempt_nothing-requires
-attempt_nothing-requires g c =
+pub pin_and_unpin-requires : goal.pin_and_unpin-requires
+pin_and_unpin-requires g c =
     let round = c.collect_round-round.ensures in record { idle = does_idle round.round.does round.free c.try_once-first.ensures.asked.replied.idle }
 
 pub returns-in_default : goal.returns-in_default
-returns-in_default g c = record { asked = once_asked c.args.call.now c.try_once-first.result (c.find_lack.ensures.none c.in_default.is) c.try_once-first.ensures.asked }
+returns-in_default g c = record {
+  asked = once_asked c.args.call.now c.try_once-first.result (c.full_kind.ensures.none c.in_default.is) c.try_once-first.ensures.asked;
+  few = omega (arith, c.try_once-first.ensures.few);
+}
 
 pub returns-then-has_room : goal.returns-then-has_room
 returns-then-has_room g c =
     let table = c.args.table.now in
     let call = c.args.call.now in
     let k = pass_of c.args.seat.now in
-    let first = subst (λ (z : Result Reply TryFault). HasAsked table g.G.Gate.becomes (IsOneAttempt table) (once_steps table.layout) call z (c.args.seat.now, c.args.gate.now) (c.try_once-first.new.seat, c.try_once-first.new.gate)) c.in-Some.ensures.some c.try_once-first.ensures.asked in
+    let first = subst (λ (z : Result Reply TryFault). HasAsked table g.G.Gate.becomes (IsOneAttempt table) call z (c.args.seat.now, c.args.gate.now) (c.try_once-first.new.seat, c.try_once-first.new.gate)) c.in-Some.ensures.some c.try_once-first.ensures.asked in
     let round = c.collect_round-round.ensures.round in
     let again = c.try_once.ensures.asked in
     let unnoted = first.replied.refused.unnoted in
@@ -49,8 +51,8 @@ returns-then-has_room g c =
         replied = record { idle = again.replied.idle; noted = both.0; refused = both.1; leafless = again.replied.leafless; loaded = le_trans later again.replied.loaded };
         ended = ended_again table g.G.Gate.becomes call c.try_once.result c.in-Some.lacks (c.args.seat.now, c.args.gate.now) (c.try_once-first.new.seat, c.try_once-first.new.gate) (c.collect_round-round.new.seat, c.collect_round-round.new.gate) _ first.ended first.replied.refused round again.ended;
         later = le_trans later again.later;
-        few = (let count = round_few round in omega (arith, first.few, count, again.few));
       };
+      few = (let count = round_few round in omega (arith, c.try_once-first.ensures.few, count, c.try_once.ensures.few));
     }
 
 pub returns : goal.returns
@@ -59,23 +61,25 @@ returns g c =
     let call = c.args.call.now in
     let k = pass_of c.args.seat.now in
     let fault = fault_of c.in-Some.lacks in
-    let first = subst (λ (z : Result Reply TryFault). HasAsked table g.G.Gate.becomes (IsOneAttempt table) (once_steps table.layout) call z (c.args.seat.now, c.args.gate.now) (c.try_once-first.new.seat, c.try_once-first.new.gate)) c.in-Some.ensures.some c.try_once-first.ensures.asked in
+    let first = subst (λ (z : Result Reply TryFault). HasAsked table g.G.Gate.becomes (IsOneAttempt table) call z (c.args.seat.now, c.args.gate.now) (c.try_once-first.new.seat, c.try_once-first.new.gate)) c.in-Some.ensures.some c.try_once-first.ensures.asked in
     let round = c.collect_round-round.ensures.round in
-    let again = c.attempt_nothing.ensures.rested in
+    let again = c.pin_and_unpin.ensures.rested in
     let unnoted = first.replied.refused.unnoted in
     let later = round_later k (c.try_once-first.new.seat, c.try_once-first.new.gate) (c.collect_round-round.new.seat, c.collect_round-round.new.gate) unnoted first.later first.replied.idle.1 round in
     let collected = then_collected k (c.try_once-first.new.seat, c.try_once-first.new.gate) (c.collect_round-round.new.seat, c.collect_round-round.new.gate) unnoted first.later first.replied.idle.1 round in
-    let cause = cause_still (key_of call) k (c.try_once-first.new.seat, c.try_once-first.new.gate) (c.collect_round-round.new.seat, c.collect_round-round.new.gate) (c.attempt_nothing.new.seat, c.attempt_nothing.new.gate) round again.failed again.unnoted.number fault (lacked_full c.in-Some.lacks) first.replied.refused.cause in
-    let whole : HasAsked table g.G.Gate.becomes (AreTries table g.G.Gate.becomes call (Err fault)) (twice_steps table.layout) call (Err fault) (c.args.seat.now, c.args.gate.now) (c.attempt_nothing.new.seat, c.attempt_nothing.new.gate) = record {
+    let cause = cause_still (key_of call) k (c.try_once-first.new.seat, c.try_once-first.new.gate) (c.collect_round-round.new.seat, c.collect_round-round.new.gate) (c.pin_and_unpin.new.seat, c.pin_and_unpin.new.gate) round again.failed again.unnoted.number fault (lacked_full c.in-Some.lacks) first.replied.refused.cause in
+    let whole : HasAsked table g.G.Gate.becomes (AreTries table g.G.Gate.becomes call (Err fault)) call (Err fault) (c.args.seat.now, c.args.gate.now) (c.pin_and_unpin.new.seat, c.pin_and_unpin.new.gate) = record {
       replied = record {
         idle = again.idle;
         noted = tt;
-        refused = record { unnoted = unnoted_then table.layout k (pass_of c.collect_round-round.new.seat) (pass_of c.attempt_nothing.new.seat) collected later again.unnoted; cause = cause };
+        refused = record { unnoted = unnoted_then table.layout k (pass_of c.collect_round-round.new.seat) (pass_of c.pin_and_unpin.new.seat) collected later again.unnoted; cause = cause };
         leafless = first.replied.leafless;
         loaded = subst (λ (z : Fresh). c.args.seat.now.known.steps ≤ z.step) (sym (again.fresh ∙ ap (λ (z : Known). z.fresh) round.does.rest)) first.replied.loaded;
       };
       ended = ended_again table g.G.Gate.becomes call (Err fault) c.in-Some.lacks (c.args.seat.now, c.args.gate.now) (c.try_once-first.new.seat, c.try_once-first.new.gate) (c.collect_round-round.new.seat, c.collect_round-round.new.gate) _ first.ended first.replied.refused round again.ended;
       later = omega (arith, later, again.steps);
-      few = (let count = round_few round in omega (arith, first.few, count, again.steps));
     } in
-    record { asked = subst (λ (z : Result Reply TryFault). HasAsked table g.G.Gate.becomes (AreTries table g.G.Gate.becomes call z) (twice_steps table.layout) call z (c.args.seat.now, c.args.gate.now) (c.attempt_nothing.new.seat, c.attempt_nothing.new.gate)) (sym c.in-Some.ensures.some) whole }
+    record {
+      few = (let count = round_few round in omega (arith, c.try_once-first.ensures.few, count, again.steps));
+      asked = subst (λ (z : Result Reply TryFault). HasAsked table g.G.Gate.becomes (AreTries table g.G.Gate.becomes call z) call z (c.args.seat.now, c.args.gate.now) (c.pin_and_unpin.new.seat, c.pin_and_unpin.new.gate)) (sym c.in-Some.ensures.some) whole;
+    }

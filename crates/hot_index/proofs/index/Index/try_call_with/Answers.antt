@@ -1,6 +1,6 @@
 -- A get's steps are those of a call that only reads; any other call's are a change's.
 use Rattle.seat_calls.proofs.Tracing.{read_told}
-use Rattle.seat_calls.proofs.Trying.{makes_steps, may_lack, may_refuse}
+use Rattle.seat_calls.proofs.Trying.{unless_get, may_lack, may_refuse}
 use Rattle.hot_index.proofs.index.Index.try_call_with.Goals as goal
 
 pub returns-in-Get-clause-told : goal.returns-in-Get-clause-told
@@ -13,4 +13,4 @@ pub returns-in_default-clause-may : goal.returns-in_default-clause-may
 returns-in_default-clause-may g c = may_refuse c.args.call.now c.try_change_with.result c.in_default.not-Get c.try_change_with.ensures.leafless
 
 pub returns-in_default-clause-made : goal.returns-in_default-clause-made
-returns-in_default-clause-made g c = makes_steps c.args.call.now c.try_change_with.result _ _ _ _ c.in_default.not-Get c.try_change_with.ensures.made
+returns-in_default-clause-made g c = unless_get c.args.call.now _ _ c.in_default.not-Get c.try_change_with.ensures.made

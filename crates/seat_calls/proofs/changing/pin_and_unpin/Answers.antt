@@ -1,7 +1,7 @@
 -- The pass is as it was.
 use Rattle.std.proofs.Common.{◌∙◌}
 use Rattle.seat_calls.proofs.Resting.{rests_ended, rests_failed, rests_fresh, rests_settled, rests_steps, rests_unnoted}
-use Rattle.seat_calls.proofs.changing.attempt_nothing.Goals as goal
+use Rattle.seat_calls.proofs.changing.pin_and_unpin.Goals as goal
 
 pub returns : goal.returns
 returns g c =

@@ -2,12 +2,11 @@
 use Rattle.std.proofs.Common.{[], ◌∷◌, ◌++◌, inl, Ok, Err, refl, subst}
 use Rattle.seat_calls.specs.Answers.{fault_of}
 use Rattle.seat_calls.specs.Asked.{HasAsked, HasReplied}
-use Rattle.seat_calls.specs.Counts.{try_steps}
 use Rattle.seat_calls.specs.Passes.{pass_of}
 use Rattle.seat_calls.specs.Traces.{AreAttempts}
 use Rattle.seat_calls.proofs.Tracing.{ran_on, ran_out}
 use Rattle.seat_calls.proofs.Trying.{refused_again, tried_seen, waited_from_before, waited_out}
-use Rattle.seat_calls.proofs.changing.change.Goals as goal
+use Rattle.seat_calls.proofs.changing.retry_change.Goals as goal
 
 pub try_change-requires : goal.try_change-requires
 try_change-requires g c = record { idle = c.loop.invariant.idle }
@@ -31,19 +30,19 @@ loop-preserved g c =
     record {
       idle = o.replied.idle;
       waited = waited_from_before c.args.table.now.layout (pass_of c.args.seat.now) (pass_of c.loop.seat) (pass_of c.try_change.new.seat) c.loop.invariant.waited o.replied.refused.unnoted o.later;
-      refused = (c.loop.invariant.refused.0 ++ c.in-Err.fault ∷ [], refused_again _ _ _ c.loop.invariant.refused.0 c.in-Err.fault c.loop.invariant.refused.1 (tried_seen refl refl o));
+      refused = (c.loop.invariant.refused.0 ++ c.in-Err.fault ∷ [], refused_again _ _ _ c.loop.invariant.refused.0 c.in-Err.fault c.loop.invariant.refused.1 (tried_seen refl refl o c.in-Err.ensures.few));
       ran = ran_on c.args.table.now g.G.Gate.becomes _ _ _ c.loop.invariant.ran o.ended;
     }
 
 pub returns-in-Some-refusal-clause-replied : goal.returns-in-Some-refusal-clause-replied
 returns-in-Some-refusal-clause-replied g c =
     waited_out c.args.table.now c.args.seat.now c.loop.seat c.try_change.new.seat c.args.call.now (Err (fault_of c.in-Some-refusal.full)) c.loop.invariant.waited
-    (subst (λ fault. HasReplied c.args.table.now c.args.call.now (Err fault) c.loop.seat c.try_change.new.seat) c.in-Some-refusal.ensures c.in-Err.ensures.asked.replied)
+    (subst (λ fault. HasReplied c.args.table.now c.args.call.now (Err fault) c.loop.seat c.try_change.new.seat) c.in-Some-refusal.ensures.some.0 c.in-Err.ensures.asked.replied)
 
 pub returns-in-Ok-clause-tries : goal.returns-in-Ok-clause-tries
 returns-in-Ok-clause-tries g c =
     let so_far = c.loop.invariant.refused in
-    record { faults = so_far.0; last = (pass_of c.loop.seat, c.loop.gate); refused = so_far.1; tried = tried_seen refl refl c.in-Ok.ensures.asked }
+    record { faults = so_far.0; last = (pass_of c.loop.seat, c.loop.gate); refused = so_far.1; tried = tried_seen refl refl c.in-Ok.ensures.asked c.in-Ok.ensures.few }
 
 pub returns-in-Some-refusal-clause-tries : goal.returns-in-Some-refusal-clause-tries
 returns-in-Some-refusal-clause-tries g c =
@@ -51,6 +50,6 @@ returns-in-Some-refusal-clause-tries g c =
     let call = c.args.call.now in
     let so_far = c.loop.invariant.refused in
     let last =
-    subst (λ fault. HasAsked table g.G.Gate.becomes (AreAttempts table g.G.Gate.becomes call (Err fault)) (try_steps table.layout) call (Err fault) (c.loop.seat, c.loop.gate) (c.try_change.new.seat, c.try_change.new.gate))
-    c.in-Some-refusal.ensures c.in-Err.ensures.asked in
-    record { faults = so_far.0; last = (pass_of c.loop.seat, c.loop.gate); refused = so_far.1; tried = tried_seen refl refl last }
+    subst (λ fault. HasAsked table g.G.Gate.becomes (AreAttempts table g.G.Gate.becomes call (Err fault)) call (Err fault) (c.loop.seat, c.loop.gate) (c.try_change.new.seat, c.try_change.new.gate))
+    c.in-Some-refusal.ensures.some.0 c.in-Err.ensures.asked in
+    record { faults = so_far.0; last = (pass_of c.loop.seat, c.loop.gate); refused = so_far.1; tried = tried_seen refl refl last c.in-Err.ensures.few }

@@ -6,7 +6,7 @@ use Rattle.seat_calls.specs.Calls.{AreTriesRefused}
 use Rattle.seat_calls.specs.Passes.{pass_of}
 use Rattle.seat_calls.proofs.Tracing.{HasSteps}
 use Rattle.seat_calls.proofs.Trying.{HasWaited}
-use Rattle.seat_calls.proofs.changing.change.Given as goal
+use Rattle.seat_calls.proofs.changing.retry_change.Given as goal
 
 abbrev pub invariant-loop : goal.invariant-loop
 invariant-loop g l = record {

@@ -12,7 +12,7 @@ use Rattle.seat_calls.proofs.Noting.{fits_then, looked}
 use Rattle.hot_index.proofs.Counted.{settled_on}
 use Rattle.hot_index.proofs.Reading.{list_read}
 use Rattle.seat_calls.proofs.Scanned.{scan_refused, scan_settled}
-use Rattle.hot_index.proofs.index.Index.list_by.Goals as goal
+use Rattle.hot_index.proofs.index.Index.list_range.Goals as goal
 
 pub unpin-requires : goal.unpin-requires
 unpin-requires g c =

@@ -2,7 +2,7 @@
 use Rattle.std.proofs.Common.{refl}
 use Rattle.std.proofs.lemmas.Result.{err_from_is_err_and}
 use Rattle.hot_index.proofs.Reading.{range_copied, range_refused, range_uncopied}
-use Rattle.hot_index.proofs.index.Index.scan_by.Goals as goal
+use Rattle.hot_index.proofs.index.Index.scan_range.Goals as goal
 
 pub returns-in_err-more : goal.returns-in_err-more
 returns-in_err-more g c = range_refused c.from_residual.result (err_from_is_err_and c.from_residual.result c.from_residual.ensures.1).1 c.in_err-more.ensures

@@ -1,6 +1,6 @@
--- No note comes with the step.
+-- A scan adds no note.
 use Rattle.rowex_table.specs.Runs.{silent}
-use Rattle.seat_calls.proofs.changing.attempt_nothing.Given as goal
+use Rattle.hot_index.proofs.index.Index.list_range.Given as goal
 
 abbrev pub ghost-unpin : goal.ghost-unpin
 ghost-unpin g a = silent

@@ -1,6 +1,0 @@
--- The same steps, of which nobody is told.
-use Rattle.hot_index.proofs.Reading.{range_untold}
-use Rattle.hot_index.proofs.index.Index.scan_reverse_into.Goals as goal
-
-pub returns : goal.returns
-returns c = range_untold c.scan_reverse_into_with.ensures
