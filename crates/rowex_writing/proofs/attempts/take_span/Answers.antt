@@ -6,7 +6,6 @@ use Rattle.rowex_writing.proofs.Confirming.{span_later}
 use Rattle.rowex_writing.specs.Locks.{span_numbers}
 use Rattle.rowex_writing.proofs.Tried.{nodes_then}
 use Rattle.rowex_writing.proofs.Runs.{goes_run, nodes_run, once_run, tries_once, works_run}
-use Rattle.rowex_writing.proofs.Keeping.{step_nodes}
 use Rattle.rowex_writing.proofs.Ways.{way_apart, way_led}
 use Rattle.rowex_reading.proofs.Ways.{way_later}
 use Rattle.rowex_writing.proofs.Works.{works_count, works_later, works_seat}
@@ -75,16 +74,20 @@ returns-then-check_span-clause-taken g c e m w =
       checked = c.check_span.ensures.checked c.if-check_span.true;
     }
 
-pub undo-requires-clause-own : goal.undo-requires-clause-own
-undo-requires-clause-own g c =
+pub undo-requires-clause-span : goal.undo-requires-clause-span
+undo-requires-clause-span g c =
     let table = c.args.table.now in
-    run_seat table g.G.Gate.becomes (c.lock_span.new.seat, c.lock_span.new.gate) (c.check_span.new.seat, c.check_span.new.gate) (goes_run table g.G.Gate.becomes (c.lock_span.new.seat, c.lock_span.new.gate) (c.check_span.new.seat, c.check_span.new.gate) c.check_span.ensures.reads.goes) (works_seat table g.G.Gate.becomes (c.args.seat.now, c.args.gate.now) (c.lock_span.new.seat, c.lock_span.new.gate) c.lock_span.ensures.tries.1.1 c.requires.own)
-
-pub undo-requires-clause-nodes : goal.undo-requires-clause-nodes
-undo-requires-clause-nodes g c = step_nodes c.args.table.now.layout c.args.seat.now.known c.requires.way.0 c.args.job.now.key.now c.args.job.now.way.now c.args.job.now.found c.requires.way.1
-
-pub undo-requires-clause-locked : goal.undo-requires-clause-locked
-undo-requires-clause-locked g c = span_later _ _ c.args.job.now.way.now c.args.job.now.span c.check_span.ensures.reads.goes.stays (c.lock_span.ensures.locked c.if-not-lock_span.false)
+    let job = c.args.job.now in
+    let tries = c.lock_span.ensures.tries.1.1 in
+    let goes = c.check_span.ensures.reads.goes in
+    let (m, w) = c.requires.way in
+    record {
+      seat = run_seat table g.G.Gate.becomes (c.lock_span.new.seat, c.lock_span.new.gate) (c.check_span.new.seat, c.check_span.new.gate) (goes_run table g.G.Gate.becomes (c.lock_span.new.seat, c.lock_span.new.gate) (c.check_span.new.seat, c.check_span.new.gate) goes) (works_seat table g.G.Gate.becomes (c.args.seat.now, c.args.gate.now) (c.lock_span.new.seat, c.lock_span.new.gate) tries c.requires.own);
+      possible = c.check_span.ensures.possible;
+      within = c.requires.within;
+      from = (m, way_later table.layout c.args.seat.now.known c.check_span.new.seat.known m job.key.now job.way.now job.found (later_trans (works_later table g.G.Gate.becomes (c.args.seat.now, c.args.gate.now) (c.lock_span.new.seat, c.lock_span.new.gate) tries) goes.stays.0) w);
+      locked = span_later _ _ job.way.now job.span goes.stays (c.lock_span.ensures.locked c.if-not-lock_span.false);
+    }
 
 pub returns-clause-run : goal.returns-clause-run
 returns-clause-run g c =
@@ -144,9 +147,6 @@ lock_span-requires-clause-none g c = c.requires.rest.own
 
 pub lock_span-requires-clause-quiet : goal.lock_span-requires-clause-quiet
 lock_span-requires-clause-quiet g c = c.requires.quiet
-
-pub undo-requires-clause-within : goal.undo-requires-clause-within
-undo-requires-clause-within g c = c.requires.within
 
 pub returns-then-not-lock_span-clause-rest : goal.returns-then-not-lock_span-clause-rest
 returns-then-not-lock_span-clause-rest g c = λ e.
