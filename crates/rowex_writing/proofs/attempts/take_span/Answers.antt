@@ -118,48 +118,15 @@ returns-clause-busy g c t m w =
     let more = longer c.check_span.new.seat.known c.undo.new.seat.known (works_later table g.G.Gate.becomes (c.check_span.new.seat, c.check_span.new.gate) (c.undo.new.seat, c.undo.new.gate) c.undo.ensures.works) in
     inr (omega (arith, moved, more))
 
-pub returns-then-not-lock_span-clause-taken : goal.returns-then-not-lock_span-clause-taken
-returns-then-not-lock_span-clause-taken g c = λ e. not_taken e
-
 pub returns-then-not-lock_span-clause-busy : goal.returns-then-not-lock_span-clause-busy
 returns-then-not-lock_span-clause-busy g c = λ e m w. inl (c.lock_span.ensures.refused c.if-not-lock_span.true).1
-
-pub returns-then-check_span-clause-busy : goal.returns-then-check_span-clause-busy
-returns-then-check_span-clause-busy g c = λ e. not_taken (sym e)
-
-pub returns-clause-taken : goal.returns-clause-taken
-returns-clause-taken g c = λ e. not_taken e
 
 pub undo-requires-clause-records : goal.undo-requires-clause-records
 undo-requires-clause-records g c = λ k d low. absurd (omega (arith, low))
 
-pub lock_span-requires-clause-own : goal.lock_span-requires-clause-own
-lock_span-requires-clause-own g c = c.requires.own
-
-pub lock_span-requires-clause-span : goal.lock_span-requires-clause-span
-lock_span-requires-clause-span g c = c.requires.within
-
-pub lock_span-requires-clause-free : goal.lock_span-requires-clause-free
-lock_span-requires-clause-free g c = (c.requires.rest.locks, c.requires.rest.anchor)
-
-pub lock_span-requires-clause-none : goal.lock_span-requires-clause-none
-lock_span-requires-clause-none g c = c.requires.rest.own
-
-pub lock_span-requires-clause-quiet : goal.lock_span-requires-clause-quiet
-lock_span-requires-clause-quiet g c = c.requires.quiet
-
 pub returns-then-not-lock_span-clause-rest : goal.returns-then-not-lock_span-clause-rest
 returns-then-not-lock_span-clause-rest g c = λ e.
     let free = (c.lock_span.ensures.refused c.if-not-lock_span.true).0 in record { own = c.lock_span.ensures.same ∙ c.requires.rest.own; locks = free.0; anchor = free.1 }
-
-pub returns-then-check_span-clause-rest : goal.returns-then-check_span-clause-rest
-returns-then-check_span-clause-rest g c = λ e. not_taken (sym e)
-
-pub returns-clause-rest : goal.returns-clause-rest
-returns-clause-rest g c = λ e. c.undo.ensures.rest
-
-pub returns-then-not-lock_span-clause-nodes : goal.returns-then-not-lock_span-clause-nodes
-returns-then-not-lock_span-clause-nodes g c = λ e. not_taken e
 
 pub returns-then-check_span-clause-nodes : goal.returns-then-check_span-clause-nodes
 returns-then-check_span-clause-nodes g c = λ e some.
@@ -171,5 +138,3 @@ returns-then-check_span-clause-nodes g c = λ e some.
       omega (arith, c.lock_span.ensures.few c.if-not-lock_span.false, c.check_span.ensures.few, c.requires.within.0),
     )
 
-pub returns-clause-nodes : goal.returns-clause-nodes
-returns-clause-nodes g c = λ e. not_taken e
