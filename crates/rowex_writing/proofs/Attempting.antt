@@ -340,8 +340,9 @@ module _ {G : Type 0} (table : TableView) (becomes : G → Event → G → Type 
     anchor = ap (λ (z : Known). z.anchor) s ∙ rest.anchor;
   }
 
-  pub begun_on : (e n : ℕ) (a m p : SeatView × G) → Begun table becomes a m → Reads table becomes e n m p → Begun table becomes a p
-  begun_on e n a m p b r = record {
+  -- so after the search and such loads
+  pub begun_on : (e n : ℕ) (a m p : SeatView × G) → HasSearched table becomes a m → IsPossible table.layout m.0.known → IsSeatOf table a.0 → IsAtRest a.0.known → Reads table becomes e n m p → Begun table becomes a p
+  begun_on e n a m p s possible seat rest r = let b = searched a m s possible seat rest in record {
     run = runs_trans table becomes a m p b.run (reads_run table becomes e n m p r);
     loaded = run_loaded table becomes a.0.known m p b.loaded (reads_run table becomes e n m p r);
     later = later_trans b.later (reads_later r);

@@ -1,10 +1,11 @@
 -- How long parts of a list are, how many steps claims make, and how many node records are made.
-use Rattle.std.proofs.Common.{◌≡◌, ℕ, zero, suc, ◌+◌, ◌-◌, ◌*◌, ◌<◌, ◌≤◌, List, [], ◌∷◌, ◌++◌, length, take, drop, refl, ap, ◌∙◌, arith}
+use Rattle.std.proofs.Common.{◌≡◌, ℕ, zero, suc, ◌+◌, ◌-◌, ◌*◌, ◌<◌, ◌≤◌, List, [], ◌∷◌, ◌++◌, length, take, drop, Err, Ok, Result, refl, ap, ◌∙◌, arith}
 use Rattle.std.specs.Prelude.{Contains, slice_range}
 use Rattle.std.proofs.lemmas.List.{length-drop, length-map, length-take-le}
 use Rattle.insert_cases.specs.declared.choice.PathNode.{PathNode}
 use Rattle.versions.specs.declared.Rec.{Rec}
 use Rattle.versions.specs.declared.Rec.TheVariants.{Node as a_node, Leaf as a_leaf}
+use Rattle.record_words.specs.declared.layout.Layout.{Layout}
 use Rattle.tries.specs.Content.{Item}
 use Rattle.rowex_core.specs.declared.event.Act.TheVariants.{Claim, LoadState}
 use Rattle.rowex_core.specs.declared.event.Event.{Event}
@@ -15,6 +16,7 @@ use Rattle.rowex_reading.proofs.Counting.{runs_count}
 use Rattle.rowex_reading.specs.declared.descent.Found.{Found}
 use Rattle.rowex_reading.specs.declared.descent.Found.TheVariants.{Nothing, Leaf}
 use Rattle.rowex_writing.specs.Building.{HasLeafMade, IsBuilding}
+use Rattle.rowex_writing.specs.Counts.{deed_steps, leaf_steps, level_steps, levels_steps, node_steps}
 use Rattle.rowex_writing.specs.Locks.{numbers_of}
 use Rattle.rowex_writing.specs.Putting.{leaf_found}
 use Rattle.rowex_writing.specs.Walks.{nodes_among}
@@ -70,3 +72,8 @@ among_nodes (a_node m ∷ made) n (zero, low, is) = (0, omega arith, is)
 among_nodes (a_node m ∷ made) n (suc i, low, is) = let (at, within, same) = among_nodes made n (i, omega arith, is) in (suc at, omega arith, same)
 among_nodes (a_leaf m ∷ made) n (zero, low, is) = absurd cc
 among_nodes (a_leaf m ∷ made) n (suc i, low, is) = among_nodes made n (i, omega arith, is)
+
+-- a deed takes these steps at least, with or without a record
+pub deed_least : {X E : Type 0} (layout : Layout) (locks : ℕ) (r : Result X E) → leaf_steps layout + levels_steps layout locks ≤ deed_steps layout locks r
+deed_least layout locks (Ok made) = omega arith
+deed_least layout locks (Err full) = omega arith

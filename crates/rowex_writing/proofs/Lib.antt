@@ -29,6 +29,7 @@ pub mod Removing
 pub mod Keeping
 pub mod Placing
 pub mod Growths
+pub mod Stores
 pub mod Raised
 pub mod Counting
 pub mod Walked

@@ -63,22 +63,26 @@ use Rattle.rowex_writing.specs.Building.{AreMadePacked, HasNotMade, IsBuilding}
 use Rattle.rowex_writing.specs.Changes.{HasTakenPlan, IsTakeChange, MayPublishOnceReady}
 use Rattle.rowex_writing.specs.Growths.{HasNumber}
 use Rattle.rowex_writing.specs.Going.{HasLocked, IsNodeOf, WorksOn}
+use Rattle.rowex_writing.specs.Jobs.{HoldsSpan}
 use Rattle.rowex_writing.specs.Locks.{HasTheSame, numbers_of, span_numbers}
 use Rattle.rowex_writing.specs.Merging.{ClosesFork, HasHeight, IsNeighbour, IsTaking, IsWide, LocksAbove, MayMergeInto, by_anchor, by_node, lower, merged_gone, no_step, upper}
 use Rattle.rowex_writing.specs.Putting.{IsSpotAbove}
 use Rattle.rowex_writing.specs.Retiring.{AreInTable, IsAnchored}
 use Rattle.rowex_writing.specs.declared.deeds.Job.{Job}
-use Rattle.rowex_writing.specs.declared.merging.Beside.{Beside}
+use Rattle.rowex_writing.specs.declared.merging.ClosedFork.{ClosedFork}
+use Rattle.rowex_writing.specs.declared.merging.Merge.{Merge}
 use Rattle.rowex_writing.specs.declared.plan.Span.{Span}
 use Rattle.rowex_writing.proofs.Above.{lower_entry}
 use Rattle.rowex_writing.proofs.Beside.{locked_node, lower_at, lower_locked, lower_range, upper_at, upper_locked, upper_range}
 use Rattle.rowex_table.specs.Rights.{IsClaimed}
+use Rattle.rowex_writing.proofs.Confirming.{span_later}
 use Rattle.rowex_writing.proofs.Keeping.{claimed}
 use Rattle.rowex_writing.proofs.Locking.{locked_on, seat_of}
 use Rattle.rowex_writing.proofs.Making.{building_on, goes_possible, set_all_on}
 use Rattle.rowex_writing.proofs.Remade.{entries_under}
 use Rattle.rowex_writing.specs.Deeds.{MayReplace}
 use Rattle.rowex_writing.specs.declared.deeds.Raised.{Raised}
+use Rattle.rowex_writing.specs.declared.plan.Deed.{Deed}
 use Rattle.rowex_writing.specs.declared.plan.Deed.TheVariants.{Take}
 use Rattle.rowex_writing.proofs.Removing.{has_read, leaf_gone_record, leaf_there, low_names, taken_below}
 use Rattle.rowex_writing.proofs.Shapes.{way_node_locked}
@@ -145,7 +149,7 @@ wide_on table becomes a b job number goes w = record {
     still (by_node s low at ((words, is), new) free names) =
         by_node s low at ((words, goes.stays.1 ∙ is), new) (goes.stays.2 ∙ free) (λ ws h. names ws (locked_on b.0.known a.0.known s.number ws (sym goes.stays.1) h))
 
-abbrev pub beside_on : (a b : Known) (job : Job) (x : Beside) → b.locks ≡ a.locks → IsNeighbour a job x → IsNeighbour b job x
+abbrev pub beside_on : (a b : Known) (job : Job) (x : Merge) → b.locks ≡ a.locks → IsNeighbour a job x → IsNeighbour b job x
 beside_on a b job x same is = record { words = is.words; has = locked_on a b (upper job).number is.words same is.has; forks = is.forks; height = is.height; sibling = is.sibling }
 
 module _ (table : TableView) (b : SeatView) (job : Job) (number : ℕ) (w : IsWide table b job number) where
@@ -165,7 +169,7 @@ module _ (table : TableView) (b : SeatView) (job : Job) (number : ℕ) (w : IsWi
   other_wide = held_above _ job.key.now job.way.now job.found (job.span.end - 1) b.known (record { node = number; words = w.words }) w.above (inl refl)
 
   -- the two nodes are beside each other
-  pub beside_wide : (x : Beside) → x.number ≡ number → (is : IsNeighbour b.known job x) → (s : AreBeside b.known.locks job.key.now (upper job).number (lower job).number number t.number) × (s.position ≡ x.position) × (s.upper ≡ is.words)
+  pub beside_wide : (x : Merge) → x.number ≡ number → (is : IsNeighbour b.known job x) → (s : AreBeside b.known.locks job.key.now (upper job).number (lower job).number number t.number) × (s.position ≡ x.position) × (s.upper ≡ is.words)
   beside_wide x same is =
       let (up, h) = upper_locked table job t in
       let (low, i) = lower_locked table job t in
@@ -325,7 +329,7 @@ side_low x e us h (anew m view built is) low =
     let high = built.1 in
     omega (arith, low, g, high)
 
-module _ (table : TableView) (b : SeatView) (job : Job) (number : ℕ) (w : IsWide table b job number) (x : Beside) (same : x.number ≡ number) (is : IsNeighbour b.known job x) where
+module _ (table : TableView) (b : SeatView) (job : Job) (number : ℕ) (w : IsWide table b job number) (x : Merge) (same : x.number ≡ number) (is : IsNeighbour b.known job x) where
   abbrev its : IsTaking table job
   its = w.taking
 
@@ -368,7 +372,7 @@ module _ (table : TableView) (b : SeatView) (job : Job) (number : ℕ) (w : IsWi
         ((omega (arith, built.height_is), omega (arith, joined_low, tall, bound)), joined_low)
 
   -- the fork above the two may be closed by its entry
-  pub closes_fork : (e : Entry) → StandsBelow above.fixed.height e → ClosesFork b.known (upper job) job.key.now x.place e
+  pub closes_fork : (e : Entry) → StandsBelow above.fixed.height e → ClosesFork b.known job.key.now (record { step = upper job; place = x.place; entry = e })
   closes_fork e stands words h =
       subst (λ ws. (spot job.key.now (node_words_of ws).subtrie ≡ (upper job).at) × ((position : ℕ) × (beside (upper job).at (node_words_of ws).subtrie ≡ Some (x.place, position))) × StandsBelow (node_words_of ws).fixed.height e)
       (same_words table.layout b.known (upper job).number is.words words w.possible is.has h)
@@ -444,27 +448,27 @@ lower_within table b job number w node node_is =
     omega (arith, below, size-piece node own.has.lawful)
 
 -- ---- what is left of the upper node
-module _ (k : Known) (s : PathNode) (key : Key) (place : ℕ) (e : Entry) (closes : ClosesFork k s key place e) (words : List ℕ) (h : HasLocked k s.number words) (view : NodeView) (is : IsNodeOf words view) where
+module _ (k : Known) (key : Key) (fork : ClosedFork) (closes : ClosesFork k key fork) (words : List ℕ) (h : HasLocked k fork.step.number words) (view : NodeView) (is : IsNodeOf words view) where
   sub_is : (node_words_of words).subtrie ≡ piece view
   sub_is = ap (λ (z : NodeWords). z.subtrie) is.shows
 
-  leads_is : spot key (piece view) ≡ s.at
+  leads_is : spot key (piece view) ≡ fork.step.at
   leads_is = sym (ap (spot key) sub_is) ∙ (closes words h).0
 
-  pub can_close : (loaded : List ℕ) → node_words view ≡ loaded → CanCloseAt loaded view s.at place e
+  pub can_close : (loaded : List ℕ) → node_words view ≡ loaded → CanCloseAt loaded view fork.step.at fork.place fork.entry
   can_close loaded spells =
       let (leads, (position, forks), stands) = closes words h in
       record {
         has = is.has;
         spells = spells;
-        in_range = (let low : s.at < size (piece view) = subst (λ i. i < size (piece view)) leads_is (spot_below key (piece view)) in omega (arith, low, size-piece view is.has.lawful));
+        in_range = (let low : fork.step.at < size (piece view) = subst (λ i. i < size (piece view)) leads_is (spot_below key (piece view)) in omega (arith, low, size-piece view is.has.lawful));
         position = position;
-        is_beside = ap (beside s.at) (sym sub_is) ∙ forks;
-        stands = subst (λ (z : NodeWords). StandsBelow z.fixed.height e) is.shows stands;
+        is_beside = ap (beside fork.step.at) (sym sub_is) ∙ forks;
+        stands = subst (λ (z : NodeWords). StandsBelow z.fixed.height fork.entry) is.shows stands;
       }
 
-  pub closed_shown : collapsed s.at e (piece view) ≡ subtrie_collapsed key e (node_words_of words).subtrie
-  closed_shown = ap (λ i. collapsed i e (piece view)) (sym leads_is) ∙ (collapsed_spot key e (piece view) ∙ ap (subtrie_collapsed key e) (sym sub_is))
+  pub closed_shown : collapsed fork.step.at fork.entry (piece view) ≡ subtrie_collapsed key fork.entry (node_words_of words).subtrie
+  closed_shown = ap (λ i. collapsed i fork.entry (piece view)) (sym leads_is) ∙ (collapsed_spot key fork.entry (piece view) ∙ ap (subtrie_collapsed key fork.entry) (sym sub_is))
 
 pub closed_over : (table : TableView) (c : SeatView) (made : List Rec) (news : List Made) (view : NodeView) (shown other : Subtrie) (answer : Option Entry) → shown ≡ other → IsBuiltFrom view shown → HasNodeWords view →
     MatchOption answer (HasNotMade table c made) (λ e. (m : ℕ) × (e ≡ Node m view.height) × IsBuilding table c made (made_of_node m view ∷ news)) →
@@ -549,7 +553,7 @@ pub made_claimed : (table : TableView) (b : SeatView) (made : List Rec) (us : Li
 made_claimed table b made us m n is building = subst (IsClaimed b.known) is (claimed table b made (us ++ m ∷ []) building m.rec (last_claimed us m))
 
 -- ---- one node of the two, some loads later
-module _ {G : Type 0} (table : TableView) (becomes : G → Event → G → Type 0) (a b : SeatView × G) (job : Job) (x : Beside) (goes : WorksOn table becomes a b) (w : IsWide table a.0 job x.number) (is : IsNeighbour a.0.known job x) (view : NodeView)
+module _ {G : Type 0} (table : TableView) (becomes : G → Event → G → Type 0) (a b : SeatView × G) (job : Job) (x : Merge) (goes : WorksOn table becomes a b) (w : IsWide table a.0 job x.number) (is : IsNeighbour a.0.known job x) (view : NodeView)
     (joined : (leaf : ℕ) (s : AreBeside a.0.known.locks job.key.now (upper job).number (lower job).number x.number leaf) → s.position ≡ x.position → IsBuiltFrom view (merged s)) where
   abbrev pub wide_now : IsWide table b.0 job x.number
   wide_now = wide_on table becomes a b job x.number goes w
@@ -563,18 +567,22 @@ module _ {G : Type 0} (table : TableView) (becomes : G → Event → G → Type 
       let (z, same, at) = moved {held = a.0.known.locks} {kept = b.0.known.locks} goes.stays.1 s.0 in
       subst (IsBuiltFrom view) same (joined w.taking.number z (at ∙ s.1))
 
-  pub closes_for : (n : ℕ) → ClosesFork b.0.known (upper job) job.key.now x.place (Node n view.height)
+  -- the fork, and its entry of this height in this record
+  abbrev pub fork_at : (n h : ℕ) → ClosedFork
+  fork_at n h = record { step = upper job; place = x.place; entry = Node n h }
+
+  pub closes_for : (n : ℕ) → ClosesFork b.0.known job.key.now (fork_at n view.height)
   closes_for n = closes_fork table b.0 job x.number wide_now x refl beside_now (Node n view.height) (joined_stands table b.0 job x.number wide_now x refl beside_now view merged_for n)
 
   -- with the records for what is left of the upper one
   pub closed_made : (made after : List Rec) (news : List Made) (n h : ℕ) (e : Entry) (c : SeatView) → h ≡ view.height → made ≡ a_node n ∷ [] → b.0.known.own ≡ a.0.known.own → IsBuilding table a.0 made news →
-      ((key : Key) (words : List ℕ) (news : List Made) → ClosesFork b.0.known (upper job) key x.place (Node n h) → HasLocked b.0.known (upper job).number words → IsBuilding table b.0 made news →
+      ((key : Key) (words : List ℕ) (news : List Made) → ClosesFork b.0.known key (fork_at n h) → HasLocked b.0.known (upper job).number words → IsBuilding table b.0 made news →
       (us : List Made) × IsSide (subtrie_collapsed key (Node n h) (node_words_of words).subtrie) e us × IsBuilding table c after (us ++ news)) →
       (us : List Made) × (m : Made) × (m.rec ≡ a_node n) × IsSide (subtrie_collapsed job.key.now (Node n view.height) (node_words_of is.words).subtrie) e us × IsBuilding table c after (us ++ m ∷ [])
   closed_made made after news n h e c high sole own building raised =
       let (m, news_is, rec_is) = sole_made made news n sole building.listed in
       let now = building_on table becomes a b made news goes own building in
-      let (us, side, built) = raised job.key.now beside_now.words news (subst (λ z. ClosesFork b.0.known (upper job) job.key.now x.place (Node n z)) (sym high) (closes_for n)) beside_now.has now in (
+      let (us, side, built) = raised job.key.now beside_now.words news (subst (λ z. ClosesFork b.0.known job.key.now (fork_at n z)) (sym high) (closes_for n)) beside_now.has now in (
         us,
         m,
         rec_is,
@@ -583,7 +591,7 @@ module _ {G : Type 0} (table : TableView) (becomes : G → Event → G → Type 
       )
 
 -- so under the wider locks
-pub beside_wider : (table : TableView) (k : Known) (b : SeatView) (job : Job) (x : Beside) (w : IsWide table b job x.number) → w.taking.before.known.locks ≡ k.locks → IsNeighbour k job x → IsNeighbour b.known job x
+pub beside_wider : (table : TableView) (k : Known) (b : SeatView) (job : Job) (x : Merge) (w : IsWide table b job x.number) → w.taking.before.known.locks ≡ k.locks → IsNeighbour k job x → IsNeighbour b.known job x
 beside_wider table k b job x w same is = record {
   words = is.words;
   has = held_wide table b job x.number w (upper job).number is.words (locked_on k w.taking.before.known (upper job).number is.words same is.has);
@@ -600,6 +608,16 @@ pub is_taking : (table : TableView) (a : SeatView) (job : Job) → HasTakenPlan 
 is_taking table a job (m, aim, taken, planned) some =
     let (number, value, found_is, below) = taken_below table a m job aim taken planned (let w = taken.within.0 in omega (arith, w, some)) in
     (record { before = a; since = m; number = number; value = value; found = found_is; below = below; some = some }, refl)
+
+-- a change goes on under the locks of its span
+pub holds_on : {G : Type 0} (table : TableView) (becomes : G → Event → G → Type 0) (a b : SeatView × G) (job : Job) (deed : Deed) → WorksOn table becomes a b → HasTakenPlan table a.0 job deed → HoldsSpan table b.0 job
+holds_on table becomes a b job deed goes (m, aim, t, planned) = record {
+  seat = seat_of table becomes a b goes t.seat;
+  possible = goes_possible table becomes a b goes t.possible;
+  within = t.within;
+  from = (m, way_later table.layout a.0.known b.0.known m job.key.now job.way.now job.found goes.stays.0 t.way_of);
+  locked = span_later a.0.known b.0.known job.way.now job.span goes.stays t.locked;
+}
 
 pub building_now : (table : TableView) (b : SeatView) (made : List Rec) (job : Job) (t : IsTaking table job) (raised : Raised) (x : Change) (was : Option ℕ) → MayReplace table b made job raised x was → (news : List Made) × IsBuilding table b made news
 building_now table b made job t raised x was may =

@@ -12,13 +12,17 @@ use Rattle.rowex_core.specs.declared.known.Known.{Known}
 use Rattle.rowex_reading.specs.Possible.{IsPossible}
 use Rattle.rowex_reading.specs.Reads.{IsBelowRoot, Looks, Reads}
 use Rattle.rowex_reading.proofs.Later.{event_possible}
+use Rattle.rowex_reading.proofs.Seeing.{later_trans}
 use Rattle.rowex_table.specs.Runs.{Runs}
 use Rattle.rowex_table.specs.Seats.{TableView, SeatView, IsSeatOf}
 use Rattle.rowex_table.specs.Stays.{LeavesPin}
 use Rattle.rowex_table.proofs.Running.{runs_same}
 use Rattle.rowex_writing.specs.Changes.{HasRun, HasTried}
-use Rattle.rowex_writing.specs.Going.{TriesNoLock}
-use Rattle.rowex_writing.proofs.Tried.{no_lock_is_tried}
+use Rattle.rowex_writing.specs.Going.{TriesNoLock, WorksOn}
+use Rattle.rowex_writing.specs.Locks.{Tries, Works}
+use Rattle.rowex_writing.proofs.Runs.{goes_run, works_run}
+use Rattle.rowex_writing.proofs.Tried.{no_lock_is_tried, tries_more}
+use Rattle.rowex_writing.proofs.Works.{works_later, works_seat}
 use Rattle.rowex_table.specs.Made.{IsLater}
 
 -- a load below the root leaves the pin
@@ -57,6 +61,30 @@ module _ {G : Type 0} (table : TableView) (becomes : G → Event → G → Type 
 
   pub run_possible : {tried : List Target} (a b : SeatView × G) → HasTried table becomes tried a b → IsPossible table.layout a.0.known → IsPossible table.layout b.0.known
   run_possible a b r p = runs_possible r.acts a b r.steps p
+
+  -- a lock, and then others
+  module _ {t u : List Target} (a m b : SeatView × G) (lock : Tries table becomes t a m) (more : HasTried table becomes u m b) where
+    pub both_seat : IsSeatOf table a.0 → IsSeatOf table b.0
+    both_seat own = run_seat m b more (works_seat table becomes a m lock own)
+
+    pub both_possible : IsPossible table.layout a.0.known → IsPossible table.layout b.0.known
+    both_possible p = run_possible m b more (run_possible a m (works_run table becomes a m lock) p)
+
+  -- a lock, and loads under it
+  module _ {target : Target} (a m b : SeatView × G) (lock : Tries table becomes (target ∷ []) a m) (goes : WorksOn table becomes m b) where
+    pub locked_tries : HasTried table becomes (target ∷ []) a b
+    locked_tries = tries_more table becomes a m b (works_run table becomes a m lock) (goes_run table becomes m b goes)
+
+    pub locked_later : IsLater a.0.known b.0.known
+    locked_later = later_trans (works_later table becomes a m lock) goes.stays.0
+
+    -- after which it is given back
+    module _ (c : SeatView × G) (works : Works table becomes b c) where
+      pub back_tries : HasTried table becomes (target ∷ []) a c
+      back_tries = tries_more table becomes a b c locked_tries (works_run table becomes b c works)
+
+      pub back_later : IsLater a.0.known c.0.known
+      back_later = later_trans locked_later (works_later table becomes b c works)
 
 -- the front is no shorter later on
 pub longer : (k j : Known) → IsLater k j → length k.front ≤ length j.front

@@ -36,7 +36,7 @@ use Rattle.compound_node.specs.declared.entries.Entry.{Entry}
 use Rattle.rowex_reading.specs.Possible.{IsPossible}
 use Rattle.rowex_reading.specs.Ways.{IsWayOf, named}
 use Rattle.rowex_reading.specs.declared.descent.Found.{Found}
-use Rattle.rowex_writing.specs.Merging.{IsTargetAbove, LocksAbove, TriesFew, TriesMore, by_anchor, by_node}
+use Rattle.rowex_writing.specs.Merging.{IsFar, IsTargetAbove, LocksAbove, TriesFew, TriesMore, by_anchor, by_node}
 use Rattle.rowex_writing.proofs.Shapes.{way_node_locked}
 use Rattle.rowex_writing.proofs.Tried.{anchor_more, nodes_more, nodes_once, nodes_then, number_new, once_then}
 
@@ -80,10 +80,6 @@ of_dropped (x ∷ way) (suc from) i s at = let e : suc from + i ≡ suc (from + 
 pub of_range : (way : List PathNode) (from upto n : ℕ) → IsOneOf n (numbers_of (slice_range way from upto)) → (i : ℕ) × (s : PathNode) × (slice_get way i ≡ Some s) × (from ≤ i) × (i < upto) × (n ≡ s.number)
 of_range way from upto n there =
     let (i, s, at, low, is) = of_taken (drop from way) (upto - from) n there in (from + i, s, of_dropped way from i s at, omega arith, omega (arith, low), is)
-
--- a number that none of the nodes from the one above a span on has
-abbrev pub IsFar : List PathNode → Span → ℕ → Type 0
-IsFar way span n = (s : PathNode) (i : ℕ) → slice_get way i ≡ Some s → span.end ≤ i + 2 → i < span.len → n ≢ s.number
 
 pub far_none : (way : List PathNode) (span : Span) (n : ℕ) → IsFar way span n → ¬ (IsOneOf n (span_numbers way span))
 far_none way span n far there = let (i, s, at, from, upto, is) = of_range way (span.end - 1) span.len n there in far s i at (omega (arith, from)) upto is

@@ -49,3 +49,7 @@ pub record IsNodeOf (words : List ℕ) (view : NodeView) : Type 0 where
   pub has : HasNodeWords view
   pub spells : node_words view ≡ words
   pub shows : node_words_of words ≡ record { fixed = head_of view; subtrie = piece view }
+
+-- the pass has locked the node, which is this one
+abbrev pub HasLockedNode : Known → ℕ → NodeView → Type 0
+HasLockedNode k n view = (words : List ℕ) × HasLocked k n words × IsNodeOf words view

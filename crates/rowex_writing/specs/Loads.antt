@@ -4,6 +4,7 @@ use Rattle.compound_node.specs.Nodes.{NodeView}
 use Rattle.rowex_core.specs.declared.event.Event.{Event}
 use Rattle.rowex_table.specs.Seats.{TableView, SeatView, IsSeatOf}
 use Rattle.rowex_writing.specs.Going.{HasLocked, IsNodeOf, ReadsOn}
+use Rattle.rowex_writing.specs.declared.locked.NodeLoads.{NodeLoads}
 
 -- the first words that were loaded are those of the lock, which spell a node
 pub record AreThose (loaded words : List ℕ) (n : ℕ) : Type 0 where
@@ -20,10 +21,10 @@ pub record AreRead {G : Type 0} (table : TableView) (becomes : G → Event → G
   pub few : b.0.known.steps ≤ a.0.known.steps + n
 
 -- They have been loaded up to this index, or at least up to the end, which is before it.
-abbrev pub IsReadTo : {G : Type 0} → TableView → (G → Event → G → Type 0) → (a b : SeatView × G) → (number : ℕ) → (loaded : List ℕ) → (upto end : ℕ) → Type 0
-IsReadTo table becomes a b number loaded upto end = (n : ℕ) × AreRead table becomes a b number loaded n × (n ≤ upto) × ((n ≡ upto) ⊎ (end ≤ n))
+abbrev pub IsReadTo : {G : Type 0} → TableView → (G → Event → G → Type 0) → (a b : SeatView × G) → NodeLoads → (loaded : List ℕ) → (upto : ℕ) → Type 0
+IsReadTo table becomes a b loads loaded upto = (n : ℕ) × AreRead table becomes a b loads.node.number loaded n × (n ≤ upto) × ((n ≡ upto) ⊎ (loads.end ≤ n))
 
 -- the pass goes on so, with the words loaded so far, for eight words more
-abbrev pub ReadsEight : {G : Type 0} → TableView → (G → Event → G → Type 0) → (number first end : ℕ) → (SeatView × G) × List ℕ → (SeatView × G) × List ℕ → Type 0
-ReadsEight {G} table becomes number first end (b, old) (c, new) =
-    (a : SeatView × G) → IsReadTo table becomes a b number old first end → IsReadTo table becomes a c number new (first + 8) end
+abbrev pub ReadsEight : {G : Type 0} → TableView → (G → Event → G → Type 0) → NodeLoads → (first : ℕ) → (SeatView × G) × List ℕ → (SeatView × G) × List ℕ → Type 0
+ReadsEight {G} table becomes loads first (b, old) (c, new) =
+    (a : SeatView × G) → IsReadTo table becomes a b loads old first → IsReadTo table becomes a c loads new (first + 8)

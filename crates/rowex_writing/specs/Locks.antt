@@ -22,10 +22,11 @@ use Rattle.rowex_core.specs.declared.known.Locked.{Locked}
 use Rattle.rowex_core.specs.Events.{target_word}
 use Rattle.rowex_core.specs.Having.{LocksJust}
 use Rattle.rowex_core.specs.Knowing.{IsPinnedSince}
-use Rattle.rowex_table.specs.Made.{nodes_of}
+use Rattle.rowex_reading.specs.Possible.{IsPossible}
+use Rattle.rowex_table.specs.Made.{IsLater, nodes_of}
 use Rattle.rowex_table.specs.Stays.{KeepsRecall}
 use Rattle.rowex_table.specs.Runs.{Runs}
-use Rattle.rowex_table.specs.Seats.{TableView, SeatView}
+use Rattle.rowex_table.specs.Seats.{TableView, SeatView, IsSeatOf}
 use Rattle.publish_laws.specs.Stages.{IsSure}
 use Rattle.rowex_writing.specs.declared.plan.Span.{Span}
 
@@ -162,6 +163,10 @@ LocksAnchor k j = IsSome j.anchor × (j.locks ≡ k.locks) × (j.own ≡ k.own)
 -- its locks and its records are the same
 abbrev pub HasTheSame : Known → Known → Type 0
 HasTheSame k j = (j.locks ≡ k.locks) × (j.anchor ≡ k.anchor) × (j.own ≡ k.own)
+
+-- since it knew k, its seat is one of the table's, what it knows is possible, and its records are the same
+abbrev pub KeepsRecords : TableView → Known → SeatView → Type 0
+KeepsRecords table k b = IsLater k b.known × IsSeatOf table b × IsPossible table.layout b.known × (b.known.own ≡ k.own)
 
 -- The pass was led to the node since its pin and has made no change since. It has nothing of its own and has not locked the node: so
 -- only another pass may be in the way of its lock.

@@ -1,5 +1,5 @@
 -- A removal after which what is left of the leaf's node and the node beside it are one node.
-use Rattle.std.specs.Prelude.{◌≡◌, ◌⊎◌, ℕ, ◌+◌, ◌-◌, ◌*◌, ◌<◌, ◌≤◌, List, [], ◌∷◌, length, get_or, slice_get, Bool, true, Option, Some, None}
+use Rattle.std.specs.Prelude.{◌≡◌, ◌≢◌, ◌⊎◌, ℕ, ◌+◌, ◌-◌, ◌*◌, ◌<◌, ◌≤◌, List, [], ◌∷◌, length, get_or, slice_get, Bool, true, Option, Some, None}
 use Rattle.compound_node.specs.Nodes.{StandsBelow}
 use Rattle.compound_node.specs.declared.entries.Entry.{Entry}
 use Rattle.compound_node.specs.declared.entries.Entry.TheVariants.{Leaf as LeafEntry, Node}
@@ -36,7 +36,9 @@ use Rattle.rowex_writing.specs.Locks.{LocksLast, TriesNodesBy, locks_of, span_nu
 use Rattle.rowex_writing.specs.Putting.{IsSpotAbove}
 use Rattle.rowex_writing.specs.Taking.{HasLeafBelow}
 use Rattle.rowex_writing.specs.declared.deeds.Job.{Job}
-use Rattle.rowex_writing.specs.declared.merging.Beside.{Beside}
+use Rattle.rowex_writing.specs.declared.merging.ClosedFork.{ClosedFork}
+use Rattle.rowex_writing.specs.declared.merging.Merge.{Merge}
+use Rattle.rowex_writing.specs.declared.plan.Span.{Span}
 
 -- what stands past the end of a way
 abbrev pub no_step : PathNode
@@ -65,17 +67,17 @@ abbrev pub TakesOn : TableView → SeatView → Job → Type 0
 TakesOn table a job = (t : IsTaking table job) × IsSeatOf table a × IsPossible table.layout a.known × StaysLocked t.before.known a.known
 
 -- In the upper node, by the words under its lock, the place alone is beside that of the lower one, and names the node.
-pub record IsNeighbour (k : Known) (job : Job) (b : Beside) : Type 0 where
+pub record IsNeighbour (k : Known) (job : Job) (b : Merge) : Type 0 where
   pub words : List ℕ
   pub has : HasLocked k (upper job).number words
   pub forks : beside (spot job.key.now (node_words_of words).subtrie) (node_words_of words).subtrie ≡ Some (b.place, b.position)
   pub height : ℕ
   pub sibling : subtrie_sibling job.key.now (node_words_of words).subtrie ≡ Some (b.position, Place (Node b.number height))
 
--- In the locked node of this step, by its words, the place alone is beside the one that the key's search takes; and the entry can stand in it.
-abbrev pub ClosesFork : Known → PathNode → Key → ℕ → Entry → Type 0
-ClosesFork k s key place e = (words : List ℕ) → HasLocked k s.number words → (spot key (node_words_of words).subtrie ≡ s.at) ×
-    ((position : ℕ) × (beside s.at (node_words_of words).subtrie ≡ Some (place, position))) × StandsBelow (node_words_of words).fixed.height e
+-- In the locked node of the fork, by its words, the place alone is beside the one that the key's search takes; and the entry can stand in it.
+abbrev pub ClosesFork : Known → Key → ClosedFork → Type 0
+ClosesFork k key fork = (words : List ℕ) → HasLocked k fork.step.number words → (spot key (node_words_of words).subtrie ≡ fork.step.at) ×
+    ((position : ℕ) × (beside fork.step.at (node_words_of words).subtrie ≡ Some (fork.place, position))) × StandsBelow (node_words_of words).fixed.height fork.entry
 
 -- the height of the entry's node is one that a word tells
 abbrev pub HasHeight : Entry → Type 0
@@ -83,6 +85,10 @@ HasHeight (LeafEntry n) = Unit {0}
 HasHeight (Node n h) = (1 ≤ h) × (h < 65536)
 
 -- ---- wider locks
+-- the number is that of no node of the span, nor of the two above it
+abbrev pub IsFar : List PathNode → Span → ℕ → Type 0
+IsFar way span n = (s : PathNode) (i : ℕ) → slice_get way i ≡ Some s → span.end ≤ i + 2 → i < span.len → n ≢ s.number
+
 -- the lock of what names the first of the nodes from `end` on
 abbrev pub IsTargetAbove : List PathNode → ℕ → Target → Type 0
 IsTargetAbove way end Anchor = end ≡ 0
@@ -120,17 +126,23 @@ TriesFew {G} table becomes nodes left more b c = (a : SeatView × G) → TriesNo
 -- and a change under all these locks
 abbrev pub ChangesOn : {G : Type 0} → TableView → (G → Event → G → Type 0) → List ℕ → SeatView × G → SeatView × G → Type 0
 ChangesOn {G} table becomes nodes b c = (a : SeatView × G) → TriesNodesBy LeavesPin table becomes nodes a b →
-    (locks : ℕ) × HasTriedOnce table becomes locks a c × (length nodes ≤ locks) × (locks ≤ length nodes + 2) × (c.0.known.steps ≤ b.0.known.steps + change_steps table.layout locks)
+    (locks : ℕ) × HasTriedOnce table becomes locks a c × (length nodes ≤ locks) × (locks ≤ length nodes + 2) ×
+    (c.0.known.steps ≤ b.0.known.steps + change_steps table.layout locks)
 
 -- a change that tries no lock, or one that tries more beside those of its span
 abbrev pub EndsChange : {G : Type 0} → TableView → (G → Event → G → Type 0) → Job → SeatView × G → SeatView × G → Type 0
-EndsChange {G} table becomes job b c = (HasRun table becomes b c × (c.0.known.steps ≤ b.0.known.steps + change_steps table.layout (locks_of job.span))) ⊎
+EndsChange {G} table becomes job b c =
+    (HasRun table becomes b c × (c.0.known.steps ≤ b.0.known.steps + change_steps table.layout (locks_of job.span))) ⊎
     ((0 < job.span.end) × (job.span.end + 1 ≡ job.span.len) × ChangesOn table becomes (span_numbers job.way.now job.span) b c)
 
 -- ---- the store
 -- the records that go: both nodes of the span, the one beside, and the leaf
 abbrev pub merged_gone : Job → (number leaf : ℕ) → List Rec
 merged_gone job number leaf = a_node (upper job).number ∷ a_node (lower job).number ∷ a_node number ∷ a_leaf leaf ∷ []
+
+-- just those are listed, for the leaf that was found
+abbrev pub HasListed : List Rec → Job → ℕ → Type 0
+HasListed gone job number = (leaf value : ℕ) → job.found ≡ Leaf leaf value None → gone ≡ merged_gone job number leaf
 
 -- Once the records that the pass has made are ready, it may make the removal by a store of the entry above the upper node.
 pub record MayMergeInto (table : TableView) (b : SeatView) (made : List Rec) (job : Job) (number : ℕ) (e : Entry) : Type 0 where

@@ -4,10 +4,21 @@ use Rattle.finite_map.specs.declared.Change.{Change}
 use Rattle.record_words.specs.declared.layout.Layout.{Layout}
 use Rattle.versions.specs.declared.Rec.{Rec}
 use Rattle.versions.specs.Trades.{AreApart}
+use Rattle.insert_cases.specs.declared.choice.PathNode.{PathNode}
+use Rattle.record_words.specs.Entry.{entry_word}
+use Rattle.rowex_core.specs.declared.event.Spot.{Spot}
+use Rattle.rowex_core.specs.declared.event.Spot.TheVariants.{Root, Slot}
 use Rattle.rowex_core.specs.declared.known.Known.{Known}
 use Rattle.rowex_core.specs.Cores.{HasRecord}
-use Rattle.rowex_core.specs.Having.{OwnsJust, IsUnlinkedBefore}
+use Rattle.rowex_core.specs.Having.{AreKept, OwnsJust, IsUnlinkedBefore}
+use Rattle.rowex_table.specs.Made.{nodes_of}
 use Rattle.rowex_table.specs.Publishes.{HasPublished}
+use Rattle.rowex_table.specs.Rule.{HasSpot}
+use Rattle.rowex_table.specs.Seats.{TableView, SeatView}
+use Rattle.rowex_writing.specs.Changes.{MayPublishOnceReady}
+use Rattle.rowex_writing.specs.Locks.{AreNodes, numbers_of}
+use Rattle.rowex_writing.specs.declared.building.Build.{Build}
+use Rattle.rowex_writing.specs.declared.publishing.Store.{Store}
 
 -- the records are the table's
 abbrev pub AreInTable : Layout → List Rec → Type 0
@@ -32,3 +43,18 @@ IsAnchored false k = k.anchor ≡ None
 -- what it knows of locks, of the anchor and of changes is the same
 abbrev pub KeepsLocks : Known → Known → Type 0
 KeepsLocks k j = (j.locks ≡ k.locks) × (j.anchor ≡ k.anchor) × (j.front ≡ k.front)
+
+abbrev pub is_root : Spot → Bool
+is_root Root = true
+is_root (Slot n i) = false
+
+-- Once its records are ready, the pass may publish the change x by this store. The records that are listed for it go. Of the nodes that
+-- the pass has locked just these are kept, each listed once, and the anchor is locked just where the root is stored.
+pub record MayStore (table : TableView) (a : SeatView) (build : Build) (kept : List PathNode) (store : Store) (x : Change) (was : Option ℕ) : Type 0 where
+  pub ready : MayPublishOnceReady table a build.made.items store.spot (entry_word store.entry) x was build.gone.items
+  pub there : HasSpot table.layout store.spot
+  pub records : AreInTable table.layout build.gone.items
+  pub nodes : AreNodes table.layout kept
+  pub keeps : AreKept (nodes_of a.known.locks) build.gone.items (numbers_of kept)
+  pub apart : AreApart (numbers_of kept)
+  pub anchored : IsAnchored (is_root store.spot) a.known

@@ -10,12 +10,13 @@ ghost use Rattle.rowex_table.specs.Seats.{IsSeatOf};
 ghost use Rattle.rowex_writing.specs.Attempts.{HasAnswered, HasAttempted, HasDone, HasLoadedRoot, HasRefused, IsLeafless, refusal_of as the_refusal};
 ghost use Rattle.finite_map.specs.declared.Change.{Change};
 ghost use Rattle.rowex_table.specs.Stays.{LeavesPin};
-ghost use Rattle.rowex_writing.specs.Changes.{HasNoRoom, HasPlanned, HasRun, HasTakenPlan, HasTakenSpan, HasTriedOnce, IsTakeChange};
+ghost use Rattle.rowex_writing.specs.Building.{HasNotMade};
+ghost use Rattle.rowex_writing.specs.Changes.{HasNoRoom, HasPlanned, HasTakenPlan, HasTakenSpan, HasTriedOnce, IsTakeChange};
 ghost use Rattle.rowex_writing.specs.Deeds.{MayReplace};
 ghost use Rattle.rowex_writing.specs.Merging.{ChangesOn, EndsChange, TakesOn, TriesFew};
 ghost use Rattle.rowex_writing.specs.declared.plan.Deed.TheVariants.{Take};
-ghost use Rattle.rowex_writing.specs.Jobs.{IsJobFrom, IsWithinWay};
-ghost use Rattle.rowex_writing.specs.Locks.{HasMadeNoChange, HasMetLock, TriesNodesBy, locks_of, span_numbers};
+ghost use Rattle.rowex_writing.specs.Jobs.{HoldsSpan, IsJobFrom, IsWithinWay};
+ghost use Rattle.rowex_writing.specs.Locks.{HasMadeNoChange, HasMetLock, TriesNodesBy, Works, locks_of, span_numbers};
 ghost use Rattle.rowex_writing.specs.Counts.{change_steps, most_locks, most_steps, span_steps};
 ghost use Rattle.record_words.specs.declared.TheConstants.{HEAD_WORDS};
 
@@ -53,12 +54,12 @@ pub enum TryFault {
 }
 
 /// Makes one attempt at `call` and returns the reply. It searches for the key, locks what is to change, each once, checks that this
-/// stands as found, and changes it by one store. A call with nothing to change locks nothing. Where another pass is at work, or no record
-/// is free, nothing is changed, and the fault tells which.
+/// stands as found, and changes it by one store. A call with nothing to change locks nothing. If another pass is at work there, or no
+/// record is free, nothing is changed, and the fault tells which.
 ///
 /// `way` is filled with the nodes that the search went through; `build` keeps the records that the change makes.
 ///
-/// Where it tries no lock, it makes at most 58 atomic steps, and 26 for each node on the key's way. Else it makes at most 124, and 26 for
+/// If it tries no lock, it makes at most 58 atomic steps, and 26 for each node on the key's way. Else it makes at most 124, and 26 for
 /// each such node. To these come 297 for each lock that it tries, four for each leaf record and two for each node record.
 pub fn attempt<G: Gate>(
     table: &HotTable,
@@ -105,7 +106,7 @@ pub fn attempt<G: Gate>(
     }
 }
 
-/// Makes the change `deed` that is planned for the span of `job`. Where another pass is at work there, or no record is free, nothing is
+/// Makes the change `deed` that is planned for the span of `job`. If another pass is at work there, or no record is free, nothing is
 /// changed, and the fault tells which.
 fn try_plan<G: Gate>(
     table: &HotTable,
@@ -132,15 +133,15 @@ fn try_plan<G: Gate>(
     if !take_span(table, seat, gate, job) {
         return Err(TryFault::Busy);
     }
-    match change_taken(table, seat, gate, build, job, deed) {
+    match change_span(table, seat, gate, build, job, deed) {
         Ok(()) => Ok(()),
         Err(full) => Err(refusal_of(full)),
     }
 }
 
-/// Makes the change `deed` at a span whose nodes are locked and checked. If no record was free, it is undone, and the kind of record is
-/// returned.
-fn change_taken<G: Gate>(
+/// Makes the change `deed` of a plan whose nodes are locked and checked: by [`make_removal`], if it takes a leaf out of a node that has one
+/// above it on the way. Else it is published; or, if no record was free, undone, and the kind of record is returned.
+fn change_span<G: Gate>(
     table: &HotTable,
     seat: &mut TableSeat,
     gate: &mut G,
@@ -155,34 +156,22 @@ fn change_taken<G: Gate>(
     ensures leafless { deed ≡ Deed.Take → result ≢ Err Full.Leaves }
 {
     match deed {
-        Deed::Take => take_away(table, seat, gate, build, job),
-        _ => make_change(table, seat, gate, build, job, deed),
+        Deed::Take if job.span.end > 0 => make_removal(table, seat, gate, build, job),
+        _ => match carry_out(table, seat, gate, build, job, deed) {
+            Ok(raised) => {
+                publish_change(table, seat, gate, build, job, raised);
+                Ok(())
+            }
+            Err(full) => {
+                undo_change(table, seat, gate, build, job);
+                Err(full)
+            }
+        },
     }
 }
 
-/// Makes a removal whose nodes are locked and checked: by [`make_removal`] if the leaf's node has one above it on the way, else by
-/// [`make_change`]. If no node record was free, it is undone, and `Full::Nodes` is returned.
-fn take_away<G: Gate>(
-    table: &HotTable,
-    seat: &mut TableSeat,
-    gate: &mut G,
-    build: &mut Build,
-    job: &Job<'_>,
-) -> Result<(), Full>
-    requires taken { HasTakenPlan table.now seat.old job.now Take }
-    ensures run { EndsChange table.now G.becomes job.now (seat.old, gate.old) (seat.new, gate.new) }
-    ensures done { result ≡ Ok tt → HasDone seat.old.known seat.new.known Take job.now.key.now job.now.value job.now.found }
-    ensures full { IfErr result (λ full. HasNoRoom table.now.layout job.now.key.now seat.old.known seat.new.known full) }
-    ensures leafless { result ≢ Err Full.Leaves }
-{
-    if job.span.end > 0 {
-        return make_removal(table, seat, gate, build, job);
-    }
-    make_change(table, seat, gate, build, job, Deed::Take)
-}
-
-/// Makes a removal from a node that has one above it on the way. What is left of the node takes its place, or becomes one node with the
-/// node beside it. If no node record was free, the removal is undone, and `Full::Nodes` is returned.
+/// Makes a removal from a node that has one above it on the way. What is left of the node takes its place, or becomes one node with its
+/// sibling. If no node record was free, the removal is undone, and `Full::Nodes` is returned.
 fn make_removal<G: Gate>(
     table: &HotTable,
     seat: &mut TableSeat,
@@ -203,13 +192,13 @@ fn make_removal<G: Gate>(
             Ok(())
         }
         Err(full) => {
-            undo(table, seat, gate, build.made.as_slice(), job.way, job.span);
+            undo_change(table, seat, gate, build, job);
             Err(full)
         }
     }
 }
 
-/// Ends a removal that is carried out: by a merge with the node beside, or, where that can't be made, by a publish of `raised`.
+/// Ends a removal whose records are made: by a merge with the sibling, or, if that can't be made, by a publish of `raised`.
 fn end_removal<G: Gate>(
     table: &HotTable,
     seat: &mut TableSeat,
@@ -242,7 +231,8 @@ fn take_span<G: Gate>(table: &HotTable, seat: &mut TableSeat, gate: &mut G, job:
     ensures run { (locks : ℕ) × HasTriedOnce table.now G.becomes locks (seat.old, gate.old) (seat.new, gate.new) ×
         (0 < locks) × (locks ≤ locks_of job.now.span) × (result ≡ true → locks ≡ locks_of job.now.span) ×
         (seat.new.known.steps ≤ seat.old.known.steps + 3 * locks + 1) }
-    ensures nodes { result ≡ true → 0 < job.now.span.end → TriesNodesBy LeavesPin table.now G.becomes (span_numbers job.now.way.now job.now.span) (seat.old, gate.old) (seat.new, gate.new) ×
+    ensures nodes { result ≡ true → 0 < job.now.span.end →
+        TriesNodesBy LeavesPin table.now G.becomes (span_numbers job.now.way.now job.now.span) (seat.old, gate.old) (seat.new, gate.new) ×
         (seat.new.known.steps ≤ seat.old.known.steps + 3 * locks_of job.now.span + 1) }
     ensures later { IsLater seat.old.known seat.new.known }
     ensures taken { result ≡ true → (m : ℕ) → IsJobFrom table.now.layout seat.old.known m job.now →
@@ -257,37 +247,25 @@ fn take_span<G: Gate>(table: &HotTable, seat: &mut TableSeat, gate: &mut G, job:
     if check_span(table, seat, gate, job) {
         return true;
     }
-    undo(table, seat, gate, &[], job.way, job.span);
+    undo(table, seat, gate, &[], job);
     false
 }
 
-/// Makes the change `deed` of a plan whose nodes are locked and checked. It is published; or, if no record was free, undone, and the kind
-/// of record is returned.
-fn make_change<G: Gate>(
+/// Undoes the change of `job`, for which no record was free: gives up the records that were made, and unlocks all that is locked.
+fn undo_change<G: Gate>(
     table: &HotTable,
     seat: &mut TableSeat,
     gate: &mut G,
-    build: &mut Build,
+    build: &Build,
     job: &Job<'_>,
-    deed: Deed,
-) -> Result<(), Full>
-    requires taken { HasTakenPlan table.now seat.old job.now deed }
-    ensures run { HasRun table.now G.becomes (seat.old, gate.old) (seat.new, gate.new) }
-    ensures done { result ≡ Ok tt → HasDone seat.old.known seat.new.known deed job.now.key.now job.now.value job.now.found }
-    ensures full { IfErr result (λ full. HasNoRoom table.now.layout job.now.key.now seat.old.known seat.new.known full) }
-    ensures leafless { deed ≡ Deed.Take → result ≢ Err Full.Leaves }
-    ensures few { seat.new.known.steps ≤ seat.old.known.steps + change_steps table.now.layout (locks_of job.now.span) }
+)
+    requires held { HoldsSpan table.now seat.old job.now }
+    requires made { HasNotMade table.now seat.old build.now.made.items }
+    ensures works { Works table.now G.becomes (seat.old, gate.old) (seat.new, gate.new) }
+    ensures rest { IsAtRest seat.new.known }
+    ensures few { seat.new.known.steps ≤ seat.old.known.steps + length build.now.made.items + locks_of job.now.span }
 {
-    match carry_out(table, seat, gate, build, job, deed) {
-        Ok(raised) => {
-            publish_change(table, seat, gate, build, job, raised);
-            Ok(())
-        }
-        Err(full) => {
-            undo(table, seat, gate, build.made.as_slice(), job.way, job.span);
-            Err(full)
-        }
-    }
+    undo(table, seat, gate, build.made.as_slice(), job);
 }
 
 /// The fault of an attempt that found no record of the kind `full` free.

@@ -24,9 +24,9 @@ use rowex_core::{Gate, Spot};
 use rowex_reading::{Found, load_root};
 use rowex_table::{HotTable, TableSeat};
 
-/// Whether each node that is locked for the span, and the root under the anchor's lock, still names what the search found there. Each is
-/// loaded once, from the top down. What the search read below the lowest of them needs no second look. Where one names something else,
-/// another pass has made a change since the search loaded the root.
+/// Returns whether each node that is locked for the span, and the root under the anchor's lock, still names what the search found there.
+/// Each is loaded once, from the top down. What the search read below the lowest of them needs no second look. If one names something
+/// else, another pass has made a change since the search loaded the root.
 pub(crate) fn check_span<G: Gate>(
     table: &HotTable,
     seat: &mut TableSeat,
@@ -43,14 +43,14 @@ pub(crate) fn check_span<G: Gate>(
     if job.span.end > 0 {
         return entries_stand(table, seat, gate, job);
     }
-    if !root_stands(table, seat, gate, named_at(job.way, job.found, 0)) {
+    if !root_stands(table, seat, gate, naming_entry(job.way, job.found, 0)) {
         return false;
     }
     entries_stand(table, seat, gate, job)
 }
 
 /// The entry that names the node at `index` of `way`. Past the last node it is what the search ended at: the leaf found, or `None`.
-pub(crate) fn named_at(way: &[PathNode], found: Found, index: usize) -> Option<Entry>
+pub(crate) fn naming_entry(way: &[PathNode], found: Found, index: usize) -> Option<Entry>
     ensures { result ≡ named way.now found index }
 {
     if index < way.len() {
@@ -66,7 +66,7 @@ pub(crate) fn named_at(way: &[PathNode], found: Found, index: usize) -> Option<E
     }
 }
 
-/// Whether the root is `root`, where `None` is empty, by one load under the anchor's lock.
+/// Returns whether the root is `root`, an empty one for `None`, by one load under the anchor's lock.
 pub(crate) fn root_stands<G: Gate>(
     table: &HotTable,
     seat: &mut TableSeat,
@@ -86,8 +86,8 @@ pub(crate) fn root_stands<G: Gate>(
     are_same(found, root)
 }
 
-/// Whether each node that is locked for `job`'s span has the entry that the search took in it. Each is loaded once, from the top down, up
-/// to the first that has another.
+/// Returns whether each node that is locked for `job`'s span has the entry that the search took in it. Each is loaded once, from the top
+/// down, up to the first that has another.
 fn entries_stand<G: Gate>(
     table: &HotTable,
     seat: &mut TableSeat,
@@ -103,7 +103,7 @@ fn entries_stand<G: Gate>(
     ensures few { seat.new.known.steps + (job.now.span.end - 1) ≤ seat.old.known.steps + job.now.span.len }
 {
     for index in job.span.first_locked()..job.span.len {
-        let entry = named_at(job.way, job.found, index + 1);
+        let entry = naming_entry(job.way, job.found, index + 1);
         if !entry_stands(table, seat, gate, job.way[index], entry) {
             return false;
         }
@@ -111,7 +111,7 @@ fn entries_stand<G: Gate>(
     true
 }
 
-/// Whether the locked node `step.number` has `entry` at place `step.at`, by one load.
+/// Returns whether the locked node `step.number` has `entry` at place `step.at`, by one load.
 pub(crate) fn entry_stands<G: Gate>(
     table: &HotTable,
     seat: &mut TableSeat,
@@ -138,7 +138,7 @@ pub(crate) fn entry_stands<G: Gate>(
     is_word_of(entry, word)
 }
 
-/// Whether `word` is that of `entry`, or 0 for `None`; a node of height 0 has no word. The word of `entry` is made and compared, which
+/// Whether `word` is that of `entry`, or 0 for `None`. A node of height 0 has no word. The word of `entry` is made and compared, which
 /// takes less than to read `word`.
 fn is_word_of(entry: Option<Entry>, word: u64) -> bool
     ensures same { result ≡ true → HasEntryWord entry × (entry_word entry ≡ word) }

@@ -11,7 +11,7 @@ ghost use Rattle.rowex_reading.specs.Possible.{IsPossible};
 ghost use Rattle.rowex_reading.specs.Seen.{HasPlace};
 ghost use Rattle.rowex_table.specs.Rule.{IsStartOf};
 ghost use Rattle.rowex_table.specs.Seats.{IsSeatOf};
-ghost use Rattle.rowex_writing.specs.Going.{ReadsOn, HasLocked, IsLockedBy, IsNodeOf};
+ghost use Rattle.rowex_writing.specs.Going.{ReadsOn, HasLocked, IsLockedBy, HasLockedNode, IsNodeOf};
 ghost use Rattle.rowex_writing.specs.Loads.{ReadsEight};
 
 use compound_node::{Entry, Node, place_beside};
@@ -22,8 +22,15 @@ use rowex_core::{Gate, Rec, Spot};
 use rowex_records::NodeAt;
 use rowex_table::{HotTable, TableSeat};
 
-/// Loads the words of the locked node `number`, all but its state, into `words`, which are 0 before. Words of entries are loaded by
-/// eight, as far as there are entries; those behind stay 0.
+/// A locked node whose words are loaded, all those before index `end`: there the words of its entries end.
+#[derive(Clone, Copy)]
+struct NodeLoads {
+    node: NodeAt,
+    end: usize,
+}
+
+/// Loads the words of the locked node `number`, all but its state, into `words`, which are 0 before. Words of entries are loaded in
+/// groups of eight, as far as there are entries. Those behind stay 0.
 pub(crate) fn load_words<G: Gate>(
     table: &HotTable,
     seat: &mut TableSeat,
@@ -46,13 +53,14 @@ pub(crate) fn load_words<G: Gate>(
         words[index] = load_word(table, seat, gate, node, index);
     }
     let end = HEAD_WORDS + (words[0] % 256) as usize;
-    load_eight(table, seat, gate, node, words, 25, end);
-    load_eight(table, seat, gate, node, words, 33, end);
-    load_eight(table, seat, gate, node, words, 41, end);
-    load_eight(table, seat, gate, node, words, 49, end);
+    let loads = NodeLoads { node, end };
+    load_eight(table, seat, gate, loads, words, 25);
+    load_eight(table, seat, gate, loads, words, 33);
+    load_eight(table, seat, gate, loads, words, 41);
+    load_eight(table, seat, gate, loads, words, 49);
 }
 
-/// Loads the sparse partial key at place `at` of the locked node `node`. It is 4,294,967,295 past the last one.
+/// Loads the row at place `at` of the locked node `node`. Past the last one it is 4,294,967,295.
 #[inline(always)]
 fn load_row<G: Gate>(
     table: &HotTable,
@@ -65,7 +73,7 @@ fn load_row<G: Gate>(
     requires start { IsStartOf table.now.layout (a_node node.number) node.start }
     ensures own { IsSeatOf table.now seat.new }
     ensures reads { ReadsOn table.now G.becomes (seat.old, gate.old) (seat.new, gate.new) }
-    ensures row { (words : List ℕ) → HasLocked seat.old.known node.number words → (view : NodeView) → IsNodeOf words view → result ≡ row_at view.rows at }
+    ensures row { (view : NodeView) → HasLockedNode seat.old.known node.number view → result ≡ row_at view.rows at }
     ensures few { seat.new.known.steps ≤ seat.old.known.steps + 1 }
 {
     if at as usize >= MAX_ENTRIES {
@@ -75,9 +83,9 @@ fn load_row<G: Gate>(
     row_of(load_word(table, seat, gate, node, index), at)
 }
 
-/// The place beside place `at` of the locked node `number`, and the column of the fork between the two. `None` if the other side of the
-/// last fork on the path to `at` has several places. At most four sparse partial keys are loaded, and not the head.
-pub(crate) fn load_beside<G: Gate>(
+/// Returns the place beside place `at` of the locked node `number`, and the column of the fork between the two. `None` if the other side
+/// of the last fork on the path to `at` has several places. At most four rows are loaded.
+pub(crate) fn load_place_beside<G: Gate>(
     table: &HotTable,
     seat: &mut TableSeat,
     gate: &mut G,
@@ -88,7 +96,7 @@ pub(crate) fn load_beside<G: Gate>(
     requires range { number < table.now.layout.nodes }
     requires place { at < 32 }
     ensures reads { ReadsOn table.now G.becomes (seat.old, gate.old) (seat.new, gate.new) }
-    ensures beside { (words : List ℕ) → HasLocked seat.old.known number words → (node : NodeView) → IsNodeOf words node → at < length node.entries → IsBesideIn node at result }
+    ensures beside { (node : NodeView) → HasLockedNode seat.old.known number node → at < length node.entries → IsBesideIn node at result }
     ensures few { seat.new.known.steps ≤ seat.old.known.steps + 4 }
 {
     let start = table.start_of(Rec::Node(number));
@@ -112,7 +120,7 @@ pub(crate) fn load_position<G: Gate>(
     requires range { number < table.now.layout.nodes }
     requires column { column < 31 }
     ensures reads { ReadsOn table.now G.becomes (seat.old, gate.old) (seat.new, gate.new) }
-    ensures position { (words : List ℕ) → HasLocked seat.old.known number words → (node : NodeView) → IsNodeOf words node → result ≡ position_at node.columns column }
+    ensures position { (node : NodeView) → HasLockedNode seat.old.known number node → result ≡ position_at node.columns column }
     ensures few { seat.new.known.steps ≤ seat.old.known.steps + 1 }
 {
     let start = table.start_of(Rec::Node(number));
@@ -121,8 +129,8 @@ pub(crate) fn load_position<G: Gate>(
     position_of(load_word(table, seat, gate, node, index), column)
 }
 
-/// Loads the entry at `place` of the locked node `number`, which has that place.
-pub(crate) fn load_place<G: Gate>(
+/// Loads the entry at place `place` of the locked node `number`, which has that place.
+pub(crate) fn load_locked_entry<G: Gate>(
     table: &HotTable,
     seat: &mut TableSeat,
     gate: &mut G,
@@ -144,33 +152,32 @@ pub(crate) fn load_place<G: Gate>(
     read_some(table.load_ref(seat, gate, spot))
 }
 
-/// Loads eight words of the locked node `node` into `words` from index `first` on. If `first` isn't before `end`, where the words of the
-/// node's entries end, none is loaded. Inline, so that it is known where each stands.
+/// Loads eight words of the locked node of `loads` into `words`, from index `first` on. If `first` isn't before `loads.end`, none is
+/// loaded. Inline, so that it is known where each stands.
 #[inline(always)]
 fn load_eight<G: Gate>(
     table: &HotTable,
     seat: &mut TableSeat,
     gate: &mut G,
-    node: NodeAt,
+    loads: NodeLoads,
     words: &mut [u64; NODE_FIELDS],
     first: usize,
-    end: usize,
 )
     requires own { IsSeatOf table.now seat.old }
-    requires start { IsStartOf table.now.layout (a_node node.number) node.start }
+    requires start { IsStartOf table.now.layout (a_node loads.node.number) loads.node.start }
     requires range { first + 8 ≤ NODE_FIELDS }
     ensures own { IsSeatOf table.now seat.new }
-    ensures reads { ReadsEight table.now G.becomes node.number first end ((seat.old, gate.old), words.old) ((seat.new, gate.new), words.new) }
+    ensures reads { ReadsEight table.now G.becomes loads first ((seat.old, gate.old), words.old) ((seat.new, gate.new), words.new) }
 {
-    if first < end {
+    if first < loads.end {
         for place in 0..8 {
             let index = first + place;
-            words[index] = load_word(table, seat, gate, node, index);
+            words[index] = load_word(table, seat, gate, loads.node, index);
         }
     }
 }
 
-/// The node in record `number`, which the pass has locked.
+/// Loads the words of the locked node `number`, and returns the node that they spell.
 pub(crate) fn read_locked<G: Gate>(
     table: &HotTable,
     seat: &mut TableSeat,

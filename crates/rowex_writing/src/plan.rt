@@ -90,21 +90,21 @@ pub(crate) enum Outline {
     Beside { position: u16, level: usize },
 }
 
-/// What a call with the aim `aim` does whose search went through `way` and found `found`, as far as these tell it.
+/// Returns what a call with the aim `aim` does whose search went through `way` and found `found`, as far as these tell it.
 pub(crate) fn plan_call(way: &[PathNode], aim: Aim, found: Found) -> Outline
     ensures { IsOutline way.now aim found result }
 {
     match found {
         Found::Nothing => match aim {
             Aim::Remove => Outline::Known(Plan::Answer(Reply::Absent)),
-            _ => Outline::Known(change(0, 0, Deed::Put)),
+            _ => Outline::Known(plan_change(0, 0, Deed::Put)),
         },
         Found::Leaf {
             mismatch: Some(position),
             ..
         } => match aim {
             Aim::Remove => Outline::Known(Plan::Answer(Reply::Absent)),
-            _ => beside(way, position),
+            _ => plan_new_leaf(way, position),
         },
         Found::Leaf {
             value,
@@ -112,21 +112,21 @@ pub(crate) fn plan_call(way: &[PathNode], aim: Aim, found: Found) -> Outline
             ..
         } => match aim {
             Aim::Insert => Outline::Known(Plan::Answer(Reply::Exists(value))),
-            Aim::Upsert => Outline::Known(change(way.len(), way.len(), Deed::Put)),
+            Aim::Upsert => Outline::Known(plan_change(way.len(), way.len(), Deed::Put)),
             Aim::Remove => {
                 let end = way.len().saturating_sub(1);
-                Outline::Known(change(way.len(), end, Deed::Take))
+                Outline::Known(plan_change(way.len(), end, Deed::Take))
             }
         },
     }
 }
 
-/// What a call does whose new leaf's key first differs from that of the found leaf at `position`, as far as `way` tells it.
-fn beside(way: &[PathNode], position: u16) -> Outline
+/// Returns what a call does whose new leaf's key first differs from that of the found leaf at `position`, as far as `way` tells it.
+fn plan_new_leaf(way: &[PathNode], position: u16) -> Outline
     ensures { IsBesideFound way.now position result }
 {
     if way.is_empty() {
-        return Outline::Known(change(0, 0, Deed::PushDown { position }));
+        return Outline::Known(plan_change(0, 0, Deed::PushDown { position }));
     }
     let level = level_below(way, position);
     if level + 1 == way.len() && way[level].height <= 1 {
@@ -135,7 +135,7 @@ fn beside(way: &[PathNode], position: u16) -> Outline
     Outline::Beside { position, level }
 }
 
-/// What a call does whose new leaf goes into the last node of `way`, that at `level`, which has leaves alone. The plan is the same
+/// Returns what a call does whose new leaf goes into the last node of `way`, that at `level`, which has leaves alone. The plan is the same
 /// whichever of these `position` affects.
 fn plan_low(way: &[PathNode], position: u16, level: usize) -> Plan
     requires last { level + 1 ≡ length way.now }
@@ -144,14 +144,14 @@ fn plan_low(way: &[PathNode], position: u16, level: usize) -> Plan
 {
     let deed = Deed::Grow { position };
     if way[level].count < 32 {
-        change(level + 1, level, deed)
+        plan_change(level + 1, level, deed)
     } else {
-        change(level + 1, chain_end(way, level), deed)
+        plan_change(level + 1, chain_end(way, level), deed)
     }
 }
 
-/// What a call does whose new leaf goes beside entries of the node at `level` of `way`: those from `first` to `last`, which `position`
-/// affects.
+/// Returns what a call does whose new leaf goes beside entries of the node at `level` of `way`: those from `first` to `last`, which
+/// `position` affects.
 pub(crate) fn plan_beside(
     way: &[PathNode],
     position: u16,
@@ -166,15 +166,14 @@ pub(crate) fn plan_beside(
     let deed = Deed::Grow { position };
     let len = choice.level + 1;
     match choice.case {
-        Case::LeafPushdown => change(len, len, Deed::PushDown { position }),
-        Case::NormalInsert => change(len, choice.level, deed),
-        Case::Overflow => change(len, chain_end(way, choice.level), deed),
+        Case::LeafPushdown => plan_change(len, len, Deed::PushDown { position }),
+        Case::NormalInsert => plan_change(len, choice.level, deed),
+        Case::Overflow => plan_change(len, chain_end(way, choice.level), deed),
     }
 }
 
-/// The plan to do `deed` and remake the nodes of the way from index `end` up to, but not including, `len`. None is remade if `end` is
-/// `len`.
-fn change(len: usize, end: usize, deed: Deed) -> Plan
+/// Returns the plan that does `deed`, and remakes the nodes of the way from index `end` on, before `len`. None is remade if `end` is `len`.
+fn plan_change(len: usize, end: usize, deed: Deed) -> Plan
     ensures { result ≡ a_change len end deed }
 {
     Plan::Change {
@@ -183,7 +182,7 @@ fn change(len: usize, end: usize, deed: Deed) -> Plan
     }
 }
 
-/// What a call with the aim `aim` does whose search went through `way` and found `found`. Where the entries that a new leaf affects
+/// Returns what a call with the aim `aim` does whose search went through `way` and found `found`. If the entries that a new leaf affects
 /// matter, their node's head is loaded once more.
 pub(crate) fn find_plan<G: Gate>(
     table: &HotTable,

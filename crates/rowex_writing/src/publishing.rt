@@ -15,6 +15,7 @@ ghost use Rattle.publish_laws.specs.Stages.{HasReady};
 ghost use Rattle.tries.specs.Content.{item};
 ghost use Rattle.rowex_writing.specs.Building.{HasLeafMade, IsBuilding};
 ghost use Rattle.rowex_writing.specs.Changes.{HasChanged, HasRun, LacksLeaves};
+ghost use Rattle.rowex_writing.specs.Retiring.{MayStore, is_root as is_the_root};
 ghost use Rattle.rowex_writing.specs.Counts.{leaf_steps};
 ghost use Rattle.rowex_writing.specs.Deeds.{MayReplace, leaf_gone};
 ghost use Rattle.rowex_writing.specs.Going.{WorksOn};
@@ -36,8 +37,8 @@ use rowex_core::{Gate, Rec, Spot};
 use rowex_records::{fill_leaf, make_ready};
 use rowex_table::{HotTable, TableSeat};
 
-/// Makes a record for the new leaf of `key` and `value`, the first one of a change, and returns its number. `None` if no leaf record with
-/// room for `key` was free.
+/// Makes a record for the new leaf of `key` and `value`, the first record of a change, and returns its number. `None` if no leaf record
+/// with room for `key` was free.
 pub(crate) fn make_leaf<G: Gate>(
     table: &HotTable,
     seat: &mut TableSeat,
@@ -63,9 +64,9 @@ pub(crate) fn make_leaf<G: Gate>(
     Some(number)
 }
 
-/// Makes the records `made` ready, which the pass has made for a change, the last one first: then they may be linked. They are taken out
-/// of `made` one by one: to clear it would be a call for a record or two.
-pub(crate) fn ready_all<G: Gate>(
+/// Makes all records of a change ready, those in `made`, the last one first. Then they may be linked. They are taken out of `made` one by
+/// one, since to clear it would be a call for a record or two.
+fn ready_all<G: Gate>(
     table: &HotTable,
     seat: &mut TableSeat,
     gate: &mut G,
@@ -81,8 +82,8 @@ pub(crate) fn ready_all<G: Gate>(
     }
 }
 
-/// The word of `entry`, or of an empty root for `None`. The word is known to spell an entry, so a node's height is at least 1.
-pub(crate) fn stored_word(entry: Option<Entry>) -> u64
+/// The word of `entry`, or of an empty root for `None`. The word is known to spell an entry, so the height of a node is at least 1.
+fn stored_word(entry: Option<Entry>) -> u64
     requires { HasEntryWord (entry_of (entry_word entry)) }
     ensures { result ≡ entry_word entry }
 {
@@ -93,8 +94,8 @@ pub(crate) fn stored_word(entry: Option<Entry>) -> u64
     }
 }
 
-/// The end of each change: makes its records ready, stores the word of `raised.entry` above the span, and marks the records that the
-/// store unlinks. Then it unlocks the nodes that stay, the one above the span first, and the anchor, where that is locked.
+/// Publishes a change: makes its records ready, stores the word of `raised.entry` above the span, and marks the records that the store
+/// unlinks. Then it unlocks the nodes that stay, the one above the span first, and the anchor, if that is locked.
 pub(crate) fn publish_change<G: Gate>(
     table: &HotTable,
     seat: &mut TableSeat,
@@ -113,23 +114,63 @@ pub(crate) fn publish_change<G: Gate>(
 {
     let way = job.way;
     let span = job.span;
-    name_gone(build, &way[span.end..raised.low], raised.leaf);
+    list_gone(build, &way[span.end..raised.low], raised.leaf);
     let kept = list_kept(way, span, raised.low);
-    let spot = spot_above(way, span.end);
+    let store = Store {
+        spot: spot_above(way, span.end),
+        entry: raised.entry,
+    };
+    publish_entry(table, seat, gate, build, store, kept.as_slice());
+}
+
+/// The one store of a change.
+#[derive(Clone, Copy)]
+pub(crate) struct Store {
+    /// The spot whose word is stored.
+    pub spot: Spot,
+    /// The entry that is named there; `None` for an empty root.
+    pub entry: Option<Entry>,
+}
+
+/// Makes the one store of a change whose records are made. It makes them ready, stores the word of `store.entry`, and marks the records in
+/// `build.gone`, which the store unlinks. Then it unlocks the nodes `kept`, the first one first, and the anchor, if the root is stored.
+pub(crate) fn publish_entry<G: Gate>(
+    table: &HotTable,
+    seat: &mut TableSeat,
+    gate: &mut G,
+    build: &mut Build,
+    store: Store,
+    kept: &[PathNode],
+)
+    requires may { (x : Change) × (was : Option ℕ) × MayStore table.now seat.old build.old kept.now store x was }
+    ensures run { HasRun table.now G.becomes (seat.old, gate.old) (seat.new, gate.new) }
+    ensures changed { (x : Change) (was : Option ℕ) → MayStore table.now seat.old build.old kept.now store x was → HasChanged seat.old.known seat.new.known x was }
+    ensures few { seat.new.known.steps ≤ seat.old.known.steps + length build.old.made.items + length build.old.gone.items + length kept.now + 3 }
+{
     ready_all(table, seat, gate, &mut build.made);
-    table.publish(seat, gate, spot, stored_word(raised.entry));
+    table.publish(seat, gate, store.spot, stored_word(store.entry));
     retire(
         table,
         seat,
         gate,
         build.gone.as_slice(),
-        kept.as_slice(),
-        span.end == 0,
+        kept,
+        is_root(store.spot),
     );
 }
 
-/// Lists in `build.gone` what a change unlinks: the nodes of `steps`, and leaf record `leaf`, if there is one.
-fn name_gone(build: &mut Build, steps: &[PathNode], leaf: Option<u32>)
+/// Whether `spot` is the root.
+fn is_root(spot: Spot) -> bool
+    ensures { result ≡ is_the_root spot }
+{
+    match spot {
+        Spot::Root => true,
+        Spot::Slot { .. } => false,
+    }
+}
+
+/// Lists in `build.gone` the records that a change unlinks: those of the nodes of `steps`, and leaf record `leaf`, if there is one.
+fn list_gone(build: &mut Build, steps: &[PathNode], leaf: Option<u32>)
     requires { length steps.now ≤ 2160 }
     ensures gone { build.new.gone.items ≡ map (λ (s : PathNodeView). a_node s.number) steps.now ++ leaf_gone leaf }
     ensures made { build.new.made.items ≡ build.old.made.items }
@@ -143,7 +184,7 @@ fn name_gone(build: &mut Build, steps: &[PathNode], leaf: Option<u32>)
     }
 }
 
-/// The locked nodes that a change keeps: the one above the span, if there is one; and the span's lowest, if `low` is its index.
+/// Returns the locked nodes that a change keeps: the one above the span, if there is one, and the span's lowest, if `low` is its index.
 fn list_kept(way: &[PathNode], span: Span, low: usize) -> ArrayVec<PathNode, 2>
     requires { (span.end ≤ low) × (low ≤ span.len) × (span.len ≤ low + 1) × (span.len ≤ length way.now) }
     ensures { result.items ≡ slice_range way.now (span.end - 1) span.end ++ slice_range way.now low span.len }

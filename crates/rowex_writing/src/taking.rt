@@ -4,10 +4,9 @@ ghost use Rattle.std.specs.Prelude.{◌≡◌, ◌≢◌, Err, ◌<◌, ℕ, [],
 ghost use Rattle.version_laws.specs.Writer.{removed_change};
 ghost use Rattle.tries.specs.Content.{item};
 ghost use Rattle.rowex_writing.specs.Changes.{HasTakenPlan};
-ghost use Rattle.rowex_writing.specs.Counts.{deed_steps, level_steps};
+ghost use Rattle.rowex_writing.specs.Counts.{level_steps};
 ghost use Rattle.rowex_writing.specs.Deeds.{CarriesOut, HasNoneFree, MayReplace};
 ghost use Rattle.rowex_writing.specs.Going.{WorksOn};
-ghost use Rattle.rowex_writing.specs.Locks.{locks_of};
 ghost use Rattle.rowex_writing.specs.Taking.{HasLeafBelow};
 ghost use Rattle.rowex_writing.specs.declared.plan.Deed.TheVariants.{Take};
 
@@ -19,8 +18,8 @@ use rowex_core::Gate;
 use rowex_reading::Found;
 use rowex_table::{HotTable, TableSeat};
 
-/// Takes the found leaf out of its node: returns the entry for what is left, which is to take the node's place. If the leaf was the root,
-/// the root is to be empty. `Full::Nodes` if no node record was free for what is left.
+/// Takes the found leaf out of its node, and returns the entry for what is left, which is to take the node's place. If the leaf was the
+/// root, the root is to be empty. `Full::Nodes` if no node record was free for what is left.
 pub(crate) fn remove_leaf<G: Gate>(
     table: &HotTable,
     seat: &mut TableSeat,
@@ -38,7 +37,7 @@ pub(crate) fn remove_leaf<G: Gate>(
         unreachable!()
     };
     if job.span.len > 0 {
-        return remake_without(table, seat, gate, build, job, number);
+        return remake_without_leaf(table, seat, gate, build, job, number);
     }
     Ok(Raised {
         entry: None,
@@ -47,9 +46,9 @@ pub(crate) fn remove_leaf<G: Gate>(
     })
 }
 
-/// Returns the entry for what is left of the span's node without leaf `number`, which is to take the node's place. `Full::Nodes` if no
-/// node record was free for it.
-fn remake_without<G: Gate>(
+/// Makes what is left of the span's node without leaf `number`, and returns its entry, which is to take the node's place. `Full::Nodes` if
+/// no node record was free for it.
+fn remake_without_leaf<G: Gate>(
     table: &HotTable,
     seat: &mut TableSeat,
     gate: &mut G,
@@ -65,7 +64,6 @@ fn remake_without<G: Gate>(
         (removed_change seat.old.known.pass (item number job.now.key.now value)) (Some value)) }
     ensures full { IfErr result (λ full. (full ≡ Full.Nodes) × HasNoneFree table.now seat.old.known seat.new build.new.made.items job.now full) }
     ensures walk { seat.new.known.steps + 2 * build.new.left_nodes ≤ seat.old.known.steps + 2 * table.now.layout.nodes + level_steps + 1 }
-    ensures few { seat.new.known.steps ≤ seat.old.known.steps + deed_steps table.now.layout (locks_of job.now.span) result }
 {
     build.left_nodes = table.layout().nodes;
     let lowest = job.way[job.span.end];

@@ -1,4 +1,4 @@
-//! Locks beyond those of a span: of the node beside its lower one, and of what names its upper one.
+//! Locks beyond those of a removal's span: of the sibling of its lower node, and of what names its upper node.
 
 ghost use Rattle.std.specs.Prelude.{◌≡◌, ◌≢◌, ◌<◌, ◌≤◌, ◌+◌, ◌-◌, ◌∷◌, [], ℕ, List, true, false, None, Some, IsSome, length, slice_get};
 ghost use Rattle.insert_cases.specs.declared.choice.PathNode.{PathNode as PathNodeView};
@@ -13,25 +13,24 @@ ghost use Rattle.rowex_table.specs.Seats.{IsSeatOf};
 ghost use Rattle.rowex_writing.specs.Changes.{HasRun, HasTried};
 ghost use Rattle.rowex_writing.specs.Going.{HasLocked};
 ghost use Rattle.rowex_writing.specs.Jobs.{IsJobFrom};
-ghost use Rattle.rowex_writing.specs.Locks.{AreNodes, HasTheSame, LocksLast, Works, span_numbers};
+ghost use Rattle.rowex_writing.specs.Locks.{AreNodes, HasTheSame, KeepsRecords, LocksLast, Works, span_numbers};
 ghost use Rattle.rowex_reading.specs.declared.descent.Found.{Found as FoundView};
 ghost use Rattle.tries.specs.Keys.{Key as KeyView};
-ghost use Rattle.rowex_writing.specs.Merging.{IsNeighbour, IsTargetAbove, IsWide, LocksAbove, TakesOn, TriesMore};
-ghost use Rattle.rowex_writing.specs.declared.merging.Beside.{Beside as BesideView};
+ghost use Rattle.rowex_writing.specs.Merging.{IsFar, IsNeighbour, IsTargetAbove, IsWide, LocksAbove, TakesOn, TriesMore};
+ghost use Rattle.rowex_writing.specs.declared.merging.Merge.{Merge as MergeView};
 
-use crate::checking::{entry_stands, named_at, root_stands};
+use crate::checking::{entry_stands, naming_entry, root_stands};
 use crate::deeds::Job;
 use crate::locks::{lock_anchor, lock_node};
-use crate::merging::Beside;
+use crate::merging::Merge;
 use compound_node::Entry;
 use insert_cases::PathNode;
 use rowex_core::{Gate, Target};
 use rowex_table::{HotTable, TableSeat};
 
-/// Locks node `number`, beside the lower one of a removal's span, and then what names the upper one, and checks that this still does.
-/// Each is tried once at most. Returns whether both are locked. Where a lock is refused, or something else is named there, both are given
-/// back.
-pub(crate) fn widen<G: Gate>(
+/// Locks node `number`, the sibling of the lower node of a removal's span. Then it locks what names the upper node, and checks that this
+/// still does. Each is tried once at most. Returns whether both are locked. If one is refused, or something else is named, both are given back.
+pub(crate) fn widen_locks<G: Gate>(
     table: &HotTable,
     seat: &mut TableSeat,
     gate: &mut G,
@@ -39,15 +38,15 @@ pub(crate) fn widen<G: Gate>(
     number: u32,
 ) -> bool
     requires takes { TakesOn table.now seat.old job.now }
-    requires beside { (b : BesideView) × IsNeighbour seat.old.known job.now b × (b.number ≡ number) }
+    requires beside { (m : MergeView) × IsNeighbour seat.old.known job.now m × (m.number ≡ number) }
     ensures tries { TriesMore table.now G.becomes (span_numbers job.now.way.now job.now.span) result (seat.old, gate.old) (seat.new, gate.new) }
-    ensures later { IsLater seat.old.known seat.new.known × IsSeatOf table.now seat.new × IsPossible table.now.layout seat.new.known × (seat.new.known.own ≡ seat.old.known.own) }
+    ensures later { KeepsRecords table.now seat.old.known seat.new }
     ensures wide { result ≡ true → (w : IsWide table.now seat.new job.now number) ×
         (w.taking.before.known.locks ≡ seat.old.known.locks) × (w.taking.before.known.anchor ≡ seat.old.known.anchor) }
     ensures same { result ≡ false → HasTheSame seat.old.known seat.new.known }
     ensures few { seat.new.known.steps ≤ seat.old.known.steps + 5 }
 {
-    if is_near(job, number) {
+    if is_near_span(job, number) {
         return false;
     }
     if !lock_node(table, seat, gate, number) {
@@ -60,10 +59,11 @@ pub(crate) fn widen<G: Gate>(
     false
 }
 
-/// Whether `number` is that of a node of the way from index `span.end - 2` on, within the span: a removal's two or the one above.
-fn is_near(job: &Job<'_>, number: u32) -> bool
+/// Whether `number` is that of a node of `job`'s span, or of one of the two above it on the way.
+fn is_near_span(job: &Job<'_>, number: u32) -> bool
     requires within { (job.now.span.end ≤ job.now.span.len) × (job.now.span.len ≤ length job.now.way.now) }
-    ensures none { result ≡ false → (step : PathNodeView) (i : ℕ) → slice_get job.now.way.now i ≡ Some step → job.now.span.end ≤ i + 2 → i < job.now.span.len → number ≢ step.number }
+    ensures near { result ≡ true → ¬ IsFar job.now.way.now job.now.span number }
+    ensures none { result ≡ false → IsFar job.now.way.now job.now.span number }
 {
     for index in job.span.end.saturating_sub(2)..job.span.len {
         if job.way[index].number == number {
@@ -81,14 +81,15 @@ fn lock_above<G: Gate>(table: &HotTable, seat: &mut TableSeat, gate: &mut G, job
     requires way { (m : ℕ) × IsJobFrom table.now.layout seat.old.known m job.now }
     requires some { (0 < job.now.span.end) × (job.now.span.end ≤ length job.now.way.now) }
     requires free { seat.old.known.anchor ≡ None }
-    ensures tries { (target : TargetView) × HasTried table.now G.becomes (target ∷ []) (seat.old, gate.old) (seat.new, gate.new) × IsTargetAbove job.now.way.now (job.now.span.end - 1) target }
+    ensures tries { (target : TargetView) × HasTried table.now G.becomes (target ∷ []) (seat.old, gate.old) (seat.new, gate.new) ×
+        IsTargetAbove job.now.way.now (job.now.span.end - 1) target }
     ensures later { IsLater seat.old.known seat.new.known × (seat.new.known.own ≡ seat.old.known.own) }
     ensures above { result ≡ true → LocksAbove seat.old.known.locks job.now.key.now job.now.way.now job.now.found (job.now.span.end - 1) seat.new.known }
     ensures same { result ≡ false → HasTheSame seat.old.known seat.new.known }
     ensures few { seat.new.known.steps ≤ seat.old.known.steps + 3 }
 {
     let end = job.span.end - 1;
-    let named = named_at(job.way, job.found, end);
+    let named = naming_entry(job.way, job.found, end);
     if end == 0 {
         return lock_root(table, seat, gate, named);
     }
@@ -178,7 +179,8 @@ fn unlock_above<G: Gate>(
     requires range { end ≤ length way.now }
     requires above { (held : List Locked) × (key : KeyView) × (found : FoundView) × LocksAbove held key way.now found end seat.old.known }
     ensures works { Works table.now G.becomes (seat.old, gate.old) (seat.new, gate.new) }
-    ensures less { (held : List Locked) (key : KeyView) (found : FoundView) → LocksAbove held key way.now found end seat.old.known → (seat.new.known.locks ≡ held) × (seat.new.known.anchor ≡ None) }
+    ensures less { (held : List Locked) (key : KeyView) (found : FoundView) → LocksAbove held key way.now found end seat.old.known →
+        (seat.new.known.locks ≡ held) × (seat.new.known.anchor ≡ None) }
     ensures own { seat.new.known.own ≡ seat.old.known.own }
     ensures few { seat.new.known.steps ≤ seat.old.known.steps + 1 }
 {
@@ -189,8 +191,8 @@ fn unlock_above<G: Gate>(
     }
 }
 
-/// Unlocks what [`widen`] has locked: what names the upper node, and node `number`.
-pub(crate) fn narrow<G: Gate>(
+/// Unlocks what [`widen_locks`] has locked: what names the upper node, and node `number`.
+pub(crate) fn narrow_locks<G: Gate>(
     table: &HotTable,
     seat: &mut TableSeat,
     gate: &mut G,

@@ -31,17 +31,14 @@ returns-in-Answer-clause-run g c =
     attempted c.args.table.now g.G.Gate.becomes (c.args.seat.now, c.args.gate.now) (c.search_way-found.new.seat, c.search_way-found.new.gate) (c.find_plan.new.seat, c.find_plan.new.gate) c.search_way-found.ensures.searched none (omega arith) (omega (arith, c.find_plan.ensures.few))
 
 pub returns-in-Answer-clause-loaded : goal.returns-in-Answer-clause-loaded
-returns-in-Answer-clause-loaded g c = (begun_on c.args.table.now g.G.Gate.becomes c.find_plan.ensures.reads.0 c.find_plan.ensures.reads.1 (c.args.seat.now, c.args.gate.now) (c.search_way-found.new.seat, c.search_way-found.new.gate) (c.find_plan.new.seat, c.find_plan.new.gate)
-    (searched c.args.table.now g.G.Gate.becomes (c.args.seat.now, c.args.gate.now) (c.search_way-found.new.seat, c.search_way-found.new.gate) c.search_way-found.ensures.searched c.search_way-found.ensures.possible c.requires.own c.requires.rest) c.find_plan.ensures.reads.2).loaded
+returns-in-Answer-clause-loaded g c = (begun_on c.args.table.now g.G.Gate.becomes c.find_plan.ensures.reads.0 c.find_plan.ensures.reads.1 (c.args.seat.now, c.args.gate.now) (c.search_way-found.new.seat, c.search_way-found.new.gate) (c.find_plan.new.seat, c.find_plan.new.gate) c.search_way-found.ensures.searched c.search_way-found.ensures.possible c.requires.own c.requires.rest c.find_plan.ensures.reads.2).loaded
 
 pub returns-in-Answer-clause-rest : goal.returns-in-Answer-clause-rest
-returns-in-Answer-clause-rest g c = (begun_on c.args.table.now g.G.Gate.becomes c.find_plan.ensures.reads.0 c.find_plan.ensures.reads.1 (c.args.seat.now, c.args.gate.now) (c.search_way-found.new.seat, c.search_way-found.new.gate) (c.find_plan.new.seat, c.find_plan.new.gate)
-    (searched c.args.table.now g.G.Gate.becomes (c.args.seat.now, c.args.gate.now) (c.search_way-found.new.seat, c.search_way-found.new.gate) c.search_way-found.ensures.searched c.search_way-found.ensures.possible c.requires.own c.requires.rest) c.find_plan.ensures.reads.2).rest
+returns-in-Answer-clause-rest g c = (begun_on c.args.table.now g.G.Gate.becomes c.find_plan.ensures.reads.0 c.find_plan.ensures.reads.1 (c.args.seat.now, c.args.gate.now) (c.search_way-found.new.seat, c.search_way-found.new.gate) (c.find_plan.new.seat, c.find_plan.new.gate) c.search_way-found.ensures.searched c.search_way-found.ensures.possible c.requires.own c.requires.rest c.find_plan.ensures.reads.2).rest
 
 pub returns-in-Answer-clause-answered : goal.returns-in-Answer-clause-answered
 returns-in-Answer-clause-answered g c =
-    let b = begun_on c.args.table.now g.G.Gate.becomes c.find_plan.ensures.reads.0 c.find_plan.ensures.reads.1 (c.args.seat.now, c.args.gate.now) (c.search_way-found.new.seat, c.search_way-found.new.gate) (c.find_plan.new.seat, c.find_plan.new.gate)
-    (searched c.args.table.now g.G.Gate.becomes (c.args.seat.now, c.args.gate.now) (c.search_way-found.new.seat, c.search_way-found.new.gate) c.search_way-found.ensures.searched c.search_way-found.ensures.possible c.requires.own c.requires.rest) c.find_plan.ensures.reads.2 in
+    let b = begun_on c.args.table.now g.G.Gate.becomes c.find_plan.ensures.reads.0 c.find_plan.ensures.reads.1 (c.args.seat.now, c.args.gate.now) (c.search_way-found.new.seat, c.search_way-found.new.gate) (c.find_plan.new.seat, c.find_plan.new.gate) c.search_way-found.ensures.searched c.search_way-found.ensures.possible c.requires.own c.requires.rest c.find_plan.ensures.reads.2 in
     let m = since c.search_way-found.new.seat.known in
     let planned = plan_made c.args.table.now.layout _ _ m c.key_of-key.result.now _ _ _ _ _ c.as_slice-way.ensures.value c.search_way-found.ensures.way c.find_plan.ensures.planned in
     let found = found_later _ _ _ _ (reads_later c.find_plan.ensures.reads.2) (same_since c.find_plan.ensures.reads.2) c.search_way-found.ensures.found in
@@ -55,8 +52,7 @@ returns-in-Answer-clause-few g c =
 
 -- ---- the change
 pub try_plan-requires-clause-own : goal.try_plan-requires-clause-own
-try_plan-requires-clause-own g c = (begun_on c.args.table.now g.G.Gate.becomes c.find_plan.ensures.reads.0 c.find_plan.ensures.reads.1 (c.args.seat.now, c.args.gate.now) (c.search_way-found.new.seat, c.search_way-found.new.gate) (c.find_plan.new.seat, c.find_plan.new.gate)
-    (searched c.args.table.now g.G.Gate.becomes (c.args.seat.now, c.args.gate.now) (c.search_way-found.new.seat, c.search_way-found.new.gate) c.search_way-found.ensures.searched c.search_way-found.ensures.possible c.requires.own c.requires.rest) c.find_plan.ensures.reads.2).seat
+try_plan-requires-clause-own g c = (begun_on c.args.table.now g.G.Gate.becomes c.find_plan.ensures.reads.0 c.find_plan.ensures.reads.1 (c.args.seat.now, c.args.gate.now) (c.search_way-found.new.seat, c.search_way-found.new.gate) (c.find_plan.new.seat, c.find_plan.new.gate) c.search_way-found.ensures.searched c.search_way-found.ensures.possible c.requires.own c.requires.rest c.find_plan.ensures.reads.2).seat
 
 pub try_plan-requires-clause-within : goal.try_plan-requires-clause-within
 try_plan-requires-clause-within g c = subst (LiesOnWay c.as_slice-way.result.now) c.in-Change.is c.find_plan.ensures.within
@@ -72,13 +68,11 @@ try_plan-requires-clause-planned g c =
     )
 
 pub try_plan-requires-clause-rest : goal.try_plan-requires-clause-rest
-try_plan-requires-clause-rest g c = (begun_on c.args.table.now g.G.Gate.becomes c.find_plan.ensures.reads.0 c.find_plan.ensures.reads.1 (c.args.seat.now, c.args.gate.now) (c.search_way-found.new.seat, c.search_way-found.new.gate) (c.find_plan.new.seat, c.find_plan.new.gate)
-    (searched c.args.table.now g.G.Gate.becomes (c.args.seat.now, c.args.gate.now) (c.search_way-found.new.seat, c.search_way-found.new.gate) c.search_way-found.ensures.searched c.search_way-found.ensures.possible c.requires.own c.requires.rest) c.find_plan.ensures.reads.2).rest
+try_plan-requires-clause-rest g c = (begun_on c.args.table.now g.G.Gate.becomes c.find_plan.ensures.reads.0 c.find_plan.ensures.reads.1 (c.args.seat.now, c.args.gate.now) (c.search_way-found.new.seat, c.search_way-found.new.gate) (c.find_plan.new.seat, c.find_plan.new.gate) c.search_way-found.ensures.searched c.search_way-found.ensures.possible c.requires.own c.requires.rest c.find_plan.ensures.reads.2).rest
 
 pub try_plan-requires-clause-quiet : goal.try_plan-requires-clause-quiet
 try_plan-requires-clause-quiet g c =
-    let b = begun_on c.args.table.now g.G.Gate.becomes c.find_plan.ensures.reads.0 c.find_plan.ensures.reads.1 (c.args.seat.now, c.args.gate.now) (c.search_way-found.new.seat, c.search_way-found.new.gate) (c.find_plan.new.seat, c.find_plan.new.gate)
-    (searched c.args.table.now g.G.Gate.becomes (c.args.seat.now, c.args.gate.now) (c.search_way-found.new.seat, c.search_way-found.new.gate) c.search_way-found.ensures.searched c.search_way-found.ensures.possible c.requires.own c.requires.rest) c.find_plan.ensures.reads.2 in
+    let b = begun_on c.args.table.now g.G.Gate.becomes c.find_plan.ensures.reads.0 c.find_plan.ensures.reads.1 (c.args.seat.now, c.args.gate.now) (c.search_way-found.new.seat, c.search_way-found.new.gate) (c.find_plan.new.seat, c.find_plan.new.gate) c.search_way-found.ensures.searched c.search_way-found.ensures.possible c.requires.own c.requires.rest c.find_plan.ensures.reads.2 in
     no_change_made_later c.args.seat.now.known c.find_plan.new.seat.known b.later c.requires.quiet
 
 pub returns-in-Err-clause-run : goal.returns-in-Err-clause-run
@@ -87,14 +81,12 @@ returns-in-Err-clause-run g c =
 
 pub returns-in-Err-clause-loaded : goal.returns-in-Err-clause-loaded
 returns-in-Err-clause-loaded g c =
-    let b = begun_on c.args.table.now g.G.Gate.becomes c.find_plan.ensures.reads.0 c.find_plan.ensures.reads.1 (c.args.seat.now, c.args.gate.now) (c.search_way-found.new.seat, c.search_way-found.new.gate) (c.find_plan.new.seat, c.find_plan.new.gate)
-    (searched c.args.table.now g.G.Gate.becomes (c.args.seat.now, c.args.gate.now) (c.search_way-found.new.seat, c.search_way-found.new.gate) c.search_way-found.ensures.searched c.search_way-found.ensures.possible c.requires.own c.requires.rest) c.find_plan.ensures.reads.2 in
+    let b = begun_on c.args.table.now g.G.Gate.becomes c.find_plan.ensures.reads.0 c.find_plan.ensures.reads.1 (c.args.seat.now, c.args.gate.now) (c.search_way-found.new.seat, c.search_way-found.new.gate) (c.find_plan.new.seat, c.find_plan.new.gate) c.search_way-found.ensures.searched c.search_way-found.ensures.possible c.requires.own c.requires.rest c.find_plan.ensures.reads.2 in
     run_loaded c.args.table.now g.G.Gate.becomes c.args.seat.now.known (c.find_plan.new.seat, c.find_plan.new.gate) (c.try_plan.new.seat, c.try_plan.new.gate) b.loaded c.try_plan.ensures.run.1.1
 
 pub returns-in-Err-clause-refused : goal.returns-in-Err-clause-refused
 returns-in-Err-clause-refused g c =
-    let b = begun_on c.args.table.now g.G.Gate.becomes c.find_plan.ensures.reads.0 c.find_plan.ensures.reads.1 (c.args.seat.now, c.args.gate.now) (c.search_way-found.new.seat, c.search_way-found.new.gate) (c.find_plan.new.seat, c.find_plan.new.gate)
-    (searched c.args.table.now g.G.Gate.becomes (c.args.seat.now, c.args.gate.now) (c.search_way-found.new.seat, c.search_way-found.new.gate) c.search_way-found.ensures.searched c.search_way-found.ensures.possible c.requires.own c.requires.rest) c.find_plan.ensures.reads.2 in
+    let b = begun_on c.args.table.now g.G.Gate.becomes c.find_plan.ensures.reads.0 c.find_plan.ensures.reads.1 (c.args.seat.now, c.args.gate.now) (c.search_way-found.new.seat, c.search_way-found.new.gate) (c.find_plan.new.seat, c.find_plan.new.gate) c.search_way-found.ensures.searched c.search_way-found.ensures.possible c.requires.own c.requires.rest c.find_plan.ensures.reads.2 in
     rw (sym c.key_of-key.ensures) (c.in-Err.ensures.refused c.args.seat.now.known b.loaded b.later)
 
 pub returns-in-Err-clause-leafless : goal.returns-in-Err-clause-leafless
@@ -120,14 +112,12 @@ returns-in-Ok-clause-run g c =
 
 pub returns-in-Ok-clause-loaded : goal.returns-in-Ok-clause-loaded
 returns-in-Ok-clause-loaded g c =
-    let b = begun_on c.args.table.now g.G.Gate.becomes c.find_plan.ensures.reads.0 c.find_plan.ensures.reads.1 (c.args.seat.now, c.args.gate.now) (c.search_way-found.new.seat, c.search_way-found.new.gate) (c.find_plan.new.seat, c.find_plan.new.gate)
-    (searched c.args.table.now g.G.Gate.becomes (c.args.seat.now, c.args.gate.now) (c.search_way-found.new.seat, c.search_way-found.new.gate) c.search_way-found.ensures.searched c.search_way-found.ensures.possible c.requires.own c.requires.rest) c.find_plan.ensures.reads.2 in
+    let b = begun_on c.args.table.now g.G.Gate.becomes c.find_plan.ensures.reads.0 c.find_plan.ensures.reads.1 (c.args.seat.now, c.args.gate.now) (c.search_way-found.new.seat, c.search_way-found.new.gate) (c.find_plan.new.seat, c.find_plan.new.gate) c.search_way-found.ensures.searched c.search_way-found.ensures.possible c.requires.own c.requires.rest c.find_plan.ensures.reads.2 in
     run_loaded c.args.table.now g.G.Gate.becomes c.args.seat.now.known (c.find_plan.new.seat, c.find_plan.new.gate) (c.try_plan.new.seat, c.try_plan.new.gate) b.loaded c.try_plan.ensures.run.1.1
 
 pub returns-in-Ok-clause-answered : goal.returns-in-Ok-clause-answered
 returns-in-Ok-clause-answered g c =
-    let b = begun_on c.args.table.now g.G.Gate.becomes c.find_plan.ensures.reads.0 c.find_plan.ensures.reads.1 (c.args.seat.now, c.args.gate.now) (c.search_way-found.new.seat, c.search_way-found.new.gate) (c.find_plan.new.seat, c.find_plan.new.gate)
-    (searched c.args.table.now g.G.Gate.becomes (c.args.seat.now, c.args.gate.now) (c.search_way-found.new.seat, c.search_way-found.new.gate) c.search_way-found.ensures.searched c.search_way-found.ensures.possible c.requires.own c.requires.rest) c.find_plan.ensures.reads.2 in
+    let b = begun_on c.args.table.now g.G.Gate.becomes c.find_plan.ensures.reads.0 c.find_plan.ensures.reads.1 (c.args.seat.now, c.args.gate.now) (c.search_way-found.new.seat, c.search_way-found.new.gate) (c.find_plan.new.seat, c.find_plan.new.gate) c.search_way-found.ensures.searched c.search_way-found.ensures.possible c.requires.own c.requires.rest c.find_plan.ensures.reads.2 in
     let m = since c.search_way-found.new.seat.known in
     let planned = plan_made c.args.table.now.layout _ _ m c.key_of-key.result.now _ _ _ _ _ c.as_slice-way.ensures.value c.search_way-found.ensures.way c.find_plan.ensures.planned in
     rw c.reply_to-in-Ok.ensures (answered_change c.args.seat.now.known _ _ _ _ _ _ _ c.args.call.now _ _ _ _ _ b.later c.key_of-key.ensures c.value_in.ensures c.value_of-held.ensures (sym c.aim_of.ensures ∙ c.in-Some.is)

@@ -1,17 +1,15 @@
 -- What is left is published, as one with the node beside it or alone; or all is given back.
-use Rattle.std.proofs.Common.{◌≡◌, ◌-◌, Err, Ok, sym, subst, ap, arith, length}
-use Rattle.rowex_records.specs.Records.{HoldsJust}
+use Rattle.std.proofs.Common.{◌≡◌, ◌-◌, Err, Ok, sym, subst, arith, length}
 use Rattle.publish_laws.specs.Loops.{StaysLocked}
 use Rattle.rowex_writing.specs.Changes.{IsTakeChange}
 use Rattle.rowex_writing.specs.Locks.{span_numbers}
-use Rattle.rowex_writing.specs.Retiring.{AreInTable}
-use Rattle.rowex_writing.proofs.Confirming.{span_later}
+use Rattle.rowex_writing.specs.declared.plan.Deed.TheVariants.{Take}
 use Rattle.rowex_writing.proofs.Counting.{numbers_few}
 use Rattle.rowex_writing.proofs.Growths.{no_room}
-use Rattle.rowex_writing.proofs.Keeping.{changed_since, made_held, made_records, step_nodes}
+use Rattle.rowex_writing.proofs.Keeping.{changed_since}
 use Rattle.rowex_writing.proofs.Locking.{seat_of}
 use Rattle.rowex_writing.proofs.Making.{goes_possible}
-use Rattle.rowex_writing.proofs.Merged.{is_taking}
+use Rattle.rowex_writing.proofs.Merged.{holds_on, is_taking}
 use Rattle.rowex_writing.proofs.Runs.{goes_run, runs_trans, works_run}
 use Rattle.rowex_writing.proofs.Tried.{nodes_once, nodes_then}
 use Rattle.rowex_writing.proofs.attempts.make_removal.Goals as goal
@@ -57,57 +55,29 @@ returns-in-Ok-clause-done g c = λ ok.
     let later = c.remove_leaf.ensures.done.goes.stays.0 in
     (x, was, subst (λ q. IsTakeChange q job.key.now job.found x was) later.pass is, changed_since c.args.seat.now.known c.remove_leaf.new.seat.known c.end_removal.new.seat.known x was later changed)
 
-pub returns-in-Ok-clause-full : goal.returns-in-Ok-clause-full
-returns-in-Ok-clause-full g c = tt
-
-pub returns-in-Ok-clause-leafless : goal.returns-in-Ok-clause-leafless
-returns-in-Ok-clause-leafless g c = λ is. err_only _ _ is
-
-pub undo-requires-clause-own : goal.undo-requires-clause-own
-undo-requires-clause-own g c = seat_of c.args.table.now g.G.Gate.becomes (c.args.seat.now, c.args.gate.now) (c.remove_leaf.new.seat, c.remove_leaf.new.gate) c.remove_leaf.ensures.done.goes c.requires.taken.2.seat
-
-pub undo-requires-clause-records : goal.undo-requires-clause-records
-undo-requires-clause-records g c =
-    let none = c.in-Err.ensures.done.full.not_made in
-    subst (AreInTable c.args.table.now.layout) (sym c.as_slice.ensures.value) (made_records c.args.table.now c.remove_leaf.new.seat c.remove_leaf.new.build.made.items none.news none.building)
-
-pub undo-requires-clause-within : goal.undo-requires-clause-within
-undo-requires-clause-within g c = c.requires.taken.2.within
-
-pub undo-requires-clause-nodes : goal.undo-requires-clause-nodes
-undo-requires-clause-nodes g c =
-    let job = c.args.job.now in
-    let (m, aim, t, planned) = c.requires.taken in
-    step_nodes c.args.table.now.layout c.args.seat.now.known m job.key.now job.way.now job.found t.way_of
-
-pub undo-requires-clause-held : goal.undo-requires-clause-held
-undo-requires-clause-held g c =
-    let none = c.in-Err.ensures.done.full.not_made in
-    subst (HoldsJust c.remove_leaf.new.seat.known) (sym c.as_slice.ensures.value) (made_held c.args.table.now c.remove_leaf.new.seat c.remove_leaf.new.build.made.items none.news none.building)
-
-pub undo-requires-clause-locked : goal.undo-requires-clause-locked
-undo-requires-clause-locked g c = span_later _ _ c.args.job.now.way.now c.args.job.now.span c.remove_leaf.ensures.done.goes.stays c.requires.taken.2.locked
+pub undo_change-requires : goal.undo_change-requires
+undo_change-requires g c = record {
+  held = holds_on c.args.table.now g.G.Gate.becomes (c.args.seat.now, c.args.gate.now) (c.remove_leaf.new.seat, c.remove_leaf.new.gate) c.args.job.now Take c.remove_leaf.ensures.done.goes c.requires.taken;
+  made = c.in-Err.ensures.done.full.not_made;
+}
 
 pub returns-in-Err-clause-run : goal.returns-in-Err-clause-run
 returns-in-Err-clause-run g c = λ a h.
     let table = c.args.table.now in
     let numbers = span_numbers c.args.job.now.way.now c.args.job.now.span in
     let (t, same) = is_taking table c.args.seat.now c.args.job.now c.requires.taken c.requires.some in
-    let run = runs_trans table g.G.Gate.becomes (c.args.seat.now, c.args.gate.now) (c.remove_leaf.new.seat, c.remove_leaf.new.gate) (c.undo.new.seat, c.undo.new.gate)
+    let run = runs_trans table g.G.Gate.becomes (c.args.seat.now, c.args.gate.now) (c.remove_leaf.new.seat, c.remove_leaf.new.gate) (c.undo_change.new.seat, c.undo_change.new.gate)
     (goes_run table g.G.Gate.becomes (c.args.seat.now, c.args.gate.now) (c.remove_leaf.new.seat, c.remove_leaf.new.gate) c.remove_leaf.ensures.done.goes)
-    (works_run table g.G.Gate.becomes (c.remove_leaf.new.seat, c.remove_leaf.new.gate) (c.undo.new.seat, c.undo.new.gate) c.undo.ensures.works) in
+    (works_run table g.G.Gate.becomes (c.remove_leaf.new.seat, c.remove_leaf.new.gate) (c.undo_change.new.seat, c.undo_change.new.gate) c.undo_change.ensures.works) in
     let count = numbers_few c.args.job.now.way.now (c.args.job.now.span.end - 1) c.args.job.now.span.len (let w = t.below.taken.within.0 in omega (arith, w)) t.below.taken.within.1 in (
       length numbers,
-      nodes_once table g.G.Gate.becomes numbers a (c.undo.new.seat, c.undo.new.gate) (nodes_then table g.G.Gate.becomes numbers a (c.args.seat.now, c.args.gate.now) (c.undo.new.seat, c.undo.new.gate) h run),
+      nodes_once table g.G.Gate.becomes numbers a (c.undo_change.new.seat, c.undo_change.new.gate) (nodes_then table g.G.Gate.becomes numbers a (c.args.seat.now, c.args.gate.now) (c.undo_change.new.seat, c.undo_change.new.gate) h run),
       omega arith,
       omega arith,
-      omega (arith, c.in-Err.ensures.done.few, c.undo.ensures.few, ap length c.as_slice.ensures.value, c.in-Err.ensures.done.full.few, count, t.below.last, c.requires.some),
+      omega (arith, c.in-Err.ensures.done.few, c.undo_change.ensures.few, c.in-Err.ensures.done.full.few, count, t.below.last, c.requires.some),
     )
-
-pub returns-in-Err-clause-done : goal.returns-in-Err-clause-done
-returns-in-Err-clause-done g c = λ is. ok_only _ _ is
 
 pub returns-in-Err-clause-full : goal.returns-in-Err-clause-full
 returns-in-Err-clause-full g c =
-    no_room c.args.table.now g.G.Gate.becomes c.args.job.now.key.now (c.args.seat.now, c.args.gate.now) (c.remove_leaf.new.seat, c.remove_leaf.new.gate) (c.undo.new.seat, c.undo.new.gate) c.in-Err.full
-    c.remove_leaf.ensures.done.goes c.undo.ensures.works c.undo.ensures.rest c.in-Err.ensures.done.full.full_of
+    no_room c.args.table.now g.G.Gate.becomes c.args.job.now.key.now (c.args.seat.now, c.args.gate.now) (c.remove_leaf.new.seat, c.remove_leaf.new.gate) (c.undo_change.new.seat, c.undo_change.new.gate) c.in-Err.full
+    c.remove_leaf.ensures.done.goes c.undo_change.ensures.works c.undo_change.ensures.rest c.in-Err.ensures.done.full.full_of

@@ -16,9 +16,6 @@ ok_only x e is = absurd cc
 err_only : {X E A : Type 0} (x : X) (e : E) → Ok x ≡ Err e → A
 err_only x e is = absurd cc
 
-pub take_span-requires-clause-way : goal.take_span-requires-clause-way
-take_span-requires-clause-way g c = (c.requires.planned.0, c.requires.planned.2)
-
 -- ---- another pass is at work there
 pub returns-then-not-take_span-clause-run : goal.returns-then-not-take_span-clause-run
 returns-then-not-take_span-clause-run g c =
@@ -32,33 +29,33 @@ returns-then-not-take_span-clause-refused g c k loaded later =
     refused_busy c.args.table.now.layout c.args.job.now.key.now k _ _ m way.since loaded later c.take_span.ensures.later (c.take_span.ensures.busy c.if-not-take_span.true m way)
 
 -- ---- the change
-pub change_taken-requires : goal.change_taken-requires
-change_taken-requires g c =
+pub change_span-requires : goal.change_span-requires
+change_span-requires g c =
     let (m, aim, way, planned) = c.requires.planned in
     record { taken = (m, aim, c.take_span.ensures.taken c.if-not-take_span.false m way, planned_later _ _ _ _ _ _ _ _ c.take_span.ensures.later planned) }
 
 pub returns-in-Ok-clause-run : goal.returns-in-Ok-clause-run
 returns-in-Ok-clause-run g c =
     let depth = c.requires.planned.2.depth in
-    ended_run c.args.table.now g.G.Gate.becomes c.args.job.now (c.args.seat.now, c.args.gate.now) (c.take_span.new.seat, c.take_span.new.gate) (c.change_taken.new.seat, c.change_taken.new.gate) _ c.take_span.ensures.run (c.take_span.ensures.nodes c.if-not-take_span.false) c.if-not-take_span.false c.requires.within
-    (omega (arith, c.requires.within.1, depth)) c.change_taken.ensures.run
+    ended_run c.args.table.now g.G.Gate.becomes c.args.job.now (c.args.seat.now, c.args.gate.now) (c.take_span.new.seat, c.take_span.new.gate) (c.change_span.new.seat, c.change_span.new.gate) _ c.take_span.ensures.run (c.take_span.ensures.nodes c.if-not-take_span.false) c.if-not-take_span.false c.requires.within
+    (omega (arith, c.requires.within.1, depth)) c.change_span.ensures.run
 
 pub returns-in-Ok-clause-done : goal.returns-in-Ok-clause-done
 returns-in-Ok-clause-done g c = λ ok.
     let job = c.args.job.now in
-    let (x, was, is, changed) = c.change_taken.ensures.done c.in-Ok.is in (
+    let (x, was, is, changed) = c.change_span.ensures.done c.in-Ok.is in (
       x,
       was,
       subst (λ q. IsDeedChange q c.args.deed job.key.now job.value job.found x was) c.take_span.ensures.later.pass is,
-      changed_since c.args.seat.now.known c.take_span.new.seat.known c.change_taken.new.seat.known x was c.take_span.ensures.later changed,
+      changed_since c.args.seat.now.known c.take_span.new.seat.known c.change_span.new.seat.known x was c.take_span.ensures.later changed,
     )
 
 -- ---- no record was free
 pub returns-in-Err-clause-run : goal.returns-in-Err-clause-run
 returns-in-Err-clause-run g c =
     let depth = c.requires.planned.2.depth in
-    ended_run c.args.table.now g.G.Gate.becomes c.args.job.now (c.args.seat.now, c.args.gate.now) (c.take_span.new.seat, c.take_span.new.gate) (c.change_taken.new.seat, c.change_taken.new.gate) _ c.take_span.ensures.run (c.take_span.ensures.nodes c.if-not-take_span.false) c.if-not-take_span.false c.requires.within
-    (omega (arith, c.requires.within.1, depth)) c.change_taken.ensures.run
+    ended_run c.args.table.now g.G.Gate.becomes c.args.job.now (c.args.seat.now, c.args.gate.now) (c.take_span.new.seat, c.take_span.new.gate) (c.change_span.new.seat, c.change_span.new.gate) _ c.take_span.ensures.run (c.take_span.ensures.nodes c.if-not-take_span.false) c.if-not-take_span.false c.requires.within
+    (omega (arith, c.requires.within.1, depth)) c.change_span.ensures.run
 
 pub returns-in-Err-clause-refused : goal.returns-in-Err-clause-refused
 returns-in-Err-clause-refused g c k loaded later =
@@ -68,26 +65,12 @@ returns-in-Err-clause-refused g c k loaded later =
 pub returns-in-Err-clause-leafless : goal.returns-in-Err-clause-leafless
 returns-in-Err-clause-leafless g c take is =
     let same : c.refusal_of.result ≡ FullLeaves = cc in
-    c.change_taken.ensures.leafless take (c.in-Err.is ∙ ap Err (leaves_refused c.in-Err.full (sym c.refusal_of.ensures ∙ same)))
+    c.change_span.ensures.leafless take (c.in-Err.is ∙ ap Err (leaves_refused c.in-Err.full (sym c.refusal_of.ensures ∙ same)))
 
 pub returns-then-not-take_span-clause-rest : goal.returns-then-not-take_span-clause-rest
 returns-then-not-take_span-clause-rest g c = c.take_span.ensures.rest c.if-not-take_span.true
 
-pub returns-then-not-take_span-clause-done : goal.returns-then-not-take_span-clause-done
-returns-then-not-take_span-clause-done g c = λ is. ok_only _ _ is
-
 pub returns-in-Ok-clause-rest : goal.returns-in-Ok-clause-rest
 returns-in-Ok-clause-rest g c =
-    let (x, was, is, changed) = c.change_taken.ensures.done c.in-Ok.is in changed.rest
+    let (x, was, is, changed) = c.change_span.ensures.done c.in-Ok.is in changed.rest
 
-pub returns-in-Ok-clause-refused : goal.returns-in-Ok-clause-refused
-returns-in-Ok-clause-refused g c = tt
-
-pub returns-in-Ok-clause-leafless : goal.returns-in-Ok-clause-leafless
-returns-in-Ok-clause-leafless g c = λ take is. err_only _ _ is
-
-pub returns-in-Err-clause-rest : goal.returns-in-Err-clause-rest
-returns-in-Err-clause-rest g c = c.in-Err.ensures.full.rest
-
-pub returns-in-Err-clause-done : goal.returns-in-Err-clause-done
-returns-in-Err-clause-done g c = λ is. ok_only _ _ is

@@ -18,7 +18,7 @@ root_stands-requires-clause-locked g c = c.requires.held.locked.top (omega (arit
 
 pub returns-then-not-root_stands-clause-changed : goal.returns-then-not-root_stands-clause-changed
 returns-then-not-root_stands-clause-changed g c = λ m w f.
-    c.root_stands.ensures.changed m (subst (λ o. RootWas c.args.seat.now.known m o) (sym c.named_at.ensures) w.root) c.if-not-root_stands.true
+    c.root_stands.ensures.changed m (subst (λ o. RootWas c.args.seat.now.known m o) (sym c.naming_entry.ensures) w.root) c.if-not-root_stands.true
 
 pub entries_stand-requires-2 : goal.entries_stand-requires-2
 entries_stand-requires-2 g c =
@@ -45,7 +45,7 @@ returns-clause-checked g c = λ t.
     let later = c.root_stands.ensures.reads.goes.stays.0 in
     let moved = way_later c.args.table.now.layout c.args.seat.now.known c.root_stands.new.seat.known m c.args.job.now.key.now c.args.job.now.way.now c.args.job.now.found later w in
     record {
-      root = λ z. c.entries_stand-2.ensures.reads.goes.stays.2 ∙ (c.root_stands.ensures.same c.if-not-root_stands.false ∙ ap Some c.named_at.ensures);
+      root = λ z. c.entries_stand-2.ensures.reads.goes.stays.2 ∙ (c.root_stands.ensures.same c.if-not-root_stands.false ∙ ap Some c.naming_entry.ensures);
       entries = c.entries_stand-2.ensures.stand m moved t;
     }
 

@@ -7,5 +7,5 @@ use Rattle.rowex_writing.proofs.locked.load_eight.Given as goal
 abbrev pub invariant-loop-place : goal.invariant-loop-place
 invariant-loop-place g l = record {
   own : IsSeatOf l.table l.seat;
-  reads : (a : _) → AreRead l.table g.G.Gate.becomes a (l.fn.seat, l.fn.gate) l.fn.node.number l.fn.words l.first → AreRead l.table g.G.Gate.becomes a (l.seat, l.gate) l.fn.node.number l.words (l.first + l.place);
+  reads : (a : _) → AreRead l.table g.G.Gate.becomes a (l.fn.seat, l.fn.gate) l.fn.loads.node.number l.fn.words l.first → AreRead l.table g.G.Gate.becomes a (l.seat, l.gate) l.fn.loads.node.number l.words (l.first + l.place);
 }

@@ -10,7 +10,7 @@ pub returns-then-at-ge-MAX_ENTRIES : goal.returns-then-at-ge-MAX_ENTRIES
 returns-then-at-ge-MAX_ENTRIES g c = record {
   own = c.requires.own;
   reads = reads_none c.args.table.now g.G.Gate.becomes (c.args.seat.now, c.args.gate.now);
-  row = λ words h view is. sym (get_or_past view.rows c.args.at 4294967295 (omega (arith, c.if-at-ge-MAX_ENTRIES.true, same_count view is.has.lawful, is.has.lawful.room)));
+  row = λ view (words, h, is). sym (get_or_past view.rows c.args.at 4294967295 (omega (arith, c.if-at-ge-MAX_ENTRIES.true, same_count view is.has.lawful, is.has.lawful.room)));
   few = omega arith;
 }
 
@@ -18,5 +18,5 @@ pub returns-clause-own : goal.returns-clause-own
 returns-clause-own g c = seat_of c.args.table.now g.G.Gate.becomes (c.args.seat.now, c.args.gate.now) (c.load_word.new.seat, c.load_word.new.gate) c.load_word.ensures.reads.goes c.requires.own
 
 pub returns-clause-row : goal.returns-clause-row
-returns-clause-row g c = λ words h view is.
+returns-clause-row g c = λ view (words, h, is).
     c.row_of.ensures view is.has.lawful (head_word view words is (9 + c.args.at / 2) (omega (arith, c.if-at-ge-MAX_ENTRIES.false)) ∙ sym (c.load_word.ensures.word words h))

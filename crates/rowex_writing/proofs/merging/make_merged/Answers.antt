@@ -15,20 +15,20 @@ use Rattle.rowex_writing.proofs.merging.make_merged.Goals as goal
 pub raise_closed-requires-clause-building : goal.raise_closed-requires-clause-building
 raise_closed-requires-clause-building g c =
     let (news, b) = c.requires.building in
-    (news, building_on c.args.table.now g.G.Gate.becomes (c.args.seat.now, c.args.gate.now) (c.join_beside.new.seat, c.join_beside.new.gate) c.args.build.now.made.items news c.join_beside.ensures.reads.goes c.join_beside.ensures.reads.own b)
+    (news, building_on c.args.table.now g.G.Gate.becomes (c.args.seat.now, c.args.gate.now) (c.join_siblings.new.seat, c.join_siblings.new.gate) c.args.build.now.made.items news c.join_siblings.ensures.reads.goes c.join_siblings.ensures.reads.own b)
 
 pub raise_closed-requires-clause-range : goal.raise_closed-requires-clause-range
 raise_closed-requires-clause-range g c = upper_range c.args.table.now c.args.job.now c.requires.wide.taking
 
 pub raise_closed-requires-clause-locked : goal.raise_closed-requires-clause-locked
 raise_closed-requires-clause-locked g c =
-    let is = beside_on c.args.seat.now.known c.join_beside.new.seat.known c.args.job.now c.args.beside.now c.join_beside.ensures.reads.goes.stays.1 c.requires.beside in (is.words, is.has)
+    let is = beside_on c.args.seat.now.known c.join_siblings.new.seat.known c.args.job.now c.args.merge.now c.join_siblings.ensures.reads.goes.stays.1 c.requires.beside in (is.words, is.has)
 
 pub raise_closed-requires-clause-closes : goal.raise_closed-requires-clause-closes
 raise_closed-requires-clause-closes g c = (
   c.args.job.now.key.now,
-  subst (λ h. ClosesFork c.join_beside.new.seat.known (upper c.args.job.now) c.args.job.now.key.now c.args.beside.now.place (Node c.args.number h)) (sym c.height.ensures)
-      (closes_for c.args.table.now g.G.Gate.becomes (c.args.seat.now, c.args.gate.now) (c.join_beside.new.seat, c.join_beside.new.gate) c.args.job.now c.args.beside.now c.join_beside.ensures.reads.goes c.requires.wide c.requires.beside c.in-Some.joined c.in-Some.ensures.joined c.args.number),
+  subst (λ h. ClosesFork c.join_siblings.new.seat.known c.args.job.now.key.now (record { step = upper c.args.job.now; place = c.args.merge.now.place; entry = Node c.args.merge.now.made h })) (sym c.height.ensures)
+      (closes_for c.args.table.now g.G.Gate.becomes (c.args.seat.now, c.args.gate.now) (c.join_siblings.new.seat, c.join_siblings.new.gate) c.args.job.now c.args.merge.now c.join_siblings.ensures.reads.goes c.requires.wide c.requires.beside c.in-Some.joined c.in-Some.ensures.joined c.args.merge.now.made),
 )
 
 pub raise_closed-requires-clause-room : goal.raise_closed-requires-clause-room
@@ -36,11 +36,11 @@ raise_closed-requires-clause-room g c = omega (arith, ap length c.requires.made)
 
 pub returns-in_default-raise_closed-clause-goes : goal.returns-in_default-raise_closed-clause-goes
 returns-in_default-raise_closed-clause-goes g c =
-    goes_more c.args.table.now g.G.Gate.becomes (c.args.seat.now, c.args.gate.now) (c.join_beside.new.seat, c.join_beside.new.gate) (c.raise_closed.new.seat, c.raise_closed.new.gate) c.join_beside.ensures.reads.goes c.raise_closed.ensures.goes
+    goes_more c.args.table.now g.G.Gate.becomes (c.args.seat.now, c.args.gate.now) (c.join_siblings.new.seat, c.join_siblings.new.gate) (c.raise_closed.new.seat, c.raise_closed.new.gate) c.join_siblings.ensures.reads.goes c.raise_closed.ensures.goes
 
 pub fill_words-requires-clause-own : goal.fill_words-requires-clause-own
 fill_words-requires-clause-own g c =
-    let goes = goes_more c.args.table.now g.G.Gate.becomes (c.args.seat.now, c.args.gate.now) (c.join_beside.new.seat, c.join_beside.new.gate) (c.raise_closed.new.seat, c.raise_closed.new.gate) c.join_beside.ensures.reads.goes c.raise_closed.ensures.goes in
+    let goes = goes_more c.args.table.now g.G.Gate.becomes (c.args.seat.now, c.args.gate.now) (c.join_siblings.new.seat, c.join_siblings.new.gate) (c.raise_closed.new.seat, c.raise_closed.new.gate) c.join_siblings.ensures.reads.goes c.raise_closed.ensures.goes in
     seat_of c.args.table.now g.G.Gate.becomes (c.args.seat.now, c.args.gate.now) (c.raise_closed.new.seat, c.raise_closed.new.gate) goes c.requires.wide.seat
 
 pub fill_words-requires-clause-range : goal.fill_words-requires-clause-range
@@ -51,32 +51,32 @@ fill_words-requires-clause-range g c =
 pub fill_words-requires-clause-held : goal.fill_words-requires-clause-held
 fill_words-requires-clause-held g c =
     let (news, b) = c.requires.building in
-    let (us, m, rec_is, side, built) = closed_made c.args.table.now g.G.Gate.becomes (c.args.seat.now, c.args.gate.now) (c.join_beside.new.seat, c.join_beside.new.gate) c.args.job.now c.args.beside.now c.join_beside.ensures.reads.goes c.requires.wide c.requires.beside c.in-Some.joined c.in-Some.ensures.joined
-    c.args.build.now.made.items c.raise_closed.new.build.made.items news c.args.number c.height.result c.in-Some-raise_closed.entry c.raise_closed.new.seat c.height.ensures c.requires.made c.join_beside.ensures.reads.own b c.in-Some-raise_closed.ensures.made in
-    made_claimed c.args.table.now c.raise_closed.new.seat c.raise_closed.new.build.made.items us m c.args.number rec_is built
+    let (us, m, rec_is, side, built) = closed_made c.args.table.now g.G.Gate.becomes (c.args.seat.now, c.args.gate.now) (c.join_siblings.new.seat, c.join_siblings.new.gate) c.args.job.now c.args.merge.now c.join_siblings.ensures.reads.goes c.requires.wide c.requires.beside c.in-Some.joined c.in-Some.ensures.joined
+    c.args.build.now.made.items c.raise_closed.new.build.made.items news c.args.merge.now.made c.height.result c.in-Some-raise_closed.entry c.raise_closed.new.seat c.height.ensures c.requires.made c.join_siblings.ensures.reads.own b c.in-Some-raise_closed.ensures.made in
+    made_claimed c.args.table.now c.raise_closed.new.seat c.raise_closed.new.build.made.items us m c.args.merge.now.made rec_is built
 
 pub fill_words-requires-clause-spelling : goal.fill_words-requires-clause-spelling
 fill_words-requires-clause-spelling g c = (c.in-Some.joined, c.pack_node.ensures.fits, sym c.pack_node.ensures.words)
 
 pub returns-clause-goes : goal.returns-clause-goes
 returns-clause-goes g c =
-    let goes = goes_more c.args.table.now g.G.Gate.becomes (c.args.seat.now, c.args.gate.now) (c.join_beside.new.seat, c.join_beside.new.gate) (c.raise_closed.new.seat, c.raise_closed.new.gate) c.join_beside.ensures.reads.goes c.raise_closed.ensures.goes in
+    let goes = goes_more c.args.table.now g.G.Gate.becomes (c.args.seat.now, c.args.gate.now) (c.join_siblings.new.seat, c.join_siblings.new.gate) (c.raise_closed.new.seat, c.raise_closed.new.gate) c.join_siblings.ensures.reads.goes c.raise_closed.ensures.goes in
     goes_more c.args.table.now g.G.Gate.becomes (c.args.seat.now, c.args.gate.now) (c.raise_closed.new.seat, c.raise_closed.new.gate) (c.fill_words.new.seat, c.fill_words.new.gate) goes (set_all_on c.args.table.now g.G.Gate.becomes _ _ _ _ c.fill_words.ensures.fills)
 
 pub returns-clause-may : goal.returns-clause-may
 returns-clause-may g c =
     let table = c.args.table.now in
     let (news, b) = c.requires.building in
-    let (us, m, rec_is, side, built) = closed_made table g.G.Gate.becomes (c.args.seat.now, c.args.gate.now) (c.join_beside.new.seat, c.join_beside.new.gate) c.args.job.now c.args.beside.now c.join_beside.ensures.reads.goes c.requires.wide c.requires.beside c.in-Some.joined c.in-Some.ensures.joined
-    c.args.build.now.made.items c.raise_closed.new.build.made.items news c.args.number c.height.result c.in-Some-raise_closed.entry c.raise_closed.new.seat c.height.ensures c.requires.made c.join_beside.ensures.reads.own b c.in-Some-raise_closed.ensures.made in
-    let filled = refilled table g.G.Gate.becomes (c.raise_closed.new.seat, c.raise_closed.new.gate) (c.fill_words.new.seat, c.fill_words.new.gate) c.raise_closed.new.build.made.items us m c.args.number c.pack_node.result rec_is c.fill_words.ensures.fills c.fill_words.ensures.filled.1 built in
-    let whole = subst (λ ws. IsBuilding table c.fill_words.new.seat c.raise_closed.new.build.made.items (us ++ record { rec = a_node c.args.number; words = ws } ∷ [])) c.pack_node.ensures.words filled in
-    let first = goes_more table g.G.Gate.becomes (c.args.seat.now, c.args.gate.now) (c.join_beside.new.seat, c.join_beside.new.gate) (c.raise_closed.new.seat, c.raise_closed.new.gate) c.join_beside.ensures.reads.goes c.raise_closed.ensures.goes in
+    let (us, m, rec_is, side, built) = closed_made table g.G.Gate.becomes (c.args.seat.now, c.args.gate.now) (c.join_siblings.new.seat, c.join_siblings.new.gate) c.args.job.now c.args.merge.now c.join_siblings.ensures.reads.goes c.requires.wide c.requires.beside c.in-Some.joined c.in-Some.ensures.joined
+    c.args.build.now.made.items c.raise_closed.new.build.made.items news c.args.merge.now.made c.height.result c.in-Some-raise_closed.entry c.raise_closed.new.seat c.height.ensures c.requires.made c.join_siblings.ensures.reads.own b c.in-Some-raise_closed.ensures.made in
+    let filled = refilled table g.G.Gate.becomes (c.raise_closed.new.seat, c.raise_closed.new.gate) (c.fill_words.new.seat, c.fill_words.new.gate) c.raise_closed.new.build.made.items us m c.args.merge.now.made c.pack_node.result rec_is c.fill_words.ensures.fills c.fill_words.ensures.filled.1 built in
+    let whole = subst (λ ws. IsBuilding table c.fill_words.new.seat c.raise_closed.new.build.made.items (us ++ record { rec = a_node c.args.merge.now.made; words = ws } ∷ [])) c.pack_node.ensures.words filled in
+    let first = goes_more table g.G.Gate.becomes (c.args.seat.now, c.args.gate.now) (c.join_siblings.new.seat, c.join_siblings.new.gate) (c.raise_closed.new.seat, c.raise_closed.new.gate) c.join_siblings.ensures.reads.goes c.raise_closed.ensures.goes in
     let goes = goes_more table g.G.Gate.becomes (c.args.seat.now, c.args.gate.now) (c.raise_closed.new.seat, c.raise_closed.new.gate) (c.fill_words.new.seat, c.fill_words.new.gate) first (set_all_on table g.G.Gate.becomes _ _ _ _ c.fill_words.ensures.fills) in
     let word = word_of c.in-Some-raise_closed.entry c.has_number.ensures c.in-Some-raise_closed.ensures.height in
-    may_merge_into table c.fill_words.new.seat c.args.job.now c.args.beside.now.number
-    (wide_now table g.G.Gate.becomes (c.args.seat.now, c.args.gate.now) (c.fill_words.new.seat, c.fill_words.new.gate) c.args.job.now c.args.beside.now goes c.requires.wide c.requires.beside c.in-Some.joined c.in-Some.ensures.joined) c.args.beside.now refl
-    (beside_now table g.G.Gate.becomes (c.args.seat.now, c.args.gate.now) (c.fill_words.new.seat, c.fill_words.new.gate) c.args.job.now c.args.beside.now goes c.requires.wide c.requires.beside c.in-Some.joined c.in-Some.ensures.joined)
-    c.raise_closed.new.build.made.items us c.args.number c.in-Some.joined c.in-Some-raise_closed.entry whole c.pack_node.ensures.fits
-    (merged_for table g.G.Gate.becomes (c.args.seat.now, c.args.gate.now) (c.fill_words.new.seat, c.fill_words.new.gate) c.args.job.now c.args.beside.now goes c.requires.wide c.requires.beside c.in-Some.joined c.in-Some.ensures.joined)
+    may_merge_into table c.fill_words.new.seat c.args.job.now c.args.merge.now.number
+    (wide_now table g.G.Gate.becomes (c.args.seat.now, c.args.gate.now) (c.fill_words.new.seat, c.fill_words.new.gate) c.args.job.now c.args.merge.now goes c.requires.wide c.requires.beside c.in-Some.joined c.in-Some.ensures.joined) c.args.merge.now refl
+    (beside_now table g.G.Gate.becomes (c.args.seat.now, c.args.gate.now) (c.fill_words.new.seat, c.fill_words.new.gate) c.args.job.now c.args.merge.now goes c.requires.wide c.requires.beside c.in-Some.joined c.in-Some.ensures.joined)
+    c.raise_closed.new.build.made.items us c.args.merge.now.made c.in-Some.joined c.in-Some-raise_closed.entry whole c.pack_node.ensures.fits
+    (merged_for table g.G.Gate.becomes (c.args.seat.now, c.args.gate.now) (c.fill_words.new.seat, c.fill_words.new.gate) c.args.job.now c.args.merge.now goes c.requires.wide c.requires.beside c.in-Some.joined c.in-Some.ensures.joined)
     side word (omega (arith, c.raise_closed.ensures.more, ap length c.requires.made))

@@ -2,6 +2,7 @@
 use Rattle.std.proofs.Common.{◌≡◌, true, false, refl, sym, ◌∙◌, subst}
 use Rattle.rowex_reading.proofs.Seeing.{later_trans}
 use Rattle.rowex_writing.specs.Changes.{IsDeedChange}
+use Rattle.rowex_writing.specs.Merging.{MayMergeInto}
 use Rattle.rowex_writing.specs.declared.plan.Deed.TheVariants.{Take}
 use Rattle.rowex_writing.proofs.Keeping.{changed_since}
 use Rattle.rowex_writing.proofs.Merged.{wide_on}
@@ -11,8 +12,17 @@ use Rattle.rowex_writing.proofs.merging.merge_under_locks.Goals as goal
 not_taken : {A : Type 0} → false ≡ true → A
 not_taken e = absurd (cc)
 
-pub publish_merged-requires-clause-wide : goal.publish_merged-requires-clause-wide
-publish_merged-requires-clause-wide g c = wide_on c.args.table.now g.G.Gate.becomes (c.args.seat.now, c.args.gate.now) (c.make_merged.new.seat, c.make_merged.new.gate) c.args.job.now c.args.beside.now.number c.make_merged.ensures.goes c.requires.wide
+pub publish_merged-requires : goal.publish_merged-requires
+publish_merged-requires g c =
+    let number = c.args.merge.now.number in
+    record {
+      may = (
+        number,
+        wide_on c.args.table.now g.G.Gate.becomes (c.args.seat.now, c.args.gate.now) (c.make_merged.new.seat, c.make_merged.new.gate) c.args.job.now number c.make_merged.ensures.goes c.requires.wide,
+        subst (λ made. MayMergeInto c.args.table.now c.make_merged.new.seat made c.args.job.now number c.in-Some.entry) (sym c.list_merged.ensures.made) c.in-Some.ensures.may,
+        c.list_merged.ensures.gone,
+      );
+    }
 
 pub returns-in-Some-clause-run : goal.returns-in-Some-clause-run
 returns-in-Some-clause-run g c =
@@ -26,28 +36,19 @@ returns-in-Some-clause-done g c = λ e.
     let later = c.make_merged.ensures.goes.stays.0 in
     (x, was, subst (λ q. IsDeedChange q Take job.key.now job.value job.found x was) later.pass is, changed_since c.args.seat.now.known c.make_merged.new.seat.known c.publish_merged.new.seat.known x was later changed)
 
-pub returns-in-Some-clause-later : goal.returns-in-Some-clause-later
-returns-in-Some-clause-later g c = λ e. not_taken (sym e)
-
-pub returns-in-Some-clause-same : goal.returns-in-Some-clause-same
-returns-in-Some-clause-same g c = λ e. not_taken (sym e)
-
-pub narrow-requires : goal.narrow-requires
-narrow-requires g c = record { wide = wide_on c.args.table.now g.G.Gate.becomes (c.args.seat.now, c.args.gate.now) (c.make_merged.new.seat, c.make_merged.new.gate) c.args.job.now c.args.beside.now.number c.make_merged.ensures.goes c.requires.wide }
+pub narrow_locks-requires : goal.narrow_locks-requires
+narrow_locks-requires g c = record { wide = wide_on c.args.table.now g.G.Gate.becomes (c.args.seat.now, c.args.gate.now) (c.make_merged.new.seat, c.make_merged.new.gate) c.args.job.now c.args.merge.now.number c.make_merged.ensures.goes c.requires.wide }
 
 pub returns-clause-run : goal.returns-clause-run
 returns-clause-run g c =
-    runs_trans c.args.table.now g.G.Gate.becomes (c.args.seat.now, c.args.gate.now) (c.make_merged.new.seat, c.make_merged.new.gate) (c.narrow.new.seat, c.narrow.new.gate)
-    (goes_run c.args.table.now g.G.Gate.becomes (c.args.seat.now, c.args.gate.now) (c.make_merged.new.seat, c.make_merged.new.gate) c.make_merged.ensures.goes) c.narrow.ensures.run
-
-pub returns-clause-done : goal.returns-clause-done
-returns-clause-done g c = λ e. not_taken e
+    runs_trans c.args.table.now g.G.Gate.becomes (c.args.seat.now, c.args.gate.now) (c.make_merged.new.seat, c.make_merged.new.gate) (c.narrow_locks.new.seat, c.narrow_locks.new.gate)
+    (goes_run c.args.table.now g.G.Gate.becomes (c.args.seat.now, c.args.gate.now) (c.make_merged.new.seat, c.make_merged.new.gate) c.make_merged.ensures.goes) c.narrow_locks.ensures.run
 
 pub returns-clause-later : goal.returns-clause-later
-returns-clause-later g c = λ e. later_trans c.make_merged.ensures.goes.stays.0 c.narrow.ensures.later
+returns-clause-later g c = λ e. later_trans c.make_merged.ensures.goes.stays.0 c.narrow_locks.ensures.later
 
 pub returns-clause-same : goal.returns-clause-same
 returns-clause-same g c = λ e w.
     let kept = c.in_default.ensures.same refl in
-    let s = c.narrow.ensures.same (wide_on c.args.table.now g.G.Gate.becomes (c.args.seat.now, c.args.gate.now) (c.make_merged.new.seat, c.make_merged.new.gate) c.args.job.now c.args.beside.now.number c.make_merged.ensures.goes w) in
+    let s = c.narrow_locks.ensures.same (wide_on c.args.table.now g.G.Gate.becomes (c.args.seat.now, c.args.gate.now) (c.make_merged.new.seat, c.make_merged.new.gate) c.args.job.now c.args.merge.now.number c.make_merged.ensures.goes w) in
     (s.0, s.1, s.2 ∙ kept.0, kept.1)

@@ -1,5 +1,6 @@
 -- The node beside, the wider locks, and the store under them.
-use Rattle.std.proofs.Common.{◌≡◌, true, false, refl, sym, ◌∙◌, subst, arith}
+use Rattle.std.proofs.Common.{◌≡◌, ◌∷◌, [], true, false, refl, sym, ap, ◌∙◌, subst, arith}
+use Rattle.versions.specs.declared.Rec.TheVariants.{Node as a_node}
 use Rattle.rowex_reading.proofs.Seeing.{later_trans}
 use Rattle.publish_laws.proofs.Loops.{later_if_same}
 use Rattle.rowex_writing.specs.Changes.{IsDeedChange}
@@ -21,100 +22,88 @@ pub returns-in_default-clause-tries : goal.returns-in_default-clause-tries
 returns-in_default-clause-tries g c =
     few_none c.args.table.now g.G.Gate.becomes (span_numbers c.args.job.now.way.now c.args.job.now.span) c.args.build.now.left_nodes 60 (c.args.seat.now, c.args.gate.now) (c.args.seat.now, c.args.gate.now) (run_none c.args.table.now g.G.Gate.becomes (c.args.seat.now, c.args.gate.now)) (omega arith)
 
-pub returns-in_default-clause-done : goal.returns-in_default-clause-done
-returns-in_default-clause-done g c = λ e. not_taken e
-
 pub returns-in_default-clause-later : goal.returns-in_default-clause-later
 returns-in_default-clause-later g c = λ e. (later_if_same c.args.seat.now.known c.args.seat.now.known refl, c.requires.takes.1, c.requires.takes.2)
 
 pub returns-in_default-clause-same : goal.returns-in_default-clause-same
 returns-in_default-clause-same g c = λ e. ((refl, refl, refl), refl)
 
-pub find_beside-requires : goal.find_beside-requires
-find_beside-requires g c = record { takes = c.requires.takes }
+pub returns-in_default-find_merge-clause-tries : goal.returns-in_default-find_merge-clause-tries
+returns-in_default-find_merge-clause-tries g c =
+    few_none c.args.table.now g.G.Gate.becomes (span_numbers c.args.job.now.way.now c.args.job.now.span) c.args.build.now.left_nodes 60 (c.args.seat.now, c.args.gate.now) (c.find_merge.new.seat, c.find_merge.new.gate)
+    (goes_run c.args.table.now g.G.Gate.becomes (c.args.seat.now, c.args.gate.now) (c.find_merge.new.seat, c.find_merge.new.gate) c.find_merge.ensures.reads.goes) (omega (arith, c.find_merge.ensures.few))
 
-pub returns-in_default-find_beside-clause-tries : goal.returns-in_default-find_beside-clause-tries
-returns-in_default-find_beside-clause-tries g c =
-    few_none c.args.table.now g.G.Gate.becomes (span_numbers c.args.job.now.way.now c.args.job.now.span) c.args.build.now.left_nodes 60 (c.args.seat.now, c.args.gate.now) (c.find_beside.new.seat, c.find_beside.new.gate)
-    (goes_run c.args.table.now g.G.Gate.becomes (c.args.seat.now, c.args.gate.now) (c.find_beside.new.seat, c.find_beside.new.gate) c.find_beside.ensures.reads.goes) (omega (arith, c.find_beside.ensures.few))
+pub returns-in_default-find_merge-clause-later : goal.returns-in_default-find_merge-clause-later
+returns-in_default-find_merge-clause-later g c = λ e.
+    let now = takes_on c.args.table.now g.G.Gate.becomes (c.args.seat.now, c.args.gate.now) (c.find_merge.new.seat, c.find_merge.new.gate) c.args.job.now c.find_merge.ensures.reads.goes c.requires.takes in
+    (c.find_merge.ensures.reads.goes.stays.0, now.1, now.2)
 
-pub returns-in_default-find_beside-clause-done : goal.returns-in_default-find_beside-clause-done
-returns-in_default-find_beside-clause-done g c = λ e. not_taken e
+pub returns-in_default-find_merge-clause-same : goal.returns-in_default-find_merge-clause-same
+returns-in_default-find_merge-clause-same g c = λ e. let reads = c.find_merge.ensures.reads in ((reads.goes.stays.1, reads.goes.stays.2, reads.own), refl)
 
-pub returns-in_default-find_beside-clause-later : goal.returns-in_default-find_beside-clause-later
-returns-in_default-find_beside-clause-later g c = λ e.
-    let now = takes_on c.args.table.now g.G.Gate.becomes (c.args.seat.now, c.args.gate.now) (c.find_beside.new.seat, c.find_beside.new.gate) c.args.job.now c.find_beside.ensures.reads.goes c.requires.takes in
-    (c.find_beside.ensures.reads.goes.stays.0, now.1, now.2)
+pub widen_locks-requires-clause-takes : goal.widen_locks-requires-clause-takes
+widen_locks-requires-clause-takes g c = takes_on c.args.table.now g.G.Gate.becomes (c.args.seat.now, c.args.gate.now) (c.find_merge.new.seat, c.find_merge.new.gate) c.args.job.now c.find_merge.ensures.reads.goes c.requires.takes
 
-pub returns-in_default-find_beside-clause-same : goal.returns-in_default-find_beside-clause-same
-returns-in_default-find_beside-clause-same g c = λ e. let reads = c.find_beside.ensures.reads in ((reads.goes.stays.1, reads.goes.stays.2, reads.own), refl)
+pub widen_locks-requires-clause-beside : goal.widen_locks-requires-clause-beside
+widen_locks-requires-clause-beside g c = (c.in-Some-find_merge.merge, c.in-Some-find_merge.ensures.beside.0, refl)
 
-pub widen-requires-clause-takes : goal.widen-requires-clause-takes
-widen-requires-clause-takes g c = takes_on c.args.table.now g.G.Gate.becomes (c.args.seat.now, c.args.gate.now) (c.find_beside.new.seat, c.find_beside.new.gate) c.args.job.now c.find_beside.ensures.reads.goes c.requires.takes
+pub returns-then-not-widen_locks-clause-tries : goal.returns-then-not-widen_locks-clause-tries
+returns-then-not-widen_locks-clause-tries g c =
+    few_more c.args.table.now g.G.Gate.becomes (span_numbers c.args.job.now.way.now c.args.job.now.span) c.args.build.now.left_nodes 60 c.widen_locks.result (c.args.seat.now, c.args.gate.now) (c.find_merge.new.seat, c.find_merge.new.gate) (c.widen_locks.new.seat, c.widen_locks.new.gate)
+    (goes_run c.args.table.now g.G.Gate.becomes (c.args.seat.now, c.args.gate.now) (c.find_merge.new.seat, c.find_merge.new.gate) c.find_merge.ensures.reads.goes) c.widen_locks.ensures.tries (omega (arith, c.find_merge.ensures.few, c.widen_locks.ensures.few))
 
-pub widen-requires-clause-beside : goal.widen-requires-clause-beside
-widen-requires-clause-beside g c = (c.in-Some-find_beside.beside, c.in-Some-find_beside.ensures.beside, refl)
+pub returns-then-not-widen_locks-clause-later : goal.returns-then-not-widen_locks-clause-later
+returns-then-not-widen_locks-clause-later g c = λ e. (later_trans c.find_merge.ensures.reads.goes.stays.0 c.widen_locks.ensures.later.0, c.widen_locks.ensures.later.1, c.widen_locks.ensures.later.2)
 
-pub returns-then-not-widen-clause-tries : goal.returns-then-not-widen-clause-tries
-returns-then-not-widen-clause-tries g c =
-    few_more c.args.table.now g.G.Gate.becomes (span_numbers c.args.job.now.way.now c.args.job.now.span) c.args.build.now.left_nodes 60 c.widen.result (c.args.seat.now, c.args.gate.now) (c.find_beside.new.seat, c.find_beside.new.gate) (c.widen.new.seat, c.widen.new.gate)
-    (goes_run c.args.table.now g.G.Gate.becomes (c.args.seat.now, c.args.gate.now) (c.find_beside.new.seat, c.find_beside.new.gate) c.find_beside.ensures.reads.goes) c.widen.ensures.tries (omega (arith, c.find_beside.ensures.few, c.widen.ensures.few))
-
-pub returns-then-not-widen-clause-done : goal.returns-then-not-widen-clause-done
-returns-then-not-widen-clause-done g c = λ e. not_taken e
-
-pub returns-then-not-widen-clause-later : goal.returns-then-not-widen-clause-later
-returns-then-not-widen-clause-later g c = λ e. (later_trans c.find_beside.ensures.reads.goes.stays.0 c.widen.ensures.later.0, c.widen.ensures.later.1, c.widen.ensures.later.2)
-
-pub returns-then-not-widen-clause-same : goal.returns-then-not-widen-clause-same
-returns-then-not-widen-clause-same g c = λ e.
-    let reads = c.find_beside.ensures.reads in
-    let s = c.widen.ensures.same c.if-not-widen.true in
+pub returns-then-not-widen_locks-clause-same : goal.returns-then-not-widen_locks-clause-same
+returns-then-not-widen_locks-clause-same g c = λ e.
+    let reads = c.find_merge.ensures.reads in
+    let s = c.widen_locks.ensures.same c.if-not-widen_locks.true in
     ((s.0 ∙ reads.goes.stays.1, s.1 ∙ reads.goes.stays.2, s.2 ∙ reads.own), refl)
 
 pub merge_under_locks-requires-clause-wide : goal.merge_under_locks-requires-clause-wide
-merge_under_locks-requires-clause-wide g c = (c.widen.ensures.wide c.if-not-widen.false).0
+merge_under_locks-requires-clause-wide g c = (c.widen_locks.ensures.wide c.if-not-widen_locks.false).0
 
 pub merge_under_locks-requires-clause-beside : goal.merge_under_locks-requires-clause-beside
 merge_under_locks-requires-clause-beside g c =
-    let (w, locks, anchor) = c.widen.ensures.wide c.if-not-widen.false in
-    beside_wider c.args.table.now c.find_beside.new.seat.known c.widen.new.seat c.args.job.now c.in-Some-find_beside.beside w locks c.in-Some-find_beside.ensures.beside
+    let (w, locks, anchor) = c.widen_locks.ensures.wide c.if-not-widen_locks.false in
+    beside_wider c.args.table.now c.find_merge.new.seat.known c.widen_locks.new.seat c.args.job.now c.in-Some-find_merge.merge w locks c.in-Some-find_merge.ensures.beside.0
 
 pub merge_under_locks-requires-clause-made : goal.merge_under_locks-requires-clause-made
-merge_under_locks-requires-clause-made g c = sym c.as_slice.ensures.value ∙ c.in-Some.ensures
+merge_under_locks-requires-clause-made g c = sym c.as_slice.ensures.value ∙ (c.in-Some.ensures ∙ ap (λ n. a_node n ∷ []) (sym c.in-Some-find_merge.ensures.beside.1))
 
 pub merge_under_locks-requires-clause-building : goal.merge_under_locks-requires-clause-building
 merge_under_locks-requires-clause-building g c =
     let (news, b) = c.requires.building in
-    let l = c.widen.ensures.later in
-    (news, building_same c.args.table.now c.args.seat.now c.widen.new.seat c.args.build.now.made.items news l.1 l.2 (l.3 ∙ c.find_beside.ensures.reads.own) b)
+    let l = c.widen_locks.ensures.later in
+    (news, building_same c.args.table.now c.args.seat.now c.widen_locks.new.seat c.args.build.now.made.items news l.1 l.2 (l.3 ∙ c.find_merge.ensures.reads.own) b)
 
 pub returns-clause-tries : goal.returns-clause-tries
 returns-clause-tries g c =
-    few_both c.args.table.now g.G.Gate.becomes (span_numbers c.args.job.now.way.now c.args.job.now.span) c.args.build.now.left_nodes (c.args.seat.now, c.args.gate.now) (c.find_beside.new.seat, c.find_beside.new.gate) (c.widen.new.seat, c.widen.new.gate) (c.merge_under_locks.new.seat, c.merge_under_locks.new.gate)
-    (goes_run c.args.table.now g.G.Gate.becomes (c.args.seat.now, c.args.gate.now) (c.find_beside.new.seat, c.find_beside.new.gate) c.find_beside.ensures.reads.goes)
-    (subst (λ both. TriesMore c.args.table.now g.G.Gate.becomes (span_numbers c.args.job.now.way.now c.args.job.now.span) both (c.find_beside.new.seat, c.find_beside.new.gate) (c.widen.new.seat, c.widen.new.gate)) c.if-not-widen.false c.widen.ensures.tries)
-    c.merge_under_locks.ensures.run (omega (arith, c.find_beside.ensures.few, c.widen.ensures.few, c.merge_under_locks.ensures.few))
+    few_both c.args.table.now g.G.Gate.becomes (span_numbers c.args.job.now.way.now c.args.job.now.span) c.args.build.now.left_nodes (c.args.seat.now, c.args.gate.now) (c.find_merge.new.seat, c.find_merge.new.gate) (c.widen_locks.new.seat, c.widen_locks.new.gate) (c.merge_under_locks.new.seat, c.merge_under_locks.new.gate)
+    (goes_run c.args.table.now g.G.Gate.becomes (c.args.seat.now, c.args.gate.now) (c.find_merge.new.seat, c.find_merge.new.gate) c.find_merge.ensures.reads.goes)
+    (subst (λ both. TriesMore c.args.table.now g.G.Gate.becomes (span_numbers c.args.job.now.way.now c.args.job.now.span) both (c.find_merge.new.seat, c.find_merge.new.gate) (c.widen_locks.new.seat, c.widen_locks.new.gate)) c.if-not-widen_locks.false c.widen_locks.ensures.tries)
+    c.merge_under_locks.ensures.run (omega (arith, c.find_merge.ensures.few, c.widen_locks.ensures.few, c.merge_under_locks.ensures.few))
 
 pub returns-clause-done : goal.returns-clause-done
 returns-clause-done g c = λ e.
     let job = c.args.job.now in
     let (x, was, is, changed) = c.merge_under_locks.ensures.done e in
-    let later = later_trans c.find_beside.ensures.reads.goes.stays.0 c.widen.ensures.later.0 in
-    (x, was, subst (λ q. IsDeedChange q Take job.key.now job.value job.found x was) later.pass is, changed_since c.args.seat.now.known c.widen.new.seat.known c.merge_under_locks.new.seat.known x was later changed)
+    let later = later_trans c.find_merge.ensures.reads.goes.stays.0 c.widen_locks.ensures.later.0 in
+    (x, was, subst (λ q. IsDeedChange q Take job.key.now job.value job.found x was) later.pass is, changed_since c.args.seat.now.known c.widen_locks.new.seat.known c.merge_under_locks.new.seat.known x was later changed)
 
 pub returns-clause-later : goal.returns-clause-later
 returns-clause-later g c = λ e.
     let table = c.args.table.now in
-    let l = c.widen.ensures.later in (
-      later_trans c.find_beside.ensures.reads.goes.stays.0 (later_trans l.0 (c.merge_under_locks.ensures.later e)),
-      run_seat table g.G.Gate.becomes (c.widen.new.seat, c.widen.new.gate) (c.merge_under_locks.new.seat, c.merge_under_locks.new.gate) c.merge_under_locks.ensures.run l.1,
-      run_possible table g.G.Gate.becomes (c.widen.new.seat, c.widen.new.gate) (c.merge_under_locks.new.seat, c.merge_under_locks.new.gate) c.merge_under_locks.ensures.run l.2,
+    let l = c.widen_locks.ensures.later in (
+      later_trans c.find_merge.ensures.reads.goes.stays.0 (later_trans l.0 (c.merge_under_locks.ensures.later e)),
+      run_seat table g.G.Gate.becomes (c.widen_locks.new.seat, c.widen_locks.new.gate) (c.merge_under_locks.new.seat, c.merge_under_locks.new.gate) c.merge_under_locks.ensures.run l.1,
+      run_possible table g.G.Gate.becomes (c.widen_locks.new.seat, c.widen_locks.new.gate) (c.merge_under_locks.new.seat, c.merge_under_locks.new.gate) c.merge_under_locks.ensures.run l.2,
     )
 
 pub returns-clause-same : goal.returns-clause-same
 returns-clause-same g c = λ e.
-    let reads = c.find_beside.ensures.reads in
-    let (w, locks, anchor) = c.widen.ensures.wide c.if-not-widen.false in
+    let reads = c.find_merge.ensures.reads in
+    let (w, locks, anchor) = c.widen_locks.ensures.wide c.if-not-widen_locks.false in
     let s = c.merge_under_locks.ensures.same e w in
-    ((s.0 ∙ (locks ∙ reads.goes.stays.1), s.1 ∙ (anchor ∙ reads.goes.stays.2), s.2 ∙ (c.widen.ensures.later.3 ∙ reads.own)), s.3)
+    ((s.0 ∙ (locks ∙ reads.goes.stays.1), s.1 ∙ (anchor ∙ reads.goes.stays.2), s.2 ∙ (c.widen_locks.ensures.later.3 ∙ reads.own)), s.3)

@@ -17,12 +17,12 @@ unfolding no_step
 returns-then-way-level-lt32 c = λ first upto.
     let way = c.args.way.now in
     let at = here way c.args.level c.requires.last in
-    low_room way c.args.position c.args.level (get_or way c.args.level no_step) c.change.result c.requires.last at (c.requires.low (get_or way c.args.level no_step) at) first upto c.if-way-level-lt32.true c.change.ensures
+    low_room way c.args.position c.args.level (get_or way c.args.level no_step) c.plan_change.result c.requires.last at (c.requires.low (get_or way c.args.level no_step) at) first upto c.if-way-level-lt32.true c.plan_change.ensures
 
 pub returns-else-way-level-lt32 : goal.returns-else-way-level-lt32
 unfolding no_step
 returns-else-way-level-lt32 c = λ first upto.
     let way = c.args.way.now in
     let at = here way c.args.level c.requires.last in
-    low_full way c.args.position c.args.level (get_or way c.args.level no_step) c.change-else-way-level-lt32.result c.requires.last at (c.requires.low (get_or way c.args.level no_step) at) first upto
-    (omega (arith, c.if-way-level-lt32.false)) c.chain_end.result c.chain_end.ensures c.change-else-way-level-lt32.ensures
+    low_full way c.args.position c.args.level (get_or way c.args.level no_step) c.plan_change-else-way-level-lt32.result c.requires.last at (c.requires.low (get_or way c.args.level no_step) at) first upto
+    (omega (arith, c.if-way-level-lt32.false)) c.chain_end.result c.chain_end.ensures c.plan_change-else-way-level-lt32.ensures

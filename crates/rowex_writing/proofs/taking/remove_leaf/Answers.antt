@@ -4,32 +4,34 @@ use Rattle.versions.specs.declared.Rec.TheVariants.{Leaf as a_leaf}
 use Rattle.version_laws.specs.Writer.{removed_change}
 use Rattle.rowex_writing.specs.Changes.{IsTakeChange, MayPublishOnceReady}
 use Rattle.std.proofs.lemmas.Result.{IfErr-weaker}
+use Rattle.rowex_writing.specs.Locks.{locks_of}
+use Rattle.rowex_writing.proofs.Counting.{deed_least}
 use Rattle.rowex_writing.proofs.Locking.{goes_none}
 use Rattle.rowex_writing.proofs.Raised.{just_leaf_gone, nodes_alone, taken_raised}
 use Rattle.rowex_writing.proofs.Removing.{found_key, may_empty, only_records, take_below, take_only}
 use Rattle.rowex_writing.proofs.taking.remove_leaf.Goals as goal
 use Rattle.tries.specs.Content.{item}
 
-pub remake_without-requires-clause-below : goal.remake_without-requires-clause-below
-remake_without-requires-clause-below g c =
+pub remake_without_leaf-requires-clause-below : goal.remake_without_leaf-requires-clause-below
+remake_without_leaf-requires-clause-below g c =
     let job = c.args.job.now in
     let (m, aim, taken, planned) = c.requires.taken in
     (m, c.in-Leaf.value, take_below c.args.table.now c.args.seat.now m job aim taken planned c.in-Leaf.number c.in-Leaf.value c.in-Leaf.mismatch c.in-Leaf.is c.if-job-gt0.true)
 
 pub returns-then-job-gt0-clause-done : goal.returns-then-job-gt0-clause-done
 returns-then-job-gt0-clause-done g c = record {
-  goes = c.remake_without.ensures.goes;
+  goes = c.remake_without_leaf.ensures.goes;
   raised = (let job = c.args.job.now in
       let (m, aim, taken, planned) = c.requires.taken in
       let below = take_below c.args.table.now c.args.seat.now m job aim taken planned c.in-Leaf.number c.in-Leaf.value c.in-Leaf.mismatch c.in-Leaf.is c.if-job-gt0.true in
       let same = found_key c.args.table.now c.args.seat.now m job aim taken planned c.in-Leaf.number c.in-Leaf.value c.in-Leaf.mismatch c.in-Leaf.is in
-      taken_raised c.args.table.now c.args.seat.now.known c.remake_without.new.seat c.remake_without.new.build.made.items job c.in-Leaf.number c.in-Leaf.value c.remake_without.result same (c.remake_without.ensures.raised m c.in-Leaf.value below));
-  full = IfErr-weaker c.remake_without.result _ _ (λ full h. h.1) c.remake_without.ensures.full;
-  few = c.remake_without.ensures.few;
+      taken_raised c.args.table.now c.args.seat.now.known c.remake_without_leaf.new.seat c.remake_without_leaf.new.build.made.items job c.in-Leaf.number c.in-Leaf.value c.remake_without_leaf.result same (c.remake_without_leaf.ensures.raised m c.in-Leaf.value below));
+  full = IfErr-weaker c.remake_without_leaf.result _ _ (λ full h. h.1) c.remake_without_leaf.ensures.full;
+  few = (let least = deed_least c.args.table.now.layout (locks_of c.args.job.now.span) c.remake_without_leaf.result in omega (arith, c.remake_without_leaf.ensures.walk, least));
 }
 
 pub returns-then-job-gt0-clause-leafless : goal.returns-then-job-gt0-clause-leafless
-returns-then-job-gt0-clause-leafless g c = nodes_alone c.remake_without.result _ c.remake_without.ensures.full
+returns-then-job-gt0-clause-leafless g c = nodes_alone c.remake_without_leaf.result _ c.remake_without_leaf.ensures.full
 
 pub returns-clause-done : goal.returns-clause-done
 returns-clause-done g c = record {
@@ -57,9 +59,6 @@ returns-clause-done g c = record {
   full = tt;
   few = omega arith;
 }
-
-pub returns-then-job-gt0-clause-walk : goal.returns-then-job-gt0-clause-walk
-returns-then-job-gt0-clause-walk g c = λ some. c.remake_without.ensures.walk
 
 pub returns-clause-walk : goal.returns-clause-walk
 returns-clause-walk g c = λ some. absurd (omega (arith, some, c.if-job-gt0.false))

@@ -18,7 +18,7 @@ returns-then-end-eq0-clause-tries g c = (_, c.lock_root.ensures.tries, omega (ar
 
 pub returns-then-end-eq0-clause-above : goal.returns-then-end-eq0-clause-above
 returns-then-end-eq0-clause-above g c = λ e.
-    root_above c.args.seat.now.known.locks c.args.job.now.key.now c.args.job.now.way.now c.args.job.now.found (c.args.job.now.span.end - 1) c.lock_root.new.seat.known c.named_at-named.result (omega (arith, c.if-end-eq0.true)) c.named_at-named.ensures (c.lock_root.ensures.locked e)
+    root_above c.args.seat.now.known.locks c.args.job.now.key.now c.args.job.now.way.now c.args.job.now.found (c.args.job.now.span.end - 1) c.lock_root.new.seat.known c.naming_entry-named.result (omega (arith, c.if-end-eq0.true)) c.naming_entry-named.ensures (c.lock_root.ensures.locked e)
 
 pub lock_step-requires-clause-range : goal.lock_step-requires-clause-range
 lock_step-requires-clause-range g c =
@@ -43,5 +43,5 @@ returns-clause-above g c = λ e.
     let l = c.lock_step.ensures.locked e in
     let possible = run_possible c.args.table.now g.G.Gate.becomes (c.args.seat.now, c.args.gate.now) (c.lock_step.new.seat, c.lock_step.new.gate) c.lock_step.ensures.tries c.requires.possible in
     let there = way_later c.args.table.now.layout c.args.seat.now.known c.lock_step.new.seat.known m c.args.job.now.key.now c.args.job.now.way.now c.args.job.now.found c.lock_step.ensures.later.0 w in
-    step_above c.args.table.now.layout c.args.seat.now.known.locks c.args.job.now.key.now c.args.job.now.way.now c.args.job.now.found (c.args.job.now.span.end - 1) c.lock_step.new.seat.known m c.named_at-named.result _ possible there
-    (omega (arith, c.if-end-eq0.false)) at c.named_at-named.ensures l.0 (l.1 ∙ c.requires.free) l.2
+    step_above c.args.table.now.layout c.args.seat.now.known.locks c.args.job.now.key.now c.args.job.now.way.now c.args.job.now.found (c.args.job.now.span.end - 1) c.lock_step.new.seat.known m c.naming_entry-named.result _ possible there
+    (omega (arith, c.if-end-eq0.false)) at c.naming_entry-named.ensures l.0 (l.1 ∙ c.requires.free) l.2

@@ -7,10 +7,9 @@ use Rattle.rowex_table.specs.Runs.{silent}
 use Rattle.rowex_table.proofs.ActsAfter.{unlock_anchor_gives}
 use Rattle.rowex_table.proofs.Rights.{unlocks_anchor}
 use Rattle.rowex_reading.proofs.Counting.{step_few}
-use Rattle.rowex_reading.proofs.Seeing.{later_trans}
 use Rattle.rowex_writing.proofs.Locking.{seat_of}
-use Rattle.rowex_writing.proofs.Runs.{goes_run, works_run}
-use Rattle.rowex_writing.proofs.Tried.{tries_more}
+use Rattle.rowex_writing.proofs.Onward.{back_later, back_tries, locked_later, locked_tries}
+use Rattle.rowex_writing.proofs.Runs.{works_run}
 use Rattle.rowex_writing.proofs.Works.{works_later, works_one, works_seat}
 use Rattle.rowex_writing.proofs.widening.lock_root.Goals as goal
 
@@ -26,14 +25,8 @@ returns-then-not-lock_anchor-clause-later g c = (
   (c.lock_anchor.ensures.refused c.if-not-lock_anchor.true).3,
 )
 
-pub returns-then-not-lock_anchor-clause-locked : goal.returns-then-not-lock_anchor-clause-locked
-returns-then-not-lock_anchor-clause-locked g c = λ e. not_taken e
-
 pub returns-then-not-lock_anchor-clause-same : goal.returns-then-not-lock_anchor-clause-same
 returns-then-not-lock_anchor-clause-same g c = λ e. let r = c.lock_anchor.ensures.refused c.if-not-lock_anchor.true in (r.1, r.2, r.3)
-
-pub returns-then-not-lock_anchor-clause-few : goal.returns-then-not-lock_anchor-clause-few
-returns-then-not-lock_anchor-clause-few g c = omega (arith, c.lock_anchor.ensures.few)
 
 pub root_stands-requires-clause-own : goal.root_stands-requires-clause-own
 root_stands-requires-clause-own g c = works_seat c.args.table.now g.G.Gate.becomes (c.args.seat.now, c.args.gate.now) (c.lock_anchor.new.seat, c.lock_anchor.new.gate) c.lock_anchor.ensures.tries c.requires.own
@@ -46,26 +39,13 @@ pub root_stands-requires-clause-locked : goal.root_stands-requires-clause-locked
 root_stands-requires-clause-locked g c = (c.lock_anchor.ensures.locked c.if-not-lock_anchor.false).0
 
 pub returns-then-root_stands-clause-tries : goal.returns-then-root_stands-clause-tries
-returns-then-root_stands-clause-tries g c =
-    let table = c.args.table.now in
-    tries_more table g.G.Gate.becomes (c.args.seat.now, c.args.gate.now) (c.lock_anchor.new.seat, c.lock_anchor.new.gate) (c.root_stands.new.seat, c.root_stands.new.gate)
-    (works_run table g.G.Gate.becomes (c.args.seat.now, c.args.gate.now) (c.lock_anchor.new.seat, c.lock_anchor.new.gate) c.lock_anchor.ensures.tries)
-    (goes_run table g.G.Gate.becomes (c.lock_anchor.new.seat, c.lock_anchor.new.gate) (c.root_stands.new.seat, c.root_stands.new.gate) c.root_stands.ensures.reads.goes)
+returns-then-root_stands-clause-tries g c = locked_tries c.args.table.now g.G.Gate.becomes (c.args.seat.now, c.args.gate.now) (c.lock_anchor.new.seat, c.lock_anchor.new.gate) (c.root_stands.new.seat, c.root_stands.new.gate) c.lock_anchor.ensures.tries c.root_stands.ensures.reads.goes
 
 pub returns-then-root_stands-clause-later : goal.returns-then-root_stands-clause-later
-returns-then-root_stands-clause-later g c = (
-  later_trans (works_later c.args.table.now g.G.Gate.becomes (c.args.seat.now, c.args.gate.now) (c.lock_anchor.new.seat, c.lock_anchor.new.gate) c.lock_anchor.ensures.tries) c.root_stands.ensures.reads.goes.stays.0,
-  c.root_stands.ensures.reads.own ∙ (c.lock_anchor.ensures.locked c.if-not-lock_anchor.false).2,
-)
+returns-then-root_stands-clause-later g c = (locked_later c.args.table.now g.G.Gate.becomes (c.args.seat.now, c.args.gate.now) (c.lock_anchor.new.seat, c.lock_anchor.new.gate) (c.root_stands.new.seat, c.root_stands.new.gate) c.lock_anchor.ensures.tries c.root_stands.ensures.reads.goes, c.root_stands.ensures.reads.own ∙ (c.lock_anchor.ensures.locked c.if-not-lock_anchor.false).2)
 
 pub returns-then-root_stands-clause-locked : goal.returns-then-root_stands-clause-locked
 returns-then-root_stands-clause-locked g c = λ e. (c.root_stands.ensures.reads.goes.stays.1 ∙ (c.lock_anchor.ensures.locked c.if-not-lock_anchor.false).1, c.root_stands.ensures.same c.if-root_stands.true)
-
-pub returns-then-root_stands-clause-same : goal.returns-then-root_stands-clause-same
-returns-then-root_stands-clause-same g c = λ e. not_taken (sym e)
-
-pub returns-then-root_stands-clause-few : goal.returns-then-root_stands-clause-few
-returns-then-root_stands-clause-few g c = omega (arith, c.lock_anchor.ensures.few, c.root_stands.ensures.few)
 
 pub unlock-requires-clause-own : goal.unlock-requires-clause-own
 unlock-requires-clause-own g c =
@@ -77,27 +57,13 @@ unlock-requires-clause-may g c =
     unlocks_anchor c.args.table.now.layout c.root_stands.new.seat.known (subst (λ z. IsSome z) (sym c.root_stands.ensures.reads.goes.stays.2) (c.lock_anchor.ensures.locked c.if-not-lock_anchor.false).0)
 
 pub returns-clause-tries : goal.returns-clause-tries
-returns-clause-tries g c =
-    let table = c.args.table.now in
-    let last = works_one table g.G.Gate.becomes (Unlock Anchor) (c.root_stands.new.seat, c.root_stands.new.gate) (c.unlock.new.seat, c.unlock.new.gate) tt c.unlock.ensures in
-    tries_more table g.G.Gate.becomes (c.args.seat.now, c.args.gate.now) (c.root_stands.new.seat, c.root_stands.new.gate) (c.unlock.new.seat, c.unlock.new.gate)
-    (tries_more table g.G.Gate.becomes (c.args.seat.now, c.args.gate.now) (c.lock_anchor.new.seat, c.lock_anchor.new.gate) (c.root_stands.new.seat, c.root_stands.new.gate)
-    (works_run table g.G.Gate.becomes (c.args.seat.now, c.args.gate.now) (c.lock_anchor.new.seat, c.lock_anchor.new.gate) c.lock_anchor.ensures.tries)
-    (goes_run table g.G.Gate.becomes (c.lock_anchor.new.seat, c.lock_anchor.new.gate) (c.root_stands.new.seat, c.root_stands.new.gate) c.root_stands.ensures.reads.goes))
-    (works_run table g.G.Gate.becomes (c.root_stands.new.seat, c.root_stands.new.gate) (c.unlock.new.seat, c.unlock.new.gate) last)
+returns-clause-tries g c = back_tries c.args.table.now g.G.Gate.becomes (c.args.seat.now, c.args.gate.now) (c.lock_anchor.new.seat, c.lock_anchor.new.gate) (c.root_stands.new.seat, c.root_stands.new.gate) c.lock_anchor.ensures.tries c.root_stands.ensures.reads.goes (c.unlock.new.seat, c.unlock.new.gate) (works_one c.args.table.now g.G.Gate.becomes (Unlock Anchor) (c.root_stands.new.seat, c.root_stands.new.gate) (c.unlock.new.seat, c.unlock.new.gate) tt c.unlock.ensures)
 
 pub returns-clause-later : goal.returns-clause-later
-returns-clause-later g c =
-    let table = c.args.table.now in
-    let last = works_one table g.G.Gate.becomes (Unlock Anchor) (c.root_stands.new.seat, c.root_stands.new.gate) (c.unlock.new.seat, c.unlock.new.gate) tt c.unlock.ensures in
-    let gives = unlock_anchor_gives c.args.table.now.layout silent c.root_stands.new.seat.known c.unlock.new.seat.known c.unlock.ensures.event in (
-      later_trans (later_trans (works_later table g.G.Gate.becomes (c.args.seat.now, c.args.gate.now) (c.lock_anchor.new.seat, c.lock_anchor.new.gate) c.lock_anchor.ensures.tries) c.root_stands.ensures.reads.goes.stays.0)
-          (works_later table g.G.Gate.becomes (c.root_stands.new.seat, c.root_stands.new.gate) (c.unlock.new.seat, c.unlock.new.gate) last),
-      gives.1 ∙ (c.root_stands.ensures.reads.own ∙ (c.lock_anchor.ensures.locked c.if-not-lock_anchor.false).2),
-    )
-
-pub returns-clause-locked : goal.returns-clause-locked
-returns-clause-locked g c = λ e. not_taken e
+returns-clause-later g c = (
+  back_later c.args.table.now g.G.Gate.becomes (c.args.seat.now, c.args.gate.now) (c.lock_anchor.new.seat, c.lock_anchor.new.gate) (c.root_stands.new.seat, c.root_stands.new.gate) c.lock_anchor.ensures.tries c.root_stands.ensures.reads.goes (c.unlock.new.seat, c.unlock.new.gate) (works_one c.args.table.now g.G.Gate.becomes (Unlock Anchor) (c.root_stands.new.seat, c.root_stands.new.gate) (c.unlock.new.seat, c.unlock.new.gate) tt c.unlock.ensures),
+  (unlock_anchor_gives c.args.table.now.layout silent c.root_stands.new.seat.known c.unlock.new.seat.known c.unlock.ensures.event).1 ∙ (c.root_stands.ensures.reads.own ∙ (c.lock_anchor.ensures.locked c.if-not-lock_anchor.false).2),
+)
 
 pub returns-clause-same : goal.returns-clause-same
 returns-clause-same g c = λ e.

@@ -1,11 +1,9 @@
 -- A node of the way is locked, and its entry is looked at.
 use Rattle.std.proofs.Common.{◌≡◌, true, false, sym, ◌∙◌, arith}
-use Rattle.rowex_reading.proofs.Seeing.{later_trans}
 use Rattle.publish_laws.proofs.Acting.{led_may_lock}
 use Rattle.rowex_writing.proofs.Locking.{seat_of}
-use Rattle.rowex_writing.proofs.Onward.{run_possible}
-use Rattle.rowex_writing.proofs.Runs.{goes_run, works_run}
-use Rattle.rowex_writing.proofs.Tried.{tries_more}
+use Rattle.rowex_writing.proofs.Onward.{back_later, back_tries, locked_later, locked_tries, run_possible}
+use Rattle.rowex_writing.proofs.Runs.{works_run}
 use Rattle.rowex_writing.proofs.Wider.{last_locked, last_same, one_last, place_later, place_led}
 use Rattle.rowex_writing.proofs.Locking.{locked_on}
 use Rattle.rowex_writing.proofs.Works.{works_later, works_seat}
@@ -27,14 +25,8 @@ returns-then-not-lock_node-clause-later g c = (
   (c.lock_node.ensures.same c.if-not-lock_node.true).2,
 )
 
-pub returns-then-not-lock_node-clause-locked : goal.returns-then-not-lock_node-clause-locked
-returns-then-not-lock_node-clause-locked g c = λ e. not_taken e
-
 pub returns-then-not-lock_node-clause-same : goal.returns-then-not-lock_node-clause-same
 returns-then-not-lock_node-clause-same g c = λ e. c.lock_node.ensures.same c.if-not-lock_node.true
-
-pub returns-then-not-lock_node-clause-few : goal.returns-then-not-lock_node-clause-few
-returns-then-not-lock_node-clause-few g c = omega (arith, c.lock_node.ensures.few)
 
 pub entry_stands-requires-clause-own : goal.entry_stands-requires-clause-own
 entry_stands-requires-clause-own g c = works_seat c.args.table.now g.G.Gate.becomes (c.args.seat.now, c.args.gate.now) (c.lock_node.new.seat, c.lock_node.new.gate) c.lock_node.ensures.tries c.requires.own
@@ -54,17 +46,10 @@ entry_stands-requires-clause-locked g c =
     last_locked c.args.step.number c.args.seat.now.known.locks c.lock_node.new.seat.known (one_last c.args.step.number c.args.seat.now.known c.lock_node.new.seat.known (c.lock_node.ensures.locked c.if-not-lock_node.false))
 
 pub returns-then-entry_stands-clause-tries : goal.returns-then-entry_stands-clause-tries
-returns-then-entry_stands-clause-tries g c =
-    let table = c.args.table.now in
-    tries_more table g.G.Gate.becomes (c.args.seat.now, c.args.gate.now) (c.lock_node.new.seat, c.lock_node.new.gate) (c.entry_stands.new.seat, c.entry_stands.new.gate)
-    (works_run table g.G.Gate.becomes (c.args.seat.now, c.args.gate.now) (c.lock_node.new.seat, c.lock_node.new.gate) c.lock_node.ensures.tries)
-    (goes_run table g.G.Gate.becomes (c.lock_node.new.seat, c.lock_node.new.gate) (c.entry_stands.new.seat, c.entry_stands.new.gate) c.entry_stands.ensures.reads.goes)
+returns-then-entry_stands-clause-tries g c = locked_tries c.args.table.now g.G.Gate.becomes (c.args.seat.now, c.args.gate.now) (c.lock_node.new.seat, c.lock_node.new.gate) (c.entry_stands.new.seat, c.entry_stands.new.gate) c.lock_node.ensures.tries c.entry_stands.ensures.reads.goes
 
 pub returns-then-entry_stands-clause-later : goal.returns-then-entry_stands-clause-later
-returns-then-entry_stands-clause-later g c = (
-  later_trans (works_later c.args.table.now g.G.Gate.becomes (c.args.seat.now, c.args.gate.now) (c.lock_node.new.seat, c.lock_node.new.gate) c.lock_node.ensures.tries) c.entry_stands.ensures.reads.goes.stays.0,
-  c.entry_stands.ensures.reads.own ∙ (c.lock_node.ensures.locked c.if-not-lock_node.false).2,
-)
+returns-then-entry_stands-clause-later g c = (locked_later c.args.table.now g.G.Gate.becomes (c.args.seat.now, c.args.gate.now) (c.lock_node.new.seat, c.lock_node.new.gate) (c.entry_stands.new.seat, c.entry_stands.new.gate) c.lock_node.ensures.tries c.entry_stands.ensures.reads.goes, c.entry_stands.ensures.reads.own ∙ (c.lock_node.ensures.locked c.if-not-lock_node.false).2)
 
 pub returns-then-entry_stands-clause-locked : goal.returns-then-entry_stands-clause-locked
 returns-then-entry_stands-clause-locked g c = λ e.
@@ -74,12 +59,6 @@ returns-then-entry_stands-clause-locked g c = λ e.
       stays.2 ∙ l.3,
       λ words h. c.entry_stands.ensures.same c.if-entry_stands.true words (locked_on c.entry_stands.new.seat.known c.lock_node.new.seat.known c.args.step.number words (sym stays.1) h),
     )
-
-pub returns-then-entry_stands-clause-same : goal.returns-then-entry_stands-clause-same
-returns-then-entry_stands-clause-same g c = λ e. not_taken (sym e)
-
-pub returns-then-entry_stands-clause-few : goal.returns-then-entry_stands-clause-few
-returns-then-entry_stands-clause-few g c = omega (arith, c.lock_node.ensures.few, c.entry_stands.ensures.few)
 
 pub unlock_last-requires-clause-own : goal.unlock_last-requires-clause-own
 unlock_last-requires-clause-own g c =
@@ -94,23 +73,13 @@ unlock_last-requires-clause-last g c = (
 )
 
 pub returns-clause-tries : goal.returns-clause-tries
-returns-clause-tries g c =
-    let table = c.args.table.now in
-    tries_more table g.G.Gate.becomes (c.args.seat.now, c.args.gate.now) (c.entry_stands.new.seat, c.entry_stands.new.gate) (c.unlock_last.new.seat, c.unlock_last.new.gate)
-    (tries_more table g.G.Gate.becomes (c.args.seat.now, c.args.gate.now) (c.lock_node.new.seat, c.lock_node.new.gate) (c.entry_stands.new.seat, c.entry_stands.new.gate)
-    (works_run table g.G.Gate.becomes (c.args.seat.now, c.args.gate.now) (c.lock_node.new.seat, c.lock_node.new.gate) c.lock_node.ensures.tries)
-    (goes_run table g.G.Gate.becomes (c.lock_node.new.seat, c.lock_node.new.gate) (c.entry_stands.new.seat, c.entry_stands.new.gate) c.entry_stands.ensures.reads.goes))
-    (works_run table g.G.Gate.becomes (c.entry_stands.new.seat, c.entry_stands.new.gate) (c.unlock_last.new.seat, c.unlock_last.new.gate) c.unlock_last.ensures.works)
+returns-clause-tries g c = back_tries c.args.table.now g.G.Gate.becomes (c.args.seat.now, c.args.gate.now) (c.lock_node.new.seat, c.lock_node.new.gate) (c.entry_stands.new.seat, c.entry_stands.new.gate) c.lock_node.ensures.tries c.entry_stands.ensures.reads.goes (c.unlock_last.new.seat, c.unlock_last.new.gate) c.unlock_last.ensures.works
 
 pub returns-clause-later : goal.returns-clause-later
 returns-clause-later g c = (
-  later_trans (later_trans (works_later c.args.table.now g.G.Gate.becomes (c.args.seat.now, c.args.gate.now) (c.lock_node.new.seat, c.lock_node.new.gate) c.lock_node.ensures.tries) c.entry_stands.ensures.reads.goes.stays.0)
-      (works_later c.args.table.now g.G.Gate.becomes (c.entry_stands.new.seat, c.entry_stands.new.gate) (c.unlock_last.new.seat, c.unlock_last.new.gate) c.unlock_last.ensures.works),
+  back_later c.args.table.now g.G.Gate.becomes (c.args.seat.now, c.args.gate.now) (c.lock_node.new.seat, c.lock_node.new.gate) (c.entry_stands.new.seat, c.entry_stands.new.gate) c.lock_node.ensures.tries c.entry_stands.ensures.reads.goes (c.unlock_last.new.seat, c.unlock_last.new.gate) c.unlock_last.ensures.works,
   c.unlock_last.ensures.same.1 ∙ (c.entry_stands.ensures.reads.own ∙ (c.lock_node.ensures.locked c.if-not-lock_node.false).2),
 )
-
-pub returns-clause-locked : goal.returns-clause-locked
-returns-clause-locked g c = λ e. not_taken e
 
 pub returns-clause-same : goal.returns-clause-same
 returns-clause-same g c = λ e.
@@ -122,5 +91,3 @@ returns-clause-same g c = λ e.
       c.unlock_last.ensures.same.1 ∙ (reads.own ∙ l.2),
     )
 
-pub returns-clause-few : goal.returns-clause-few
-returns-clause-few g c = omega (arith, c.lock_node.ensures.few, c.entry_stands.ensures.few, c.unlock_last.ensures.few)

@@ -1,10 +1,10 @@
 -- One node more.
 use Rattle.std.proofs.Common.{◌≡◌, ◌<◌, ◌≤◌, ⊎_elim, arith, sym, ap, ◌∙◌, get_or}
 use Rattle.std.proofs.lemmas.Bool.{cases_lt}
-use Rattle.std.proofs.lemmas.Option.{get_or_from_slice_get}
+use Rattle.std.proofs.lemmas.Option.{get_or_from_slice_get, slice_get-get_or}
 use Rattle.insert_cases.specs.declared.choice.PathNode.{PathNode}
 use Rattle.rowex_writing.specs.Merging.{no_step}
-use Rattle.rowex_writing.proofs.widening.is_near.Goals as goal
+use Rattle.rowex_writing.proofs.widening.is_near_span.Goals as goal
 
 pub loop-index-init : goal.loop-index-init
 loop-index-init c = record { none = λ step i at from low. absurd (omega (arith, from, low)) }
@@ -20,5 +20,8 @@ loop-index-preserved c = record {
       (cases_lt i c.loop-index.index);
 }
 
-pub returns : goal.returns
-returns c = record { none = λ e step i at from low. c.loop-index.invariant.none step i at from (omega (arith, low, c.loop-index-test.false)) }
+pub returns-clause-none : goal.returns-clause-none
+returns-clause-none c = λ e step i at from low. c.loop-index.invariant.none step i at from (omega (arith, low, c.loop-index-test.false))
+
+pub returns-then-job-index-clause-near : goal.returns-then-job-index-clause-near
+returns-then-job-index-clause-near c = λ e far. far _ c.loop-index.index (slice_get-get_or c.args.job.now.way.now c.loop-index.index no_step (omega arith)) (omega arith) (omega arith) (sym c.if-job-index.true)

@@ -8,10 +8,7 @@ use Rattle.rowex_writing.specs.Merging.{lower}
 use Rattle.rowex_writing.proofs.Beside.{lower_locked, lower_range}
 use Rattle.rowex_writing.proofs.Locking.{locked_on, reads_more, seat_of}
 use Rattle.rowex_writing.proofs.Merged.{held_wide, joined_rises, lower_within, other_wide, shown_merged}
-use Rattle.rowex_writing.proofs.merging.join_beside.Goals as goal
-
-pub read_locked-node-requires-clause-own : goal.read_locked-node-requires-clause-own
-read_locked-node-requires-clause-own g c = c.requires.wide.seat
+use Rattle.rowex_writing.proofs.merging.join_siblings.Goals as goal
 
 pub read_locked-node-requires-clause-range : goal.read_locked-node-requires-clause-range
 read_locked-node-requires-clause-range g c = lower_range c.args.table.now c.args.job.now c.requires.wide.taking
@@ -19,20 +16,17 @@ read_locked-node-requires-clause-range g c = lower_range c.args.table.now c.args
 pub read_locked-node-requires-clause-locked : goal.read_locked-node-requires-clause-locked
 read_locked-node-requires-clause-locked g c =
     let (words, h) = lower_locked c.args.table.now c.args.job.now c.requires.wide.taking in
-    (words, held_wide c.args.table.now c.args.seat.now c.args.job.now c.args.beside.now.number c.requires.wide (lower c.args.job.now).number words h)
+    (words, held_wide c.args.table.now c.args.seat.now c.args.job.now c.args.merge.now.number c.requires.wide (lower c.args.job.now).number words h)
 
 pub read_locked-other-requires-clause-own : goal.read_locked-other-requires-clause-own
 read_locked-other-requires-clause-own g c = seat_of c.args.table.now g.G.Gate.becomes (c.args.seat.now, c.args.gate.now) (c.read_locked-node.new.seat, c.read_locked-node.new.gate) c.read_locked-node.ensures.reads.goes c.requires.wide.seat
 
-pub read_locked-other-requires-clause-range : goal.read_locked-other-requires-clause-range
-read_locked-other-requires-clause-range g c = c.requires.wide.low
-
 pub read_locked-other-requires-clause-locked : goal.read_locked-other-requires-clause-locked
 read_locked-other-requires-clause-locked g c =
-    (c.requires.wide.words, locked_on c.args.seat.now.known c.read_locked-node.new.seat.known c.args.beside.now.number c.requires.wide.words c.read_locked-node.ensures.reads.goes.stays.1 (other_wide c.args.table.now c.args.seat.now c.args.job.now c.args.beside.now.number c.requires.wide))
+    (c.requires.wide.words, locked_on c.args.seat.now.known c.read_locked-node.new.seat.known c.args.merge.now.number c.requires.wide.words c.read_locked-node.ensures.reads.goes.stays.1 (other_wide c.args.table.now c.args.seat.now c.args.job.now c.args.merge.now.number c.requires.wide))
 
 pub without-requires : goal.without-requires
-without-requires g c = lower_within c.args.table.now c.args.seat.now c.args.job.now c.args.beside.now.number c.requires.wide c.read_locked-node.result c.read_locked-node.ensures.node
+without-requires g c = lower_within c.args.table.now c.args.seat.now c.args.job.now c.args.merge.now.number c.requires.wide c.read_locked-node.result c.read_locked-node.ensures.node
 
 pub returns-in_default : goal.returns-in_default
 returns-in_default g c = record {
@@ -48,9 +42,9 @@ returns-then-count-gt32-clause-reads g c =
 pub join_sides-requires-clause-after : goal.join_sides-requires-clause-after
 unfolding bit
 join_sides-requires-clause-after g c =
-    subst (λ u. RisesFrom 0 (fork_of u c.args.beside.now.position (piece c.in-Many.left) (piece c.read_locked-other.result))) (sym c.bit.ensures)
-    (joined_rises c.args.table.now c.args.seat.now c.args.job.now c.args.beside.now.number c.requires.wide c.args.beside.now refl c.requires.beside c.read_locked-node.result c.in-Many.left c.read_locked-other.result c.read_locked-node.ensures.node
-    (λ words h. c.read_locked-other.ensures.node words (locked_on c.args.seat.now.known c.read_locked-node.new.seat.known c.args.beside.now.number words c.read_locked-node.ensures.reads.goes.stays.1 h)) c.in-Many.ensures.shows_it)
+    subst (λ u. RisesFrom 0 (fork_of u c.args.merge.now.position (piece c.in-Many.left) (piece c.read_locked-other.result))) (sym c.bit.ensures)
+    (joined_rises c.args.table.now c.args.seat.now c.args.job.now c.args.merge.now.number c.requires.wide c.args.merge.now refl c.requires.beside c.read_locked-node.result c.in-Many.left c.read_locked-other.result c.read_locked-node.ensures.node
+    (λ words h. c.read_locked-other.ensures.node words (locked_on c.args.seat.now.known c.read_locked-node.new.seat.known c.args.merge.now.number words c.read_locked-node.ensures.reads.goes.stays.1 h)) c.in-Many.ensures.shows_it)
 
 pub returns-clause-reads : goal.returns-clause-reads
 returns-clause-reads g c =
@@ -60,7 +54,7 @@ pub returns-clause-joined : goal.returns-clause-joined
 unfolding bit
 returns-clause-joined g c = λ leaf b at.
     subst (IsBuiltFrom c.join_sides.result)
-    (ap (λ u. fork_of u c.args.beside.now.position (piece c.in-Many.left) (piece c.read_locked-other.result)) c.bit.ensures ∙
-    shown_merged c.args.table.now c.args.seat.now c.args.job.now c.args.beside.now.number c.requires.wide c.args.beside.now refl c.requires.beside leaf b at c.read_locked-node.result c.in-Many.left c.read_locked-other.result c.read_locked-node.ensures.node
-    (λ words h. c.read_locked-other.ensures.node words (locked_on c.args.seat.now.known c.read_locked-node.new.seat.known c.args.beside.now.number words c.read_locked-node.ensures.reads.goes.stays.1 h)) c.in-Many.ensures.shows_it)
+    (ap (λ u. fork_of u c.args.merge.now.position (piece c.in-Many.left) (piece c.read_locked-other.result)) c.bit.ensures ∙
+    shown_merged c.args.table.now c.args.seat.now c.args.job.now c.args.merge.now.number c.requires.wide c.args.merge.now refl c.requires.beside leaf b at c.read_locked-node.result c.in-Many.left c.read_locked-other.result c.read_locked-node.ensures.node
+    (λ words h. c.read_locked-other.ensures.node words (locked_on c.args.seat.now.known c.read_locked-node.new.seat.known c.args.merge.now.number words c.read_locked-node.ensures.reads.goes.stays.1 h)) c.in-Many.ensures.shows_it)
     c.join_sides.ensures

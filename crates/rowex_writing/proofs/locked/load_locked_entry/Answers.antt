@@ -6,7 +6,7 @@ use Rattle.rowex_reading.proofs.Placing.{is_entry, slot_some, slot_spelled}
 use Rattle.insert_cases.proofs.Choosing.{some_injective}
 use Rattle.rowex_writing.proofs.Confirming.{entry_is, some_of}
 use Rattle.rowex_writing.proofs.Locking.{reads_entry}
-use Rattle.rowex_writing.proofs.locked.load_place.Goals as goal
+use Rattle.rowex_writing.proofs.locked.load_locked_entry.Goals as goal
 
 pub load_ref-requires-clause-range : goal.load_ref-requires-clause-range
 load_ref-requires-clause-range g c = let (m, h, has) = c.requires.place in is_entry c.args.table.now.layout c.args.seat.now.known m c.args.number h c.args.place c.requires.possible has

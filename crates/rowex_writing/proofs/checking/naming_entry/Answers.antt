@@ -4,7 +4,7 @@ use Rattle.compound_node.specs.declared.entries.Entry.TheVariants.{Node}
 use Rattle.insert_cases.specs.declared.choice.PathNode.{PathNode}
 use Rattle.rowex_reading.specs.Ways.{named, end_of}
 use Rattle.rowex_reading.specs.declared.descent.Found.{Found}
-use Rattle.rowex_writing.proofs.checking.named_at.Goals as goal
+use Rattle.rowex_writing.proofs.checking.naming_entry.Goals as goal
 
 within : (way : List PathNode) (found : Found) (i : ℕ) (d : PathNode) → i < length way → Some (Node (get_or way i d).number (get_or way i d).height) ≡ named way found i
 within [] found i d low = absurd (omega arith)

@@ -11,33 +11,21 @@ use Rattle.rowex_table.specs.Made.{nodes_of}
 use Rattle.rowex_table.specs.Rights.{MayLock}
 use Rattle.rowex_writing.specs.Locks.{span_numbers}
 use Rattle.rowex_writing.specs.Merging.{LocksAbove}
-use Rattle.rowex_writing.proofs.Onward.{run_possible, run_seat}
+use Rattle.rowex_writing.proofs.Onward.{both_possible, both_seat, run_possible}
 use Rattle.rowex_writing.proofs.Runs.{run_none, works_run}
 use Rattle.rowex_writing.proofs.Wider.{above_none, far_none, last_same, more_none, more_one, more_two, one_last}
 use Rattle.rowex_writing.proofs.Ways.{way_apart}
 use Rattle.rowex_writing.proofs.Works.{works_later, works_seat}
-use Rattle.rowex_writing.proofs.widening.widen.Goals as goal
+use Rattle.rowex_writing.proofs.widening.widen_locks.Goals as goal
 
 not_taken : {A : Type 0} → false ≡ true → A
 not_taken e = absurd (cc)
 
-pub is_near-requires : goal.is_near-requires
-is_near-requires g c = record { within = c.requires.takes.0.below.taken.within }
+pub returns-then-is_near_span-clause-tries : goal.returns-then-is_near_span-clause-tries
+returns-then-is_near_span-clause-tries g c = more_none c.args.table.now g.G.Gate.becomes (span_numbers c.args.job.now.way.now c.args.job.now.span) (c.args.seat.now, c.args.gate.now) (c.args.seat.now, c.args.gate.now) (run_none c.args.table.now g.G.Gate.becomes (c.args.seat.now, c.args.gate.now))
 
-pub returns-then-is_near-clause-tries : goal.returns-then-is_near-clause-tries
-returns-then-is_near-clause-tries g c = more_none c.args.table.now g.G.Gate.becomes (span_numbers c.args.job.now.way.now c.args.job.now.span) (c.args.seat.now, c.args.gate.now) (c.args.seat.now, c.args.gate.now) (run_none c.args.table.now g.G.Gate.becomes (c.args.seat.now, c.args.gate.now))
-
-pub returns-then-is_near-clause-later : goal.returns-then-is_near-clause-later
-returns-then-is_near-clause-later g c = (later_if_same c.args.seat.now.known c.args.seat.now.known refl, c.requires.takes.1, c.requires.takes.2, refl)
-
-pub returns-then-is_near-clause-wide : goal.returns-then-is_near-clause-wide
-returns-then-is_near-clause-wide g c = λ e. not_taken e
-
-pub returns-then-is_near-clause-same : goal.returns-then-is_near-clause-same
-returns-then-is_near-clause-same g c = λ e. (refl, refl, refl)
-
-pub lock_node-requires-clause-own : goal.lock_node-requires-clause-own
-lock_node-requires-clause-own g c = c.requires.takes.1
+pub returns-then-is_near_span-clause-later : goal.returns-then-is_near_span-clause-later
+returns-then-is_near_span-clause-later g c = (later_if_same c.args.seat.now.known c.args.seat.now.known refl, c.requires.takes.1, c.requires.takes.2, refl)
 
 pub lock_node-requires-clause-range : goal.lock_node-requires-clause-range
 lock_node-requires-clause-range g c =
@@ -54,7 +42,7 @@ pub returns-then-not-lock_node-clause-tries : goal.returns-then-not-lock_node-cl
 returns-then-not-lock_node-clause-tries g c =
     let table = c.args.table.now in
     more_one table g.G.Gate.becomes (span_numbers c.args.job.now.way.now c.args.job.now.span) c.args.number (c.args.seat.now, c.args.gate.now) (c.lock_node.new.seat, c.lock_node.new.gate) (c.lock_node.new.seat, c.lock_node.new.gate)
-    (far_none c.args.job.now.way.now c.args.job.now.span c.args.number (c.is_near.ensures.none c.if-is_near.false))
+    (far_none c.args.job.now.way.now c.args.job.now.span c.args.number (c.is_near_span.ensures.none c.if-is_near_span.false))
     (works_run table g.G.Gate.becomes (c.args.seat.now, c.args.gate.now) (c.lock_node.new.seat, c.lock_node.new.gate) c.lock_node.ensures.tries)
     (run_none table g.G.Gate.becomes (c.lock_node.new.seat, c.lock_node.new.gate))
 
@@ -68,14 +56,8 @@ returns-then-not-lock_node-clause-later g c =
       (c.lock_node.ensures.same c.if-not-lock_node.true).2,
     )
 
-pub returns-then-not-lock_node-clause-wide : goal.returns-then-not-lock_node-clause-wide
-returns-then-not-lock_node-clause-wide g c = λ e. not_taken e
-
 pub returns-then-not-lock_node-clause-same : goal.returns-then-not-lock_node-clause-same
 returns-then-not-lock_node-clause-same g c = λ e. c.lock_node.ensures.same c.if-not-lock_node.true
-
-pub returns-then-not-lock_node-clause-few : goal.returns-then-not-lock_node-clause-few
-returns-then-not-lock_node-clause-few g c = omega (arith, c.lock_node.ensures.few)
 
 pub lock_above-requires-clause-own : goal.lock_above-requires-clause-own
 lock_above-requires-clause-own g c = works_seat c.args.table.now g.G.Gate.becomes (c.args.seat.now, c.args.gate.now) (c.lock_node.new.seat, c.lock_node.new.gate) c.lock_node.ensures.tries c.requires.takes.1
@@ -104,7 +86,7 @@ returns-then-lock_above-clause-tries g c =
     let table = c.args.table.now in
     let t = c.requires.takes.0 in
     let (target, above, top) = c.lock_above.ensures.tries in
-    let far = c.is_near.ensures.none c.if-is_near.false in
+    let far = c.is_near_span.ensures.none c.if-is_near_span.false in
     let apart = way_apart table.layout t.before.known t.since c.args.job.now.key.now _ c.args.job.now.way.now t.below.taken.possible t.below.taken.way_of in
     more_two table g.G.Gate.becomes (span_numbers c.args.job.now.way.now c.args.job.now.span) c.args.number c.args.job.now.way.now (c.args.job.now.span.end - 1) true
     (c.args.seat.now, c.args.gate.now) (c.lock_node.new.seat, c.lock_node.new.gate) (c.lock_above.new.seat, c.lock_above.new.gate) (c.lock_above.new.seat, c.lock_above.new.gate)
@@ -119,9 +101,8 @@ returns-then-lock_above-clause-later g c =
     let tries = c.lock_node.ensures.tries in
     let (target, above, top) = c.lock_above.ensures.tries in (
       later_trans (works_later table g.G.Gate.becomes (c.args.seat.now, c.args.gate.now) (c.lock_node.new.seat, c.lock_node.new.gate) tries) c.lock_above.ensures.later.0,
-      run_seat table g.G.Gate.becomes (c.lock_node.new.seat, c.lock_node.new.gate) (c.lock_above.new.seat, c.lock_above.new.gate) above (works_seat table g.G.Gate.becomes (c.args.seat.now, c.args.gate.now) (c.lock_node.new.seat, c.lock_node.new.gate) tries c.requires.takes.1),
-      run_possible table g.G.Gate.becomes (c.lock_node.new.seat, c.lock_node.new.gate) (c.lock_above.new.seat, c.lock_above.new.gate) above
-          (run_possible table g.G.Gate.becomes (c.args.seat.now, c.args.gate.now) (c.lock_node.new.seat, c.lock_node.new.gate) (works_run table g.G.Gate.becomes (c.args.seat.now, c.args.gate.now) (c.lock_node.new.seat, c.lock_node.new.gate) tries) c.requires.takes.2),
+      both_seat table g.G.Gate.becomes (c.args.seat.now, c.args.gate.now) (c.lock_node.new.seat, c.lock_node.new.gate) (c.lock_above.new.seat, c.lock_above.new.gate) tries above c.requires.takes.1,
+      both_possible table g.G.Gate.becomes (c.args.seat.now, c.args.gate.now) (c.lock_node.new.seat, c.lock_node.new.gate) (c.lock_above.new.seat, c.lock_above.new.gate) tries above c.requires.takes.2,
       c.lock_above.ensures.later.1 ∙ (c.lock_node.ensures.locked c.if-not-lock_node.false).2,
     )
 
@@ -135,9 +116,8 @@ returns-then-lock_above-clause-wide g c = λ e.
     let (b, is, same) = c.requires.beside in (
       record {
         taking = t;
-        seat = run_seat table g.G.Gate.becomes (c.lock_node.new.seat, c.lock_node.new.gate) (c.lock_above.new.seat, c.lock_above.new.gate) above (works_seat table g.G.Gate.becomes (c.args.seat.now, c.args.gate.now) (c.lock_node.new.seat, c.lock_node.new.gate) tries seat);
-        possible = run_possible table g.G.Gate.becomes (c.lock_node.new.seat, c.lock_node.new.gate) (c.lock_above.new.seat, c.lock_above.new.gate) above
-            (run_possible table g.G.Gate.becomes (c.args.seat.now, c.args.gate.now) (c.lock_node.new.seat, c.lock_node.new.gate) (works_run table g.G.Gate.becomes (c.args.seat.now, c.args.gate.now) (c.lock_node.new.seat, c.lock_node.new.gate) tries) possible);
+        seat = both_seat table g.G.Gate.becomes (c.args.seat.now, c.args.gate.now) (c.lock_node.new.seat, c.lock_node.new.gate) (c.lock_above.new.seat, c.lock_above.new.gate) tries above seat;
+        possible = both_possible table g.G.Gate.becomes (c.args.seat.now, c.args.gate.now) (c.lock_node.new.seat, c.lock_node.new.gate) (c.lock_above.new.seat, c.lock_above.new.gate) tries above possible;
         later = later_trans stays.0 (later_trans (works_later table g.G.Gate.becomes (c.args.seat.now, c.args.gate.now) (c.lock_node.new.seat, c.lock_node.new.gate) tries) c.lock_above.ensures.later.0);
         words = l.0.0;
         new = subst (λ z. ¬ (IsOneOf c.args.number (nodes_of z))) stays.1 l.1;
@@ -149,17 +129,11 @@ returns-then-lock_above-clause-wide g c = λ e.
       sym stays.2,
     )
 
-pub returns-then-lock_above-clause-same : goal.returns-then-lock_above-clause-same
-returns-then-lock_above-clause-same g c = λ e. not_taken (sym e)
-
-pub returns-then-lock_above-clause-few : goal.returns-then-lock_above-clause-few
-returns-then-lock_above-clause-few g c = omega (arith, c.lock_node.ensures.few, c.lock_above.ensures.few)
-
 pub unlock_last-requires-clause-own : goal.unlock_last-requires-clause-own
 unlock_last-requires-clause-own g c =
     let table = c.args.table.now in
     let (target, above, top) = c.lock_above.ensures.tries in
-    run_seat table g.G.Gate.becomes (c.lock_node.new.seat, c.lock_node.new.gate) (c.lock_above.new.seat, c.lock_above.new.gate) above (works_seat table g.G.Gate.becomes (c.args.seat.now, c.args.gate.now) (c.lock_node.new.seat, c.lock_node.new.gate) c.lock_node.ensures.tries c.requires.takes.1)
+    both_seat table g.G.Gate.becomes (c.args.seat.now, c.args.gate.now) (c.lock_node.new.seat, c.lock_node.new.gate) (c.lock_above.new.seat, c.lock_above.new.gate) c.lock_node.ensures.tries above c.requires.takes.1
 
 pub unlock_last-requires-clause-range : goal.unlock_last-requires-clause-range
 unlock_last-requires-clause-range g c =
@@ -179,7 +153,7 @@ returns-clause-tries g c =
     let table = c.args.table.now in
     let t = c.requires.takes.0 in
     let (target, above, top) = c.lock_above.ensures.tries in
-    let far = c.is_near.ensures.none c.if-is_near.false in
+    let far = c.is_near_span.ensures.none c.if-is_near_span.false in
     let apart = way_apart table.layout t.before.known t.since c.args.job.now.key.now _ c.args.job.now.way.now t.below.taken.possible t.below.taken.way_of in
     more_two table g.G.Gate.becomes (span_numbers c.args.job.now.way.now c.args.job.now.span) c.args.number c.args.job.now.way.now (c.args.job.now.span.end - 1) false
     (c.args.seat.now, c.args.gate.now) (c.lock_node.new.seat, c.lock_node.new.gate) (c.lock_above.new.seat, c.lock_above.new.gate) (c.unlock_last.new.seat, c.unlock_last.new.gate)
@@ -193,9 +167,8 @@ returns-clause-later g c =
     let table = c.args.table.now in
     let tries = c.lock_node.ensures.tries in
     let (target, above, top) = c.lock_above.ensures.tries in
-    let seat = run_seat table g.G.Gate.becomes (c.lock_node.new.seat, c.lock_node.new.gate) (c.lock_above.new.seat, c.lock_above.new.gate) above (works_seat table g.G.Gate.becomes (c.args.seat.now, c.args.gate.now) (c.lock_node.new.seat, c.lock_node.new.gate) tries c.requires.takes.1) in
-    let possible = run_possible table g.G.Gate.becomes (c.lock_node.new.seat, c.lock_node.new.gate) (c.lock_above.new.seat, c.lock_above.new.gate) above
-    (run_possible table g.G.Gate.becomes (c.args.seat.now, c.args.gate.now) (c.lock_node.new.seat, c.lock_node.new.gate) (works_run table g.G.Gate.becomes (c.args.seat.now, c.args.gate.now) (c.lock_node.new.seat, c.lock_node.new.gate) tries) c.requires.takes.2) in
+    let seat = both_seat table g.G.Gate.becomes (c.args.seat.now, c.args.gate.now) (c.lock_node.new.seat, c.lock_node.new.gate) (c.lock_above.new.seat, c.lock_above.new.gate) tries above c.requires.takes.1 in
+    let possible = both_possible table g.G.Gate.becomes (c.args.seat.now, c.args.gate.now) (c.lock_node.new.seat, c.lock_node.new.gate) (c.lock_above.new.seat, c.lock_above.new.gate) tries above c.requires.takes.2 in
     let works = c.unlock_last.ensures.works in (
       later_trans (later_trans (works_later table g.G.Gate.becomes (c.args.seat.now, c.args.gate.now) (c.lock_node.new.seat, c.lock_node.new.gate) tries) c.lock_above.ensures.later.0)
           (works_later table g.G.Gate.becomes (c.lock_above.new.seat, c.lock_above.new.gate) (c.unlock_last.new.seat, c.unlock_last.new.gate) works),
@@ -203,9 +176,6 @@ returns-clause-later g c =
       run_possible table g.G.Gate.becomes (c.lock_above.new.seat, c.lock_above.new.gate) (c.unlock_last.new.seat, c.unlock_last.new.gate) (works_run table g.G.Gate.becomes (c.lock_above.new.seat, c.lock_above.new.gate) (c.unlock_last.new.seat, c.unlock_last.new.gate) works) possible,
       c.unlock_last.ensures.same.1 ∙ (c.lock_above.ensures.later.1 ∙ (c.lock_node.ensures.locked c.if-not-lock_node.false).2),
     )
-
-pub returns-clause-wide : goal.returns-clause-wide
-returns-clause-wide g c = λ e. not_taken e
 
 pub returns-clause-same : goal.returns-clause-same
 returns-clause-same g c = λ e.
@@ -216,5 +186,3 @@ returns-clause-same g c = λ e.
       c.unlock_last.ensures.same.1 ∙ (s.2 ∙ l.2),
     )
 
-pub returns-clause-few : goal.returns-clause-few
-returns-clause-few g c = omega (arith, c.lock_node.ensures.few, c.lock_above.ensures.few, c.unlock_last.ensures.few)

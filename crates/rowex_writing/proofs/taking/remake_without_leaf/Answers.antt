@@ -15,7 +15,7 @@ use Rattle.rowex_writing.proofs.Keeping.{step_nodes}
 use Rattle.rowex_writing.proofs.Making.{building_none}
 use Rattle.rowex_writing.proofs.Removing.{IsRaised, last_one, left_raised, leaf_gone_record, low_step, lowest_leads, lowest_locked, may_remake, no_step}
 use Rattle.rowex_writing.proofs.Walked.{walk_begins}
-use Rattle.rowex_writing.proofs.taking.remake_without.Goals as goal
+use Rattle.rowex_writing.proofs.taking.remake_without_leaf.Goals as goal
 use Rattle.tries.specs.Content.{item}
 
 pub raise_without-requires-clause-locked : goal.raise_without-requires-clause-locked
@@ -50,12 +50,6 @@ returns-in_default-clause-full g c =
       },
     )
 
-pub returns-in_default-clause-few : goal.returns-in_default-clause-few
-returns-in_default-clause-few g c =
-    let whole : c.layout.result.nodes ≡ c.args.table.now.layout.nodes = ap (λ (z : Layout). z.nodes) c.layout.ensures in
-    let few : c.raise_without.new.seat.known.steps + 2 * c.raise_without.new.build.left_nodes ≤ c.args.seat.now.known.steps + 2 * c.layout.result.nodes + level_steps + length c.raise_without.new.build.made.items = c.in_default.ensures.makes.few in
-    omega (arith, whole, few, ap length c.requires.made, c.raise_without.ensures.makes.more)
-
 pub returns-clause-raised : goal.returns-clause-raised
 returns-clause-raised g c = λ m value b.
     let job = c.args.job.now in
@@ -80,12 +74,6 @@ returns-clause-raised g c = λ m value b.
       few = omega (arith, ap length c.requires.made, c.raise_without.ensures.makes.more);
     }
 
-pub returns-clause-few : goal.returns-clause-few
-returns-clause-few g c =
-    let whole : c.layout.result.nodes ≡ c.args.table.now.layout.nodes = ap (λ (z : Layout). z.nodes) c.layout.ensures in
-    let few : c.raise_without.new.seat.known.steps + 2 * c.raise_without.new.build.left_nodes ≤ c.args.seat.now.known.steps + 2 * c.layout.result.nodes + level_steps + 0 = c.in-Some.ensures.makes.few in
-    omega (arith, whole, few)
-
 pub raise_without-requires-clause-building : goal.raise_without-requires-clause-building
 raise_without-requires-clause-building g c =
     let (m, value, b) = c.requires.below in
@@ -93,18 +81,6 @@ raise_without-requires-clause-building g c =
 
 pub raise_without-requires-clause-room : goal.raise_without-requires-clause-room
 raise_without-requires-clause-room g c = omega (arith, ap length c.requires.made)
-
-pub returns-in_default-clause-goes : goal.returns-in_default-clause-goes
-returns-in_default-clause-goes g c = c.in_default.ensures.makes.goes
-
-pub returns-in_default-clause-raised : goal.returns-in_default-clause-raised
-returns-in_default-clause-raised g c = λ m value b. tt
-
-pub returns-clause-full : goal.returns-clause-full
-returns-clause-full g c = tt
-
-pub returns-clause-goes : goal.returns-clause-goes
-returns-clause-goes g c = c.in-Some.ensures.makes.goes
 
 pub bounds-job-job : goal.bounds-job-job
 bounds-job-job g c =
