@@ -137,4 +137,3 @@ returns-then-check_span-clause-nodes g c = λ e some.
           (goes_run table g.G.Gate.becomes (c.lock_span.new.seat, c.lock_span.new.gate) (c.check_span.new.seat, c.check_span.new.gate) c.check_span.ensures.reads.goes),
       omega (arith, c.lock_span.ensures.few c.if-not-lock_span.false, c.check_span.ensures.few, c.requires.within.0),
     )
-

@@ -73,4 +73,3 @@ returns-then-not-take_span-clause-rest g c = c.take_span.ensures.rest c.if-not-t
 pub returns-in-Ok-clause-rest : goal.returns-in-Ok-clause-rest
 returns-in-Ok-clause-rest g c =
     let (x, was, is, changed) = c.change_span.ensures.done c.in-Ok.is in changed.rest
-

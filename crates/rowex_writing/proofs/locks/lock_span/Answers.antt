@@ -248,4 +248,3 @@ offset_bounds-way-index g c = let h : c.loop-index.index - 1 < length c.args.way
 
 pub slice_bounds-unlock_nodes-start : goal.slice_bounds-unlock_nodes-start
 slice_bounds-unlock_nodes-start g c = upto c.loop-index-test.true c.loop-index.invariant.range.1
-

@@ -90,4 +90,3 @@ returns-clause-same g c = λ e.
       c.unlock_last.ensures.same.0 ∙ (reads.goes.stays.2 ∙ l.3),
       c.unlock_last.ensures.same.1 ∙ (reads.own ∙ l.2),
     )
-

@@ -41,4 +41,3 @@ returns-clause-same g c = λ w.
       c.unlock_last.ensures.same.0 ∙ (gone.1 ∙ sym (w.taking.below.taken.locked.below w.taking.some)),
       c.unlock_last.ensures.same.1 ∙ c.unlock_above.ensures.own,
     )
-

@@ -185,4 +185,3 @@ returns-clause-same g c = λ e.
       c.unlock_last.ensures.same.0 ∙ (s.1 ∙ l.3),
       c.unlock_last.ensures.same.1 ∙ (s.2 ∙ l.2),
     )
-
