@@ -1,5 +1,5 @@
 -- How long parts of a list are, how many steps claims make, and how many node records are made.
-use Rattle.std.proofs.Common.{◌≡◌, ℕ, zero, suc, ◌+◌, ◌-◌, ◌*◌, ◌<◌, ◌≤◌, List, [], ◌∷◌, ◌++◌, length, take, drop, Err, Ok, Result, refl, ap, ◌∙◌, arith}
+use Rattle.std.proofs.Common.{◌≡◌, ℕ, zero, suc, ◌+◌, ◌-◌, ◌*◌, ◌≤◌, List, [], ◌∷◌, ◌++◌, length, take, drop, Err, Ok, Result, refl, ap, ◌∙◌, arith}
 use Rattle.std.specs.Prelude.{Contains, slice_range}
 use Rattle.std.proofs.lemmas.List.{length-drop, length-map, length-take-le}
 use Rattle.insert_cases.specs.declared.choice.PathNode.{PathNode}
@@ -16,7 +16,7 @@ use Rattle.rowex_reading.proofs.Counting.{runs_count}
 use Rattle.rowex_reading.specs.declared.descent.Found.{Found}
 use Rattle.rowex_reading.specs.declared.descent.Found.TheVariants.{Nothing, Leaf}
 use Rattle.rowex_writing.specs.Building.{HasLeafMade, IsBuilding}
-use Rattle.rowex_writing.specs.Counts.{deed_steps, leaf_steps, level_steps, levels_steps, node_steps}
+use Rattle.rowex_writing.specs.Counts.{deed_steps, leaf_steps, levels_steps}
 use Rattle.rowex_writing.specs.Locks.{numbers_of}
 use Rattle.rowex_writing.specs.Putting.{leaf_found}
 use Rattle.rowex_writing.specs.Walks.{nodes_among}

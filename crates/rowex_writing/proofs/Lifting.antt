@@ -20,7 +20,6 @@ use Rattle.pieces.specs.Piece.{Place, Fork, size}
 use Rattle.insert_cases.specs.declared.choice.PathNode.{PathNode}
 use Rattle.tries.proofs.Building.{size-piece}
 use Rattle.tries.specs.Affected.{subtrie_grown}
-use Rattle.tries.specs.Keys.{Key}
 use Rattle.tries.specs.Place.{spot, with_subtrie}
 use Rattle.tries.specs.Tree.{Subtrie}
 use Rattle.versions.specs.Heap.{NodeWords}

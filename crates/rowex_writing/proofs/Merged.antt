@@ -71,7 +71,6 @@ use Rattle.rowex_writing.specs.Retiring.{AreInTable, IsAnchored}
 use Rattle.rowex_writing.specs.declared.deeds.Job.{Job}
 use Rattle.rowex_writing.specs.declared.merging.ClosedFork.{ClosedFork}
 use Rattle.rowex_writing.specs.declared.merging.Merge.{Merge}
-use Rattle.rowex_writing.specs.declared.plan.Span.{Span}
 use Rattle.rowex_writing.proofs.Above.{lower_entry}
 use Rattle.rowex_writing.proofs.Beside.{locked_node, lower_at, lower_locked, lower_range, upper_at, upper_locked, upper_range}
 use Rattle.rowex_table.specs.Rights.{IsClaimed}

@@ -25,11 +25,8 @@ use Rattle.rowex_core.specs.declared.event.Spot.{Spot}
 use Rattle.rowex_core.specs.declared.event.Spot.TheVariants.{Root, Slot}
 use Rattle.rowex_core.specs.declared.known.Known.{Known}
 use Rattle.rowex_core.specs.declared.known.Locked.{Locked}
-use Rattle.rowex_core.specs.Cores.{HasRecord, IsWhole}
-use Rattle.rowex_core.specs.Reading.{IsPacked, node_words_of}
-use Rattle.rowex_core.specs.Sharing.{IsLocked}
-use Rattle.rowex_core.proofs.Owning.{knows_all}
-use Rattle.rowex_core.proofs.Reading.{node_is}
+use Rattle.rowex_core.specs.Cores.{HasRecord}
+use Rattle.rowex_core.specs.Reading.{node_words_of}
 use Rattle.version_laws.specs.Scan.{IsRead}
 use Rattle.version_laws.specs.Writer.{removed_change}
 use Rattle.rowex_table.specs.Made.{IsLater, Made}
@@ -66,7 +63,6 @@ use Rattle.rowex_reading.proofs.Ways.{named_at, named_end}
 use Rattle.rowex_reading.specs.declared.descent.Found.{Found}
 use Rattle.rowex_reading.specs.declared.descent.Found.TheVariants.{Nothing, Leaf}
 use Rattle.rowex_writing.specs.declared.deeds.Job.{Job}
-use Rattle.rowex_writing.specs.declared.plan.Span.{Span}
 use Rattle.rowex_writing.proofs.Above.{locked_at, holds_above}
 use Rattle.rowex_writing.proofs.Beside.{locked_node}
 use Rattle.rowex_writing.proofs.Planning.{same_span}

@@ -1,5 +1,5 @@
 -- What may be stored for a change, and for a removal that merges.
-use Rattle.std.proofs.Common.{◌≡◌, ℕ, ◌+◌, ◌-◌, ◌<◌, List, Option, Some, nat_eq, sym, subst, ap, arith}
+use Rattle.std.proofs.Common.{◌≡◌, ℕ, ◌-◌, List, Option, Some, nat_eq, sym, subst, arith}
 use Rattle.std.specs.Prelude.{slice_range}
 use Rattle.std.proofs.lemmas.Bool.{eq-eqb, ne_eqb}
 use Rattle.compound_node.specs.declared.entries.Entry.{Entry}
@@ -53,7 +53,7 @@ module _ (table : TableView) (a : SeatView) (build : Build) (way kept shown : Li
 -- for a change
 pub change_store : (table : TableView) (a : SeatView) (made : List Rec) (build : Build) (shown : List PathNode) (job : Job) (raised : Raised) (spot : Spot) (x : Change) (was : Option ℕ) → HoldsSpan table a job →
     build.made.items ≡ made → build.gone.items ≡ gone_of_span job.way.now job.span raised → shown ≡ kept_of_span job.way.now job.span raised → IsSpotAbove job.way.now job.span.end spot →
-    MayReplace table a made job.way.now job.span raised x was → MayStore table a build shown (record { spot = spot; entry = raised.entry }) x was
+    MayReplace table a made job raised x was → MayStore table a build shown (record { spot = spot; entry = raised.entry }) x was
 change_store table a made build shown job raised spot x was held made_is gone_is kept_is over may =
     let (m, w) = held.from in
     let nodes = step_nodes table.layout a.known m job.key.now job.way.now job.found w in

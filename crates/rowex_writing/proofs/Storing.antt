@@ -18,7 +18,7 @@ use Rattle.rowex_core.specs.declared.known.Known.{Known}
 use Rattle.rowex_core.specs.Having.{AreKept}
 use Rattle.rowex_core.specs.Knowing.{IsEvent}
 use Rattle.rowex_core.specs.Reading.{entry_of}
-use Rattle.rowex_table.specs.Made.{Made, nodes_of}
+use Rattle.rowex_table.specs.Made.{nodes_of}
 use Rattle.rowex_table.specs.Publishes.{HasPublished, Publishes}
 use Rattle.rowex_table.specs.Rule.{MayStep}
 use Rattle.rowex_table.specs.Runs.{silent}
@@ -27,7 +27,6 @@ use Rattle.rowex_table.proofs.ActsLeave.{act_leaves}
 use Rattle.publish_laws.specs.Ending.{IsAtRest}
 use Rattle.publish_laws.specs.Stages.{HasReady}
 use Rattle.rowex_reading.specs.Possible.{IsPossible}
-use Rattle.rowex_writing.specs.Building.{IsBuilding}
 use Rattle.rowex_writing.specs.Changes.{HasChanged, MayPublishOnceReady}
 use Rattle.rowex_writing.specs.Going.{WorksOn}
 use Rattle.rowex_writing.specs.Retiring.{HasJustPublished, IsAnchored}
@@ -49,11 +48,6 @@ pub word_spells : (layout : Layout) (k : Known) (spot : Spot) (w : ℕ) → IsPo
 word_spells layout k spot w possible may = (may possible.core possible.lawful possible.layout_is possible.knows).1.entry.0
 
 -- ---- the store
--- the records by another name of their list
-pub all_ready : (table : TableView) (a b : SeatView) (shown made : List Rec) (news : List Made) → shown ≡ made → ((all : List Made) → IsBuilding table a shown all → HasReady b.known a.known.locks all) →
-    IsBuilding table a made news → HasReady b.known a.known.locks news
-all_ready table a b shown made news same ready building = ready news (subst (λ z. IsBuilding table a z news) (sym same) building)
-
 pub word_published : (layout : Layout) (spot : Spot) (v w : ℕ) (k j : Known) → v ≡ w → IsEvent layout (Publish spot v) silent k j → IsEvent layout (Publish spot w) silent k j
 word_published layout spot v w k j same e = subst (λ z. IsEvent layout (Publish spot z) silent k j) same e
 

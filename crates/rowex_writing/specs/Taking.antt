@@ -1,5 +1,5 @@
 -- What a pass knows of the leaf that it takes away.
-use Rattle.std.specs.Prelude.{◌≡◌, ℕ, ◌+◌, List, [], length, Some, None}
+use Rattle.std.specs.Prelude.{◌≡◌, ℕ, ◌+◌, [], length, Some, None}
 use Rattle.compound_node.specs.declared.entries.Entry.TheVariants.{Leaf as LeafEntry}
 use Rattle.tries.specs.Keys.{Key}
 use Rattle.rowex_core.specs.declared.known.Known.{Known}

@@ -35,10 +35,6 @@ abbrev pub looks_for : {X : Type 0} → Build → Option X → ℕ
 looks_for after None = length after.made.items
 looks_for after (Some x) = 0
 
--- The pass makes so many steps at most, and two for each number that it tries on its walk.
-abbrev pub Spends : {X : Type 0} → ℕ → Known → Build → Known → Build → Option X → Type 0
-Spends steps k build j after answer = j.steps + 2 * after.left_nodes ≤ k.steps + 2 * build.left_nodes + steps + looks_for after answer
-
 -- the node records of a list
 abbrev pub nodes_among : List Rec → List Rec
 nodes_among [] = []
@@ -50,9 +46,9 @@ abbrev pub lacking : {X : Type 0} → Option X → ℕ
 lacking None = 1
 lacking (Some x) = 0
 
--- The pass goes on under its locks and makes records, at most so many. It makes at most so many steps beside those of its walk. The walk goes
--- on; or the answer is nothing, and each node record was found not free since the walk began: none was its own, but for those that it has made.
--- Before and after are the seat, the gate and what is built.
+-- The pass goes on under its locks and makes records, at most so many. It makes at most so many steps, and two for each number that it tries on
+-- its walk. The walk goes on; or the answer is nothing, and each node record was found not free since the walk began: none was its own, but
+-- for those that it has made. Before and after are the seat, the gate and what is built.
 pub record Makes {G X : Type 0} (most steps : ℕ) (table : TableView) (becomes : G → Event → G → Type 0) (a b : (SeatView × G) × Build)
     (answer : Option X) : Type 0 where
   pub goes : WorksOn table becomes a.0 b.0
@@ -61,4 +57,4 @@ pub record Makes {G X : Type 0} (most steps : ℕ) (table : TableView) (becomes 
   pub walk : (since : ℕ) → HasWalked table.layout since a.0.0.known a.1 →
       MatchOption answer (AllMissed (IsAnothersBut table.layout b.0.0.known b.1.made.items) a_node table.layout.nodes b.0.0.known.failed since)
       (λ x. HasWalked table.layout since b.0.0.known b.1)
-  pub few : Spends steps a.0.0.known a.1 b.0.0.known b.1 answer
+  pub few : b.0.0.known.steps + 2 * b.1.left_nodes ≤ a.0.0.known.steps + 2 * a.1.left_nodes + steps + looks_for b.1 answer

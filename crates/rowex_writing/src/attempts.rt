@@ -247,7 +247,7 @@ fn take_span<G: Gate>(table: &HotTable, seat: &mut TableSeat, gate: &mut G, job:
     if check_span(table, seat, gate, job) {
         return true;
     }
-    undo(table, seat, gate, &[], job.way, job.span);
+    undo(table, seat, gate, &[], job);
     false
 }
 
@@ -265,7 +265,7 @@ fn undo_change<G: Gate>(
     ensures rest { IsAtRest seat.new.known }
     ensures few { seat.new.known.steps ≤ seat.old.known.steps + length build.now.made.items + locks_of job.now.span }
 {
-    undo(table, seat, gate, build.made.as_slice(), job.way, job.span);
+    undo(table, seat, gate, build.made.as_slice(), job);
 }
 
 /// The fault of an attempt that found no record of the kind `full` free.

@@ -11,7 +11,7 @@ ghost use Rattle.rowex_writing.specs.Going.{WorksOn};
 ghost use Rattle.versions.specs.declared.Rec.{Rec as Record};
 ghost use Rattle.rowex_table.specs.Made.{Made};
 ghost use Rattle.rowex_writing.specs.Building.{IsBuilding};
-ghost use Rattle.rowex_writing.specs.Walks.{HasNoOther, HasWalked, IsClaimWalk, Spends};
+ghost use Rattle.rowex_writing.specs.Walks.{HasNoOther, HasWalked, IsClaimWalk, looks_for};
 
 use crate::building::Build;
 use arrayvec::ArrayVec;
@@ -226,7 +226,7 @@ pub(crate) fn claim_node<G: Gate>(
         (AllMissed (IsAnothersBut table.now.layout seat.new.known build.new.made.items) a_node table.now.layout.nodes seat.new.known.failed since)
         (λ number. IsClaimWalk table.now.layout since seat.new.known (build.old.made.items ++ a_node number ∷ [])
         build.new.nodes.next build.new.left_nodes) }
-    ensures few { Spends 2 seat.old.known build.old seat.new.known build.new result }
+    ensures few { seat.new.known.steps + 2 * build.new.left_nodes ≤ seat.old.known.steps + 2 * build.old.left_nodes + 2 + looks_for build.new result }
 {
     let claimed = claim_on_walk(table, seat, gate, &mut build.nodes, &mut build.left_nodes);
     if let Some(number) = claimed {

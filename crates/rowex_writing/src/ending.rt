@@ -5,11 +5,12 @@ ghost use Rattle.record_words.specs.declared.TheConstants.{EPOCHS};
 ghost use Rattle.rowex_records.specs.Records.{HoldsJust};
 ghost use Rattle.publish_laws.specs.Ending.{IsAtRest};
 ghost use Rattle.rowex_table.specs.Seats.{IsSeatOf};
-ghost use Rattle.rowex_writing.specs.Locks.{AreNodes, HasLockedSpan, Works, locks_of, numbers_of};
+ghost use Rattle.rowex_writing.specs.Jobs.{HoldsSpan};
+ghost use Rattle.rowex_writing.specs.Locks.{AreNodes, Works, locks_of, numbers_of};
 ghost use Rattle.rowex_writing.specs.Retiring.{AreInTable, HasJustPublished, HasToMark, IsAnchored, KeepsLocks};
 
+use crate::deeds::Job;
 use crate::locks::unlock_nodes;
-use crate::plan::Span;
 use insert_cases::PathNode;
 use rowex_core::{Gate, Rec, Target};
 use rowex_records::give_up_all;
@@ -44,29 +45,25 @@ pub(crate) fn retire<G: Gate>(
 }
 
 /// Takes a change back that was not published: gives up the records `held`, which are all that the pass has. Then it unlocks the nodes of
-/// `span` and the one above them, or the anchor if `span.end` is 0. These are all that the pass has locked.
+/// `job`'s span and the one above them, or the anchor if the span goes up to the root. These are all that the pass has locked.
 pub(crate) fn undo<G: Gate>(
     table: &HotTable,
     seat: &mut TableSeat,
     gate: &mut G,
     held: &[Rec],
-    way: &[PathNode],
-    span: Span,
+    job: &Job<'_>,
 )
-    requires own { IsSeatOf table.now seat.old }
+    requires span { HoldsSpan table.now seat.old job.now }
     requires records { AreInTable table.now.layout held.now }
-    requires within { (span.end ≤ span.len) × (span.len ≤ length way.now) }
-    requires nodes { AreNodes table.now.layout way.now }
     requires held { HoldsJust seat.old.known held.now }
-    requires locked { HasLockedSpan seat.old.known way.now span }
     ensures works { Works table.now G.becomes (seat.old, gate.old) (seat.new, gate.new) }
     ensures rest { IsAtRest seat.new.known }
-    ensures few { seat.new.known.steps ≤ seat.old.known.steps + length held.now + locks_of span }
+    ensures few { seat.new.known.steps ≤ seat.old.known.steps + length held.now + locks_of job.now.span }
 {
     give_up_all(table, seat, gate, held);
-    let locked = &way[span.first_locked()..span.len];
+    let locked = &job.way[job.span.first_locked()..job.span.len];
     unlock_nodes(table, seat, gate, locked);
-    if span.end == 0 {
+    if job.span.end == 0 {
         table.unlock(seat, gate, Target::Anchor);
     }
 }

@@ -55,12 +55,6 @@ returns-in-Ok-clause-done g c = λ ok.
     let later = c.remove_leaf.ensures.done.goes.stays.0 in
     (x, was, subst (λ q. IsTakeChange q job.key.now job.found x was) later.pass is, changed_since c.args.seat.now.known c.remove_leaf.new.seat.known c.end_removal.new.seat.known x was later changed)
 
-pub returns-in-Ok-clause-full : goal.returns-in-Ok-clause-full
-returns-in-Ok-clause-full g c = tt
-
-pub returns-in-Ok-clause-leafless : goal.returns-in-Ok-clause-leafless
-returns-in-Ok-clause-leafless g c = λ is. err_only _ _ is
-
 pub undo_change-requires : goal.undo_change-requires
 undo_change-requires g c = record {
   held = holds_on c.args.table.now g.G.Gate.becomes (c.args.seat.now, c.args.gate.now) (c.remove_leaf.new.seat, c.remove_leaf.new.gate) c.args.job.now Take c.remove_leaf.ensures.done.goes c.requires.taken;
@@ -82,9 +76,6 @@ returns-in-Err-clause-run g c = λ a h.
       omega arith,
       omega (arith, c.in-Err.ensures.done.few, c.undo_change.ensures.few, c.in-Err.ensures.done.full.few, count, t.below.last, c.requires.some),
     )
-
-pub returns-in-Err-clause-done : goal.returns-in-Err-clause-done
-returns-in-Err-clause-done g c = λ is. ok_only _ _ is
 
 pub returns-in-Err-clause-full : goal.returns-in-Err-clause-full
 returns-in-Err-clause-full g c =

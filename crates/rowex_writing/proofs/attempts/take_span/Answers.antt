@@ -6,7 +6,6 @@ use Rattle.rowex_writing.proofs.Confirming.{span_later}
 use Rattle.rowex_writing.specs.Locks.{span_numbers}
 use Rattle.rowex_writing.proofs.Tried.{nodes_then}
 use Rattle.rowex_writing.proofs.Runs.{goes_run, nodes_run, once_run, tries_once, works_run}
-use Rattle.rowex_writing.proofs.Keeping.{step_nodes}
 use Rattle.rowex_writing.proofs.Ways.{way_apart, way_led}
 use Rattle.rowex_reading.proofs.Ways.{way_later}
 use Rattle.rowex_writing.proofs.Works.{works_count, works_later, works_seat}
@@ -75,16 +74,20 @@ returns-then-check_span-clause-taken g c e m w =
       checked = c.check_span.ensures.checked c.if-check_span.true;
     }
 
-pub undo-requires-clause-own : goal.undo-requires-clause-own
-undo-requires-clause-own g c =
+pub undo-requires-clause-span : goal.undo-requires-clause-span
+undo-requires-clause-span g c =
     let table = c.args.table.now in
-    run_seat table g.G.Gate.becomes (c.lock_span.new.seat, c.lock_span.new.gate) (c.check_span.new.seat, c.check_span.new.gate) (goes_run table g.G.Gate.becomes (c.lock_span.new.seat, c.lock_span.new.gate) (c.check_span.new.seat, c.check_span.new.gate) c.check_span.ensures.reads.goes) (works_seat table g.G.Gate.becomes (c.args.seat.now, c.args.gate.now) (c.lock_span.new.seat, c.lock_span.new.gate) c.lock_span.ensures.tries.1.1 c.requires.own)
-
-pub undo-requires-clause-nodes : goal.undo-requires-clause-nodes
-undo-requires-clause-nodes g c = step_nodes c.args.table.now.layout c.args.seat.now.known c.requires.way.0 c.args.job.now.key.now c.args.job.now.way.now c.args.job.now.found c.requires.way.1
-
-pub undo-requires-clause-locked : goal.undo-requires-clause-locked
-undo-requires-clause-locked g c = span_later _ _ c.args.job.now.way.now c.args.job.now.span c.check_span.ensures.reads.goes.stays (c.lock_span.ensures.locked c.if-not-lock_span.false)
+    let job = c.args.job.now in
+    let tries = c.lock_span.ensures.tries.1.1 in
+    let goes = c.check_span.ensures.reads.goes in
+    let (m, w) = c.requires.way in
+    record {
+      seat = run_seat table g.G.Gate.becomes (c.lock_span.new.seat, c.lock_span.new.gate) (c.check_span.new.seat, c.check_span.new.gate) (goes_run table g.G.Gate.becomes (c.lock_span.new.seat, c.lock_span.new.gate) (c.check_span.new.seat, c.check_span.new.gate) goes) (works_seat table g.G.Gate.becomes (c.args.seat.now, c.args.gate.now) (c.lock_span.new.seat, c.lock_span.new.gate) tries c.requires.own);
+      possible = c.check_span.ensures.possible;
+      within = c.requires.within;
+      from = (m, way_later table.layout c.args.seat.now.known c.check_span.new.seat.known m job.key.now job.way.now job.found (later_trans (works_later table g.G.Gate.becomes (c.args.seat.now, c.args.gate.now) (c.lock_span.new.seat, c.lock_span.new.gate) tries) goes.stays.0) w);
+      locked = span_later _ _ job.way.now job.span goes.stays (c.lock_span.ensures.locked c.if-not-lock_span.false);
+    }
 
 pub returns-clause-run : goal.returns-clause-run
 returns-clause-run g c =
@@ -115,51 +118,15 @@ returns-clause-busy g c t m w =
     let more = longer c.check_span.new.seat.known c.undo.new.seat.known (works_later table g.G.Gate.becomes (c.check_span.new.seat, c.check_span.new.gate) (c.undo.new.seat, c.undo.new.gate) c.undo.ensures.works) in
     inr (omega (arith, moved, more))
 
-pub returns-then-not-lock_span-clause-taken : goal.returns-then-not-lock_span-clause-taken
-returns-then-not-lock_span-clause-taken g c = λ e. not_taken e
-
 pub returns-then-not-lock_span-clause-busy : goal.returns-then-not-lock_span-clause-busy
 returns-then-not-lock_span-clause-busy g c = λ e m w. inl (c.lock_span.ensures.refused c.if-not-lock_span.true).1
-
-pub returns-then-check_span-clause-busy : goal.returns-then-check_span-clause-busy
-returns-then-check_span-clause-busy g c = λ e. not_taken (sym e)
-
-pub returns-clause-taken : goal.returns-clause-taken
-returns-clause-taken g c = λ e. not_taken e
 
 pub undo-requires-clause-records : goal.undo-requires-clause-records
 undo-requires-clause-records g c = λ k d low. absurd (omega (arith, low))
 
-pub lock_span-requires-clause-own : goal.lock_span-requires-clause-own
-lock_span-requires-clause-own g c = c.requires.own
-
-pub lock_span-requires-clause-span : goal.lock_span-requires-clause-span
-lock_span-requires-clause-span g c = c.requires.within
-
-pub lock_span-requires-clause-free : goal.lock_span-requires-clause-free
-lock_span-requires-clause-free g c = (c.requires.rest.locks, c.requires.rest.anchor)
-
-pub lock_span-requires-clause-none : goal.lock_span-requires-clause-none
-lock_span-requires-clause-none g c = c.requires.rest.own
-
-pub lock_span-requires-clause-quiet : goal.lock_span-requires-clause-quiet
-lock_span-requires-clause-quiet g c = c.requires.quiet
-
-pub undo-requires-clause-within : goal.undo-requires-clause-within
-undo-requires-clause-within g c = c.requires.within
-
 pub returns-then-not-lock_span-clause-rest : goal.returns-then-not-lock_span-clause-rest
 returns-then-not-lock_span-clause-rest g c = λ e.
     let free = (c.lock_span.ensures.refused c.if-not-lock_span.true).0 in record { own = c.lock_span.ensures.same ∙ c.requires.rest.own; locks = free.0; anchor = free.1 }
-
-pub returns-then-check_span-clause-rest : goal.returns-then-check_span-clause-rest
-returns-then-check_span-clause-rest g c = λ e. not_taken (sym e)
-
-pub returns-clause-rest : goal.returns-clause-rest
-returns-clause-rest g c = λ e. c.undo.ensures.rest
-
-pub returns-then-not-lock_span-clause-nodes : goal.returns-then-not-lock_span-clause-nodes
-returns-then-not-lock_span-clause-nodes g c = λ e. not_taken e
 
 pub returns-then-check_span-clause-nodes : goal.returns-then-check_span-clause-nodes
 returns-then-check_span-clause-nodes g c = λ e some.
@@ -170,6 +137,3 @@ returns-then-check_span-clause-nodes g c = λ e some.
           (goes_run table g.G.Gate.becomes (c.lock_span.new.seat, c.lock_span.new.gate) (c.check_span.new.seat, c.check_span.new.gate) c.check_span.ensures.reads.goes),
       omega (arith, c.lock_span.ensures.few c.if-not-lock_span.false, c.check_span.ensures.few, c.requires.within.0),
     )
-
-pub returns-clause-nodes : goal.returns-clause-nodes
-returns-clause-nodes g c = λ e. not_taken e

@@ -16,9 +16,6 @@ ok_only x e is = absurd cc
 err_only : {X E A : Type 0} (x : X) (e : E) → Ok x ≡ Err e → A
 err_only x e is = absurd cc
 
-pub take_span-requires-clause-way : goal.take_span-requires-clause-way
-take_span-requires-clause-way g c = (c.requires.planned.0, c.requires.planned.2)
-
 -- ---- another pass is at work there
 pub returns-then-not-take_span-clause-run : goal.returns-then-not-take_span-clause-run
 returns-then-not-take_span-clause-run g c =
@@ -73,21 +70,6 @@ returns-in-Err-clause-leafless g c take is =
 pub returns-then-not-take_span-clause-rest : goal.returns-then-not-take_span-clause-rest
 returns-then-not-take_span-clause-rest g c = c.take_span.ensures.rest c.if-not-take_span.true
 
-pub returns-then-not-take_span-clause-done : goal.returns-then-not-take_span-clause-done
-returns-then-not-take_span-clause-done g c = λ is. ok_only _ _ is
-
 pub returns-in-Ok-clause-rest : goal.returns-in-Ok-clause-rest
 returns-in-Ok-clause-rest g c =
     let (x, was, is, changed) = c.change_span.ensures.done c.in-Ok.is in changed.rest
-
-pub returns-in-Ok-clause-refused : goal.returns-in-Ok-clause-refused
-returns-in-Ok-clause-refused g c = tt
-
-pub returns-in-Ok-clause-leafless : goal.returns-in-Ok-clause-leafless
-returns-in-Ok-clause-leafless g c = λ take is. err_only _ _ is
-
-pub returns-in-Err-clause-rest : goal.returns-in-Err-clause-rest
-returns-in-Err-clause-rest g c = c.in-Err.ensures.full.rest
-
-pub returns-in-Err-clause-done : goal.returns-in-Err-clause-done
-returns-in-Err-clause-done g c = λ is. ok_only _ _ is

@@ -2,19 +2,13 @@
 use Rattle.std.proofs.Common.{ap, arith, length, subst, sym}
 use Rattle.rowex_records.specs.Records.{HoldsJust}
 use Rattle.rowex_writing.specs.Retiring.{AreInTable}
-use Rattle.rowex_writing.proofs.Keeping.{made_held, made_records, step_nodes}
+use Rattle.rowex_writing.proofs.Keeping.{made_held, made_records}
 use Rattle.rowex_writing.proofs.attempts.undo_change.Goals as goal
 
 pub undo-requires-clause-records : goal.undo-requires-clause-records
 undo-requires-clause-records g c =
     let m = c.requires.made in
     subst (AreInTable c.args.table.now.layout) (sym c.as_slice.ensures.value) (made_records c.args.table.now c.args.seat.now c.args.build.now.made.items m.news m.building)
-
-pub undo-requires-clause-nodes : goal.undo-requires-clause-nodes
-undo-requires-clause-nodes g c =
-    let job = c.args.job.now in
-    let (m, way) = c.requires.held.from in
-    step_nodes c.args.table.now.layout c.args.seat.now.known m job.key.now job.way.now job.found way
 
 pub undo-requires-clause-held : goal.undo-requires-clause-held
 undo-requires-clause-held g c =

@@ -35,17 +35,8 @@ returns-clause-made g c = λ news node has spells b. (
       c.args.build.now.made.items news c.claim_node.ensures.goes c.in_ok-number.ensures.claims.1 c.fill_words.ensures.fills c.fill_words.ensures.filled.1 b)),
 )
 
-pub push-requires : goal.push-requires
-push-requires g c = let same = ap length c.claim_node.ensures.made in (omega arith, omega (arith, same, c.requires.room))
-
 pub fill_words-requires-clause-held : goal.fill_words-requires-clause-held
 fill_words-requires-clause-held g c = more_is_claimed (a_node c.in_ok-number.number) c.args.seat.now.known c.claim_node.new.seat.known c.in_ok-number.ensures.claims.1
-
-pub returns-in_err-number-clause-same : goal.returns-in_err-number-clause-same
-returns-in_err-number-clause-same g c = λ none. (c.in_err-number.ensures.claims, c.claim_node.ensures.made)
-
-pub returns-clause-same : goal.returns-clause-same
-returns-clause-same g c = λ none. absurd cc
 
 pub returns-in_err-number-clause-makes : goal.returns-in_err-number-clause-makes
 returns-in_err-number-clause-makes g c = rw c.from_residual.ensures (record {

@@ -3,9 +3,6 @@ use Rattle.std.proofs.Common.{sym}
 use Rattle.rowex_writing.proofs.Making.{has_made}
 use Rattle.rowex_writing.proofs.building.make_node.Goals as goal
 
-pub make_from_words-requires-clause-spelling : goal.make_from_words-requires-clause-spelling
-make_from_words-requires-clause-spelling g c = (c.args.node.now, c.pack_node-words.ensures.fits, sym c.pack_node-words.ensures.words)
-
 pub returns-clause-made : goal.returns-clause-made
 returns-clause-made g c = λ news b.
     has_made c.args.table.now c.make_from_words.new.seat c.make_from_words.new.build.made.items news c.args.node.now c.make_from_words.result c.pack_node-words.ensures.fits

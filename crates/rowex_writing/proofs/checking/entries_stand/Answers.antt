@@ -27,12 +27,6 @@ loop-index-init g c = record {
   stand = none_stand c.args.table.now.layout c.args.seat.now.known c.args.job.now.way.now c.args.job.now.found c.args.job.now.span c.first_locked-index.result c.first_locked-index.ensures;
 }
 
-pub entry_stands-requires-clause-own : goal.entry_stands-requires-clause-own
-entry_stands-requires-clause-own g c = c.loop-index.invariant.own
-
-pub entry_stands-requires-clause-possible : goal.entry_stands-requires-clause-possible
-entry_stands-requires-clause-possible g c = c.loop-index.invariant.possible
-
 pub entry_stands-requires-clause-place : goal.entry_stands-requires-clause-place
 entry_stands-requires-clause-place g c =
     let i = c.loop-index.invariant in
@@ -82,19 +76,10 @@ loop-index-preserved g c =
           (e.same c.if-not-entry_stands.false words) locked);
     }
 
-pub returns-clause-reads : goal.returns-clause-reads
-returns-clause-reads g c = c.loop-index.invariant.reads
-
-pub returns-clause-possible : goal.returns-clause-possible
-returns-clause-possible g c = c.loop-index.invariant.possible
-
 pub returns-clause-stand : goal.returns-clause-stand
 returns-clause-stand g c = λ m w t i s low high at words h.
     let v = c.loop-index.invariant in
     v.stand m c.args.job.now.key.now w i s low (omega (arith, c.loop-index-test.false)) at words (locked_on c.loop-index.seat.known c.args.seat.now.known s.number words (sym v.reads.goes.stays.1) h)
-
-pub returns-then-not-entry_stands-clause-possible : goal.returns-then-not-entry_stands-clause-possible
-returns-then-not-entry_stands-clause-possible g c = c.entry_stands.ensures.possible
 
 pub returns-then-not-entry_stands-clause-stand : goal.returns-then-not-entry_stands-clause-stand
 returns-then-not-entry_stands-clause-stand g c = λ m w e. absurd (false≢true e)

@@ -49,10 +49,5 @@ returns-in-Some-clause-claims g c =
       more_since (a_leaf (c.loop-first.first + c.in-Some.number)) c.args.seat.now.known c.loop-first.seat.known c.claim_by_hint.new.seat.known c.loop-first.invariant.own holds,
     )
 
-pub returns-in-Some-clause-few : goal.returns-in-Some-clause-few
-returns-in-Some-clause-few g c =
-    let i = c.loop-first.invariant in
-    omega (arith, i.within.0, i.count, c.claim_by_hint.ensures.few, c.class_end.ensures.upto.0, c.loop-first-test.true, c.min-end.ensures)
-
 pub returns-clause-claims : goal.returns-clause-claims
 returns-clause-claims g c = (c.loop-first.invariant.own, λ q low high. c.loop-first.invariant.missed q low (omega (arith, high, c.loop-first-test.false)))

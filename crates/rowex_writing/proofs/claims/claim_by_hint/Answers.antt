@@ -1,5 +1,5 @@
 -- The spare record was not free, or there was none; then one of all records is claimed, or none was free.
-use Rattle.std.proofs.Common.{◌∙◌, arith}
+use Rattle.std.proofs.Common.{◌∙◌}
 use Rattle.rowex_records.specs.Claims.{IsAnothersTo, count_of, record_of}
 use Rattle.rowex_records.proofs.Claimed.{all_earlier, claims_holds, missed_before, more_since}
 use Rattle.rowex_writing.proofs.Locking.{goes_more, seat_of}

@@ -44,25 +44,6 @@ returns-in_err-number-clause-claims g c =
 pub returns-clause-goes : goal.returns-clause-goes
 returns-clause-goes g c = goes_more c.args.table.now g.G.Gate.becomes _ _ _ c.claim_between.ensures.goes c.claim_between-2.ensures.goes
 
-pub claim_between-requires-clause-range : goal.claim_between-requires-clause-range
-claim_between-requires-clause-range g c =
-    let all : c.layout-layout.result.leaves ≡ c.args.table.now.layout.leaves = ap (λ (z : Layout). z.leaves) c.layout-layout.ensures in
-    (c.skip_classes-from.ensures.1, omega (arith, all))
-
-pub claim_between-requires-2-clause-range : goal.claim_between-requires-2-clause-range
-claim_between-requires-2-clause-range g c =
-    let all : c.layout-layout.result.leaves ≡ c.args.table.now.layout.leaves = ap (λ (z : Layout). z.leaves) c.layout-layout.ensures in
-    (c.skip_classes-from.ensures.0, omega (arith, all, c.skip_classes-from.ensures.1))
-
-pub returns-in-Some-clause-claims : goal.returns-in-Some-clause-claims
-returns-in-Some-clause-claims g c =
-    let all : c.layout-layout.result.leaves ≡ c.args.table.now.layout.leaves = ap (λ (z : Layout). z.leaves) c.layout-layout.ensures in
-    let (low, high, holds) = c.in-Some.ensures.claims in (
-      omega (arith, all, high),
-      subst (λ (z : Layout). c.args.words ≤ leaf_size z c.in-Some.number) c.layout-layout.ensures (c.first_with-first.ensures.from c.requires.words c.in-Some.number (omega (arith, low, c.skip_classes-from.ensures.0))),
-      holds,
-    )
-
 pub returns-in-Some-clause-few : goal.returns-in-Some-clause-few
 returns-in-Some-clause-few g c =
     few_later _ _ c.skip_classes-from.result c.layout-layout.result.leaves _ (ap (λ (z : Layout). z.leaves) c.layout-layout.ensures) c.in-Some.ensures.few

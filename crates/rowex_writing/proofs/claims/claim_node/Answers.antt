@@ -1,7 +1,6 @@
 -- A record is claimed; or none was free, and those that are made are looked at.
-use Rattle.std.proofs.Common.{◌∙◌, ℕ, Option, sym, subst, Contains, ap, arith, length}
+use Rattle.std.proofs.Common.{ℕ, Option, sym, subst, Contains}
 use Rattle.versions.specs.declared.Rec.{Rec as Record}
-use Rattle.versions.specs.declared.Rec.TheVariants.{Node as a_node}
 use Rattle.rowex_records.specs.Claims.{HasMissedSince, IsAnothersBut}
 use Rattle.rowex_records.proofs.Claimed.{missed_earlier}
 use Rattle.rowex_writing.specs.Building.{IsBuilding}
@@ -25,9 +24,6 @@ load_states-requires g c =
 pub returns-clause-goes : goal.returns-clause-goes
 returns-clause-goes g c = goes_more c.args.table.now g.G.Gate.becomes _ _ _ c.claim_on_walk-claimed.ensures.goes c.load_states.ensures.goes
 
-pub returns-clause-claims : goal.returns-clause-claims
-returns-clause-claims g c = c.load_states.ensures.own ∙ c.in_default.ensures.claims
-
 pub returns-clause-walk : goal.returns-clause-walk
 returns-clause-walk g c = λ since w.
     let (news, b) = c.requires.building in
@@ -48,9 +44,3 @@ pub returns-in-Some-clause-walk : goal.returns-in-Some-clause-walk
 returns-in-Some-clause-walk g c = λ since w.
     let (news, b) = c.requires.building in
     c.in-Some.ensures.walk since c.args.build.now.made.items (made_alone c.args.table.now c.args.seat.now c.args.build.now.made.items news b) w
-
-pub returns-in-Some-clause-few : goal.returns-in-Some-clause-few
-returns-in-Some-clause-few g c = let few = c.in-Some.ensures.few in omega (arith, few)
-
-pub returns-clause-few : goal.returns-clause-few
-returns-clause-few g c = omega (arith, c.in_default.ensures.few, c.load_states.ensures.few, ap length c.as_slice.ensures.value)

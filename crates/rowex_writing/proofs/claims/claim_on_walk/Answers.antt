@@ -1,5 +1,5 @@
 -- The spare record was not free, or there was none; then one of all records is claimed, or none was free.
-use Rattle.std.proofs.Common.{◌∙◌, arith}
+use Rattle.std.proofs.Common.{arith}
 use Rattle.std.proofs.lemmas.List.Elements.{Contains-append_left}
 use Rattle.versions.specs.declared.Rec.TheVariants.{Node as a_node}
 use Rattle.rowex_records.proofs.Claimed.{claims_holds, more_since}
@@ -20,9 +20,6 @@ claim_within-requires-clause-own g c = seat_of c.args.table.now g.G.Gate.becomes
 pub returns-in_err-number-clause-goes : goal.returns-in_err-number-clause-goes
 returns-in_err-number-clause-goes g c =
     goes_more c.args.table.now g.G.Gate.becomes _ _ _ c.claim_spare.ensures.goes (none_on c.args.table.now g.G.Gate.becomes a_node _ _ _ _ _ c.in_err-number.ensures.claims.1)
-
-pub returns-in_err-number-clause-claims : goal.returns-in_err-number-clause-claims
-returns-in_err-number-clause-claims g c = rw c.from_residual.ensures (c.in_err-number.ensures.claims.1.own ∙ c.in_default.ensures.claims)
 
 pub returns-in_err-number-clause-walk : goal.returns-in_err-number-clause-walk
 returns-in_err-number-clause-walk g c = λ since made alone w. rw c.from_residual.ensures

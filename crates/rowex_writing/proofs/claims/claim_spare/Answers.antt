@@ -1,5 +1,5 @@
 -- The record is claimed, or was not free, or there is none of the number.
-use Rattle.std.proofs.Common.{refl, arith}
+use Rattle.std.proofs.Common.{arith}
 use Rattle.rowex_records.specs.Claims.{count_of, record_of}
 use Rattle.rowex_writing.proofs.Locking.{goes_none}
 use Rattle.rowex_writing.proofs.Making.{number_on, one_on, one_steps}
@@ -16,13 +16,6 @@ returns-clause-goes g c =
 
 pub returns-in_err-number-clause-goes : goal.returns-in_err-number-clause-goes
 returns-in_err-number-clause-goes g c = goes_none c.args.table.now g.G.Gate.becomes (c.args.seat.now, c.args.gate.now)
-
-pub returns-in_err-number-clause-claims : goal.returns-in_err-number-clause-claims
-returns-in_err-number-clause-claims g c = rw c.from_residual.ensures refl
-
-pub returns-then-claim_numbered-clause-claims : goal.returns-then-claim_numbered-clause-claims
-returns-then-claim_numbered-clause-claims g c =
-    let (low, one) = c.claim_numbered.ensures.claimed c.if-claim_numbered.true in (low, one.holds)
 
 pub returns-then-claim_numbered-clause-few : goal.returns-then-claim_numbered-clause-few
 returns-then-claim_numbered-clause-few g c =

@@ -2,7 +2,6 @@
 use Rattle.std.proofs.Common.{◌≡◌, ◌≤◌, ◌+◌, ◌*◌, [], ◌∷◌, Some, None, refl, sym, ap, subst, ◌∙◌, arith, length}
 use Rattle.record_words.specs.Entry.{entry_word}
 use Rattle.record_words.specs.declared.layout.Layout.{Layout}
-use Rattle.versions.specs.declared.Rec.TheVariants.{Node as a_node}
 use Rattle.publish_laws.specs.Rises.{made_of_leaf}
 use Rattle.compound_node.specs.declared.entries.Entry.TheVariants.{Leaf as LeafEntry}
 use Rattle.pieces.specs.Piece.{Place}

@@ -58,10 +58,3 @@ returns-clause-raised g c =
           goes.stays.0 goes.stays.1 goes.stays.2 c.in-Some.entry c.has_number.ensures c.in-Some.stays (c.in-Some.ensures.made may.growing) c.in-Some.ensures.low spot _ over gone;
       few = omega (arith, made_one may.growing.lowest.made_leaf.building, c.raise_grown.ensures.makes.more, may.within.0);
     }
-
-pub returns-clause-few : goal.returns-clause-few
-returns-clause-few g c =
-    let may = c.requires.may in
-    let whole : c.layout.result.nodes ≡ c.args.table.now.layout.nodes = ap (λ (z : Layout). z.nodes) c.layout.ensures in
-    let few : c.raise_grown.new.seat.known.steps + 2 * c.raise_grown.new.build.left_nodes ≤ c.args.seat.now.known.steps + 2 * c.layout.result.nodes + locks_of c.args.job.now.span * level_steps + 0 = c.in-Some.ensures.makes.few in
-    omega (arith, whole, few, may.within.0)

@@ -3,9 +3,6 @@ use Rattle.std.proofs.Common.{◌∙◌, ap, get_or}
 use Rattle.rowex_writing.proofs.Locking.{locked_on, reads_more}
 use Rattle.rowex_writing.proofs.locked.load_place_beside.Goals as goal
 
-pub start_of-start-requires : goal.start_of-start-requires
-start_of-start-requires g c = c.requires.range
-
 pub returns-clause-reads : goal.returns-clause-reads
 returns-clause-reads g c =
     let more = reads_more c.args.table.now g.G.Gate.becomes (c.args.seat.now, c.args.gate.now) in

@@ -3,9 +3,6 @@ use Rattle.std.proofs.Common.{◌+◌, ◌/◌, ◌∙◌, arith, sym}
 use Rattle.rowex_writing.proofs.Heading.{head_word}
 use Rattle.rowex_writing.proofs.locked.load_position.Goals as goal
 
-pub start_of-start-requires : goal.start_of-start-requires
-start_of-start-requires g c = c.requires.range
-
 pub returns-clause-position : goal.returns-clause-position
 returns-clause-position g c = λ node (words, h, is).
     c.position_of.ensures node is.has.lawful (head_word node words is (1 + c.args.column / 4) (omega (arith, c.requires.column)) ∙ sym (c.load_word.ensures.word words h))

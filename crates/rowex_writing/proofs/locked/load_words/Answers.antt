@@ -47,18 +47,3 @@ returns-clause-few g c =
     let head = subst (AreRead c.args.table.now g.G.Gate.becomes (c.args.seat.now, c.args.gate.now) (c.loop-index.seat, c.loop-index.gate) c.args.number c.loop-index.words) at c.loop-index.invariant in
     let (n, read, high, upto) = c.load_eight-4.ensures.reads _ (c.load_eight-3.ensures.reads _ (c.load_eight-2.ensures.reads _ (c.load_eight.ensures.reads _ (25, head, omega arith, inl refl)))) in
     omega (arith, read.few, high)
-
-pub load_word-requires-clause-own : goal.load_word-requires-clause-own
-load_word-requires-clause-own g c = c.loop-index.invariant.own
-
-pub load_word-requires-clause-start : goal.load_word-requires-clause-start
-load_word-requires-clause-start g c = c.start_of-start.ensures
-
-pub load_word-requires-clause-index : goal.load_word-requires-clause-index
-load_word-requires-clause-index g c = omega (arith, c.loop-index-test.true)
-
-pub load_eight-requires-clause-own : goal.load_eight-requires-clause-own
-load_eight-requires-clause-own g c = c.loop-index.invariant.own
-
-pub start_of-start-requires : goal.start_of-start-requires
-start_of-start-requires g c = c.requires.range

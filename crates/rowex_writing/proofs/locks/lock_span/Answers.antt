@@ -154,14 +154,8 @@ returns-then-span-gt0-clause-nodes g c e some =
     let at = the_top c.args.span.end i.range.0 i.top c.loop-index-test.false in
     subst (λ n. TriesNodes c.args.table.now g.G.Gate.becomes (numbers_of (slice_range c.args.way.now n c.args.span.len)) (c.args.seat.now, c.args.gate.now) (c.loop-index.seat, c.loop-index.gate)) at i.tries
 
-pub returns-then-not-lock_node-clause-nodes : goal.returns-then-not-lock_node-clause-nodes
-returns-then-not-lock_node-clause-nodes g c = λ e. not_taken e
-
 pub returns-then-lock_anchor-clause-nodes : goal.returns-then-lock_anchor-clause-nodes
 returns-then-lock_anchor-clause-nodes g c = λ e some. absurd (omega (arith, some, c.if-span-gt0.false))
-
-pub returns-clause-nodes : goal.returns-clause-nodes
-returns-clause-nodes g c = λ e. not_taken e
 
 pub returns-then-span-gt0-clause-few : goal.returns-then-span-gt0-clause-few
 returns-then-span-gt0-clause-few g c e =
@@ -240,59 +234,17 @@ returns-clause-refused g c e =
           (works_later c.args.table.now g.G.Gate.becomes (c.args.seat.now, c.args.gate.now) (c.loop-index.seat, c.loop-index.gate) i.tries.run).pass u.rest.4 r.0,
     )
 
-pub overflow_sub-index : goal.overflow_sub-index
-overflow_sub-index g c = omega (arith, c.loop-index-test.true)
-
 pub bounds-way-index : goal.bounds-way-index
 bounds-way-index g c = below c.loop-index-test.true (le_trans c.loop-index.invariant.range.1 c.requires.span.1)
-
-pub lock_node-requires-clause-own : goal.lock_node-requires-clause-own
-lock_node-requires-clause-own g c = c.loop-index.invariant.own
-
-pub returns-then-not-lock_node-clause-locked : goal.returns-then-not-lock_node-clause-locked
-returns-then-not-lock_node-clause-locked g c = λ e. not_taken e
-
-pub returns-then-not-lock_node-clause-few : goal.returns-then-not-lock_node-clause-few
-returns-then-not-lock_node-clause-few g c = λ e. not_taken e
-
-pub returns-then-span-gt0-clause-same : goal.returns-then-span-gt0-clause-same
-returns-then-span-gt0-clause-same g c = c.loop-index.invariant.same
-
-pub returns-then-span-gt0-clause-refused : goal.returns-then-span-gt0-clause-refused
-returns-then-span-gt0-clause-refused g c = λ e. not_taken (sym e)
-
-pub lock_anchor-requires-clause-own : goal.lock_anchor-requires-clause-own
-lock_anchor-requires-clause-own g c = c.loop-index.invariant.own
-
-pub lock_anchor-requires-clause-free : goal.lock_anchor-requires-clause-free
-lock_anchor-requires-clause-free g c = c.loop-index.invariant.anchor
 
 pub returns-then-lock_anchor-clause-same : goal.returns-then-lock_anchor-clause-same
 returns-then-lock_anchor-clause-same g c = (c.lock_anchor.ensures.locked c.if-lock_anchor.true).2 ∙ c.loop-index.invariant.same
 
-pub returns-then-lock_anchor-clause-refused : goal.returns-then-lock_anchor-clause-refused
-returns-then-lock_anchor-clause-refused g c = λ e. not_taken (sym e)
-
 pub returns-clause-same : goal.returns-clause-same
 returns-clause-same g c = c.unlock_nodes-2.ensures.rest.0 ∙ ((c.lock_anchor.ensures.refused c.if-lock_anchor.false).3 ∙ c.loop-index.invariant.same)
-
-pub returns-clause-locked : goal.returns-clause-locked
-returns-clause-locked g c = λ e. not_taken e
-
-pub returns-clause-few : goal.returns-clause-few
-returns-clause-few g c = λ e. not_taken e
 
 pub offset_bounds-way-index : goal.offset_bounds-way-index
 offset_bounds-way-index g c = let h : c.loop-index.index - 1 < length c.args.way.now = below c.loop-index-test.true (le_trans c.loop-index.invariant.range.1 c.requires.span.1) in search (rules, h)
 
 pub slice_bounds-unlock_nodes-start : goal.slice_bounds-unlock_nodes-start
 slice_bounds-unlock_nodes-start g c = upto c.loop-index-test.true c.loop-index.invariant.range.1
-
-pub slice_bounds-unlock_nodes-end : goal.slice_bounds-unlock_nodes-end
-slice_bounds-unlock_nodes-end g c = c.requires.span.1
-
-pub slice_bounds-unlock_nodes-start-2 : goal.slice_bounds-unlock_nodes-start-2
-slice_bounds-unlock_nodes-start-2 g c = c.loop-index.invariant.range.1
-
-pub slice_bounds-unlock_nodes-end-2 : goal.slice_bounds-unlock_nodes-end-2
-slice_bounds-unlock_nodes-end-2 g c = c.requires.span.1

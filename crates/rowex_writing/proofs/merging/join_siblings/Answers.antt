@@ -10,9 +10,6 @@ use Rattle.rowex_writing.proofs.Locking.{locked_on, reads_more, seat_of}
 use Rattle.rowex_writing.proofs.Merged.{held_wide, joined_rises, lower_within, other_wide, shown_merged}
 use Rattle.rowex_writing.proofs.merging.join_siblings.Goals as goal
 
-pub read_locked-node-requires-clause-own : goal.read_locked-node-requires-clause-own
-read_locked-node-requires-clause-own g c = c.requires.wide.seat
-
 pub read_locked-node-requires-clause-range : goal.read_locked-node-requires-clause-range
 read_locked-node-requires-clause-range g c = lower_range c.args.table.now c.args.job.now c.requires.wide.taking
 
@@ -23,9 +20,6 @@ read_locked-node-requires-clause-locked g c =
 
 pub read_locked-other-requires-clause-own : goal.read_locked-other-requires-clause-own
 read_locked-other-requires-clause-own g c = seat_of c.args.table.now g.G.Gate.becomes (c.args.seat.now, c.args.gate.now) (c.read_locked-node.new.seat, c.read_locked-node.new.gate) c.read_locked-node.ensures.reads.goes c.requires.wide.seat
-
-pub read_locked-other-requires-clause-range : goal.read_locked-other-requires-clause-range
-read_locked-other-requires-clause-range g c = c.requires.wide.low
 
 pub read_locked-other-requires-clause-locked : goal.read_locked-other-requires-clause-locked
 read_locked-other-requires-clause-locked g c =

@@ -5,17 +5,11 @@ use Rattle.pieces.specs.Piece.{RisesFrom}
 use Rattle.tries.specs.Place.{fork_of}
 use Rattle.rowex_writing.proofs.merging.join_sides.Goals as goal
 
-pub join-requires-clause-room : goal.join-requires-clause-room
-join-requires-clause-room c = omega (arith, c.requires.room)
-
 pub join-requires-clause-after : goal.join-requires-clause-after
 join-requires-clause-after c = subst (λ u. RisesFrom 0 (fork_of u c.args.position (piece c.args.own.now) (piece c.args.other.now))) c.if-bit.true c.requires.after
 
 pub returns-then-bit : goal.returns-then-bit
 returns-then-bit c = subst (λ u. IsBuiltFrom c.join.result (fork_of u c.args.position (piece c.args.own.now) (piece c.args.other.now))) (sym c.if-bit.true) c.join.ensures
-
-pub join-requires-else-bit-clause-room : goal.join-requires-else-bit-clause-room
-join-requires-else-bit-clause-room c = c.requires.room
 
 pub join-requires-else-bit-clause-after : goal.join-requires-else-bit-clause-after
 join-requires-else-bit-clause-after c = subst (λ u. RisesFrom 0 (fork_of u c.args.position (piece c.args.own.now) (piece c.args.other.now))) c.if-bit.false c.requires.after

@@ -36,12 +36,6 @@ returns-in-Some-clause-done g c = λ e.
     let later = c.make_merged.ensures.goes.stays.0 in
     (x, was, subst (λ q. IsDeedChange q Take job.key.now job.value job.found x was) later.pass is, changed_since c.args.seat.now.known c.make_merged.new.seat.known c.publish_merged.new.seat.known x was later changed)
 
-pub returns-in-Some-clause-later : goal.returns-in-Some-clause-later
-returns-in-Some-clause-later g c = λ e. not_taken (sym e)
-
-pub returns-in-Some-clause-same : goal.returns-in-Some-clause-same
-returns-in-Some-clause-same g c = λ e. not_taken (sym e)
-
 pub narrow_locks-requires : goal.narrow_locks-requires
 narrow_locks-requires g c = record { wide = wide_on c.args.table.now g.G.Gate.becomes (c.args.seat.now, c.args.gate.now) (c.make_merged.new.seat, c.make_merged.new.gate) c.args.job.now c.args.merge.now.number c.make_merged.ensures.goes c.requires.wide }
 
@@ -49,9 +43,6 @@ pub returns-clause-run : goal.returns-clause-run
 returns-clause-run g c =
     runs_trans c.args.table.now g.G.Gate.becomes (c.args.seat.now, c.args.gate.now) (c.make_merged.new.seat, c.make_merged.new.gate) (c.narrow_locks.new.seat, c.narrow_locks.new.gate)
     (goes_run c.args.table.now g.G.Gate.becomes (c.args.seat.now, c.args.gate.now) (c.make_merged.new.seat, c.make_merged.new.gate) c.make_merged.ensures.goes) c.narrow_locks.ensures.run
-
-pub returns-clause-done : goal.returns-clause-done
-returns-clause-done g c = λ e. not_taken e
 
 pub returns-clause-later : goal.returns-clause-later
 returns-clause-later g c = λ e. later_trans c.make_merged.ensures.goes.stays.0 c.narrow_locks.ensures.later

@@ -22,25 +22,16 @@ pub returns-in_default-clause-tries : goal.returns-in_default-clause-tries
 returns-in_default-clause-tries g c =
     few_none c.args.table.now g.G.Gate.becomes (span_numbers c.args.job.now.way.now c.args.job.now.span) c.args.build.now.left_nodes 60 (c.args.seat.now, c.args.gate.now) (c.args.seat.now, c.args.gate.now) (run_none c.args.table.now g.G.Gate.becomes (c.args.seat.now, c.args.gate.now)) (omega arith)
 
-pub returns-in_default-clause-done : goal.returns-in_default-clause-done
-returns-in_default-clause-done g c = λ e. not_taken e
-
 pub returns-in_default-clause-later : goal.returns-in_default-clause-later
 returns-in_default-clause-later g c = λ e. (later_if_same c.args.seat.now.known c.args.seat.now.known refl, c.requires.takes.1, c.requires.takes.2)
 
 pub returns-in_default-clause-same : goal.returns-in_default-clause-same
 returns-in_default-clause-same g c = λ e. ((refl, refl, refl), refl)
 
-pub find_merge-requires : goal.find_merge-requires
-find_merge-requires g c = record { takes = c.requires.takes }
-
 pub returns-in_default-find_merge-clause-tries : goal.returns-in_default-find_merge-clause-tries
 returns-in_default-find_merge-clause-tries g c =
     few_none c.args.table.now g.G.Gate.becomes (span_numbers c.args.job.now.way.now c.args.job.now.span) c.args.build.now.left_nodes 60 (c.args.seat.now, c.args.gate.now) (c.find_merge.new.seat, c.find_merge.new.gate)
     (goes_run c.args.table.now g.G.Gate.becomes (c.args.seat.now, c.args.gate.now) (c.find_merge.new.seat, c.find_merge.new.gate) c.find_merge.ensures.reads.goes) (omega (arith, c.find_merge.ensures.few))
-
-pub returns-in_default-find_merge-clause-done : goal.returns-in_default-find_merge-clause-done
-returns-in_default-find_merge-clause-done g c = λ e. not_taken e
 
 pub returns-in_default-find_merge-clause-later : goal.returns-in_default-find_merge-clause-later
 returns-in_default-find_merge-clause-later g c = λ e.
@@ -60,9 +51,6 @@ pub returns-then-not-widen_locks-clause-tries : goal.returns-then-not-widen_lock
 returns-then-not-widen_locks-clause-tries g c =
     few_more c.args.table.now g.G.Gate.becomes (span_numbers c.args.job.now.way.now c.args.job.now.span) c.args.build.now.left_nodes 60 c.widen_locks.result (c.args.seat.now, c.args.gate.now) (c.find_merge.new.seat, c.find_merge.new.gate) (c.widen_locks.new.seat, c.widen_locks.new.gate)
     (goes_run c.args.table.now g.G.Gate.becomes (c.args.seat.now, c.args.gate.now) (c.find_merge.new.seat, c.find_merge.new.gate) c.find_merge.ensures.reads.goes) c.widen_locks.ensures.tries (omega (arith, c.find_merge.ensures.few, c.widen_locks.ensures.few))
-
-pub returns-then-not-widen_locks-clause-done : goal.returns-then-not-widen_locks-clause-done
-returns-then-not-widen_locks-clause-done g c = λ e. not_taken e
 
 pub returns-then-not-widen_locks-clause-later : goal.returns-then-not-widen_locks-clause-later
 returns-then-not-widen_locks-clause-later g c = λ e. (later_trans c.find_merge.ensures.reads.goes.stays.0 c.widen_locks.ensures.later.0, c.widen_locks.ensures.later.1, c.widen_locks.ensures.later.2)

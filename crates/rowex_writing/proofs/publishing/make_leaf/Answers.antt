@@ -13,9 +13,6 @@ use Rattle.tries.specs.Content.{item}
 pub fill_leaf-requires-clause-own : goal.fill_leaf-requires-clause-own
 fill_leaf-requires-clause-own g c = seat_of c.args.table.now g.G.Gate.becomes (c.args.seat.now, c.args.gate.now) (c.claim_leaf.new.seat, c.claim_leaf.new.gate) c.claim_leaf.ensures.goes c.requires.own
 
-pub fill_leaf-requires-clause-room : goal.fill_leaf-requires-clause-room
-fill_leaf-requires-clause-room g c = omega (arith, c.in_ok-number.ensures.claims.1, c.words_for.ensures.words)
-
 pub returns-in_err-number-clause-made : goal.returns-in_err-number-clause-made
 returns-in_err-number-clause-made g c = rw c.from_residual.ensures (
   subst (λ z. IsBuilding c.args.table.now c.claim_leaf.new.seat z []) (sym c.clear.ensures) (building_on c.args.table.now g.G.Gate.becomes (c.args.seat.now, c.args.gate.now) (c.claim_leaf.new.seat, c.claim_leaf.new.gate) [] []
@@ -35,24 +32,6 @@ returns-clause-made g c =
     (building_leaf c.args.table.now g.G.Gate.becomes x (c.args.seat.now, c.args.gate.now) (c.claim_leaf.new.seat, c.claim_leaf.new.gate) (c.fill_leaf.new.seat, c.fill_leaf.new.gate)
     record { key = c.requires.key; value = c.ranges.value.fits } (omega (arith, c.in_ok-number.ensures.claims.1, c.words_for.ensures.words)) c.claim_leaf.ensures.goes c.in_ok-number.ensures.claims.2 c.fill_leaf.ensures.fills
     (building_none c.args.table.now c.args.seat.now c.requires.own c.requires.possible c.requires.none))
-
-pub returns-clause-few : goal.returns-clause-few
-returns-clause-few g c = omega (arith, c.claim_leaf.ensures.few, c.fill_leaf.ensures.steps)
-
-pub returns-in_err-number-clause-goes : goal.returns-in_err-number-clause-goes
-returns-in_err-number-clause-goes g c = c.in_err-number.ensures.goes
-
-pub returns-in_err-number-clause-few : goal.returns-in_err-number-clause-few
-returns-in_err-number-clause-few g c = omega (arith, c.in_err-number.ensures.few)
-
-pub claim_leaf-requires-clause-own : goal.claim_leaf-requires-clause-own
-claim_leaf-requires-clause-own g c = c.requires.own
-
-pub claim_leaf-requires-clause-words : goal.claim_leaf-requires-clause-words
-claim_leaf-requires-clause-words g c = c.words_for.ensures.few
-
-pub fill_leaf-requires-clause-range : goal.fill_leaf-requires-clause-range
-fill_leaf-requires-clause-range g c = c.in_ok-number.ensures.claims.0
 
 pub fill_leaf-requires-clause-held : goal.fill_leaf-requires-clause-held
 fill_leaf-requires-clause-held g c = more_is_claimed (a_leaf c.in_ok-number.number) c.args.seat.now.known c.claim_leaf.new.seat.known c.in_ok-number.ensures.claims.2

@@ -22,9 +22,6 @@ stored_word-requires g c =
 pub publish-requires-clause-own : goal.publish-requires-clause-own
 publish-requires-clause-own g c = seat_of c.args.table.now g.G.Gate.becomes (c.args.seat.now, c.args.gate.now) (c.ready_all.new.seat, c.ready_all.new.gate) c.ready_all.ensures.goes c.requires.may.2.ready.building.seat
 
-pub publish-requires-clause-range : goal.publish-requires-clause-range
-publish-requires-clause-range g c = c.requires.may.2.there
-
 pub publish-requires-clause-may : goal.publish-requires-clause-may
 publish-requires-clause-may g c =
     let (x, was, s) = c.requires.may in
@@ -36,9 +33,6 @@ retire-requires-clause-own g c = c.publish.ensures.seat.0 ∙ seat_of c.args.tab
 
 pub retire-requires-clause-records : goal.retire-requires-clause-records
 retire-requires-clause-records g c = subst (AreInTable c.args.table.now.layout) (sym c.as_slice.ensures.value) c.requires.may.2.records
-
-pub retire-requires-clause-nodes : goal.retire-requires-clause-nodes
-retire-requires-clause-nodes g c = c.requires.may.2.nodes
 
 pub retire-requires-clause-published : goal.retire-requires-clause-published
 retire-requires-clause-published g c =

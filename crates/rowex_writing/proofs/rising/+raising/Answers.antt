@@ -1,5 +1,5 @@
 -- One level, and then the rest of the way up.
-use Rattle.std.proofs.Common.{◌≡◌, ◌≢◌, ◌+◌, ◌-◌, ◌*◌, ◌<◌, ap, sym, subst, ◌∙◌, arith, rules}
+use Rattle.std.proofs.Common.{◌≡◌, ◌-◌, ap, sym, subst, ◌∙◌, arith, rules}
 use Rattle.std.specs.Prelude.{slice_get}
 use Rattle.std.proofs.lemmas.Option.{slice_get_within}
 use Rattle.insert_cases.specs.declared.choice.PathNode.{PathNode}
@@ -11,10 +11,6 @@ use Rattle.rowex_writing.specs.Going.{HasLocked}
 use Rattle.rowex_writing.proofs.Lifting.{fits_above, up_there, up_below, up_low, up_next, up_within, rising_on_at_end, settled_at_end, up_done}
 use Rattle.rowex_writing.proofs.Walked.{makes_failed, makes_then, makes_within}
 use Rattle.rowex_writing.proofs.rising.+raising.Goals as goal
-
--- ---- at the end of the way up
-pub raise_on-bounds-way-level : goal.raise_on-bounds-way-level
-raise_on-bounds-way-level g t c = slice_get_within c.args.way.now c.args.rise.level c.requires.up.step c.requires.up.at
 
 pub raise_on-offset_bounds-way-level : goal.raise_on-offset_bounds-way-level
 raise_on-offset_bounds-way-level g t c = let h = slice_get_within c.args.way.now c.args.rise.level c.requires.up.step c.requires.up.at in search (rules, h)
@@ -36,10 +32,6 @@ raise_on-returns-then-level-rise-clause-low g t c = λ s words at h.
     let same : s ≡ b.step = some_injective (sym at ∙ (ap (slice_get c.args.way.now) (sym c.if-level-rise.true) ∙ b.at)) in
     let here = subst (λ (z : PathNode). HasLocked c.args.seat.now.known z.number words) same h in
     fits_above words c.args.rise.risen c.make_one_entry.result (b.single words here) (c.make_one_entry.ensures.low (node_words_of words).fixed.height (b.low words here))
-
--- ---- further up
-pub raise_on-raise_above-requires : goal.raise_on-raise_above-requires
-raise_on-raise_above-requires g t c = λ κs le. (omega (arith, c.decreases), (le, (c.requires.up, (c.if-level-rise.false, c.requires.room))))
 
 pub raise_above-unreachable-requires : goal.raise_above-unreachable-requires
 raise_above-unreachable-requires g t c = subst IsSplit c.in-Whole.is (c.requires.up.split (up_low c.requires.up c.requires.above))
@@ -72,9 +64,6 @@ raise_above-returns-in_err-next-in-Split-clause-makes g t c =
 pub raise_above-returns-in_err-next-in-Split-clause-made : goal.raise_above-returns-in_err-next-in-Split-clause-made
 raise_above-returns-in_err-next-in-Split-clause-made g t c = λ up. rw c.from_residual.ensures
     (c.in_err-next-in-Split.ensures.made (up_below up c.requires.above c.in-Split.position c.in-Split.zero c.in-Split.one c.in-Split.is))
-
-pub raise_above-returns-in_err-next-in-Split-clause-low : goal.raise_above-returns-in_err-next-in-Split-clause-low
-raise_above-returns-in_err-next-in-Split-clause-low g t c = λ s words at h. rw c.from_residual.ensures tt
 
 pub raise_above-raise_on-requires : goal.raise_above-raise_on-requires
 raise_above-raise_on-requires g t c =

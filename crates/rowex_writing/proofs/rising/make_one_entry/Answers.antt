@@ -17,9 +17,6 @@ pair-node-requires-clause-zero g c = (risen_fork_is_pair c.args.table.now c.args
 pub pair-node-requires-clause-one : goal.pair-node-requires-clause-one
 pair-node-requires-clause-one g c = (risen_fork_is_pair c.args.table.now c.args.seat.now c.args.build.now.made.items c.args.number c.in-Split.position c.in-Split.zero c.in-Split.one c.args.risen c.in-Split.is c.requires.risen).one
 
-pub make_node-requires-clause-building : goal.make_node-requires-clause-building
-make_node-requires-clause-building g c = (c.requires.risen.raising.news, c.requires.risen.raising.building)
-
 pub returns-in-Whole-clause-made : goal.returns-in-Whole-clause-made
 returns-in-Whole-clause-made g c = λ b. settled_whole c.args.table.now c.args.seat.now c.args.build.now.made.items c.args.number c.in-Whole.entry c.args.risen c.in-Whole.is b
 

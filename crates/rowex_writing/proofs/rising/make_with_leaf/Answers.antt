@@ -8,11 +8,6 @@ use Rattle.rowex_writing.proofs.Remade.{built_low, leaf_low}
 use Rattle.rowex_writing.proofs.Walked.{makes_as, makes_failed, makes_within}
 use Rattle.rowex_writing.proofs.rising.make_with_leaf.Goals as goal
 
-pub make_from_words_with_leaf-requires-clause-takes : goal.make_from_words_with_leaf-requires-clause-takes
-make_from_words_with_leaf-requires-clause-takes g c =
-    let (node, takes) = c.requires.takes in
-    (node, takes, (c.can_take_leaf.ensures node takes.is.has takes.is.spells).0 c.if-can_take_leaf.true)
-
 pub returns-then-can_take_leaf-clause-made : goal.returns-then-can_take_leaf-clause-made
 returns-then-can_take_leaf-clause-made g c = λ news node takes b.
     let can : CanTakeLeaf node = (c.can_take_leaf.ensures node takes.is.has takes.is.spells).0 c.if-can_take_leaf.true in
@@ -29,9 +24,6 @@ returns-then-can_take_leaf-clause-made g c = λ news node takes b.
       },
       building,
     )
-
-pub returns-in_err-entry-clause-made : goal.returns-in_err-entry-clause-made
-returns-in_err-entry-clause-made g c = λ news node takes b. rw c.from_residual.ensures (c.in_err-entry.ensures.made news node takes ((c.can_take_leaf.ensures node takes.is.has takes.is.spells).0 c.if-can_take_leaf.true) b)
 
 pub returns-in_err-entry-clause-makes : goal.returns-in_err-entry-clause-makes
 returns-in_err-entry-clause-makes g c = rw c.from_residual.ensures (makes_failed (makes_within c.in_err-entry.ensures.makes (omega arith) (omega arith)))

@@ -7,9 +7,6 @@ use Rattle.rowex_writing.proofs.Remade.{takes_read, takes_same}
 use Rattle.rowex_writing.proofs.Walked.{makes_as, makes_failed, makes_within}
 use Rattle.rowex_writing.proofs.rising.make_with_leaf_by_value.Goals as goal
 
-pub read_node-node-requires : goal.read_node-node-requires
-read_node-node-requires g c = let (node, takes) = c.requires.takes in (node, takes.is.has, takes.is.spells)
-
 pub cut_with_leaf-grown-requires-clause-leads : goal.cut_with_leaf-grown-requires-clause-leads
 cut_with_leaf-grown-requires-clause-leads g c = let (node, takes) = c.requires.takes in (takes_read c.read_node-node.ensures node c.args.new.now takes).leads
 
@@ -57,12 +54,6 @@ returns-clause-made g c = λ news node takes b.
           }),
       building,
     )
-
-pub returns-in_err-entry-clause-made : goal.returns-in_err-entry-clause-made
-returns-in_err-entry-clause-made g c = λ news node takes b. rw c.from_residual-in_err-entry.ensures (c.in_err-entry.ensures.made news b)
-
-pub returns-in_err-risen-clause-made : goal.returns-in_err-risen-clause-made
-returns-in_err-risen-clause-made g c = λ news node takes b. rw c.from_residual.ensures (c.in_err-risen.ensures.made news b)
 
 pub returns-in_err-risen-clause-makes : goal.returns-in_err-risen-clause-makes
 returns-in_err-risen-clause-makes g c = rw c.from_residual.ensures (makes_failed c.in_err-risen.ensures.makes)

@@ -1,14 +1,11 @@
 -- The lowest node, and then the way up.
-use Rattle.std.proofs.Common.{◌≡◌, ◌-◌, ◌+◌, ◌*◌, ◌<◌, sym, subst, arith, rules}
+use Rattle.std.proofs.Common.{◌-◌, ◌<◌, sym, subst, arith, rules}
 use Rattle.std.proofs.lemmas.Option.{slice_get_within}
 use Rattle.versions.specs.Trades.{IsOneOf}
 use Rattle.rowex_writing.specs.Building.{HasRisenTo, gone_unless_whole, gone_with_way, newcomer_of}
 use Rattle.rowex_writing.proofs.Lifting.{low_at, number_is, up_first}
 use Rattle.rowex_writing.proofs.Walked.{makes_as, makes_failed, makes_then, makes_within}
 use Rattle.rowex_writing.proofs.rising.raise_grown.Goals as goal
-
-pub bounds-way-top : goal.bounds-way-top
-bounds-way-top g c = slice_get_within c.args.job.now.way.now (c.args.job.now.span.len - 1) c.requires.growing.step c.requires.growing.at
 
 pub offset_bounds-way-top : goal.offset_bounds-way-top
 offset_bounds-way-top g c = let h = slice_get_within c.args.job.now.way.now (c.args.job.now.span.len - 1) c.requires.growing.step c.requires.growing.at in search (rules, h)
@@ -26,9 +23,6 @@ returns-in_err-risen-clause-makes g c = rw c.from_residual.ensures (makes_failed
 pub returns-in_err-risen-clause-made : goal.returns-in_err-risen-clause-made
 returns-in_err-risen-clause-made g c = λ b. rw c.from_residual.ensures (c.in_err-risen.ensures.made (low_at b))
 
-pub returns-in_err-risen-clause-low : goal.returns-in_err-risen-clause-low
-returns-in_err-risen-clause-low g c = λ s words at h. rw c.from_residual.ensures tt
-
 pub raise_on-requires-clause-up : goal.raise_on-requires-clause-up
 raise_on-requires-clause-up g c =
     let b = c.requires.growing in
@@ -45,9 +39,6 @@ returns-in_err-entry-clause-made g c = λ b.
     rw c.from_residual-in_err-entry.ensures
     (c.in_err-entry.ensures.made (up_first b c.in_ok-risen.risen
     c.in_ok-risen.stays c.in_ok-risen.ensures.makes.goes.stays.1 raising c.in_ok-risen.ensures.level))
-
-pub returns-in_err-entry-clause-low : goal.returns-in_err-entry-clause-low
-returns-in_err-entry-clause-low g c = λ s words at h. rw c.from_residual-in_err-entry.ensures tt
 
 pub returns-clause-makes : goal.returns-clause-makes
 returns-clause-makes g c = makes_as (makes_then c.in_ok-risen.ensures.makes c.in_ok-entry.ensures.makes (omega arith) (omega (arith, c.requires.within)))

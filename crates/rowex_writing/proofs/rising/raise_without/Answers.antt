@@ -59,12 +59,6 @@ make_from_words-requires-clause-building g c = (
   building_on c.args.table.now g.G.Gate.becomes (c.args.seat.now, c.args.gate.now) (c.load_words.new.seat, c.load_words.new.gate) c.args.build.now.made.items [] c.load_words.ensures.reads.goes c.load_words.ensures.reads.own c.requires.building,
 )
 
-pub make_from_words-requires-clause-spelling : goal.make_from_words-requires-clause-spelling
-make_from_words-requires-clause-spelling g c =
-    let (view, is) = c.load_words.ensures.node in
-    let built = c.in_default.ensures view is.has is.spells in
-    (built.node, built.has, built.spells)
-
 pub returns-clause-made : goal.returns-clause-made
 returns-clause-made g c = λ key words leads h.
     let (view, is) = c.load_words.ensures.node in

@@ -82,18 +82,6 @@ raise_without-requires-clause-building g c =
 pub raise_without-requires-clause-room : goal.raise_without-requires-clause-room
 raise_without-requires-clause-room g c = omega (arith, ap length c.requires.made)
 
-pub returns-in_default-clause-goes : goal.returns-in_default-clause-goes
-returns-in_default-clause-goes g c = c.in_default.ensures.makes.goes
-
-pub returns-in_default-clause-raised : goal.returns-in_default-clause-raised
-returns-in_default-clause-raised g c = λ m value b. tt
-
-pub returns-clause-full : goal.returns-clause-full
-returns-clause-full g c = tt
-
-pub returns-clause-goes : goal.returns-clause-goes
-returns-clause-goes g c = c.in-Some.ensures.makes.goes
-
 pub bounds-job-job : goal.bounds-job-job
 bounds-job-job g c =
     let job = c.args.job.now in

@@ -60,8 +60,5 @@ returns-clause-done g c = record {
   few = omega arith;
 }
 
-pub returns-then-job-gt0-clause-walk : goal.returns-then-job-gt0-clause-walk
-returns-then-job-gt0-clause-walk g c = λ some. c.remake_without_leaf.ensures.walk
-
 pub returns-clause-walk : goal.returns-clause-walk
 returns-clause-walk g c = λ some. absurd (omega (arith, some, c.if-job-gt0.false))

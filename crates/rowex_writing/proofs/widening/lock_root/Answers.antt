@@ -25,14 +25,8 @@ returns-then-not-lock_anchor-clause-later g c = (
   (c.lock_anchor.ensures.refused c.if-not-lock_anchor.true).3,
 )
 
-pub returns-then-not-lock_anchor-clause-locked : goal.returns-then-not-lock_anchor-clause-locked
-returns-then-not-lock_anchor-clause-locked g c = λ e. not_taken e
-
 pub returns-then-not-lock_anchor-clause-same : goal.returns-then-not-lock_anchor-clause-same
 returns-then-not-lock_anchor-clause-same g c = λ e. let r = c.lock_anchor.ensures.refused c.if-not-lock_anchor.true in (r.1, r.2, r.3)
-
-pub returns-then-not-lock_anchor-clause-few : goal.returns-then-not-lock_anchor-clause-few
-returns-then-not-lock_anchor-clause-few g c = omega (arith, c.lock_anchor.ensures.few)
 
 pub root_stands-requires-clause-own : goal.root_stands-requires-clause-own
 root_stands-requires-clause-own g c = works_seat c.args.table.now g.G.Gate.becomes (c.args.seat.now, c.args.gate.now) (c.lock_anchor.new.seat, c.lock_anchor.new.gate) c.lock_anchor.ensures.tries c.requires.own
@@ -53,12 +47,6 @@ returns-then-root_stands-clause-later g c = (locked_later c.args.table.now g.G.G
 pub returns-then-root_stands-clause-locked : goal.returns-then-root_stands-clause-locked
 returns-then-root_stands-clause-locked g c = λ e. (c.root_stands.ensures.reads.goes.stays.1 ∙ (c.lock_anchor.ensures.locked c.if-not-lock_anchor.false).1, c.root_stands.ensures.same c.if-root_stands.true)
 
-pub returns-then-root_stands-clause-same : goal.returns-then-root_stands-clause-same
-returns-then-root_stands-clause-same g c = λ e. not_taken (sym e)
-
-pub returns-then-root_stands-clause-few : goal.returns-then-root_stands-clause-few
-returns-then-root_stands-clause-few g c = omega (arith, c.lock_anchor.ensures.few, c.root_stands.ensures.few)
-
 pub unlock-requires-clause-own : goal.unlock-requires-clause-own
 unlock-requires-clause-own g c =
     seat_of c.args.table.now g.G.Gate.becomes (c.lock_anchor.new.seat, c.lock_anchor.new.gate) (c.root_stands.new.seat, c.root_stands.new.gate) c.root_stands.ensures.reads.goes
@@ -76,9 +64,6 @@ returns-clause-later g c = (
   back_later c.args.table.now g.G.Gate.becomes (c.args.seat.now, c.args.gate.now) (c.lock_anchor.new.seat, c.lock_anchor.new.gate) (c.root_stands.new.seat, c.root_stands.new.gate) c.lock_anchor.ensures.tries c.root_stands.ensures.reads.goes (c.unlock.new.seat, c.unlock.new.gate) (works_one c.args.table.now g.G.Gate.becomes (Unlock Anchor) (c.root_stands.new.seat, c.root_stands.new.gate) (c.unlock.new.seat, c.unlock.new.gate) tt c.unlock.ensures),
   (unlock_anchor_gives c.args.table.now.layout silent c.root_stands.new.seat.known c.unlock.new.seat.known c.unlock.ensures.event).1 ∙ (c.root_stands.ensures.reads.own ∙ (c.lock_anchor.ensures.locked c.if-not-lock_anchor.false).2),
 )
-
-pub returns-clause-locked : goal.returns-clause-locked
-returns-clause-locked g c = λ e. not_taken e
 
 pub returns-clause-same : goal.returns-clause-same
 returns-clause-same g c = λ e.

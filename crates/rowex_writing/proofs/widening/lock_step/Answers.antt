@@ -25,14 +25,8 @@ returns-then-not-lock_node-clause-later g c = (
   (c.lock_node.ensures.same c.if-not-lock_node.true).2,
 )
 
-pub returns-then-not-lock_node-clause-locked : goal.returns-then-not-lock_node-clause-locked
-returns-then-not-lock_node-clause-locked g c = λ e. not_taken e
-
 pub returns-then-not-lock_node-clause-same : goal.returns-then-not-lock_node-clause-same
 returns-then-not-lock_node-clause-same g c = λ e. c.lock_node.ensures.same c.if-not-lock_node.true
-
-pub returns-then-not-lock_node-clause-few : goal.returns-then-not-lock_node-clause-few
-returns-then-not-lock_node-clause-few g c = omega (arith, c.lock_node.ensures.few)
 
 pub entry_stands-requires-clause-own : goal.entry_stands-requires-clause-own
 entry_stands-requires-clause-own g c = works_seat c.args.table.now g.G.Gate.becomes (c.args.seat.now, c.args.gate.now) (c.lock_node.new.seat, c.lock_node.new.gate) c.lock_node.ensures.tries c.requires.own
@@ -66,12 +60,6 @@ returns-then-entry_stands-clause-locked g c = λ e.
       λ words h. c.entry_stands.ensures.same c.if-entry_stands.true words (locked_on c.entry_stands.new.seat.known c.lock_node.new.seat.known c.args.step.number words (sym stays.1) h),
     )
 
-pub returns-then-entry_stands-clause-same : goal.returns-then-entry_stands-clause-same
-returns-then-entry_stands-clause-same g c = λ e. not_taken (sym e)
-
-pub returns-then-entry_stands-clause-few : goal.returns-then-entry_stands-clause-few
-returns-then-entry_stands-clause-few g c = omega (arith, c.lock_node.ensures.few, c.entry_stands.ensures.few)
-
 pub unlock_last-requires-clause-own : goal.unlock_last-requires-clause-own
 unlock_last-requires-clause-own g c =
     seat_of c.args.table.now g.G.Gate.becomes (c.lock_node.new.seat, c.lock_node.new.gate) (c.entry_stands.new.seat, c.entry_stands.new.gate) c.entry_stands.ensures.reads.goes
@@ -93,9 +81,6 @@ returns-clause-later g c = (
   c.unlock_last.ensures.same.1 ∙ (c.entry_stands.ensures.reads.own ∙ (c.lock_node.ensures.locked c.if-not-lock_node.false).2),
 )
 
-pub returns-clause-locked : goal.returns-clause-locked
-returns-clause-locked g c = λ e. not_taken e
-
 pub returns-clause-same : goal.returns-clause-same
 returns-clause-same g c = λ e.
     let l = c.lock_node.ensures.locked c.if-not-lock_node.false in
@@ -105,6 +90,3 @@ returns-clause-same g c = λ e.
       c.unlock_last.ensures.same.0 ∙ (reads.goes.stays.2 ∙ l.3),
       c.unlock_last.ensures.same.1 ∙ (reads.own ∙ l.2),
     )
-
-pub returns-clause-few : goal.returns-clause-few
-returns-clause-few g c = omega (arith, c.lock_node.ensures.few, c.entry_stands.ensures.few, c.unlock_last.ensures.few)

@@ -6,9 +6,6 @@ use Rattle.rowex_writing.proofs.Runs.{works_run}
 use Rattle.rowex_writing.proofs.Works.{works_later, works_more, works_seat}
 use Rattle.rowex_writing.proofs.widening.narrow_locks.Goals as goal
 
-pub unlock_above-requires-clause-own : goal.unlock_above-requires-clause-own
-unlock_above-requires-clause-own g c = c.requires.wide.seat
-
 pub unlock_above-requires-clause-nodes : goal.unlock_above-requires-clause-nodes
 unlock_above-requires-clause-nodes g c =
     let t = c.requires.wide.taking in step_nodes c.args.table.now.layout t.before.known t.since c.args.job.now.key.now c.args.job.now.way.now _ t.below.taken.way_of
@@ -21,9 +18,6 @@ unlock_above-requires-clause-above g c = (_, c.args.job.now.key.now, c.args.job.
 
 pub unlock_last-requires-clause-own : goal.unlock_last-requires-clause-own
 unlock_last-requires-clause-own g c = works_seat c.args.table.now g.G.Gate.becomes (c.args.seat.now, c.args.gate.now) (c.unlock_above.new.seat, c.unlock_above.new.gate) c.unlock_above.ensures.works c.requires.wide.seat
-
-pub unlock_last-requires-clause-range : goal.unlock_last-requires-clause-range
-unlock_last-requires-clause-range g c = c.requires.wide.low
 
 pub unlock_last-requires-clause-last : goal.unlock_last-requires-clause-last
 unlock_last-requires-clause-last g c =
@@ -47,6 +41,3 @@ returns-clause-same g c = λ w.
       c.unlock_last.ensures.same.0 ∙ (gone.1 ∙ sym (w.taking.below.taken.locked.below w.taking.some)),
       c.unlock_last.ensures.same.1 ∙ c.unlock_above.ensures.own,
     )
-
-pub returns-clause-few : goal.returns-clause-few
-returns-clause-few g c = omega (arith, c.unlock_above.ensures.few, c.unlock_last.ensures.few)

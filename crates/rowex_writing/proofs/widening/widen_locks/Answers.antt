@@ -21,23 +21,11 @@ use Rattle.rowex_writing.proofs.widening.widen_locks.Goals as goal
 not_taken : {A : Type 0} → false ≡ true → A
 not_taken e = absurd (cc)
 
-pub is_near_span-requires : goal.is_near_span-requires
-is_near_span-requires g c = record { within = c.requires.takes.0.below.taken.within }
-
 pub returns-then-is_near_span-clause-tries : goal.returns-then-is_near_span-clause-tries
 returns-then-is_near_span-clause-tries g c = more_none c.args.table.now g.G.Gate.becomes (span_numbers c.args.job.now.way.now c.args.job.now.span) (c.args.seat.now, c.args.gate.now) (c.args.seat.now, c.args.gate.now) (run_none c.args.table.now g.G.Gate.becomes (c.args.seat.now, c.args.gate.now))
 
 pub returns-then-is_near_span-clause-later : goal.returns-then-is_near_span-clause-later
 returns-then-is_near_span-clause-later g c = (later_if_same c.args.seat.now.known c.args.seat.now.known refl, c.requires.takes.1, c.requires.takes.2, refl)
-
-pub returns-then-is_near_span-clause-wide : goal.returns-then-is_near_span-clause-wide
-returns-then-is_near_span-clause-wide g c = λ e. not_taken e
-
-pub returns-then-is_near_span-clause-same : goal.returns-then-is_near_span-clause-same
-returns-then-is_near_span-clause-same g c = λ e. (refl, refl, refl)
-
-pub lock_node-requires-clause-own : goal.lock_node-requires-clause-own
-lock_node-requires-clause-own g c = c.requires.takes.1
 
 pub lock_node-requires-clause-range : goal.lock_node-requires-clause-range
 lock_node-requires-clause-range g c =
@@ -68,14 +56,8 @@ returns-then-not-lock_node-clause-later g c =
       (c.lock_node.ensures.same c.if-not-lock_node.true).2,
     )
 
-pub returns-then-not-lock_node-clause-wide : goal.returns-then-not-lock_node-clause-wide
-returns-then-not-lock_node-clause-wide g c = λ e. not_taken e
-
 pub returns-then-not-lock_node-clause-same : goal.returns-then-not-lock_node-clause-same
 returns-then-not-lock_node-clause-same g c = λ e. c.lock_node.ensures.same c.if-not-lock_node.true
-
-pub returns-then-not-lock_node-clause-few : goal.returns-then-not-lock_node-clause-few
-returns-then-not-lock_node-clause-few g c = omega (arith, c.lock_node.ensures.few)
 
 pub lock_above-requires-clause-own : goal.lock_above-requires-clause-own
 lock_above-requires-clause-own g c = works_seat c.args.table.now g.G.Gate.becomes (c.args.seat.now, c.args.gate.now) (c.lock_node.new.seat, c.lock_node.new.gate) c.lock_node.ensures.tries c.requires.takes.1
@@ -147,12 +129,6 @@ returns-then-lock_above-clause-wide g c = λ e.
       sym stays.2,
     )
 
-pub returns-then-lock_above-clause-same : goal.returns-then-lock_above-clause-same
-returns-then-lock_above-clause-same g c = λ e. not_taken (sym e)
-
-pub returns-then-lock_above-clause-few : goal.returns-then-lock_above-clause-few
-returns-then-lock_above-clause-few g c = omega (arith, c.lock_node.ensures.few, c.lock_above.ensures.few)
-
 pub unlock_last-requires-clause-own : goal.unlock_last-requires-clause-own
 unlock_last-requires-clause-own g c =
     let table = c.args.table.now in
@@ -201,9 +177,6 @@ returns-clause-later g c =
       c.unlock_last.ensures.same.1 ∙ (c.lock_above.ensures.later.1 ∙ (c.lock_node.ensures.locked c.if-not-lock_node.false).2),
     )
 
-pub returns-clause-wide : goal.returns-clause-wide
-returns-clause-wide g c = λ e. not_taken e
-
 pub returns-clause-same : goal.returns-clause-same
 returns-clause-same g c = λ e.
     let l = c.lock_node.ensures.locked c.if-not-lock_node.false in
@@ -212,6 +185,3 @@ returns-clause-same g c = λ e.
       c.unlock_last.ensures.same.0 ∙ (s.1 ∙ l.3),
       c.unlock_last.ensures.same.1 ∙ (s.2 ∙ l.2),
     )
-
-pub returns-clause-few : goal.returns-clause-few
-returns-clause-few g c = omega (arith, c.lock_node.ensures.few, c.lock_above.ensures.few, c.unlock_last.ensures.few)
