@@ -1,8 +1,8 @@
 -- Loads under a lock, and steps one after the other.
-use Rattle.std.proofs.Common.{◌≡◌, ℕ, ◌+◌, ◌-◌, ◌<◌, ◌≤◌, List, [], ◌∷◌, ◌++◌, length, get_or, set, replicate, take, refl, sym, ap, subst, ◌∙◌, arith, add-one, inl, inr, ◌⊎◌, ⊎_elim}
+use Rattle.std.proofs.Common.{◌≡◌, ℕ, ◌+◌, ◌-◌, ◌<◌, ◌≤◌, List, [], ◌∷◌, ◌++◌, length, get_or, set, replicate, refl, sym, ap, subst, ◌∙◌, arith, add-one, inl, inr, ◌⊎◌, ⊎_elim}
 use Rattle.std.proofs.lemmas.Bool.{cases_lt}
 use Rattle.std.proofs.lemmas.List.Elements.{All-append, All-cons}
-use Rattle.std.proofs.lemmas.List.{ext_get_or, get_or-set_same, get_or-set_other, get_or-take, length-replicate, length-set, length-take}
+use Rattle.std.proofs.lemmas.List.{ext_get_or, get_or-set_same, get_or-set_other, length-replicate, length-set}
 use Rattle.record_words.specs.declared.layout.Layout.{Layout}
 use Rattle.compound_node.specs.Nodes.{NodeView}
 use Rattle.rowex_core.proofs.Reading.{node_is}

@@ -18,7 +18,7 @@ use Rattle.rowex_core.specs.declared.known.Known.{Known}
 use Rattle.rowex_core.specs.Having.{AreKept}
 use Rattle.rowex_core.specs.Knowing.{IsEvent}
 use Rattle.rowex_core.specs.Reading.{entry_of}
-use Rattle.rowex_table.specs.Made.{Made, nodes_of}
+use Rattle.rowex_table.specs.Made.{nodes_of}
 use Rattle.rowex_table.specs.Publishes.{HasPublished, Publishes}
 use Rattle.rowex_table.specs.Rule.{MayStep}
 use Rattle.rowex_table.specs.Runs.{silent}

@@ -1,5 +1,5 @@
 -- The locks are taken, and what is found under them is what the search found; or all are given back.
-use Rattle.std.proofs.Common.{◌≡◌, true, false, inl, inr, sym, ◌∙◌, arith}
+use Rattle.std.proofs.Common.{◌≡◌, true, false, inl, inr, ◌∙◌, arith}
 use Rattle.rowex_reading.proofs.Seeing.{later_trans}
 use Rattle.rowex_writing.proofs.Onward.{longer, run_possible, run_seat}
 use Rattle.rowex_writing.proofs.Confirming.{span_later}
@@ -121,9 +121,6 @@ returns-clause-busy g c t m w =
 pub returns-then-not-lock_span-clause-busy : goal.returns-then-not-lock_span-clause-busy
 returns-then-not-lock_span-clause-busy g c = λ e m w. inl (c.lock_span.ensures.refused c.if-not-lock_span.true).1
 
-pub undo-requires-clause-records : goal.undo-requires-clause-records
-undo-requires-clause-records g c = λ k d low. absurd (omega (arith, low))
-
 pub returns-then-not-lock_span-clause-rest : goal.returns-then-not-lock_span-clause-rest
 returns-then-not-lock_span-clause-rest g c = λ e.
     let free = (c.lock_span.ensures.refused c.if-not-lock_span.true).0 in record { own = c.lock_span.ensures.same ∙ c.requires.rest.own; locks = free.0; anchor = free.1 }
@@ -137,4 +134,3 @@ returns-then-check_span-clause-nodes g c = λ e some.
           (goes_run table g.G.Gate.becomes (c.lock_span.new.seat, c.lock_span.new.gate) (c.check_span.new.seat, c.check_span.new.gate) c.check_span.ensures.reads.goes),
       omega (arith, c.lock_span.ensures.few c.if-not-lock_span.false, c.check_span.ensures.few, c.requires.within.0),
     )
-

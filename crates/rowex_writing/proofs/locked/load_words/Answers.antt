@@ -47,4 +47,3 @@ returns-clause-few g c =
     let head = subst (AreRead c.args.table.now g.G.Gate.becomes (c.args.seat.now, c.args.gate.now) (c.loop-index.seat, c.loop-index.gate) c.args.number c.loop-index.words) at c.loop-index.invariant in
     let (n, read, high, upto) = c.load_eight-4.ensures.reads _ (c.load_eight-3.ensures.reads _ (c.load_eight-2.ensures.reads _ (c.load_eight.ensures.reads _ (25, head, omega arith, inl refl)))) in
     omega (arith, read.few, high)
-

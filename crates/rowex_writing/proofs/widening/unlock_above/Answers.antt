@@ -51,4 +51,3 @@ returns-else-end-eq0-clause-less g c = λ held key found above.
     let over = is_over held key c.args.way.now found c.args.end c.args.seat.now.known above (omega (arith, c.if-end-eq0.false)) in
     let same : get_or c.args.way.now (c.args.end - 1) no_step ≡ over.step = get_or_from_slice_get c.args.way.now (c.args.end - 1) over.step no_step over.at in
     (c.unlock_last.ensures.less held (subst (λ (s : PathNode). LocksLast s.number held c.args.seat.now.known) (sym same) over.last), c.unlock_last.ensures.same.0 ∙ over.free)
-
