@@ -1,5 +1,5 @@
 -- The words of the other entries move, and those of the head are the new head's; or the other of two entries is read.
-use Rattle.std.proofs.Common.{◌≡◌, ◌+◌, ◌-◌, ◌++◌, ◌∙◌, ap, arith, drop, get_or, length, refl, sym, subst, take}
+use Rattle.std.proofs.Common.{◌≡◌, ◌+◌, ◌-◌, ◌∙◌, ap, arith, drop, get_or, length, refl, sym, subst, take}
 use Rattle.std.specs.Prelude.{remove}
 use Rattle.compound_node.specs.Nodes.{HeadView, IsBuiltFrom, NodeView, head_of, node_of, piece}
 use Rattle.compound_node.proofs.Lawful.{same_count}

@@ -1,5 +1,5 @@
 -- A position is a quarter of its word.
-use Rattle.std.proofs.Common.{◌∙◌, ◌/◌, ◌%◌, arith, length, refl, sym}
+use Rattle.std.proofs.Common.{◌∙◌, ◌/◌, ◌%◌, arith, length, refl}
 use Rattle.compound_node.specs.Nodes.{head_of}
 use Rattle.record_words.specs.Node.{head_words}
 use Rattle.record_words.proofs.Fixing.{fixed_words_parts}

@@ -1,5 +1,5 @@
 -- The three numbers are parts of the word.
-use Rattle.std.proofs.Common.{◌∙◌, ◌/◌, ◌%◌, ap, arith, refl, sym}
+use Rattle.std.proofs.Common.{◌∙◌, arith, refl}
 use Rattle.compound_node.proofs.Lawful.{same_count}
 use Rattle.compound_node.specs.Nodes.{head_of}
 use Rattle.record_words.specs.Node.{head_words}
