@@ -143,7 +143,7 @@ module _ (layout : Layout) (said : Known → List Note) (k j : Known) where
 
   pub claim_leaves : (r : Rec) (found : ℕ) → IsEvent layout (Claim r found) said k j → (j.locks ≡ k.locks) × (j.anchor ≡ k.anchor)
   claim_leaves r found e =
-      let still = as_before layout k j e.core (Claim r found) in
+      let still = as_before k e.core (Claim r found) in
       (ap (λ (z : Known). z.locks) e.learned_is ∙ still.locks tt, ap (λ (z : Known). z.anchor) e.learned_is ∙ still.anchor tt)
 
   -- the next one is ready
@@ -168,7 +168,7 @@ module _ (layout : Layout) (said : Known → List Note) (k j : Known) where
 
   still : (c : Core) (act : Act) → LeavesFront act → LeavesPin act → AreSeen c (learned_by c act k)
   still c act front pin =
-      let kept = as_before layout k j c act in
+      let kept = as_before k c act in
       (kept.pass, kept.pin pin, subst (OthersGoOn k.pass k.front) (sym (kept.front front)) (others_none k.pass k.front), λ s a. subst (All (IsFact s)) (kept.facts front) a)
 
   act_seen : (c : Core) (act : Act) → OthersGoOn k.pass k.front c.changes → KeepsRecall act → AreSeen c (learned_by c act k)

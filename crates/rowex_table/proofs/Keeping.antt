@@ -37,7 +37,7 @@ use Rattle.rowex_table.proofs.Onward.{led_more, others_none, traces_more}
 
 -- a pass keeps its number
 pub learned_pass : (c : Core) (act : Act) (k : Known) → (learned c act k).pass ≡ k.pass
-learned_pass c act k = (as_before c.layout k k c act).pass
+learned_pass c act k = (as_before k c act).pass
 
 -- notes are outside the rule
 pub renoted : (c : Core) (k : Known) (notes : List Note) → Knows c k → Knows c (record k { notes = notes })

@@ -82,3 +82,4 @@ pub record IsNext (act : Act) (k j : Known) : Type 0 where
   pub anchor : LeavesAnchor act → j.anchor ≡ k.anchor
   pub pin : LeavesPin act → j.pin ≡ k.pin
   pub round : LeavesRound act → j.round ≡ k.round
+  pub facts : LeavesFront act → j.facts ≡ k.facts
