@@ -57,7 +57,8 @@ pub fn look_up_along<G: Gate>(
     search_along(table, seat, gate, key, rows, index)
 }
 
-/// Does what [`look_up_along`] does, with any number of `rows`. Without rows it searches each node on the way.
+/// Looks `key` up from the root, along the turns at `index` in `rows`, as far as there are any. Where there is none, the node's head is
+/// searched. Returns the key's value, or `None` if the key is absent.
 #[inline(always)]
 fn search_along<G: Gate>(
     table: &HotTable,

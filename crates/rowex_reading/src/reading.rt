@@ -55,9 +55,9 @@ pub fn load_root<G: Gate>(table: &HotTable, seat: &mut TableSeat, gate: &mut G) 
     read_entry(word)
 }
 
-/// Loads words of the head of `node` into `words`, until these are full. The first of them is word `first` of the head.
+/// Loads a part of the head of `node` into `words`, until these are full. The first of them is word `first` of the head.
 #[inline(always)]
-fn load_words<G: Gate>(
+fn load_head_part<G: Gate>(
     table: &HotTable,
     seat: &mut TableSeat,
     gate: &mut G,
@@ -101,10 +101,10 @@ pub(crate) fn load_head_words<G: Gate>(
     ensures words { (m h : ℕ) → IsLedTo seat.old.known m (NodeEntry number h) → AreHeadWords seat.new.known m number h words.new }
 {
     let start = table.start_of(Rec::Node(number));
-    load_words(table, seat, gate, NodeAt { number, start }, 0, words);
+    load_head_part(table, seat, gate, NodeAt { number, start }, 0, words);
 }
 
-/// Loads all words of the head of node `number`. Returns the node of a path at which its first entry is taken.
+/// Loads all words of the head of node `number`. Returns the node as one of a path that takes its first entry.
 #[inline(always)]
 pub fn enter_node<G: Gate>(
     table: &HotTable,
@@ -149,10 +149,10 @@ pub fn search_node<G: Gate>(
         (head : HeadView) × IsHeadSeen seat.new.known m node.number h head × (result ≡ step_at head node.number (spot key.now (shape_of head))) }
 {
     let mut front = [0; FIRST_ROWS];
-    load_words(table, seat, gate, node, 0, &mut front);
+    load_head_part(table, seat, gate, node, 0, &mut front);
     let dense = dense_in(&front, key);
     let mut back = [0; ROW_WORDS];
-    load_words(table, seat, gate, node, FIRST_ROWS, &mut back);
+    load_head_part(table, seat, gate, node, FIRST_ROWS, &mut back);
     PathNode {
         number: node.number,
         height: (front[0] / 65_536) as u16,

@@ -165,7 +165,7 @@ fn scan_leaf<G: Gate>(
     }
 }
 
-/// Scans from a root that is a node. The search for the range's first key went through `way` and ended as `found` says. Fills `pairs`,
+/// Scans from a root that is a node. The search for the range's first key went through `way` and ended at `found`. Fills `pairs`,
 /// which is empty before, and returns whether there is a further pair. An error if memory is refused.
 #[inline(always)]
 fn scan_node<G: Gate>(

@@ -18,9 +18,6 @@ loop-index-init g c = record {
   reads = (0, omega arith, reads_none (c.args.seat.now, c.args.gate.now));
 }
 
-pub find_turn-requires-clause-reader : goal.find_turn-requires-clause-reader
-find_turn-requires-clause-reader g c = c.loop-index.invariant.reader
-
 pub find_turn-requires-clause-tip : goal.find_turn-requires-clause-tip
 find_turn-requires-clause-tip g c = tip_at c.args.tips.now c.loop-index.index c.loop-index.invariant.tips
 
@@ -48,6 +45,3 @@ returns-clause-reads g c =
     let i = c.loop-index.invariant in
     let all : c.loop-index.index ≡ c.args.count = omega (arith, c.loop-index-test.false, c.loop-index.auto.index-end) in
     (i.reads.0, subst (λ m. i.reads.0 ≤ HEAD_WORDS * turns_in (take m c.loop-index.turns)) all i.reads.1, i.reads.2)
-
-pub returns-clause-turns : goal.returns-clause-turns
-returns-clause-turns g c = c.loop-index.invariant.turns

@@ -14,9 +14,6 @@ loop-index-init g c = record {
   reads = (0, omega arith, reads_none (c.args.seat.now, c.args.gate.now));
 }
 
-pub follow_turn-requires-clause-reader : goal.follow_turn-requires-clause-reader
-follow_turn-requires-clause-reader g c = c.loop-index.invariant.reader
-
 pub follow_turn-requires-clause-turn : goal.follow_turn-requires-clause-turn
 follow_turn-requires-clause-turn g c = some_at c.args.count c.args.turns.now c.loop-index.index c.loop-index-test.true c.loop-index.invariant.turns
 
@@ -37,6 +34,3 @@ returns-clause-reads g c =
     let all : c.loop-index.index ≡ c.args.count = omega (arith, c.loop-index-test.false, c.loop-index.auto.index-end) in
     subst (λ m. (n : ℕ) × (n ≤ 4 * turns_in (take m c.args.turns.now)) × Reads c.args.table.now g.G.Gate.becomes (turns_in (take m c.args.turns.now)) n (c.args.seat.now, c.args.gate.now)
     (c.loop-index.seat, c.loop-index.gate)) all c.loop-index.invariant.reads
-
-pub returns-clause-tips : goal.returns-clause-tips
-returns-clause-tips g c = c.loop-index.invariant.tips

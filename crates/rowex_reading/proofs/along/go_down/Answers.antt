@@ -18,12 +18,6 @@ loop-depth-init g c =
       looks = (0, 0, omega arith, omega arith, looks_first r);
     }
 
-pub find_turns-row-requires-clause-reader : goal.find_turns-row-requires-clause-reader
-find_turns-row-requires-clause-reader g c = c.loop-depth.invariant.reader
-
-pub find_turns-row-requires-clause-tips : goal.find_turns-row-requires-clause-tips
-find_turns-row-requires-clause-tips g c = c.loop-depth.invariant.tips
-
 pub follow_turns-tips-requires-clause-reader : goal.follow_turns-tips-requires-clause-reader
 follow_turns-tips-requires-clause-reader g c = reader_then c.loop-depth.invariant.reader c.find_turns-row.ensures.reads.2
 

@@ -30,9 +30,6 @@ pub start_of-start-requires : goal.start_of-start-requires
 start_of-start-requires g c =
     let i = c.loop-entry.invariant in led_in_table c.args.table.now.layout c.loop-entry.seat.known (since c.loop-entry.seat.known) (Node c.in-Node.number c.in-Node.height) i.reader.1 (at_led i.at _ c.in-Node.is)
 
-pub find_place-place-requires-clause-reader : goal.find_place-place-requires-clause-reader
-find_place-place-requires-clause-reader g c = c.loop-entry.invariant.reader
-
 pub find_place-place-requires-clause-led : goal.find_place-place-requires-clause-led
 find_place-place-requires-clause-led g c = (since c.loop-entry.seat.known, c.in-Node.height, at_led c.loop-entry.invariant.at _ c.in-Node.is)
 

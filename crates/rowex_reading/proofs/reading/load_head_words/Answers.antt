@@ -12,5 +12,5 @@ start_of-start-requires g c = let l = c.requires.led in led_in_table c.args.tabl
 
 pub returns-clause-words : goal.returns-clause-words
 returns-clause-words g c = λ m h led.
-    let e = c.load_words.ensures in let told : length c.args.words.now ≡ HEAD_WORDS = search rules in
-    head_read _ _ _ c.args.number c.load_words.new.words (reader_then c.requires.reader e.reads).1 e.loaded (e.long ∙ told) m h led
+    let e = c.load_head_part.ensures in let told : length c.args.words.now ≡ HEAD_WORDS = search rules in
+    head_read _ _ _ c.args.number c.load_head_part.new.words (reader_then c.requires.reader e.reads).1 e.loaded (e.long ∙ told) m h led

@@ -6,39 +6,39 @@ use Rattle.rowex_reading.proofs.Led.{led_on, reader_then, reads_trans}
 use Rattle.rowex_reading.proofs.Stepping.{back_spelled, both_read, front_height_low, front_spelled, step_read}
 use Rattle.rowex_reading.proofs.reading.search_node.Given as given
 use Rattle.rowex_reading.proofs.reading.search_node.Goals as goal
-use Rattle.rowex_reading.proofs.reading.search_node.Goals.{After-load_words-2}
+use Rattle.rowex_reading.proofs.reading.search_node.Goals.{After-load_head_part-2}
 
 -- both parts are the words of one head
-are_words : (g : given.Over) (c : After-load_words-2 g) (m h : ℕ) → IsLedTo c.args.seat.now.known m (Node c.args.node.number h) → AreHeadWords c.load_words-2.new.seat.known m c.args.node.number h (c.load_words.new.words ++ c.load_words-2.new.words)
+are_words : (g : given.Over) (c : After-load_head_part-2 g) (m h : ℕ) → IsLedTo c.args.seat.now.known m (Node c.args.node.number h) → AreHeadWords c.load_head_part-2.new.seat.known m c.args.node.number h (c.load_head_part.new.words ++ c.load_head_part-2.new.words)
 are_words g c m h led =
-    let e = c.load_words.ensures in let f = c.load_words-2.ensures in
-    both_read _ _ _ _ c.args.node.number c.load_words.new.words c.load_words-2.new.words (reader_then (reader_then c.requires.reader e.reads) f.reads).1 e.loaded f.loaded e.long f.long m h led
+    let e = c.load_head_part.ensures in let f = c.load_head_part-2.ensures in
+    both_read _ _ _ _ c.args.node.number c.load_head_part.new.words c.load_head_part-2.new.words (reader_then (reader_then c.requires.reader e.reads) f.reads).1 e.loaded f.loaded e.long f.long m h led
 
 pub dense_in-dense-requires : goal.dense_in-dense-requires
 dense_in-dense-requires g c =
-    let (m, h, led) = c.requires.led in let e = c.load_words.ensures in
-    front_spelled _ _ _ c.args.node.number c.load_words.new.words (reader_then c.requires.reader e.reads).1 e.loaded e.long m h led
+    let (m, h, led) = c.requires.led in let e = c.load_head_part.ensures in
+    front_spelled _ _ _ c.args.node.number c.load_head_part.new.words (reader_then c.requires.reader e.reads).1 e.loaded e.long m h led
 
-pub load_words-requires-2-clause-reader : goal.load_words-requires-2-clause-reader
-load_words-requires-2-clause-reader g c = reader_then c.requires.reader c.load_words.ensures.reads
+pub load_head_part-requires-2-clause-reader : goal.load_head_part-requires-2-clause-reader
+load_head_part-requires-2-clause-reader g c = reader_then c.requires.reader c.load_head_part.ensures.reads
 
-pub load_words-requires-2-clause-led : goal.load_words-requires-2-clause-led
-load_words-requires-2-clause-led g c = let (m, h, led) = c.requires.led in (m, h, led_on m (Node c.args.node.number h) c.load_words.ensures.reads led)
+pub load_head_part-requires-2-clause-led : goal.load_head_part-requires-2-clause-led
+load_head_part-requires-2-clause-led g c = let (m, h, led) = c.requires.led in (m, h, led_on m (Node c.args.node.number h) c.load_head_part.ensures.reads led)
 
 pub overflow_cast-result : goal.overflow_cast-result
 overflow_cast-result g c =
     let (m, h, led) = c.requires.led in
-    record { fits = front_height_low c.load_words.new.words c.load_words-2.new.words c.load_words.ensures.long (are_words g (goal.at.overflow_cast-result g c).After-load_words-2 m h led) }
+    record { fits = front_height_low c.load_head_part.new.words c.load_head_part-2.new.words c.load_head_part.ensures.long (are_words g (goal.at.overflow_cast-result g c).After-load_head_part-2 m h led) }
 
 pub search_in-requires : goal.search_in-requires
 search_in-requires g c =
     let (m, h, led) = c.requires.led in
-    back_spelled c.load_words.new.words c.load_words-2.new.words c.load_words.ensures.long (are_words g (goal.at.search_in-requires g c).After-load_words-2 m h led)
+    back_spelled c.load_head_part.new.words c.load_head_part-2.new.words c.load_head_part.ensures.long (are_words g (goal.at.search_in-requires g c).After-load_head_part-2 m h led)
 
 pub returns-clause-reads : goal.returns-clause-reads
-returns-clause-reads g c = reads_trans c.load_words.ensures.reads c.load_words-2.ensures.reads
+returns-clause-reads g c = reads_trans c.load_head_part.ensures.reads c.load_head_part-2.ensures.reads
 
 pub returns-clause-step : goal.returns-clause-step
 returns-clause-step g c = λ m h led.
-    let are = are_words g (goal.at.returns-clause-step g c).After-load_words-2 m h led in
-    (are.head, are.seen, step_read c.load_words.new.words c.load_words-2.new.words c.load_words.ensures.long are c.args.key.now c.dense_in-dense.result c.search_in.result c.dense_in-dense.ensures c.search_in.ensures c.args.node.number)
+    let are = are_words g (goal.at.returns-clause-step g c).After-load_head_part-2 m h led in
+    (are.head, are.seen, step_read c.load_head_part.new.words c.load_head_part-2.new.words c.load_head_part.ensures.long are c.args.key.now c.dense_in-dense.result c.search_in.result c.dense_in-dense.ensures c.search_in.ensures c.args.node.number)

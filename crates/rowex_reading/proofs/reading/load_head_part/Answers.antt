@@ -7,7 +7,7 @@ use Rattle.rowex_core.specs.declared.event.Act.TheVariants.{LoadFixed}
 use Rattle.rowex_reading.specs.Reads.{Reads}
 use Rattle.rowex_reading.proofs.Led.{reader_then, reads_none, reads_one, reads_trans}
 use Rattle.rowex_reading.proofs.Wording.{fewer_loaded, led_stood, next_loaded, none_loaded}
-use Rattle.rowex_reading.proofs.reading.load_words.Goals as goal
+use Rattle.rowex_reading.proofs.reading.load_head_part.Goals as goal
 
 pub loop-index-init : goal.loop-index-init
 loop-index-init g c = record {

@@ -3,7 +3,7 @@ use Rattle.std.proofs.Common.{◌≡◌, ◌<◌, length}
 use Rattle.versions.specs.declared.Rec.TheVariants.{Node as a_node}
 use Rattle.rowex_reading.specs.Reads.{IsReader, Reads}
 use Rattle.rowex_reading.specs.Seen.{AreLoaded}
-use Rattle.rowex_reading.proofs.reading.load_words.Given as goal
+use Rattle.rowex_reading.proofs.reading.load_head_part.Given as goal
 
 abbrev pub invariant-loop-index : goal.invariant-loop-index
 invariant-loop-index g l = record {
