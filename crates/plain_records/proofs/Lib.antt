@@ -11,8 +11,6 @@ pub mod Replacing
 pub mod Lifting
 pub mod Climbing
 pub mod Cases
-pub mod Further
 pub mod Parts
 pub mod Standing
-pub mod Cutting
-pub mod Starting
+pub mod Scans

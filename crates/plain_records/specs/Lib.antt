@@ -1,6 +1,5 @@
 -- The definitions of the crate.
 pub mod Store
-pub mod Gathered
 pub mod Heights
 pub mod Risen
 pub mod Rising

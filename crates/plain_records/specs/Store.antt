@@ -37,5 +37,10 @@ pub record IsSound (t : Tree) : Type 0 where
   pub trie : IsTrie t
   pub built : IsBuilt t
 
+-- the records show the tree, which is sound
+pub record ShowsSound (nodes : List NodeView) (leaves : List LeafRecord) (t : Tree) : Type 0 where
+  pub shown : ShowsTree nodes leaves t
+  pub sound : IsSound t
+
 abbrev pub item_record : Item → LeafRecord
 item_record x = record { key = x.key; value = x.value }

@@ -1,4 +1,4 @@
-//! The records of a sequential trie, nodes and leaves in two vectors: a key is added to them, a range's leaves are gathered.
+//! The records of a sequential trie, nodes and leaves in two vectors: a key is added to them, a range is scanned.
 //!
 //! `plain_trie` is made of these functions, and says what it is for. An entry names its record by its place in a vector. A function has
 //! the vectors and an entry as its arguments, and its contract speaks of the tree that stands at the entry.
@@ -12,20 +12,20 @@
 //! 3. What a node was cut into rises. It goes into the node above if that is one higher (pulling it up), else into a node of its own
 //!    between the two, or into a new root ([`make_root`]). [`place`] is this rule by itself.
 //!
-//! A scan is two steps: [`gather`] lists a range's leaves, and [`pairs_of`] copies their pairs.
+//! A scan ([`scan_below`]) goes through the leaves in the order of their keys, and copies the pairs of its range.
 #![tactic(auto)]
 
-mod gathering;
 mod leaf;
 mod overflow;
 mod places;
 mod raising;
 mod rising;
 mod room;
+mod scanning;
 
-pub use gathering::{Progress, Range, gather, pairs_of};
 pub use leaf::LeafRecord;
 pub use overflow::place;
 pub use places::Place;
 pub use rising::{make_root, raise};
 pub use room::make_room;
+pub use scanning::{Range, scan_below};
