@@ -14,6 +14,7 @@ use Rattle.finite_map.proofs.Legal.{change_of-change, change_of-quiet, pass-chan
 use Rattle.plain_index.specs.Orders.{calls_in}
 use Rattle.plain_index.proofs.Together.{calls_here, calls_in-all}
 use Rattle.real_time.proofs.Passes.{passes_below}
+use Rattle.rowex_core.proofs.Sharing.{and_false}
 
 -- how many changes of pass q stand at this place or behind it
 abbrev own_from : ℕ → ℕ → List Change → ℕ
@@ -108,12 +109,8 @@ module _ (q : ℕ) (front : List Change) where
             ⊎_elim
             (λ less. let down = own_down q low i front below in let between = own_down q (suc i) n.place front (omega arith) in absurd (omega (arith, here_own, down, between, count, all, upto)))
             (λ more. let down = own_down q low n.place front r.0 in
-            skip (eqb n.place i && is_change n) refl (ap (λ z. eqb n.place i && z) is ∙ no (eqb n.place i)) (later n.place rises others more (omega (arith, down, count, all))))
+            skip (eqb n.place i && is_change n) refl (ap (λ z. eqb n.place i && z) is ∙ and_false (eqb n.place i)) (later n.place rises others more (omega (arith, down, count, all))))
             (cases_lt i n.place)
-          where
-            no : (b : Bool) → (b && false) ≡ false
-            no true = refl
-            no false = refl
 
 pub hit_calls : (q : ℕ) (front : List Change) (ns : List Note) → LegalCalls front q ns → (i : ℕ) (c : Change) → slice_get front i ≡ Some c → c.pass ≡ q → changing_at i ns ≢ []
 hit_calls q front ns h i c is own = hit q front i c is own 0 ns h.rising h.each (omega arith) (let e : length (own_changes q front) ≡ length (changes_of q ns) = ap length h.own in omega (arith, e))
