@@ -17,7 +17,7 @@ use Rattle.rowex_core.specs.declared.event.Act.TheVariants.{ClearPin, LoadEpoch,
 use Rattle.rowex_core.specs.declared.event.Event.{Event}
 use Rattle.rowex_core.specs.declared.event.Spot.TheVariants.{Root}
 use Rattle.rowex_core.specs.declared.known.Known.{Known}
-use Rattle.rowex_table.specs.Runs.{IsTold, Runs, StepsWith, events_of}
+use Rattle.rowex_table.specs.Runs.{Runs, StepsWith}
 use Rattle.rowex_table.specs.Seats.{SeatView, TableView}
 use Rattle.rowex_table.proofs.Running.{ends_told, runs_append, runs_one}
 use Rattle.epochs.specs.Runs.{Pins}
@@ -26,7 +26,7 @@ use Rattle.tries.specs.Keys.{Key}
 use Rattle.seat_calls.specs.Answers.{GoesOn}
 use Rattle.seat_calls.specs.Many.{AreNoted, AreRight, HasGotMany, HasLookedUp, gets, most_entries}
 use Rattle.seat_calls.specs.Noting.{answers_so, same_reply}
-use Rattle.seat_calls.specs.Passes.{IsSettled, PassView, pass_of}
+use Rattle.seat_calls.specs.Passes.{IsSettled, pass_of}
 use Rattle.seat_calls.specs.Traces.{reading}
 use Rattle.seat_calls.proofs.LookedUp.{looked_on}
 use Rattle.seat_calls.proofs.Noting.{HasLooked, get_changes_nothing, goes_on, same_reply_reflexive, legal_front, longer, looked_then, reply_is, settles}

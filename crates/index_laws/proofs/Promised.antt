@@ -60,8 +60,9 @@ loaded_in : (k l : Known) (i j : Known) → i ≡ k → j ≡ l → i.steps ≤ 
 loaded_in k l i j before now h = subst (λ (z : Known). z.steps ≤ l.fresh.step) before (subst (λ (z : Known). i.steps ≤ z.fresh.step) now h)
 
 freshness_of_many : FreshnessOfMany
-freshness_of_many layout last at happens run q t below within call s e ends notes x =
-    replies_in_time layout last at happens run q t call notes below within (returned_responds layout last at happens run q t below within call notes (s, e, ends, inr (inl x)))
+freshness_of_many layout last at happens run q t below within call s e ends x =
+    let notes : List Note = x.noted.added in
+    replies_in_time layout last at happens run q t call notes below within (returned_responds layout last at happens run q t below within call notes (s, e, ends, inr (inl (x, refl))))
 
 -- what is lawful by one of the two laws shows the maps of the run
 module _ (IsLawful : ScanLaw) (IsReached : Map → List ℕ → Type 0)

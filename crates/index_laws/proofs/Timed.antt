@@ -4,7 +4,6 @@ use Rattle.std.specs.Prelude.{get_or}
 use Rattle.std.proofs.lemmas.Bool.{cases_eq}
 use Rattle.std.proofs.lemmas.List.Elements.{All-cons, All-from_recursion, All-nil}
 use Rattle.finite_map.specs.declared.Call.{Call}
-use Rattle.finite_map.specs.declared.Call.TheVariants.{Insert, Upsert, Exchange, Add, Get, Remove, RemoveIf}
 use Rattle.finite_map.specs.declared.Note.{Note}
 use Rattle.finite_map.specs.declared.Reply.{Reply}
 use Rattle.finite_map.specs.Calls.{LegalCalls}
@@ -18,7 +17,6 @@ use Rattle.rowex_core.specs.Opening.{opening}
 use Rattle.rowex_core.proofs.Promises.{opening_is_lawful}
 use Rattle.rowex_table.specs.Rule.{opening_of}
 use Rattle.rowex_table.specs.Seats.{SeatView}
-use Rattle.rowex_writing.specs.declared.plan.Full.TheVariants.{Nodes, Leaves}
 use Rattle.seat_calls.specs.Answers.{IsNoted}
 use Rattle.seat_calls.specs.Passes.{pass_of}
 use Rattle.real_time.specs.Moments.{Continues, Happening, IsPlacedSince, IsResponse, IsWholeRun, Moment, Pending, invokes, refuses, responds, shows, steps}
@@ -55,7 +53,7 @@ noted_now : (k l j i : Known) (notes : List Note) → j ≡ k → i ≡ l → j.
 noted_now k l j i notes now before h = sym (ap (λ (z : Known). z.notes) now) ∙ h ∙ ap (λ (z : Known). z.notes ++ notes) before
 
 -- a noted call's place is no lower than what a load of the root showed in the call
-pub noted_placed : (layout : Layout) (at : ℕ → Moment) (q t : ℕ) (call : Pending) (s e : SeatView) → IsReturning layout at q t call s e → (asked : Call) (reply : Reply) →
+pub noted_placed : (layout : Layout) (at : ℕ → Moment) (q t : ℕ) (call : Pending) (s e : SeatView) → IsReturning at q t call s e → (asked : Call) (reply : Reply) →
     (noted : IsNoted layout (pass_of s) (pass_of e) asked reply) → IsPlacedSince at q call.since t (record { place = noted.place; call = asked; reply = reply })
 noted_placed layout at q t call s e ends asked reply noted = record {
   shown = t;
@@ -65,7 +63,7 @@ noted_placed layout at q t call s e ends asked reply noted = record {
   low = subst (λ (z : Known). length z.fresh.front ≤ noted.place) ends.now noted.low;
 }
 
-noted_is_response : (layout : Layout) (at : ℕ → Moment) (q t : ℕ) (call : Pending) (s e : SeatView) → IsReturning layout at q t call s e → (asked : Call) (reply : Reply) → call.calls ≡ asked ∷ [] →
+noted_is_response : (layout : Layout) (at : ℕ → Moment) (q t : ℕ) (call : Pending) (s e : SeatView) → IsReturning at q t call s e → (asked : Call) (reply : Reply) → call.calls ≡ asked ∷ [] →
     (noted : IsNoted layout (pass_of s) (pass_of e) asked reply) → IsResponse at t q call (record { place = noted.place; call = asked; reply = reply } ∷ [])
 noted_is_response layout at q t call s e ends asked reply calls noted =
     let n : Note = record { place = noted.place; call = asked; reply = reply } in
@@ -86,8 +84,8 @@ calls_same added asked e = firsts added ∙ ap (λ xs. map (λ (x : Call × Repl
     firsts (n ∷ ns) = ap (λ z. n.call ∷ z) (firsts ns)
 
 many_are_response : (layout : Layout) (last : ℕ) (at : ℕ → Moment) (happens : ℕ → Happening) → IsWholeRun layout last at happens → (q t : ℕ) (call : Pending) (s e : SeatView) → q < layout.passes →
-    t ≤ last → IsReturning layout at q t call s e → (notes : List Note) → (x : HasAnsweredMany layout at q t call s e notes) → IsResponse at t q call x.noted.added
-many_are_response layout last at happens run q t call s e low within ends notes x =
+    t ≤ last → IsReturning at q t call s e → (x : HasAnsweredMany layout at q t call s e) → IsResponse at t q call x.noted.added
+many_are_response layout last at happens run q t call s e low within ends x =
     let m : ℕ = x.m in
     let f : SeatView = x.f in
     let noted = x.noted in
@@ -119,7 +117,7 @@ many_are_response layout last at happens run q t call s e low within ends notes 
       legal = legal_now q ((at t).known q) e.known ends.now ends.pass noted.legal;
     }
 
-quiet_is_response : (layout : Layout) (at : ℕ → Moment) (q t : ℕ) (call : Pending) (s e : SeatView) → IsReturning layout at q t call s e → (notes : List Note) →
+quiet_is_response : (layout : Layout) (at : ℕ → Moment) (q t : ℕ) (call : Pending) (s e : SeatView) → IsReturning at q t call s e → (notes : List Note) →
     IsQuiet call (pass_of s) (pass_of e) notes → IsResponse at t q call []
 quiet_is_response layout at q t call s e ends notes x = record {
   called = ends.pending;
@@ -132,8 +130,8 @@ quiet_is_response layout at q t call s e ends notes x = record {
 pub returned_responds : ReturnedResponds
 returned_responds layout last at happens run q t below within call notes (s, e, ends, inl x) =
     subst (IsResponse at t q call) (sym x.notes_are) (noted_is_response layout at q t call s e ends x.asked x.reply x.calls x.noted)
-returned_responds layout last at happens run q t below within call notes (s, e, ends, inr (inl x)) =
-    subst (IsResponse at t q call) (sym x.notes_are) (many_are_response layout last at happens run q t call s e below within ends notes x)
+returned_responds layout last at happens run q t below within call notes (s, e, ends, inr (inl (x, are))) =
+    subst (IsResponse at t q call) (sym are) (many_are_response layout last at happens run q t call s e below within ends x)
 returned_responds layout last at happens run q t below within call notes (s, e, ends, inr (inr x)) =
     subst (IsResponse at t q call) (sym x.notes_are) (quiet_is_response layout at q t call s e ends notes x)
 
@@ -145,20 +143,7 @@ refused_is_refused layout at q t call (s, e, asked, fault, ends, calls, refused,
 }
 
 lack_may_refuse : LackMayRefuse
-lack_may_refuse (Insert key value) Nodes lack = tt
-lack_may_refuse (Insert key value) Leaves lack = tt
-lack_may_refuse (Upsert key value) Nodes lack = tt
-lack_may_refuse (Upsert key value) Leaves lack = tt
-lack_may_refuse (Exchange key expected value) Nodes lack = tt
-lack_may_refuse (Exchange key expected value) Leaves lack = tt
-lack_may_refuse (Add key delta) Nodes lack = tt
-lack_may_refuse (Add key delta) Leaves lack = tt
-lack_may_refuse (Get key) Nodes lack = lack
-lack_may_refuse (Get key) Leaves lack = lack
-lack_may_refuse (Remove key) Nodes lack = tt
-lack_may_refuse (Remove key) Leaves lack = lack
-lack_may_refuse (RemoveIf key expected) Nodes lack = tt
-lack_may_refuse (RemoveIf key expected) Leaves lack = lack
+lack_may_refuse call full lack = lack
 
 -- Executions
 

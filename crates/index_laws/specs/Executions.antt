@@ -14,7 +14,7 @@ use Rattle.seat_calls.specs.Passes.{PassView, pass_of}
 use Rattle.real_time.specs.Moments.{Continues, Happening, IsCallTurn, IsNewIndex, Moment, Pending, invokes, refuses, responds, shows, steps}
 
 -- Pass q's call is pending at moment t. The seat s knows what the pass knew when it invoked the call, and e what it knows now.
-pub record IsReturning (layout : Layout) (at : ℕ → Moment) (q t : ℕ) (call : Pending) (s e : SeatView) : Type 0 where
+pub record IsReturning (at : ℕ → Moment) (q t : ℕ) (call : Pending) (s e : SeatView) : Type 0 where
   pub pending : (at t).pending q ≡ Some call
   pub before : s.known ≡ (at call.since).known q
   pub now : e.known ≡ (at t).known q
@@ -29,13 +29,12 @@ pub record IsAnswered (layout : Layout) (call : Pending) (k j : PassView) (notes
   pub noted : IsNoted layout k j asked reply
   pub notes_are : notes ≡ record { place = noted.place; call = asked; reply = reply } ∷ []
 
--- It asked look-ups, which were noted. As `HasGotMany` says, the pass saw all changes at the call's first load of the root, and none of the
--- look-ups stands before these: f knows what the pass knew then, at moment m.
-pub record HasAnsweredMany (layout : Layout) (at : ℕ → Moment) (q t : ℕ) (call : Pending) (s e : SeatView) (notes : List Note) : Type 0 where
+-- It asked look-ups, whose notes were added. As `HasGotMany` says, the pass saw all changes at the call's first load of the root, and none of
+-- the look-ups stands before these: f knows what the pass knew then, at moment m.
+pub record HasAnsweredMany (layout : Layout) (at : ℕ → Moment) (q t : ℕ) (call : Pending) (s e : SeatView) : Type 0 where
   pub asked : List (Call × Reply)
   pub calls : map (λ x. x.0) asked ≡ call.calls
   pub noted : AreNoted layout (pass_of s) (pass_of e) asked
-  pub notes_are : notes ≡ noted.added
   pub m : ℕ
   pub since : call.since ≤ m
   pub until : m ≤ t
@@ -54,13 +53,14 @@ pub record IsQuiet (call : Pending) (k j : PassView) (notes : List Note) : Type 
 -- The call returns at moment t with these notes.
 abbrev pub HasReturned : Layout → (ℕ → Moment) → ℕ → ℕ → Pending → List Note → Type 0
 HasReturned layout at q t call notes =
-    (s : SeatView) × (e : SeatView) × IsReturning layout at q t call s e ×
-    (IsAnswered layout call (pass_of s) (pass_of e) notes ⊎ (HasAnsweredMany layout at q t call s e notes ⊎ IsQuiet call (pass_of s) (pass_of e) notes))
+    (s : SeatView) × (e : SeatView) × IsReturning at q t call s e ×
+    (IsAnswered layout call (pass_of s) (pass_of e) notes ⊎
+    (((many : HasAnsweredMany layout at q t call s e) × (notes ≡ many.noted.added)) ⊎ IsQuiet call (pass_of s) (pass_of e) notes))
 
 -- The call asked one of the map, and is refused at moment t.
 abbrev pub HasBeenRefused : Layout → (ℕ → Moment) → ℕ → ℕ → Pending → Type 0
 HasBeenRefused layout at q t call =
-    (s : SeatView) × (e : SeatView) × (asked : Call) × (fault : TryFault) × IsReturning layout at q t call s e × (call.calls ≡ asked ∷ []) ×
+    (s : SeatView) × (e : SeatView) × (asked : Call) × (fault : TryFault) × IsReturning at q t call s e × (call.calls ≡ asked ∷ []) ×
     IsRefused layout asked (pass_of s) (pass_of e) fault × MayRefuse asked fault
 
 -- what happens at moment t of an execution leads to the next one: as in a run, and each call that ends has ended as its contract says

@@ -11,7 +11,6 @@ use Rattle.std.specs.Prelude.{◌≡◌, ◌≢◌, ◌⊎◌, ℕ, ◌+◌, ◌
 use Rattle.key_bits.specs.declared.TheConstants.{MAX_BYTES}
 use Rattle.finite_map.specs.declared.Call.{Call}
 use Rattle.finite_map.specs.declared.Call.TheVariants.{Get, Remove, RemoveIf}
-use Rattle.finite_map.specs.declared.Note.{Note}
 use Rattle.finite_map.specs.declared.Reply.{Reply}
 use Rattle.finite_map.specs.declared.Scan.{Scan}
 use Rattle.finite_map.specs.Calls.{LegalCalls, own_changes}
@@ -59,7 +58,7 @@ OneHistory =
 abbrev pub Freshness : Type 0
 Freshness =
     (layout : Layout) (last : ℕ) (at : ℕ → Moment) (happens : ℕ → Happening) → IsWholeRun layout last at happens →
-    (q t : ℕ) → q < layout.passes → t ≤ last → (call : Pending) (s e : SeatView) → IsReturning layout at q t call s e →
+    (q t : ℕ) → q < layout.passes → t ≤ last → (call : Pending) (s e : SeatView) → IsReturning at q t call s e →
     (asked : Call) (reply : Reply) → IsNoted layout (pass_of s) (pass_of e) asked reply →
     (m : ℕ) × (call.since ≤ m) × (m ≤ t) × (reply ≡ reply_of (map_at at m) asked)
 
@@ -67,9 +66,9 @@ Freshness =
 abbrev pub FreshnessOfMany : Type 0
 FreshnessOfMany =
     (layout : Layout) (last : ℕ) (at : ℕ → Moment) (happens : ℕ → Happening) → IsWholeRun layout last at happens →
-    (q t : ℕ) → q < layout.passes → t ≤ last → (call : Pending) (s e : SeatView) → IsReturning layout at q t call s e →
-    (notes : List Note) → HasAnsweredMany layout at q t call s e notes →
-    All (λ n. (m : ℕ) × (call.since ≤ m) × (m ≤ t) × (n.reply ≡ reply_of (map_at at m) n.call)) notes
+    (q t : ℕ) → q < layout.passes → t ≤ last → (call : Pending) (s e : SeatView) → IsReturning at q t call s e →
+    (many : HasAnsweredMany layout at q t call s e) →
+    All (λ n. (m : ℕ) × (call.since ≤ m) × (m ≤ t) × (n.reply ≡ reply_of (map_at at m) n.call)) many.noted.added
 
 -- A scan that a pass made from its invocation to moment t of a run is lawful from what the pass saw at its last load of the root to what it
 -- has seen by its end. And it shows the maps of moments from the one to the other: each pair was in one of them, and no key of its range is
@@ -78,7 +77,7 @@ FreshnessOfMany =
 abbrev pub ScansShow : ScanLaw → (Map → List ℕ → Type 0) → Type 0
 ScansShow IsLawful IsReached =
     (layout : Layout) (last : ℕ) (at : ℕ → Moment) (happens : ℕ → Happening) → IsWholeRun layout last at happens →
-    (q t : ℕ) → q < layout.passes → t ≤ last → (call : Pending) (s e : SeatView) → IsReturning layout at q t call s e →
+    (q t : ℕ) → q < layout.passes → t ≤ last → (call : Pending) (s e : SeatView) → IsReturning at q t call s e →
     (from upto : List ℕ) (limit : ℕ) (scan : Scan) → IsScannedBy IsLawful layout (pass_of s) (pass_of e) (range_from from upto limit) scan ⊎
     IsListedBy IsLawful layout (pass_of s) (pass_of e) (range_from from upto limit) scan.pairs.items scan.more →
     IsLawful (pass_of e).fresh.front (pass_of e).front from upto limit scan × IsScanInTime IsReached at call.since t from upto scan

@@ -16,9 +16,10 @@ use Rattle.seat_calls.specs.Passes.{IsNewPass, PassView}
 -- refused, collected, met another or followed a stamp (`IsUnnoted`) or scanned (`IsScannedBy`, `IsListedBy`), through the same as before.
 pub data HasLived : Layout → List (Call × Reply) → PassView → Type 0 where
   new : {layout : Layout} {q : ℕ} {j : PassView} → IsNewPass q j → HasLived layout [] j
-  called : {layout : Layout} {calls : List (Call × Reply)} {k j : PassView} {call : Call} {reply : Reply} → HasLived layout calls k → IsNoted layout k j call reply →
-      HasLived layout (calls ++ (call, reply) ∷ []) j
-  looked_up : {layout : Layout} {calls asked : List (Call × Reply)} {k j : PassView} → HasLived layout calls k → AreNoted layout k j asked → HasLived layout (calls ++ asked) j
+  called : {layout : Layout} {calls : List (Call × Reply)} {k j : PassView} {call : Call} {reply : Reply} →
+      HasLived layout calls k → IsNoted layout k j call reply → HasLived layout (calls ++ (call, reply) ∷ []) j
+  looked_up : {layout : Layout} {calls asked : List (Call × Reply)} {k j : PassView} →
+      HasLived layout calls k → AreNoted layout k j asked → HasLived layout (calls ++ asked) j
   went_on : {layout : Layout} {calls : List (Call × Reply)} {k j : PassView} → HasLived layout calls k → IsUnnoted layout k j → HasLived layout calls j
   scanned : {layout : Layout} {calls : List (Call × Reply)} {k j : PassView} → HasLived layout calls k → GoesOn layout k j → j.notes ≡ k.notes →
       LegalCalls j.front j.number j.notes → HasLived layout calls j

@@ -180,4 +180,6 @@ MetAreOfOneRun =
 
 -- A call of steps that end in one, as those of one key and scans do, makes no stamp, follows none and meets no other pass.
 abbrev pub CallsMakeNoAsides : Type 0
-CallsMakeNoAsides = (index : TableView) (acts : List Act) (last : Act) (said : Known → List Note) (s t : SeatView) → Ends index untold acts last said (s, tt) (t, tt) → t.asides ≡ s.asides
+CallsMakeNoAsides =
+    (index : TableView) (acts : List Act) (last : Act) (said : Known → List Note) (s t : SeatView) → Ends index untold acts last said (s, tt) (t, tt) →
+    t.asides ≡ s.asides

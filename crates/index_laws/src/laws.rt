@@ -4,69 +4,74 @@ ghost use Rattle.index_laws.specs.Statements.{AGetReturns, Responses};
 ghost use Rattle.index_laws.specs.Steps.{StepsAreMoments, StepsFollow};
 ghost use Rattle.index_laws.specs.Traced.{AGetIsTraced, CallsMakeNoAsides, EndedBeforeLoaded, EndedOrLoadedBefore, EndedOrShownBefore, LoadsAreMoments, LoadsSeeAll, MetAreOfOneRun, TracedAreExecutions};
 
-/// A run may begin where an index has just been made, and a call that has ended does so in it as its contract says.
+/// A run may begin where an index has just been made. A call that has ended as its contract says responds, or is refused, in the run. So
+/// an execution is a run.
 pub fn responses()
     ensures { Responses }
 {}
 
-/// All that is promised of the index, in one place.
+/// All that is promised of the index, in one place: each field of `Headline` is one promise.
 pub fn headline()
     ensures { Headline }
 {}
 
-/// There are executions in which calls return.
+/// There is an execution in which a call returns: a get, in an index that has just been made, finds its key absent.
 pub fn a_get_returns()
     ensures { AGetReturns }
 {}
 
-/// A step leads from the core that shows the table's state to the core after it, which shows the next state.
+/// Let a core show the table's state. Then a step that a pass may make is legal in it, and the core after the step shows the next state.
 pub fn steps_follow()
     ensures { StepsFollow }
 {}
 
-/// So it is a step of a run whose moment has that core.
+/// Let a moment of a run have the core that shows the table's state. Then a step that a pass may make is a step of the run, to a moment
+/// whose core shows the next state.
 pub fn steps_are_moments()
     ensures { StepsAreMoments }
 {}
 
-/// Contracts of steps, of stamps and meetings and of calls make an execution, if the steps of all passes have one order, in which each
-/// step's trace is what came before it.
+/// Contracts of steps, of stamps, of meetings and of calls make an execution. The premise is that the steps of all passes have one order,
+/// in which each step's trace is what came before it.
 pub fn traced_are_executions()
     ensures { TracedAreExecutions }
 {}
 
-/// There are executions by contracts alone in which calls return.
+/// There is an execution by contracts alone in which a call returns: a get, in an index that has just been made.
 pub fn a_get_is_traced()
     ensures { AGetIsTraced }
 {}
 
-/// In such an execution a load of the root has its moment in the call, and shows all that any pass had seen by then.
+/// In an execution by contracts alone, a pass's load of the root has one moment between any two around it. It shows the pass all that any
+/// pass had seen by then.
 pub fn loads_are_moments()
     ensures { LoadsAreMoments }
 {}
 
-/// A load of the root shows all changes that another pass, or the same, had seen by any of its steps before that load.
+/// A load of the root shows all changes that a pass, another or the same, had seen by its steps before that load.
 pub fn loads_see_all()
     ensures { LoadsSeeAll }
 {}
 
-/// An answered call with one key stands at no later place than one that loads the root after its last step.
+/// An answered call with one key stands at no later place than one that loads the root after its last step. If it changed the map, it
+/// stands at an earlier one.
 pub fn ended_before_loaded()
     ensures { EndedBeforeLoaded }
 {}
 
-/// Of two such calls in one run of the table the one stands first, or the other's load of the root came no later than the one's last step.
+/// Of two answered calls with one key, in one run of the table, the one stands first; or the other's load of the root is a step of which
+/// the one's pass knew when its call ended.
 pub fn ended_or_loaded_before()
     ensures { EndedOrLoadedBefore }
 {}
 
-/// Of two such calls the one stands first, or its pass knew at its end of all steps before the other's load of the root. It is enough that
-/// one run has the one's trace and these steps.
+/// Of two answered calls with one key, the one stands first; or its pass knew, when it ended, of all steps before the other's load of the
+/// root. The premise is one run that has the one's trace and these steps.
 pub fn ended_or_shown_before()
     ensures { EndedOrShownBefore }
 {}
 
-/// Two passes that have met are of one run of the table.
+/// Two passes that have met are of one run of the table: of the steps that each knew of before, the ones begin with the others.
 pub fn met_are_of_one_run()
     ensures { MetAreOfOneRun }
 {}

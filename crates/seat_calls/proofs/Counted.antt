@@ -1,10 +1,8 @@
 -- What a count of records comes to.
-use Rattle.std.proofs.Common.{◌≡◌, ℕ, zero, suc, ◌+◌, ◌*◌, ◌<◌, ◌≤◌, List, [], ◌∷◌, ◌++◌, Bool, true, false, if◌then◌else◌, Option, Some, None, refl, sym, ap, subst, ◌∙◌, arith, length, length-append}
+use Rattle.std.proofs.Common.{◌≡◌, ℕ, suc, ◌+◌, ◌*◌, ◌<◌, ◌≤◌, List, [], ◌∷◌, ◌++◌, Bool, true, false, if◌then◌else◌, Option, Some, None, refl, sym, ap, subst, ◌∙◌, arith, length, length-append}
 use Rattle.std.specs.Prelude.{count_by}
-use Rattle.std.proofs.lemmas.List.{append_assoc, append-nil}
 use Rattle.std.proofs.lemmas.List.Sums.{sum_by-append}
 use Rattle.record_words.specs.declared.TheConstants.{EPOCHS, WORD_BYTES}
-use Rattle.record_words.specs.declared.layout.Layout.{Layout}
 use Rattle.record_words.specs.declared.state.Tag.{Tag}
 use Rattle.record_words.specs.declared.state.Tag.TheVariants.{Free, Held, Live, Locked, Obsolete}
 use Rattle.record_words.specs.Layout.{word_count}
@@ -18,14 +16,14 @@ use Rattle.rowex_core.specs.declared.event.Act.TheVariants.{LoadState}
 use Rattle.rowex_core.specs.declared.event.Event.{Event}
 use Rattle.rowex_core.specs.declared.known.Known.{Known}
 use Rattle.rowex_core.specs.Words.{lock_of, tag_of}
-use Rattle.rowex_table.specs.Runs.{Does, IsTold, Runs, Steps, events_of}
+use Rattle.rowex_table.specs.Runs.{Does, Steps}
 use Rattle.rowex_table.specs.Seats.{SeatView, TableView}
 use Rattle.rowex_table.proofs.Running.{does_none, runs_told}
 use Rattle.epochs.specs.Runs.{collecting}
 use Rattle.epochs.proofs.Doing.{collects_append, collects_look}
-use Rattle.seat_calls.specs.Census.{CountsAll, CountsFrom, FoundTags, HasCounted, OneForEach, counts_in, counts_of, is_free, is_held, is_live, is_obsolete, loads_in, loads_of, with_tag}
+use Rattle.seat_calls.specs.Census.{CountsAll, CountsFrom, FoundTags, HasCounted, counts_of, is_free, is_held, is_live, is_obsolete, loads_in, loads_of, with_tag}
 use Rattle.seat_calls.specs.Answers.{IsUnnoted}
-use Rattle.seat_calls.specs.Passes.{IsSettled, PassView, pass_of}
+use Rattle.seat_calls.specs.Passes.{IsSettled, pass_of}
 use Rattle.seat_calls.specs.declared.census.RecordCounts.{RecordCounts}
 use Rattle.seat_calls.specs.declared.census.StateCounts.{StateCounts}
 use Rattle.seat_calls.proofs.Collected.{does_settled, does_unnoted}

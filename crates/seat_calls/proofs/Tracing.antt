@@ -1,5 +1,5 @@
 -- The steps of a call, and what its gate was told.
-use Rattle.std.proofs.Common.{◌≡◌, ℕ, ◌+◌, ◌*◌, ◌≤◌, List, [], ◌∷◌, ◌++◌, false, Result, inl, inr, refl, sym, ap, subst, arith, ◌∙◌}
+use Rattle.std.proofs.Common.{◌≡◌, ℕ, ◌+◌, ◌*◌, ◌≤◌, List, [], ◌∷◌, ◌++◌, false, Result, inl, inr, refl, sym, ap, subst, arith}
 use Rattle.key_bits.specs.declared.TheConstants.{MAX_BYTES}
 use Rattle.finite_map.specs.declared.Call.{Call}
 use Rattle.finite_map.specs.declared.Note.{Note}
@@ -29,7 +29,7 @@ use Rattle.seat_calls.specs.Answers.{IsRefused, fault_of}
 use Rattle.seat_calls.specs.Counts.{try_steps}
 use Rattle.seat_calls.specs.Noting.{change_notes}
 use Rattle.seat_calls.specs.Passes.{PassView, pass_of}
-use Rattle.seat_calls.specs.Traces.{AreAttempts, AreRoundSteps, AreSmallSteps, AreTries, HasCollected, HasEnded, HasGot, HasMade, HasRead, HasStepped, HasTold, HasGotRange, IsAttempt, Tidies, is_full, reading, untold}
+use Rattle.seat_calls.specs.Traces.{AreAttempts, AreRoundSteps, AreSmallSteps, AreTries, HasEnded, HasGot, HasMade, HasRead, HasStepped, HasTold, HasGotRange, IsAttempt, Tidies, is_full, reading, untold}
 
 -- The steps of a round, and of a small one.
 round_steps_of : {G : Type 0} {table : TableView} {becomes : G → Event → G → Type 0} {a b : SeatView × G} {nodes leaves : ℕ} (r : IsRound table becomes a b nodes leaves) →

@@ -49,7 +49,7 @@ use Rattle.epochs.specs.Rounds.{IsRound}
 use Rattle.seat_calls.specs.Answers.{IsCause, IsNoted, IsRefused, IsUnnoted, MayLack, MayRefuse, fault_of}
 use Rattle.seat_calls.specs.Asked.{HasAsked, HasReplied, last_try}
 use Rattle.seat_calls.specs.Calls.{AreTriesRefused, GetsOr, IsAwaitedWith, IsTriedWith, MakesTries}
-use Rattle.seat_calls.specs.Counts.{once_steps, try_steps, twice_steps}
+use Rattle.seat_calls.specs.Counts.{try_steps, twice_steps}
 use Rattle.seat_calls.specs.Noting.{change_notes, place_by}
 use Rattle.seat_calls.specs.Passes.{IsSettled, Owns, PassView, pass_of}
 use Rattle.seat_calls.specs.Traces.{AreAttempts, AreTries, HasMade, HasStepped, HasTold, IsOneAttempt, Tidies, is_full}
