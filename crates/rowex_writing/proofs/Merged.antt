@@ -53,6 +53,7 @@ use Rattle.rowex_reading.specs.declared.descent.Found.{Found}
 use Rattle.rowex_reading.specs.declared.descent.Found.TheVariants.{Leaf}
 use Rattle.rowex_reading.proofs.Seeing.{later_trans}
 use Rattle.rowex_reading.proofs.Ways.{named_at, way_later}
+use Rattle.publish_laws.specs.Loops.{StaysLocked}
 use Rattle.publish_laws.specs.Rises.{IsSide, made_of_node, one, anew}
 use Rattle.publish_laws.specs.Spots.{HoldsAt, FitsAt, at_root, in_node}
 use Rattle.publish_laws.specs.Stages.{AreBeside, HasReady, merged}
@@ -65,7 +66,7 @@ use Rattle.rowex_writing.specs.Growths.{HasNumber}
 use Rattle.rowex_writing.specs.Going.{HasLocked, IsNodeOf, WorksOn}
 use Rattle.rowex_writing.specs.Jobs.{HoldsSpan}
 use Rattle.rowex_writing.specs.Locks.{HasTheSame, numbers_of, span_numbers}
-use Rattle.rowex_writing.specs.Merging.{ClosesFork, HasHeight, IsNeighbour, IsTaking, IsWide, LocksAbove, MayMergeInto, by_anchor, by_node, lower, merged_gone, no_step, upper}
+use Rattle.rowex_writing.specs.Merging.{ClosesFork, HasHeight, IsNeighbour, IsTaking, IsWide, LocksAbove, MayMergeInto, TakesOn, by_anchor, by_node, lower, merged_gone, no_step, upper}
 use Rattle.rowex_writing.specs.Putting.{IsSpotAbove}
 use Rattle.rowex_writing.specs.Retiring.{AreInTable, IsAnchored}
 use Rattle.rowex_writing.specs.declared.deeds.Job.{Job}
@@ -607,6 +608,23 @@ pub is_taking : (table : TableView) (a : SeatView) (job : Job) → HasTakenPlan 
 is_taking table a job (m, aim, taken, planned) some =
     let (number, value, found_is, below) = taken_below table a m job aim taken planned (let w = taken.within.0 in omega (arith, w, some)) in
     (record { before = a; since = m; number = number; value = value; found = found_is; below = below; some = some }, refl)
+
+-- it goes on once what is left of the lower node is made
+pub takes_taken : {G : Type 0} (table : TableView) (becomes : G → Event → G → Type 0) (a b : SeatView × G) (job : Job) → WorksOn table becomes a b → HasTakenPlan table a.0 job Take → 0 < job.span.end → TakesOn table b.0 job
+takes_taken table becomes a b job goes taken some =
+    let (t, same) = is_taking table a.0 job taken some in
+    (t, seat_of table becomes a b goes taken.2.seat, goes_possible table becomes a b goes taken.2.possible, subst (λ z. StaysLocked z.known b.0.known) (sym same) goes.stays)
+
+pub holds_later : (table : TableView) (b c : SeatView) (job : Job) → TakesOn table b job → IsLater b.known c.known × IsSeatOf table c × IsPossible table.layout c.known → HasTheSame b.known c.known → HoldsSpan table c job
+holds_later table b c job (t, own, was, stays) (later, seat, possible) (locks, anchor, records) =
+    let since = later_transitive t.before.known b.known c.known stays.0 later in
+    record {
+      seat = seat;
+      possible = possible;
+      within = t.below.taken.within;
+      from = (t.since, subst (λ f. IsWayOf table.layout c.known t.since job.key.now job.way.now f) (sym t.found) (way_later table.layout t.before.known c.known t.since job.key.now job.way.now _ since t.below.taken.way_of));
+      locked = span_later t.before.known c.known job.way.now job.span (since, locks ∙ stays.1, anchor ∙ stays.2) t.below.taken.locked;
+    }
 
 -- a change goes on under the locks of its span
 pub holds_on : {G : Type 0} (table : TableView) (becomes : G → Event → G → Type 0) (a b : SeatView × G) (job : Job) (deed : Deed) → WorksOn table becomes a b → HasTakenPlan table a.0 job deed → HoldsSpan table b.0 job

@@ -29,15 +29,19 @@ use Rattle.rowex_table.specs.Runs.{silent}
 use Rattle.rowex_table.specs.Seats.{TableView, SeatView}
 use Rattle.rowex_table.proofs.ActsAfter.{locks_exact, unlocks_node}
 use Rattle.rowex_writing.specs.Changes.{HasTried}
+use Rattle.rowex_writing.specs.Counts.{level_steps}
 use Rattle.rowex_writing.specs.Going.{HasLocked}
 use Rattle.rowex_writing.specs.Locks.{LocksLast, LocksOne, numbers_of, span_numbers}
+use Rattle.rowex_writing.specs.declared.deeds.Job.{Job}
 use Rattle.rowex_writing.specs.declared.plan.Span.{Span}
 use Rattle.compound_node.specs.declared.entries.Entry.{Entry}
 use Rattle.rowex_reading.specs.Possible.{IsPossible}
 use Rattle.rowex_reading.specs.Ways.{IsWayOf, named}
 use Rattle.rowex_reading.specs.declared.descent.Found.{Found}
-use Rattle.rowex_writing.specs.Merging.{IsFar, IsTargetAbove, LocksAbove, TriesFew, TriesMore, by_anchor, by_node}
+use Rattle.rowex_writing.specs.Merging.{ChangesOn, IsFar, IsTaking, IsTargetAbove, LocksAbove, TriesFew, TriesMore, by_anchor, by_node}
+use Rattle.rowex_writing.proofs.Counting.{numbers_few}
 use Rattle.rowex_writing.proofs.Shapes.{way_node_locked}
+use Rattle.rowex_writing.proofs.Ways.{way_apart}
 use Rattle.rowex_writing.proofs.Tried.{anchor_more, nodes_more, nodes_once, nodes_then, number_new, once_then}
 
 -- ---- the lock that was taken last
@@ -119,6 +123,14 @@ module _ {G : Type 0} (table : TableView) (becomes : G → Event → G → Type 
       let two = nodes_more table becomes g (n ∷ nodes) a m c none one above in
       (length (g ∷ n ∷ nodes), nodes_once table becomes (g ∷ n ∷ nodes) a d (nodes_then table becomes (g ∷ n ∷ nodes) a c d two run), omega arith, omega arith, λ e. omega arith)
 
+  -- so for the sibling and what names the upper node
+  pub two_tried : (job : Job) (number : ℕ) (t : IsTaking table job) (both : Bool) (a m b c : SeatView × G) → IsFar job.way.now job.span number → HasTried table becomes (NodeTarget number ∷ []) a m →
+      (target : Target) × HasTried table becomes (target ∷ []) m b × IsTargetAbove job.way.now (job.span.end - 1) target → HasTried table becomes [] b c → TriesMore table becomes (span_numbers job.way.now job.span) both a c
+  two_tried job number t both a m b c far lock (target, above, top) rest =
+      let apart = way_apart table.layout t.before.known t.since job.key.now _ job.way.now t.below.taken.possible t.below.taken.way_of in
+      more_two (span_numbers job.way.now job.span) number job.way.now (job.span.end - 1) both a m b c (far_none job.way.now job.span number far) lock target above top
+      (above_none job.way.now job.span number apart t.below.taken.within.0 t.below.taken.within.1 far) rest
+
   -- few steps
   pub few_none : (nodes : List ℕ) (left more : ℕ) (b c : SeatView × G) → HasTried table becomes [] b c → c.0.known.steps ≤ b.0.known.steps + more → TriesFew table becomes nodes left more b c
   few_none nodes left more b c run few a h = (length nodes, nodes_once table becomes nodes a c (nodes_then table becomes nodes a b c h run), omega arith, omega arith, omega (arith, few))
@@ -139,8 +151,16 @@ module _ {G : Type 0} (table : TableView) (becomes : G → Event → G → Type 
   few_then nodes left more b c d tries rest few a h =
       let (locks, tried, least, most, spent) = tries a h in (locks, once_then table becomes a c d tried rest, least, most, omega (arith, few, spent))
 
-  pub few_weaker : (nodes : List ℕ) (left more : ℕ) (b c : SeatView × G) → 60 ≤ more → TriesFew table becomes nodes left 60 b c → TriesFew table becomes nodes left more b c
-  few_weaker nodes left more b c upto tries a h = let (locks, tried, least, most, spent) = tries a h in (locks, tried, least, most, omega (arith, upto, spent))
+  -- so for a removal, once what is left of the lower node is made
+  pub removal_changes : (job : Job) (t : IsTaking table job) (left more : ℕ) (b m c : SeatView × G) → more ≤ 80 → HasTried table becomes [] b m → m.0.known.steps + 2 * left ≤ b.0.known.steps + 2 * table.layout.nodes + level_steps + 1 →
+      TriesFew table becomes (span_numbers job.way.now job.span) left more m c → ChangesOn table becomes (span_numbers job.way.now job.span) b c
+  removal_changes job t left more b m c upto run walk tries a h =
+      let (locks, tried, least, most, few) = tries a (nodes_then table becomes (span_numbers job.way.now job.span) a b m h run) in
+      let low = t.below.taken.within.0 in
+      let last = t.below.last in
+      let some = t.some in
+      let count = numbers_few job.way.now (job.span.end - 1) job.span.len (omega (arith, low)) t.below.taken.within.1 in
+      (locks, tried, least, most, omega (arith, few, walk, count, last, some, least, upto))
 
 -- ---- a place to which the pass was led
 pub place_led : (k : Known) (m n h i : ℕ) → HasPlace k m n h i → IsSure k (λ past. EntryStoodSince past m (Node n h))

@@ -50,6 +50,6 @@ pub record IsNodeOf (words : List ℕ) (view : NodeView) : Type 0 where
   pub spells : node_words view ≡ words
   pub shows : node_words_of words ≡ record { fixed = head_of view; subtrie = piece view }
 
--- the pass has locked the node, which is this one
+-- the pass has locked the node of this number, which is this node
 abbrev pub HasLockedNode : Known → ℕ → NodeView → Type 0
 HasLockedNode k n view = (words : List ℕ) × HasLocked k n words × IsNodeOf words view

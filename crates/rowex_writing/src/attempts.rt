@@ -1,6 +1,6 @@
 //! One attempt of a call that may change the index, from a pinned pass that has nothing to one that has nothing.
 
-ghost use Rattle.std.specs.Prelude.{◌≡◌, ◌≢◌, ◌⊎◌, ◌<◌, ◌≤◌, ℕ, Option, length, true, false, IfErr, IfOk, IsSome, Err, Ok, ◌+◌, ◌*◌};
+ghost use Rattle.std.specs.Prelude.{◌≡◌, ◌≢◌, ◌⊎◌, ◌<◌, ◌≤◌, ℕ, length, true, false, IfErr, IfOk, IsSome, Err, Ok, ◌+◌, ◌*◌};
 ghost use Rattle.finite_map.specs.Maps.{key_of as the_key};
 ghost use Rattle.rowex_core.specs.declared.known.Known.{Known};
 ghost use Rattle.rowex_reading.specs.Possible.{IsPossible};
@@ -8,12 +8,10 @@ ghost use Rattle.publish_laws.specs.Ending.{IsAtRest};
 ghost use Rattle.rowex_table.specs.Made.{IsLater};
 ghost use Rattle.rowex_table.specs.Seats.{IsSeatOf};
 ghost use Rattle.rowex_writing.specs.Attempts.{HasAnswered, HasAttempted, HasDone, HasLoadedRoot, HasRefused, IsLeafless, refusal_of as the_refusal};
-ghost use Rattle.finite_map.specs.declared.Change.{Change};
 ghost use Rattle.rowex_table.specs.Stays.{LeavesPin};
 ghost use Rattle.rowex_writing.specs.Building.{HasNotMade};
-ghost use Rattle.rowex_writing.specs.Changes.{HasNoRoom, HasPlanned, HasTakenPlan, HasTakenSpan, HasTriedOnce, IsTakeChange};
-ghost use Rattle.rowex_writing.specs.Deeds.{MayReplace};
-ghost use Rattle.rowex_writing.specs.Merging.{ChangesOn, EndsChange, TakesOn, TriesFew};
+ghost use Rattle.rowex_writing.specs.Changes.{HasNoRoom, HasPlanned, HasTakenPlan, HasTakenSpan, HasTriedOnce};
+ghost use Rattle.rowex_writing.specs.Merging.{ChangesOn, EndsChange};
 ghost use Rattle.rowex_writing.specs.declared.plan.Deed.TheVariants.{Take};
 ghost use Rattle.rowex_writing.specs.Jobs.{HoldsSpan, IsJobFrom, IsWithinWay};
 ghost use Rattle.rowex_writing.specs.Locks.{HasMadeNoChange, HasMetLock, TriesNodesBy, Works, locks_of, span_numbers};
@@ -23,7 +21,7 @@ ghost use Rattle.record_words.specs.declared.TheConstants.{HEAD_WORDS};
 use crate::asking::{aim_of, key_of, reply_to, value_in, value_of};
 use crate::building::Build;
 use crate::checking::check_span;
-use crate::deeds::{Job, Raised, carry_out};
+use crate::deeds::{Job, carry_out};
 use crate::ending::undo;
 use crate::locks::lock_span;
 use crate::merging::try_merge;
@@ -34,7 +32,7 @@ use arrayvec::ArrayVec;
 use finite_map::{Call, Reply};
 use insert_cases::PathNode;
 use rowex_core::Gate;
-use rowex_reading::{Found, MOST_NODES, search_way};
+use rowex_reading::{MOST_NODES, search_way};
 use rowex_table::{HotTable, TableSeat};
 use thiserror::Error;
 
@@ -170,8 +168,8 @@ fn change_span<G: Gate>(
     }
 }
 
-/// Makes a removal from a node that has one above it on the way. What is left of the node takes its place, or becomes one node with its
-/// sibling. If no node record was free, the removal is undone, and `Full::Nodes` is returned.
+/// Makes a removal from a node that has one above it on the way. What is left of the node becomes one node with its sibling, or, if that
+/// can't be made, takes the node's place alone. If no node record was free, the removal is undone, and `Full::Nodes` is returned.
 fn make_removal<G: Gate>(
     table: &HotTable,
     seat: &mut TableSeat,
@@ -188,7 +186,10 @@ fn make_removal<G: Gate>(
 {
     match remove_leaf(table, seat, gate, build, job) {
         Ok(raised) => {
-            end_removal(table, seat, gate, build, job, raised);
+            if try_merge(table, seat, gate, build, job) {
+                return Ok(());
+            }
+            publish_change(table, seat, gate, build, job, raised);
             Ok(())
         }
         Err(full) => {
@@ -196,27 +197,6 @@ fn make_removal<G: Gate>(
             Err(full)
         }
     }
-}
-
-/// Ends a removal whose records are made: by a merge with the sibling, or, if that can't be made, by a publish of `raised`.
-fn end_removal<G: Gate>(
-    table: &HotTable,
-    seat: &mut TableSeat,
-    gate: &mut G,
-    build: &mut Build,
-    job: &Job<'_>,
-    raised: Raised,
-)
-    requires takes { TakesOn table.now seat.old job.now }
-    requires may { (x : Change) × (was : Option ℕ) × IsTakeChange seat.old.known.pass job.now.key.now job.now.found x was ×
-        MayReplace table.now seat.old build.old.made.items job.now raised x was }
-    ensures tries { TriesFew table.now G.becomes (span_numbers job.now.way.now job.now.span) build.old.left_nodes 80 (seat.old, gate.old) (seat.new, gate.new) }
-    ensures done { HasDone seat.old.known seat.new.known Take job.now.key.now job.now.value job.now.found }
-{
-    if try_merge(table, seat, gate, build, job) {
-        return;
-    }
-    publish_change(table, seat, gate, build, job, raised);
 }
 
 /// Locks what `job` is to change, and checks that it stands as the search found it. If a lock is refused, or something else stands there,

@@ -1,7 +1,6 @@
 //! What a call is to do, from the way of its search: which nodes it remakes, and what it puts there.
 
 ghost use Rattle.std.specs.Prelude.{◌≡◌, ◌+◌, ◌-◌, ◌<◌, ◌≤◌, ℕ, Some, length, slice_get};
-ghost use Rattle.insert_cases.specs.Levels.{IsLevel};
 ghost use Rattle.insert_cases.specs.declared.choice.PathNode.{PathNode as PathNodeView};
 ghost use Rattle.rowex_writing.specs.Plans.{change as a_change, IsOutline, IsBeside, IsBesideFound, LiesOnWay};
 ghost use Rattle.rowex_reading.specs.Possible.{IsPossible};

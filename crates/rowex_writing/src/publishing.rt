@@ -1,6 +1,6 @@
 //! The first and the last part of each change: the new leaf's record, and the one store with what comes after it.
 
-ghost use Rattle.std.specs.Prelude.{◌≡◌, ℕ, List, [], ◌∷◌, ◌++◌, Option, MatchOption, ◌<◌, ◌≤◌, ◌+◌, ◌-◌, ◌*◌, length, map, slice_range};
+ghost use Rattle.std.specs.Prelude.{◌≡◌, ℕ, List, [], ◌++◌, Option, MatchOption, ◌<◌, ◌≤◌, ◌+◌, ◌-◌, length, map, slice_range};
 ghost use Rattle.finite_map.specs.declared.Change.{Change};
 ghost use Rattle.insert_cases.specs.declared.choice.PathNode.{PathNode as PathNodeView};
 ghost use Rattle.key_bits.specs.Key.{IsKey};

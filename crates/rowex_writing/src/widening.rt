@@ -1,7 +1,6 @@
 //! Locks beyond those of a removal's span: of the sibling of its lower node, and of what names its upper node.
 
-ghost use Rattle.std.specs.Prelude.{◌≡◌, ◌≢◌, ◌<◌, ◌≤◌, ◌+◌, ◌-◌, ◌∷◌, [], ℕ, List, true, false, None, Some, IsSome, length, slice_get};
-ghost use Rattle.insert_cases.specs.declared.choice.PathNode.{PathNode as PathNodeView};
+ghost use Rattle.std.specs.Prelude.{◌≡◌, ◌<◌, ◌≤◌, ◌+◌, ◌-◌, ◌∷◌, [], ℕ, List, true, false, None, Some, IsSome, length};
 ghost use Rattle.tries.specs.Place.{entry_at};
 ghost use Rattle.rowex_core.specs.Reading.{node_words_of};
 ghost use Rattle.rowex_core.specs.declared.known.Locked.{Locked};

@@ -1,5 +1,5 @@
 -- A removal; or what the deed has made is published, or all is given back.
-use Rattle.std.proofs.Common.{◌≡◌, ◌<◌, Err, Ok, inl, inr, sym, subst, arith}
+use Rattle.std.proofs.Common.{◌<◌, inl, inr, sym, subst, arith}
 use Rattle.rowex_writing.specs.Attempts.{HasDone}
 use Rattle.rowex_writing.specs.Changes.{HasTakenPlan}
 use Rattle.rowex_writing.proofs.Growths.{no_room}
@@ -7,13 +7,6 @@ use Rattle.rowex_writing.proofs.Keeping.{changed_since}
 use Rattle.rowex_writing.proofs.Merged.{holds_on, is_taking}
 use Rattle.rowex_writing.proofs.Runs.{goes_run, runs_trans, works_run}
 use Rattle.rowex_writing.proofs.attempts.change_span.Goals as goal
-
--- ---- other answers
-ok_only : {X E A : Type 0} (x : X) (e : E) → Err e ≡ Ok x → A
-ok_only x e is = absurd cc
-
-err_only : {X E A : Type 0} (x : X) (e : E) → Ok x ≡ Err e → A
-err_only x e is = absurd cc
 
 pub make_removal-requires-clause-taken : goal.make_removal-requires-clause-taken
 make_removal-requires-clause-taken g c = subst (HasTakenPlan c.args.table.now c.args.seat.now c.args.job.now) c.in-Take.is c.requires.taken

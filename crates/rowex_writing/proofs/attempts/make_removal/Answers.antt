@@ -1,59 +1,69 @@
 -- What is left is published, as one with the node beside it or alone; or all is given back.
-use Rattle.std.proofs.Common.{◌≡◌, ◌-◌, Err, Ok, sym, subst, arith, length}
-use Rattle.publish_laws.specs.Loops.{StaysLocked}
+use Rattle.std.proofs.Common.{◌-◌, subst, ap, arith, length}
+use Rattle.rowex_reading.proofs.Seeing.{later_trans}
 use Rattle.rowex_writing.specs.Changes.{IsTakeChange}
 use Rattle.rowex_writing.specs.Locks.{span_numbers}
 use Rattle.rowex_writing.specs.declared.plan.Deed.TheVariants.{Take}
 use Rattle.rowex_writing.proofs.Counting.{numbers_few}
 use Rattle.rowex_writing.proofs.Growths.{no_room}
 use Rattle.rowex_writing.proofs.Keeping.{changed_since}
-use Rattle.rowex_writing.proofs.Locking.{seat_of}
-use Rattle.rowex_writing.proofs.Making.{goes_possible}
-use Rattle.rowex_writing.proofs.Merged.{holds_on, is_taking}
+use Rattle.rowex_writing.proofs.Merged.{building_now, holds_later, holds_on, is_taking, replace_later, takes_taken}
 use Rattle.rowex_writing.proofs.Runs.{goes_run, runs_trans, works_run}
 use Rattle.rowex_writing.proofs.Tried.{nodes_once, nodes_then}
+use Rattle.rowex_writing.proofs.Wider.{few_then, removal_changes}
 use Rattle.rowex_writing.proofs.attempts.make_removal.Goals as goal
 
--- ---- other answers
-ok_only : {X E A : Type 0} (x : X) (e : E) → Err e ≡ Ok x → A
-ok_only x e is = absurd cc
+pub try_merge-requires-clause-takes : goal.try_merge-requires-clause-takes
+try_merge-requires-clause-takes g c = takes_taken c.args.table.now g.G.Gate.becomes (c.args.seat.now, c.args.gate.now) (c.remove_leaf.new.seat, c.remove_leaf.new.gate) c.args.job.now c.remove_leaf.ensures.done.goes c.requires.taken c.requires.some
 
-err_only : {X E A : Type 0} (x : X) (e : E) → Ok x ≡ Err e → A
-err_only x e is = absurd cc
-
-pub end_removal-requires-clause-takes : goal.end_removal-requires-clause-takes
-end_removal-requires-clause-takes g c =
+pub try_merge-requires-clause-building : goal.try_merge-requires-clause-building
+try_merge-requires-clause-building g c =
     let (t, same) = is_taking c.args.table.now c.args.seat.now c.args.job.now c.requires.taken c.requires.some in
-    let goes = c.remove_leaf.ensures.done.goes in
-    let taken = c.requires.taken.2 in (
-      t,
-      seat_of c.args.table.now g.G.Gate.becomes (c.args.seat.now, c.args.gate.now) (c.remove_leaf.new.seat, c.remove_leaf.new.gate) goes taken.seat,
-      goes_possible c.args.table.now g.G.Gate.becomes (c.args.seat.now, c.args.gate.now) (c.remove_leaf.new.seat, c.remove_leaf.new.gate) goes taken.possible,
-      subst (λ b. StaysLocked b.known c.remove_leaf.new.seat.known) (sym same) goes.stays,
-    )
+    let (x, was, is, may) = c.in-Ok.ensures.done.raised in building_now c.args.table.now c.remove_leaf.new.seat c.remove_leaf.new.build.made.items c.args.job.now t c.in-Ok.raised x was may
 
-pub end_removal-requires-clause-may : goal.end_removal-requires-clause-may
-end_removal-requires-clause-may g c =
+pub returns-then-try_merge-clause-run : goal.returns-then-try_merge-clause-run
+returns-then-try_merge-clause-run g c =
+    let (t, same) = is_taking c.args.table.now c.args.seat.now c.args.job.now c.requires.taken c.requires.some in
+    removal_changes c.args.table.now g.G.Gate.becomes c.args.job.now t c.remove_leaf.new.build.left_nodes 60 (c.args.seat.now, c.args.gate.now) (c.remove_leaf.new.seat, c.remove_leaf.new.gate) (c.try_merge.new.seat, c.try_merge.new.gate) (omega arith) (goes_run c.args.table.now g.G.Gate.becomes (c.args.seat.now, c.args.gate.now) (c.remove_leaf.new.seat, c.remove_leaf.new.gate) c.remove_leaf.ensures.done.goes) (c.remove_leaf.ensures.walk (omega (arith, t.below.last)))
+    c.try_merge.ensures.tries
+
+pub returns-then-try_merge-clause-done : goal.returns-then-try_merge-clause-done
+returns-then-try_merge-clause-done g c = λ ok.
+    let job = c.args.job.now in
+    let (x, was, is, changed) = c.try_merge.ensures.done c.if-try_merge.true in
+    let later = c.remove_leaf.ensures.done.goes.stays.0 in
+    (x, was, subst (λ q. IsTakeChange q job.key.now job.found x was) later.pass is, changed_since c.args.seat.now.known c.remove_leaf.new.seat.known c.try_merge.new.seat.known x was later changed)
+
+pub publish_change-requires : goal.publish_change-requires
+publish_change-requires g c =
     let job = c.args.job.now in
     let (x, was, is, may) = c.in-Ok.ensures.done.raised in
-    (x, was, subst (λ q. IsTakeChange q job.key.now job.found x was) (sym c.remove_leaf.ensures.done.goes.stays.0.pass) is, may)
+    let takes = takes_taken c.args.table.now g.G.Gate.becomes (c.args.seat.now, c.args.gate.now) (c.remove_leaf.new.seat, c.remove_leaf.new.gate) c.args.job.now c.remove_leaf.ensures.done.goes c.requires.taken c.requires.some in
+    let l = c.try_merge.ensures.later c.if-try_merge.false in
+    let s = c.try_merge.ensures.same c.if-try_merge.false in
+    record {
+      held = holds_later c.args.table.now c.remove_leaf.new.seat c.try_merge.new.seat job takes l s.0;
+      may = (x, was, replace_later c.args.table.now c.remove_leaf.new.seat c.try_merge.new.seat c.remove_leaf.new.build.made.items c.try_merge.new.build.made.items job c.in-Ok.raised x was l.1 l.2 l.0 s.0 s.1 may);
+    }
 
-pub returns-in-Ok-clause-run : goal.returns-in-Ok-clause-run
-returns-in-Ok-clause-run g c = λ a h.
-    let table = c.args.table.now in
-    let numbers = span_numbers c.args.job.now.way.now c.args.job.now.span in
-    let (t, same) = is_taking table c.args.seat.now c.args.job.now c.requires.taken c.requires.some in
-    let (locks, tried, least, most, few) = c.end_removal.ensures.tries a
-    (nodes_then table g.G.Gate.becomes numbers a (c.args.seat.now, c.args.gate.now) (c.remove_leaf.new.seat, c.remove_leaf.new.gate) h (goes_run table g.G.Gate.becomes (c.args.seat.now, c.args.gate.now) (c.remove_leaf.new.seat, c.remove_leaf.new.gate) c.remove_leaf.ensures.done.goes)) in
-    let count = numbers_few c.args.job.now.way.now (c.args.job.now.span.end - 1) c.args.job.now.span.len (let w = t.below.taken.within.0 in omega (arith, w)) t.below.taken.within.1 in
-    (locks, tried, least, most, omega (arith, few, c.remove_leaf.ensures.walk (omega (arith, t.below.last)), count, t.below.last, c.requires.some, least))
+pub returns-else-try_merge-clause-run : goal.returns-else-try_merge-clause-run
+returns-else-try_merge-clause-run g c =
+    let (t, same) = is_taking c.args.table.now c.args.seat.now c.args.job.now c.requires.taken c.requires.some in
+    let (x, was, is, may) = c.in-Ok.ensures.done.raised in
+    let s = c.try_merge.ensures.same c.if-try_merge.false in
+    removal_changes c.args.table.now g.G.Gate.becomes c.args.job.now t c.remove_leaf.new.build.left_nodes 80 (c.args.seat.now, c.args.gate.now) (c.remove_leaf.new.seat, c.remove_leaf.new.gate) (c.publish_change.new.seat, c.publish_change.new.gate) (omega arith) (goes_run c.args.table.now g.G.Gate.becomes (c.args.seat.now, c.args.gate.now) (c.remove_leaf.new.seat, c.remove_leaf.new.gate) c.remove_leaf.ensures.done.goes) (c.remove_leaf.ensures.walk (omega (arith, t.below.last)))
+    (few_then c.args.table.now g.G.Gate.becomes (span_numbers c.args.job.now.way.now c.args.job.now.span) c.remove_leaf.new.build.left_nodes 80 (c.remove_leaf.new.seat, c.remove_leaf.new.gate) (c.try_merge.new.seat, c.try_merge.new.gate) (c.publish_change.new.seat, c.publish_change.new.gate) c.try_merge.ensures.tries c.publish_change.ensures.run
+    (omega (arith, c.publish_change.ensures.few, may.few, ap length s.1, t.below.last)))
 
-pub returns-in-Ok-clause-done : goal.returns-in-Ok-clause-done
-returns-in-Ok-clause-done g c = λ ok.
+pub returns-else-try_merge-clause-done : goal.returns-else-try_merge-clause-done
+returns-else-try_merge-clause-done g c = λ ok.
     let job = c.args.job.now in
-    let (x, was, is, changed) = c.end_removal.ensures.done in
-    let later = c.remove_leaf.ensures.done.goes.stays.0 in
-    (x, was, subst (λ q. IsTakeChange q job.key.now job.found x was) later.pass is, changed_since c.args.seat.now.known c.remove_leaf.new.seat.known c.end_removal.new.seat.known x was later changed)
+    let (x, was, is, may) = c.in-Ok.ensures.done.raised in
+    let l = c.try_merge.ensures.later c.if-try_merge.false in
+    let s = c.try_merge.ensures.same c.if-try_merge.false in
+    let now = replace_later c.args.table.now c.remove_leaf.new.seat c.try_merge.new.seat c.remove_leaf.new.build.made.items c.try_merge.new.build.made.items job c.in-Ok.raised x was l.1 l.2 l.0 s.0 s.1 may in
+    let later = later_trans c.remove_leaf.ensures.done.goes.stays.0 l.0 in
+    (x, was, is, changed_since c.args.seat.now.known c.try_merge.new.seat.known c.publish_change.new.seat.known x was later (c.publish_change.ensures.changed x was now))
 
 pub undo_change-requires : goal.undo_change-requires
 undo_change-requires g c = record {

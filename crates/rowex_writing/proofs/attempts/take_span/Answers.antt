@@ -1,5 +1,5 @@
 -- The locks are taken, and what is found under them is what the search found; or all are given back.
-use Rattle.std.proofs.Common.{◌≡◌, true, false, inl, inr, sym, ◌∙◌, arith}
+use Rattle.std.proofs.Common.{◌≡◌, true, false, inl, inr, ◌∙◌, arith}
 use Rattle.rowex_reading.proofs.Seeing.{later_trans}
 use Rattle.rowex_writing.proofs.Onward.{longer, run_possible, run_seat}
 use Rattle.rowex_writing.proofs.Confirming.{span_later}
@@ -120,9 +120,6 @@ returns-clause-busy g c t m w =
 
 pub returns-then-not-lock_span-clause-busy : goal.returns-then-not-lock_span-clause-busy
 returns-then-not-lock_span-clause-busy g c = λ e m w. inl (c.lock_span.ensures.refused c.if-not-lock_span.true).1
-
-pub undo-requires-clause-records : goal.undo-requires-clause-records
-undo-requires-clause-records g c = λ k d low. absurd (omega (arith, low))
 
 pub returns-then-not-lock_span-clause-rest : goal.returns-then-not-lock_span-clause-rest
 returns-then-not-lock_span-clause-rest g c = λ e.

@@ -1,5 +1,5 @@
 -- A refusal, or the change.
-use Rattle.std.proofs.Common.{◌≡◌, Err, Ok, ap, sym, subst, ◌∙◌, arith}
+use Rattle.std.proofs.Common.{◌≡◌, Err, ap, sym, subst, ◌∙◌, arith}
 use Rattle.rowex_reading.proofs.Seeing.{later_trans}
 use Rattle.rowex_writing.specs.Changes.{IsDeedChange}
 use Rattle.rowex_writing.proofs.Attempted.{ended_run}
@@ -9,20 +9,7 @@ use Rattle.rowex_writing.proofs.Runs.{run_loaded}
 use Rattle.rowex_writing.specs.declared.attempts.TryFault.TheVariants.{FullLeaves}
 use Rattle.rowex_writing.proofs.attempts.try_plan.Goals as goal
 
--- ---- other answers
-ok_only : {X E A : Type 0} (x : X) (e : E) → Err e ≡ Ok x → A
-ok_only x e is = absurd cc
-
-err_only : {X E A : Type 0} (x : X) (e : E) → Ok x ≡ Err e → A
-err_only x e is = absurd cc
-
 -- ---- another pass is at work there
-pub returns-then-not-take_span-clause-run : goal.returns-then-not-take_span-clause-run
-returns-then-not-take_span-clause-run g c =
-    let (locks, tried, some, upto, all, few) = c.take_span.ensures.run in
-    let depth = c.requires.planned.2.depth in
-    (locks, tried, some, omega (arith, upto, c.requires.within.1, depth), omega (arith, few))
-
 pub returns-then-not-take_span-clause-refused : goal.returns-then-not-take_span-clause-refused
 returns-then-not-take_span-clause-refused g c k loaded later =
     let (m, aim, way, planned) = c.requires.planned in
@@ -66,10 +53,3 @@ pub returns-in-Err-clause-leafless : goal.returns-in-Err-clause-leafless
 returns-in-Err-clause-leafless g c take is =
     let same : c.refusal_of.result ≡ FullLeaves = cc in
     c.change_span.ensures.leafless take (c.in-Err.is ∙ ap Err (leaves_refused c.in-Err.full (sym c.refusal_of.ensures ∙ same)))
-
-pub returns-then-not-take_span-clause-rest : goal.returns-then-not-take_span-clause-rest
-returns-then-not-take_span-clause-rest g c = c.take_span.ensures.rest c.if-not-take_span.true
-
-pub returns-in-Ok-clause-rest : goal.returns-in-Ok-clause-rest
-returns-in-Ok-clause-rest g c =
-    let (x, was, is, changed) = c.change_span.ensures.done c.in-Ok.is in changed.rest

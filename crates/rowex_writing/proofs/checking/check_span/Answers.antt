@@ -13,9 +13,6 @@ returns-then-job-gt0-clause-checked g c = λ t.
 pub root_stands-requires-clause-pinned : goal.root_stands-requires-clause-pinned
 root_stands-requires-clause-pinned g c = let (m, w) = c.requires.held.from in since_pinned c.args.seat.now.known m w.since
 
-pub root_stands-requires-clause-locked : goal.root_stands-requires-clause-locked
-root_stands-requires-clause-locked g c = c.requires.held.locked.top (omega (arith, c.if-job-gt0.false))
-
 pub returns-then-not-root_stands-clause-changed : goal.returns-then-not-root_stands-clause-changed
 returns-then-not-root_stands-clause-changed g c = λ m w f.
     c.root_stands.ensures.changed m (subst (λ o. RootWas c.args.seat.now.known m o) (sym c.naming_entry.ensures) w.root) c.if-not-root_stands.true

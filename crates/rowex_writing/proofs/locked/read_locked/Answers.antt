@@ -4,9 +4,6 @@ use Rattle.rowex_writing.specs.Going.{IsNodeOf}
 use Rattle.rowex_writing.proofs.Locking.{words_shown}
 use Rattle.rowex_writing.proofs.locked.read_locked.Goals as goal
 
-pub read_node-requires : goal.read_node-requires
-read_node-requires g c = let (view, is) = c.load_words.ensures.node in (view, is.has, is.spells)
-
 pub returns-clause-node : goal.returns-clause-node
 returns-clause-node g c = λ words h.
     let (view, is) = c.load_words.ensures.node in

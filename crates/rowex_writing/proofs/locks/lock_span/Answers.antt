@@ -87,9 +87,6 @@ returns-then-not-lock_node-clause-tries g c =
       omega (arith, others, back, i.few, c.lock_node.ensures.few, c.unlock_nodes.ensures.few),
     )
 
-pub returns-then-not-lock_node-clause-same : goal.returns-then-not-lock_node-clause-same
-returns-then-not-lock_node-clause-same g c = c.unlock_nodes.ensures.rest.0 ∙ ((c.lock_node.ensures.same c.if-not-lock_node.true).2 ∙ c.loop-index.invariant.same)
-
 pub returns-then-not-lock_node-clause-refused : goal.returns-then-not-lock_node-clause-refused
 returns-then-not-lock_node-clause-refused g c e =
     let i = c.loop-index.invariant in
@@ -154,13 +151,6 @@ returns-then-span-gt0-clause-nodes g c e some =
     let at = the_top c.args.span.end i.range.0 i.top c.loop-index-test.false in
     subst (λ n. TriesNodes c.args.table.now g.G.Gate.becomes (numbers_of (slice_range c.args.way.now n c.args.span.len)) (c.args.seat.now, c.args.gate.now) (c.loop-index.seat, c.loop-index.gate)) at i.tries
 
-pub returns-then-lock_anchor-clause-nodes : goal.returns-then-lock_anchor-clause-nodes
-returns-then-lock_anchor-clause-nodes g c = λ e some. absurd (omega (arith, some, c.if-span-gt0.false))
-
-pub returns-then-span-gt0-clause-few : goal.returns-then-span-gt0-clause-few
-returns-then-span-gt0-clause-few g c e =
-    let i = c.loop-index.invariant in omega (arith, i.range.0, i.top, c.loop-index-test.false, c.requires.span.0, c.if-span-gt0.true, i.few)
-
 pub returns-then-span-gt0-clause-locked : goal.returns-then-span-gt0-clause-locked
 returns-then-span-gt0-clause-locked g c e =
     let i = c.loop-index.invariant in
@@ -182,10 +172,6 @@ returns-then-lock_anchor-clause-tries g c =
       λ e. omega (arith, all, first),
       omega (arith, all, i.few, c.lock_anchor.ensures.few),
     )
-
-pub returns-then-lock_anchor-clause-few : goal.returns-then-lock_anchor-clause-few
-returns-then-lock_anchor-clause-few g c e =
-    let i = c.loop-index.invariant in omega (arith, i.range.0, i.top, c.loop-index-test.false, c.if-span-gt0.false, i.few, c.lock_anchor.ensures.few)
 
 pub returns-then-lock_anchor-clause-locked : goal.returns-then-lock_anchor-clause-locked
 returns-then-lock_anchor-clause-locked g c e =
@@ -236,12 +222,6 @@ returns-clause-refused g c e =
 
 pub bounds-way-index : goal.bounds-way-index
 bounds-way-index g c = below c.loop-index-test.true (le_trans c.loop-index.invariant.range.1 c.requires.span.1)
-
-pub returns-then-lock_anchor-clause-same : goal.returns-then-lock_anchor-clause-same
-returns-then-lock_anchor-clause-same g c = (c.lock_anchor.ensures.locked c.if-lock_anchor.true).2 ∙ c.loop-index.invariant.same
-
-pub returns-clause-same : goal.returns-clause-same
-returns-clause-same g c = c.unlock_nodes-2.ensures.rest.0 ∙ ((c.lock_anchor.ensures.refused c.if-lock_anchor.false).3 ∙ c.loop-index.invariant.same)
 
 pub offset_bounds-way-index : goal.offset_bounds-way-index
 offset_bounds-way-index g c = let h : c.loop-index.index - 1 < length c.args.way.now = below c.loop-index-test.true (le_trans c.loop-index.invariant.range.1 c.requires.span.1) in search (rules, h)

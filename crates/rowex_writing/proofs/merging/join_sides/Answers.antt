@@ -1,5 +1,5 @@
 -- The fork's sides are in the order of the bit.
-use Rattle.std.proofs.Common.{sym, subst, arith}
+use Rattle.std.proofs.Common.{sym, subst}
 use Rattle.compound_node.specs.Nodes.{IsBuiltFrom, piece}
 use Rattle.pieces.specs.Piece.{RisesFrom}
 use Rattle.tries.specs.Place.{fork_of}

@@ -55,9 +55,6 @@ fill_words-requires-clause-held g c =
     c.args.build.now.made.items c.raise_closed.new.build.made.items news c.args.merge.now.made c.height.result c.in-Some-raise_closed.entry c.raise_closed.new.seat c.height.ensures c.requires.made c.join_siblings.ensures.reads.own b c.in-Some-raise_closed.ensures.made in
     made_claimed c.args.table.now c.raise_closed.new.seat c.raise_closed.new.build.made.items us m c.args.merge.now.made rec_is built
 
-pub fill_words-requires-clause-spelling : goal.fill_words-requires-clause-spelling
-fill_words-requires-clause-spelling g c = (c.in-Some.joined, c.pack_node.ensures.fits, sym c.pack_node.ensures.words)
-
 pub returns-clause-goes : goal.returns-clause-goes
 returns-clause-goes g c =
     let goes = goes_more c.args.table.now g.G.Gate.becomes (c.args.seat.now, c.args.gate.now) (c.join_siblings.new.seat, c.join_siblings.new.gate) (c.raise_closed.new.seat, c.raise_closed.new.gate) c.join_siblings.ensures.reads.goes c.raise_closed.ensures.goes in

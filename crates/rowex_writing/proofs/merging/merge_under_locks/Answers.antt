@@ -1,5 +1,5 @@
 -- The store, or the wider locks are given back.
-use Rattle.std.proofs.Common.{◌≡◌, true, false, refl, sym, ◌∙◌, subst}
+use Rattle.std.proofs.Common.{refl, sym, ◌∙◌, subst}
 use Rattle.rowex_reading.proofs.Seeing.{later_trans}
 use Rattle.rowex_writing.specs.Changes.{IsDeedChange}
 use Rattle.rowex_writing.specs.Merging.{MayMergeInto}
@@ -8,9 +8,6 @@ use Rattle.rowex_writing.proofs.Keeping.{changed_since}
 use Rattle.rowex_writing.proofs.Merged.{wide_on}
 use Rattle.rowex_writing.proofs.Runs.{goes_run, runs_trans}
 use Rattle.rowex_writing.proofs.merging.merge_under_locks.Goals as goal
-
-not_taken : {A : Type 0} → false ≡ true → A
-not_taken e = absurd (cc)
 
 pub publish_merged-requires : goal.publish_merged-requires
 publish_merged-requires g c =

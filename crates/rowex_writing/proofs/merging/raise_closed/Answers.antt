@@ -31,9 +31,6 @@ returns-in-Some-clause-height g c =
     let shown = words_shown c.args.seat.now.known c.args.fork.step.number c.load_words.ensures.words view is words h in
     entry_height c.in-Some.entry (c.in-Some.ensures view (can_close c.args.seat.now.known key c.args.fork closes words h view shown c.load_words.new.words is.spells)).1
 
-pub returns-in-Some-clause-same : goal.returns-in-Some-clause-same
-returns-in-Some-clause-same g c = λ none. absurd cc
-
 pub make_from_words-requires-clause-building : goal.make_from_words-requires-clause-building
 make_from_words-requires-clause-building g c =
     let (news, b) = c.requires.building in

@@ -1,5 +1,5 @@
 -- The node beside, the wider locks, and the store under them.
-use Rattle.std.proofs.Common.{◌≡◌, ◌∷◌, [], true, false, refl, sym, ap, ◌∙◌, subst, arith}
+use Rattle.std.proofs.Common.{◌∷◌, [], false, refl, sym, ap, ◌∙◌, subst, arith}
 use Rattle.versions.specs.declared.Rec.TheVariants.{Node as a_node}
 use Rattle.rowex_reading.proofs.Seeing.{later_trans}
 use Rattle.publish_laws.proofs.Loops.{later_if_same}
@@ -15,18 +15,12 @@ use Rattle.rowex_writing.proofs.Runs.{goes_run, run_none}
 use Rattle.rowex_writing.proofs.Wider.{few_both, few_more, few_none}
 use Rattle.rowex_writing.proofs.merging.try_merge.Goals as goal
 
-not_taken : {A : Type 0} → false ≡ true → A
-not_taken e = absurd (cc)
-
 pub returns-in_default-clause-tries : goal.returns-in_default-clause-tries
 returns-in_default-clause-tries g c =
     few_none c.args.table.now g.G.Gate.becomes (span_numbers c.args.job.now.way.now c.args.job.now.span) c.args.build.now.left_nodes 60 (c.args.seat.now, c.args.gate.now) (c.args.seat.now, c.args.gate.now) (run_none c.args.table.now g.G.Gate.becomes (c.args.seat.now, c.args.gate.now)) (omega arith)
 
 pub returns-in_default-clause-later : goal.returns-in_default-clause-later
 returns-in_default-clause-later g c = λ e. (later_if_same c.args.seat.now.known c.args.seat.now.known refl, c.requires.takes.1, c.requires.takes.2)
-
-pub returns-in_default-clause-same : goal.returns-in_default-clause-same
-returns-in_default-clause-same g c = λ e. ((refl, refl, refl), refl)
 
 pub returns-in_default-find_merge-clause-tries : goal.returns-in_default-find_merge-clause-tries
 returns-in_default-find_merge-clause-tries g c =
@@ -38,14 +32,8 @@ returns-in_default-find_merge-clause-later g c = λ e.
     let now = takes_on c.args.table.now g.G.Gate.becomes (c.args.seat.now, c.args.gate.now) (c.find_merge.new.seat, c.find_merge.new.gate) c.args.job.now c.find_merge.ensures.reads.goes c.requires.takes in
     (c.find_merge.ensures.reads.goes.stays.0, now.1, now.2)
 
-pub returns-in_default-find_merge-clause-same : goal.returns-in_default-find_merge-clause-same
-returns-in_default-find_merge-clause-same g c = λ e. let reads = c.find_merge.ensures.reads in ((reads.goes.stays.1, reads.goes.stays.2, reads.own), refl)
-
 pub widen_locks-requires-clause-takes : goal.widen_locks-requires-clause-takes
 widen_locks-requires-clause-takes g c = takes_on c.args.table.now g.G.Gate.becomes (c.args.seat.now, c.args.gate.now) (c.find_merge.new.seat, c.find_merge.new.gate) c.args.job.now c.find_merge.ensures.reads.goes c.requires.takes
-
-pub widen_locks-requires-clause-beside : goal.widen_locks-requires-clause-beside
-widen_locks-requires-clause-beside g c = (c.in-Some-find_merge.merge, c.in-Some-find_merge.ensures.beside.0, refl)
 
 pub returns-then-not-widen_locks-clause-tries : goal.returns-then-not-widen_locks-clause-tries
 returns-then-not-widen_locks-clause-tries g c =
@@ -54,15 +42,6 @@ returns-then-not-widen_locks-clause-tries g c =
 
 pub returns-then-not-widen_locks-clause-later : goal.returns-then-not-widen_locks-clause-later
 returns-then-not-widen_locks-clause-later g c = λ e. (later_trans c.find_merge.ensures.reads.goes.stays.0 c.widen_locks.ensures.later.0, c.widen_locks.ensures.later.1, c.widen_locks.ensures.later.2)
-
-pub returns-then-not-widen_locks-clause-same : goal.returns-then-not-widen_locks-clause-same
-returns-then-not-widen_locks-clause-same g c = λ e.
-    let reads = c.find_merge.ensures.reads in
-    let s = c.widen_locks.ensures.same c.if-not-widen_locks.true in
-    ((s.0 ∙ reads.goes.stays.1, s.1 ∙ reads.goes.stays.2, s.2 ∙ reads.own), refl)
-
-pub merge_under_locks-requires-clause-wide : goal.merge_under_locks-requires-clause-wide
-merge_under_locks-requires-clause-wide g c = (c.widen_locks.ensures.wide c.if-not-widen_locks.false).0
 
 pub merge_under_locks-requires-clause-beside : goal.merge_under_locks-requires-clause-beside
 merge_under_locks-requires-clause-beside g c =
@@ -100,6 +79,9 @@ returns-clause-later g c = λ e.
       run_seat table g.G.Gate.becomes (c.widen_locks.new.seat, c.widen_locks.new.gate) (c.merge_under_locks.new.seat, c.merge_under_locks.new.gate) c.merge_under_locks.ensures.run l.1,
       run_possible table g.G.Gate.becomes (c.widen_locks.new.seat, c.widen_locks.new.gate) (c.merge_under_locks.new.seat, c.merge_under_locks.new.gate) c.merge_under_locks.ensures.run l.2,
     )
+
+pub merge_under_locks-requires-clause-wide : goal.merge_under_locks-requires-clause-wide
+merge_under_locks-requires-clause-wide g c = (c.widen_locks.ensures.wide c.if-not-widen_locks.false).0
 
 pub returns-clause-same : goal.returns-clause-same
 returns-clause-same g c = λ e.

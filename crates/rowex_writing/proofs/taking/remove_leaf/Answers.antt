@@ -59,6 +59,3 @@ returns-clause-done g c = record {
   full = tt;
   few = omega arith;
 }
-
-pub returns-clause-walk : goal.returns-clause-walk
-returns-clause-walk g c = λ some. absurd (omega (arith, some, c.if-job-gt0.false))

@@ -20,8 +20,5 @@ loop-index-preserved c = record {
       (cases_lt i c.loop-index.index);
 }
 
-pub returns-clause-none : goal.returns-clause-none
-returns-clause-none c = λ e step i at from low. c.loop-index.invariant.none step i at from (omega (arith, low, c.loop-index-test.false))
-
 pub returns-then-job-index-clause-near : goal.returns-then-job-index-clause-near
 returns-then-job-index-clause-near c = λ e far. far _ c.loop-index.index (slice_get-get_or c.args.job.now.way.now c.loop-index.index no_step (omega arith)) (omega arith) (omega arith) (sym c.if-job-index.true)

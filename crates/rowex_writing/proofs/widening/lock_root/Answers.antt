@@ -1,5 +1,5 @@
 -- The anchor is locked, and the root is looked at.
-use Rattle.std.proofs.Common.{◌≡◌, true, false, sym, subst, ◌∙◌, arith}
+use Rattle.std.proofs.Common.{true, false, sym, subst, ◌∙◌, arith}
 use Rattle.std.specs.Prelude.{IsSome}
 use Rattle.rowex_core.specs.declared.event.Act.TheVariants.{Unlock}
 use Rattle.rowex_core.specs.declared.event.Target.TheVariants.{Anchor}
@@ -13,9 +13,6 @@ use Rattle.rowex_writing.proofs.Runs.{works_run}
 use Rattle.rowex_writing.proofs.Works.{works_later, works_one, works_seat}
 use Rattle.rowex_writing.proofs.widening.lock_root.Goals as goal
 
-not_taken : {A : Type 0} → false ≡ true → A
-not_taken e = absurd (cc)
-
 pub returns-then-not-lock_anchor-clause-tries : goal.returns-then-not-lock_anchor-clause-tries
 returns-then-not-lock_anchor-clause-tries g c = works_run c.args.table.now g.G.Gate.becomes (c.args.seat.now, c.args.gate.now) (c.lock_anchor.new.seat, c.lock_anchor.new.gate) c.lock_anchor.ensures.tries
 
@@ -25,9 +22,6 @@ returns-then-not-lock_anchor-clause-later g c = (
   (c.lock_anchor.ensures.refused c.if-not-lock_anchor.true).3,
 )
 
-pub returns-then-not-lock_anchor-clause-same : goal.returns-then-not-lock_anchor-clause-same
-returns-then-not-lock_anchor-clause-same g c = λ e. let r = c.lock_anchor.ensures.refused c.if-not-lock_anchor.true in (r.1, r.2, r.3)
-
 pub root_stands-requires-clause-own : goal.root_stands-requires-clause-own
 root_stands-requires-clause-own g c = works_seat c.args.table.now g.G.Gate.becomes (c.args.seat.now, c.args.gate.now) (c.lock_anchor.new.seat, c.lock_anchor.new.gate) c.lock_anchor.ensures.tries c.requires.own
 
@@ -35,17 +29,11 @@ pub root_stands-requires-clause-pinned : goal.root_stands-requires-clause-pinned
 root_stands-requires-clause-pinned g c =
     subst (λ p. IsSome p) (sym (works_later c.args.table.now g.G.Gate.becomes (c.args.seat.now, c.args.gate.now) (c.lock_anchor.new.seat, c.lock_anchor.new.gate) c.lock_anchor.ensures.tries).pin) c.requires.pinned
 
-pub root_stands-requires-clause-locked : goal.root_stands-requires-clause-locked
-root_stands-requires-clause-locked g c = (c.lock_anchor.ensures.locked c.if-not-lock_anchor.false).0
-
 pub returns-then-root_stands-clause-tries : goal.returns-then-root_stands-clause-tries
 returns-then-root_stands-clause-tries g c = locked_tries c.args.table.now g.G.Gate.becomes (c.args.seat.now, c.args.gate.now) (c.lock_anchor.new.seat, c.lock_anchor.new.gate) (c.root_stands.new.seat, c.root_stands.new.gate) c.lock_anchor.ensures.tries c.root_stands.ensures.reads.goes
 
 pub returns-then-root_stands-clause-later : goal.returns-then-root_stands-clause-later
 returns-then-root_stands-clause-later g c = (locked_later c.args.table.now g.G.Gate.becomes (c.args.seat.now, c.args.gate.now) (c.lock_anchor.new.seat, c.lock_anchor.new.gate) (c.root_stands.new.seat, c.root_stands.new.gate) c.lock_anchor.ensures.tries c.root_stands.ensures.reads.goes, c.root_stands.ensures.reads.own ∙ (c.lock_anchor.ensures.locked c.if-not-lock_anchor.false).2)
-
-pub returns-then-root_stands-clause-locked : goal.returns-then-root_stands-clause-locked
-returns-then-root_stands-clause-locked g c = λ e. (c.root_stands.ensures.reads.goes.stays.1 ∙ (c.lock_anchor.ensures.locked c.if-not-lock_anchor.false).1, c.root_stands.ensures.same c.if-root_stands.true)
 
 pub unlock-requires-clause-own : goal.unlock-requires-clause-own
 unlock-requires-clause-own g c =

@@ -1,5 +1,5 @@
 -- A node of the way is locked, and its entry is looked at.
-use Rattle.std.proofs.Common.{◌≡◌, true, false, sym, ◌∙◌, arith}
+use Rattle.std.proofs.Common.{true, false, sym, ◌∙◌}
 use Rattle.publish_laws.proofs.Acting.{led_may_lock}
 use Rattle.rowex_writing.proofs.Locking.{seat_of}
 use Rattle.rowex_writing.proofs.Onward.{back_later, back_tries, locked_later, locked_tries, run_possible}
@@ -8,9 +8,6 @@ use Rattle.rowex_writing.proofs.Wider.{last_locked, last_same, one_last, place_l
 use Rattle.rowex_writing.proofs.Locking.{locked_on}
 use Rattle.rowex_writing.proofs.Works.{works_later, works_seat}
 use Rattle.rowex_writing.proofs.widening.lock_step.Goals as goal
-
-not_taken : {A : Type 0} → false ≡ true → A
-not_taken e = absurd (cc)
 
 pub lock_node-requires-clause-may : goal.lock_node-requires-clause-may
 lock_node-requires-clause-may g c =
@@ -24,9 +21,6 @@ returns-then-not-lock_node-clause-later g c = (
   works_later c.args.table.now g.G.Gate.becomes (c.args.seat.now, c.args.gate.now) (c.lock_node.new.seat, c.lock_node.new.gate) c.lock_node.ensures.tries,
   (c.lock_node.ensures.same c.if-not-lock_node.true).2,
 )
-
-pub returns-then-not-lock_node-clause-same : goal.returns-then-not-lock_node-clause-same
-returns-then-not-lock_node-clause-same g c = λ e. c.lock_node.ensures.same c.if-not-lock_node.true
 
 pub entry_stands-requires-clause-own : goal.entry_stands-requires-clause-own
 entry_stands-requires-clause-own g c = works_seat c.args.table.now g.G.Gate.becomes (c.args.seat.now, c.args.gate.now) (c.lock_node.new.seat, c.lock_node.new.gate) c.lock_node.ensures.tries c.requires.own

@@ -1,5 +1,5 @@
 -- What names the upper node, and then the node beside the lower one.
-use Rattle.std.proofs.Common.{sym, ◌∙◌, arith}
+use Rattle.std.proofs.Common.{sym, ◌∙◌}
 use Rattle.rowex_reading.proofs.Seeing.{later_trans}
 use Rattle.rowex_writing.proofs.Keeping.{step_nodes}
 use Rattle.rowex_writing.proofs.Runs.{works_run}
@@ -9,9 +9,6 @@ use Rattle.rowex_writing.proofs.widening.narrow_locks.Goals as goal
 pub unlock_above-requires-clause-nodes : goal.unlock_above-requires-clause-nodes
 unlock_above-requires-clause-nodes g c =
     let t = c.requires.wide.taking in step_nodes c.args.table.now.layout t.before.known t.since c.args.job.now.key.now c.args.job.now.way.now _ t.below.taken.way_of
-
-pub unlock_above-requires-clause-range : goal.unlock_above-requires-clause-range
-unlock_above-requires-clause-range g c = let t = c.requires.wide.taking in omega (arith, t.below.taken.within.0, t.below.taken.within.1)
 
 pub unlock_above-requires-clause-above : goal.unlock_above-requires-clause-above
 unlock_above-requires-clause-above g c = (_, c.args.job.now.key.now, c.args.job.now.found, c.requires.wide.above)

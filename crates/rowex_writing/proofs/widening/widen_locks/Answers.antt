@@ -1,5 +1,5 @@
 -- The node beside, and then what names the upper one.
-use Rattle.std.proofs.Common.{◌≡◌, ◌∷◌, ◌-◌, ◌<◌, true, false, refl, sym, ap, subst, ◌∙◌, arith}
+use Rattle.std.proofs.Common.{◌∷◌, ◌-◌, ◌<◌, true, false, refl, sym, ap, subst, ◌∙◌}
 use Rattle.versions.specs.Trades.{IsOneOf}
 use Rattle.rowex_reading.specs.Ways.{IsWayOf}
 use Rattle.rowex_reading.proofs.Seeing.{later_trans}
@@ -13,13 +13,9 @@ use Rattle.rowex_writing.specs.Locks.{span_numbers}
 use Rattle.rowex_writing.specs.Merging.{LocksAbove}
 use Rattle.rowex_writing.proofs.Onward.{both_possible, both_seat, run_possible}
 use Rattle.rowex_writing.proofs.Runs.{run_none, works_run}
-use Rattle.rowex_writing.proofs.Wider.{above_none, far_none, last_same, more_none, more_one, more_two, one_last}
-use Rattle.rowex_writing.proofs.Ways.{way_apart}
+use Rattle.rowex_writing.proofs.Wider.{far_none, last_same, more_none, more_one, one_last, two_tried}
 use Rattle.rowex_writing.proofs.Works.{works_later, works_seat}
 use Rattle.rowex_writing.proofs.widening.widen_locks.Goals as goal
-
-not_taken : {A : Type 0} → false ≡ true → A
-not_taken e = absurd (cc)
 
 pub returns-then-is_near_span-clause-tries : goal.returns-then-is_near_span-clause-tries
 returns-then-is_near_span-clause-tries g c = more_none c.args.table.now g.G.Gate.becomes (span_numbers c.args.job.now.way.now c.args.job.now.span) (c.args.seat.now, c.args.gate.now) (c.args.seat.now, c.args.gate.now) (run_none c.args.table.now g.G.Gate.becomes (c.args.seat.now, c.args.gate.now))
@@ -56,9 +52,6 @@ returns-then-not-lock_node-clause-later g c =
       (c.lock_node.ensures.same c.if-not-lock_node.true).2,
     )
 
-pub returns-then-not-lock_node-clause-same : goal.returns-then-not-lock_node-clause-same
-returns-then-not-lock_node-clause-same g c = λ e. c.lock_node.ensures.same c.if-not-lock_node.true
-
 pub lock_above-requires-clause-own : goal.lock_above-requires-clause-own
 lock_above-requires-clause-own g c = works_seat c.args.table.now g.G.Gate.becomes (c.args.seat.now, c.args.gate.now) (c.lock_node.new.seat, c.lock_node.new.gate) c.lock_node.ensures.tries c.requires.takes.1
 
@@ -74,26 +67,10 @@ lock_above-requires-clause-way g c =
     let later = later_trans stays.0 (works_later c.args.table.now g.G.Gate.becomes (c.args.seat.now, c.args.gate.now) (c.lock_node.new.seat, c.lock_node.new.gate) c.lock_node.ensures.tries) in
     (t.since, subst (λ f. IsWayOf c.args.table.now.layout c.lock_node.new.seat.known t.since c.args.job.now.key.now c.args.job.now.way.now f) (sym t.found) (way_later c.args.table.now.layout t.before.known c.lock_node.new.seat.known t.since c.args.job.now.key.now c.args.job.now.way.now _ later t.below.taken.way_of))
 
-pub lock_above-requires-clause-some : goal.lock_above-requires-clause-some
-lock_above-requires-clause-some g c = let t = c.requires.takes.0 in (t.some, omega (arith, t.below.taken.within.0, t.below.taken.within.1))
-
-pub lock_above-requires-clause-free : goal.lock_above-requires-clause-free
-lock_above-requires-clause-free g c =
-    let (t, seat, possible, stays) = c.requires.takes in (c.lock_node.ensures.locked c.if-not-lock_node.false).3 ∙ (stays.2 ∙ t.below.taken.locked.below t.some)
-
 pub returns-then-lock_above-clause-tries : goal.returns-then-lock_above-clause-tries
 returns-then-lock_above-clause-tries g c =
-    let table = c.args.table.now in
-    let t = c.requires.takes.0 in
-    let (target, above, top) = c.lock_above.ensures.tries in
-    let far = c.is_near_span.ensures.none c.if-is_near_span.false in
-    let apart = way_apart table.layout t.before.known t.since c.args.job.now.key.now _ c.args.job.now.way.now t.below.taken.possible t.below.taken.way_of in
-    more_two table g.G.Gate.becomes (span_numbers c.args.job.now.way.now c.args.job.now.span) c.args.number c.args.job.now.way.now (c.args.job.now.span.end - 1) true
-    (c.args.seat.now, c.args.gate.now) (c.lock_node.new.seat, c.lock_node.new.gate) (c.lock_above.new.seat, c.lock_above.new.gate) (c.lock_above.new.seat, c.lock_above.new.gate)
-    (far_none c.args.job.now.way.now c.args.job.now.span c.args.number far)
-    (works_run table g.G.Gate.becomes (c.args.seat.now, c.args.gate.now) (c.lock_node.new.seat, c.lock_node.new.gate) c.lock_node.ensures.tries) target above top
-    (above_none c.args.job.now.way.now c.args.job.now.span c.args.number apart t.below.taken.within.0 t.below.taken.within.1 far)
-    (run_none table g.G.Gate.becomes (c.lock_above.new.seat, c.lock_above.new.gate))
+    two_tried c.args.table.now g.G.Gate.becomes c.args.job.now c.args.number c.requires.takes.0 true (c.args.seat.now, c.args.gate.now) (c.lock_node.new.seat, c.lock_node.new.gate) (c.lock_above.new.seat, c.lock_above.new.gate) (c.lock_above.new.seat, c.lock_above.new.gate) (c.is_near_span.ensures.none c.if-is_near_span.false)
+    (works_run c.args.table.now g.G.Gate.becomes (c.args.seat.now, c.args.gate.now) (c.lock_node.new.seat, c.lock_node.new.gate) c.lock_node.ensures.tries) c.lock_above.ensures.tries (run_none c.args.table.now g.G.Gate.becomes (c.lock_above.new.seat, c.lock_above.new.gate))
 
 pub returns-then-lock_above-clause-later : goal.returns-then-lock_above-clause-later
 returns-then-lock_above-clause-later g c =
@@ -150,17 +127,8 @@ unlock_last-requires-clause-last g c = (
 
 pub returns-clause-tries : goal.returns-clause-tries
 returns-clause-tries g c =
-    let table = c.args.table.now in
-    let t = c.requires.takes.0 in
-    let (target, above, top) = c.lock_above.ensures.tries in
-    let far = c.is_near_span.ensures.none c.if-is_near_span.false in
-    let apart = way_apart table.layout t.before.known t.since c.args.job.now.key.now _ c.args.job.now.way.now t.below.taken.possible t.below.taken.way_of in
-    more_two table g.G.Gate.becomes (span_numbers c.args.job.now.way.now c.args.job.now.span) c.args.number c.args.job.now.way.now (c.args.job.now.span.end - 1) false
-    (c.args.seat.now, c.args.gate.now) (c.lock_node.new.seat, c.lock_node.new.gate) (c.lock_above.new.seat, c.lock_above.new.gate) (c.unlock_last.new.seat, c.unlock_last.new.gate)
-    (far_none c.args.job.now.way.now c.args.job.now.span c.args.number far)
-    (works_run table g.G.Gate.becomes (c.args.seat.now, c.args.gate.now) (c.lock_node.new.seat, c.lock_node.new.gate) c.lock_node.ensures.tries) target above top
-    (above_none c.args.job.now.way.now c.args.job.now.span c.args.number apart t.below.taken.within.0 t.below.taken.within.1 far)
-    (works_run table g.G.Gate.becomes (c.lock_above.new.seat, c.lock_above.new.gate) (c.unlock_last.new.seat, c.unlock_last.new.gate) c.unlock_last.ensures.works)
+    two_tried c.args.table.now g.G.Gate.becomes c.args.job.now c.args.number c.requires.takes.0 false (c.args.seat.now, c.args.gate.now) (c.lock_node.new.seat, c.lock_node.new.gate) (c.lock_above.new.seat, c.lock_above.new.gate) (c.unlock_last.new.seat, c.unlock_last.new.gate) (c.is_near_span.ensures.none c.if-is_near_span.false)
+    (works_run c.args.table.now g.G.Gate.becomes (c.args.seat.now, c.args.gate.now) (c.lock_node.new.seat, c.lock_node.new.gate) c.lock_node.ensures.tries) c.lock_above.ensures.tries (works_run c.args.table.now g.G.Gate.becomes (c.lock_above.new.seat, c.lock_above.new.gate) (c.unlock_last.new.seat, c.unlock_last.new.gate) c.unlock_last.ensures.works)
 
 pub returns-clause-later : goal.returns-clause-later
 returns-clause-later g c =
