@@ -19,7 +19,7 @@ use Rattle.rowex_writing.specs.Changes.{HasRun, HasTriedOnce}
 use Rattle.record_words.specs.declared.TheConstants.{HEAD_WORDS}
 use Rattle.rowex_writing.proofs.Onward.{reads_run}
 use Rattle.rowex_writing.proofs.Runs.{once_run, run_once}
-use Rattle.rowex_writing.specs.Counts.{attempt_steps, change_steps, most_locks, most_steps, rest_steps, span_steps}
+use Rattle.rowex_writing.specs.Counts.{attempt_steps, change_steps, most_locks, most_nodes, most_steps, rest_steps, span_steps}
 use Rattle.rowex_writing.specs.Locks.{TriesNodesBy, locks_of, span_numbers, targets_of}
 use Rattle.rowex_writing.specs.Merging.{EndsChange}
 use Rattle.rowex_writing.specs.declared.deeds.Job.{Job}
@@ -116,10 +116,10 @@ changed_run table becomes a m b taken all (locks, tried, some, upto, each, few) 
 pub ended_run : {G : Type 0} (table : TableView) (becomes : G → Event → G → Type 0) (job : Job) (a m b : SeatView × G) (taken : Bool) → ((locks : ℕ) × HasTriedOnce table becomes locks a m ×
     (0 < locks) × (locks ≤ locks_of job.span) × (taken ≡ true → locks ≡ locks_of job.span) × (m.0.known.steps ≤ a.0.known.steps + 3 * locks + 1)) →
     (0 < job.span.end → TriesNodesBy LeavesPin table becomes (span_numbers job.way.now job.span) a m × (m.0.known.steps ≤ a.0.known.steps + 3 * locks_of job.span + 1)) → taken ≡ true →
-    (job.span.end ≤ job.span.len) × (job.span.len ≤ length job.way.now) → locks_of job.span ≤ most_locks → EndsChange table becomes job m b →
+    (job.span.end ≤ job.span.len) × (job.span.len ≤ length job.way.now) → length job.way.now ≤ most_nodes → EndsChange table becomes job m b →
     (locks : ℕ) × HasTriedOnce table becomes locks a b × (0 < locks) × (locks ≤ most_locks) × (b.0.known.steps + HEAD_WORDS ≤ a.0.known.steps + span_steps locks + change_steps table.layout locks)
-ended_run table becomes job a m b taken took nodes is within most (inl (run, few)) = changed_run table becomes a m b taken (locks_of job.span) took is most run few
-ended_run table becomes job a m b taken took nodes is within most (inr (some, last, ends)) =
+ended_run table becomes job a m b taken took nodes is within depth (inl (run, few)) = changed_run table becomes a m b taken (locks_of job.span) took is (omega (arith, within.1, depth)) run few
+ended_run table becomes job a m b taken took nodes is within depth (inr (some, last, ends)) =
     let (tried, spent) = nodes some in
     let (locks, all, least, upto, few) = ends a tried in
     let count = numbers_few job.way.now (job.span.end - 1) job.span.len (omega (arith, within.0)) within.1 in

@@ -35,8 +35,10 @@ use Rattle.rowex_reading.specs.declared.descent.Found.TheVariants.{Leaf}
 use Rattle.rowex_reading.proofs.Seeing.{later_trans}
 use Rattle.rowex_reading.proofs.Ways.{way_later}
 use Rattle.rowex_writing.specs.Going.{HasLocked, IsLockedBy, IsNodeOf, WorksOn}
+use Rattle.publish_laws.proofs.Merging.{beside_in_table}
 use Rattle.rowex_writing.specs.Merging.{IsNeighbour, IsTaking, TakesOn, lower, no_step, upper}
 use Rattle.rowex_writing.specs.declared.deeds.Job.{Job}
+use Rattle.rowex_writing.specs.declared.merging.Merge.{Merge}
 use Rattle.rowex_writing.proofs.Above.{locked_at}
 use Rattle.rowex_writing.proofs.Locking.{locked_on, seat_of}
 use Rattle.rowex_writing.proofs.Making.{goes_possible}
@@ -138,3 +140,8 @@ module _ (table : TableView) (a : SeatView) (job : Job) (takes : TakesOn table a
             height = height;
             sibling = sibling_is number height entry ∙ ap (λ p. Some (p, Place (Node number height))) is;
           }
+
+-- its number is that of one of the table's records
+pub sibling_range : (table : TableView) (a : SeatView) (job : Job) (number : ℕ) → IsPossible table.layout a.known → (m : Merge) × IsNeighbour a.known job m × (m.number ≡ number) → number < table.layout.nodes
+sibling_range table a job number p (m, is, same) =
+    subst (λ n. n < table.layout.nodes) same (beside_in_table table.layout a.known p.core p.lawful p.layout_is p.knows job.key.now _ m.number m.position is.height is.words is.has is.sibling)

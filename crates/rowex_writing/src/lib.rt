@@ -2,7 +2,7 @@
 //!
 //! # Mechanism
 //!
-//! An attempt ([`attempt`]) of a call that may change the index goes through these stages. Each has a file of its own.
+//! An attempt ([`attempt`]) of a call that may change the index goes through these stages. Each has files of its own.
 //!
 //! 1. *Search* (`rowex_reading`): the path of the key, and the leaf at its end with the key's first mismatch. A call whose answer
 //!    needs no change ends here.
@@ -13,9 +13,9 @@
 //!    root. Each is tried once. A node that is locked or obsolete makes the attempt busy, after all locks are given back.
 //! 4. *Check* (`checking`): one entry of each locked node is loaded and compared with what the search found. If all are the same,
 //!    the path still stands, since nobody else changes a locked node.
-//! 5. *Build* (`deeds`, `rising`, `building`, `remaking`, `claims`): records are claimed and filled with what takes the place of the span.
-//!    Nobody else can reach them yet. If no record is free, all is given up and undone.
-//! 6. *Merge* (`merging`, `widening`): a removal whose node has another above it looks at the last fork on the path there. If its
+//! 5. *Build* (`deeds`, `growing`, `taking`, `rising`, `building`, `remaking`, `claims`): records are claimed and filled with what takes
+//!    the place of the span. Nobody else can reach them yet. If no record is free, all is given up and undone.
+//! 6. *Merge* (`merging`, `locked`, `widening`): a removal whose node has another above it looks at the last fork on the path there. If its
 //!    other side is one node, the sibling, and what is left fits into one node with it, the sibling and what names the upper node are
 //!    locked, too, and both become one. If anything fails, these locks are given back, and the removal goes on as it was.
 //! 7. *Publish* (`publishing`): the new records are made ready, and one store of an entry's word, or of the root, makes the change

@@ -193,9 +193,7 @@ fn make_merged<G: Gate>(
     ensures same { result ≡ None → (seat.new.known.own ≡ seat.old.known.own) × (build.new.made.items ≡ build.old.made.items) }
     ensures few { seat.new.known.steps ≤ seat.old.known.steps + 2 * build.old.left_nodes + 420 }
 {
-    let Some(joined) = join_siblings(table, seat, gate, job, merge) else {
-        return None;
-    };
+    let joined = join_siblings(table, seat, gate, job, merge)?;
     let fork = ClosedFork {
         step: job.way[job.span.end - 1],
         place: merge.place,
@@ -204,9 +202,7 @@ fn make_merged<G: Gate>(
             height: joined.height(),
         },
     };
-    let Some(entry) = raise_closed(table, seat, gate, build, fork) else {
-        return None;
-    };
+    let entry = raise_closed(table, seat, gate, build, fork)?;
     has_number(entry);
     fill_words(table, seat, gate, merge.made, &pack_node(&joined));
     Some(entry)

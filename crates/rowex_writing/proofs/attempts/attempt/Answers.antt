@@ -81,8 +81,7 @@ returns-in-Err-clause-run g c =
 
 pub returns-in-Err-clause-loaded : goal.returns-in-Err-clause-loaded
 returns-in-Err-clause-loaded g c =
-    let b = begun_on c.args.table.now g.G.Gate.becomes c.find_plan.ensures.reads.0 c.find_plan.ensures.reads.1 (c.args.seat.now, c.args.gate.now) (c.search_way-found.new.seat, c.search_way-found.new.gate) (c.find_plan.new.seat, c.find_plan.new.gate) c.search_way-found.ensures.searched c.search_way-found.ensures.possible c.requires.own c.requires.rest c.find_plan.ensures.reads.2 in
-    run_loaded c.args.table.now g.G.Gate.becomes c.args.seat.now.known (c.find_plan.new.seat, c.find_plan.new.gate) (c.try_plan.new.seat, c.try_plan.new.gate) b.loaded c.try_plan.ensures.run.1.1
+    run_loaded c.args.table.now g.G.Gate.becomes c.args.seat.now.known (c.find_plan.new.seat, c.find_plan.new.gate) (c.try_plan.new.seat, c.try_plan.new.gate) (begun_on c.args.table.now g.G.Gate.becomes c.find_plan.ensures.reads.0 c.find_plan.ensures.reads.1 (c.args.seat.now, c.args.gate.now) (c.search_way-found.new.seat, c.search_way-found.new.gate) (c.find_plan.new.seat, c.find_plan.new.gate) c.search_way-found.ensures.searched c.search_way-found.ensures.possible c.requires.own c.requires.rest c.find_plan.ensures.reads.2).loaded c.try_plan.ensures.run.1.1
 
 pub returns-in-Err-clause-refused : goal.returns-in-Err-clause-refused
 returns-in-Err-clause-refused g c =
@@ -112,8 +111,7 @@ returns-in-Ok-clause-run g c =
 
 pub returns-in-Ok-clause-loaded : goal.returns-in-Ok-clause-loaded
 returns-in-Ok-clause-loaded g c =
-    let b = begun_on c.args.table.now g.G.Gate.becomes c.find_plan.ensures.reads.0 c.find_plan.ensures.reads.1 (c.args.seat.now, c.args.gate.now) (c.search_way-found.new.seat, c.search_way-found.new.gate) (c.find_plan.new.seat, c.find_plan.new.gate) c.search_way-found.ensures.searched c.search_way-found.ensures.possible c.requires.own c.requires.rest c.find_plan.ensures.reads.2 in
-    run_loaded c.args.table.now g.G.Gate.becomes c.args.seat.now.known (c.find_plan.new.seat, c.find_plan.new.gate) (c.try_plan.new.seat, c.try_plan.new.gate) b.loaded c.try_plan.ensures.run.1.1
+    run_loaded c.args.table.now g.G.Gate.becomes c.args.seat.now.known (c.find_plan.new.seat, c.find_plan.new.gate) (c.try_plan.new.seat, c.try_plan.new.gate) (begun_on c.args.table.now g.G.Gate.becomes c.find_plan.ensures.reads.0 c.find_plan.ensures.reads.1 (c.args.seat.now, c.args.gate.now) (c.search_way-found.new.seat, c.search_way-found.new.gate) (c.find_plan.new.seat, c.find_plan.new.gate) c.search_way-found.ensures.searched c.search_way-found.ensures.possible c.requires.own c.requires.rest c.find_plan.ensures.reads.2).loaded c.try_plan.ensures.run.1.1
 
 pub returns-in-Ok-clause-answered : goal.returns-in-Ok-clause-answered
 returns-in-Ok-clause-answered g c =

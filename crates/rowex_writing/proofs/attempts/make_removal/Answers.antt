@@ -43,7 +43,7 @@ publish_change-requires g c =
     let s = c.try_merge.ensures.same c.if-try_merge.false in
     record {
       held = holds_later c.args.table.now c.remove_leaf.new.seat c.try_merge.new.seat job takes l s.0;
-      may = (x, was, replace_later c.args.table.now c.remove_leaf.new.seat c.try_merge.new.seat c.remove_leaf.new.build.made.items c.try_merge.new.build.made.items job.way.now job.span c.in-Ok.raised x was l.1 l.2 l.0 s.0 s.1 may);
+      may = (x, was, replace_later c.args.table.now c.remove_leaf.new.seat c.try_merge.new.seat c.remove_leaf.new.build.made.items c.try_merge.new.build.made.items job c.in-Ok.raised x was l.1 l.2 l.0 s.0 s.1 may);
     }
 
 pub returns-else-try_merge-clause-run : goal.returns-else-try_merge-clause-run
@@ -61,7 +61,7 @@ returns-else-try_merge-clause-done g c = λ ok.
     let (x, was, is, may) = c.in-Ok.ensures.done.raised in
     let l = c.try_merge.ensures.later c.if-try_merge.false in
     let s = c.try_merge.ensures.same c.if-try_merge.false in
-    let now = replace_later c.args.table.now c.remove_leaf.new.seat c.try_merge.new.seat c.remove_leaf.new.build.made.items c.try_merge.new.build.made.items job.way.now job.span c.in-Ok.raised x was l.1 l.2 l.0 s.0 s.1 may in
+    let now = replace_later c.args.table.now c.remove_leaf.new.seat c.try_merge.new.seat c.remove_leaf.new.build.made.items c.try_merge.new.build.made.items job c.in-Ok.raised x was l.1 l.2 l.0 s.0 s.1 may in
     let later = later_trans c.remove_leaf.ensures.done.goes.stays.0 l.0 in
     (x, was, is, changed_since c.args.seat.now.known c.try_merge.new.seat.known c.publish_change.new.seat.known x was later (c.publish_change.ensures.changed x was now))
 

@@ -23,9 +23,7 @@ change_span-requires g c =
 
 pub returns-in-Ok-clause-run : goal.returns-in-Ok-clause-run
 returns-in-Ok-clause-run g c =
-    let depth = c.requires.planned.2.depth in
-    ended_run c.args.table.now g.G.Gate.becomes c.args.job.now (c.args.seat.now, c.args.gate.now) (c.take_span.new.seat, c.take_span.new.gate) (c.change_span.new.seat, c.change_span.new.gate) _ c.take_span.ensures.run (c.take_span.ensures.nodes c.if-not-take_span.false) c.if-not-take_span.false c.requires.within
-    (omega (arith, c.requires.within.1, depth)) c.change_span.ensures.run
+    ended_run c.args.table.now g.G.Gate.becomes c.args.job.now (c.args.seat.now, c.args.gate.now) (c.take_span.new.seat, c.take_span.new.gate) (c.change_span.new.seat, c.change_span.new.gate) _ c.take_span.ensures.run (c.take_span.ensures.nodes c.if-not-take_span.false) c.if-not-take_span.false c.requires.within c.requires.planned.2.depth c.change_span.ensures.run
 
 pub returns-in-Ok-clause-done : goal.returns-in-Ok-clause-done
 returns-in-Ok-clause-done g c = λ ok.
@@ -40,9 +38,7 @@ returns-in-Ok-clause-done g c = λ ok.
 -- ---- no record was free
 pub returns-in-Err-clause-run : goal.returns-in-Err-clause-run
 returns-in-Err-clause-run g c =
-    let depth = c.requires.planned.2.depth in
-    ended_run c.args.table.now g.G.Gate.becomes c.args.job.now (c.args.seat.now, c.args.gate.now) (c.take_span.new.seat, c.take_span.new.gate) (c.change_span.new.seat, c.change_span.new.gate) _ c.take_span.ensures.run (c.take_span.ensures.nodes c.if-not-take_span.false) c.if-not-take_span.false c.requires.within
-    (omega (arith, c.requires.within.1, depth)) c.change_span.ensures.run
+    ended_run c.args.table.now g.G.Gate.becomes c.args.job.now (c.args.seat.now, c.args.gate.now) (c.take_span.new.seat, c.take_span.new.gate) (c.change_span.new.seat, c.change_span.new.gate) _ c.take_span.ensures.run (c.take_span.ensures.nodes c.if-not-take_span.false) c.if-not-take_span.false c.requires.within c.requires.planned.2.depth c.change_span.ensures.run
 
 pub returns-in-Err-clause-refused : goal.returns-in-Err-clause-refused
 returns-in-Err-clause-refused g c k loaded later =

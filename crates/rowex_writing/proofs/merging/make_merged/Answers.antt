@@ -28,14 +28,14 @@ pub raise_closed-requires-clause-closes : goal.raise_closed-requires-clause-clos
 raise_closed-requires-clause-closes g c = (
   c.args.job.now.key.now,
   subst (λ h. ClosesFork c.join_siblings.new.seat.known c.args.job.now.key.now (record { step = upper c.args.job.now; place = c.args.merge.now.place; entry = Node c.args.merge.now.made h })) (sym c.height.ensures)
-      (closes_for c.args.table.now g.G.Gate.becomes (c.args.seat.now, c.args.gate.now) (c.join_siblings.new.seat, c.join_siblings.new.gate) c.args.job.now c.args.merge.now c.join_siblings.ensures.reads.goes c.requires.wide c.requires.beside c.in-Some.joined c.in-Some.ensures.joined c.args.merge.now.made),
+      (closes_for c.args.table.now g.G.Gate.becomes (c.args.seat.now, c.args.gate.now) (c.join_siblings.new.seat, c.join_siblings.new.gate) c.args.job.now c.args.merge.now c.join_siblings.ensures.reads.goes c.requires.wide c.requires.beside c.in_ok-joined.joined c.in_ok-joined.ensures.joined c.args.merge.now.made),
 )
 
 pub raise_closed-requires-clause-room : goal.raise_closed-requires-clause-room
 raise_closed-requires-clause-room g c = omega (arith, ap length c.requires.made)
 
-pub returns-in_default-raise_closed-clause-goes : goal.returns-in_default-raise_closed-clause-goes
-returns-in_default-raise_closed-clause-goes g c =
+pub returns-in_err-entry-clause-goes : goal.returns-in_err-entry-clause-goes
+returns-in_err-entry-clause-goes g c =
     goes_more c.args.table.now g.G.Gate.becomes (c.args.seat.now, c.args.gate.now) (c.join_siblings.new.seat, c.join_siblings.new.gate) (c.raise_closed.new.seat, c.raise_closed.new.gate) c.join_siblings.ensures.reads.goes c.raise_closed.ensures.goes
 
 pub fill_words-requires-clause-own : goal.fill_words-requires-clause-own
@@ -51,8 +51,8 @@ fill_words-requires-clause-range g c =
 pub fill_words-requires-clause-held : goal.fill_words-requires-clause-held
 fill_words-requires-clause-held g c =
     let (news, b) = c.requires.building in
-    let (us, m, rec_is, side, built) = closed_made c.args.table.now g.G.Gate.becomes (c.args.seat.now, c.args.gate.now) (c.join_siblings.new.seat, c.join_siblings.new.gate) c.args.job.now c.args.merge.now c.join_siblings.ensures.reads.goes c.requires.wide c.requires.beside c.in-Some.joined c.in-Some.ensures.joined
-    c.args.build.now.made.items c.raise_closed.new.build.made.items news c.args.merge.now.made c.height.result c.in-Some-raise_closed.entry c.raise_closed.new.seat c.height.ensures c.requires.made c.join_siblings.ensures.reads.own b c.in-Some-raise_closed.ensures.made in
+    let (us, m, rec_is, side, built) = closed_made c.args.table.now g.G.Gate.becomes (c.args.seat.now, c.args.gate.now) (c.join_siblings.new.seat, c.join_siblings.new.gate) c.args.job.now c.args.merge.now c.join_siblings.ensures.reads.goes c.requires.wide c.requires.beside c.in_ok-joined.joined c.in_ok-joined.ensures.joined
+    c.args.build.now.made.items c.raise_closed.new.build.made.items news c.args.merge.now.made c.height.result c.in_ok-entry.entry c.raise_closed.new.seat c.height.ensures c.requires.made c.join_siblings.ensures.reads.own b c.in_ok-entry.ensures.made in
     made_claimed c.args.table.now c.raise_closed.new.seat c.raise_closed.new.build.made.items us m c.args.merge.now.made rec_is built
 
 pub returns-clause-goes : goal.returns-clause-goes
@@ -64,16 +64,16 @@ pub returns-clause-may : goal.returns-clause-may
 returns-clause-may g c =
     let table = c.args.table.now in
     let (news, b) = c.requires.building in
-    let (us, m, rec_is, side, built) = closed_made table g.G.Gate.becomes (c.args.seat.now, c.args.gate.now) (c.join_siblings.new.seat, c.join_siblings.new.gate) c.args.job.now c.args.merge.now c.join_siblings.ensures.reads.goes c.requires.wide c.requires.beside c.in-Some.joined c.in-Some.ensures.joined
-    c.args.build.now.made.items c.raise_closed.new.build.made.items news c.args.merge.now.made c.height.result c.in-Some-raise_closed.entry c.raise_closed.new.seat c.height.ensures c.requires.made c.join_siblings.ensures.reads.own b c.in-Some-raise_closed.ensures.made in
+    let (us, m, rec_is, side, built) = closed_made table g.G.Gate.becomes (c.args.seat.now, c.args.gate.now) (c.join_siblings.new.seat, c.join_siblings.new.gate) c.args.job.now c.args.merge.now c.join_siblings.ensures.reads.goes c.requires.wide c.requires.beside c.in_ok-joined.joined c.in_ok-joined.ensures.joined
+    c.args.build.now.made.items c.raise_closed.new.build.made.items news c.args.merge.now.made c.height.result c.in_ok-entry.entry c.raise_closed.new.seat c.height.ensures c.requires.made c.join_siblings.ensures.reads.own b c.in_ok-entry.ensures.made in
     let filled = refilled table g.G.Gate.becomes (c.raise_closed.new.seat, c.raise_closed.new.gate) (c.fill_words.new.seat, c.fill_words.new.gate) c.raise_closed.new.build.made.items us m c.args.merge.now.made c.pack_node.result rec_is c.fill_words.ensures.fills c.fill_words.ensures.filled.1 built in
     let whole = subst (λ ws. IsBuilding table c.fill_words.new.seat c.raise_closed.new.build.made.items (us ++ record { rec = a_node c.args.merge.now.made; words = ws } ∷ [])) c.pack_node.ensures.words filled in
     let first = goes_more table g.G.Gate.becomes (c.args.seat.now, c.args.gate.now) (c.join_siblings.new.seat, c.join_siblings.new.gate) (c.raise_closed.new.seat, c.raise_closed.new.gate) c.join_siblings.ensures.reads.goes c.raise_closed.ensures.goes in
     let goes = goes_more table g.G.Gate.becomes (c.args.seat.now, c.args.gate.now) (c.raise_closed.new.seat, c.raise_closed.new.gate) (c.fill_words.new.seat, c.fill_words.new.gate) first (set_all_on table g.G.Gate.becomes _ _ _ _ c.fill_words.ensures.fills) in
-    let word = word_of c.in-Some-raise_closed.entry c.has_number.ensures c.in-Some-raise_closed.ensures.height in
+    let word = word_of c.in_ok-entry.entry c.has_number.ensures c.in_ok-entry.ensures.height in
     may_merge_into table c.fill_words.new.seat c.args.job.now c.args.merge.now.number
-    (wide_now table g.G.Gate.becomes (c.args.seat.now, c.args.gate.now) (c.fill_words.new.seat, c.fill_words.new.gate) c.args.job.now c.args.merge.now goes c.requires.wide c.requires.beside c.in-Some.joined c.in-Some.ensures.joined) c.args.merge.now refl
-    (beside_now table g.G.Gate.becomes (c.args.seat.now, c.args.gate.now) (c.fill_words.new.seat, c.fill_words.new.gate) c.args.job.now c.args.merge.now goes c.requires.wide c.requires.beside c.in-Some.joined c.in-Some.ensures.joined)
-    c.raise_closed.new.build.made.items us c.args.merge.now.made c.in-Some.joined c.in-Some-raise_closed.entry whole c.pack_node.ensures.fits
-    (merged_for table g.G.Gate.becomes (c.args.seat.now, c.args.gate.now) (c.fill_words.new.seat, c.fill_words.new.gate) c.args.job.now c.args.merge.now goes c.requires.wide c.requires.beside c.in-Some.joined c.in-Some.ensures.joined)
+    (wide_now table g.G.Gate.becomes (c.args.seat.now, c.args.gate.now) (c.fill_words.new.seat, c.fill_words.new.gate) c.args.job.now c.args.merge.now goes c.requires.wide c.requires.beside c.in_ok-joined.joined c.in_ok-joined.ensures.joined) c.args.merge.now refl
+    (beside_now table g.G.Gate.becomes (c.args.seat.now, c.args.gate.now) (c.fill_words.new.seat, c.fill_words.new.gate) c.args.job.now c.args.merge.now goes c.requires.wide c.requires.beside c.in_ok-joined.joined c.in_ok-joined.ensures.joined)
+    c.raise_closed.new.build.made.items us c.args.merge.now.made c.in_ok-joined.joined c.in_ok-entry.entry whole c.pack_node.ensures.fits
+    (merged_for table g.G.Gate.becomes (c.args.seat.now, c.args.gate.now) (c.fill_words.new.seat, c.fill_words.new.gate) c.args.job.now c.args.merge.now goes c.requires.wide c.requires.beside c.in_ok-joined.joined c.in_ok-joined.ensures.joined)
     side word (omega (arith, c.raise_closed.ensures.more, ap length c.requires.made))

@@ -1,16 +1,17 @@
 -- The node beside, and then what names the upper one.
-use Rattle.std.proofs.Common.{◌∷◌, ◌-◌, ◌<◌, true, false, refl, sym, ap, subst, ◌∙◌}
+use Rattle.std.proofs.Common.{◌∷◌, ◌-◌, true, false, refl, sym, ap, subst, ◌∙◌}
 use Rattle.versions.specs.Trades.{IsOneOf}
 use Rattle.rowex_reading.specs.Ways.{IsWayOf}
 use Rattle.rowex_reading.proofs.Seeing.{later_trans}
 use Rattle.rowex_reading.proofs.Ways.{way_later}
-use Rattle.publish_laws.proofs.Merging.{beside_in_table, beside_may_lock}
+use Rattle.publish_laws.proofs.Merging.{beside_may_lock}
 use Rattle.publish_laws.proofs.Loops.{later_if_same}
 use Rattle.rowex_core.specs.declared.event.Target.TheVariants.{Node as NodeTarget}
 use Rattle.rowex_table.specs.Made.{nodes_of}
 use Rattle.rowex_table.specs.Rights.{MayLock}
 use Rattle.rowex_writing.specs.Locks.{span_numbers}
 use Rattle.rowex_writing.specs.Merging.{LocksAbove}
+use Rattle.rowex_writing.proofs.Beside.{sibling_range}
 use Rattle.rowex_writing.proofs.Onward.{both_possible, both_seat, run_possible}
 use Rattle.rowex_writing.proofs.Runs.{run_none, works_run}
 use Rattle.rowex_writing.proofs.Wider.{far_none, last_same, more_none, more_one, one_last, two_tried}
@@ -24,10 +25,7 @@ pub returns-then-is_near_span-clause-later : goal.returns-then-is_near_span-clau
 returns-then-is_near_span-clause-later g c = (later_if_same c.args.seat.now.known c.args.seat.now.known refl, c.requires.takes.1, c.requires.takes.2, refl)
 
 pub lock_node-requires-clause-range : goal.lock_node-requires-clause-range
-lock_node-requires-clause-range g c =
-    let p = c.requires.takes.2 in
-    let (b, is, same) = c.requires.beside in
-    subst (λ n. n < c.args.table.now.layout.nodes) same (beside_in_table c.args.table.now.layout c.args.seat.now.known p.core p.lawful p.layout_is p.knows c.args.job.now.key.now _ b.number b.position is.height is.words is.has is.sibling)
+lock_node-requires-clause-range g c = sibling_range c.args.table.now c.args.seat.now c.args.job.now c.args.number c.requires.takes.2 c.requires.beside
 
 pub lock_node-requires-clause-may : goal.lock_node-requires-clause-may
 lock_node-requires-clause-may g c =
@@ -89,8 +87,7 @@ returns-then-lock_above-clause-wide g c = λ e.
     let (t, seat, possible, stays) = c.requires.takes in
     let tries = c.lock_node.ensures.tries in
     let l = c.lock_node.ensures.locked c.if-not-lock_node.false in
-    let (target, above, top) = c.lock_above.ensures.tries in
-    let (b, is, same) = c.requires.beside in (
+    let (target, above, top) = c.lock_above.ensures.tries in (
       record {
         taking = t;
         seat = both_seat table g.G.Gate.becomes (c.args.seat.now, c.args.gate.now) (c.lock_node.new.seat, c.lock_node.new.gate) (c.lock_above.new.seat, c.lock_above.new.gate) tries above seat;
@@ -98,7 +95,7 @@ returns-then-lock_above-clause-wide g c = λ e.
         later = later_trans stays.0 (later_trans (works_later table g.G.Gate.becomes (c.args.seat.now, c.args.gate.now) (c.lock_node.new.seat, c.lock_node.new.gate) tries) c.lock_above.ensures.later.0);
         words = l.0.0;
         new = subst (λ z. ¬ (IsOneOf c.args.number (nodes_of z))) stays.1 l.1;
-        low = subst (λ n. n < table.layout.nodes) same (beside_in_table table.layout c.args.seat.now.known possible.core possible.lawful possible.layout_is possible.knows c.args.job.now.key.now _ b.number b.position is.height is.words is.has is.sibling);
+        low = sibling_range table c.args.seat.now c.args.job.now c.args.number possible c.requires.beside;
         above = subst (λ z. LocksAbove z c.args.job.now.key.now c.args.job.now.way.now c.args.job.now.found (c.args.job.now.span.end - 1) c.lock_above.new.seat.known)
             (l.0.1 ∙ ap (λ z. record { node = c.args.number; words = l.0.0 } ∷ z) stays.1) (c.lock_above.ensures.above c.if-lock_above.true);
       },
@@ -113,10 +110,7 @@ unlock_last-requires-clause-own g c =
     both_seat table g.G.Gate.becomes (c.args.seat.now, c.args.gate.now) (c.lock_node.new.seat, c.lock_node.new.gate) (c.lock_above.new.seat, c.lock_above.new.gate) c.lock_node.ensures.tries above c.requires.takes.1
 
 pub unlock_last-requires-clause-range : goal.unlock_last-requires-clause-range
-unlock_last-requires-clause-range g c =
-    let p = c.requires.takes.2 in
-    let (b, is, same) = c.requires.beside in
-    subst (λ n. n < c.args.table.now.layout.nodes) same (beside_in_table c.args.table.now.layout c.args.seat.now.known p.core p.lawful p.layout_is p.knows c.args.job.now.key.now _ b.number b.position is.height is.words is.has is.sibling)
+unlock_last-requires-clause-range g c = sibling_range c.args.table.now c.args.seat.now c.args.job.now c.args.number c.requires.takes.2 c.requires.beside
 
 pub unlock_last-requires-clause-last : goal.unlock_last-requires-clause-last
 unlock_last-requires-clause-last g c = (
