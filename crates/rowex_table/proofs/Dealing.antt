@@ -23,7 +23,7 @@ use Rattle.rowex_core.proofs.Promises.{opening_is_lawful}
 use Rattle.rowex_table.specs.declared.traces.Trace.{Trace}
 use Rattle.rowex_table.specs.declared.traces.TracedView.{TracedView}
 use Rattle.rowex_table.specs.declared.traces.TracedView.TheVariants.{Spent, Dealer, Pass, Pair}
-use Rattle.rowex_table.specs.Rule.{Ruled, IsTrueOf, opening_of, next_dealer, dealt, paired, first_of_two, second_of_two, with_front, IsShown, SeatsHaveMet, Meeting, met, IsSomeSeats}
+use Rattle.rowex_table.specs.Rule.{Ruled, IsTrueOf, opening_of, next_dealer, dealt, paired, first_of_two, second_of_two, with_front, HasBeenShown, SeatsHaveMet, Meeting, met, IsSomeSeats}
 use Rattle.rowex_table.specs.Traces.{HasTraces, IsShownRun, OthersStepOn, untraced, view_of}
 use Rattle.rowex_table.specs.Seats.{TableView, SeatView, IsNewSeatOf, IsNewSeat}
 use Rattle.rowex_table.proofs.Keeping.{Apart, apart_set, each_set, set_at}
@@ -279,7 +279,7 @@ pub paired_me : {S : Type 0} (me a b : Me S TracedView) (j : Known) (t : Trace) 
 paired_me {S = S} me a b j t k u e is was = e ∙ (λ i. (paired (is i).0 (was i).0, (is i).1))
 
 pub meeting : {S : Type 0} (layout : Layout) (of : Option Layout) → of ≡ Some layout → (me m' : Me S TracedView) (j : Known) (t : Trace) (k : Known) (u : Trace) → me ≡ (Pair j t k u, []) → (m'.1 ≡ me.1) × Meeting of me.0 m'.0
-    → (j' : Known) × (t' : Trace) × (k' : Known) × (u' : Trace) × (m' ≡ (Pair j' t' k' u', [])) × SeatsHaveMet layout j k j' k' × (t'.events ≡ u'.events) × IsShown layout j t j' t' × IsShown layout k u k' u'
+    → (j' : Known) × (t' : Trace) × (k' : Known) × (u' : Trace) × (m' ≡ (Pair j' t' k' u', [])) × SeatsHaveMet layout j k j' k' × (t'.events ≡ u'.events) × HasBeenShown layout j t j' t' × HasBeenShown layout k u k' u'
 meeting {S = S} layout of is_of me m' j t k u is h =
     let met = subst (λ (v : TracedView). Meeting (Some layout) v m'.0) (ap (λ (z : Me S TracedView). z.0) is) (subst (λ (o : Option Layout). Meeting o me.0 m'.0) is_of h.1) in
     (met.0, met.1, met.2, met.3, (λ i. (met.4 i, (h.0 ∙ ap (λ (z : Me S TracedView). z.1) is) i)), met.5, met.6, met.7, met.8)

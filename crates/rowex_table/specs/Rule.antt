@@ -160,14 +160,14 @@ SeatsHaveMet layout j k j' k' =
 
 -- The pass that knew k, and of the steps of t, knows j and of the steps of u now. It has been shown a run (`IsShownRun`), which is counted as one
 -- aside.
-abbrev pub IsShown : Layout → Known → Trace → Known → Trace → Type 0
-IsShown layout k t j u = IsShownRun layout k.pass t.events u.events j.front × (u.asides ≡ suc t.asides)
+abbrev pub HasBeenShown : Layout → Known → Trace → Known → Trace → Type 0
+HasBeenShown layout k t j u = IsShownRun layout k.pass t.events u.events j.front × (u.asides ≡ suc t.asides)
 
 -- Two passes meet: both know of the same changes and of the same steps then.
 abbrev pub Meeting : Option Layout → TracedView → TracedView → Type 0
 Meeting (Some layout) (Pair j t k u) w =
     (j' : Known) × (t' : Trace) × (k' : Known) × (u' : Trace) × (w ≡ Pair j' t' k' u') × SeatsHaveMet layout j k j' k' ×
-    (t'.events ≡ u'.events) × IsShown layout j t j' t' × IsShown layout k u k' u'
+    (t'.events ≡ u'.events) × HasBeenShown layout j t j' t' × HasBeenShown layout k u k' u'
 Meeting _ _ w = Unit {0}
 
 abbrev pub met : {S : Type 0} → Option Layout → Step S → Me S TracedView → ℕ → Me S TracedView → Type 0
@@ -211,7 +211,7 @@ HasFollowed layout stamp k j =
 -- A pass follows a stamp: it knows of the stamp's changes and steps then, and is shown a run that begins with them.
 abbrev pub Following : Option Layout → TracedView → TracedView → Type 0
 Following (Some layout) (Follower k t stamp events) w =
-    (j : Known) × (u : Trace) × (w ≡ Pass j u) × HasFollowed layout stamp k j × IsShown layout k t j u × RunBeginsWith u.events events
+    (j : Known) × (u : Trace) × (w ≡ Pass j u) × HasFollowed layout stamp k j × HasBeenShown layout k t j u × RunBeginsWith u.events events
 Following _ _ w = Unit {0}
 
 abbrev pub followed : {S : Type 0} → Option Layout → Step S → Me S TracedView → ℕ → Me S TracedView → Type 0
