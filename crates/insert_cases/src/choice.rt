@@ -103,7 +103,7 @@ pub fn choose(way: &[PathNode], level: usize, first: u8, last: u8) -> Choice
     }
 }
 
-/// What is done at the node `step`, where one leaf alone is affected or not, as `one_leaf` says.
+/// What is done at the node of `step`. `one_leaf` says whether one leaf alone is affected.
 fn case_at(step: PathNode, one_leaf: bool) -> Case
     ensures { result ≡ case_of step.height step.count one_leaf }
 {

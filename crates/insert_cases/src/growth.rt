@@ -20,8 +20,8 @@ pub enum Grown {
     Two(Cut),
 }
 
-/// The node with `entry` beside the entries from `first` to `last`, which `Node::affected` returns for `position`. It is one node if it
-/// has room, else the cut that [`grow_full`] returns.
+/// The node with `entry` beside the entries from `first` to `last`, which `Node::affected` returns for `position`. `bit` is the bit of the
+/// new key there. It is one node if there is room, else the cut that [`grow_full`] returns.
 pub fn grow(node: &Node, first: u8, last: u8, position: u16, bit: bool, entry: Entry) -> Grown
     requires range { IsAffected (piece node.now) position first last }
     requires position { position < 65535 }
@@ -49,13 +49,13 @@ pub fn grow_full(node: &Node, first: u8, last: u8, position: u16, bit: bool, ent
 {
     prove!(node.count() == 32);
     if position < node.first_position() {
-        return Grown::Two(beside(position, bit, entry));
+        return Grown::Two(keep_whole(position, bit, entry));
     }
-    Grown::Two(cut_grown(node, first, last, position, bit, entry))
+    Grown::Two(cut_and_grow(node, first, last, position, bit, entry))
 }
 
-/// The fork at `position` of a node that stays whole and `entry`, which is the side of `bit`.
-fn beside(position: u16, bit: bool, entry: Entry) -> Cut
+/// The cut at `position` whose sides are the node that was handed in, whole, and `entry`. `bit` says which side `entry` is.
+fn keep_whole(position: u16, bit: bool, entry: Entry) -> Cut
     ensures position { result.position ≡ position }
     ensures zero { result.zero ≡ (if bit then Half.Same else Half.One entry) }
     ensures one { result.one ≡ (if bit then Half.One entry else Half.Same) }
@@ -75,8 +75,8 @@ fn beside(position: u16, bit: bool, entry: Entry) -> Cut
     }
 }
 
-/// The full node `node` cut, with `entry` in the half that has the entries from `first` to `last`.
-fn cut_grown(node: &Node, first: u8, last: u8, position: u16, bit: bool, entry: Entry) -> Cut
+/// Cuts the full node `node`, and puts `entry` into the half that has the entries from `first` to `last`, as [`grow_half`] does.
+fn cut_and_grow(node: &Node, first: u8, last: u8, position: u16, bit: bool, entry: Entry) -> Cut
     requires lawful { IsLawfulNode node.now }
     requires range { IsAffected (piece node.now) position first last }
     requires below { AtRootFork (λ p zero one. p < position) (piece node.now) }
@@ -89,16 +89,16 @@ fn cut_grown(node: &Node, first: u8, last: u8, position: u16, bit: bool, entry: 
         zero,
         one,
     } = node.cut();
-    let front = half_count(&zero);
+    let front = count_half(&zero);
     if first < front {
-        let zero = Half::Many(half_grown(zero, first, last, position, bit, entry));
+        let zero = Half::Many(grow_half(zero, first, last, position, bit, entry));
         Cut {
             position: root,
             zero,
             one,
         }
     } else {
-        let one = Half::Many(half_grown(one, first - front, last - front, position, bit, entry));
+        let one = Half::Many(grow_half(one, first - front, last - front, position, bit, entry));
         Cut {
             position: root,
             zero,
@@ -107,8 +107,8 @@ fn cut_grown(node: &Node, first: u8, last: u8, position: u16, bit: bool, entry: 
     }
 }
 
-/// How many entries `half`, a side of a cut, has.
-fn half_count(half: &Half) -> u8
+/// The number of entries of `half`, a side of a cut.
+fn count_half(half: &Half) -> u8
     requires { HalfShows half.now (half_piece half.now) }
     ensures { result ≡ size (half_piece half.now) }
 {
@@ -119,9 +119,9 @@ fn half_count(half: &Half) -> u8
     }
 }
 
-/// The half of a cut with `entry` beside the entries from `first` to `last`, parted from these at `position`: with `bit` after them, else
-/// before.
-fn half_grown(half: Half, first: u8, last: u8, position: u16, bit: bool, entry: Entry) -> Node
+/// The node of `half`, a side of a cut, with `entry` beside the entries from `first` to `last`. It is parted from these at `position`, and
+/// stands behind them if `bit`, else before them.
+fn grow_half(half: Half, first: u8, last: u8, position: u16, bit: bool, entry: Entry) -> Node
     requires half { HalfShows half (half_piece half) }
     requires room { size (half_piece half) < 32 }
     requires range { IsAffected (half_piece half) position first last }
@@ -158,23 +158,25 @@ pub fn pull_up(node: &Node, at: u8, position: u16, zero: Entry, one: Entry) -> G
     ensures same { keeps_node result ≡ false }
 {
     if node.count() < 32 {
-        return Grown::One(forked(node, at, position, zero, one));
+        let mut grown = node.copy();
+        put_fork(&mut grown, at, position, zero, one);
+        return Grown::One(grown);
     }
     let Cut {
         position: root,
         zero: front,
         one: rest,
     } = node.cut();
-    let count = half_count(&front);
+    let count = count_half(&front);
     if at < count {
-        let front = Half::Many(half_forked(&front, at, position, zero, one));
+        let front = Half::Many(fork_half(front, at, position, zero, one));
         Grown::Two(Cut {
             position: root,
             zero: front,
             one: rest,
         })
     } else {
-        let rest = Half::Many(half_forked(&rest, at - count, position, zero, one));
+        let rest = Half::Many(fork_half(rest, at - count, position, zero, one));
         Grown::Two(Cut {
             position: root,
             zero: front,
@@ -183,37 +185,25 @@ pub fn pull_up(node: &Node, at: u8, position: u16, zero: Entry, one: Entry) -> G
     }
 }
 
-/// The half of a cut with a fork of `zero` and `one` at `position` in place of entry `at`.
-fn half_forked(half: &Half, at: u8, position: u16, zero: Entry, one: Entry) -> Node
-    requires half { HalfShows half.now (half_piece half.now) }
-    requires room { size (half_piece half.now) < 32 }
-    requires place { at < size (half_piece half.now) }
-    requires path { IsAbovePath position at (half_piece half.now) }
+/// The node of `half`, a side of a cut, with a fork of `zero` and `one` at `position` in place of entry `at`.
+fn fork_half(half: Half, at: u8, position: u16, zero: Entry, one: Entry) -> Node
+    requires half { HalfShows half (half_piece half) }
+    requires room { size (half_piece half) < 32 }
+    requires place { at < size (half_piece half) }
+    requires path { IsAbovePath position at (half_piece half) }
     requires position { position < 65535 }
     requires zero { IsEntry zero }
     requires one { IsEntry one }
-    ensures { IsBuiltFrom result (grafted at (Fork position (At zero) (At one)) (half_piece half.now)) }
+    ensures { IsBuiltFrom result (grafted at (Fork position (At zero) (At one)) (half_piece half)) }
 {
     match half {
-        Half::Many(node) => forked(node, at, position, zero, one),
+        Half::Many(mut node) => {
+            put_fork(&mut node, at, position, zero, one);
+            node
+        }
         Half::One(_) => Node::pair(position, zero, one),
         Half::Same => unreachable!(),
     }
-}
-
-/// A copy of `node`, which has room, with a fork of `zero` and `one` at `position` in place of entry `at`.
-fn forked(node: &Node, at: u8, position: u16, zero: Entry, one: Entry) -> Node
-    requires room { length node.now.entries < 32 }
-    requires place { at < length node.now.entries }
-    requires path { IsAbovePath position at (piece node.now) }
-    requires position { position < 65535 }
-    requires zero { IsEntry zero }
-    requires one { IsEntry one }
-    ensures { IsBuiltFrom result (grafted at (Fork position (At zero) (At one)) (piece node.now)) }
-{
-    let mut grown = node.copy();
-    put_fork(&mut grown, at, position, zero, one);
-    grown
 }
 
 /// Puts a fork of `zero` and `one` at `position` in the place of entry `at` of `node`, which has fewer than 32 entries. `position` is above

@@ -8,20 +8,20 @@ use Rattle.tries.proofs.Building.{size-piece}
 use Rattle.insert_cases.proofs.NodeFacts.{cut_is, half_anew}
 use Rattle.insert_cases.proofs.growth.pull_up.Goals as goal
 
-pub half_forked-requires-clause-room : goal.half_forked-requires-clause-room
-half_forked-requires-clause-room c =
+pub fork_half-requires-clause-room : goal.fork_half-requires-clause-room
+fork_half-requires-clause-room c =
     let k = cut_is c.cut-root.result (piece c.args.node.now) c.cut-root.ensures in
     omega (arith, ap size k.whole, size-piece c.args.node.now c.count.ensures.lawful, c.count.ensures.lawful.room, size_pos (half_piece c.cut-root.result.one))
 
-pub half_forked-requires-else-at-count-clause-room : goal.half_forked-requires-else-at-count-clause-room
-half_forked-requires-else-at-count-clause-room c =
+pub fork_half-requires-else-at-count-clause-room : goal.fork_half-requires-else-at-count-clause-room
+fork_half-requires-else-at-count-clause-room c =
     let k = cut_is c.cut-root.result (piece c.args.node.now) c.cut-root.ensures in
     omega (arith, ap size k.whole, size-piece c.args.node.now c.count.ensures.lawful, c.count.ensures.lawful.room, size_pos (half_piece c.cut-root.result.zero))
 
-pub half_forked-requires-else-at-count-clause-place : goal.half_forked-requires-else-at-count-clause-place
-half_forked-requires-else-at-count-clause-place c =
+pub fork_half-requires-else-at-count-clause-place : goal.fork_half-requires-else-at-count-clause-place
+fork_half-requires-else-at-count-clause-place c =
     let k = cut_is c.cut-root.result (piece c.args.node.now) c.cut-root.ensures in
-    omega (arith, ap size k.whole, size-piece c.args.node.now c.count.ensures.lawful, c.half_count-count.ensures, c.requires.place)
+    omega (arith, ap size k.whole, size-piece c.args.node.now c.count.ensures.lawful, c.count_half-count.ensures, c.requires.place)
 
 pub returns-then-at-count-clause-same : goal.returns-then-at-count-clause-same
 returns-then-at-count-clause-same c =

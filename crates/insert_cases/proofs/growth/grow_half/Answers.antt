@@ -1,7 +1,7 @@
--- Why `half_grown` meets its contract.
+-- Why `grow_half` meets its contract.
 use Rattle.std.proofs.Common.{arith}
 use Rattle.tries.proofs.Building.{size-piece}
-use Rattle.insert_cases.proofs.growth.half_grown.Goals as goal
+use Rattle.insert_cases.proofs.growth.grow_half.Goals as goal
 
 pub add-requires-clause-room : goal.add-requires-clause-room
 add-requires-clause-room c =
