@@ -55,8 +55,8 @@ IsHalfMade old (One alone) e news = (e ≡ alone) × (news ≡ [])
 IsHalfMade old (Many view) e news = (m : ℕ) × (e ≡ Node m view.height) × (news ≡ made_of_node m view ∷ []) × HasNodeWords view
 IsHalfMade old Same e news = (e ≡ old) × (news ≡ [])
 
--- What comes in the place of the node of the old entry, and the records made for it in front of those before, the last one first:
--- of a cut the upper side is made first.
+-- What comes in the place of the node of the old entry, and the records made for it, in front of those before. The last one made is first.
+-- Of a cut the upper side is made first.
 abbrev pub IsMadeFrom : Entry → Grown → Risen → List Made → List Made → Type 0
 IsMadeFrom old (Single view) (Whole e) before after = (m : ℕ) × (e ≡ Node m view.height) × (after ≡ made_of_node m view ∷ before) × HasNodeWords view
 IsMadeFrom old (Two cut) (Split position zero one) before after =
@@ -89,8 +89,7 @@ pub record HasNotMade (table : TableView) (b : SeatView) (made : List Rec) : Typ
   pub news : List Made
   pub building : IsBuilding table b made news
 
--- What comes in the place of the loaded node that gets a new leaf, and whether the node stays whole, with the records made for it; or none
--- was free.
+-- What comes in the place of the loaded node with a new leaf, and whether the node stays whole, with the records made; or none was free.
 abbrev pub MakesGrown : TableView → SeatView × List Rec → SeatView × List Rec → LoadedNode → NewLeaf → Option (Risen × Bool) → Type 0
 MakesGrown table (a, made) (b, built) loaded new result =
     (news : List Made) (node : NodeView) → AwaitsLeaf loaded.words node new → IsBuilding table a made news → MatchOption result (HasNotMade table b built)
@@ -118,7 +117,7 @@ pub record IsRisenAt (table : TableView) (a : SeatView) (made : List Rec) (numbe
   pub locked : HasLocked a.known number words
   pub raising : IsRaising table a made gone newcomer (entry number) (subtrie_of risen)
 
--- What has risen so far, a fork of two entries, is to take the place of the entry that names the node below, in the locked node
+-- What has risen so far is a fork of two entries. It is to take the place of the entry that names the node below, in the locked node
 -- above, which is higher than both.
 pub record GetsFork (table : TableView) (a : SeatView) (made : List Rec) (above : ℕ) (fork : Fork) : Type 0 where
   pub lower : ℕ
@@ -184,8 +183,8 @@ abbrev pub gone_unless_whole : Bool → ℕ → List Rec
 gone_unless_whole stays n = if stays then [] else a_node n ∷ []
 
 -- ---- a span
--- Of the locked nodes of the way from `end` to `level` each is named by the one above it, which is higher, and an insertion at p
--- affects no more than that place; those between the two are full.
+-- Of the locked nodes of the way from `end` to `level` each is named by the one above it, which is higher. An insertion at p affects no
+-- more than that place there. Those between the two are full.
 pub record IsChain (nodes : ℕ) (held : List Locked) (way : List PathNode) (key : Key) (p end level : ℕ) : Type 0 where
   pub there : (i : ℕ) (s : PathNode) → i < level → slice_get way i ≡ Some s → s.number < nodes
   pub above : (i : ℕ) (s u : PathNode) → end ≤ i → i < level → slice_get way i ≡ Some s → slice_get way (i + 1) ≡ Some u →

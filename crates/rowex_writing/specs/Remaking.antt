@@ -29,7 +29,7 @@ pub record AffectsJust (key : Key) (position first last : ℕ) (shown : Subtrie)
 abbrev pub subtrie_with_leaf : NewLeaf → Subtrie → Subtrie
 subtrie_with_leaf new shown = subtrie_grown new.position new.key.now (Leaf new.number) shown
 
--- the words spell this node, in which the search of the leaf's key takes the entry at its place, and a tree begins with its subtrie with the leaf
+-- The words spell this node, in which the search of the leaf's key takes the entry at its place. A tree begins with its subtrie with the leaf.
 pub record AwaitsLeaf (words : List ℕ) (node : NodeView) (new : NewLeaf) : Type 0 where
   pub is : IsNodeOf words node
   pub leads : spot new.key.now (piece node) ≡ new.at

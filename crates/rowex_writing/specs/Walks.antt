@@ -14,7 +14,7 @@ use Rattle.rowex_writing.specs.declared.building.Build.{Build}
 abbrev pub HasNoOther : Known → List Rec → Type 0
 HasNoOther k made = (r : Rec) → Contains (records_had k) r → Contains made r
 
--- From this step on the pass has tried some of the node records, from `begin` on, each once, and may try `left` more, from `next` on. Each
+-- From this step on the pass has tried some of the node records, each once, from `begin` on. It may try `left` more, from `next` on. Each
 -- that it has tried was found not free since that step, and was not its own; or is one of those that it has made.
 pub record IsClaimWalk (layout : Layout) (since : ℕ) (k : Known) (made : List Rec) (next left : ℕ) : Type 0 where
   pub early : since ≤ k.steps
