@@ -332,7 +332,8 @@ fn outcome_of_try(given: bool) -> Visited
 
 /// What a visit came to of a record with the state `word`, not to be given back: `Waits` if it is obsolete, else `Other`.
 fn outcome_of_state(word: u64) -> Visited
-    ensures { is_given result ≡ false }
+    ensures given { is_given result ≡ false }
+    ensures waits { (epoch : ℕ) → 1 ≤ epoch → epoch < EPOCHS → word ≡ state_word (Obsolete epoch) → result ≡ Waits }
 {
     match unpack_state(word) {
         Ok(Tag::Obsolete(_)) => Visited::Waits,
