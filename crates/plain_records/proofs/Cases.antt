@@ -1,18 +1,15 @@
 -- What is chosen at a node, and what follows from it.
-use Rattle.std.proofs.Common.{◌≡◌, ◌≢◌, ◌⊎◌, inl, inr, ℕ, zero, suc, ◌+◌, ◌<◌, ◌≤◌, max, Bool, true, false, List, length, nat_lt, refl, ap, ap₂, sym, ◌∙◌, subst, arith, Some, get_or, if◌then◌else◌}
+use Rattle.std.proofs.Common.{◌≡◌, ◌≢◌, ◌⊎◌, inl, inr, ℕ, zero, suc, ◌+◌, ◌<◌, ◌≤◌, max, Bool, true, false, List, length, nat_lt, refl, ap, ap₂, sym, ◌∙◌, subst, arith, Some, if◌then◌else◌}
 use Rattle.std.specs.Prelude.{◌↔◌, IsTrue, MatchBool, not, slice_get, slice_set}
 use Rattle.std.proofs.lemmas.Bool.{lt-ltb, le-ltb, cases_lt, false≢true}
-use Rattle.std.proofs.lemmas.Option.{slice_get_within}
-use Rattle.pieces.specs.Growth.{affected_first, affected_count, grown, IsAffected}
+use Rattle.pieces.specs.Growth.{affected_first, affected_count, grown}
 use Rattle.pieces.specs.Grafts.{grafted}
 use Rattle.pieces.specs.Piece.{Place, Fork, places, size}
-use Rattle.compound_node.specs.Nodes.{NodeView, piece, height_of, greatest_height, IsEntry, IsLawfulNode, IsBuiltFrom}
+use Rattle.compound_node.specs.Nodes.{NodeView, piece, height_of, greatest_height, IsEntry, IsBuiltFrom}
 use Rattle.compound_node.specs.declared.entries.Entry.{Entry}
 use Rattle.compound_node.specs.declared.entries.Entry.TheVariants.{Leaf, Node}
 use Rattle.insert_cases.specs.declared.choice.Case.{Case}
-use Rattle.insert_cases.specs.declared.choice.Case.TheVariants.{LeafPushdown, NormalInsert, Overflow}
-use Rattle.insert_cases.specs.declared.choice.Choice.{Choice}
-use Rattle.insert_cases.specs.declared.choice.PathNode.{PathNode}
+use Rattle.insert_cases.specs.declared.choice.Case.TheVariants.{LeafPushdown}
 use Rattle.insert_cases.specs.declared.raising.Risen.{Risen}
 use Rattle.insert_cases.specs.declared.raising.Risen.TheVariants.{Whole, Split}
 use Rattle.insert_cases.specs.Risen.{subtrie_of}
@@ -24,14 +21,11 @@ use Rattle.tries.specs.Keys.{Key, bit}
 use Rattle.tries.specs.Place.{spot}
 use Rattle.tries.specs.Search.{child, seek}
 use Rattle.tries.specs.Tree.{Subtrie, Fixed, Tree, leaf, node, fork, subtrie}
-use Rattle.tries.proofs.Building.{size-piece}
 use Rattle.plain_records.specs.declared.leaf.LeafRecord.{LeafRecord}
 use Rattle.plain_records.specs.Cases.{IsOneSide, IsByCase, AddsByCase, DoesLevel, DoesCase, IsNewNode, IsPutBetween, DoesLevels, TakesFork, is_overflow, is_split}
 use Rattle.plain_records.specs.Rising.{IsAddable, NoNode}
 use Rattle.plain_records.specs.Risen.{AllStay, OthersStay}
-use Rattle.plain_records.specs.Store.{ShowsTree}
 use Rattle.plain_records.proofs.Climbing.{IsHere, child_addable, part, range}
-use Rattle.plain_records.proofs.Searching.{read_at}
 
 -- ---- what becomes of a node's record
 -- so where the new node is whole if there is room, and else one side is left

@@ -1,6 +1,6 @@
 -- The way up of a new leaf: at a leaf, at the affected node, at each node above it, and in a new node.
 use Rattle.std.proofs.Common.{◌≡◌, ◌⊎◌, inl, inr, ℕ, suc, ◌+◌, ◌<◌, ◌≤◌, Bool, true, false, List, refl, ap, sym, ◌∙◌, subst, arith, Some, length, get_or}
-use Rattle.std.proofs.lemmas.Option.{get_or_from_slice_get, slice_get_within}
+use Rattle.std.proofs.lemmas.Option.{slice_get_within}
 use Rattle.std.specs.Prelude.{slice_get, cond, nat_lt, ◌-◌}
 use Rattle.key_bits.specs.Bits.{IsFirstDifference, bit_of}
 use Rattle.pieces.specs.Changes.{replaced}
@@ -30,10 +30,9 @@ use Rattle.plain_records.specs.Risen.{IsNamed, RisenShows, OthersStay}
 use Rattle.plain_records.specs.Store.{ShowsTree}
 use Rattle.insert_cases.specs.Ways.{WayBelow}
 use Rattle.insert_cases.proofs.Affecting.{key_part}
-use Rattle.pieces.proofs.Replacing.{replaced-same}
-use Rattle.tries.proofs.Building.{size-piece, greatest_if_lower, node_built_from}
+use Rattle.tries.proofs.Building.{greatest_if_lower, node_built_from}
 use Rattle.insert_cases.proofs.Pairs.{tip_entry, tip_low, pair_of, IsPairOf, pair_facts}
-use Rattle.insert_cases.proofs.Choosing.{has_found, some_injective, all_away, affected_range, part_of_two, tip_of_one_place, tip_child, size_affected}
+use Rattle.insert_cases.proofs.Choosing.{has_found, all_away, affected_range, part_of_two, tip_of_one_place, tip_child, size_affected}
 use Rattle.plain_records.proofs.Keeping.{shown_more}
 use Rattle.plain_records.proofs.Lifting.{grow_raised, lower_part, old_stays, body_adds, pulled_raised}
 use Rattle.plain_records.proofs.Replacing.{child_spot}

@@ -9,7 +9,7 @@ use Rattle.pieces.specs.Growth.{IsAffected, IsFresh, forked, grown}
 use Rattle.pieces.specs.Piece.{Piece, Place, Fork, size, paths, RisesFrom}
 use Rattle.partial_keys.specs.Rows.{row_of}
 use Rattle.compound_node.specs.Halves.{HalfShows}
-use Rattle.compound_node.specs.Nodes.{NodeView, piece, IsBuiltFrom, IsLawfulNode}
+use Rattle.compound_node.specs.Nodes.{NodeView, piece, IsLawfulNode}
 use Rattle.compound_node.specs.declared.entries.Entry.{Entry}
 use Rattle.compound_node.specs.declared.halves.Cut.{Cut}
 use Rattle.compound_node.specs.declared.halves.Half.{Half}

@@ -75,12 +75,6 @@ module _ (old : NodeView) where
     in_range : n < length xs
     in_range = slice_get_within xs n old at
 
-    -- a half that takes the old record
-    kept_for : (half : Half) (P : Piece Entry) → HalfShows half P → IsFor (kept_nodes xs n half) old (kept_entry n (Node n h) half) P
-    kept_for (One e) P s = inl s.0
-    kept_for (Many v) P s = inr (named_built (set xs n v) n v P (set_same xs n v in_range) s)
-    kept_for Same P s = elim s [ ]
-
     -- two halves, of which the second gets a new record
     both_for : (first second : Half) (P Q : Piece Entry) → HalfShows first P → HalfShows second Q →
         let ys = pushed_nodes xs second in

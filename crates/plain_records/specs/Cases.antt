@@ -1,5 +1,5 @@
 -- The case of an insertion: how it is chosen at a node, and what is done there.
-use Rattle.std.specs.Prelude.{◌≡◌, ◌≢◌, ◌⊎◌, ℕ, zero, suc, ◌<◌, ◌≤◌, Bool, List, length, slice_get, slice_set, Some, false, true}
+use Rattle.std.specs.Prelude.{◌≡◌, ◌⊎◌, ℕ, zero, suc, ◌<◌, ◌≤◌, Bool, List, length, slice_get, slice_set, Some, false, true}
 use Rattle.pieces.specs.Changes.{AtRootFork}
 use Rattle.pieces.specs.Grafts.{grafted}
 use Rattle.pieces.specs.Growth.{grown}
@@ -13,7 +13,7 @@ use Rattle.insert_cases.specs.declared.choice.Choice.{Choice}
 use Rattle.insert_cases.specs.declared.raising.Risen.{Risen}
 use Rattle.insert_cases.specs.declared.raising.Risen.TheVariants.{Whole, Split}
 use Rattle.insert_cases.specs.Levels.{IsPullUp}
-use Rattle.insert_cases.specs.Ways.{case_of, IsAffectedNode}
+use Rattle.insert_cases.specs.Ways.{IsAffectedNode}
 use Rattle.tries.specs.Keys.{Key, bit}
 use Rattle.tries.specs.Place.{spot}
 use Rattle.tries.specs.Search.{child, seek}

@@ -29,7 +29,7 @@ use Rattle.plain_records.proofs.Heights.{heights_over}
 use Rattle.plain_records.proofs.Lifting.{not_below, old_stays}
 use Rattle.plain_records.proofs.Steady.{grow_steady}
 use Rattle.plain_records.proofs.Searching.{read_at}
-use Rattle.plain_records.proofs.Climbing.{IsHere, old_at, addable_to, node_here, here_positive, here_within, here_high, here_spot, here_subtrie, here_from, here_upto, here_entry, here_raised, here_lifting, range, part, way_below, child_addable, child_low, beside_raised}
+use Rattle.plain_records.proofs.Climbing.{IsHere, old_at, addable_to, node_here, here_positive, here_within, here_high, here_spot, here_from, here_upto, here_entry, here_raised, here_lifting, range, part, way_below, child_addable, child_low, beside_raised}
 use Rattle.plain_records.proofs.rising.+raise.Goals as goal
 use Rattle.plain_records.proofs.rising.+raise.Goals.{After-affected-first, After-raise-risen}
 

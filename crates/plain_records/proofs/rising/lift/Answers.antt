@@ -1,5 +1,5 @@
 -- What rose is put in the child's place.
-use Rattle.std.proofs.Common.{◌≡◌, ◌≢◌, inl, inr, suc, ◌+◌, ◌<◌, List, length, refl, ap, ◌∙◌, sym, subst, arith, Some}
+use Rattle.std.proofs.Common.{◌≡◌, ◌≢◌, inr, suc, ◌+◌, ◌<◌, List, refl, ap, ◌∙◌, sym, subst, arith, Some}
 use Rattle.std.specs.Prelude.{slice_get, slice_set}
 use Rattle.std.proofs.lemmas.Bool.{false≢true}
 use Rattle.std.proofs.lemmas.Option.{slice_get_within}
