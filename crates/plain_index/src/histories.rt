@@ -8,18 +8,18 @@ ghost use Rattle.finite_map.specs.Calls.{LegalCalls, RisesFrom, StandsIn, change
 use finite_map::{Call, Change, Kind, Note, Reply};
 use key_bits::Key;
 
-/// Whether answered calls of the pass are legal in the front. Its time is the square of the lengths.
+/// Whether `notes` are legal as the calls of pass `pass` in `front`. Its time rises with the square of the lengths.
 pub fn are_legal(front: &[Change], pass: u16, notes: &[Note]) -> bool
     ensures { IsTrue result ↔ LegalCalls front.now pass notes.now }
 {
     is_legal_front(front)
         && notes.iter().all(|note| stands_in(front, pass, note))
         && rises_from(0, notes)
-        && owns(front, pass, notes)
+        && tell_own_changes(front, pass, notes)
 }
 
-/// The kind and the value of the change that a call made, if it has this reply.
-fn effect(call: &Call, reply: Reply) -> Option<(Kind, u64)>
+/// The kind and the value of the change that `call` made, if its reply is `reply`; `None` if it changed nothing.
+fn effect_of(call: &Call, reply: Reply) -> Option<(Kind, u64)>
     ensures { result ≡ effect_of call.now reply }
 {
     match (call, reply) {
@@ -35,7 +35,7 @@ fn effect(call: &Call, reply: Reply) -> Option<(Kind, u64)>
     }
 }
 
-/// The value that the map of the front holds for the key.
+/// The value of `key` in the map of all changes of `front`; `None` if the key is absent there.
 fn held_value(front: &[Change], key: &Key) -> Option<u64>
     ensures { result ≡ value_at (map_of front.now) key.now }
 {
@@ -51,7 +51,7 @@ fn held_value(front: &[Change], key: &Key) -> Option<u64>
     held
 }
 
-/// Whether a change of this kind and value is legal where this value is held.
+/// Whether a change of the kind `kind` with `value` is legal where the key has the value `held`; `None` stands for an absent key.
 fn fits(kind: Kind, held: Option<u64>, value: u64) -> bool
     ensures { IsTrue result ↔ FitsKind kind held value }
 {
@@ -62,6 +62,7 @@ fn fits(kind: Kind, held: Option<u64>, value: u64) -> bool
     }
 }
 
+/// Whether each change of `front` is legal after those before it.
 fn is_legal_front(front: &[Change]) -> bool
     ensures { IsTrue result ↔ LegalFront front.now }
 {
@@ -77,18 +78,18 @@ fn is_legal_front(front: &[Change]) -> bool
     true
 }
 
-/// Whether a note's call changed the map.
+/// Whether the call of `note` changed the map.
 fn changes_map(note: &Note) -> bool
     ensures { result ≡ is_change note.now }
 {
-    effect(&note.call, note.reply).is_some()
+    effect_of(&note.call, note.reply).is_some()
 }
 
-/// Whether this is the change that a note's call made, as one of the pass.
+/// Whether `change` is the one that the call of `note` made, as a call of `pass`.
 fn tells_of(note: &Note, pass: u16, change: &Change) -> bool
     ensures { IsTrue result ↔ (change_of pass note.now ≡ Some change.now) }
 {
-    match effect(&note.call, note.reply) {
+    match effect_of(&note.call, note.reply) {
         None => false,
         Some((kind, value)) => {
             change.pass == pass
@@ -99,7 +100,7 @@ fn tells_of(note: &Note, pass: u16, change: &Change) -> bool
     }
 }
 
-/// Whether the note's change, if it tells of one, is the front's change of its place.
+/// Whether the change that `note` tells of stands at its place in `front`. True if it tells of none.
 fn names_change(front: &[Change], pass: u16, note: &Note) -> bool
     ensures { IsTrue result ↔ ((c : Change) → change_of pass note.now ≡ Some c → slice_get front.now note.now.place ≡ Some c) }
 {
@@ -112,7 +113,8 @@ fn names_change(front: &[Change], pass: u16, note: &Note) -> bool
     }
 }
 
-/// Whether the note stands in the front as one of the pass.
+/// Whether `note` is legal in `front` as a note of `pass`: its place is in the front, its reply is that of the map there, and so is its
+/// change.
 fn stands_in(front: &[Change], pass: u16, note: &Note) -> bool
     ensures { IsTrue result ↔ StandsIn front.now pass note.now }
 {
@@ -123,7 +125,7 @@ fn stands_in(front: &[Change], pass: u16, note: &Note) -> bool
     note.reply == note.call.reply(held) && names_change(front, pass, note)
 }
 
-/// Whether the places are in order from `low` on.
+/// Whether the places of `notes` rise from `low` on, and rise strictly behind a change.
 fn rises_from(low: u128, notes: &[Note]) -> bool
     ensures { IsTrue result ↔ RisesFrom low notes.now }
 {
@@ -135,15 +137,15 @@ fn rises_from(low: u128, notes: &[Note]) -> bool
     low <= place && rises_from(next, later)
 }
 
-/// Whether the changes in the front by this pass are just those that the notes tell of, in the same order.
-fn owns(front: &[Change], pass: u16, notes: &[Note]) -> bool
+/// Whether the changes of `front` by `pass` are just those that `notes` tell of, in the same order.
+fn tell_own_changes(front: &[Change], pass: u16, notes: &[Note]) -> bool
     ensures { IsTrue result ↔ (own_changes pass front.now ≡ changes_of pass notes.now) }
 {
     match (front.split_first(), notes.split_first()) {
-        (Some((change, rest)), _) if change.pass != pass => owns(rest, pass, notes),
-        (_, Some((note, later))) if !changes_map(note) => owns(front, pass, later),
+        (Some((change, rest)), _) if change.pass != pass => tell_own_changes(rest, pass, notes),
+        (_, Some((note, later))) if !changes_map(note) => tell_own_changes(front, pass, later),
         (Some((change, rest)), Some((note, later))) => {
-            tells_of(note, pass, change) && owns(rest, pass, later)
+            tells_of(note, pass, change) && tell_own_changes(rest, pass, later)
         }
         (None, None) => true,
         _ => false,

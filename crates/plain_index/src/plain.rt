@@ -33,7 +33,8 @@ impl PlainIndex {
         }
     }
 
-    /// Makes one call. Only a call that adds a key takes memory, and where there is none, nothing changes.
+    /// Makes `call`, and returns the map's reply. It returns `AllocError` if the call adds a key and memory is refused, and nothing changes
+    /// then.
     pub fn apply(&mut self, call: Call) -> Result<Reply, AllocError>
         ensures reply { IfOk result (λ reply. reply ≡ reply_of self.old call) }
         ensures map { OnOk result (self.new ≡ map_after self.old call) }
@@ -66,7 +67,8 @@ impl PlainIndex {
         }
     }
 
-    /// Gives a key another value where it has the expected one.
+    /// Gives `key` the value `value` if it has the value `expected`, and returns `Exchanged`. Else nothing changes, and it returns `Differs`
+    /// with the key's value, or `Absent`. It returns no error.
     fn exchange(&mut self, key: Key, expected: u64, value: u64) -> Result<Reply, AllocError>
         ensures reply { IfOk result (λ reply. reply ≡ reply_of self.old (Exchange key expected value)) }
         ensures map { OnOk result (self.new ≡ map_after self.old (Exchange key expected value)) }
@@ -82,8 +84,8 @@ impl PlainIndex {
         }
     }
 
-    /// Adds `delta` to the value of a key that is there, modulo 2^64, and replies with the value that it had. An absent key stays absent.
-    /// It returns no error.
+    /// Adds `delta` to the value of `key`, modulo 2 to the power of 64, and returns `Was` with the value before. An absent key stays absent,
+    /// and `Absent` is returned. It returns no error.
     fn add(&mut self, key: Key, delta: u64) -> Result<Reply, AllocError>
         ensures reply { IfOk result (λ reply. reply ≡ reply_of self.old (Add key delta)) }
         ensures map { OnOk result (self.new ≡ map_after self.old (Add key delta)) }
@@ -97,7 +99,8 @@ impl PlainIndex {
         Ok(Reply::Was(had))
     }
 
-    /// Takes a key away where it has the expected value.
+    /// Removes `key` if it has the value `expected`, and returns `Removed`. Else nothing changes, and it returns `Differs` with the key's
+    /// value, or `Absent`.
     fn remove_if(&mut self, key: &Key, expected: u64) -> Reply
         ensures reply { result ≡ reply_of self.old (RemoveIf key.now expected) }
         ensures map { self.new ≡ map_after self.old (RemoveIf key.now expected) }
@@ -113,7 +116,8 @@ impl PlainIndex {
     }
 
     /// The keys from `from` to `upto`, both included, with their values: the first `limit` of them, in the order of the keys.
-    /// Its cost is that of finding `from` and of the pairs given, and it is refused memory only where it has a pair to give.
+    /// It finds `from` by one search, and reads the pairs that it returns and the one behind them. It returns `AllocError` if memory is
+    /// refused for a pair.
     pub fn scan(
         &self,
         alloc: Global,
@@ -138,7 +142,8 @@ impl PlainIndex {
         Ok(Scan { pairs, more: false })
     }
 
-    /// Makes the calls one after the other. Where memory ends, the first of them were made, and no other.
+    /// Makes `calls` one after the other, and returns their replies. It returns `AllocError` where memory is refused. Then some first calls
+    /// were made, and no other.
     pub fn run(&mut self, alloc: Global, calls: Vec<Call>) -> Result<Vec<Reply>, AllocError>
         ensures replies { IfOk result (λ replies. replies.items ≡ replies_of self.old calls.items) }
         ensures map { OnOk result (self.new ≡ map_after_all self.old calls.items) }
