@@ -28,9 +28,8 @@ pub enum IndexFault {
 }
 
 /// Makes an empty index with this number of passes (1 to 64), node records (1 to 65,535) and leaf records (1 to 262,143). Returns it with
-/// its passes in the order of their numbers.
-///
-/// It checks the three numbers first, in this order. The fault names the first that is out of range; `Memory` if memory is refused.
+/// its passes in the order of their numbers. It checks the three numbers first, in this order. The fault names the first that is out of
+/// range; `Memory` if memory is refused.
 ///
 /// All leaf records are long. So a call that lacks one has found each of them taken (`laws::all_long_full_is_full`).
 pub fn create(
@@ -91,8 +90,7 @@ pub fn create_closed(
     make_with_closed_passes(alloc, Layout::with_stock(passes, stock))
 }
 
-/// Makes the index of the layout `found`, and opens its passes. Returns both. If `found` is a fault, that is returned; `Memory` if memory is
-/// refused.
+/// Makes the index of the layout `found`, with open passes. If `found` is a fault, returns that; `Memory` if memory is refused.
 fn make_with_open_passes(
     alloc: Global,
     found: Result<Layout, LayoutFault>,
@@ -124,8 +122,7 @@ fn open_each(alloc: Global, index: &Index, closed: Vec<ClosedPass>) -> Result<Ve
     Ok(passes)
 }
 
-/// Makes the index of the layout `found`, and its passes, closed. Returns both. If `found` is a fault, that is returned; `Memory` if memory
-/// is refused.
+/// Makes the index of the layout `found`, with closed passes. If `found` is a fault, returns that; `Memory` if memory is refused.
 fn make_with_closed_passes(
     alloc: Global,
     found: Result<Layout, LayoutFault>,
@@ -142,7 +139,7 @@ fn make_with_closed_passes(
     }
 }
 
-/// Makes the index of `layout`, and its passes, closed. Returns both; an error if memory is refused.
+/// Makes the index of `layout`, with closed passes; an error if memory is refused.
 fn make_index(alloc: Global, layout: Layout) -> Result<(Index, Vec<ClosedPass>), AllocError>
     ensures layout { IfOk result (λ made. made.0.layout ≡ layout) }
     ensures count { IfOk result (λ made. length made.1.items ≡ layout.passes) }

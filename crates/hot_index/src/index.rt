@@ -72,9 +72,7 @@ impl Model for Untold {
 }
 
 impl Gate for Untold {
-    ghost use Rattle.seat_calls.specs.Traces.{untold};
-
-    ghost becomes = { untold };
+    ghost becomes = { λ _ _ _. Unit {0} };
 
     fn at(&mut self, _event: &Event) {}
 }
@@ -376,8 +374,7 @@ impl Index {
         count_records(&self.table, &mut pass.seat, gate)
     }
 
-    /// Tries to make the change `call`, at most twice, and reports each step to `gate`. Returns the reply, or why it was refused. The pass
-    /// counts the key that it puts in or takes out.
+    /// Tries to make the change `call`, at most twice, and reports each step to `gate`. Returns the reply, or why it was refused.
     pub(crate) fn try_change_with<G: Gate>(
         &self,
         pass: &mut Pass,
@@ -392,10 +389,8 @@ impl Index {
         answer
     }
 
-    /// Makes the change `call`, and reports each step to `gate`. Returns the reply, or the kind of records of which none was free. The pass
-    /// counts the key that it puts in or takes out.
-    ///
-    /// It begins again as long as another pass is in its way, or records may come back. Before that it lets other threads run, by `rt`.
+    /// Makes the change `call`, and reports each step to `gate`. It begins again as long as another pass is in its way, or records may
+    /// come back. Returns the reply, or the kind of records of which none was free. The pass counts the key.
     pub(crate) fn retry_change_with<R: Wait, G: Gate>(
         &self,
         rt: &R,

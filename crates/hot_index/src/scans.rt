@@ -107,9 +107,7 @@ impl Index {
     }
 
     /// Lists the pairs of `range` into `pairs`, in its direction, and drops earlier ones. Returns whether the range has more. If memory is
-    /// refused, an error: `pairs` then holds the first of these pairs, fewer than its limit.
-    ///
-    /// Inline, so that each direction has a walk of its own.
+    /// refused, an error: `pairs` then holds a part, as `scan_into` says. Inline, so that each direction has a walk of its own.
     #[inline(always)]
     pub(crate) fn list_range<G: Gate>(
         &self,
@@ -134,9 +132,7 @@ impl Index {
         scan
     }
 
-    /// Lists the pairs of `range`, in its direction. Returns them, and whether the range has more. If memory is refused, an error.
-    ///
-    /// Inline, as `list_range` is.
+    /// The pairs of `range`, listed in its direction, and whether the range has more; an error if memory is refused. Inline as `list_range`.
     #[inline(always)]
     pub(crate) fn scan_range<G: Gate>(
         &self,
@@ -155,8 +151,6 @@ impl Index {
     }
 
     /// The pair from `from` to `upto` that comes first in this direction; `None` if no pair was found. An error if memory is refused.
-    ///
-    /// Inline, as `list_range` is.
     #[inline(always)]
     pub(crate) fn find_first(
         &self,

@@ -4,8 +4,7 @@ ghost use Rattle.index_laws.specs.Statements.{AGetReturns, Responses};
 ghost use Rattle.index_laws.specs.Steps.{StepsAreMoments, StepsFollow};
 ghost use Rattle.index_laws.specs.Traced.{AGetIsTraced, CallsMakeNoAsides, EndedBeforeLoaded, EndedOrLoadedBefore, EndedOrShownBefore, LoadsAreMoments, LoadsSeeAll, MetAreOfOneRun, TracedAreExecutions};
 
-/// A run may begin where an index has just been made. A call that has ended as its contract says responds, or is refused, in the run. So
-/// an execution is a run.
+/// A run may begin at a new index. A call that has ended as its contract says responds or is refused in it. So an execution is a run.
 pub fn responses()
     ensures { Responses }
 {}
@@ -25,8 +24,7 @@ pub fn steps_follow()
     ensures { StepsFollow }
 {}
 
-/// Let a moment of a run have the core that shows the table's state. Then a step that a pass may make is a step of the run, to a moment
-/// whose core shows the next state.
+/// If a core that shows the table's state is that of a moment of a run, a step that a pass may make is a step of the run to the next one.
 pub fn steps_are_moments()
     ensures { StepsAreMoments }
 {}
@@ -42,8 +40,7 @@ pub fn a_get_is_traced()
     ensures { AGetIsTraced }
 {}
 
-/// In an execution by contracts alone, a pass's load of the root has one moment between any two around it. It shows the pass all that any
-/// pass had seen by then.
+/// In an execution by contracts alone, a load of the root has its moment in the call. It shows its pass all that any had seen by then.
 pub fn loads_are_moments()
     ensures { LoadsAreMoments }
 {}
@@ -53,14 +50,12 @@ pub fn loads_see_all()
     ensures { LoadsSeeAll }
 {}
 
-/// An answered call with one key stands at no later place than one that loads the root after its last step. If it changed the map, it
-/// stands at an earlier one.
+/// An answered call with one key stands no later than one that loads the root after its last step, and earlier if it changed the map.
 pub fn ended_before_loaded()
     ensures { EndedBeforeLoaded }
 {}
 
-/// Of two answered calls with one key, in one run of the table, the one stands first; or the other's load of the root is a step of which
-/// the one's pass knew when its call ended.
+/// Of two answered calls with one key, in one run, the one stands first; or its pass knew, when it ended, of the other's load of the root.
 pub fn ended_or_loaded_before()
     ensures { EndedOrLoadedBefore }
 {}

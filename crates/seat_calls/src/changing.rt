@@ -38,17 +38,12 @@ pub fn try_change<G: Gate>(
     ensures asked { HasAsked table.now G.becomes (AreAttempts table.now G.becomes call.now result) call.now result (seat.old, gate.old) (seat.new, gate.new) }
     ensures few { seat.new.known.steps ≤ seat.old.known.steps + try_steps table.now.layout }
 {
-    collect_if_due(table, seat, gate, scratch);
+    collect_due(table, seat, gate, scratch);
     try_twice(table, seat, gate, scratch, call)
 }
 
 /// Makes a small round of collection, if one is due. Lets the next claims begin with the records that it gave back.
-fn collect_if_due<G: Gate>(
-    table: &HotTable,
-    seat: &mut TableSeat,
-    gate: &mut G,
-    scratch: &mut Scratch,
-)
+fn collect_due<G: Gate>(table: &HotTable, seat: &mut TableSeat, gate: &mut G, scratch: &mut Scratch)
     requires idle { IsIdle table.now seat.old }
     ensures idle { IsIdle table.now seat.new }
     ensures tidied { Tidies table.now G.becomes (seat.old, gate.old) (seat.new, gate.new) }
@@ -60,10 +55,8 @@ fn collect_if_due<G: Gate>(
 }
 
 /// Tries to make the change `call`. If no record was free, it makes a round of collection and tries once more. Returns the reply, or why
-/// the last attempt was refused.
-///
-/// If the round gave back no record of the kind, and no other pass could have, the second attempt does nothing. It is refused as the
-/// first was.
+/// the last attempt was refused. If the round gave back no record of the kind, and no other pass could have, the second attempt does
+/// nothing, and the refusal is the first one's.
 fn try_twice<G: Gate>(
     table: &HotTable,
     seat: &mut TableSeat,
@@ -139,11 +132,8 @@ fn pin_and_unpin<G: Gate>(table: &HotTable, seat: &mut TableSeat, gate: &mut G)
     unpin(table, seat, gate);
 }
 
-/// Tries to make the change `call` until it is made, or refused for want of records. Returns the reply, or the kind of records of which
-/// none was free.
-///
-/// It tries again as long as another pass is in its way, holds back records, or may have taken those given back. Before each further try
-/// it lets other threads run, by `rt`.
+/// Tries to make the change `call` until it is made, or refused for want of records. It tries again as long as another pass is in its
+/// way, holds back records, or may have taken those given back. Returns the reply, or the kind of records of which none was free.
 pub fn retry_change<R: Wait, G: Gate>(
     rt: &R,
     table: &HotTable,

@@ -4,12 +4,10 @@
 
 mod census;
 mod changing;
-mod getting;
 mod many;
 mod scratch;
 
 pub use census::{RecordCounts, StateCounts, count_records};
 pub use changing::{retry_change, try_change};
-pub use getting::end_get;
-pub use many::{end_gets, look_up_each};
+pub use many::{end_get, end_gets, look_up_each};
 pub use scratch::{Scratch, new_scratch};

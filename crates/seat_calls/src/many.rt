@@ -1,4 +1,4 @@
-//! Look-ups of many keys by one call.
+//! Look-ups of many keys by one call, and the ends of gets.
 
 ghost use Rattle.std.specs.Prelude.{◌≡◌, IsSome, List, length};
 ghost use Rattle.finite_map.specs.declared.Note.{Note};
@@ -46,6 +46,23 @@ pub fn look_up_each<G: Gate>(
     for index in first..keys.len() {
         found[index] = look_up(table, seat, &keys[index], gate);
     }
+}
+
+/// Clears the pin at the end of a get. The get's note, `said`, comes with this step. The caller's proof makes it of `_key` and `_found`,
+/// which the code doesn't read.
+pub fn end_get<G: Gate>(
+    table: &HotTable,
+    seat: &mut TableSeat,
+    gate: &mut G,
+    _key: &Key,
+    _found: Option<u64>,
+)
+    ghost said: { Known → List Note }
+    requires fits { IsPassOf table.now seat.old }
+    requires pinned { IsSome seat.old.known.pin }
+    ensures step { StepsWith table.now G.becomes ClearPin said (seat.old, gate.old) (seat.new, gate.new) }
+{
+    unpin(table, seat, gate);
 }
 
 /// Clears the pin at the end of gets of several keys. The notes `said` come with this step. The caller's proof makes them of `_keys` and

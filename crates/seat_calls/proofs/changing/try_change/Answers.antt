@@ -4,6 +4,6 @@ use Rattle.seat_calls.proofs.changing.try_change.Goals as goal
 
 pub returns : goal.returns
 returns g c = record {
-  asked = tidied_asked _ _ _ c.args.call.now c.try_twice.result c.requires.idle.1 c.try_twice.ensures.asked c.collect_if_due.ensures.tidied;
-  few = tidied_few _ _ _ c.args.call.now c.try_twice.result c.requires.idle.1 c.try_twice.ensures.asked c.collect_if_due.ensures.tidied c.try_twice.ensures.few;
+  asked = tidied_asked _ _ _ c.args.call.now c.try_twice.result c.requires.idle.1 c.try_twice.ensures.asked c.collect_due.ensures.tidied;
+  few = tidied_few _ _ _ c.args.call.now c.try_twice.result c.requires.idle.1 c.try_twice.ensures.asked c.collect_due.ensures.tidied c.try_twice.ensures.few;
 }

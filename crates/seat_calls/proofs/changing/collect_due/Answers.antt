@@ -1,7 +1,7 @@
 -- A small round, or nothing.
 use Rattle.std.proofs.Common.{inl, inr, refl}
 use Rattle.seat_calls.proofs.Collected.{does_idle}
-use Rattle.seat_calls.proofs.changing.collect_if_due.Goals as goal
+use Rattle.seat_calls.proofs.changing.collect_due.Goals as goal
 
 pub returns-then-is_due-clause-idle : goal.returns-then-is_due-clause-idle
 returns-then-is_due-clause-idle g c =
