@@ -1,11 +1,14 @@
 -- Under the wider locks: what the pass knows of the two nodes, and the store that makes them one.
-use Rattle.std.proofs.Common.{◌≡◌, inl, inr, ◌⊎◌, ℕ, ◌+◌, ◌-◌, ◌<◌, ◌≤◌, true, false, List, [], ◌∷◌, ◌++◌, map, reverse, length, nat_eq, Option, Some, None, refl, sym, ap, subst, ◌∙◌, arith}
+use Rattle.std.proofs.Common.{◌≡◌, ◌≢◌, inl, inr, ◌⊎◌, ℕ, ◌+◌, ◌-◌, ◌<◌, ◌≤◌, true, false, List, [], ◌∷◌, ◌++◌, map, reverse, length, nat_eq, Option, Some, None, refl, sym, ap, subst, ◌∙◌, arith}
 use Rattle.std.specs.Prelude.{IfSome, IsSome, MatchOption, slice_range}
 use Rattle.std.proofs.lemmas.List.{length-reverse}
 use Rattle.std.proofs.lemmas.Bool.{eq-eqb, ne_eqb}
 use Rattle.std.proofs.lemmas.List.Elements.{All-cons}
 use Rattle.std.proofs.lemmas.Option.{get_or_from_slice_get}
 use Rattle.compound_node.specs.Nodes.{NodeView, IsBuiltFrom, IsEntry, StandsBelow, greatest_height, height_of, piece}
+use Rattle.compound_node.specs.Halves.{HalfShows}
+use Rattle.compound_node.specs.declared.halves.Half.{Half}
+use Rattle.compound_node.specs.declared.halves.Half.TheVariants.{One, Many, Same}
 use Rattle.compound_node.specs.declared.entries.Entry.{Entry}
 use Rattle.compound_node.specs.declared.entries.Entry.TheVariants.{Leaf as LeafEntry, Node}
 use Rattle.finite_map.specs.declared.Change.{Change}
@@ -66,7 +69,7 @@ use Rattle.rowex_writing.specs.Growths.{HasNumber}
 use Rattle.rowex_writing.specs.Going.{HasLocked, IsNodeOf, WorksOn}
 use Rattle.rowex_writing.specs.Jobs.{HoldsSpan}
 use Rattle.rowex_writing.specs.Locks.{HasTheSame, numbers_of, span_numbers}
-use Rattle.rowex_writing.specs.Merging.{ClosesFork, HasHeight, IsNeighbour, IsTaking, IsWide, LocksAbove, MayMergeInto, TakesOn, by_anchor, by_node, lower, merged_gone, no_step, upper}
+use Rattle.rowex_writing.specs.Merging.{AreNoNode, ClosesFork, HasHeight, IsNeighbour, IsTaking, IsWide, LocksAbove, MayMergeInto, TakesOn, by_anchor, by_node, lower, merged_gone, no_step, upper}
 use Rattle.rowex_writing.specs.Putting.{IsSpotAbove}
 use Rattle.rowex_writing.specs.Retiring.{AreInTable, IsAnchored}
 use Rattle.rowex_writing.specs.declared.deeds.Job.{Job}
@@ -433,6 +436,22 @@ module _ (table : TableView) (b : SeatView) (job : Job) (number : ℕ) (w : IsWi
       let p = w.possible in
       subst (RisesFrom 0) (sym (shown_merged its.number side (beside_wide table b job number w x same is).1 node left other node_is other_is left_is))
       (merged_rises table.layout b.known p.core p.lawful p.layout_is p.knows job.key.now (upper job).number (lower job).number number its.number side)
+
+-- where they can't be one
+same_piece : (words : List ℕ) (a b : NodeView) → IsNodeOf words a → IsNodeOf words b → piece a ≡ piece b
+same_piece words a b x y = sym (ap (λ (z : NodeWords). z.subtrie) x.shows) ∙ ap (λ (z : NodeWords). z.subtrie) y.shows
+
+pub too_many : (words also : List ℕ) (own node theirs other left : NodeView) (at : ℕ) → IsNodeOf words own → IsNodeOf words node → IsNodeOf also theirs → IsNodeOf also other → IsBuiltFrom left (without at (piece own)) →
+    32 < length left.entries + length theirs.entries → AreNoNode (without at (piece node)) (piece other)
+too_many words also own node theirs other left at x y z u built more =
+    let shown = ap (λ (p : Subtrie). size p) (built.shows_it ∙ ap (without at) (same_piece words own node x y)) in
+    let same = ap (λ (p : Subtrie). size p) (same_piece also theirs other z u) in
+    inr (omega (arith, more, shown, same, size-piece left built.lawful, size-piece theirs z.has.lawful))
+
+pub one_left : (words : List ℕ) (own node : NodeView) (other : Subtrie) (at : ℕ) (h : Half) → IsNodeOf words own → IsNodeOf words node → HalfShows h (without at (piece own)) → ((left : NodeView) → h ≢ Many left) → AreNoNode (without at (piece node)) other
+one_left words own node other at (One e) x y shows few = inl (e, sym (ap (without at) (same_piece words own node x y)) ∙ shows.0)
+one_left words own node other at (Many left) x y shows few = absurd (few left refl)
+one_left words own node other at Same x y shows few = absurd shows
 
 -- the place of the leaf in the lower node
 pub lower_within : (table : TableView) (b : SeatView) (job : Job) (number : ℕ) (w : IsWide table b job number) (node : NodeView) → ((words : List ℕ) → HasLocked b.known (lower job).number words → IsNodeOf words node) → (lower job).at < length node.entries

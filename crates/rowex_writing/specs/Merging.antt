@@ -5,12 +5,13 @@ use Rattle.compound_node.specs.declared.entries.Entry.{Entry}
 use Rattle.compound_node.specs.declared.entries.Entry.TheVariants.{Leaf as LeafEntry, Node}
 use Rattle.finite_map.specs.declared.Change.{Change}
 use Rattle.insert_cases.specs.declared.choice.PathNode.{PathNode}
-use Rattle.pieces.specs.Piece.{Place}
+use Rattle.pieces.specs.Piece.{Place, size}
 use Rattle.pieces.specs.Changes.{beside}
 use Rattle.record_words.specs.Entry.{entry_word}
 use Rattle.tries.specs.Keys.{Key}
 use Rattle.tries.specs.Place.{spot, subtrie_sibling}
 use Rattle.tries.specs.Search.{seek}
+use Rattle.tries.specs.Tree.{Subtrie}
 use Rattle.versions.specs.Trades.{IsOneOf}
 use Rattle.versions.specs.declared.Rec.{Rec}
 use Rattle.versions.specs.declared.Rec.TheVariants.{Node as a_node, Leaf as a_leaf}
@@ -83,6 +84,10 @@ ClosesFork k key fork = (words : List ℕ) → HasLocked k fork.step.number word
 abbrev pub HasHeight : Entry → Type 0
 HasHeight (LeafEntry n) = Unit {0}
 HasHeight (Node n h) = (1 ≤ h) × (h < 65536)
+
+-- what is left of a node and its sibling can't be one: an entry alone is left, or they have more than 32 entries together
+abbrev pub AreNoNode : Subtrie → Subtrie → Type 0
+AreNoNode left other = ((e : Entry) × (left ≡ Place e)) ⊎ (32 < size left + size other)
 
 -- ---- wider locks
 -- the number is that of no node of the span, nor of the two above it

@@ -1,7 +1,8 @@
 //! The end of a removal by a merge: what is left of the leaf's node, and its sibling, become one node.
 
 ghost use Rattle.std.specs.Prelude.{◌≡◌, ◌≢◌, ◌<◌, ◌≤◌, ◌+◌, ◌-◌, ◌*◌, ◌++◌, ◌∷◌, [], ℕ, List, IfSome, MatchOption, None, false, true, length};
-ghost use Rattle.compound_node.specs.Nodes.{IsBuiltFrom, piece};
+ghost use Rattle.compound_node.specs.Nodes.{IsBuiltFrom, NodeView, piece};
+ghost use Rattle.pieces.specs.Changes.{without};
 ghost use Rattle.pieces.specs.Piece.{RisesFrom};
 ghost use Rattle.tries.specs.Keys.{Key as KeyValue};
 ghost use Rattle.tries.specs.Place.{fork_of, subtrie_collapsed};
@@ -16,9 +17,9 @@ ghost use Rattle.rowex_table.specs.Seats.{IsSeatOf};
 ghost use Rattle.rowex_writing.specs.Attempts.{HasDone};
 ghost use Rattle.rowex_writing.specs.Building.{IsBuilding};
 ghost use Rattle.rowex_writing.specs.Changes.{HasRun};
-ghost use Rattle.rowex_writing.specs.Going.{HasLocked, IsLockedBy, ReadsOn, WorksOn};
+ghost use Rattle.rowex_writing.specs.Going.{HasLocked, HasLockedNode, IsLockedBy, ReadsOn, WorksOn};
 ghost use Rattle.rowex_writing.specs.Locks.{HasTheSame, span_numbers};
-ghost use Rattle.rowex_writing.specs.Merging.{ClosesFork, HasHeight, HasListed, IsNeighbour, IsWide, MayMergeInto, TakesOn, TriesFew, lower, upper};
+ghost use Rattle.rowex_writing.specs.Merging.{AreNoNode, ClosesFork, HasHeight, HasListed, IsNeighbour, IsWide, MayMergeInto, TakesOn, TriesFew, lower, upper};
 ghost use Rattle.rowex_writing.specs.declared.plan.Deed.TheVariants.{Take};
 
 use crate::building::{Build, make_from_words};
@@ -222,6 +223,8 @@ fn join_siblings<G: Gate>(
     ensures reads { ReadsOn table.now G.becomes (seat.old, gate.old) (seat.new, gate.new) }
     ensures joined { (leaf : ℕ) (b : AreBeside seat.old.known.locks job.now.key.now (upper job.now).number (lower job.now).number merge.now.number leaf) →
         b.position ≡ merge.now.position → IfSome result (λ node. IsBuiltFrom node (merged b)) }
+    ensures none { result ≡ None → (node other : NodeView) → HasLockedNode seat.old.known (lower job.now).number node →
+        HasLockedNode seat.old.known merge.now.number other → AreNoNode (without (lower job.now).at (piece node)) (piece other) }
     ensures few { seat.new.known.steps ≤ seat.old.known.steps + 114 }
 {
     let low = job.way[job.span.end];

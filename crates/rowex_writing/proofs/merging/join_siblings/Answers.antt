@@ -7,7 +7,7 @@ use Rattle.tries.specs.Place.{fork_of}
 use Rattle.rowex_writing.specs.Merging.{lower}
 use Rattle.rowex_writing.proofs.Beside.{lower_locked, lower_range}
 use Rattle.rowex_writing.proofs.Locking.{locked_on, reads_more, seat_of}
-use Rattle.rowex_writing.proofs.Merged.{held_wide, joined_rises, lower_within, other_wide, shown_merged}
+use Rattle.rowex_writing.proofs.Merged.{held_wide, joined_rises, one_left, too_many, lower_within, other_wide, shown_merged}
 use Rattle.rowex_writing.proofs.merging.join_siblings.Goals as goal
 
 pub read_locked-node-requires-clause-range : goal.read_locked-node-requires-clause-range
@@ -32,12 +32,18 @@ pub returns-in_default : goal.returns-in_default
 returns-in_default g c = record {
   reads = reads_more c.args.table.now g.G.Gate.becomes (c.args.seat.now, c.args.gate.now) (c.read_locked-node.new.seat, c.read_locked-node.new.gate) (c.read_locked-other.new.seat, c.read_locked-other.new.gate) c.read_locked-node.ensures.reads c.read_locked-other.ensures.reads;
   joined = λ leaf b at. tt;
+  none = λ e node other (words, h, is) there. one_left words c.read_locked-node.result node (piece other) _ _ (c.read_locked-node.ensures.node words h) is c.without.ensures c.in_default.not-Many;
   few = omega (arith, c.read_locked-node.ensures.few, c.read_locked-other.ensures.few);
 }
 
 pub returns-then-count-gt32-clause-reads : goal.returns-then-count-gt32-clause-reads
 returns-then-count-gt32-clause-reads g c =
     reads_more c.args.table.now g.G.Gate.becomes (c.args.seat.now, c.args.gate.now) (c.read_locked-node.new.seat, c.read_locked-node.new.gate) (c.read_locked-other.new.seat, c.read_locked-other.new.gate) c.read_locked-node.ensures.reads c.read_locked-other.ensures.reads
+
+pub returns-then-count-gt32-clause-none : goal.returns-then-count-gt32-clause-none
+returns-then-count-gt32-clause-none g c = λ e node other (words, h, is) (also, k, there).
+    too_many words also c.read_locked-node.result node c.read_locked-other.result other c.in-Many.left _ (c.read_locked-node.ensures.node words h) is
+    (c.read_locked-other.ensures.node also (locked_on c.args.seat.now.known c.read_locked-node.new.seat.known c.args.merge.now.number also c.read_locked-node.ensures.reads.goes.stays.1 k)) there c.in-Many.ensures (omega arith)
 
 pub join_sides-requires-clause-after : goal.join_sides-requires-clause-after
 unfolding bit
