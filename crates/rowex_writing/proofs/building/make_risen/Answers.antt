@@ -1,5 +1,6 @@
 -- The upper half, and then the lower one.
-use Rattle.std.proofs.Common.{ℕ, ◌+◌, ◌<◌, ◌≤◌, ◌++◌, refl, arith}
+use Rattle.std.proofs.Common.{ℕ, ◌+◌, ◌<◌, ◌≤◌, ◌++◌, refl, ◌∷◌, arith}
+use Rattle.publish_laws.specs.Rises.{made_of_node}
 use Rattle.rowex_writing.proofs.Walked.{makes_as, makes_failed, makes_then, makes_within}
 use Rattle.rowex_writing.proofs.building.make_risen.Goals as goal
 
@@ -29,3 +30,8 @@ returns-in_err-zero-in-Two-clause-makes g c = rw c.from_residual-in_err-zero-in-
 
 pub returns-in_ok-zero-in-Two-clause-makes : goal.returns-in_ok-zero-in-Two-clause-makes
 returns-in_ok-zero-in-Two-clause-makes g c = makes_as (makes_then c.in_ok-one-in-Two.ensures.makes c.in_ok-zero-in-Two.ensures.makes (omega arith) (omega arith))
+
+pub returns-in_ok-entry-in-One-clause-made : goal.returns-in_ok-entry-in-One-clause-made
+returns-in_ok-entry-in-One-clause-made g c = λ news b.
+    let (m, is, has, next) = c.in_ok-entry-in-One.ensures.made news b in
+    rw c.in-One.is (made_of_node m c.in-One.node ∷ news, (m, is, refl, has), next)
