@@ -276,7 +276,8 @@ pub extern "C" fn hot_try_remove(handle: &mut Handle, key: &[u8], had: &mut u64)
 }
 
 /// Removes `key` if it has the value `expected` (`REMOVED` with that value in `had`). Else it changes nothing: `DIFFERS` with the value
-/// that the key has in `had`, or `ABSENT`. It never returns `FULL_LEAVES`. Another status says why nothing was changed.
+/// that the key has in `had`, or `ABSENT`. With `BUSY`, `FULL_NODES`, `HELD_BACK`, `CLOSED` or `KEY_TOO_LONG` nothing was changed, and
+/// `had` stays. It never returns `FULL_LEAVES`.
 #[unsafe(no_mangle)]
 pub extern "C" fn hot_try_remove_if(
     handle: &mut Handle,

@@ -47,12 +47,12 @@ pub fn write_found(found: &[Option<u64>], lookups: &mut [Lookup<'_>])
     ensures { lookups.new ≡ are_answered lookups.old found.now }
 {
     for (place, value) in found.iter().enumerate() {
-        write_one(*value, &mut lookups[place]);
+        write_answer(*value, &mut lookups[place]);
     }
 }
 
-/// Writes what was found for a key to `lookup`: `FOUND` with the value, or `ABSENT`.
-fn write_one(found: Option<u64>, lookup: &mut Lookup<'_>)
+/// Writes what was found for a key to `lookup`: `FOUND` with the value; or `ABSENT`, and its value stays.
+fn write_answer(found: Option<u64>, lookup: &mut Lookup<'_>)
     ensures { lookup.new ≡ answer lookup.old found }
 {
     match found {

@@ -25,7 +25,7 @@ pub extern "C" fn hot_scan(
 {
     let order = Order::Upwards;
     let query = Query { order, from, upto };
-    list(handle, &query, room, count, more)
+    list_query(handle, &query, room, count, more)
 }
 
 /// Lists the last pairs whose keys are from `from` to `upto`, both included, in falling key order: as many as `room` has places. `count`
@@ -43,7 +43,7 @@ pub extern "C" fn hot_scan_reverse(
 {
     let order = Order::Downwards;
     let query = Query { order, from, upto };
-    list(handle, &query, room, count, more)
+    list_query(handle, &query, room, count, more)
 }
 
 /// Lists the last pairs whose keys are from `from` to `upto`, both included, in rising key order: as many as `room` has places. `count`
@@ -61,12 +61,13 @@ pub extern "C" fn hot_scan_last(
 {
     let order = Order::LastUpwards;
     let query = Query { order, from, upto };
-    list(handle, &query, room, count, more)
+    list_query(handle, &query, room, count, more)
 }
 
-/// Lists pairs of `query`, in its order: as many as `room` has places. `count` becomes their number, and `more` 1 if the range has
-/// more, else 0. A status other than `DONE` leaves all as it was.
-fn list(
+/// Lists pairs of `query` in its order, as many as `room` has places: the first ones of the range, or the last ones for `Downwards` and
+/// `LastUpwards`. `count` becomes their number, and `more` 1 if the range has more, else 0: `DONE`. With `CLOSED`, `KEY_TOO_LONG` or
+/// `NO_MEMORY` these three stay.
+fn list_query(
     handle: &mut Handle,
     query: &Query,
     room: &mut [Pair],

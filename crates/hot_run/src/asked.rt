@@ -46,7 +46,9 @@ where
     Ok(())
 }
 
-/// Makes the run that `request` asks for, and writes its answers. A fault says why there are none.
+/// Makes the run that `request` asks for: the script of `reader` alone, or after those in its files, which `system` reads. Writes the
+/// answers to `writer`. It is a fault if a file can't be read, a script is bad or memory is refused; or if a write failed, after which a
+/// part may stand there.
 fn run_request<T: AllocGlobal + Wait + Threads + Sync, S: FileSystem, R: Read, W: Write>(
     rt: &T,
     system: &S,

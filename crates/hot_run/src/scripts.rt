@@ -20,13 +20,14 @@ use std::io::{Read, Write};
 use std::sync::Wait;
 use std::thread::Threads;
 
-/// Runs the scripts of these files, at most `MAX_FILES`, on a new index with `nodes` node and `leaves` leaf records. They run at the same
-/// time, each in its own thread. When all have ended, it runs the script of the reader.
+/// Runs the scripts in `files`, at most `MAX_FILES`, on a new index with `nodes` node and `leaves` leaf records. They run at the same time,
+/// each in its own thread. When all have ended, it runs the script of the reader.
 ///
-/// It reads and parses all scripts before the first command runs. It writes the results at the end: each file's below the line
-/// `file I`, and those of the last script below the line `last`.
+/// It reads and parses all scripts before the first command runs. It writes the results at the end: each file's below the line `file I`,
+/// and those of the last script below the line `last`.
 ///
-/// If a thread can't be started, the run ends with `Memory`.
+/// It ends with the fault of the first bad script, or with `Read`, `Large`, `Write` or `Memory`; with `Memory`, too, where a thread can't
+/// be started.
 pub fn run_scripts<T: AllocGlobal + Threads + Wait + Sync, R: Read, W: Write>(
     rt: &T,
     nodes: u32,

@@ -116,8 +116,8 @@ fn case_at(step: PathNode, one_leaf: bool) -> Case
     }
 }
 
-/// The place on `way` of the uppermost node that gets another one in its place, where the node at `level` overflows. The halves of a full
-/// node go into its parent where that is one higher, and a full parent overflows in turn.
+/// The index on `way` of the uppermost node that is remade, where the node at index `level` overflows: that node, or one above it. The
+/// halves of a full node go into its parent where that is one higher, and a full parent overflows in turn.
 pub fn chain_end(way: &[PathNode], level: usize) -> usize
     requires { level < length way.now }
     ensures { IsChainEnd way.now level result }

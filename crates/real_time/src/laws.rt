@@ -31,7 +31,8 @@ pub fn runs_are_events()
     ensures { RunsAreEvents }
 {}
 
-/// A scan shows the maps of moments between its invocation and its response.
+/// Each pair of a scan was in the map at a moment between its invocation and its response. No key is missing that was there all along; if
+/// there are more, no such key up to the last pair.
 pub fn scans_are_in_time()
     ensures { ScansInTime }
 {}

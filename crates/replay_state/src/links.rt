@@ -59,7 +59,8 @@ pub(crate) fn may_link(fates: &[Fate], pass: u16, linked: &[bool]) -> bool
     true
 }
 
-/// Whether `pass` may publish a tree that links just those of these nodes that `linked` marks, as `may_be_unlinked` says of each.
+/// Whether `pass` may publish a tree that links, of the nodes with these `fates` and `locks`, just those that `linked` marks:
+/// `may_be_unlinked` of each.
 pub(crate) fn may_unlink(fates: &[Fate], locks: &[Option<u16>], pass: u16, linked: &[bool]) -> bool
     ensures { IsTrue result ↔ AllMayBeUnlinked pass linked.now locks.now fates.now }
 {

@@ -17,7 +17,7 @@ pub fn unpack_leaf(words: &[u64; LEAF_FIELDS]) -> Result<(Key, u64), WordFault>
     if words[1] > MAX_BYTES as u64 {
         return Err(WordFault::Bad);
     }
-    unpack_with_bytes(words, &unpack_bytes(words))
+    unpack_with_bytes(words, &unpack_key_bytes(words))
 }
 
 /// The key and the value of a leaf with `words`, where those of its key have `bytes`. `WordFault::Bad` if a byte behind the key isn't 0.
@@ -43,8 +43,8 @@ fn are_zero(bytes: &[u8]) -> bool
     bytes.iter().all(|byte| *byte == 0)
 }
 
-/// The bytes in a leaf's words, up to the word in which its key ends, and 0 behind these.
-fn unpack_bytes(words: &[u64; LEAF_FIELDS]) -> [u8; MAX_BYTES]
+/// The bytes of the key in a leaf's words, up to the word in which it ends, and 0 behind these.
+fn unpack_key_bytes(words: &[u64; LEAF_FIELDS]) -> [u8; MAX_BYTES]
     requires { slice_index words.now 1 ≤ MAX_BYTES }
     ensures { IsBytesOf result (take KEY_WORDS (drop 2 (up_to_key words.now))) }
 {

@@ -57,7 +57,8 @@ pub fn only_publish_appends()
     ensures { OnlyPublishAppends }
 {}
 
-/// A search of a pinned pass goes on at what it finds in a record, whatever has been published since the pin.
+/// A pinned pass whose search was led to a node is led on to the child that the node's words give now. This holds whether the node is still
+/// linked, or was unlinked since the pin.
 pub fn hindsight()
     ensures { Hindsight }
 {}

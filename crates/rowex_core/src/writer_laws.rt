@@ -2,7 +2,8 @@
 
 ghost use Rattle.rowex_core.specs.Writers.{LedIsInTree, PublishIsLegal, OwnedAfterPublish, SlotIsStored};
 
-/// A store that versions allow as a publish is a legal publish of the word, of the tree that the words show then.
+/// Let the versions allow the publish of a tree that changes the leaves, by a pass that has locked the word. Then the store of the word is
+/// a legal publish. The words show the tree after it, and its change is that between the leaves of the two trees.
 pub fn publish_is_legal()
     ensures { PublishIsLegal }
 {}

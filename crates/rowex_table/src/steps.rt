@@ -74,7 +74,8 @@ impl HotTable {
     }
 
     /// Stores `exchange.new` to the table's word number `address`, if that is `exchange.expected`, as the step `act`, of which `gate` is
-    /// told. Returns the word that it found.
+    /// told. Returns the word that it found: it has stored exactly if that is `exchange.expected`. `Q` has the act of this step and its
+    /// notes.
     pub(crate) fn exchange_at<Q: Step, G: Gate>(
         &self,
         seat: &mut TableSeat,

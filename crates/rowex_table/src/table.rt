@@ -73,7 +73,8 @@ impl HotTable {
         self.origins.layout
     }
 
-    /// Where the table's records begin, as a copy. A copy isn't loaded anew behind each atomic load of a walk over many records.
+    /// Where the table's records begin, as a copy. A walk over many records keeps it in registers; a field of `self` would be loaded again
+    /// after each atomic load.
     pub fn origins(&self) -> Origins
         ensures { result.layout ≡ self.now.layout }
     {

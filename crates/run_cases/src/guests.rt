@@ -109,7 +109,7 @@ fn write_scan(said: &mut String, scan: &Scan) -> Result<(), AllocError> {
     said.push_str(if scan.more { "and more" } else { "listed" })
 }
 
-/// Adds the words for what a call was answered, and for the value that it told.
+/// Adds the words for `told`, a reply with its value or a refusal, to the end of `said`. An error if memory is refused.
 fn write_reply(said: &mut String, told: Result<Reply, TryFault>) -> Result<(), AllocError> {
     match told {
         Ok(Reply::Inserted) => said.push_str("inserted"),

@@ -39,7 +39,8 @@ impl Judge {
         self.compare_scan(alloc, &down)
     }
 
-    /// Counts something wrong if `scan` has not just the pairs of the map that the steps so far have made.
+    /// Counts one wrong if `scan`, upwards, has other pairs than the map that the steps so far have made, or says that there are more. An
+    /// error, and nothing counted, if memory is refused.
     fn compare_scan(&mut self, alloc: Global, scan: &Scan) -> Result<(), AllocError> {
         let content = self.replay.content(alloc)?;
         if scan.more || scan.pairs != content {

@@ -122,8 +122,8 @@ fn may_be_taken(passes: u32, given: u32) -> bool
     passes > 1 && given > 0
 }
 
-/// Pins the pass and clears the pin, in three steps: an attempt that does nothing. No note is added, and what was found not free stays
-/// known.
+/// Pins the pass and clears the pin: an attempt of three steps that does nothing. It is made in place of a second try that could find no
+/// room. No note is added, and what the first try found not free stays known.
 fn pin_and_unpin<G: Gate>(table: &HotTable, seat: &mut TableSeat, gate: &mut G)
     requires idle { IsIdle table.now seat.old }
     ensures rested { HasRested table.now G.becomes (seat.old, gate.old) (seat.new, gate.new) }

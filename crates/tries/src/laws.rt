@@ -7,7 +7,7 @@ pub fn content_rises()
     ensures { ContentRises }
 {}
 
-/// A bit trie is told by the keys of its leaves and by its forks, one by one.
+/// A tree is a bit trie exactly if each leaf has a key, and each fork is before those below it and parts the first keys of its two sides.
 pub fn local_is_trie()
     ensures { LocalIsTrie }
 {}

@@ -123,12 +123,13 @@ pub fn still_at_entry()
     ensures { StillPlaced }
 {}
 
-/// What `still_at_root` and `still_at_entry` tell stays true while more versions are published.
+/// A search that stands in the newest tree by `still_at_root` or `still_at_entry`, as no change was made since a version, stays known while
+/// more versions are published.
 pub fn still_known_later()
     ensures { StillGrows }
 {}
 
-/// In one version a node stands at one place.
+/// In one version a node stands at one place: two of its bodies with the same forks and stems are one.
 pub fn node_has_one_body()
     ensures { OneBody }
 {}

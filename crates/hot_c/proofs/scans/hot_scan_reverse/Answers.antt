@@ -2,4 +2,4 @@
 use Rattle.hot_c.proofs.scans.hot_scan_reverse.Goals as goal
 
 pub returns : goal.returns
-returns c = record { call = c.list.ensures }
+returns c = record { call = c.list_query.ensures }

@@ -5,7 +5,7 @@ use Rattle.record_words.specs.Leaf.{up_to_key}
 use Rattle.record_words.proofs.Leaves.{key_part}
 use Rattle.record_words.proofs.Unused.{zero_word}
 use Rattle.record_words.proofs.UpToKey.{up_to_key_before, up_to_key_past}
-use Rattle.replay_trees.proofs.leaf.unpack_bytes.Goals as goal
+use Rattle.replay_trees.proofs.leaf.unpack_key_bytes.Goals as goal
 
 pub loop-j-init : goal.loop-j-init
 loop-j-init c = (refl, λ k low. absurd (omega arith), λ k past. zero_word 240 k)

@@ -2,7 +2,7 @@
 use Rattle.std.proofs.Common.{rules, ◌≡◌, ◌≤◌, ◌∙◌, length, drop, refl, subst, sym}
 use Rattle.hot_c.specs.Orders.{IsListedIn, in_order}
 use Rattle.hot_c.proofs.Listed.{as_many, count_here, few_here, in_its_order, listed, made_here}
-use Rattle.hot_c.proofs.scans.list.Goals as goal
+use Rattle.hot_c.proofs.scans.list_query.Goals as goal
 
 pub write_in-requires : goal.write_in-requires
 write_in-requires c = few_here c.in-Ok.ensures.ok c.lend-opened.result.now c.lend-opened.ensures.value
