@@ -79,7 +79,7 @@ impl Index {
         requires { Owns self.now pass.old }
         ensures { IsRangeRead (λ layout k j. IsLastFound layout k j upto.now) (range_from [] upto.now 1) result self.now pass.old pass.new }
     {
-        let empty = Key::of_places([0; MAX_BYTES], 0);
+        let empty = Key::from_padded([0; MAX_BYTES], 0);
         self.find_first(alloc, pass, Direction::Downwards, &empty, upto)
     }
 

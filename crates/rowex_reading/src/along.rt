@@ -179,14 +179,14 @@ fn touch_record<G: Gate>(table: &HotTable, seat: &mut TableSeat, gate: &mut G, e
         Entry::Leaf(number) => {
             let rec = Rec::Leaf(number);
             let start = table.start_of(rec);
-            table.load_fixed_from(seat, gate, rec, start, 2);
+            table.load_fixed_at(seat, gate, rec, start, 2);
         }
         Entry::Node { number, .. } => {
             let rec = Rec::Node(number);
             let start = table.start_of(rec);
-            table.load_fixed_from(seat, gate, rec, start, 1);
-            table.load_fixed_from(seat, gate, rec, start, 9);
-            table.load_fixed_from(seat, gate, rec, start, 17);
+            table.load_fixed_at(seat, gate, rec, start, 1);
+            table.load_fixed_at(seat, gate, rec, start, 9);
+            table.load_fixed_at(seat, gate, rec, start, 17);
         }
     }
 }

@@ -132,5 +132,5 @@ fn touch_leaf<G: Gate>(
     requires led { (m : ℕ) × IsLedTo seat.old.known m (LeafEntry number) }
     ensures reads { Reads table.now G.becomes 0 1 (seat.old, gate.old) (seat.new, gate.new) }
 {
-    table.load_fixed_from(seat, gate, Rec::Leaf(number), origins.leaf(number), 2);
+    table.load_fixed_at(seat, gate, Rec::Leaf(number), origins.leaf(number), 2);
 }

@@ -31,7 +31,7 @@ fn child(number: u32) -> Entry
 fn expect_beside(rt: &impl Abort, node: &Node, want: &[Option<(u8, u16)>]) {
     assert!(rt; want.len() == node.count() as usize);
     for i in 0..node.count() {
-        assert!(rt; node.beside(i) == want[i as usize], "{i}");
+        assert!(rt; node.find_sibling(i) == want[i as usize], "{i}");
     }
 }
 
@@ -59,7 +59,7 @@ const POSITIONS: [u16; 31] = [
 fn joined(rt: &impl Abort, position: u16, zero: &Node, one: &Node) -> Node {
     assert!(rt; zero.count() + one.count() <= 32);
     assert!(rt; position < zero.first_position() && position < one.first_position());
-    Node::join(position, zero, one)
+    Node::merge(position, zero, one)
 }
 
 #[test]
@@ -125,7 +125,7 @@ fn closed(rt: &impl Abort, node: &Node, at: u8) -> (Option<Entry>, [u64; NODE_FI
     if height != 2 {
         panic!(rt; "of another height");
     }
-    let Some((place, _)) = node.beside(at) else {
+    let Some((place, _)) = node.find_sibling(at) else {
         panic!(rt; "none beside");
     };
     let mut words = pack_node(node);
