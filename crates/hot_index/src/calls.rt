@@ -8,9 +8,9 @@ ghost use Rattle.seat_calls.specs.Counts.{try_steps};
 ghost use Rattle.seat_calls.specs.Passes.{Owns};
 ghost use Rattle.seat_calls.specs.Traces.{HasTold};
 
-use crate::index::{Index, Pass, Untold, reply_of};
+use crate::index::{Index, Pass, reply_of};
 use finite_map::{Call, Reply};
-use rowex_core::Gate;
+use rowex_core::{Gate, NoGate};
 use rowex_writing::{Full, TryFault};
 use std::sync::Wait;
 
@@ -22,7 +22,7 @@ impl Index {
         requires { Owns self.now pass.old }
         ensures { IsCallTried call.now result self.now pass.old pass.new }
     {
-        self.try_call_with(pass, call, &mut Untold)
+        self.try_call_with(pass, call, &mut NoGate)
     }
 
     /// Does what `try_call` does, and reports each of its steps to `gate`.

@@ -8,11 +8,11 @@ ghost use Rattle.seat_calls.specs.Passes.{Owns};
 ghost use Rattle.seat_calls.specs.Reverse.{IsLastFound};
 ghost use Rattle.seat_calls.specs.Traces.{untold};
 
-use crate::index::{Index, Pass, Untold};
+use crate::index::{Index, Pass};
 use finite_map::Scan;
 use key_bits::{Key, MAX_BYTES};
 use packed_pairs::Pairs;
-use rowex_core::Gate;
+use rowex_core::{Gate, NoGate};
 use rowex_scanning::{Direction, Range};
 use std::alloc::{AllocError, Global};
 
@@ -43,7 +43,7 @@ impl Index {
             direction: Direction::Downwards,
             limit,
         };
-        self.scan_range(alloc, pass, &range, &mut Untold)
+        self.scan_range(alloc, pass, &range, &mut NoGate)
     }
 
     /// `scan_reverse` into a list, whose earlier pairs are dropped. The pair with the greatest key comes first. Returns whether the
@@ -62,7 +62,7 @@ impl Index {
         requires { Owns self.now pass.old }
         ensures { IsListReadBy IsLawfulReverseScan (range_from from.now upto.now limit) pairs.new result self.now untold (pass.old, tt) (pass.new, tt) }
     {
-        self.scan_reverse_into_with(pass, from, upto, limit, pairs, &mut Untold)
+        self.scan_reverse_into_with(pass, from, upto, limit, pairs, &mut NoGate)
     }
 
     /// The last pair whose key is `upto` or below. If `upto` is the greatest key that there can be (`last_with_prefix` of the empty

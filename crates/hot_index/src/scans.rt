@@ -6,12 +6,12 @@ ghost use Rattle.seat_calls.specs.Answers.{IsFoundBy, range_from};
 ghost use Rattle.seat_calls.specs.Calls.{IsListRead, IsListReadBy, IsListReadWith, IsRangeRead, IsScanRead, IsScanReadBy, IsScanReadWith};
 ghost use Rattle.seat_calls.specs.Passes.{Owns};
 
-use crate::index::{Index, Pass, Untold};
+use crate::index::{Index, Pass};
 use epochs::{pin, unpin};
 use finite_map::Scan;
 use key_bits::Key;
 use packed_pairs::Pairs;
-use rowex_core::Gate;
+use rowex_core::{Gate, NoGate};
 use rowex_scanning::{Direction, Range, scan_root};
 use std::alloc::{AllocError, Global};
 
@@ -38,7 +38,7 @@ impl Index {
         requires { Owns self.now pass.old }
         ensures { IsScanRead (range_from from.now upto.now limit) result self.now pass.old pass.new }
     {
-        self.scan_with(alloc, pass, from, upto, limit, &mut Untold)
+        self.scan_with(alloc, pass, from, upto, limit, &mut NoGate)
     }
 
     /// Does what `scan` does, and reports each of its steps to `gate`.
@@ -81,7 +81,7 @@ impl Index {
         requires { Owns self.now pass.old }
         ensures { IsListRead (range_from from.now upto.now limit) pairs.new result self.now pass.old pass.new }
     {
-        self.scan_into_with(pass, from, upto, limit, pairs, &mut Untold)
+        self.scan_into_with(pass, from, upto, limit, pairs, &mut NoGate)
     }
 
     /// Does what `scan_into` does, and reports each of its steps to `gate`.
@@ -171,7 +171,7 @@ impl Index {
             limit: 1,
         };
         let mut list = Pairs::new(alloc);
-        self.list_range(pass, &range, &mut list, &mut Untold)?;
+        self.list_range(pass, &range, &mut list, &mut NoGate)?;
         let mut pairs = list.to_vec(alloc)?;
         Ok(pairs.pop())
     }
