@@ -30,8 +30,8 @@ fn table_of(rt: &impl Abort, alloc: Global) -> (HotTable, TableSeat, TableSeat)
     }
 }
 
-/// Loads the state of a record and claims it, if it finds it free; tells whether the seat has it now.
-fn take(table: &HotTable, seat: &mut TableSeat, rec: Rec) -> bool
+/// Loads the state of `rec`, and claims it if it is free. Returns whether the seat has claimed it.
+fn claim_if_free(table: &HotTable, seat: &mut TableSeat, rec: Rec) -> bool
     requires own { IsSeatOf table.now seat.old }
     requires range { HasRecord table.now.layout rec }
     ensures own { IsSeatOf table.now seat.new }
@@ -44,7 +44,7 @@ fn take(table: &HotTable, seat: &mut TableSeat, rec: Rec) -> bool
     table.claim(seat, &mut gate, rec) == 0
 }
 
-/// A seat takes a record, which another can't claim then, and releases it; then the other can.
+/// `first` claims `rec`, which `second` can't claim then. `first` releases it, and then `second` can.
 fn hand_over(
     rt: &impl Abort,
     table: &HotTable,
@@ -58,26 +58,26 @@ fn hand_over(
     ensures first { IsSeatOf table.now first.new }
     ensures second { IsSeatOf table.now second.new }
 {
-    assert!(rt; take(table, first, rec));
+    assert!(rt; claim_if_free(table, first, rec));
     assert!(rt; table.claim(second, &mut NoGate, rec) == 1);
     table.release(first, &mut NoGate, rec);
     assert!(rt; table.claim(second, &mut NoGate, rec) == 0);
 }
 
-/// A word that a seat fills into a record of its own stands there.
+/// A word that `seat` fills into a record that it has claimed stands there.
 fn fill_node(rt: &impl Abort, table: &HotTable, seat: &mut TableSeat)
     requires own { IsSeatOf table.now seat.old }
     requires range { 0 < table.now.layout.nodes }
     ensures own { IsSeatOf table.now seat.new }
 {
     let node = Rec::Node(0);
-    assert!(rt; take(table, seat, node));
+    assert!(rt; claim_if_free(table, seat, node));
     table.fill(seat, &mut NoGate, node, 1, 7);
     assert!(rt; table.load_fixed(seat, &mut NoGate, node, 1) == 7);
 }
 
-/// Makes the epoch the next one, loads it and both pins, which are clear, and tries to give a free record back: it stays.
-fn give_none(rt: &impl Abort, table: &HotTable, seat: &mut TableSeat)
+/// Raises the epoch, and loads it and both pins, which are clear. A free record that it tries to give back stays.
+fn give_back_none(rt: &impl Abort, table: &HotTable, seat: &mut TableSeat)
     requires own { IsSeatOf table.now seat.old }
     requires range { (0 < table.now.layout.leaves) × (table.now.layout.passes ≡ 2) }
     ensures own { IsSeatOf table.now seat.new }
@@ -91,7 +91,7 @@ fn give_none(rt: &impl Abort, table: &HotTable, seat: &mut TableSeat)
     assert!(rt; table.give_back(seat, &mut NoGate, Rec::Leaf(0), 1) == 0);
 }
 
-/// Claims each leaf record that is free; a bit for each of these.
+/// Claims each leaf record that is free. Returns a number with a bit for each of these.
 fn claim_each(table: &HotTable, seat: &mut TableSeat) -> u64
     requires own { IsSeatOf table.now seat.old }
 {
@@ -104,8 +104,12 @@ fn claim_each(table: &HotTable, seat: &mut TableSeat) -> u64
     claimed
 }
 
-/// Two threads claim each leaf record that is free: together all but the first, each once.
-fn claim_all(rt: &(impl Abort + Threads + Sync), table: &HotTable, seats: (TableSeat, TableSeat))
+/// Two threads claim each leaf record that is free. Together they claim all but the first, each once.
+fn claim_in_threads(
+    rt: &(impl Abort + Threads + Sync),
+    table: &HotTable,
+    seats: (TableSeat, TableSeat),
+)
     requires first { IsSeatOf table.now seats.0 }
     requires second { IsSeatOf table.now seats.1 }
 {
@@ -125,8 +129,8 @@ fn claim_all(rt: &(impl Abort + Threads + Sync), table: &HotTable, seats: (Table
 #[test]
 fn a_record_has_one_seat(rt: HostRuntime) {
     let (table, mut first, mut second) = table_of(&rt, rt.alloc());
-    give_none(&rt, &table, &mut first);
+    give_back_none(&rt, &table, &mut first);
     fill_node(&rt, &table, &mut first);
     hand_over(&rt, &table, &mut first, &mut second, Rec::Leaf(0));
-    claim_all(&rt, &table, (first, second));
+    claim_in_threads(&rt, &table, (first, second));
 }

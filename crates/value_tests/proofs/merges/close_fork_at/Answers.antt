@@ -1,6 +1,6 @@
 -- The words are the node's, and the entry can stand in it.
 use Rattle.std.proofs.Common.{arith, sym, ◌∙◌}
-use Rattle.value_tests.proofs.merges.closed.Goals as goal
+use Rattle.value_tests.proofs.merges.close_fork_at.Goals as goal
 
 pub close_fork-left-requires : goal.close_fork-left-requires
 close_fork-left-requires g c = (

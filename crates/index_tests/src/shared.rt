@@ -15,12 +15,12 @@ pub fn key(rt: &impl Abort, bytes: &[u8]) -> Key {
     }
 }
 
-/// The lowest key of all, and the highest one.
+/// The lowest and the highest of all keys.
 pub fn ends(rt: &impl Abort) -> (Key, Key) {
     (key(rt, b""), key(rt, &[255; 240]))
 }
 
-/// An index of so many passes, two nodes and eight leaves, and its passes. Where it is refused memory, the next call makes it.
+/// An index of two nodes and eight leaves with `passes` passes, and these passes. Where memory is refused once, the next call makes it.
 pub fn index_of(rt: &impl Abort, alloc: Global, passes: u32) -> (Index, Vec<Pass>)
     ensures { All (Owns result.0) result.1.items }
 {
@@ -28,13 +28,13 @@ pub fn index_of(rt: &impl Abort, alloc: Global, passes: u32) -> (Index, Vec<Pass
         Ok(made) => made,
         Err(fault) => {
             assert!(rt; matches!(fault, IndexFault::Memory));
-            index_again(rt, alloc, passes)
+            create_again(rt, alloc, passes)
         }
     }
 }
 
-/// The index, which is not refused now.
-fn index_again(rt: &impl Abort, alloc: Global, passes: u32) -> (Index, Vec<Pass>)
+/// Creates the index of `index_of` at a second try, which is not refused.
+fn create_again(rt: &impl Abort, alloc: Global, passes: u32) -> (Index, Vec<Pass>)
     ensures { All (Owns result.0) result.1.items }
 {
     match create(alloc, passes, 2, 8) {
@@ -43,8 +43,8 @@ fn index_again(rt: &impl Abort, alloc: Global, passes: u32) -> (Index, Vec<Pass>
     }
 }
 
-/// The last of the passes that are left.
-pub fn next_pass(rt: &impl Abort, index: &Index, passes: &mut Vec<Pass>) -> Pass
+/// Takes the last of `passes`, which belongs to `index`, out of them.
+pub fn pop_pass(rt: &impl Abort, index: &Index, passes: &mut Vec<Pass>) -> Pass
     requires { All (Owns index.now) passes.old.items }
     ensures one { Owns index.now result }
     ensures rest { All (Owns index.now) passes.new.items }
