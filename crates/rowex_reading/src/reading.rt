@@ -23,25 +23,7 @@ use record_words::{
     read_some_entry, search_in, write_word,
 };
 use rowex_core::{Gate, Rec, Spot};
-use rowex_table::{HotTable, TableSeat};
-
-/// A node's record.
-#[derive(Clone, Copy)]
-pub struct NodeAt {
-    /// The record's number.
-    pub number: u32,
-    /// The word of the table at which the record begins. Several loads find it once.
-    pub start: usize,
-}
-
-/// A leaf's record.
-#[derive(Clone, Copy)]
-pub struct LeafAt {
-    /// The record's number.
-    pub number: u32,
-    /// The word of the table at which the record begins.
-    pub start: usize,
-}
+use rowex_table::{HotTable, LeafAt, NodeAt, TableSeat};
 
 /// Loads the root's entry. Returns `None` if the tree is empty.
 pub fn load_root<G: Gate>(table: &HotTable, seat: &mut TableSeat, gate: &mut G) -> Option<Entry>

@@ -18,15 +18,8 @@ ghost use Rattle.rowex_records.specs.Records.{HaveBelow, IsFilled, IsFilledLeaf,
 use key_bits::Key;
 use record_words::{FIRST_ENTRY, FIRST_ROWS, HEAD_WORDS, NODE_FIELDS, key_word_at, key_words};
 use rowex_core::{Gate, Rec};
-use rowex_table::{HotTable, RecordAt, TableSeat};
+use rowex_table::{HotTable, NodeAt, RecordAt, TableSeat};
 use std::ops::Range;
-
-/// A node record: its number, and the word at which it begins.
-#[derive(Clone, Copy)]
-pub struct NodeAt {
-    pub number: u32,
-    pub start: usize,
-}
 
 /// Fills the claimed leaf record `number`, which has room for `key`, with `value` and with the words of `key` up to its end.
 ///

@@ -15,8 +15,8 @@ use insert_cases::PathNode;
 use packed_pairs::Pairs;
 use record_words::Origins;
 use rowex_core::{Gate, Rec};
-use rowex_reading::{NodeAt, load_entry};
-use rowex_table::{HotTable, TableSeat};
+use rowex_reading::load_entry;
+use rowex_table::{HotTable, NodeAt, TableSeat};
 
 /// How many places of a node a walk looks at together, at most.
 pub(crate) const MOST_AHEAD: u8 = 16;

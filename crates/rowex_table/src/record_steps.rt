@@ -21,6 +21,24 @@ pub struct RecordAt {
     pub start: usize,
 }
 
+/// A node's record.
+#[derive(Clone, Copy)]
+pub struct NodeAt {
+    /// The record's number.
+    pub number: u32,
+    /// The word of the table at which the record begins. Several loads find it once.
+    pub start: usize,
+}
+
+/// A leaf's record.
+#[derive(Clone, Copy)]
+pub struct LeafAt {
+    /// The record's number.
+    pub number: u32,
+    /// The word of the table at which the record begins.
+    pub start: usize,
+}
+
 impl HotTable {
     /// The number of the first word of `rec` in the table.
     pub fn start_of(&self, rec: Rec) -> usize

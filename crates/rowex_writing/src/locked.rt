@@ -20,8 +20,7 @@ use record_words::{
     row_of,
 };
 use rowex_core::{Gate, Rec, Spot};
-use rowex_records::NodeAt;
-use rowex_table::{HotTable, TableSeat};
+use rowex_table::{HotTable, NodeAt, TableSeat};
 
 /// A locked node whose words are loaded, all those before index `end`: there the words of its entries end.
 #[derive(Clone, Copy)]
