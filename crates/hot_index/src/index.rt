@@ -93,8 +93,8 @@ impl Index {
         self.get_with(pass, key, &mut NoGate)
     }
 
-    /// Looks up many keys, in their order, and writes to `found`, at each key's place, what `get` would return. `found` must have as
-    /// many places as there are keys.
+    /// Looks up `keys`, in their order, and writes to `found`, at each key's place, what `get` would return. `found` must have as many
+    /// places as there are keys.
     ///
     /// It takes no lock, allocates nothing and never blocks. It makes at most 4 atomic steps, 34 for each key, and 29 for each entry
     /// of a node that it loads. In all it loads at most 2,168 entries a key.
@@ -113,7 +113,7 @@ impl Index {
         self.get_many_with(pass, keys, found, &mut NoGate)
     }
 
-    /// Inserts a key with a value: `Inserted`; or `Exists` with the value that the key has already, and keeps.
+    /// Inserts `key` with `value`: `Inserted`; or `Exists` with the value that the key has already, and keeps.
     ///
     /// It never blocks. It makes at most two attempts, with a round of collection between them. An attempt that tries no lock makes at
     /// most 61 atomic steps, and 26 for each entry of a node that its search loads. Any other makes at most 127, and 26 for each such
@@ -156,7 +156,7 @@ impl Index {
         self.try_remove_with(pass, key, &mut NoGate)
     }
 
-    /// Inserts a key with a value: `Inserted`; or `Exists` with the value that the key has already, and keeps.
+    /// Inserts `key` with `value`: `Inserted`; or `Exists` with the value that the key has already, and keeps. `rt` allows it to wait.
     ///
     /// Where `try_insert` would return `Busy`, it lets other threads run and begins again, as often as need be. It also begins again
     /// where no record is free, if records may come back. Then another pass's call keeps retired ones from reuse, or other passes
@@ -204,11 +204,11 @@ impl Index {
         self.retry_change_with(rt, pass, &mut NoGate, &Call::Remove(key.copy()))
     }
 
-    /// Lets two passes meet, and returns them. Each has then seen what the other had seen, and all that was published before. Both know
-    /// of the same steps, and the meeting is counted among the `asides` of each. All else that they know is as it was.
+    /// Lets `first` and `second` meet, and returns both, in this order. Each has then seen what the other had seen, and all that was
+    /// published before. Both know of the same steps, and the meeting is counted among the `asides` of each. All else that they know
+    /// is as it was.
     ///
-    /// It loads one word three times and ignores what it finds. These loads count as no steps of either pass, and no gate hears of
-    /// them.
+    /// It loads one word three times and ignores what it finds. These loads count as no steps of either pass, and are told no gate.
     pub fn meet(&self, first: Pass, second: Pass) -> (Pass, Pass)
         requires { Owns self.now first × Owns self.now second }
         ensures own { Owns self.now result.0 × Owns self.now result.1 }
@@ -358,7 +358,8 @@ impl Index {
         count_records(&self.table, &mut pass.seat, gate)
     }
 
-    /// Tries to make the change `call`, at most twice, and reports each step to `gate`. Returns the reply, or why it was refused.
+    /// Tries to make the change `call`, at most twice, and reports each step to `gate`. Returns the reply, or why it was refused. The
+    /// pass counts the key.
     pub(crate) fn try_change_with<G: Gate>(
         &self,
         pass: &mut Pass,

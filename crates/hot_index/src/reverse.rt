@@ -20,12 +20,12 @@ impl Index {
     /// Lists the last `limit` pairs whose keys are from `from` to `upto`, both included, in falling key order. Returns them, and
     /// whether the range has more below.
     ///
-    /// It is `scan` from right to left: it takes no lock, never blocks, and makes no more steps than `scan` may.
+    /// It is `scan` in the other direction: it takes no lock, never blocks, and makes no more steps than `scan` may.
     ///
     /// It is no snapshot. Each pair was in the index at some moment of the call. No key is missing that was there all along; if
     /// there are more, no key down to the last one listed. To go on, scan up to the `previous_key` of the last pair's key.
     ///
-    /// It runs out of memory only if it has found a pair to list, and lists nothing then.
+    /// An error if memory is refused, which happens only if it has found a pair to list. Then it lists nothing.
     pub fn scan_reverse(
         &self,
         alloc: Global,
@@ -46,11 +46,11 @@ impl Index {
         self.scan_range(alloc, pass, &range, &mut NoGate)
     }
 
-    /// `scan_reverse` into a list, whose earlier pairs are dropped. The pair with the greatest key comes first. Returns whether the
-    /// range has more below.
+    /// Does what `scan_reverse` does, but lists into `pairs`, whose earlier pairs are dropped. The pair with the greatest key comes
+    /// first. Returns whether the range has more below.
     ///
-    /// Out of memory, it returns the error. The list then holds the first of these pairs, fewer than the limit: what a scan with their
-    /// number as its limit lists, where the range has more below.
+    /// An error if memory is refused. Then `pairs` holds the first of these pairs, fewer than `limit`, and the range has more below. So
+    /// it is what a scan with their number as its limit lists.
     pub fn scan_reverse_into(
         &self,
         pass: &mut Pass,
@@ -65,11 +65,11 @@ impl Index {
         self.scan_reverse_into_with(pass, from, upto, limit, pairs, &mut NoGate)
     }
 
-    /// The last pair whose key is `upto` or below. If `upto` is the greatest key that there can be (`last_with_prefix` of the empty
-    /// key), that is the last pair of the index.
+    /// The last pair whose key is `upto` or below; `None` if there is none. For the greatest key that there can be (`last_with_prefix`
+    /// of the empty key) it is the last pair of the index.
     ///
     /// It is a scan downwards for one pair, with its promise and bound on steps. The pair was there at some moment of the call, and
-    /// no greater key up to `upto` was there all along. It runs out of memory only if it has found a pair, and returns none then.
+    /// no greater key up to `upto` was there all along. An error if memory is refused, only if it has found a pair.
     pub fn last(
         &self,
         alloc: Global,
