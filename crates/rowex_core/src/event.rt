@@ -87,6 +87,8 @@ impl Model for NoGate {
     ghost Value = { Unit {0} };
 
     ghost view = { λ _. tt };
+
+    ghost inverse = { λ _. record {} };
 }
 
 impl Gate for NoGate {
