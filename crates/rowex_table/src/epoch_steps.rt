@@ -24,7 +24,7 @@ impl HotTable {
         self.load_at::<Brand, G>(seat, gate, Act::LoadEpoch { word: 0 }, epoch)
     }
 
-    /// Makes the epoch `expected + 1`, if it finds it to be `expected`, which is from 1 to 2^60 - 2. Returns the epoch that it found.
+    /// Makes the epoch `expected + 1` if it is `expected`, from 1 to 2^60 - 2; else it stays. Returns the epoch that it found.
     pub fn advance<G: Gate>(&self, seat: &mut TableSeat, gate: &mut G, expected: u64) -> u64
         requires own { IsSeatOf self.now seat.old }
         requires range { (1 ≤ expected) × (expected + 1 < EPOCHS) }
