@@ -45,7 +45,7 @@ impl HotTable {
         RecordAt { rec, start }
     }
 
-    /// Claims `rec`, if it finds the record free. Returns the state word that it found: 0 if the pass has the record now.
+    /// Claims `rec` if it is free; else its state stays. Returns the state word that it found: 0 exactly if this step claimed `rec`.
     pub fn claim<G: Gate>(&self, seat: &mut TableSeat, gate: &mut G, rec: Rec) -> u64
         requires own { IsSeatOf self.now seat.old }
         requires range { HasRecord self.now.layout rec }
@@ -54,7 +54,7 @@ impl HotTable {
         self.claim_at(seat, gate, self.locate(rec))
     }
 
-    /// Claims the record `at`, if it finds the record free. Returns the state word that it found: 0 if the pass has the record now.
+    /// Claims the record `at` if it is free; else its state stays. Returns the state word that it found: 0 exactly if this step claimed it.
     #[inline(always)]
     pub fn claim_at<G: Gate>(&self, seat: &mut TableSeat, gate: &mut G, at: RecordAt) -> u64
         requires own { IsSeatOf self.now seat.old }
