@@ -148,8 +148,8 @@ fn lower_bound(bound: u64, word: u64) -> u64
     if word == 0 { bound } else { bound.min(word) }
 }
 
-/// Visits each node record in rising number. Returns how many it gave back, and whether one has to wait. `bound` is the bound of the
-/// round.
+/// Visits each node record, in the order of their numbers. Returns how many it gave back, and whether one has to wait. `bound` is the bound
+/// of the round.
 fn visit_nodes<G: Gate>(table: &HotTable, seat: &mut TableSeat, gate: &mut G, bound: u64) -> Tally
     requires own { IsSeatOf table.now seat.old }
     requires bound { HasBound table.now.layout.passes bound seat.old.known }
@@ -166,8 +166,8 @@ fn visit_nodes<G: Gate>(table: &HotTable, seat: &mut TableSeat, gate: &mut G, bo
     tally
 }
 
-/// Visits each leaf record in rising number. Returns how many it gave back, and whether one has to wait. `bound` is the bound of the
-/// round.
+/// Visits each leaf record, in the order of their numbers. Returns how many it gave back, and whether one has to wait. `bound` is the bound
+/// of the round.
 fn visit_leaves<G: Gate>(table: &HotTable, seat: &mut TableSeat, gate: &mut G, bound: u64) -> Tally
     requires own { IsSeatOf table.now seat.old }
     requires bound { HasBound table.now.layout.passes bound seat.old.known }
