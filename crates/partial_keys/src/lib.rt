@@ -229,7 +229,8 @@ fn keep_used(positions: &mut [u16; 31], count: usize, used: u32) -> usize
     found
 }
 
-/// The highest index i at which the sparse partial key complies with the dense one: `dense & sparse[i] == sparse[i]`.
+/// The highest index i at which the sparse partial key complies with the dense one: `dense & sparse[i] == sparse[i]`. `sparse[0]` is 0, so
+/// there is one.
 pub fn search_plain(sparse: &[u32; 32], dense: u32) -> u8
     requires { slice_index sparse.now 0 ≡ 0 }
     ensures { IsFound sparse.now dense result }
