@@ -37,7 +37,7 @@ impl Call {
         }
     }
 
-    /// The reply of a map in which the call's key has the value `held`; `None` stands for an absent key.
+    /// The reply to the call by a map in which its key has the value `held`; `None` stands for an absent key.
     pub fn reply(&self, held: Option<u64>) -> Reply
         ensures { (m : Map) → result ≡ (step_where held m self.now).1 }
     {
