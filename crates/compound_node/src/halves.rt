@@ -33,8 +33,8 @@ pub struct Cut {
     pub one: Half,
 }
 
-/// The half of `entries`, whose rows over `columns` are `rows`: one entry, or a new node of many. The node has only the columns that the
-/// rows use.
+/// The `Half` that has all of `entries`, whose rows over `columns` are `rows`: the one entry, or a new node of many. The node has only the
+/// columns that the rows use.
 fn half_of(columns: &Columns, rows: ArrayVec<u32, 32>, entries: ArrayVec<Entry, 32>) -> Half
     requires some { 0 < length entries.items }
     requires room { length entries.items ≤ 32 }
@@ -54,7 +54,7 @@ fn half_of(columns: &Columns, rows: ArrayVec<u32, 32>, entries: ArrayVec<Entry, 
     Half::Many(build(used_columns, rows.as_slice(), entries))
 }
 
-/// The node of `columns`, `rows` and `entries` cut at its root fork.
+/// The node of `columns`, `rows` and `entries` cut at its root fork. Neither side is `Same`.
 pub(crate) fn cut_of(columns: &Columns, rows: &[u32], entries: &[Entry]) -> Cut
     requires { FitTogether columns.now rows.now entries.now }
     ensures { CutShows result (piece_of (LeafEntry 0) columns.now rows.now entries.now) }
@@ -74,7 +74,8 @@ pub(crate) fn cut_of(columns: &Columns, rows: &[u32], entries: &[Entry]) -> Cut
     }
 }
 
-/// What is left of the node of `columns`, `rows` and `entries` without the entry in slot `at`.
+/// What is left of the node of `columns`, `rows` and `entries` without the entry in slot `at`. The last fork on the path to it goes too.
+/// The result is never `Same`.
 pub(crate) fn rest_of(columns: &Columns, rows: &[u32], entries: &[Entry], at: usize) -> Half
     requires fit { FitTogether columns.now rows.now entries.now }
     requires in_range { at < length entries.now }

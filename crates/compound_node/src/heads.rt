@@ -113,8 +113,8 @@ impl Head {
         self.columns.first()
     }
 
-    /// The first and the last of the affected slots, in each node that has this head. Their entries agree with that in slot `found` in all
-    /// columns below `position`.
+    /// The first and the last of the affected slots, in each node that has this head. The entries from the one to the other agree with that
+    /// in slot `found` in all columns below `position`.
     pub fn affected(&self, found: u8, position: u16) -> (u8, u8)
         requires { found < length self.now.rows }
         ensures range { InEachNode self.now (λ node. (k : ℕ) → k < length node.entries →
@@ -145,8 +145,8 @@ impl Head {
         }
     }
 
-    /// Puts a new fork at `position` in over the slots from `first` to `last`, for one more entry. That stands straight after them if `bit`
-    /// is true, else straight before. The stored height becomes `height`.
+    /// Adds a new fork at `position` over the slots from `first` to `last`, for one more entry. That stands straight after them if `bit` is
+    /// true, else straight before. The stored height becomes `height`.
     pub(crate) fn add_fork(
         &mut self,
         height: u16,
@@ -170,8 +170,8 @@ impl Head {
         self.height = height;
     }
 
-    /// Puts a new fork at `position` in over the slots from `first` to `last`, for a new leaf. That stands straight after them if `bit` is
-    /// true, else straight before. All entries are leaves.
+    /// Adds a new fork at `position` over the slots from `first` to `last`, which are affected, for a new leaf. That stands straight after
+    /// them if `bit` is true, else straight before. All entries are leaves.
     pub fn add_leaf(&mut self, first: u8, last: u8, position: u16, bit: bool)
         requires room { length self.old.rows < 32 }
         requires low { self.old.height ≡ 1 }
@@ -184,7 +184,7 @@ impl Head {
         self.add_fork(1, position, first as usize, last as usize, bit);
     }
 
-    /// Takes out the entry in slot `at`, as `Node::without` does, where there are more than two. The stored height becomes `height`.
+    /// Takes out the entry in slot `at`, one of more than two, and the last fork on the path to it. The stored height becomes `height`.
     pub fn remove_entry(&mut self, at: u8, height: u16)
         requires several { 2 < length self.old.rows }
         requires in_range { at < length self.old.rows }
@@ -242,7 +242,7 @@ impl Head {
     }
 }
 
-/// Adds a column at `position`, in which the first `count` rows get 0, and returns its index. If there was one, all stays.
+/// Adds a column at `position`, in which the first `count` of `rows` get 0, and returns its index. If there is one already, all stays.
 pub(crate) fn ensure_column(
     columns: &mut Columns,
     rows: &mut [u32; 32],

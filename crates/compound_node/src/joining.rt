@@ -11,7 +11,7 @@ use arrayvec::ArrayVec;
 use partial_keys::Columns;
 use std::simd::prelude::*;
 
-/// Adds `position` and each of `others` that is no column yet to `columns`. Each row gets 0 in the new ones.
+/// Adds `position` and each of `others` to `columns`, unless it is a column already. Each of `rows` gets 0 in the new columns.
 pub(crate) fn ensure_columns(
     columns: &mut Columns,
     rows: &mut [u32; 32],
@@ -29,8 +29,8 @@ pub(crate) fn ensure_columns(
     *rows = lanes.to_array();
 }
 
-/// Adds a column at `position`, and returns `rows` with 0 in it; if it was one, all stays. Inline, so that the rows stay vectors from one
-/// column to the next.
+/// Adds a column at `position`, and returns `rows` with 0 in it. If there is one already, all stays. Inline, so that the rows stay vectors
+/// from one column to the next.
 #[inline(always)]
 fn ensure_column_of_lanes(columns: &mut Columns, rows: u32x32, position: u16) -> u32x32
     requires columns { length columns.old ≤ 31 }

@@ -1,7 +1,7 @@
 //! The compound nodes of a height optimized trie (HOT: Binna and others, SIGMOD 2018), as plain values.
 //!
 //! A node holds 2 to 32 entries in the order of their keys and shows a piece of a bit trie. Its columns, HOT's discriminative bits, are
-//! the positions of the piece's forks. It has a row for each entry, its sparse partial key, with a 1 exactly where the entry's path
+//! the positions of the piece's forks. It has a row for each entry, its sparse partial key. A row has a 1 exactly where the entry's path
 //! takes the 1 side of a fork. No call takes memory.
 #![tactic(auto)]
 

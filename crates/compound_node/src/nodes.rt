@@ -68,7 +68,7 @@ impl Node {
         Node { head, entries }
     }
 
-    /// The node of two entries, the sides of a fork at `position`. Its height is one above the greater of theirs.
+    /// The node of two entries, `zero` and `one`, the sides of a fork at `position`. Its height is one above the greater of theirs.
     pub fn pair(position: u16, zero: Entry, one: Entry) -> Node
         requires below { position < 65535 }
         requires zero { IsEntry zero }
@@ -145,14 +145,14 @@ impl Node {
         self.entries[i as usize]
     }
 
-    /// A copy of the node without its entries.
+    /// A copy of the node's head.
     pub fn head(&self) -> Head
         ensures { result ≡ head_of self.now }
     {
         self.head.copy()
     }
 
-    /// The node without its entries, not copied.
+    /// The node's head, not copied.
     pub fn as_head(&self) -> &Head
         ensures { result.now ≡ head_of self.now }
     {
@@ -175,7 +175,8 @@ impl Node {
         self.head.search(key)
     }
 
-    /// The first and the last of the affected slots: their entries agree with that in slot `found` in all columns below `position`.
+    /// The first and the last of the affected slots. The entries from the one to the other agree with that in slot `found` in all columns
+    /// below `position`.
     pub fn affected(&self, found: u8, position: u16) -> (u8, u8)
         requires { found < length self.now.entries }
         ensures range { (k : ℕ) → k < length self.now.entries → AgreeBefore self.now position found k ↔ ((result.0 ≤ k) × (k ≤ result.1)) }

@@ -32,7 +32,7 @@ pub(crate) fn is_padded(sparse: &[u32; 32], count: usize) -> bool
     true
 }
 
-/// Whether `rows` are those of some piece over `columns` columns that uses each of them.
+/// Whether `rows` are those of some piece over `columns` columns that uses each of these.
 pub(crate) fn are_sparse_keys(rows: &[u32], columns: usize) -> bool
     requires some { 0 < length rows.now }
     requires few { columns ≤ 31 }
@@ -117,8 +117,8 @@ fn insert_row(rows: u32x32, at: u32, row: u32) -> u32x32
     indexes.simd_lt(at).select(rows, put)
 }
 
-/// `rows` with a copy of row `first` put in before it. The copied row and those behind it up to index `end` get `bits`, and the last of
-/// the 32 is lost.
+/// `rows` with a copy of row `first` put in before it. The rows behind the copy and below index `end` get `bits`, and the last of the 32 is
+/// lost.
 #[inline(always)]
 fn fork_before(rows: u32x32, first: u32, end: u32, bits: u32) -> u32x32
     requires order { first + 1 < end }
@@ -189,7 +189,7 @@ pub(crate) fn run_end(rows: &[u32], columns: usize, found: usize) -> usize
 
 // ---- the two sides of the first column
 
-/// How many rows stand before the first one with a 1 in the first column.
+/// How many rows stand before the first one with a 1 in the first column; all, if none has it.
 pub(crate) fn count_zero_side(rows: &[u32]) -> usize
     ensures value { result ≡ front_below (2 ^ 31) rows.now }
     ensures within { result ≤ length rows.now }
@@ -275,7 +275,7 @@ fn sibling_bit(rows: &[u32], at: usize) -> u32
     }
 }
 
-/// Adds `rows` to the end of `out`, which has room for them. Those before the first without `bit` lose it.
+/// Adds `rows` to the end of `out`, which has room for them. Those before the first without `bit` lose `bit`.
 fn append_clearing(out: &mut ArrayVec<u32, 32>, rows: &[u32], bit: u32)
     requires { array_vec_len out.old + length rows.now ≤ 32 }
     ensures { out.new.items ≡ out.old.items ++ cleared_front bit rows.now }
@@ -315,7 +315,8 @@ fn clear_front(rows: &mut [u32; 32], first: usize, end: usize, bit: u32)
     }
 }
 
-/// Takes row `at` out of the first `count`, as `without_row` does. Behind them stands 4,294,967,295 then.
+/// Takes row `at` out of the first `count`, as `without_row` does. Straight behind those that are left comes 4,294,967,295; the others
+/// stay.
 pub(crate) fn remove_row(rows: &mut [u32; 32], count: usize, at: usize)
     requires ladder { IsLadder (take count rows.old) }
     requires room { count ≤ 32 }

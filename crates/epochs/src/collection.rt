@@ -57,8 +57,8 @@ const NO_VISITS: Tally = Tally {
     held_back: false,
 };
 
-/// Makes the epoch the next one, and gives back the records that were retired in an epoch below this one and below each pin. Returns how
-/// many these were, and whether a retired one was held back.
+/// Makes the epoch the next one. Gives back the records that were retired in an epoch below this one and below each pin that is set.
+/// Returns how many these were, and whether a retired one was held back. The pass has no pin.
 ///
 /// At the last epoch, 2^60 - 1, the epoch stays, and what is below it is still given back.
 pub fn collect_round<G: Gate>(table: &HotTable, seat: &mut TableSeat, gate: &mut G) -> Collected
@@ -80,10 +80,10 @@ pub fn collect_round<G: Gate>(table: &HotTable, seat: &mut TableSeat, gate: &mut
 }
 
 /// Makes a small round: makes the epoch the next one, and visits the oldest records of the pass's list `limbo`. It visits at most
-/// `MOST_VISITED`, up to the first that has to wait. A record that was retired in an epoch below this one and below each pin is given
-/// back, and stands in the list's `given` then.
+/// `MOST_VISITED`, up to the first that has to wait. One that was retired in an epoch below this one and each set pin is given back, and
+/// stands in the list's `given` then.
 ///
-/// It costs by what the pass has retired, however many records the table has.
+/// The cost doesn't grow with the number of the table's records. The pass has no pin.
 pub fn collect_small<G: Gate>(
     table: &HotTable,
     seat: &mut TableSeat,
@@ -148,8 +148,8 @@ fn lower_bound(bound: u64, word: u64) -> u64
     if word == 0 { bound } else { bound.min(word) }
 }
 
-/// Visits each node record in rising number. Returns how many it gave back, and whether one has to wait. `bound` is the bound of the
-/// round.
+/// Visits each node record, in the order of their numbers. Returns how many it gave back, and whether one has to wait. `bound` is the bound
+/// of the round.
 fn visit_nodes<G: Gate>(table: &HotTable, seat: &mut TableSeat, gate: &mut G, bound: u64) -> Tally
     requires own { IsSeatOf table.now seat.old }
     requires bound { HasBound table.now.layout.passes bound seat.old.known }
@@ -166,8 +166,8 @@ fn visit_nodes<G: Gate>(table: &HotTable, seat: &mut TableSeat, gate: &mut G, bo
     tally
 }
 
-/// Visits each leaf record in rising number. Returns how many it gave back, and whether one has to wait. `bound` is the bound of the
-/// round.
+/// Visits each leaf record, in the order of their numbers. Returns how many it gave back, and whether one has to wait. `bound` is the bound
+/// of the round.
 fn visit_leaves<G: Gate>(table: &HotTable, seat: &mut TableSeat, gate: &mut G, bound: u64) -> Tally
     requires own { IsSeatOf table.now seat.old }
     requires bound { HasBound table.now.layout.passes bound seat.old.known }
@@ -185,8 +185,8 @@ fn visit_leaves<G: Gate>(table: &HotTable, seat: &mut TableSeat, gate: &mut G, b
     tally
 }
 
-/// Visits the leaf records of these numbers, all of one class, so each begins equally far behind the one before. `bound` is the bound of the
-/// round. Returns the tally `before` with these visits.
+/// Visits the leaf records of `numbers`, all of one class: each begins equally far behind the one before. Returns the tally `before` with
+/// these visits. `bound` is the bound of the round.
 fn visit_class<G: Gate>(
     table: &HotTable,
     seat: &mut TableSeat,
@@ -238,8 +238,8 @@ fn count_visit(tally: Tally, seen: Visited) -> Tally
     }
 }
 
-/// Visits the oldest records of `limbo`, at most `MOST_VISITED` and up to the first that has to wait. Those before it leave the list. `bound`
-/// is the bound of the round.
+/// Visits the oldest records of `limbo`, at most `MOST_VISITED` and up to the first that has to wait. Those before it leave the list.
+/// `bound` is the bound of the round.
 fn visit_limbo<G: Gate>(
     table: &HotTable,
     seat: &mut TableSeat,
@@ -296,8 +296,8 @@ fn has_record(layout: Layout, rec: Rec) -> bool
     }
 }
 
-/// Loads the state of the record `at`, and tries to make the record free where it is obsolete in an epoch below `bound`. Returns what that
-/// came to.
+/// Loads the state of the record `at`. Tries to make the record free if it is obsolete in an epoch below `bound`, that of the round.
+/// Returns what the visit came to.
 fn visit_record<G: Gate>(
     table: &HotTable,
     seat: &mut TableSeat,

@@ -2,10 +2,10 @@
 //!
 //! # Mechanism
 //!
-//! The table has one epoch, a number that only grows, and a pin for each pass, which is 0 or an epoch + 1.
+//! The table has one epoch, a number that only grows, and a pin for each pass, which is 0 or an epoch.
 //!
 //! 1. *Pin.* A pass loads the epoch and stores it as its pin, before it reads the root. It clears the pin at the end of its call.
-//! 2. *Retire.* A writer that has unlinked records by its store loads the epoch after the store, and marks each of them as
+//! 2. *Retire.* A writer that has unlinked records by its store loads the epoch after the store. It marks each of them as
 //!    obsolete in that epoch. A marked record keeps its words: a reader may still stand in it.
 //! 3. *Collect.* A round loads the epoch and, unless it is the last one, tries to make it the next. Then it loads the epoch again
 //!    and each pin. The bound of the round is the least of that epoch and of the pins that are set. A record that is obsolete in
@@ -13,7 +13,7 @@
 //!
 //! # Why nothing in reach is given back
 //!
-//! Let a pass reach a record that was unlinked by a store. Then it loaded the epoch for its pin before that store, so its pin is at
+//! Let a pass reach a record that was unlinked by a store. Then it loaded the epoch for its pin before that store. So its pin is at
 //! most the record's mark, which was loaded after the store. If the round loaded this pin, the bound is at most the mark, and the
 //! record stays. If the round loaded the pin before it was set, the pass had not yet read the root. Then either the store came first,
 //! and the pass can't reach the record. Or the epoch that the round had loaded for its bound is at most the mark, and the record stays

@@ -48,8 +48,8 @@ impl Limbo {
         }
     }
 
-    /// Puts a record that the pass has just retired at the end of the list. If the list is full, the record is left to full rounds.
-    /// Either way it counts towards the next small round.
+    /// Puts `rec`, which the pass has just retired, at the end of the list. If the list is full, the record is left to full rounds. Either
+    /// way it counts towards the next small round.
     pub fn push(&mut self, rec: Rec)
         ensures retired { self.new.retired ≡ min (self.old.retired + 1) (2 ^ 32 - 1) }
         ensures room { self.old.count < MOST_WAITING → self.new.count ≡ self.old.count + 1 }
@@ -70,7 +70,7 @@ impl Limbo {
         self.retired >= DUE
     }
 
-    /// Makes the list ready for a small round: `given` is empty, and no record counts towards the next round yet. The records that wait stay.
+    /// Makes the list ready for a small round: `given` is empty, and no record counts towards the next round. Those that wait stay.
     pub(crate) fn clear_round(&mut self)
         ensures { (self.new.retired ≡ 0) × (self.new.count ≡ self.old.count) }
     {
@@ -90,8 +90,8 @@ impl Limbo {
         self.waiting[self.first.wrapping_add(index) % MOST_WAITING]
     }
 
-    /// Adds `rec` to `given`, if `seen`, what its visit came to, says that it was given back. Returns whether the record leaves the list, as
-    /// it does unless it has to wait.
+    /// Adds `rec` to `given`, if `seen`, what its visit came to, is `Given` and there is room. Returns whether `rec` leaves the list: not
+    /// if it has to wait.
     pub(crate) fn take_visit(&mut self, rec: Rec, seen: Visited) -> bool
         ensures waits { seen ≡ Waits → result ≡ false }
         ensures leaves { seen ≢ Waits → result ≡ true }
@@ -105,7 +105,7 @@ impl Limbo {
         true
     }
 
-    /// Takes the oldest `count` records out of the list.
+    /// Takes the oldest `count` records out of the list; all, if there are fewer.
     pub(crate) fn drop_oldest(&mut self, count: usize)
         ensures { (self.new.count ≡ self.old.count - count) × (self.new.retired ≡ self.old.retired) }
     {

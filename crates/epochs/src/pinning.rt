@@ -23,8 +23,7 @@ pub fn pin<G: Gate>(table: &HotTable, seat: &mut TableSeat, gate: &mut G)
     table.set_pin(seat, gate, epoch);
 }
 
-/// Clears the pin: what the pass has found may be given back from now on. The notes of the call that ends by it come with
-/// this step.
+/// Clears the pin: what the pass has found may be given back from now on. A call ends with this step, and its notes `said` come with it.
 pub fn unpin<G: Gate>(table: &HotTable, seat: &mut TableSeat, gate: &mut G)
     ghost said: { Known → List Note }
     requires fits { IsPassOf table.now seat.old }

@@ -1,4 +1,5 @@
-//! A finite map from keys to numbers, and histories of it: the calls, what they answer, and what makes the calls of many passes legal together.
+//! A finite map from keys to numbers, and histories of it: the calls, their replies, and what makes the calls of many passes legal
+//! together.
 #![tactic(auto)]
 
 ghost use Rattle.std.specs.Prelude.{◌≡◌};
@@ -36,7 +37,7 @@ impl Call {
         }
     }
 
-    /// The reply of a map in which the call's key has the value `held`; `None` stands for an absent key.
+    /// The reply to the call by a map in which its key has the value `held`; `None` stands for an absent key.
     pub fn reply(&self, held: Option<u64>) -> Reply
         ensures { (m : Map) → result ≡ (step_where held m self.now).1 }
     {
@@ -61,7 +62,7 @@ impl Call {
     }
 }
 
-/// What a call answers.
+/// What a call returns.
 #[derive(Clone, Copy, PartialEq, Eq)]
 pub enum Reply {
     /// Of `Insert`: the key was absent and has the value now.
@@ -104,7 +105,7 @@ pub struct Change {
     pub kind: Kind,
 }
 
-/// A call of a pass that was answered, and where it stands in a front: after the first `place` changes.
+/// A completed call of a pass with its reply, and where it stands in a front: after the first `place` changes.
 /// In contracts a place is a whole number without bound.
 #[derive(Drop)]
 pub struct Note {

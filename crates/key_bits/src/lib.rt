@@ -75,7 +75,7 @@ impl Key {
         }
     }
 
-    /// Makes this the key of `bytes`. `Err(TooLong)` exactly if there are more than `MAX_BYTES`, and then the key stays as it was.
+    /// Makes this the key of `bytes`. `Err(TooLong)` exactly if there are more than `MAX_BYTES`; then the key stays.
     ///
     /// A key that is set where it is used isn't moved, as the one in the result of `Key::from_bytes` is.
     #[inline(always)]

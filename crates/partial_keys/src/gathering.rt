@@ -14,7 +14,7 @@ use std::simd::prelude::*;
 /// The bit of a position in its byte, at the index `position % 9 * 16 / 9`; 0 for the first of the nine bits.
 const MASKS: [u8; 16] = [0, 128, 0, 64, 0, 32, 0, 16, 8, 8, 4, 0, 2, 0, 1, 0];
 
-/// For each of `positions` the index of the byte of a key that has its bit. It is above each index of a byte where no key has the bit.
+/// For each of `positions` the index of the byte of a key that has its bit. Where no key has such a byte, it is at least `MAX_BYTES`.
 #[inline(always)]
 fn bytes_at(positions: u16x32) -> u8x32
     ensures { result ≡ map byte_lane positions }
@@ -53,9 +53,8 @@ fn window_at(key: &Key, first: usize) -> u8x32
     repeat_lanes(u8x16::from_slice(&key.padded_bytes()[first..]))
 }
 
-/// For each lane the bits of its mask in `masks` that its byte lacks; not 0 if that byte is behind byte `last`.
-///
-/// `bytes` says which byte each lane has. `window` has the sixteen bytes from byte `first` on.
+/// For each lane the bits of its mask in `masks` that its byte lacks; not 0 if that byte is behind byte `last`. `bytes` has the index of
+/// each lane's byte, and `window` the sixteen bytes from byte `first` on.
 #[inline(always)]
 fn find_missing(bytes: u8x32, masks: u8x32, window: u8x32, first: u8, last: u8) -> u8x32
     requires lanes { (length bytes ≡ 32) × (length masks ≡ 32) × (length window ≡ 32) }
@@ -110,7 +109,7 @@ fn fits_window(bytes: u8x32, first: usize, key_length: usize) -> bool
         && (key_length <= first + 16 || has_none_between(bytes, first as u8 + 16, key_length as u8))
 }
 
-/// Whether each of `bytes` is below `from`, or not below `to`. False says nothing.
+/// Whether each of `bytes` is below `from`, or not below `to`.
 #[inline(always)]
 fn has_none_between(bytes: u8x32, from: u8, to: u8) -> bool
     requires lanes { length bytes ≡ 32 }

@@ -186,7 +186,7 @@ pub fn count_below(lanes: u16x32, bound: u16) -> u8
     reached.trailing_zeros() as u8
 }
 
-/// Puts `element` in at index `at` among the first `count` of `items`. Those from there on move up by one, over the element behind them.
+/// Puts `element` in at index `at` among the first `count` of `items`. Those from there on move up by one; the item behind them is lost.
 pub fn insert_in<T: Copy>(items: &mut [T], count: usize, at: usize, element: T)
     requires in_range { at ≤ count }
     requires room { count < length items.old }
@@ -196,7 +196,7 @@ pub fn insert_in<T: Copy>(items: &mut [T], count: usize, at: usize, element: T)
     items[at] = element;
 }
 
-/// Takes the element at index `at` out of the first `count` of `items`. Those behind it move down by one, and `fill` comes behind them.
+/// Takes the item at index `at` out of the first `count` of `items`. Those behind it move down by one, and `fill` comes behind them.
 pub fn remove_in<T: Copy>(items: &mut [T], count: usize, at: usize, fill: T)
     requires in_range { at < count }
     requires room { count ≤ length items.old }
@@ -229,7 +229,8 @@ fn keep_used(positions: &mut [u16; 31], count: usize, used: u32) -> usize
     found
 }
 
-/// The highest index i at which the sparse partial key complies with the dense one: `dense & sparse[i] == sparse[i]`.
+/// The highest index i at which the sparse partial key complies with the dense one: `dense & sparse[i] == sparse[i]`. `sparse[0]` is 0, so
+/// there is one.
 pub fn search_plain(sparse: &[u32; 32], dense: u32) -> u8
     requires { slice_index sparse.now 0 ≡ 0 }
     ensures { IsFound sparse.now dense result }

@@ -13,8 +13,8 @@ use crate::{FIRST_ROWS, HEAD_WORDS};
 use partial_keys::count_below;
 use std::simd::prelude::*;
 
-/// The first and the last of the affected slots, in each node whose head has `words`. Their entries agree with that in slot `found` in all
-/// columns below `position`. No head is made: the words are compared as vectors as they stand.
+/// The first and the last of the affected slots, in each node whose head has `words`. The entries from the one to the other agree with that
+/// in slot `found` in all columns below `position`. No head is made: the words are compared as vectors.
 ///
 /// The sparse partial keys rise. So those that agree in the first columns are a run, from the least number with these bits in front up to
 /// the greatest.

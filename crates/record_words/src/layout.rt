@@ -77,7 +77,7 @@ impl LeafClass {
         }
     }
 
-    /// Its index among the classes, the smallest first.
+    /// The number of this class: from 0 for `Short`, the smallest, to 4 for `Long`.
     pub fn index(self) -> usize
         ensures { result < LEAF_CLASSES }
     {
@@ -126,8 +126,8 @@ impl Layout {
     ghost use Rattle.record_words.specs.Limits.{IsPassCount, IsStockPassCount, IsNodeCount, IsLeafCount, IsRecordCount};
     ghost use Rattle.record_words.specs.Layout.{node_start, class_size, leaf_size, leaf_start, word_count, address, HasStock, leaves_of, IsInTable, IsLocationOf};
 
-    /// The layout with these numbers of records, of which all leaf records are long. There are 1 to 64 passes, 1 to 65,535 node records
-    /// and 1 to 262,143 leaf records. The fault names the first number that is out of range.
+    /// The layout of a table for `passes` passes, 1 to 64, with `nodes` node records, 1 to 65,535. It has `leaves` leaf records, 1 to
+    /// 262,143, all long. The fault names the first number that is out of range.
     pub fn of(passes: u32, nodes: u32, leaves: u32) -> Result<Layout, LayoutFault>
         ensures ok { IfOk result (λ layout. (layout.passes ≡ passes) × (layout.nodes ≡ nodes) × (layout.leaves ≡ leaves) × (layout.long_from ≡ 0)) }
         ensures passes { (result ≡ Err LayoutFault.Passes) ↔ ¬ IsPassCount passes }
@@ -154,8 +154,8 @@ impl Layout {
         })
     }
 
-    /// The layout with this stock: for 1 to `MAX_STOCK_PASSES` passes, with 1 to 4,294,967,295 node records, and as many leaf records of
-    /// all classes together. The fault names the first number that is out of range.
+    /// The layout of a table for `passes` passes, 1 to `MAX_STOCK_PASSES`, with the records of `stock`. That has 1 to 4,294,967,295 node
+    /// records, and as many leaf records of all classes together. The fault names the first number that is out of range.
     pub fn with_stock(passes: u32, stock: Stock) -> Result<Layout, LayoutFault>
         ensures ok { IfOk result (λ layout. (layout.passes ≡ passes) × HasStock layout stock) }
         ensures passes { (result ≡ Err LayoutFault.Passes) ↔ ¬ IsStockPassCount passes }

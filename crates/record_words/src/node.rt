@@ -21,7 +21,7 @@ use compound_node::{Entry, Head, Node, fork_rows};
 use partial_keys::{Columns, count_below, insert_in, remove_in};
 use std::simd::prelude::*;
 
-/// The words of `node` in a node record, from offset 1 on.
+/// The words of `node` in a node record, from offset 1 on: its head, its entries, and 0 behind these.
 pub fn pack_node(node: &Node) -> [u64; NODE_FIELDS]
     ensures words { result ≡ node_words node.now }
     ensures fits { HasNodeWords node.now }
@@ -91,8 +91,8 @@ pub fn add_leaf(
     insert_in(words, end, at, pack_entry(Some(Entry::Leaf(leaf))));
 }
 
-/// Changes the words of the head to those of the head with a new fork at `position` over the slots from `first` to `last`, as `add_leaf`
-/// does. The words of the entries stay. Mostly `position` is a column already, and the words of the positions stay too.
+/// Changes the words of the head to those with a new fork at `position` over the slots from `first` to `last`. The leaf's slot follows from
+/// `bit`, as in `add_leaf`. The words of the entries stay. Mostly `position` is a column already, and the words of the positions stay too.
 fn add_fork(words: &mut [u64; NODE_FIELDS], first: u8, last: u8, position: u16, bit: bool)
     requires growing { (node : NodeView) × CanGrowAt words.old node position first last }
     requires below { position < 65535 }
@@ -120,8 +120,8 @@ fn add_fork_by_head(words: &mut [u64; NODE_FIELDS], first: u8, last: u8, positio
     put_head(words, &head);
 }
 
-/// Changes `words`, those of a node, to those of the node without the entry in slot `at`, and without the last fork on the path to it. If
-/// there are two entries, it returns the other one, and the words stay; else `None`.
+/// Takes the entry in slot `at`, and the last fork on the path to it, out of the node of `words`, and returns `None`. If there are two
+/// entries, the words stay, and it returns the other one.
 pub fn drop_entry(words: &mut [u64; NODE_FIELDS], at: u8) -> Option<Entry>
     requires { (node : NodeView) × HasNodeWords node × (node_words node ≡ words.old) × (at < length node.entries) }
     ensures { (node : NodeView) → HasNodeWords node → node_words node ≡ words.old → SpellLeft words.new result (without at (piece node)) }
@@ -138,8 +138,8 @@ pub fn drop_entry(words: &mut [u64; NODE_FIELDS], at: u8) -> Option<Entry>
     None
 }
 
-/// Changes `words`, those of a node, to those of the node with `entry` instead of two entries and the fork whose sides they are. The two
-/// are in slot `at` and in slot `other`. If the node has no others, it returns `entry`; else `None`.
+/// Puts `entry` into the node of `words` in place of the entries in slots `at` and `other` and of the fork over just these. Returns `None`.
+/// If the node has no other entries, it returns `entry`, and only the word of slot `other` changes.
 pub fn close_fork(words: &mut [u64; NODE_FIELDS], at: u8, other: u8, entry: Entry) -> Option<Entry>
     requires { (node : NodeView) × CanCloseAt words.old node at other entry }
     ensures { (node : NodeView) → CanCloseAt words.old node at other entry → SpellLeft words.new result (collapsed at entry (piece node)) }
@@ -176,7 +176,7 @@ pub fn read_node(words: &[u64; NODE_FIELDS]) -> Node
     Node::of(read_head(&words[..HEAD_WORDS]), entries)
 }
 
-/// The head of `words`, those of some head.
+/// The head whose words are `words`.
 fn read_head(words: &[u64]) -> Head
     requires { IsSpelling HasHeadWords head_words words.now }
     ensures { IsSpelledBy HasHeadWords head_words words.now result }

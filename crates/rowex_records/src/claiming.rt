@@ -113,12 +113,11 @@ pub fn claim_record<G: Gate>(
     claim_within(table, seat, gate, kind, from, &mut left)
 }
 
-/// Claims the first record of `kind` that it finds free, of the next `left` ones from `from` on, and returns its number. `None` if none
-/// of them was free.
+/// Claims the first record of `kind` that it finds free, of the next `left` ones from number `from` on. Returns its number; `None` if
+/// none of them was free.
 ///
-/// It tries records as [`claim_record`] does, but no more than `left`, which is then less by those that were tried.
-///
-/// Mostly the first one is free: only behind it are records tried span by span. Inline, for callers know the kind.
+/// It tries records as [`claim_record`] does, but no more than `left`, which is then less by those that were tried. Inline, for callers
+/// know the kind.
 #[inline(always)]
 pub fn claim_within<G: Gate>(
     table: &HotTable,
@@ -145,7 +144,7 @@ pub fn claim_within<G: Gate>(
 }
 
 /// Claims the first record of `kind` that it finds free, of the next `most` from number `from` on. Returns its number, or `None` if none
-/// of them was free, and how many it tried.
+/// of them was free, and how many it tried. Mostly the first one is free: only behind it are records tried span by span.
 #[inline(always)]
 fn claim_and_count<G: Gate>(
     table: &HotTable,
@@ -234,7 +233,7 @@ fn claim_in_span<G: Gate>(
     None
 }
 
-/// Claims the record of `kind` with the number `number`, if it finds that free, and returns whether the pass has it now. `false` for a
+/// Claims the record of `kind` with the number `number` if it is free, and returns whether the pass has it now. `false`, and no step, for a
 /// number that is out of range. Inline, for callers know the kind.
 #[inline(always)]
 pub fn claim_numbered<G: Gate>(
@@ -258,7 +257,7 @@ pub fn claim_numbered<G: Gate>(
     try_claim(table, seat, gate, at)
 }
 
-/// Loads the state of the record `at`, and claims the record if the state is free. Returns whether the pass has it now.
+/// Loads the state of the record `at`, and tries to claim the record if the state is free. Returns whether the pass has it now.
 fn try_claim<G: Gate>(table: &HotTable, seat: &mut TableSeat, gate: &mut G, at: RecordAt) -> bool
     requires own { IsSeatOf table.now seat.old }
     requires start { IsStartOf table.now.layout at.rec at.start }
@@ -280,7 +279,7 @@ fn first_number(from: u32, all: u32) -> u32
     if from < all { from } else { 0 }
 }
 
-/// Makes `rec` free again, which the pass has claimed and not made ready.
+/// Makes `rec`, which the pass has claimed and not made ready, free again.
 pub fn give_up<G: Gate>(table: &HotTable, seat: &mut TableSeat, gate: &mut G, rec: Rec)
     requires own { IsSeatOf table.now seat.old }
     requires range { HasRecord table.now.layout rec }

@@ -23,8 +23,8 @@ use std::ops::Range;
 
 /// Fills the claimed leaf record `number`, which has room for `key`, with `value` and with the words of `key` up to its end.
 ///
-/// Each is stored in a step. But the key's length is loaded first, and stored only if another stands there. What stands behind the key
-/// stays.
+/// Each word is stored in one step. The key's length alone is loaded first, and stored only if another stands there. The words behind the
+/// key stay.
 pub fn fill_leaf<G: Gate>(
     table: &HotTable,
     seat: &mut TableSeat,
@@ -91,8 +91,9 @@ pub fn fill_node<G: Gate>(
     set_eight(table, seat, gate, node, words, 49..leads);
 }
 
-/// Makes the claimed node record `node` have the eight of `words` from index `used.start` on. The node has something in those within `used`,
-/// and nothing in the others. Where it has something in all, none is tested. Inline, so that it is known where each stands.
+/// Makes the claimed node record `node` have the eight of `words` from index `used.start` on. Those within `used` have something of the
+/// node, and are stored. The others have nothing: each is loaded, and stored only where another stands. Inline, so that each offset is a
+/// constant.
 #[inline(always)]
 fn set_eight<G: Gate>(
     table: &HotTable,
@@ -129,7 +130,7 @@ fn set_eight<G: Gate>(
     }
 }
 
-/// Stores `word` at `offset` of the claimed record `at`. No word is looked at there before.
+/// Stores `word` at `offset` of the claimed record `at`, without a load before.
 #[inline(always)]
 fn store_word<G: Gate>(
     table: &HotTable,
@@ -172,7 +173,7 @@ fn set_word<G: Gate>(
     }
 }
 
-/// Loads the word at `offset` of the record `at`. The offset is not that of the state.
+/// Loads the word at `offset` of the record `at`, which is not its state, and returns it.
 #[inline(always)]
 fn load_word<G: Gate>(
     table: &HotTable,
@@ -207,7 +208,7 @@ fn unused_in_node(offset: u8) -> u64
     }
 }
 
-/// Makes the claimed record `rec` live, which has been filled: then it may be linked.
+/// Makes the claimed record `rec`, which has been filled, live. From then on the pass may link it.
 pub fn make_ready<G: Gate>(table: &HotTable, seat: &mut TableSeat, gate: &mut G, rec: Rec)
     requires own { IsSeatOf table.now seat.old }
     requires range { HasRecord table.now.layout rec }

@@ -9,17 +9,17 @@ pub fn runs_are_told<G: Gate>()
     ensures { RunsAreTold G.becomes }
 {}
 
-/// Steps of one pass, one after the other, stand in one run of the table.
+/// Steps of one pass, one after the other, stand in this order in one run of the table. Steps of others may stand between.
 pub fn runs_are_linked<G: Gate>()
     ensures { RunsAreLinked G.becomes }
 {}
 
-/// The steps of a call, with whose last one its notes come, stand in one run of the table, too.
+/// The steps of a call, too, stand in this order in one run of the table. The call's notes come with the last one.
 pub fn ends_are_linked<G: Gate>()
     ensures { EndsAreLinked G.becomes }
 {}
 
-/// By the rule of the table, of the traces of two passes the one begins with the other.
+/// By the rule of the table, of the steps that two passes know, now or earlier, one list begins with the other.
 pub fn traces_are_of_one_run()
     ensures { TracesAreOfOneRun }
 {}

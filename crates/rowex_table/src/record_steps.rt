@@ -62,7 +62,7 @@ impl HotTable {
         RecordAt { rec, start }
     }
 
-    /// Claims `rec`, if it finds the record free. Returns the state word that it found: 0 if the pass has the record now.
+    /// Claims `rec` if it is free; else its state stays. Returns the state word that it found: 0 exactly if this step claimed `rec`.
     pub fn claim<G: Gate>(&self, seat: &mut TableSeat, gate: &mut G, rec: Rec) -> u64
         requires own { IsSeatOf self.now seat.old }
         requires range { HasRecord self.now.layout rec }
@@ -71,7 +71,7 @@ impl HotTable {
         self.claim_at(seat, gate, self.locate(rec))
     }
 
-    /// Claims the record `at`, if it finds the record free. Returns the state word that it found: 0 if the pass has the record now.
+    /// Claims the record `at` if it is free; else its state stays. Returns the state word that it found: 0 exactly if this step claimed it.
     #[inline(always)]
     pub fn claim_at<G: Gate>(&self, seat: &mut TableSeat, gate: &mut G, at: RecordAt) -> u64
         requires own { IsSeatOf self.now seat.old }
@@ -84,7 +84,7 @@ impl HotTable {
         self.exchange_at::<Brand, G>(seat, gate, act, at.start, Exchange { expected, new })
     }
 
-    /// Stores `word` at `offset` of `rec`, which the pass holds. Offsets are from 1, so that it isn't the state.
+    /// Stores `word` at `offset` of `rec`, which the pass holds. `offset` is at least 1, as the state stands at 0.
     pub fn fill<G: Gate>(&self, seat: &mut TableSeat, gate: &mut G, rec: Rec, offset: u8, word: u64)
         requires own { IsSeatOf self.now seat.old }
         requires range { HasRecord self.now.layout rec × IsOffset rec offset × HasWord self.now.layout rec offset }
@@ -94,7 +94,7 @@ impl HotTable {
         self.fill_at(seat, gate, self.locate(rec), offset, word);
     }
 
-    /// Stores `word` at `offset` of the record `at`, which the pass holds. Offsets are from 1, so that it isn't the state.
+    /// Stores `word` at `offset` of the record `at`, which the pass holds. `offset` is at least 1, as the state stands at 0.
     #[inline(always)]
     pub fn fill_at<G: Gate>(
         &self,
@@ -152,8 +152,8 @@ impl HotTable {
         self.load_fixed_at(seat, gate, rec, self.start_of(rec), offset)
     }
 
-    /// Loads the word at `offset` of `rec`, which is neither its state nor an entry, and returns it. `rec` begins at word `start`, which
-    /// several loads find once by `start_of`.
+    /// Loads the word at `offset` of `rec`, which is neither its state nor an entry, and returns it. `start` is the number of the first
+    /// word of `rec`.
     #[inline(always)]
     pub fn load_fixed_at<G: Gate>(
         &self,
@@ -204,7 +204,8 @@ impl HotTable {
         self.load_at::<Brand, G>(seat, gate, Act::LoadState { rec, word }, at.start)
     }
 
-    /// Makes `rec` free, if it finds the record obsolete in `epoch`. Returns the state word that it found: that of `epoch` if it made it free.
+    /// Makes `rec` free if it is obsolete in `epoch`; else its state stays. Returns the state word that it found: that of `epoch` exactly
+    /// if this step made `rec` free.
     pub fn give_back<G: Gate>(
         &self,
         seat: &mut TableSeat,
@@ -220,8 +221,8 @@ impl HotTable {
         self.give_back_at(seat, gate, self.locate(rec), epoch)
     }
 
-    /// Makes the record `at` free, if it finds the record obsolete in `epoch`. Returns the state word that it found: that of `epoch` if it
-    /// made it free.
+    /// Makes the record `at` free if it is obsolete in `epoch`; else its state stays. Returns the state word that it found: that of `epoch`
+    /// exactly if this step made the record free.
     #[inline(always)]
     pub fn give_back_at<G: Gate>(
         &self,

@@ -38,8 +38,8 @@ impl HotTable {
         Ok((HotTable { table, origins }, seats))
     }
 
-    /// Lets the passes of two seats meet: both have then seen the changes and the steps as they are now. Returns their seats, that of `first`
-    /// first. It makes no event.
+    /// Lets the passes of two seats meet: both have then seen the changes and the steps as they are now. Returns their seats, that of
+    /// `first` first. It makes no event.
     pub fn meet_seats(&self, first: TableSeat, second: TableSeat) -> (TableSeat, TableSeat)
         requires { IsSeatOf self.now first × IsSeatOf self.now second }
         ensures own { IsSeatOf self.now result.0 × IsSeatOf self.now result.1 }

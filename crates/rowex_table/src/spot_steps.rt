@@ -49,8 +49,8 @@ impl HotTable {
         self.load_at::<Brand, G>(seat, gate, Act::LoadRef { spot, word: 0 }, address)
     }
 
-    /// Locks `target`, the anchor or a node, if it finds that live. Returns the state word that it found: that of `Tag::Live` if the pass has
-    /// the lock now.
+    /// Locks `target`, the anchor or a node, if it is live; else its state stays. Returns the state word that it found: that of `Tag::Live`
+    /// exactly if this step locked `target`.
     pub fn lock<G: Gate>(&self, seat: &mut TableSeat, gate: &mut G, target: Target) -> u64
         requires own { IsSeatOf self.now seat.old }
         requires range { IsInTable self.now.layout (target_word target) }
@@ -63,7 +63,7 @@ impl HotTable {
         self.exchange_at::<Brand, G>(seat, gate, act, state, Exchange { expected, new })
     }
 
-    /// Makes `target` live, which the pass has locked.
+    /// Makes `target`, which the pass has locked, live.
     pub fn unlock<G: Gate>(&self, seat: &mut TableSeat, gate: &mut G, target: Target)
         requires own { IsSeatOf self.now seat.old }
         requires range { IsInTable self.now.layout (target_word target) }
@@ -75,7 +75,7 @@ impl HotTable {
         self.store_at::<Brand, G>(seat, gate, act, state, live);
     }
 
-    /// Stores `word` at `spot`, the root or a slot of a node, whose lock the pass has. It is the one step that changes the map.
+    /// Stores the entry word `word` at `spot`, the root or a slot of a node, whose lock the pass has. No other step changes the map.
     pub fn publish<G: Gate>(&self, seat: &mut TableSeat, gate: &mut G, spot: Spot, word: u64)
         requires own { IsSeatOf self.now seat.old }
         requires range { HasSpot self.now.layout spot }

@@ -30,8 +30,8 @@ impl Model for TableStamp {
 }
 
 impl HotTable {
-    /// Makes a stamp with the changes and the steps that the pass has seen. It makes no event. The pass stays as it was, but that the stamp is
-    /// counted.
+    /// Makes a stamp with the changes and the steps that the pass has seen. It makes no event. The seat stays as it was, but `asides`
+    /// counts one more.
     pub fn stamp_seat(&self, seat: &mut TableSeat) -> TableStamp
         requires { IsSeatOf self.now seat.old }
         ensures same { seat.new ≡ record seat.old { asides = suc seat.old.asides } }
@@ -43,7 +43,7 @@ impl HotTable {
         TableStamp { seat }
     }
 
-    /// Lets the pass see the changes and the steps as they are now, and with them all that `stamp` tells of. It makes no event.
+    /// Lets the pass see the changes and the steps as they are now, all of `stamp` among them. It makes no event.
     pub fn follow_stamp(&self, seat: &mut TableSeat, stamp: TableStamp)
         requires { IsSeatOf self.now seat.old × IsStampOf self.now stamp }
         ensures same { IsOneSeat seat.old seat.new }

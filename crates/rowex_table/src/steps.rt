@@ -30,7 +30,8 @@ impl HotTable {
         self.origins.address(location)
     }
 
-    /// Loads the table's word number `address` as the step `act`, of which `gate` is told. Returns the word.
+    /// Loads the table's word number `address` as the step `act`, of which `gate` is told. Returns the word. `Q` has the act and its notes;
+    /// what `act` has as found doesn't count.
     pub(crate) fn load_at<Q: Step, G: Gate>(
         &self,
         seat: &mut TableSeat,
@@ -52,7 +53,7 @@ impl HotTable {
         word
     }
 
-    /// Stores `new` to the table's word number `address` as the step `act`, of which `gate` is told.
+    /// Stores `new` to the table's word number `address` as the step `act`, of which `gate` is told. `Q` has the act and its notes.
     pub(crate) fn store_at<Q: Step, G: Gate>(
         &self,
         seat: &mut TableSeat,
@@ -74,8 +75,7 @@ impl HotTable {
     }
 
     /// Stores `exchange.new` to the table's word number `address`, if that is `exchange.expected`, as the step `act`, of which `gate` is
-    /// told. Returns the word that it found: it has stored exactly if that is `exchange.expected`. `Q` has the act of this step and its
-    /// notes.
+    /// told. Returns the word that it found: it has stored exactly if that is `exchange.expected`. `Q` has the act and its notes.
     pub(crate) fn exchange_at<Q: Step, G: Gate>(
         &self,
         seat: &mut TableSeat,

@@ -163,7 +163,7 @@ fn run_seed<R: AllocGlobal + Threads + Sync>(
 }
 
 /// `run_seed`, on this index that was just made, with all its passes.
-fn wrong_on<R: AllocGlobal + Threads + Sync>(
+fn run_threads<R: AllocGlobal + Threads + Sync>(
     rt: &R,
     case: &Case,
     index: &Index,
