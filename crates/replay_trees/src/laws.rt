@@ -2,7 +2,8 @@
 
 ghost use Rattle.replay_trees.specs.Statements.{LeavesAreOne};
 
-/// Before and after a publish, leaves of one number are one leaf: what `change_between` asks of the two lists.
+/// In the newest tree and in the tree that the store of one word would show, leaves of one number are one leaf. So `change_between` asks it
+/// of its lists.
 pub fn leaves_are_one()
     ensures { LeavesAreOne }
 {}
