@@ -69,7 +69,8 @@ impl Replay {
         self.state.changes()
     }
 
-    /// The map after the run's changes: the keys of the newest version with their values, in the order of the keys.
+    /// The map after the run's changes: the keys of the newest version with their values, in the order of the keys. An error if memory is
+    /// refused.
     pub fn content(&self, alloc: Global) -> Result<Vec<(Key, u64)>, AllocError>
         ensures version { IfOk result (λ pairs. pairs.items ≡ content ((core_of self.now).past.version (core_of self.now).past.now)) }
         ensures map { IfOk result (λ pairs. pairs.items ≡ map_of (core_of self.now).changes) }
