@@ -12,17 +12,17 @@ pub fn local_is_trie()
     ensures { LocalIsTrie }
 {}
 
-/// One leaf more is one key more in the map.
+/// One leaf more adds its key, which was absent, to the map.
 pub fn adding_inserts()
     ensures { AddingInserts }
 {}
 
-/// One leaf for another of the same key is another value in the map.
+/// One leaf in the place of another of the same key replaces that key's value in the map.
 pub fn exchange_replaces()
     ensures { ExchangeReplaces }
 {}
 
-/// One leaf less is one key less in the map.
+/// One leaf less removes its key, which had its value, from the map.
 pub fn taking_removes()
     ensures { TakingRemoves }
 {}
