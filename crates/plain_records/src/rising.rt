@@ -23,11 +23,11 @@ use compound_node::{Entry, Node};
 use insert_cases::{Risen, grow, is_pull_up, pull_up};
 use key_bits::Key;
 
-/// What takes the place of `entry` when `key` gets the leaf `leaf` below it. The key differs first at `position` from that of the leaf
-/// where its search ends.
+/// Adds the leaf `leaf`, which has `key`, below `entry`, and returns what takes the place of `entry`. The key differs first at `position`
+/// from that of the leaf where its search ends.
 ///
 /// The search goes down to the node that takes the new leaf, or to a leaf. Below a node over other nodes a leaf counts as a child of height
-/// 0 that gave way to a fork of itself and the new one. Each node on the way back takes what took its child's place.
+/// 0. It gives way to a fork of itself and the new one. Each node on the way back takes what took its child's place.
 pub fn raise(nodes: &mut Vec<Node>, entry: Entry, key: &Key, position: u16, leaf: u32) -> Risen
     requires place { (leaves : List LeafRecord) × (value : ℕ) × (t : Tree) × IsAddable nodes.old.items leaves (item leaf key.now value) position entry t }
     requires position { position < 65535 }
