@@ -115,9 +115,9 @@ impl PlainIndex {
         }
     }
 
-    /// The keys from `from` to `upto`, both included, with their values: the first `limit` of them, in the order of the keys.
-    /// It finds `from` by one search, and reads the pairs that it returns and the one behind them. It returns `AllocError` if memory is
-    /// refused for a pair.
+    /// The keys from `from` to `upto`, both included, with their values: the first `limit` of them, in the order of the keys. `more` says
+    /// whether there are others. It finds `from` by one search, and reads the pairs that it returns and the one behind them. It returns
+    /// `AllocError` if memory is refused for a pair.
     pub fn scan(
         &self,
         alloc: Global,
