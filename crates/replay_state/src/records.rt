@@ -139,7 +139,7 @@ impl Records {
     }
 
     /// Gives each record its fate after `pass` has published version `now + 1`, which links just the nodes and leaves that `nodes` and
-    /// `leaves` mark. A record past the last flag isn't linked. All but fates stays.
+    /// `leaves` mark. A record past the last flag isn't linked. All but the fates stays.
     pub(crate) fn update_fates(&mut self, now: u64, pass: u16, nodes: &[bool], leaves: &[bool])
         requires { now + 1 < 2 ^ 64 }
         ensures { AreNextRecords now pass nodes.now leaves.now self.old self.new }

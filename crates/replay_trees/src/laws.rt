@@ -2,8 +2,8 @@
 
 ghost use Rattle.replay_trees.specs.Statements.{LeavesAreOne};
 
-/// In the newest tree and in the tree that the store of one word would show, leaves of one number are one leaf. So `change_between` asks it
-/// of its lists.
+/// Leaves of one number, in the newest tree and in the one that the store of a word would show, are one leaf. `change_between` asks that of
+/// its lists.
 pub fn leaves_are_one()
     ensures { LeavesAreOne }
 {}

@@ -27,7 +27,7 @@ pub fn root_load_sees_all()
     ensures { SeesAll }
 {}
 
-/// A pass has just the records, locks, pin and round that it knows to have.
+/// A pass has just the records of its own, the locks of nodes in the tree and the anchor's lock that it knows to have.
 pub fn knows_all_it_has()
     ensures { KnowsAll }
 {}
