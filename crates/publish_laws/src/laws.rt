@@ -83,14 +83,14 @@ pub fn may_pull_up_and_overflow()
     ensures { PullUpOverflow }
 {}
 
-/// A pass may publish a leaf pushdown, or the second key: a node of the old leaf and the new one takes the old one's place.
+/// A pass may publish a leaf pushdown, or the second key. A node of the old leaf and the new one takes the old one's place.
 pub fn may_pair_leaves()
     ensures { MayPair }
 {}
 
 // Upsert and removal
 
-/// A pass may publish an upsert of a held key: the new leaf takes the old one's place, and the value that was held is known.
+/// A pass may publish an upsert of a held key: the new leaf takes the old one's place. The value that was held is known.
 pub fn may_upsert()
     ensures { MayUpsert }
 {}
@@ -101,8 +101,8 @@ pub fn may_remove()
     ensures { MayRemove }
 {}
 
-/// A pass may publish a merge: one new node has what is left beside the leaf, and the entries of the sibling. What is left of the node above
-/// takes its place, with that node as one entry for two. The publish unlinks the leaf and the three old nodes, and the value that the key
+/// A pass may publish a merge: one new node has what is left beside the leaf, and the entries of the sibling. What is left of the node
+/// above takes its place, with that node as one entry for two. The publish unlinks the leaf and the three old nodes. The value that the key
 /// had is known.
 pub fn may_merge()
     ensures { MayMerge }

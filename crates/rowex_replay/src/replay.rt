@@ -49,8 +49,8 @@ impl Replay {
         })
     }
 
-    /// Makes `event` if it is legal where the run so far leads, and returns Ok. `Illegal` if it isn't legal; `Memory` if memory was refused,
-    /// which only a publish under the lock of its word takes. A refusal changes nothing.
+    /// Makes `event` if it is legal where the run so far leads, and returns Ok. `Illegal` if it isn't legal; `Memory` if memory was
+    /// refused, which only a publish under the lock of its word takes. A fault changes nothing.
     pub fn step(&mut self, event: Event) -> Result<(), ReplayFault>
         ensures ok { OnOk result (Legal (core_of self.old) event.pass event.act × (self.new ≡ with_event self.old event)) }
         ensures illegal { result ≡ Err ReplayFault.Illegal → ¬ Legal (core_of self.old) event.pass event.act }

@@ -7,7 +7,8 @@ pub fn content_rises()
     ensures { ContentRises }
 {}
 
-/// A tree is a bit trie exactly if each leaf has a key, and each fork is before those below it and parts the first keys of its two sides.
+/// A tree is a bit trie exactly if each leaf has a key and each fork keeps two rules. It is before those below it, and it parts the first
+/// keys of its two sides.
 pub fn local_is_trie()
     ensures { LocalIsTrie }
 {}

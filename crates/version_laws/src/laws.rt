@@ -125,8 +125,8 @@ pub fn still_at_entry()
     ensures { StillPlaced }
 {}
 
-/// A search that stands in the newest tree by `still_at_root` or `still_at_entry`, as no change was made since a version, stays known while
-/// more versions are published.
+/// If no change was made since a version, `still_at_root` or `still_at_entry` tells where a search stands in the newest tree. That stays
+/// known while more versions are published.
 pub fn still_known_later()
     ensures { StillGrows }
 {}
