@@ -74,8 +74,8 @@ pub fn reach_is_kept()
     ensures { InReach }
 {}
 
-/// Each entry in a node of a pinned pass's reach is now the one that the node had in the last version that linked it. All versions since
-/// the pin that link the node have its fixed words and stems.
+/// Each entry in a node of a pinned pass's reach is now the one that the node had in the last version that linked it. The node's fixed
+/// words and stems are the same in all versions since the pin that link it.
 pub fn entries_in_reach_stood()
     ensures { EntriesInReach }
 {}
