@@ -52,7 +52,7 @@ pub struct Choice {
     pub case: Case,
 }
 
-/// The place on `way` of the last node whose first position is below `position`; 0 if there is none.
+/// The index on `way` of the last node whose first position is below `position`; 0 if there is none.
 pub fn level_below(way: &[PathNode], position: u16) -> usize
     requires { 0 < length way.now }
     ensures { IsLevel way.now position result }
@@ -66,9 +66,9 @@ pub fn level_below(way: &[PathNode], position: u16) -> usize
     level
 }
 
-/// The insertion case for a key that differs from the leaf that its search finds first at a position. `level` is what `level_below`
-/// returns for the position, and the entries from `first` to `last` of that node are those that it affects. If one entry alone is
-/// affected and the way goes on below it, the whole next node is affected instead.
+/// The affected node and the case of an insertion after a search along `way`, whose leaf has another key. `level` is what `level_below`
+/// returns for the position where the two keys first differ. There the entries from `first` to `last` are affected. If that is one entry,
+/// and the way goes on below it, the whole next node is affected instead.
 pub fn choose(way: &[PathNode], level: usize, first: u8, last: u8) -> Choice
     requires { level < length way.now }
     ensures chosen { IsChosen way.now level first last result }
@@ -103,7 +103,7 @@ pub fn choose(way: &[PathNode], level: usize, first: u8, last: u8) -> Choice
     }
 }
 
-/// What is done at the node of `step`. `one_leaf` says whether one leaf alone is affected.
+/// What is done at the node of `step`, the affected one. `one_leaf` says whether one leaf alone is affected.
 fn case_at(step: PathNode, one_leaf: bool) -> Case
     ensures { result ≡ case_of step.height step.count one_leaf }
 {

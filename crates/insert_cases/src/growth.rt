@@ -20,8 +20,8 @@ pub enum Grown {
     Two(Cut),
 }
 
-/// The node with `entry` beside the entries from `first` to `last`, which `Node::affected` returns for `position`. `bit` is the bit of the
-/// new key there. It is one node if there is room, else the cut that [`grow_full`] returns.
+/// The node with `entry` added: a new fork at `position` parts it from the entries from `first` to `last`, as `Node::affected` returns
+/// them. `bit` is the new key's bit there. It is one node if there is room, else the cut that [`grow_full`] returns.
 pub fn grow(node: &Node, first: u8, last: u8, position: u16, bit: bool, entry: Entry) -> Grown
     requires range { IsAffected (piece node.now) position first last }
     requires position { position < 65535 }
@@ -36,8 +36,8 @@ pub fn grow(node: &Node, first: u8, last: u8, position: u16, bit: bool, entry: E
     grow_full(node, first, last, position, bit, entry)
 }
 
-/// A full node with `entry` beside the entries from `first` to `last`, where `Node::add` would put it. The node is cut, and the entry
-/// goes into one of the halves. If `position` is below the node's first one, the whole node is one side and the entry the other.
+/// As [`grow`], of a full node: it is cut, and the entry goes into one of the halves. If `position` is below the node's first one, the
+/// whole node is one side and the entry the other.
 pub fn grow_full(node: &Node, first: u8, last: u8, position: u16, bit: bool, entry: Entry) -> Grown
     requires full { length node.now.entries ≡ 32 }
     requires range { IsAffected (piece node.now) position first last }
@@ -75,7 +75,7 @@ fn keep_whole(position: u16, bit: bool, entry: Entry) -> Cut
     }
 }
 
-/// Cuts the full node `node`, and puts `entry` into the half that has the entries from `first` to `last`, as [`grow_half`] does.
+/// The cut of the full node `node`, with `entry` in the half that has the entries from `first` to `last`, as [`grow_half`] puts it there.
 fn cut_and_grow(node: &Node, first: u8, last: u8, position: u16, bit: bool, entry: Entry) -> Cut
     requires lawful { IsLawfulNode node.now }
     requires range { IsAffected (piece node.now) position first last }
@@ -107,7 +107,7 @@ fn cut_and_grow(node: &Node, first: u8, last: u8, position: u16, bit: bool, entr
     }
 }
 
-/// The number of entries of `half`, a side of a cut.
+/// The number of entries of `half`, a side of a cut. `Half::Same` is never given.
 fn count_half(half: &Half) -> u8
     requires { HalfShows half.now (half_piece half.now) }
     ensures { result ≡ size (half_piece half.now) }
@@ -119,8 +119,8 @@ fn count_half(half: &Half) -> u8
     }
 }
 
-/// The node of `half`, a side of a cut, with `entry` beside the entries from `first` to `last`. It is parted from these at `position`, and
-/// stands behind them if `bit`, else before them.
+/// The node of `half`, a side with fewer than 32 entries, with `entry` beside the entries from `first` to `last`. It is parted from these
+/// at `position`, and stands behind them if `bit`, else before them.
 fn grow_half(half: Half, first: u8, last: u8, position: u16, bit: bool, entry: Entry) -> Node
     requires half { HalfShows half (half_piece half) }
     requires room { size (half_piece half) < 32 }
@@ -145,8 +145,8 @@ fn grow_half(half: Half, first: u8, last: u8, position: u16, bit: bool, entry: E
     }
 }
 
-/// The node with a fork of `zero` and `one` at `position` in place of entry `at`. A full node is cut first, and the fork stands in one of
-/// its halves.
+/// The node with a fork of `zero` and `one` at `position` in place of entry `at`. `position` is above those of all forks on the path to
+/// `at`. A full node is cut first, and the fork stands in one of its halves.
 pub fn pull_up(node: &Node, at: u8, position: u16, zero: Entry, one: Entry) -> Grown
     requires place { at < length node.now.entries }
     requires path { IsAbovePath position at (piece node.now) }
@@ -185,7 +185,7 @@ pub fn pull_up(node: &Node, at: u8, position: u16, zero: Entry, one: Entry) -> G
     }
 }
 
-/// The node of `half`, a side of a cut, with a fork of `zero` and `one` at `position` in place of entry `at`.
+/// The node of `half`, a side with fewer than 32 entries, with a fork as [`pull_up`] puts it.
 fn fork_half(half: Half, at: u8, position: u16, zero: Entry, one: Entry) -> Node
     requires half { HalfShows half (half_piece half) }
     requires room { size (half_piece half) < 32 }

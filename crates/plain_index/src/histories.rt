@@ -18,7 +18,7 @@ pub fn are_legal(front: &[Change], pass: u16, notes: &[Note]) -> bool
         && tell_own_changes(front, pass, notes)
 }
 
-/// The kind and the value of the change that `call` made, if its reply is `reply`; `None` if it changed nothing.
+/// The kind and the value of the change that `call` makes if its reply is `reply`; `None` if it changes nothing.
 fn effect_of(call: &Call, reply: Reply) -> Option<(Kind, u64)>
     ensures { result ≡ effect_of call.now reply }
 {
@@ -113,8 +113,8 @@ fn names_change(front: &[Change], pass: u16, note: &Note) -> bool
     }
 }
 
-/// Whether `note` is legal in `front` as a note of `pass`: its place is in the front, its reply is that of the map there, and so is its
-/// change.
+/// Whether `note` is legal in `front` as a note of `pass`. Its place is in the front, and its reply is that of the map there. The change
+/// that it tells of, if any, stands at that place.
 fn stands_in(front: &[Change], pass: u16, note: &Note) -> bool
     ensures { IsTrue result ↔ StandsIn front.now pass note.now }
 {
@@ -125,7 +125,7 @@ fn stands_in(front: &[Change], pass: u16, note: &Note) -> bool
     note.reply == note.call.reply(held) && names_change(front, pass, note)
 }
 
-/// Whether the places of `notes` rise from `low` on, and rise strictly behind a change.
+/// Whether the places of `notes` begin at `low` or later, never fall, and rise behind each note that tells of a change.
 fn rises_from(low: u128, notes: &[Note]) -> bool
     ensures { IsTrue result ↔ RisesFrom low notes.now }
 {

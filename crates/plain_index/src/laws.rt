@@ -1,7 +1,7 @@
 //! Laws of histories, over their definitions alone. The functions do nothing: their contracts are the laws.
 ghost use Rattle.plain_index.specs.Statements.{InOrder, Longer, Woven, WovenTwo, WovenInOrder, WovenInOrderTwo, WovenInTime, ScansAtOnce, StillScans, ScanIsGets, Alone};
 
-/// A pass's calls stay legal while other passes make changes.
+/// A pass's legal calls stay legal while other passes make legal changes.
 pub fn longer()
     ensures { Longer }
 {}
@@ -33,12 +33,14 @@ pub fn still_scans()
     ensures { StillScans }
 {}
 
-/// A lawful scan says of each key of its range what a get would have answered at some moment of the scan.
+/// A lawful scan says of each key of its range what a get returns at some moment of the scan. If it has `more`, it says so of each key up
+/// to that of its last pair.
 pub fn scan_is_gets()
     ensures { ScanIsGets }
 {}
 
-/// The legal calls of a pass that made all changes are a run of the finite map, one call after the other.
+/// The legal calls of a pass that made all changes are a run of the finite map, one call after the other. It leads from the empty map to
+/// that of the front.
 pub fn alone()
     ensures { Alone }
 {}

@@ -67,8 +67,8 @@ impl PlainIndex {
         }
     }
 
-    /// Gives `key` the value `value` if it has the value `expected`, and returns `Exchanged`. Else nothing changes, and it returns `Differs`
-    /// with the key's value, or `Absent`. It returns no error.
+    /// Gives `key` the value `value` if it has the value `expected`, and returns `Exchanged`. Else nothing changes, and it returns
+    /// `Differs` with the key's value, or `Absent`. It returns no error.
     fn exchange(&mut self, key: Key, expected: u64, value: u64) -> Result<Reply, AllocError>
         ensures reply { IfOk result (λ reply. reply ≡ reply_of self.old (Exchange key expected value)) }
         ensures map { OnOk result (self.new ≡ map_after self.old (Exchange key expected value)) }
@@ -84,8 +84,8 @@ impl PlainIndex {
         }
     }
 
-    /// Adds `delta` to the value of `key`, modulo 2 to the power of 64, and returns `Was` with the value before. An absent key stays absent,
-    /// and `Absent` is returned. It returns no error.
+    /// Adds `delta` to the value of `key`, modulo 2 to the power of 64, and returns `Was` with the value before. An absent key stays
+    /// absent, and `Absent` is returned. It returns no error.
     fn add(&mut self, key: Key, delta: u64) -> Result<Reply, AllocError>
         ensures reply { IfOk result (λ reply. reply ≡ reply_of self.old (Add key delta)) }
         ensures map { OnOk result (self.new ≡ map_after self.old (Add key delta)) }
@@ -99,8 +99,8 @@ impl PlainIndex {
         Ok(Reply::Was(had))
     }
 
-    /// Removes `key` if it has the value `expected`, and returns `Removed`. Else nothing changes, and it returns `Differs` with the key's
-    /// value, or `Absent`.
+    /// Removes `key` if it has the value `expected`, and returns `Removed` with that value. Else nothing changes, and it returns `Differs`
+    /// with the key's value, or `Absent`.
     fn remove_if(&mut self, key: &Key, expected: u64) -> Reply
         ensures reply { result ≡ reply_of self.old (RemoveIf key.now expected) }
         ensures map { self.new ≡ map_after self.old (RemoveIf key.now expected) }
@@ -115,9 +115,9 @@ impl PlainIndex {
         }
     }
 
-    /// The keys from `from` to `upto`, both included, with their values: the first `limit` of them, in the order of the keys.
-    /// It finds `from` by one search, and reads the pairs that it returns and the one behind them. It returns `AllocError` if memory is
-    /// refused for a pair.
+    /// The keys from `from` to `upto`, both included, with their values: the first `limit` of them, in the order of the keys. `more` says
+    /// whether there are others. It finds `from` by one search, and reads the pairs that it returns and the one behind them. It returns
+    /// `AllocError` if memory is refused for a pair.
     pub fn scan(
         &self,
         alloc: Global,

@@ -81,7 +81,8 @@ fn split(nodes: &mut Vec<Node>, number: u32, height: u16, cut: Cut) -> Risen
     }
 }
 
-/// The entry of `half`: a new node takes record `number`, and the node as it was, of the height `height`, keeps it.
+/// The entry of `half`: one entry is returned as it is, and a node is put into record `number`. `Half::Same` is the node that stands there,
+/// of the height `height`.
 fn keep_half(nodes: &mut Vec<Node>, number: u32, height: u16, half: Half) -> Entry
     requires { number < vec_len nodes.old }
     ensures nodes { nodes.new.items ≡ kept_nodes nodes.old.items number half }
@@ -96,7 +97,8 @@ fn keep_half(nodes: &mut Vec<Node>, number: u32, height: u16, half: Half) -> Ent
     }
 }
 
-/// The entry of `half`: a new node gets a new record, and the node as it was, of the height `height`, keeps record `number`.
+/// The entry of `half`: one entry is returned as it is, and a node is put into a new record. `Half::Same` is node `number`, of the height
+/// `height`.
 fn push_half(nodes: &mut Vec<Node>, number: u32, height: u16, half: Half) -> Entry
     requires room { vec_len nodes.old < vec_capacity nodes.old }
     requires small { vec_len nodes.old < 2 ^ 32 }
@@ -143,7 +145,7 @@ fn push_node(nodes: &mut Vec<Node>, node: Node) -> Entry
     entry
 }
 
-/// The entry of a new node of `zero` and `one` with a fork at `position`, in a new record behind the others.
+/// Puts a node of `zero` and `one`, with a fork at `position`, into a new record behind the others, and returns its entry.
 pub fn push_pair(nodes: &mut Vec<Node>, position: u16, zero: Entry, one: Entry) -> Entry
     requires room { vec_len nodes.old < vec_capacity nodes.old }
     requires small { vec_len nodes.old < 2 ^ 32 }

@@ -23,11 +23,10 @@ use compound_node::{Entry, Node};
 use insert_cases::{Risen, grow, is_pull_up, pull_up};
 use key_bits::Key;
 
-/// What takes the place of `entry` when `key` gets the leaf `leaf` below it. The key differs first at `position` from that of the leaf
-/// where its search ends.
-///
-/// The search goes down to the node that takes the new leaf, or to a leaf. Below a node over other nodes a leaf counts as a child of height
-/// 0 that gave way to a fork of itself and the new one. Each node on the way back takes what took its child's place.
+/// Adds the leaf `leaf`, which has `key`, below `entry`, and returns what takes the place of `entry`. The key differs first at `position`
+/// from that of the leaf where its search ends. The search goes down to the node that takes the new leaf, or to a leaf. Below a node over
+/// other nodes a leaf counts as a child of height 0. It gives way to a fork of itself and the new one. Each node on the way back takes what
+/// took its child's place.
 pub fn raise(nodes: &mut Vec<Node>, entry: Entry, key: &Key, position: u16, leaf: u32) -> Risen
     requires place { (leaves : List LeafRecord) × (value : ℕ) × (t : Tree) × IsAddable nodes.old.items leaves (item leaf key.now value) position entry t }
     requires position { position < 65535 }
@@ -62,8 +61,8 @@ pub fn raise(nodes: &mut Vec<Node>, entry: Entry, key: &Key, position: u16, leaf
     }
 }
 
-/// Whether a node of the height `height` gets a new leaf itself, where its entries from `first` to `last` are affected: they are several,
-/// or all entries are leaves. Else the leaf goes into the child, or into a new node with one leaf.
+/// Whether a new leaf that affects the entries from `first` to `last` of a node of the height `height` goes into that node itself. So it is
+/// if these are several, or all entries are leaves. Else the leaf goes into the child, or into a new node with one leaf.
 fn takes_leaf(height: u16, first: u8, last: u8) -> bool
     ensures { IsTrue result ↔ ((first < last) ⊎ (height ≡ 1)) }
 {
@@ -90,10 +89,8 @@ fn fork_entries(old: Entry, position: u16, bit: bool, new: Entry) -> Risen
 }
 
 /// Puts `risen` in the place of entry `at` of node `number`, which is `height` high, and returns what takes the node's place. `low` is the
-/// height of the entry that was there.
-///
-/// A fork goes into the node if that is one higher, else into a new node at the place. A full node that takes in the fork is cut, and the
-/// fork of its sides is returned.
+/// height of the entry that was there. A fork goes into the node if that is one higher than `low`, else into a new node at the place. A
+/// full node that takes in the fork is cut, and the fork of its sides is returned.
 fn lift(nodes: &mut Vec<Node>, number: u32, height: u16, at: u8, low: u16, risen: Risen) -> Risen
     requires place { (ns : List NodeView) × (leaves : List LeafRecord) × (x : Item) × (p : ℕ) × (y : Fixed) × (b : Tree) ×
         IsLifting (records ns leaves) nodes.old.items x p (level number height at low) y b (subtrie_of risen) }

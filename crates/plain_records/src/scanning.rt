@@ -25,8 +25,8 @@ pub struct Range<'a> {
     pub limit: usize,
 }
 
-/// Goes on with `scan`, a scan of the pairs before those below `entry`: adds the pairs of `range` below `entry`, in the order of their
-/// keys. Where the limit is reached it sets `more` in place of a further pair. `AllocError` if memory is refused for a pair.
+/// Goes on with `scan`, that of the pairs before those below `entry`: adds the pairs of `range` below `entry`, in the order of their keys.
+/// Where the limit is reached it sets `more` in place of a further pair. `AllocError` if memory is refused for a pair.
 pub fn scan_below(
     nodes: &Vec<Node>,
     leaves: &Vec<LeafRecord>,

@@ -9,7 +9,8 @@ ghost use Rattle.publish_laws.specs.Sure.{DescentFinds};
 
 // What a pass is sure of
 
-/// A descent that began at the locked node's entry finds where the new key belongs.
+/// A descent from the entry at the new key's place in a locked node ends at a leaf. It tells what an insertion needs of the way below that
+/// node.
 pub fn descent_finds()
     ensures { DescentFinds }
 {}
@@ -31,14 +32,16 @@ pub fn loads_are_locked_words()
     ensures { LoadsOfLocked }
 {}
 
-/// After each act but a publish, a pin or an unpin a pass recalls all that it did before.
+/// After each act but a publish, a pin or an unpin a pass has the same pin, and all facts that it had. All changes that it has seen since
+/// are of others.
 pub fn acts_keep_recall()
     ensures { ActGoesOn }
 {}
 
 // What rises
 
-/// If an insertion affects no more of a locked node than the place of the one below, the node's first fork is before its position.
+/// Let an insertion affect no more of a locked node than one entry, which is the node below. Then the locked node's first fork is before
+/// the position of the insertion.
 pub fn upper_fork_is_before()
     ensures { AboveGoesOn }
 {}
@@ -80,14 +83,14 @@ pub fn may_pull_up_and_overflow()
     ensures { PullUpOverflow }
 {}
 
-/// A pass may publish a leaf pushdown, or the second key: a node of the old leaf and the new one takes the old one's place.
+/// A pass may publish a leaf pushdown, or the second key. A node of the old leaf and the new one takes the old one's place.
 pub fn may_pair_leaves()
     ensures { MayPair }
 {}
 
 // Upsert and removal
 
-/// A pass may publish an upsert of a held key: the new leaf takes the old one's place, and the value that was held is known.
+/// A pass may publish an upsert of a held key: the new leaf takes the old one's place. The value that was held is known.
 pub fn may_upsert()
     ensures { MayUpsert }
 {}
@@ -98,8 +101,8 @@ pub fn may_remove()
     ensures { MayRemove }
 {}
 
-/// A pass may publish a merge: one new node has what is left beside the leaf, and the entries of the sibling. What is left of the node above
-/// takes its place, with that node as one entry for two. The publish unlinks the leaf and the three old nodes, and the value that the key
+/// A pass may publish a merge: one new node has what is left beside the leaf, and the entries of the sibling. What is left of the node
+/// above takes its place, with that node as one entry for two. The publish unlinks the leaf and the three old nodes. The value that the key
 /// had is known.
 pub fn may_merge()
     ensures { MayMerge }
@@ -147,7 +150,8 @@ pub fn end_leaves_nothing()
     ensures { EndRests }
 {}
 
-/// A pass that has published, loaded the epoch, marked and unlocked has nothing of its own, and has seen its own change last.
+/// A pass that has published, loaded the epoch, marked each record and unlocked each node has no record and no locked node. It has seen its
+/// own change last.
 pub fn loops_leave_nothing()
     ensures { Settles }
 {}

@@ -6,12 +6,14 @@ pub fn runs_stay_sound()
     ensures { RunsStaySound }
 {}
 
-/// The look-ups and changes of a run are linearizable.
+/// The look-ups and changes of a run are linearizable up to each moment. The premise is that each call pending then ends later, or has made
+/// no change but the one that it asks.
 pub fn runs_are_linearizable()
     ensures { Linearizable }
 {}
 
-/// A call that responds changes the map as it asks, if at all.
+/// Let a call that responds ask one call of the map, or change nothing. At each moment up to its response it has changed nothing, or just
+/// what it asks.
 pub fn responders_change_as_asked()
     ensures { RespondersChangeAsAsked }
 {}
@@ -21,7 +23,8 @@ pub fn refusals_change_nothing()
     ensures { RefusedChangeNothing }
 {}
 
-/// The look-ups and changes of a run have one order whatever the calls that are pending do.
+/// Whatever pending calls do, the look-ups and changes of a run have one order. It has one call for each change that a pending call has
+/// made.
 pub fn runs_are_ordered_by_effect()
     ensures { OrderedByEffect }
 {}

@@ -26,7 +26,8 @@ impl State {
         self.passes.get(pass as usize).copied()
     }
 
-    /// Loads the epoch as `word`, which begins a round of the pass. Returns whether that is legal; if not, nothing changes.
+    /// Loads the epoch and finds `word`, which begins a round of `pass`. Returns whether that is legal: `word` is the epoch. If not,
+    /// nothing changes.
     pub(crate) fn load_epoch(&mut self, pass: u16, word: u64) -> bool
         requires { pass < length self.old.passes }
         ensures { IsStepped result self.old self.new pass (LoadEpoch word) }
@@ -40,7 +41,8 @@ impl State {
         true
     }
 
-    /// Raises the epoch by one if it is `expected`; `found` is the epoch before. Returns whether that is legal; if not, nothing changes.
+    /// Raises the epoch by one if it is `expected`. Returns whether that is legal: `found` is the epoch before, and `expected` is 1 to
+    /// `EPOCHS` - 2. If not, nothing changes.
     pub(crate) fn advance(&mut self, pass: u16, expected: u64, found: u64) -> bool
         ensures { IsStepped result self.old self.new pass (Advance expected found) }
     {
@@ -53,7 +55,8 @@ impl State {
         true
     }
 
-    /// Pins the pass by `word`, the epoch that it loaded last. Returns whether that is legal; if not, nothing changes.
+    /// Pins `pass` by `word`. Returns whether that is legal: the pass isn't pinned, and `word` is the epoch that it loaded last. If not,
+    /// nothing changes.
     pub(crate) fn set_pin(&mut self, pass: u16, word: u64) -> bool
         requires { pass < length self.old.passes }
         ensures { IsStepped result self.old self.new pass (SetPin word) }
@@ -67,7 +70,7 @@ impl State {
         true
     }
 
-    /// Unpins the pass. Returns whether that is legal, as it is of a pinned pass; if not, nothing changes.
+    /// Unpins `pass`. Returns whether that is legal: the pass is pinned. If not, nothing changes.
     pub(crate) fn clear_pin(&mut self, pass: u16) -> bool
         requires { pass < length self.old.passes }
         ensures { IsStepped result self.old self.new pass ClearPin }
@@ -81,7 +84,8 @@ impl State {
         true
     }
 
-    /// Loads the pin of pass `of`, as `word`, into the round of `pass`. Returns whether that is legal; if not, nothing changes.
+    /// Loads the pin of pass `of`, finding `word`, into the round of `pass`. Returns whether that is legal: the index has pass `of`, and
+    /// `word` is its pin, or 0 if it has none. If not, nothing changes.
     pub(crate) fn load_pin(&mut self, pass: u16, of: u16, word: u64) -> bool
         requires { pass < length self.old.passes }
         ensures { IsStepped result self.old self.new pass (LoadPin of word) }

@@ -38,7 +38,7 @@ impl Fate {
     }
 }
 
-/// The state of what the pass in `lock` has locked, or of what is live and unlocked if there is none.
+/// The state of what is live: locked by the pass in `lock`, or unlocked if there is none.
 pub(crate) fn tag_of_lock(lock: Option<u16>) -> Tag
     ensures { result ≡ lock_tag lock }
 {

@@ -8,7 +8,8 @@ ghost use Rattle.replay_state.specs.Links.{AllMayBeLinked, AllMayBeUnlinked, Are
 use crate::fate::Fate;
 
 impl Fate {
-    /// Whether `pass` may publish a tree that links this record: it is in the tree, or ready by `pass`. `true` unless `is_linked`.
+    /// Whether the fate allows `pass` to publish a tree, of which `is_linked` says whether it links the record. One that is linked must be
+    /// in the tree already, or ready by `pass`.
     fn may_be_linked(self, pass: u16, is_linked: bool) -> bool
         ensures { IsTrue result ↔ MayBeLinked pass is_linked self }
     {
@@ -19,7 +20,8 @@ impl Fate {
         }
     }
 
-    /// Whether `pass` may publish a tree without this node: it isn't in the tree, or `lock` is `pass`. `true` if `is_linked`.
+    /// Whether the fate and `lock` allow `pass` to publish a tree, of which `is_linked` says whether it links the node. `lock` is the pass
+    /// that has locked it. One of the tree that isn't linked must be locked by `pass`.
     fn may_be_unlinked(self, pass: u16, is_linked: bool, lock: Option<u16>) -> bool
         ensures { IsTrue result ↔ MayBeUnlinked pass is_linked lock self }
     {
@@ -30,7 +32,7 @@ impl Fate {
     }
 
     /// The fate after `pass` has published version `now + 1`, of which `is_linked` says whether it links the record. A ready record that is
-    /// linked is in the tree then, and one of the tree that isn't is unlinked. All other fates stay.
+    /// linked is in the tree then. One of the tree that isn't linked is unlinked, and all other fates stay.
     fn after_publish(self, now: u64, pass: u16, is_linked: bool) -> Fate
         requires { now + 1 < 2 ^ 64 }
         ensures { stored_fate result ≡ next_fate now pass is_linked (stored_fate self) }
@@ -47,7 +49,8 @@ impl Fate {
     }
 }
 
-/// Whether `pass` may publish a tree that links just those of these records that `linked` marks, as `may_be_linked` says of each.
+/// Whether `pass` may publish a tree that links, of the records with these `fates`, just those that `linked` marks: `may_be_linked` of
+/// each.
 pub(crate) fn may_link(fates: &[Fate], pass: u16, linked: &[bool]) -> bool
     ensures { IsTrue result ↔ AllMayBeLinked pass linked.now fates.now }
 {
@@ -72,7 +75,7 @@ pub(crate) fn may_unlink(fates: &[Fate], locks: &[Option<u16>], pass: u16, linke
     true
 }
 
-/// Gives each of these records its fate after `pass` has published version `now + 1`, which links just those that `linked` marks.
+/// Makes each of `fates` the one after `pass` has published version `now + 1`, which links just the records that `linked` marks.
 pub(crate) fn update_each_fate(fates: &mut [Fate], now: u64, pass: u16, linked: &[bool])
     requires { now + 1 < 2 ^ 64 }
     ensures { AreNextFates now pass linked.now fates.old fates.new }

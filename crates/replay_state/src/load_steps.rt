@@ -14,7 +14,8 @@ use replay_trees::unpack_entry;
 use rowex_core::{Rec, Spot};
 
 impl State {
-    /// Returns whether it is legal that the pass loads the entry at `spot` and finds `word`. The load changes nothing.
+    /// Whether it is legal that `pass` loads the entry word at `spot` and finds `word`: it stands there. `false` too if there is no such
+    /// word. The load changes nothing.
     pub(crate) fn load_ref(&self, pass: u16, spot: Spot, word: u64) -> bool
         ensures { IsStepped result self.now self.now pass (LoadRef spot word) }
     {
@@ -30,8 +31,8 @@ impl State {
         }
     }
 
-    /// Returns whether it is legal that the pass loads the word at `offset` of `rec`, neither its state nor an entry, and finds `word`. The
-    /// load changes nothing.
+    /// Whether it is legal that `pass` loads the word at `offset` of `rec` and finds `word`: it stands there. `false` too if `offset` is
+    /// that of the state, of an entry or of no word. The load changes nothing.
     pub(crate) fn load_fixed(&self, pass: u16, rec: Rec, offset: u8, word: u64) -> bool
         ensures { IsStepped result self.now self.now pass (LoadFixed rec offset word) }
     {
@@ -41,7 +42,8 @@ impl State {
         self.records.has_word(rec, offset as usize - 1, word)
     }
 
-    /// Returns whether it is legal that the pass loads the state of `rec` and finds `word`. The load changes nothing.
+    /// Whether it is legal that `pass` loads the state of `rec` and finds `word`: it is the state word. `false` too if the table hasn't the
+    /// record. The load changes nothing.
     pub(crate) fn load_state(&self, pass: u16, rec: Rec, word: u64) -> bool
         ensures { IsStepped result self.now self.now pass (LoadState rec word) }
     {

@@ -19,7 +19,8 @@ impl State {
         self.anchor == Some(pass)
     }
 
-    /// Locks `target` if it is unlocked; `found` is its state word before. Returns whether that is legal; if not, nothing changes.
+    /// Locks `target` for `pass` if it is live and unlocked. Returns whether that is legal: `found` is its state word, and a node that is
+    /// live and unlocked is in the tree. If not, nothing changes.
     pub(crate) fn lock(&mut self, pass: u16, target: Target, found: u64) -> bool
         ensures { IsStepped result self.old self.new pass (Lock target found) }
     {
@@ -29,7 +30,7 @@ impl State {
         }
     }
 
-    /// Unlocks `target`, which `pass` has locked. Returns whether that is legal; if not, nothing changes.
+    /// Unlocks `target`. Returns whether that is legal: `pass` has locked it, and a node is in the tree. If not, nothing changes.
     pub(crate) fn unlock(&mut self, pass: u16, target: Target) -> bool
         ensures { IsStepped result self.old self.new pass (Unlock target) }
     {
@@ -52,7 +53,7 @@ impl State {
         true
     }
 
-    /// As `lock`, of node `node`. One that is unlocked must be in the tree.
+    /// As `lock`, of node `node`.
     fn lock_node(&mut self, pass: u16, node: u32, found: u64) -> bool
         ensures { IsStepped result self.old self.new pass (Lock (NodeTarget node) found) }
     {
@@ -79,7 +80,7 @@ impl State {
         true
     }
 
-    /// As `unlock`, of node `node`, which must be in the tree.
+    /// As `unlock`, of node `node`.
     fn unlock_node(&mut self, pass: u16, node: u32) -> bool
         ensures { IsStepped result self.old self.new pass (Unlock (NodeTarget node)) }
     {

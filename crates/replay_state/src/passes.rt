@@ -34,7 +34,7 @@ impl PassState {
         }
     }
 
-    /// The pass when it has loaded `epoch` at `version`.
+    /// The pass when it has loaded `epoch` at `version`. Its round has loaded no pin yet, and its own pin stays.
     pub(crate) fn begin_round(self, epoch: u64, version: u64) -> PassState
         ensures { result ≡ in_round self epoch version }
     {
@@ -47,7 +47,7 @@ impl PassState {
         }
     }
 
-    /// The pass when it has loaded `pin`, the pin of pass `of`, which may be its own.
+    /// The pass when its round has loaded `pin`, that of pass `of`, which may be itself. `None` is that of a pass that isn't pinned.
     pub(crate) fn see_pin(self, of: u16, pin: Option<u64>) -> PassState
         ensures { result ≡ with_pin_seen self of pin }
     {
@@ -73,8 +73,8 @@ impl PassState {
         self.pin.is_none() && epoch == self.epoch && epoch >= 1
     }
 
-    /// Whether no pass can reach what was marked with `epoch`: that is below the bound of the round, which has loaded the pins of the first
-    /// `passes` passes.
+    /// Whether no pass can reach what was marked with `epoch`. It is at least 1 and below the bound of this pass's round, which has loaded
+    /// the pins of the first `passes` passes.
     pub(crate) fn is_unreachable(&self, epoch: u64, passes: usize) -> bool
         ensures { IsTrue result ↔ IsOutOfReach self.now epoch passes }
     {

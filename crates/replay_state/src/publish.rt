@@ -17,8 +17,8 @@ use rowex_core::Spot;
 use std::alloc::AllocError;
 
 impl State {
-    /// Stores `word` at `spot`, the root or an entry, under its lock. Returns whether that is legal; if not, nothing changes. An error,
-    /// which changes nothing, if memory is refused.
+    /// Stores `word` at `spot`, the root or an entry. Returns whether that is legal: `pass` has locked the word, and what the words show
+    /// then is a lawful next version. If not, nothing changes. An error, which changes nothing, if memory is refused.
     pub(crate) fn publish(&mut self, pass: u16, spot: Spot, word: u64) -> Result<bool, AllocError>
         ensures ok { IfOk result (λ made. IsStepped made self.old self.new pass (Publish spot word)) }
         ensures err { OnErr result (self.new ≡ self.old) }
@@ -33,8 +33,7 @@ impl State {
         }
     }
 
-    /// Stores `root`, whose word is `word`, as the root. Returns whether that is legal; if not, nothing changes. An error, which changes
-    /// nothing, if memory is refused.
+    /// As `publish`, of the root: `root` is its new entry, whose word is `word`.
     fn publish_root(
         &mut self,
         pass: u16,
@@ -53,8 +52,7 @@ impl State {
         self.publish_tree(pass, root)
     }
 
-    /// Stores `word` as entry `entry` of node `node`. Returns whether that is legal. If not, or if memory is refused, which is an error,
-    /// the old word is put back.
+    /// As `publish`, of entry `entry` of node `node`. If the store isn't legal, or if memory is refused, the old word is put back.
     fn publish_entry(
         &mut self,
         pass: u16,
@@ -95,8 +93,9 @@ impl State {
         }
     }
 
-    /// Makes the tree that the words show from `root` the newest version, if `pass` may. Returns whether it may; if not, nothing changes.
-    /// An error, which changes nothing, if memory is refused.
+    /// Makes the tree that the words show from `root` the newest version, and returns `true`. `false`, and nothing changes, if it is no
+    /// lawful tree, is not one change from the newest, or fates and locks don't allow it. An error, which changes nothing, if memory is
+    /// refused.
     fn publish_tree(&mut self, pass: u16, root: Option<Entry>) -> Result<bool, AllocError>
         ensures ok { IfOk result (λ made. IsPublishJudged made self.old self.new pass root) }
         ensures err { OnErr result (self.new ≡ self.old) }

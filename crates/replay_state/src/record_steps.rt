@@ -13,7 +13,8 @@ use record_words::{FIRST_ENTRY, Layout, NODE_WORDS, Tag, pack_state};
 use rowex_core::Rec;
 
 impl State {
-    /// Claims `rec` if it is free; `found` is its state word before. Returns whether that is legal; if not, nothing changes.
+    /// Claims `rec` for `pass` if it is free. Returns whether that is legal: the table has the record, and `found` is its state word
+    /// before. If not, nothing changes.
     pub(crate) fn claim(&mut self, pass: u16, rec: Rec, found: u64) -> bool
         ensures { IsStepped result self.old self.new pass (Claim rec found) }
     {
@@ -26,7 +27,8 @@ impl State {
         true
     }
 
-    /// Stores `word` at `offset` of `rec`, which the pass holds. Returns whether that is legal; if not, nothing changes.
+    /// Stores `word` at `offset` of `rec`. Returns whether that is legal: `pass` holds the record, which has a word other than its state
+    /// there. If not, nothing changes.
     pub(crate) fn fill(&mut self, pass: u16, rec: Rec, offset: u8, word: u64) -> bool
         ensures { IsStepped result self.old self.new pass (Fill rec offset word) }
     {
@@ -37,7 +39,8 @@ impl State {
         true
     }
 
-    /// Makes `rec` live, which the pass holds and whose words spell a value. Returns whether that is legal; if not, nothing changes.
+    /// Makes `rec` live. Returns whether that is legal: `pass` holds the record, and its words spell a value for which it has room. If not,
+    /// nothing changes.
     pub(crate) fn ready(&mut self, pass: u16, rec: Rec) -> bool
         ensures { IsStepped result self.old self.new pass (Ready rec) }
     {
@@ -48,7 +51,7 @@ impl State {
         true
     }
 
-    /// Makes `rec` free, which the pass holds. Returns whether that is legal; if not, nothing changes.
+    /// Makes `rec` free. Returns whether that is legal: `pass` holds the record. If not, nothing changes.
     pub(crate) fn release(&mut self, pass: u16, rec: Rec) -> bool
         ensures { IsStepped result self.old self.new pass (Release rec) }
     {
@@ -59,8 +62,8 @@ impl State {
         true
     }
 
-    /// Makes `rec` obsolete with `epoch`, the one that the pass loaded last, after it had unlinked the record. That unlocks it, too. Returns
-    /// whether that is legal; if not, nothing changes.
+    /// Makes `rec` obsolete with `epoch`, and unlocks it. Returns whether that is legal: `pass` has unlinked the record, and after that its
+    /// last load of the epoch found `epoch`. If not, nothing changes.
     pub(crate) fn mark(&mut self, pass: u16, rec: Rec, epoch: u64) -> bool
         requires { pass < length self.old.passes }
         ensures { IsStepped result self.old self.new pass (Mark rec epoch) }
@@ -77,8 +80,8 @@ impl State {
         true
     }
 
-    /// Frees `rec` if it is marked with `epoch`, below the bound of the pass's round over all pins; `found` is its state word before. Returns
-    /// whether that is legal; if not, nothing changes.
+    /// Frees `rec` if it is marked with `epoch`. Returns whether that is legal: `found` is its state word before, and the round of `pass`
+    /// says that what has `epoch` is unreachable. If not, nothing changes.
     pub(crate) fn give_back(&mut self, pass: u16, rec: Rec, epoch: u64, found: u64) -> bool
         requires { pass < length self.old.passes }
         ensures { IsStepped result self.old self.new pass (GiveBack rec epoch found) }

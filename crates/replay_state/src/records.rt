@@ -75,7 +75,7 @@ impl Records {
         }
     }
 
-    /// The pass that has locked `rec`, `Some(None)` if none has, as of each leaf; `None` if the table hasn't that node.
+    /// The pass that has locked `rec`; `Some(None)` if none has, and for each leaf. `None` if the table hasn't the node.
     pub(crate) fn lock_of(&self, rec: Rec) -> Option<Option<u16>>
         ensures { result ≡ lock_in self.now rec }
     {
@@ -139,7 +139,7 @@ impl Records {
     }
 
     /// Gives each record its fate after `pass` has published version `now + 1`, which links just the nodes and leaves that `nodes` and
-    /// `leaves` mark. A record past the last flag isn't linked. All but fates stays.
+    /// `leaves` mark. A record past the last flag isn't linked. All but the fates stays.
     pub(crate) fn update_fates(&mut self, now: u64, pass: u16, nodes: &[bool], leaves: &[bool])
         requires { now + 1 < 2 ^ 64 }
         ensures { AreNextRecords now pass nodes.now leaves.now self.old self.new }
@@ -158,7 +158,8 @@ impl Records {
         }
     }
 
-    /// Whether `word` stands at place `at` among the words of `rec`, counted from 0 behind the state.
+    /// Whether `word` stands at place `at` among the words of `rec`, counted from 0 behind the state. `false` if the table hasn't that
+    /// word.
     pub(crate) fn has_word(&self, rec: Rec, at: usize, word: u64) -> bool
         ensures { IsTrue result ↔ HasWordStored self.now rec at word }
     {
@@ -168,7 +169,7 @@ impl Records {
         }
     }
 
-    /// Whether the words of `rec` spell a value, and the record has room for it.
+    /// Whether the words of `rec` spell a value, and the record has room for it. `false` if the table hasn't the record.
     pub(crate) fn is_packed(&self, rec: Rec) -> bool
         ensures { IsTrue result ↔ IsPackedIn self.now rec }
     {
@@ -184,7 +185,7 @@ impl Records {
         }
     }
 
-    /// Whether leaf record `number` has room for a key of the length that `words` have.
+    /// Whether leaf record `number` has room for a key of the length in `words`, a leaf's words from offset 1 on.
     fn has_room(&self, number: u32, words: &[u64; LEAF_FIELDS]) -> bool
         ensures { IsTrue result ↔ FitsIn self.now.layout (a_leaf number) words.now }
     {
@@ -328,14 +329,14 @@ pub(crate) fn with_word<const N: usize>(words: [u64; N], at: usize, word: u64) -
     filled
 }
 
-/// Whether `words` are those of a node.
+/// Whether `words`, from offset 1 on, are those of a node.
 pub(crate) fn are_node_words(words: &[u64; NODE_FIELDS]) -> bool
     ensures { (n : ℕ) → IsTrue result ↔ IsPacked (a_node n) words.now }
 {
     unpack_node(words).is_ok()
 }
 
-/// Whether `words` are those of a leaf.
+/// Whether `words`, from offset 1 on, are those of a leaf, up to the end of its key.
 fn are_leaf_words(words: &[u64; LEAF_FIELDS]) -> bool
     ensures { (n : ℕ) → IsTrue result ↔ IsPacked (a_leaf n) words.now }
 {

@@ -66,8 +66,8 @@ impl State {
         })
     }
 
-    /// Makes `event` if it is legal, and returns Ok. `Illegal` if it isn't legal; `Memory` if memory was refused, which only a publish under
-    /// its lock takes. A fault changes nothing.
+    /// Makes `event` if it is legal, and returns Ok. `Illegal` if it isn't legal; `Memory` if memory was refused, which only a publish
+    /// under the lock of its word takes. A fault changes nothing.
     pub fn step(&mut self, event: Event) -> Result<(), ReplayFault>
         ensures ok { OnOk result ((c : Core) → ∥ IsLawful c ∥₁ → IsStateOf self.old c
             → Legal c event.pass event.act × IsStateOf self.new (after c event.pass event.act)) }
@@ -86,8 +86,8 @@ impl State {
         }
     }
 
-    /// Makes the act `act` of `pass`, if it is legal, and returns whether it was; if not, nothing changes. An error, which changes
-    /// nothing, if memory is refused.
+    /// Makes the act `act` of `pass` if it is legal, and returns whether it was; if not, nothing changes. An error, which changes nothing,
+    /// if memory is refused to a publish under the lock of its word.
     fn make_act(&mut self, pass: u16, act: Act) -> Result<bool, AllocError>
         requires { pass < length self.old.passes }
         ensures ok { IfOk result (λ made. IsStepped made self.old self.new pass act) }
@@ -122,7 +122,7 @@ impl State {
         self.changes.len() as u64
     }
 
-    /// The keys that the newest version holds, with their values, in the order of the keys.
+    /// The keys that the newest version holds, with their values, in the order of the keys. An error if memory is refused.
     pub fn content(&self, alloc: Global) -> Result<Vec<(Key, u64)>, AllocError>
         ensures { IfOk result (λ pairs. (c : Core) → IsStateOf self.now c → pairs.items ≡ content (c.past.version c.past.now)) }
     {

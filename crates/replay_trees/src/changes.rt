@@ -19,7 +19,8 @@ pub fn change_between(pass: u16, before: &[Item], after: &[Item]) -> Option<Chan
     change_at_front(pass, &before[front..], &after[front..])
 }
 
-/// As `change_between`, of lists `gone` and `come` whose first leaves are not the same.
+/// As `change_between`, of `gone`, the leaves before, and `come`, those after. Their first leaves, if both lists have one, have different
+/// numbers.
 fn change_at_front(pass: u16, gone: &[Item], come: &[Item]) -> Option<Change>
     requires { BeginApart (map read_item gone.now) (map read_item come.now) }
     ensures { AreSame (map read_item gone.now) (map read_item come.now) → IsFoundChange pass (map read_item gone.now) (map read_item come.now) result }
@@ -36,7 +37,8 @@ fn change_at_front(pass: u16, gone: &[Item], come: &[Item]) -> Option<Change>
     }
 }
 
-/// The change of `pass` that `item` and `kind` tell, if the other leaves are the same `before` and `after`; else `None`.
+/// The change of `pass` of the kind `kind`, with the key and value of `item`. `None` if the other leaves, `before` and `after`, have
+/// different numbers.
 fn make_change(
     pass: u16,
     item: &Item,
@@ -58,7 +60,7 @@ fn make_change(
     }
 }
 
-/// How many leaves `before` and `after` have in common at their front. Leaves of one number are one leaf.
+/// How many first leaves of `before` and `after` have the same numbers: those before the first that differ, or all of the shorter list.
 fn count_common(before: &[Item], after: &[Item]) -> usize
     ensures within { result ≤ length before.now }
     ensures within_both { result ≤ length after.now }

@@ -21,7 +21,7 @@ impl Fixed {
     ghost use Rattle.record_words.specs.Reading.{IsReading};
     ghost use Rattle.replay_trees.specs.Fixed.{HasFixedWords, packed_words};
 
-    /// The numbers whose words are `words`; `WordFault::Bad` if no numbers have such words.
+    /// The numbers that `words` spell, a node's words from offset 1 up to its entries. `WordFault::Bad` if no numbers have these words.
     pub(crate) fn unpack(words: &[u64]) -> Result<Fixed, WordFault>
         requires { length words.now ≡ HEAD_WORDS }
         ensures { IsReading HasFixedWords packed_words words.now result }
@@ -76,7 +76,7 @@ fn are_unused(positions: &[u16]) -> bool
     positions.iter().all(|position| *position == u16::MAX)
 }
 
-/// The list of `columns`, 31 at most.
+/// A copy of `columns`, 31 at most.
 fn copy_columns(columns: &[u16]) -> ArrayVec<u16, 31>
     requires { length columns.now ≤ 31 }
     ensures { result.items ≡ columns.now }

@@ -2,7 +2,8 @@
 
 ghost use Rattle.replay_trees.specs.Statements.{LeavesAreOne};
 
-/// Before and after a publish, leaves of one number are one leaf: what `change_between` asks of the two lists.
+/// Leaves of one number, in the newest tree and in the one that the store of a word would show, are one leaf. `change_between` asks that of
+/// its lists.
 pub fn leaves_are_one()
     ensures { LeavesAreOne }
 {}

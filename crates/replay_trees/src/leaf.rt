@@ -9,8 +9,8 @@ ghost use Rattle.record_words.specs.Reading.{IsReading};
 use key_bits::{Key, MAX_BYTES};
 use record_words::{LEAF_FIELDS, WordFault, key_words, write_word};
 
-/// The key and the value that a leaf record has, of its words from offset 1 on. Those behind its key may be any. `WordFault::Bad` if no
-/// leaf has these words.
+/// The key and the value of a leaf record with `words` from offset 1 on. Those behind its key may be any. `WordFault::Bad` if no leaf has
+/// the words up to there.
 pub fn unpack_leaf(words: &[u64; LEAF_FIELDS]) -> Result<(Key, u64), WordFault>
     ensures { IsReading HasLeafWords leaf_words (up_to_key words.now) result }
 {
@@ -20,7 +20,7 @@ pub fn unpack_leaf(words: &[u64; LEAF_FIELDS]) -> Result<(Key, u64), WordFault>
     unpack_with_bytes(words, &unpack_key_bytes(words))
 }
 
-/// The key and the value of a leaf with `words`, where those of its key have `bytes`. `WordFault::Bad` if a byte behind the key isn't 0.
+/// As `unpack_leaf`, of `words` whose key words have the bytes `bytes`. `WordFault::Bad` if a byte behind the key isn't 0.
 fn unpack_with_bytes(words: &[u64; LEAF_FIELDS], bytes: &[u8]) -> Result<(Key, u64), WordFault>
     requires short { slice_index words.now 1 ≤ MAX_BYTES }
     requires spelled { IsBytesOf bytes.now (take KEY_WORDS (drop 2 (up_to_key words.now))) }

@@ -11,7 +11,7 @@ use arrayvec::ArrayVec;
 use compound_node::{Entry, Head, Node};
 use record_words::{HEAD_WORDS, MAX_ENTRIES, NODE_FIELDS, WordFault};
 
-/// The node that a node record has, of its words from offset 1 on; `WordFault::Bad` if no node has these words.
+/// The node of a node record with `words` from offset 1 on; `WordFault::Bad` if no node has these words.
 pub fn unpack_node(words: &[u64; NODE_FIELDS]) -> Result<Node, WordFault>
     ensures { IsReading HasNodeWords node_words words.now result }
 {
@@ -31,7 +31,7 @@ pub fn unpack_node(words: &[u64; NODE_FIELDS]) -> Result<Node, WordFault>
     }
 }
 
-/// The head that a node record has, of its words from offset 1 on, whatever its entries are; `WordFault::Bad` if no head has these words.
+/// The head of a node record with `words` from offset 1 up to its entries, whatever these are; `WordFault::Bad` if no head has these words.
 pub fn unpack_head(words: &[u64; HEAD_WORDS]) -> Result<Head, WordFault>
     ensures { IsReading HasHeadWords head_words words.now result }
 {
@@ -47,7 +47,7 @@ pub fn unpack_head(words: &[u64; HEAD_WORDS]) -> Result<Head, WordFault>
     }
 }
 
-/// The entries whose words are `words`, up to the first 0; `WordFault::Bad` if no entries have these words.
+/// The entries whose words are `words`, up to the first 0. `WordFault::Bad` if a word is that of no entry, or one behind a 0 isn't 0.
 fn unpack_entries(words: &[u64]) -> Result<ArrayVec<Entry, MAX_ENTRIES>, WordFault>
     requires { length words.now ≡ MAX_ENTRIES }
     ensures { IsReading (λ entries. HaveEntryWords entries.items) (λ entries. entry_words entries.items) words.now result }

@@ -21,8 +21,9 @@ pub(crate) struct Records<'a> {
     pub leaves: &'a [[u64; LEAF_FIELDS]],
 }
 
-/// Reads what stands below `entry`, adds what it links to `linked`, and returns whether it is lawful, with no fork before position
-/// `least`. If it isn't, or memory is refused, which is an error, `linked` may have grown in part.
+/// Reads the part of a tree that begins at `entry`, from the words in `records`, and adds what it links to `linked`. Returns whether the
+/// words show a lawful part, with no fork before position `least`. If not, or if memory is refused, which is an error, `linked` may have
+/// some of it.
 #[cycle(reading)]
 pub(crate) fn read_entry(
     records: Records,
@@ -50,7 +51,7 @@ pub(crate) fn read_entry(
     }
 }
 
-/// As `read_entry`, of `half`, one side of a fork.
+/// As `read_entry`, of `half`, one side of a fork. `false` for `Half::Same`.
 #[cycle(reading)]
 fn read_half(
     records: Records,
@@ -92,7 +93,7 @@ fn read_cut(records: Records, least: u32, cut: Cut, linked: &mut Linked) -> Resu
 }
 
 /// Adds leaf record `number` of `leaves` to `linked`, and returns `true`. `false`, and nothing is added, if the table has no such record or
-/// its words spell no value. An error if memory is refused.
+/// its words are those of no leaf. An error if memory is refused.
 fn read_leaf(
     leaves: &[[u64; LEAF_FIELDS]],
     number: u32,

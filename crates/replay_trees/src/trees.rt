@@ -25,10 +25,9 @@ pub struct Linked {
     pub leaves: Vec<bool>,
 }
 
-/// What the tree links that the words of a table's records, each from offset 1 on, show from the entry `root`. `None` if they show no
-/// lawful tree, or one that links a record outside the table or one whose words spell no value. An error if memory is refused.
-///
-/// The time is linear in the tree; what is not lawful is left at the first fault.
+/// What the tree links that begins at the entry `root`; it is empty for `None`. `nodes` and `leaves` are the words of the table's records,
+/// each from offset 1 on. `None` if these show no lawful tree there, or one that links a record outside the table or one whose words spell
+/// no value. An error if memory is refused. Its time is linear in the table's records and the tree.
 pub fn read_tree(
     alloc: Global,
     nodes: &[[u64; NODE_FIELDS]],
@@ -50,7 +49,7 @@ pub fn read_tree(
     Ok(Some(linked))
 }
 
-/// A list of `count` marks, none of them set; an error if memory is refused.
+/// A list of `count` marks, all `false`; an error if memory is refused.
 fn unset_marks(alloc: Global, count: usize) -> Result<Vec<bool>, AllocError>
     ensures { IfOk result (λ marks. marks.items ≡ replicate count false) }
 {

@@ -61,11 +61,11 @@ pub enum FailedAct {
     Claim { by: Option<u64> },
     /// A lock that the pass `by` had; or of a retired node, that a change of `by` had unlinked.
     Lock { by: Option<u64> },
-    /// A load that found a state other than free: of a record that the pass `by` had; or that nobody had, in the tree or retired.
+    /// A load of a state that wasn't free: of a record that the pass `by` had; or that nobody had, in the tree or retired.
     LoadState { by: Option<u64> },
 }
 
-/// A claim or a lock that failed, or a load of a state that was not free: the word that it found, and the number of the step.
+/// A failed claim or lock, or a load of a state that wasn't free: the word that it found, and the number of the step.
 pub struct Failed {
     pub act: FailedAct,
     pub location: Location,
@@ -73,7 +73,7 @@ pub struct Failed {
     pub step: u64,
 }
 
-/// What the last load of the root left: the front, the number of that step, and the version at which the pass had set its pin. Before the
+/// What the last load of the root left: the front, the number of that step, and the version at which the pass was pinned. Before the
 /// first load the step is 0, the number of none; and so is the version, where there was no pin.
 pub struct Fresh {
     pub front: Listed<Change>,

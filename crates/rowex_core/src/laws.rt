@@ -17,7 +17,7 @@ pub fn keeps()
     ensures { Keeps }
 {}
 
-/// What a pass knows after its own step is true.
+/// What a pass knows is true after its own legal step too, with what that step teaches it.
 pub fn learned_is_true()
     ensures { Learns }
 {}
@@ -27,7 +27,7 @@ pub fn root_load_sees_all()
     ensures { SeesAll }
 {}
 
-/// What a pass knows that it has, it has, and no more.
+/// A pass has just the records of its own, the locks of nodes in the tree and the anchor's lock that it knows to have.
 pub fn knows_all_it_has()
     ensures { KnowsAll }
 {}
@@ -37,7 +37,7 @@ pub fn steps_write_one_word()
     ensures { WritesOne }
 {}
 
-/// The opening core is lawful, and the opening words show it.
+/// The opening core is lawful, the opening words show it, and no pass has done anything.
 pub fn opening_is_lawful()
     ensures { OpeningIsLawful }
 {}
@@ -68,27 +68,30 @@ pub fn parting()
     ensures { Parting }
 {}
 
-/// No record of a pinned pass's reach is free or held, and what it loads of one, states and entries aside, is of one content.
+/// No record of a pinned pass's reach is free or held. Its words, state and entries aside, are those that it had in each version since the
+/// pin.
 pub fn reach_is_kept()
     ensures { InReach }
 {}
 
-/// Each entry that a pinned pass loads of a node of its reach is one that the node had when it stood last.
+/// Each entry in a node of a pinned pass's reach is now the one that the node had in the last version that linked it. The node's fixed
+/// words and stems are the same in all versions since the pin that link it.
 pub fn entries_in_reach_stood()
     ensures { EntriesInReach }
 {}
 
-/// A publish is one step of the map, whatever other locks are held.
+/// A legal publish appends one change of its pass, which is legal on the map so far. The newest version then has the map after that change.
 pub fn publish_is_map_step()
     ensures { PublishIsAStep }
 {}
 
-/// Where a publish would change the leaves by one change of its pass, its legality asks for that change and no other.
+/// Let one change of a pass lead from the newest version to the tree that the store of a word would show, with other leaves. Then a legal
+/// publish of that word makes this change.
 pub fn legality_finds_change()
     ensures { FindsChange }
 {}
 
-/// Locks of two passes on different nodes are lawful at once.
+/// Let a node be locked, and a pass lock another one by a legal step. Then the core is lawful, and both locks stand.
 pub fn locks_stay_apart()
     ensures { LocksApart }
 {}

@@ -13,12 +13,12 @@ pub fn stored_slot_is_shown()
     ensures { SlotIsStored }
 {}
 
-/// A node to which a pass was led since its pin is in the tree, if its state is that of a live record.
+/// A node that was in the tree in a version since a pass's pin is in the tree now if its state is live.
 pub fn led_is_in_tree()
     ensures { LedIsInTree }
 {}
 
-/// After a publish a pass owns just what it has unlinked, and has locked just what is still linked.
+/// After a publish a pass owns just the records that it unlinked. It has locked just those nodes that it had locked and didn't unlink.
 pub fn publish_leaves_unlinked()
     ensures { OwnedAfterPublish }
 {}

@@ -7,22 +7,23 @@ pub fn content_rises()
     ensures { ContentRises }
 {}
 
-/// A tree is a bit trie exactly if each leaf has a key, and each fork is before those below it and parts the first keys of its two sides.
+/// A tree is a bit trie exactly if each leaf has a key and each fork keeps two rules. It is before those below it, and it parts the first
+/// keys of its two sides.
 pub fn local_is_trie()
     ensures { LocalIsTrie }
 {}
 
-/// One leaf more is one key more in the map.
+/// One leaf more adds its key, which was absent, to the map.
 pub fn adding_inserts()
     ensures { AddingInserts }
 {}
 
-/// One leaf for another of the same key is another value in the map.
+/// One leaf in the place of another of the same key replaces that key's value in the map.
 pub fn exchange_replaces()
     ensures { ExchangeReplaces }
 {}
 
-/// One leaf less is one key less in the map.
+/// One leaf less removes its key, which had its value, from the map.
 pub fn taking_removes()
     ensures { TakingRemoves }
 {}

@@ -3,42 +3,43 @@
 ghost use Rattle.version_laws.specs.Ways.{FoundSame, OneBody, PlacedSame, RootedSame, StillGrows, StillPlaced, StillRooted, WayBegins, WayEnds, WayGoesOn, WayIsBelow, WayOfLeaf};
 ghost use Rattle.version_laws.specs.Statements.{FirstKey, FoundIsKept, GetEnds, InsertAtSpot, LedPlaced, LoadsLeaf, LoadsNone, LoadsPlace, LoadsRoot, LoadsShape, MergeAtSpot, PairAtSpot, RemoveAtSpot, RemoveLast, ScanIsLawful, UpperGoesOn, UpsertAtSpot};
 
-/// An insertion that was checked under its locks is a legal publish that adds the key, in a node or at the root.
+/// An insertion that was checked under its locks is a legal publish that adds the key. It stores one entry, in a node or at the root.
 pub fn insert_at_spot()
     ensures { InsertAtSpot }
 {}
 
-/// If an insertion affects only the place of the node below in a locked node, that node's first fork is before its position.
+/// Let an insertion affect no more of a locked node than one entry, which is a node. Then the locked node's first fork is before the
+/// position of the insertion.
 pub fn first_fork_is_before()
     ensures { UpperGoesOn }
 {}
 
-/// A new node of a leaf and the new one, in the place of that leaf, is a legal publish that adds the key.
+/// The publish of a new node in the place of a leaf, with that leaf and the new one, is legal and adds the key.
 pub fn pair_at_spot()
     ensures { PairAtSpot }
 {}
 
-/// The first key at an empty root is a legal publish.
+/// The publish of a new leaf at an empty root is legal and adds the key.
 pub fn add_first_key()
     ensures { FirstKey }
 {}
 
-/// An upsert of a held key is a legal publish that replaces its value.
+/// The publish of a new leaf in the place of one with the same key is legal and replaces its value.
 pub fn upsert_at_spot()
     ensures { UpsertAtSpot }
 {}
 
-/// A removal that leaves something of the leaf's node is a legal publish that takes the key away.
+/// The publish of what is left of a leaf's node, in that node's place, is legal and removes the key.
 pub fn remove_at_spot()
     ensures { RemoveAtSpot }
 {}
 
-/// A removal that merges what is left of the leaf's node with the node beside it is a legal publish that takes the key away.
+/// A removal that merges what is left of the leaf's node with the node beside it is a legal publish that removes the key.
 pub fn merge_at_spot()
     ensures { MergeAtSpot }
 {}
 
-/// The removal of the one leaf is a legal publish that leaves the index empty.
+/// The removal of the only leaf is a legal publish that leaves the index empty.
 pub fn remove_last()
     ensures { RemoveLast }
 {}
@@ -48,17 +49,17 @@ pub fn found_is_kept()
     ensures { FoundIsKept }
 {}
 
-/// A load of the root tells its entry in a version.
+/// A load that finds an entry at the root tells that it stood there in a version since any that is no later.
 pub fn load_tells_root()
     ensures { LoadsRoot }
 {}
 
-/// A load of an empty root tells that each key was absent in a version since any that is no later.
+/// A load that finds the root empty tells that each key was absent in a version since any that is no later.
 pub fn load_tells_empty_root()
     ensures { LoadsNone }
 {}
 
-/// A load of an entry of a node in reach tells that it stood there in a version, and that it is lower.
+/// A load of an entry of a node in reach tells that it stood there in a version. The entry is lower than the node.
 pub fn load_tells_entry()
     ensures { LoadsPlace }
 {}
@@ -73,12 +74,13 @@ pub fn loads_tell_leaf()
     ensures { LoadsLeaf }
 {}
 
-/// A search goes from a node to the entry at its place, whatever was published between the loads.
+/// A search goes on from a node to the entry at the key's place in it, whatever was published between the loads.
 pub fn search_goes_on()
     ensures { LedPlaced }
 {}
 
-/// A lookup that came to a leaf stands in a version since its pin.
+/// A lookup that came to a leaf has the reply of a version since its pin. The key had the leaf's value there, or was absent if the leaf has
+/// another key.
 pub fn lookup_is_current()
     ensures { GetEnds }
 {}
@@ -88,7 +90,7 @@ pub fn scan_is_lawful()
     ensures { ScanIsLawful }
 {}
 
-/// The descent of a writer below its lock begins at a node of which it has read the forks.
+/// A writer's descent may begin at a node that was in the tree and of which it has read the forks.
 pub fn descent_begins()
     ensures { WayBegins }
 {}
@@ -108,7 +110,7 @@ pub fn descent_ends_at_once()
     ensures { WayOfLeaf }
 {}
 
-/// From the entry of a locked node on, the descent is the way below that node.
+/// A descent from the entry at the key's place in a locked node tells what a writer needs of the way below that node.
 pub fn descent_is_way_below()
     ensures { WayIsBelow }
 {}
@@ -123,18 +125,18 @@ pub fn still_at_entry()
     ensures { StillPlaced }
 {}
 
-/// A search that stands in the newest tree by `still_at_root` or `still_at_entry`, as no change was made since a version, stays known while
-/// more versions are published.
+/// If no change was made since a version, `still_at_root` or `still_at_entry` tells where a search stands in the newest tree. That stays
+/// known while more versions are published.
 pub fn still_known_later()
     ensures { StillGrows }
 {}
 
-/// In one version a node stands at one place: two of its bodies with the same forks and stems are one.
+/// In one version a node stands once: two parts of the tree that are this node, with the same forks and stems, are the same.
 pub fn node_has_one_body()
     ensures { OneBody }
 {}
 
-/// Two reads of the root find one entry, if no change was made in between.
+/// Two reads of the root find one entry, or both find it empty, if no change was made in between.
 pub fn root_loads_agree()
     ensures { RootedSame }
 {}

@@ -2,12 +2,12 @@
 
 ghost use Rattle.versions.specs.Statements.{ContentIsMap, StateHindsight, BareOpeningIsLawful, StateParting, BareReachIsKept, ReachIsSteady, StepKeepsLawful};
 
-/// A search that goes on at a record goes on at what it finds there, whatever has been published since.
+/// A search that was led to a node of a reach is led on to the child that the node's words give now. The node may be unlinked by then.
 pub fn hindsight()
     ensures { StateHindsight }
 {}
 
-/// Keys below two entries of a record part at the fork between them.
+/// Keys below two entries of a node part at the fork between them, whichever versions of its life they come from.
 pub fn parting()
     ensures { StateParting }
 {}
@@ -32,7 +32,8 @@ pub fn reach_is_kept()
     ensures { BareReachIsKept }
 {}
 
-/// What a pass loads of a record of its reach, states and entries aside, is of one content.
+/// The fixed words and stems of a node of a pinned pass's reach are the same in all versions since the pin. So are the key and value of a
+/// leaf.
 pub fn reach_is_steady()
     ensures { ReachIsSteady }
 {}

@@ -11,8 +11,8 @@ use plain_records::{Range, scan_below};
 use std::alloc::{AllocError, Global};
 
 impl PlainTrie {
-    /// The keys from `from` to `upto`, both included, with their values: the first `limit` of them, in the order of the keys. It goes
-    /// through all leaves from the first one on, and its calls nest as deep as the trie is high.
+    /// The keys from `from` to `upto`, both included, with their values: the first `limit` of them, in the order of the keys. `more` says
+    /// whether there are others. It goes through all leaves from the first one on, and its calls nest as deep as the trie is high.
     ///
     /// It takes memory for the pairs. It returns `AllocError` where they find no room, so only where it has a pair to return.
     pub fn scan(
