@@ -18,8 +18,8 @@ use rowex_table::{HotTable, TableSeat};
 const ENOUGH: usize = 16;
 
 /// Looks up `keys`, one after the other, each from the root down. What it finds goes to the key's place in `found`: the value, or `None`
-/// if the key is absent. If there are enough keys, they go down by turns before that, in groups. So the nodes on their ways are in the
-/// cache, and the places in them are known.
+/// if the key is absent. Each step is told `gate`. Groups of `TOGETHER` keys, or `ENOUGH` at least, go down by turns before that. So the
+/// nodes on their ways are in the cache, and the places in them are known.
 pub fn look_up_each<G: Gate>(
     table: &HotTable,
     seat: &mut TableSeat,
