@@ -80,8 +80,8 @@ impl Opened {
         }
     }
 
-    /// Replaces the list with at most `limit` pairs whose keys are from `from` to `upto`: the first ones for `Upwards`, else the last ones,
-    /// in falling order. Returns whether there are more. An error if memory is refused.
+    /// Replaces the list with at most `limit` pairs whose keys are from `from` to `upto`. For `Upwards` these are the first ones, in rising
+    /// order; else the last ones, in falling order. Returns whether there are more; an error if memory is refused.
     pub fn scan(
         &mut self,
         order: Order,

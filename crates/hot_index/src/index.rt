@@ -133,14 +133,14 @@ impl Index {
     ///
     /// It never blocks. It makes at most two attempts, with a round of collection between them. An attempt that tries no lock makes at
     /// most 61 atomic steps, and 26 for each entry of a node that its search loads. Any other makes at most 127, and 26 for each such
-    /// entry. To these come 297 for each lock that it tries, 2 for each node record and 4 for each leaf record. So on the longest way the
-    /// call makes at most 1,396,470 steps, and 2 for each pass, 6 for each node record and 10 for each leaf record.
+    /// entry. To these come 297 for each lock that it tries, 2 for each node record and 4 for each leaf record. So a call makes at most
+    /// 1,396,470 steps, and 2 for each pass, 6 for each node record and 10 for each leaf record.
     ///
     /// It returns `Busy` only if another pass has locked or retired what it wants to lock, or has made a change. That change came since
     /// the pin under which the call loaded the root last. So an index of one pass is never busy.
     ///
-    /// It returns `FullNodes` or `FullLeaves` only if it found each node record, or each leaf record with room for the key, taken when
-    /// its turn came. It makes the round of collection first. Then it looks again, unless the index has one pass and the round gave back
+    /// It returns `FullNodes` only if it found each node record not free when its turn came, and `FullLeaves` only if each leaf record
+    /// with room for the key. It makes the round of collection first. Then it looks again, unless the index has one pass and the round gave back
     /// none of the kind.
     ///
     /// A refused call has changed nothing, and holds no lock and no record.

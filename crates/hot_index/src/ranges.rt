@@ -18,8 +18,7 @@ impl Index {
     /// Lists the first `limit` pairs whose keys begin with `prefix` into `pairs`, whose earlier pairs are dropped. They have key order.
     /// Returns whether there are more; an error if memory is refused.
     ///
-    /// It is a `scan_into` of the range from the prefix to the last key that begins with it, with the same promise and bound on
-    /// steps. That range has exactly the keys with the prefix (`key_ranges::laws::prefix_is_a_range`).
+    /// It is a `scan_into` from the prefix to the last key that begins with it, with the same promise and bound on steps. That range has exactly the keys with the prefix (`key_ranges::laws::prefix_is_a_range`).
     pub fn prefix_into(
         &self,
         pass: &mut Pass,

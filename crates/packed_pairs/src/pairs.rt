@@ -131,7 +131,7 @@ impl Pairs {
 /// Adds the first `length` bytes of `places` to the end of `bytes`. An error if memory is refused: `bytes` stay as they are.
 ///
 /// Most keys are short, and a copy of a number of bytes that is known beforehand needs no call. So, where there is room, eight bytes are
-/// copied for a key of eight. 64 are copied for one of up to 64, and those behind the key are dropped.
+/// copied for a key of eight. For other keys of up to 64, it copies 64 bytes, and drops those behind the key.
 #[inline(always)]
 fn append(bytes: &mut Vec<u8>, places: &[u8; MAX_BYTES], length: usize) -> Result<(), AllocError>
     requires { length ≤ MAX_BYTES }
@@ -147,7 +147,7 @@ fn append(bytes: &mut Vec<u8>, places: &[u8; MAX_BYTES], length: usize) -> Resul
     append_any(bytes, &places[..length])
 }
 
-/// Does what [`append`] does, for a key of up to 64 bytes.
+/// Does what [`append`] does, for a key of up to 64 bytes: copies 64, and drops those behind the key.
 #[inline(always)]
 fn append_short(
     bytes: &mut Vec<u8>,

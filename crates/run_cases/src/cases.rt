@@ -6,8 +6,8 @@ use std::alloc::Global;
 use std::io;
 use std::io::ErrorKind;
 
-/// What a pass may do: make a call, list so many pairs from the lowest key on or from the highest one downwards, or make a round of
-/// collection.
+/// What a pass may do: make a call, list so many pairs, or make a round of collection. It lists from the lowest key on, or from the
+/// highest one downwards.
 #[derive(Drop)]
 pub enum Deed {
     Make(Call),

@@ -99,8 +99,8 @@ impl<'a> Gate for Stopper<'a> {
     }
 }
 
-/// Pass 0 of `index`, which was just made for `case` with the two `passes`, once it has done what is done beforehand; and its gate, which
-/// stops it for pass 1. `bad_line` if a pass or a size is missing; an error if memory is refused.
+/// Pass 0 of `index`, which was just made for `case` with two `passes`, and its gate, which stops it for pass 1. It has done what `case`
+/// does beforehand. `bad_line` if a pass is missing or a size is out of range; an error if memory is refused.
 pub fn seat_guest<'a>(
     case: &Case,
     index: &'a Index,

@@ -14,7 +14,7 @@ use std::{io, mem};
 /// More steps than a pass makes in any case.
 const MAX_STEPS: u64 = 10_000;
 
-/// Prints what pass 0 of a new index was answered where it does the deeds of `text`, a line for each of its steps, and whether all were
+/// Lets pass 0 of a new index do the deeds of `text`. Prints what it was answered, a line for each of its steps, and whether all were
 /// lawful. `bad_line` at a part of `text` that is no deed; an error if memory is refused, or a write failed.
 pub fn print_steps<R: Print + AllocGlobal>(rt: &R, case: &Case, text: &str) -> io::Result<()> {
     let mut lines = String::new(case.alloc);
@@ -68,9 +68,9 @@ struct Stop {
     wrong: u64,
 }
 
-/// For each of the case's `other` lines stops pass 0, which does the deeds of `text`, after each of its steps, and prints how many
-/// stops there were and whether all were lawful. If `tells`, it also prints what both passes were answered. `bad_line` at a bad deed, or
-/// after `MAX_STEPS`; an error if memory is refused, or a write failed.
+/// For each of the case's `other` lines stops pass 0, which does the deeds of `text`, after each of its steps. Prints how many stops there
+/// were and whether all were lawful. If `tells`, it also prints what both passes were answered. `bad_line` at a bad deed, or after
+/// `MAX_STEPS`; an error if memory is refused, or a write failed.
 pub fn stop_for_each<R: Print + AllocGlobal>(
     rt: &R,
     case: &Case,

@@ -20,7 +20,7 @@ const MAX_LOOKS: u32 = 50_000_000;
 /// How much a thread does.
 const DEEDS: u64 = 12;
 
-/// Whose turn it is to step, how many steps there were, which threads have begun and not ended, each a bit, and how many gave up.
+/// Whose turn it is to step, and how many steps there were; which threads have begun and not ended, each a bit. `lost` counts what failed.
 #[derive(Drop)]
 struct Rota {
     seed: u64,
@@ -181,8 +181,8 @@ fn wrong_on<R: AllocGlobal + Threads + Sync>(
     count_wrong(case, passes, &mut last, &told, lost)
 }
 
-/// Lets a thread for each of `seats` step, in an order made from `seed`. Returns the steps of each, and how often one gave up. An error if
-/// memory is refused, or a thread can't be started.
+/// Lets a thread for each of `seats` step, in an order made from `seed`. Returns the steps of each, and how often one gave up or failed. An
+/// error if memory is refused, or a thread can't be started.
 fn step_all<R: AllocGlobal + Threads + Sync>(
     rt: &R,
     case: &Case,
@@ -206,7 +206,7 @@ fn step_all<R: AllocGlobal + Threads + Sync>(
     Ok((told, rota.lost.load(Ordering::SeqCst)))
 }
 
-/// How often something was wrong in the steps `told`, and `lost`, how often a thread gave up, on top. An error if memory is refused.
+/// How often something was wrong in the steps `told`, plus `lost`, how often a thread gave up or failed. An error if memory is refused.
 fn count_wrong(
     case: &Case,
     passes: u32,

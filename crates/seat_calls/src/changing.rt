@@ -55,8 +55,8 @@ fn collect_due<G: Gate>(table: &HotTable, seat: &mut TableSeat, gate: &mut G, sc
 }
 
 /// Tries to make the change `call`. If no record was free, it makes a round of collection and tries once more. Returns the reply, or why
-/// the last attempt was refused. If the round gave back no record of the kind, and no other pass could have, the second attempt does
-/// nothing, and the refusal is the first one's.
+/// the last attempt was refused. If the round gave back no record of the kind, and there is no other pass, the second attempt does nothing.
+/// The refusal is then the first one's.
 fn try_twice<G: Gate>(
     table: &HotTable,
     seat: &mut TableSeat,
