@@ -74,7 +74,8 @@ fn file_names<'a>(alloc: Global, name: &'a str) -> Arg<'a>
 }
 
 /// What `words`, those of the command line, ask for. The records are the numbers that follow `--nodes` and `--leaves`, or else 4,096 and
-/// 16,384. The files have the order of the words. `Usage` if they don't parse or name more than `MAX_FILES` files; `Fault(Memory)` if memory is refused.
+/// 16,384. The files have the order of the words. `Usage` if they don't parse or name more than `MAX_FILES` files; `Fault(Memory)` if
+/// memory is refused.
 pub fn parse<'a>(alloc: Global, words: &'a [String]) -> Result<Request<'a>, Ending>
     ensures asked { IfOk result (λ request. IsAsked (map string_bytes words.now) request.nodes request.leaves (map (λ name. name.now) request.files.items)) }
     ensures refused { IfErr result (λ ending. ((ending ≡ Usage) × (DoParse (map string_bytes words.now) → ⊥)) ⊎ (ending ≡ Fault Memory)) }

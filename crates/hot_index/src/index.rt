@@ -139,8 +139,8 @@ impl Index {
     /// It returns `Busy` only if another pass has locked or retired what it wants to lock, or has made a change. That change came since
     /// the pin under which the call loaded the root last. So an index of one pass is never busy.
     ///
-    /// It returns `FullNodes` only if it found each node record not free when its turn came, and `FullLeaves` only if each leaf record
-    /// with room for the key. It makes the round of collection first. Then it looks again, unless the index has one pass and the round gave back
+    /// It returns `FullNodes` only if it found each node record not free when its turn came, and `FullLeaves` only if each leaf record with
+    /// room for the key. It makes the round of collection first. Then it looks again, unless the index has one pass and the round gave back
     /// none of the kind.
     ///
     /// A refused call has changed nothing, and holds no lock and no record.
@@ -224,7 +224,7 @@ impl Index {
     /// published before. Both know of the same steps, and the meeting is counted among the `asides` of each. All else that they know
     /// is as it was.
     ///
-    /// It loads one word three times and ignores what it finds. These loads count as no steps of either pass, and are told no gate.
+    /// It loads one word three times and ignores what it finds. These loads count as no steps of either pass, and no gate is told of them.
     pub fn meet(&self, first: Pass, second: Pass) -> (Pass, Pass)
         requires { Owns self.now first × Owns self.now second }
         ensures own { Owns self.now result.0 × Owns self.now result.1 }

@@ -16,7 +16,7 @@ pub trait Caller {
     /// That it may make calls of this index.
     ghost fits: { Self → TableView → Type 0 };
 
-    /// Makes `call` through `handle`; each of its steps is told `gate`. Returns the reply, or the kind of records of which none was free.
+    /// Makes `call` through `handle`; `gate` is told each of its steps. Returns the reply, or the kind of records of which none was free.
     fn call<G: Gate>(
         &self,
         handle: &mut Handle<&Index>,

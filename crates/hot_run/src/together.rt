@@ -223,7 +223,7 @@ fn join_files<'a, T: Threads + Wait, G: Gate + Drop>(
     Ok(done)
 }
 
-/// Starts a thread that runs `script` by `handle`, whose steps are told `gate`, and returns it. An error if it can't be started.
+/// Starts a thread that runs `script` by `handle`, whose steps `gate` is told, and returns it. An error if it can't be started.
 fn start_file<'a: 's, 's, E, T: Threads + Wait + Sync + 's, G: Gate + Send + Drop + 's>(
     threads: &Scope<'s, E>,
     rt: &'s T,
@@ -248,7 +248,7 @@ fn start_file<'a: 's, 's, E, T: Threads + Wait + Sync + 's, G: Gate + Send + Dro
     Ok(thread)
 }
 
-/// What the thread of a script does: runs `script` by `handle`, whose steps are told `gate`. Returns the handle with the answers, and the
+/// What the thread of a script does: runs `script` by `handle`, whose steps `gate` is told. Returns the handle with the answers, and the
 /// gate. An error if memory is refused.
 fn run_file<'a, T: Wait, G: Gate + Drop>(
     rt: &T,

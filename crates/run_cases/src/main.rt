@@ -70,6 +70,7 @@ where
     }
 }
 
+/// Runs the cases. An error as of `run`.
 fn main(rt: HostRuntime) -> io::Result<()> {
     run(&rt)
 }

@@ -44,7 +44,7 @@ pub struct RecordCounts {
     pub bytes: usize,
 }
 
-/// Loads the state of each record, nodes first; each load is told `gate`. Returns how many records of each kind and class it found in each
+/// Loads the state of each record, nodes first; `gate` is told each load. Returns how many records of each kind and class it found in each
 /// state, and the bytes of the table.
 pub fn count_records<G: Gate>(table: &HotTable, seat: &mut TableSeat, gate: &mut G) -> RecordCounts
     requires { IsSeatOf table.now seat.old }
@@ -69,7 +69,7 @@ pub fn count_records<G: Gate>(table: &HotTable, seat: &mut TableSeat, gate: &mut
     }
 }
 
-/// Loads the state of each node record, and returns how many it found in each state. Each load is told `gate`.
+/// Loads the state of each node record, and returns how many it found in each state. `gate` is told each load.
 fn count_nodes<G: Gate>(table: &HotTable, seat: &mut TableSeat, gate: &mut G) -> StateCounts
     requires { IsSeatOf table.now seat.old }
     ensures pin { seat.new.known.pin ≡ seat.old.known.pin }
@@ -83,8 +83,8 @@ fn count_nodes<G: Gate>(table: &HotTable, seat: &mut TableSeat, gate: &mut G) ->
     counts
 }
 
-/// Loads the states of the leaf records from number `first` on and below `behind`, and returns how many it found in each state. Each load
-/// is told `gate`.
+/// Loads the states of the leaf records from number `first` on and below `behind`, and returns how many it found in each state. `gate` is
+/// told each load.
 fn count_leaves<G: Gate>(
     table: &HotTable,
     seat: &mut TableSeat,

@@ -25,7 +25,7 @@ use rowex_writing::{Full, TryFault, attempt};
 use std::sync::Wait;
 use std::thread;
 
-/// Tries to make the change `call`, at most twice, after a small round of collection if one is due. Each step is told `gate`. Returns the
+/// Tries to make the change `call`, at most twice, after a small round of collection if one is due. `gate` is told each step. Returns the
 /// reply, or why the last attempt was refused.
 pub fn try_change<G: Gate>(
     table: &HotTable,
@@ -133,7 +133,7 @@ fn pin_and_unpin<G: Gate>(table: &HotTable, seat: &mut TableSeat, gate: &mut G)
 }
 
 /// Tries to make the change `call` until it is made, or refused for want of records. It tries again as long as another pass is in its
-/// way, holds back records, or may have taken those given back. Each step is told `gate`; `rt` allows it to wait. Returns the reply, or
+/// way, holds back records, or may have taken those given back. `gate` is told each step; `rt` allows it to wait. Returns the reply, or
 /// the kind of records of which none was free.
 pub fn retry_change<R: Wait, G: Gate>(
     rt: &R,
