@@ -23,8 +23,8 @@ fn put_both<'a, R: Wait>(
     handle
 }
 
-/// Inserts `word` with `value` if it can. If it has a value already, that stays. A word too long for a key, or with no record free, is
-/// left out.
+/// Inserts `word` with `value`. If it has a value already, that stays. A word is left out if it is too long for a key, or no record is
+/// free.
 fn put<R: Wait>(rt: &R, handle: &mut Handle<&Index>, word: &str, value: u64)
     ensures { handle.new.index ≡ handle.old.index }
 {

@@ -139,9 +139,9 @@ impl Index {
     /// It returns `Busy` only if another pass has locked or retired what it wants to lock, or has made a change. That change came since
     /// the pin under which the call loaded the root last. So an index of one pass is never busy.
     ///
-    /// It returns `FullNodes` only if it found each node record not free when its turn came, and `FullLeaves` only if each leaf record with
-    /// room for the key. It makes the round of collection first. Then it looks again, unless the index has one pass and the round gave back
-    /// none of the kind.
+    /// It returns `FullNodes` only if it found each node record not free when its turn came. For `FullLeaves` the same holds of each leaf
+    /// record with room for the key. It makes the round of collection first. Then it looks again, unless the index has one pass
+    /// and the round gave back none of the kind.
     ///
     /// A refused call has changed nothing, and holds no lock and no record.
     pub fn try_insert(&self, pass: &mut Pass, key: &Key, value: u64) -> Result<Reply, TryFault>

@@ -41,7 +41,7 @@ pub fn previous_key(key: &Key) -> Option<Key>
     Some(of_front(front))
 }
 
-/// The key of the bytes `front`, which are as few as a key may have.
+/// The key of the bytes `front`, `MAX_BYTES` at most.
 fn of_front(front: &[u8]) -> Key
     requires { IsKey front.now }
     ensures { result ≡ front.now }

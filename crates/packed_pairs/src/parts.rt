@@ -23,7 +23,7 @@ impl Pairs {
         }
     }
 
-    /// Takes out pairs from the end, as few as leave keys with at most `room` bytes together.
+    /// Takes out pairs from the end until the keys of the others have at most `room` bytes together.
     pub fn fit(&mut self, room: usize)
         ensures { self.new ≡ fitting room self.old }
     {
