@@ -66,8 +66,8 @@ impl Opened {
         }
     }
 
-    /// Tries to make `call`, whose key has `size` bytes, and returns the status. The reply's value, if it has one, goes to `had`; else `had`
-    /// stays. If no record is free, it counts all records. So the status tells whether other calls hold some back.
+    /// Tries to make `call`, whose key has `size` bytes, and returns the status. The reply's value, if it has one, goes to `had`; else
+    /// `had` stays. If no record is free, it counts all records. So the status tells whether other calls hold some back.
     pub fn make(&mut self, call: &Call, size: usize, had: &mut u64) -> u32
         ensures call { (outcome : Result ReplyView FaultView) × Stays (TellsOutcome size call.now result outcome) self.old.handle self.new.handle
             × (had.new ≡ value_after had.old outcome) × IfErr outcome (MayRefuse call.now) }
@@ -80,8 +80,8 @@ impl Opened {
         }
     }
 
-    /// Replaces the list with at most `limit` pairs whose keys are from `from` to `upto`: the first ones for `Upwards`, else the last ones,
-    /// in falling order. Returns whether there are more. An error if memory is refused.
+    /// Replaces the list with at most `limit` pairs whose keys are from `from` to `upto`. For `Upwards` these are the first ones, in rising
+    /// order; else the last ones, in falling order. Returns whether there are more; an error if memory is refused.
     pub fn scan(
         &mut self,
         order: Order,

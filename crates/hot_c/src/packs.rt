@@ -33,7 +33,7 @@ pub extern "C" fn hot_scan_packed(
 }
 
 /// Lists the last pairs whose keys are from `from` to `upto`, both included, in falling key order, packed as by `hot_scan_packed`.
-/// `count` becomes their number, and `more` 1 if the range has more below them, else 0: `DONE`. Other statuses are as of that.
+/// `count` becomes their number, and `more` 1 if the range has more below them, else 0: `DONE`. The other statuses are as there.
 #[unsafe(no_mangle)]
 pub extern "C" fn hot_scan_packed_reverse(
     handle: &mut Handle,

@@ -29,7 +29,7 @@ pub extern "C" fn hot_scan(
 }
 
 /// Lists the last pairs whose keys are from `from` to `upto`, both included, in falling key order: as many as `room` has places. `count`
-/// becomes their number, and `more` 1 if the range has more below, else 0: `DONE`. The other statuses are as of `hot_scan`.
+/// becomes their number, and `more` 1 if the range has more below, else 0: `DONE`. The other statuses are those of `hot_scan`.
 #[unsafe(no_mangle)]
 pub extern "C" fn hot_scan_reverse(
     handle: &mut Handle,
@@ -47,7 +47,7 @@ pub extern "C" fn hot_scan_reverse(
 }
 
 /// Lists the last pairs whose keys are from `from` to `upto`, both included, in rising key order: as many as `room` has places. `count`
-/// becomes their number, and `more` 1 if the range has more below, else 0: `DONE`. The other statuses are as of `hot_scan`.
+/// becomes their number, and `more` 1 if the range has more below, else 0: `DONE`. The other statuses are those of `hot_scan`.
 #[unsafe(no_mangle)]
 pub extern "C" fn hot_scan_last(
     handle: &mut Handle,
@@ -64,8 +64,8 @@ pub extern "C" fn hot_scan_last(
     list_query(handle, &query, room, count, more)
 }
 
-/// Lists pairs of `query` in its order, as many as `room` has places: the first ones of the range, or the last ones for `Downwards` and
-/// `LastUpwards`. `count` becomes their number, and `more` 1 if the range has more, else 0: `DONE`. With `CLOSED`, `KEY_TOO_LONG` or
+/// Lists pairs of `query` in its order, as many as `room` has places. They are the first ones of the range for `Upwards`, else the last
+/// ones. `count` becomes their number, and `more` 1 if the range has more, else 0: `DONE`. With `CLOSED`, `KEY_TOO_LONG` or
 /// `NO_MEMORY` these three stay.
 fn list_query(
     handle: &mut Handle,

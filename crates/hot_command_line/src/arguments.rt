@@ -45,7 +45,7 @@ impl From<clap::Error> for Ending {
     }
 }
 
-/// The words of the command line, the program's name first.
+/// The words of the command line, the program's name first. `Fault(Memory)` if memory is refused, `Usage` if they can't be read.
 pub fn words<R: Env + AllocGlobal>(rt: &R) -> Result<Vec<String>, Ending>
     ensures { IfErr result (λ ending. (ending ≡ Usage) ⊎ (ending ≡ Fault Memory)) }
 {
@@ -56,7 +56,7 @@ pub fn words<R: Env + AllocGlobal>(rt: &R) -> Result<Vec<String>, Ending>
     }
 }
 
-/// An option that takes a number from 1 to `most`.
+/// The option `--name`, which takes a number from 1 to `most`.
 fn count_option<'a>(alloc: Global, name: &'a str, most: u32) -> Arg<'a>
     ensures { IsCountOption name.now most result }
 {
@@ -66,15 +66,16 @@ fn count_option<'a>(alloc: Global, name: &'a str, most: u32) -> Arg<'a>
         .value_parser(ValueParser::signed(1, i64::from(most)))
 }
 
-/// The words that are no options: any number of them.
+/// The argument `name`: the words that are no options, any number of them.
 fn file_names<'a>(alloc: Global, name: &'a str) -> Arg<'a>
     ensures { IsArgument name.now (names_rule name.now) result }
 {
     Arg::new(alloc, name).action(ArgAction::Append)
 }
 
-/// What the command line asks for: the numbers that follow `--nodes` and `--leaves`, or 4,096 nodes and 16,384 leaves where it doesn't
-/// say, and at most `MAX_FILES` files, in order. It is refused by the usage line if the words don't parse, or for want of memory.
+/// What `words`, those of the command line, ask for. The records are the numbers that follow `--nodes` and `--leaves`, or else 4,096 and
+/// 16,384. The files have the order of the words. `Usage` if they don't parse or name more than `MAX_FILES` files; `Fault(Memory)` if
+/// memory is refused.
 pub fn parse<'a>(alloc: Global, words: &'a [String]) -> Result<Request<'a>, Ending>
     ensures asked { IfOk result (λ request. IsAsked (map string_bytes words.now) request.nodes request.leaves (map (λ name. name.now) request.files.items)) }
     ensures refused { IfErr result (λ ending. ((ending ≡ Usage) × (DoParse (map string_bytes words.now) → ⊥)) ⊎ (ending ≡ Fault Memory)) }

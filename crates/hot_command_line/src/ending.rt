@@ -19,7 +19,7 @@ pub enum Ending {
 }
 
 impl Ending {
-    /// The program's exit status: 1 where something outside failed, and 2 where what it was given is wrong.
+    /// The program's exit status: 1 if a read or a write failed or memory was refused, else 2.
     pub fn status(self) -> u8
         ensures { result ≡ status_of self }
     {

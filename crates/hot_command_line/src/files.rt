@@ -20,7 +20,7 @@ pub trait FileSystem {
     /// The bytes of the file of a name, where they are known.
     ghost bytes: { List ℕ → Maybe (List ℕ) };
 
-    /// The file of a name, to be read from its first byte on.
+    /// Opens the file `name`, to be read from its first byte on; `Read` if it can't be opened.
     fn open(&self, name: &str) -> Result<Self::Opened, RunFault>
         ensures fault { IfErr result (λ fault. fault ≡ RunFault.Read) }
         ensures file { IfOk result (λ file. IfSome (bytes name.now) (λ all. Self.Opened.Read.remaining file ≡ Some all)) };
@@ -45,7 +45,8 @@ impl<R: Files> FileSystem for Disk<'_, R> {
     }
 }
 
-/// The first bytes that a reader has: all, or one more than a script may have, which shows that it is too long.
+/// The first bytes that `reader` has: all, or one more than a script may have, which shows that it is too long. `Memory` if memory is
+/// refused, `Read` if a read failed.
 fn read_start<R: Read + Drop>(alloc: Global, reader: R) -> Result<Vec<u8>, RunFault>
     ensures fault { IfErr result IsFileFault }
     ensures start { IfOk result (λ bytes. IsFileStart (R.remaining reader) bytes.items) }
@@ -61,7 +62,7 @@ fn read_start<R: Read + Drop>(alloc: Global, reader: R) -> Result<Vec<u8>, RunFa
     }
 }
 
-/// The script in a file, as far as `read_start` reads it.
+/// The script in the file `name` of `system`, as far as `read_start` reads it, with its faults; `Read` if it can't be opened.
 fn read_file<S: FileSystem>(alloc: Global, system: &S, name: &str) -> Result<Vec<u8>, RunFault>
     ensures fault { IfErr result IsFileFault }
     ensures start { IfOk result (λ bytes. IsFileStart (S.bytes name.now) bytes.items) }
@@ -70,7 +71,8 @@ fn read_file<S: FileSystem>(alloc: Global, system: &S, name: &str) -> Result<Vec
     read_start(alloc, file)
 }
 
-/// The scripts in files of these names, in order: of each all its bytes, or one more than a script may have.
+/// The scripts in the files `names` of `system`, in order: of each all its bytes, or one more than a script may have. `Read` if one can't
+/// be opened or read, `Memory` if memory is refused.
 pub fn read_files<S: FileSystem>(
     alloc: Global,
     system: &S,

@@ -9,7 +9,7 @@ use std::io::ErrorKind;
 use std::sync::Wait;
 use std::thread::{Threads, join};
 
-/// Inserts two words with their values, in this order, by the calls of `handle`. Returns the handle.
+/// Inserts `one` and then `two`, each a word with its value, by the calls of `handle`. Returns the handle.
 fn put_both<'a, R: Wait>(
     rt: &R,
     mut handle: Handle<&'a Index>,
@@ -23,7 +23,8 @@ fn put_both<'a, R: Wait>(
     handle
 }
 
-/// Inserts `word` with `value`. If it has a value already, that stays. A word too long for a key is left out.
+/// Inserts `word` with `value`. If it has a value already, that stays. A word is left out if it is too long for a key, or no record is
+/// free.
 fn put<R: Wait>(rt: &R, handle: &mut Handle<&Index>, word: &str, value: u64)
     ensures { handle.new.index ≡ handle.old.index }
 {
@@ -32,7 +33,7 @@ fn put<R: Wait>(rt: &R, handle: &mut Handle<&Index>, word: &str, value: u64)
     }
 }
 
-/// Fills an index by two threads, lets their passes meet, and prints what they find. An error if memory is refused, or the output.
+/// Fills an index by two threads, lets their passes meet, and prints what they find. An error if memory is refused, or a write failed.
 fn run<R: Threads + Wait + AllocGlobal + Print + Sync>(rt: &R) -> io::Result<()> {
     // Two passes, 64 node records and 1,024 leaf records.
     let (index, mut passes) = create(rt.alloc(), 2, 64, 1024).map_err(as_error)?;
@@ -94,7 +95,7 @@ fn as_error(fault: IndexFault) -> io::Error {
     })
 }
 
-/// Runs the example, with the output of the program.
+/// Runs the example. An error as of `run`.
 fn main(rt: HostRuntime) -> io::Result<()> {
     run(&rt)
 }

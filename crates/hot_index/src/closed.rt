@@ -41,7 +41,7 @@ impl ClosedPass {
         self.count
     }
 
-    /// Opens the pass for calls at `index`, with buffers of `alloc`. If memory is refused, an error that has the closed pass.
+    /// Opens the pass for calls at `index`, with buffers of `alloc`. If memory is refused, an error with the closed pass.
     pub fn open(self, alloc: Global, index: &Index) -> Result<Pass, AllocFailed<ClosedPass>>
         ensures opened { IfOk result (λ pass. pass ≡ self) }
         ensures kept { IfErr result (λ refused. refused.value ≡ self) }
@@ -104,7 +104,7 @@ impl<I: ShowsIndex> ClosedHandle<I> {
         self.pass.count()
     }
 
-    /// Opens the handle, with buffers of `alloc`. If memory is refused, an error that has the closed handle.
+    /// Opens the handle, with buffers of `alloc`. If memory is refused, an error with the closed handle.
     pub fn open(self, alloc: Global) -> Result<Handle<I>, AllocFailed<ClosedHandle<I>>>
         ensures opened { IfOk result (λ handle. handle ≡ self) }
         ensures kept { IfErr result (λ refused. refused.value ≡ self) }

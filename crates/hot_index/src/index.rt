@@ -117,15 +117,15 @@ impl Index {
     ///
     /// It never blocks. It makes at most two attempts, with a round of collection between them. An attempt that tries no lock makes at
     /// most 61 atomic steps, and 26 for each entry of a node that its search loads. Any other makes at most 127, and 26 for each such
-    /// entry. To these come 297 for each lock that it tries, 2 for each node record and 4 for each leaf record. So on the longest way the
-    /// call makes at most 1,396,470 steps, and 2 for each pass, 6 for each node record and 10 for each leaf record.
+    /// entry. To these come 297 for each lock that it tries, 2 for each node record and 4 for each leaf record. So a call makes at most
+    /// 1,396,470 steps, and 2 for each pass, 6 for each node record and 10 for each leaf record.
     ///
     /// It returns `Busy` only if another pass has locked or retired what it wants to lock, or has made a change. That change came since
     /// the pin under which the call loaded the root last. So an index of one pass is never busy.
     ///
-    /// It returns `FullNodes` or `FullLeaves` only if it found each node record, or each leaf record with room for the key, taken when
-    /// its turn came. It makes the round of collection first. Then it looks again, unless the index has one pass and the round gave back
-    /// none of the kind.
+    /// It returns `FullNodes` only if it found each node record not free when its turn came. For `FullLeaves` the same holds of each leaf
+    /// record with room for the key. It makes the round of collection first. Then it looks again, unless the index has one pass
+    /// and the round gave back none of the kind.
     ///
     /// A refused call has changed nothing, and holds no lock and no record.
     pub fn try_insert(&self, pass: &mut Pass, key: &Key, value: u64) -> Result<Reply, TryFault>
@@ -208,7 +208,7 @@ impl Index {
     /// published before. Both know of the same steps, and the meeting is counted among the `asides` of each. All else that they know
     /// is as it was.
     ///
-    /// It loads one word three times and ignores what it finds. These loads count as no steps of either pass, and are told no gate.
+    /// It loads one word three times and ignores what it finds. These loads count as no steps of either pass, and no gate is told of them.
     pub fn meet(&self, first: Pass, second: Pass) -> (Pass, Pass)
         requires { Owns self.now first × Owns self.now second }
         ensures own { Owns self.now result.0 × Owns self.now result.1 }

@@ -13,7 +13,7 @@ pub fn one_pass_is_never_busy()
     ensures { OnePassIsNeverBusy }
 {}
 
-/// In an index of one pass a call returns `FullLeaves` only if each leaf record with room for its key was in the tree or retired. It
+/// Let an index have one pass. Its call returns `FullLeaves` only if each leaf record with room for the key was in the tree or retired. It
 /// returns `FullNodes` only if at least a third of the node records were so. The others, 4,320 at most, the call may have claimed itself.
 pub fn one_pass_full_is_full()
     ensures { OnePassFullIsFull }

@@ -24,8 +24,8 @@
 //!
 //! Contracts see of a pass its seat: the changes that it has seen, its front, and the calls that were answered, its notes. Each answered
 //! call adds its note with its last step. The notes of a pass are one legal history of a finite map; those of passes that have
-//! met share one. A call that is refused changes nothing, and its clause says why it was refused: another pass held a lock, or
-//! each record of the kind was found other than free.
+//! met share one. A call that is refused changes nothing. Its clause says why it was refused: another pass held a lock, or each
+//! record of the kind was found other than free.
 //!
 //! # Gates
 //!

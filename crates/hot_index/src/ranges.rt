@@ -18,8 +18,8 @@ impl Index {
     /// Lists the first `limit` pairs whose keys begin with `prefix` into `pairs`, whose earlier pairs are dropped. They have key order.
     /// Returns whether there are more; an error if memory is refused.
     ///
-    /// It is a `scan_into` of the range from the prefix to the last key that begins with it, with the same promise and bound on
-    /// steps. That range has exactly the keys with the prefix (`key_ranges::laws::prefix_is_a_range`).
+    /// It is a `scan_into` from the prefix to the last key that begins with it, with the same promise and bound on steps. That range has
+    /// exactly the keys with the prefix (`key_ranges::laws::prefix_is_a_range`).
     pub fn prefix_into(
         &self,
         pass: &mut Pass,
@@ -36,7 +36,7 @@ impl Index {
     /// The first pair whose key is `from` or above; `None` if there is none. For the empty key it is the first pair of the index.
     ///
     /// It is a scan for one pair, with a scan's promise and bound on steps. The pair was there at some moment of the call, and no
-    /// lower key from `from` on was there all along. An error if memory is refused, only if it has found a pair.
+    /// lower key from `from` on was there all along. An error if memory is refused; it needs none if it has found no pair.
     pub fn first(
         &self,
         alloc: Global,

@@ -69,7 +69,7 @@ impl Index {
     /// of the empty key) it is the last pair of the index.
     ///
     /// It is a scan downwards for one pair, with its promise and bound on steps. The pair was there at some moment of the call, and
-    /// no greater key up to `upto` was there all along. An error if memory is refused, only if it has found a pair.
+    /// no greater key up to `upto` was there all along. An error if memory is refused; it needs none if it has found no pair.
     pub fn last(
         &self,
         alloc: Global,

@@ -17,7 +17,7 @@ use std::alloc::{AllocError, Global};
 
 impl Index {
     /// Lists the first `limit` pairs whose keys are from `from` to `upto`, both included, in key order. Returns them, and whether the
-    /// range has more. The memory for them is of `alloc`.
+    /// range has more.
     ///
     /// It takes no lock and never blocks. It makes at most 101 atomic steps, 8 for each pair of the limit, and 26 for each entry of a
     /// node that it loads. It loads at most 6,481 entries, and two for each pair of the limit. That is at most 168,607 steps, and 60
@@ -106,7 +106,7 @@ impl Index {
         self.list_range(pass, &range, pairs, gate)
     }
 
-    /// Lists the pairs of `range` into `pairs`, in its direction, and drops earlier ones. Each step is told `gate`. Returns whether the
+    /// Lists the pairs of `range` into `pairs`, in its direction, and drops earlier ones. `gate` is told each step. Returns whether the
     /// range has more. An error if memory is refused: `pairs` holds a part, as `scan_into` says. Inline, so that each direction has code
     /// of its own.
     #[inline(always)]
@@ -133,8 +133,8 @@ impl Index {
         scan
     }
 
-    /// The pairs of `range`, listed in its direction, and whether the range has more; an error if memory is refused. Each step is told
-    /// `gate`. Inline, as `list_range` is.
+    /// The pairs of `range`, listed in its direction, and whether the range has more; an error if memory is refused. `gate` is told each
+    /// step. Inline, as `list_range` is.
     #[inline(always)]
     pub(crate) fn scan_range<G: Gate>(
         &self,

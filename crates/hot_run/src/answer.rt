@@ -24,8 +24,8 @@ pub fn push_answer(text: &mut Vec<u8>, answer: Answer) -> Result<(), AllocError>
     }
 }
 
-/// The answers to the scripts of `files`, each below its heading, and then `last`, those to the last script: texts that follow one
-/// another. They are taken from `files`. An error if memory is refused.
+/// Texts that follow one another: the answers to the scripts of `files`, each below its heading, then `last`, those to the last script,
+/// below the line `last`. The files' texts are taken out of `files`. An error if memory is refused.
 pub fn make_sections(
     alloc: Global,
     files: &mut [Done<'_>],

@@ -18,8 +18,8 @@ use std::io::{Read, Write};
 use std::sync::Wait;
 use std::thread::Threads;
 
-/// Makes the run that `words` ask for: the reader's script alone, or after the scripts in the files that they name. It is an `Ending` if
-/// the usage is wrong, or the run has a fault.
+/// Makes the run that `words` ask for: the script of `reader` alone, or after those in the files that they name, which `system` reads.
+/// Writes the answers to `writer`. The error is `Usage` if `words` don't parse, or the `Fault` of the run.
 pub fn run_command_line<T, S, R, W>(
     rt: &T,
     system: &S,
@@ -47,8 +47,8 @@ where
 }
 
 /// Makes the run that `request` asks for: the script of `reader` alone, or after those in its files, which `system` reads. Writes the
-/// answers to `writer`. It is a fault if a file can't be read, a script is bad or memory is refused; or if a write failed, after which a
-/// part may stand there.
+/// answers to `writer`. It is a fault if a script can't be read or is bad, memory is refused, or a write failed. Only in the last case may
+/// a part be written.
 fn run_request<T: AllocGlobal + Wait + Threads + Sync, S: FileSystem, R: Read, W: Write>(
     rt: &T,
     system: &S,

@@ -16,7 +16,7 @@ pub trait Caller {
     /// That it may make calls of this index.
     ghost fits: { Self → TableView → Type 0 };
 
-    /// Makes `call`, with a gate that is told each of its steps. Returns the reply, or the kind of records of which none was free.
+    /// Makes `call` through `handle`; `gate` is told each of its steps. Returns the reply, or the kind of records of which none was free.
     fn call<G: Gate>(
         &self,
         handle: &mut Handle<&Index>,

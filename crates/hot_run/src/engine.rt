@@ -16,16 +16,16 @@ use hot_scripts::command::{Command, Range};
 use hot_scripts::script::Script;
 use std::alloc::{AllocError, Global};
 
-/// What a call is answered.
+/// The answer to a call.
 #[derive(Clone, Copy)]
 pub enum Answer {
-    /// What the map answers.
+    /// The map's reply.
     Reply(Reply),
     /// There was no room for the call, which did nothing.
     Full(Full),
 }
 
-/// Makes `call`, with a gate that is told each of its steps, and returns what it is answered.
+/// Makes `call` through `handle`, as `caller` does, and returns its answer. `gate` is told each of its steps.
 fn make_call<C: Caller, G: Gate>(
     caller: &C,
     handle: &mut Handle<&Index>,
@@ -42,8 +42,8 @@ fn make_call<C: Caller, G: Gate>(
     }
 }
 
-/// Makes a scan of `range` into `pairs`, with a gate that is told each of its steps. Its lines go to the end of `text`. An error if
-/// memory is refused.
+/// Makes a scan of `range` into `pairs`, whose earlier pairs are dropped. `gate` is told each of its steps. The lines of its answer go to
+/// the end of `text`. An error if memory is refused.
 fn run_scan<G: Gate>(
     handle: &mut Handle<&Index>,
     range: &Range,
@@ -66,8 +66,8 @@ fn run_scan<G: Gate>(
     push_scan(text, pairs, more)
 }
 
-/// Makes `command`, with a gate that is told each of its steps. The lines of its answer go to the end of `text`, and the pairs of a scan
-/// into `pairs`. An error if memory is refused.
+/// Makes `command` through `handle`: a call as `caller` does. `gate` is told each of its steps. The lines of its answer go to the end of
+/// `text`, and the pairs of a scan into `pairs`. An error if memory is refused.
 fn run_command<C: Caller, G: Gate>(
     caller: &C,
     handle: &mut Handle<&Index>,
@@ -90,8 +90,8 @@ fn run_command<C: Caller, G: Gate>(
     }
 }
 
-/// Makes the commands of `script` one after another, with a gate that is told each of their steps, and returns their answers. An error if
-/// memory is refused.
+/// Makes the commands of `script` through `handle`, one after another, calls as `caller` does. `gate` is told each of their steps. Returns
+/// the lines of their answers. An error if memory is refused.
 pub fn run_script<C: Caller, G: Gate>(
     caller: &C,
     alloc: Global,

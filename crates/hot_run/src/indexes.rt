@@ -28,8 +28,8 @@ pub struct Records {
     ghost leaves_fit: { IsLeafCount leaves },
 }
 
-/// An empty index for `script`, and its only pass; an error if memory is refused. All leaf records are of the smallest class with room
-/// for the keys of the script's calls: so they are close together, and a scan takes less time.
+/// An empty index of `records` for `script`, and its only pass; an error if memory is refused. All leaf records are of the smallest class
+/// with room for the keys of the script's calls. So they are close together, and a scan takes less time.
 pub fn create_for_script(
     alloc: Global,
     records: Records,
@@ -60,8 +60,8 @@ fn choose_stock(records: Records, longest: usize) -> Stock
     Stock::of_class(records.nodes, LeafClass::for_key(longest), records.leaves)
 }
 
-/// An empty index, the passes for `files` files, in the order of their numbers from 0 on, and the pass of the last script. An error if
-/// memory is refused.
+/// An empty index of `records`, the passes for `files` files, and the pass of the last script. The files' passes are in the order of their
+/// numbers, from 0 on. An error if memory is refused.
 pub fn create_for_files(
     alloc: Global,
     files: u32,

@@ -22,7 +22,8 @@ use std::rt::{Env, Files};
 use std::sync::Wait;
 use std::thread::Threads;
 
-/// Answers what the command line asks for, from standard input and the machine's files to standard output.
+/// Makes the run that the command line asks for, from standard input and the machine's files to standard output. The error says why there
+/// are no answers.
 fn run<R>(rt: &R) -> Result<(), Ending>
 where
     R: Env + Files + Input + Print + AllocGlobal + Wait + Threads + Sync,

@@ -20,8 +20,9 @@ use hot_scripts::streams::{read_script, write_answers};
 use std::alloc::{AllocError, Global};
 use std::io::{Read, Write};
 
-/// Runs one script on a new index with one pass and `nodes` node and `leaves` leaf records. It waits for no other thread, and returns
-/// once its reads and writes have returned. A fault says why it has no answers.
+/// Runs the script that `reader` has, and writes its answers to `writer`. The index is new, with one pass, `nodes` node records and
+/// `leaves` leaf records. It waits for no other thread, and returns once its reads and writes have returned. It ends with `Script` at the
+/// first bad line, or with `Read`, `Large`, `Memory` or `Write`. Only with `Write` may a part of the answers be written.
 pub fn run_one<R: Read, W: Write>(
     alloc: Global,
     nodes: u32,

@@ -21,13 +21,13 @@ use std::sync::Wait;
 use std::thread::Threads;
 
 /// Runs the scripts in `files`, at most `MAX_FILES`, on a new index with `nodes` node and `leaves` leaf records. They run at the same time,
-/// each in its own thread. When all have ended, it runs the script of the reader.
+/// each in its own thread. When all have ended, it runs the script that `reader` has.
 ///
-/// It reads and parses all scripts before the first command runs. It writes the results at the end: each file's below the line `file I`,
-/// and those of the last script below the line `last`.
+/// It reads and parses all scripts before the first command runs. It writes the answers to `writer` at the end. Each file's are below the
+/// line `file I`, where `I` counts from 1, and those of the last script below the line `last`.
 ///
-/// It ends with the fault of the first bad script, or with `Read`, `Large`, `Write` or `Memory`; with `Memory`, too, where a thread can't
-/// be started.
+/// It ends with the fault of the first bad script, or with `Read`, `Large`, `Write` or `Memory`. If a thread can't be started, that is
+/// `Memory`, too. Only with `Write` may a part of the answers be written.
 pub fn run_scripts<T: AllocGlobal + Threads + Wait + Sync, R: Read, W: Write>(
     rt: &T,
     nodes: u32,
@@ -58,8 +58,8 @@ pub fn run_scripts<T: AllocGlobal + Threads + Wait + Sync, R: Read, W: Write>(
     Ok(())
 }
 
-/// `run_scripts`, which reports each atomic step of a file's commands to the gate of that file. Gives the gates back, in the order of the
-/// files.
+/// Does what `run_scripts` does, with its faults, and reports each atomic step of a file's commands to the one of `gates` at its place.
+/// Returns the gates, in the order of the files.
 pub fn run_scripts_with<T, G, R, W>(
     rt: &T,
     nodes: u32,
@@ -86,7 +86,7 @@ where
     ensures told { IfOk result (λ told. AllFrom 0 (IsToldOf G.becomes) (zip gates.items told.items)) }
 
     // What was written are lawful answers to the scripts, and nothing else. Each file's gate was told each step of that file's commands,
-    // in order, and nothing else; and a command was refused only where it found no record of the kind free.
+    // in order, and nothing else. A command was refused only where it found no record of the kind free.
     ensures ok { IfOk result (λ told. (script : List ℕ) × (text : List ℕ)
         × TakesAll (R.remaining reader.old) (R.remaining reader.new) script
         × LawfulScripts nodes leaves G.becomes (zip gates.items told.items) (map (λ f. f.items) files.items) script text

@@ -76,8 +76,8 @@ pub fn run_all<T: AllocGlobal + Threads + Wait + Sync, G: Gate + Send + Drop>(
     run_by(rt, Handle::new(&index, pass), passes, scripts, gates, last)
 }
 
-/// Answers `scripts`, those of files, by `passes`, and then, when the pass of `handle` has met them, `last` by that. Returns all answers
-/// as texts that follow one another, and the gates in the order of `scripts`; an error if memory is refused, or a thread can't be started.
+/// Runs `scripts`, those of files, at the same time, each by the pass and the gate of its place. Then the pass of `handle` meets these, and
+/// runs `last`. Returns all answers, and the gates in the order of `scripts`; an error if memory is refused, or a thread can't be started.
 fn run_by<'a, T: AllocGlobal + Threads + Wait + Sync, G: Gate + Send + Drop>(
     rt: &T,
     handle: Handle<&'a Index>,
@@ -101,7 +101,7 @@ fn run_by<'a, T: AllocGlobal + Threads + Wait + Sync, G: Gate + Send + Drop>(
     Ok(Results { texts, gates })
 }
 
-/// The scripts that have run, and their gates.
+/// The scripts of `ran` and their gates, each in the order of `ran`; an error if memory is refused.
 fn split_gates<'a, G: Drop>(
     alloc: Global,
     ran: Vec<(Done<'a>, G)>,
@@ -118,7 +118,7 @@ fn split_gates<'a, G: Drop>(
     Ok((scripts, gates))
 }
 
-/// Answers the last script by `handle`, whose pass has met those of the others and meets them again. Returns the answers of all as texts
+/// Runs `last`, the last script, by `handle`, whose pass has met those of `met` and meets them again. Returns the answers of all as texts
 /// that follow one another; an error if memory is refused.
 fn run_last<'a, T: Wait>(
     rt: &T,
@@ -138,8 +138,8 @@ fn run_last<'a, T: Wait>(
     make_sections(alloc, met, done.text)
 }
 
-/// Runs each of `scripts` in a thread with its own pass of `index` and its own gate, all at the same time, and joins them. Returns each
-/// gate beside its script. An error if memory is refused, or a thread can't be started.
+/// Runs each of `scripts` in a thread with the pass and the gate of its place, all at the same time, and joins them. Returns each gate
+/// beside its script, in their order. An error if memory is refused, or a thread can't be started.
 fn run_files<'a, T: Threads + Wait + Sync, G: Gate + Send + Drop>(
     rt: &T,
     alloc: Global,
@@ -179,8 +179,8 @@ fn run_within<'a: 's, 's, E, T: Threads + Wait + Sync + 's, G: Gate + Send + Dro
     join_files(rt, alloc, running)
 }
 
-/// Starts the thread of each of `scripts`, with the handle and the gate of its place. An error if memory is refused, or a thread can't be
-/// started.
+/// Starts the thread of each of `scripts`, with the handle and the gate of its place. Returns the threads in their order. An error if
+/// memory is refused, or a thread can't be started.
 fn start_files<'a: 's, 's, E, T: Threads + Wait + Sync + 's, G: Gate + Send + Drop + 's>(
     threads: &Scope<'s, E>,
     rt: &'s T,
@@ -208,7 +208,7 @@ fn start_files<'a: 's, 's, E, T: Threads + Wait + Sync + 's, G: Gate + Send + Dr
     Ok(running)
 }
 
-/// Joins the threads `running`, one after another, and returns what they ran. An error if memory was refused to one of them.
+/// Joins the threads `running`, one after another, and returns what they ran, in their order. An error if memory is or was refused.
 fn join_files<'a, T: Threads + Wait, G: Gate + Drop>(
     rt: &T,
     alloc: Global,
@@ -223,7 +223,7 @@ fn join_files<'a, T: Threads + Wait, G: Gate + Drop>(
     Ok(done)
 }
 
-/// Starts the thread of `script`. An error if it can't be started.
+/// Starts a thread that runs `script` by `handle`, whose steps `gate` is told, and returns it. An error if it can't be started.
 fn start_file<'a: 's, 's, E, T: Threads + Wait + Sync + 's, G: Gate + Send + Drop + 's>(
     threads: &Scope<'s, E>,
     rt: &'s T,
@@ -248,7 +248,7 @@ fn start_file<'a: 's, 's, E, T: Threads + Wait + Sync + 's, G: Gate + Send + Dro
     Ok(thread)
 }
 
-/// What the thread of a script does: runs `script` by `handle`, which `gate` is told of, and returns the handle with the answers, and the
+/// What the thread of a script does: runs `script` by `handle`, whose steps `gate` is told. Returns the handle with the answers, and the
 /// gate. An error if memory is refused.
 fn run_file<'a, T: Wait, G: Gate + Drop>(
     rt: &T,
@@ -281,7 +281,7 @@ fn meet_all<'a>(handle: Handle<&'a Index>, done: &mut [Done<'a>]) -> Handle<&'a 
     last
 }
 
-/// The handle's pass meets that of `done`, a script that has run. Returns the handle.
+/// Lets the pass of `handle` meet that of `done`, a script that has run at the same index. Returns the handle.
 fn meet_script<'a>(handle: Handle<&'a Index>, done: &mut Done<'a>) -> Handle<&'a Index>
     requires { done.old.handle.index ≡ handle.index }
     ensures index { (result.index ≡ handle.entry.index) × (done.new.handle.index ≡ handle.entry.index) }

@@ -41,7 +41,7 @@ impl Gate for Waiting<'_> {
     }
 }
 
-/// The bytes of two scripts, with one command each.
+/// The bytes of two scripts, with one command each; an error if memory is refused.
 fn files_of(alloc: Global) -> Result<Vec<Vec<u8>>, AllocError>
     ensures { IfOk result (λ files. length files.items ≡ 2) }
 {
@@ -51,7 +51,7 @@ fn files_of(alloc: Global) -> Result<Vec<Vec<u8>>, AllocError>
     Ok(files)
 }
 
-/// The gate that has this flag and waits for the other.
+/// The gate that sets the flag `own` at its first step and waits for `other`.
 fn gate_of<'a>(own: &'a AtomicBool, other: &'a AtomicBool) -> Waiting<'a> {
     Waiting {
         own,
@@ -61,7 +61,7 @@ fn gate_of<'a>(own: &'a AtomicBool, other: &'a AtomicBool) -> Waiting<'a> {
     }
 }
 
-/// The gates of two files, each of which waits for the other's flag.
+/// The gates of two files, with the flags `first` and `second`; each waits for the other's. An error if memory is refused.
 fn gates_of<'a>(
     alloc: Global,
     first: &'a AtomicBool,
@@ -75,6 +75,7 @@ fn gates_of<'a>(
     Ok(gates)
 }
 
+// Each gate sees the other's flag and is told more than one step, and the answers of both files are written in order.
 #[test]
 fn gates_wait_for_each_other(rt: HostRuntime) {
     let (first, second) = (AtomicBool::new(false), AtomicBool::new(false));

@@ -37,7 +37,7 @@ pub fn push_reply(text: &mut Vec<u8>, reply: Reply) -> Result<(), AllocError>
     }
 }
 
-/// Puts `key` on the page in lower case digits, or a dash for the empty key.
+/// Puts `key` on the page, which has room for it, in lower case hexadecimal digits; a dash for the empty key.
 #[inline(always)]
 fn put_key(page: &mut Page, key: &[u8])
     requires key { length key.now ≤ MAX_BYTES }
@@ -51,7 +51,7 @@ fn put_key(page: &mut Page, key: &[u8])
     }
 }
 
-/// Puts the line of the pair of `key` and `value` on the page.
+/// Puts the line of the pair of `key` and `value` on the page, which has room for it.
 #[inline(always)]
 fn put_pair(page: &mut Page, key: &[u8], value: u64)
     requires key { length key.now ≤ MAX_BYTES }
@@ -65,7 +65,8 @@ fn put_pair(page: &mut Page, key: &[u8], value: u64)
     page.put(b"\n");
 }
 
-/// Makes room on the page for a line: if the page is full, its lines go to the end of `text`. An error if memory is refused.
+/// Makes room on the page for a line. If the page is full, its lines go to the end of `text`, and it is cleared. An error if memory is
+/// refused.
 #[inline(always)]
 fn make_room(text: &mut Vec<u8>, page: &mut Page) -> Result<(), AllocError>
     ensures room { OnOk result (length page.new + MOST_BYTES ≤ ROOM) }
@@ -78,7 +79,7 @@ fn make_room(text: &mut Vec<u8>, page: &mut Page) -> Result<(), AllocError>
     Ok(())
 }
 
-/// Adds the lines of a scan with `pairs` to the end of `text`, where `more` says whether there is a further key. An error if memory is
+/// Adds the lines of a scan that listed `pairs` to the end of `text`; `more` says whether its range has more. An error if memory is
 /// refused.
 pub fn push_scan(text: &mut Vec<u8>, pairs: &Pairs, more: bool) -> Result<(), AllocError>
     ensures lines { OnOk result (text.new.items ≡ text.old.items ++ scan_lines pairs.now more) }
@@ -98,7 +99,7 @@ pub fn push_scan(text: &mut Vec<u8>, pairs: &Pairs, more: bool) -> Result<(), Al
     }
 }
 
-/// Adds the heading of file `number`, and `text`, the answers to it, to the end of `texts`. An error if memory is refused.
+/// Adds the heading of file `number`, and `text`, the answers to its script, to the end of `texts`. An error if memory is refused.
 pub fn push_section(
     alloc: Global,
     texts: &mut Vec<Vec<u8>>,

@@ -29,7 +29,7 @@ pub enum Version {
 }
 
 impl Version {
-    /// How many hexadecimal digits a key may have.
+    /// How many hexadecimal digits a key may have in a script of this version.
     pub fn most_digits(self) -> usize
         ensures { result ≡ most_digits self }
     {

@@ -6,7 +6,7 @@ ghost use Rattle.hex.specs.Hex.{encode_lower, lower_digits};
 /// The lower case digits.
 const DIGITS: &[u8; 16] = b"0123456789abcdef";
 
-/// Writes each of `bytes` to `room` as two lower case digits.
+/// Writes each of `bytes` to `room` as two lower case hexadecimal digits. `room` has two places for each.
 ///
 /// A compiler turns the first loop into steps over eight bytes at once, which it can't do where digits are looked up. So long keys take a
 /// third of the time. The few bytes that are left are cheaper to look up.

@@ -8,7 +8,8 @@ use crate::fault::RunFault;
 use crate::script::{MAX_FILES, MAX_SCRIPT, Script};
 use std::alloc::Global;
 
-/// The scripts of `files`, or the fault of the first that has one.
+/// The scripts with the texts `files`, in their order; or the fault of the first that has one, as `parse_file` says. `Memory` if memory is
+/// refused.
 pub fn parse_files(alloc: Global, files: Vec<Vec<u8>>) -> Result<Vec<Script>, RunFault>
     requires { length files.items ≤ MAX_FILES }
     ensures count { IfOk result (λ v. length v.items ≡ length files.items) }
@@ -23,8 +24,8 @@ pub fn parse_files(alloc: Global, files: Vec<Vec<u8>>) -> Result<Vec<Script>, Ru
     Ok(scripts)
 }
 
-/// The script `file`, which is that of file `number`. If it has a bad line, the fault names the file and the line; `Large` if it has more
-/// than `MAX_SCRIPT` bytes.
+/// The script with the text `file`, that of file `number`. If it has a bad line, `FileScript` with the file and the line; `Large` if it has
+/// more than `MAX_SCRIPT` bytes.
 fn parse_file(number: u32, file: Vec<u8>) -> Result<Script, RunFault>
     ensures { IsParsed script_commands result (commands_of_file number file.items) }
 {

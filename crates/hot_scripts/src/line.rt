@@ -60,7 +60,7 @@ fn split_words(line: &[u8]) -> Words<'_>
     }
 }
 
-/// The command `name` for a key alone, or what is wrong with its words.
+/// The command `name` for `key` alone; `Reason::Command` if there is none, or `Key` if `key` stands for no key of `version`.
 fn parse_with_key(version: Version, name: &[u8], key: &[u8]) -> Result<Command, Reason>
     ensures { result ≡ command_of version (name.now ∷ key.now ∷ []) }
 {
@@ -75,7 +75,7 @@ fn parse_with_key(version: Version, name: &[u8], key: &[u8]) -> Result<Command, 
     }
 }
 
-/// The command `name` for a key and a value, or what is wrong with its words.
+/// The command `name` for `key` and `value`; `Reason::Command` if there is none, or else `Key` or `Value` for the first bad word.
 fn parse_with_value(
     version: Version,
     name: &[u8],
@@ -97,7 +97,7 @@ fn parse_with_value(
     }
 }
 
-/// The command `name` for a range and a limit, or what is wrong with its words.
+/// The command `name` for a range and a limit; `Reason::Command` if there is none, or else `Key` or `Limit` for the first bad word.
 fn parse_with_range(
     version: Version,
     name: &[u8],
@@ -117,7 +117,7 @@ fn parse_with_range(
     }
 }
 
-/// The command of `line`, or what is wrong with its words.
+/// The command of `line` in a script of `version`, or the reason why its words are none.
 fn parse_command(version: Version, line: &[u8]) -> Result<Command, Reason>
     ensures { result ≡ command_of version (line_words line.now) }
 {

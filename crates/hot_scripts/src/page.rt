@@ -62,7 +62,7 @@ impl Page {
         &self.room[..self.end]
     }
 
-    /// Whether there may be no room for a line.
+    /// Whether there is room for fewer than `MOST_BYTES` bytes, and so for fewer than a line may have.
     #[inline(always)]
     pub fn is_full(&self) -> bool
         ensures { result ≡ false → length self.now + MOST_BYTES ≤ ROOM }
@@ -70,7 +70,7 @@ impl Page {
         self.end + MOST_BYTES > ROOM
     }
 
-    /// Puts `text` on the page, behind what is there.
+    /// Puts `text` on the page, behind what is there; the page has room for it.
     #[inline(always)]
     pub fn put(&mut self, text: &[u8])
         requires { length self.old + length text.now ≤ ROOM }
@@ -81,7 +81,7 @@ impl Page {
         self.end = end;
     }
 
-    /// Puts `number` on the page in decimal digits, without leading zeros.
+    /// Puts `number` on the page in decimal digits, without leading zeros; the page has room for `NUMBER_DIGITS`.
     #[inline(always)]
     pub fn put_number(&mut self, number: u64)
         requires { length self.old + NUMBER_DIGITS ≤ ROOM }
@@ -92,7 +92,7 @@ impl Page {
         self.end = end;
     }
 
-    /// Puts `bytes` on the page, each as two lower case hexadecimal digits.
+    /// Puts `bytes` on the page, each as two lower case hexadecimal digits; the page has room for these.
     #[inline(always)]
     pub fn put_hex(&mut self, bytes: &[u8])
         requires { length self.old + 2 * length bytes.now ≤ ROOM }

@@ -36,7 +36,7 @@ pub struct Commands<'a> {
 impl Script {
     ghost use Rattle.hot_scripts.specs.Parses.{Parses, script_commands, commands_left};
 
-    /// The script with the text `text`, or a fault with its first bad line.
+    /// The script with the text `text`; if it has a bad line, `RunFault::Script` with the first one.
     pub fn parse(text: Vec<u8>) -> Result<Script, RunFault>
         requires { vec_len text ≤ MAX_SCRIPT }
         ensures { Parses result (commands_of text.items) }

@@ -36,7 +36,7 @@ pub fn read_script<R: Read>(alloc: Global, reader: &mut R) -> Result<Vec<u8>, Ru
     Err(RunFault::Read)
 }
 
-/// Writes `text`; `RunFault::Write` if a write failed.
+/// Writes `text` to `writer`; `RunFault::Write` if a write failed.
 fn write_text<W: Write>(writer: &mut W, text: &[u8]) -> Result<(), RunFault>
     ensures ok { OnOk result (Appends (W.contents writer.old) (W.contents writer.new) text.now) }
     ensures fault { IfErr result (λ fault. fault ≡ RunFault.Write) }
@@ -47,7 +47,7 @@ fn write_text<W: Write>(writer: &mut W, text: &[u8]) -> Result<(), RunFault>
     }
 }
 
-/// Sees that what was written has arrived; `RunFault::Write` if the flush failed.
+/// Flushes `writer`; `RunFault::Write` if that failed.
 fn flush<W: Write>(writer: &mut W) -> Result<(), RunFault>
     ensures ok { OnOk result (Keeps (W.contents writer.old) (W.contents writer.new)) }
     ensures fault { IfErr result (λ fault. fault ≡ RunFault.Write) }
@@ -58,7 +58,7 @@ fn flush<W: Write>(writer: &mut W) -> Result<(), RunFault>
     }
 }
 
-/// Writes `text`, and sees that it has arrived; `RunFault::Write` if that failed.
+/// Writes `text` to `writer` and flushes it; `RunFault::Write` if either failed.
 pub fn write_answers<W: Write>(writer: &mut W, text: &[u8]) -> Result<(), RunFault>
     ensures ok { OnOk result (Appends (W.contents writer.old) (W.contents writer.new) text.now) }
     ensures fault { IfErr result (λ fault. fault ≡ RunFault.Write) }
@@ -67,7 +67,7 @@ pub fn write_answers<W: Write>(writer: &mut W, text: &[u8]) -> Result<(), RunFau
     flush(writer)
 }
 
-/// Writes `texts`, one after another, and sees that they have arrived; `RunFault::Write` if that failed.
+/// Writes `texts` to `writer`, one after another, and flushes it; `RunFault::Write` if either failed.
 pub fn write_sections<W: Write>(writer: &mut W, texts: &[Vec<u8>]) -> Result<(), RunFault>
     ensures ok { OnOk result (Appends (W.contents writer.old) (W.contents writer.new) (flat_map (λ t. t.items) texts.now)) }
     ensures fault { IfErr result (λ fault. fault ≡ RunFault.Write) }

@@ -35,7 +35,7 @@ pub fn parse_key(version: Version, word: &[u8]) -> Result<Key, Reason>
     }
 }
 
-/// The key of `bytes`, `MAX_BYTES` at most.
+/// The key of `bytes`, `MAX_BYTES` at most; never an error.
 fn make_key(bytes: &[u8]) -> Result<Key, Reason>
     requires { length bytes.now ≤ MAX_BYTES }
     ensures { result ≡ Ok bytes.now }
@@ -73,7 +73,7 @@ fn parse_number(word: &[u8]) -> Option<u64>
     }
 }
 
-/// The value that `word` stands for; `Reason::Value` if it is none.
+/// The value that `word` stands for; `Reason::Value` if it is no number, or one above 2^64 - 1.
 pub fn parse_value(word: &[u8]) -> Result<u64, Reason>
     ensures { result ≡ parsed_value word.now }
 {

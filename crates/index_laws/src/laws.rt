@@ -24,7 +24,8 @@ pub fn steps_follow()
     ensures { StepsFollow }
 {}
 
-/// If a core that shows the table's state is that of a moment of a run, a step that a pass may make is a step of the run to the next one.
+/// Let a moment of a run have the core that shows the table's state, and a call of a pass pending. Then a step that the pass may make is a
+/// step of the run, to a moment whose core shows the next state.
 pub fn steps_are_moments()
     ensures { StepsAreMoments }
 {}
@@ -50,23 +51,25 @@ pub fn loads_see_all()
     ensures { LoadsSeeAll }
 {}
 
-/// An answered call with one key stands no later than one that loads the root after its last step, and earlier if it changed the map.
+/// Let a call with one key be answered, and another load the root after all steps that the first one's pass knew of. Then the first stands
+/// no later than that, and earlier if it changed the map.
 pub fn ended_before_loaded()
     ensures { EndedBeforeLoaded }
 {}
 
-/// Of two answered calls with one key, in one run, the one stands first; or its pass knew, when it ended, of the other's load of the root.
+/// Let one run have two answered calls, each with one key. Either the first stands as in `ended_before_loaded`, or its pass knew of the
+/// other's load of the root when it ended.
 pub fn ended_or_loaded_before()
     ensures { EndedOrLoadedBefore }
 {}
 
-/// Of two answered calls with one key, the one stands first; or its pass knew, when it ended, of all steps before the other's load of the
-/// root. The premise is one run that has the one's trace and these steps.
+/// Let one run have the trace of an answered call and all steps before another's load of the root; each has one key. Either the first
+/// stands as in `ended_before_loaded`, or its pass knew of all these steps when it ended.
 pub fn ended_or_shown_before()
     ensures { EndedOrShownBefore }
 {}
 
-/// Two passes that have met are of one run of the table: of the steps that each knew of before, the ones begin with the others.
+/// Two passes that have met are of one run of the table. Of the two lists of steps that they knew of before, one begins with the other.
 pub fn met_are_of_one_run()
     ensures { MetAreOfOneRun }
 {}

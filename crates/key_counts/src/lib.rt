@@ -22,14 +22,14 @@ impl KeyCount {
         KeyCount { keys: 0 }
     }
 
-    /// Counts a call of the pass whose reply was `reply`.
+    /// Adds what a call of the pass with the reply `reply` has put in, less what it has taken out.
     pub fn note(&mut self, reply: Reply)
         ensures { CountsReply reply self.old self.new }
     {
         self.keys = self.keys.wrapping_add(net(reply));
     }
 
-    /// Counts a call of the pass if it was answered. A refused call leaves the count as it is.
+    /// Counts a call of the pass with the outcome `answer`, as `note` does. If it was refused, the count stays.
     pub fn note_answer<F>(&mut self, answer: &Result<Reply, F>)
         ensures { CountsAnswer answer.now self.old self.new }
     {
@@ -50,7 +50,8 @@ fn net(reply: Reply) -> u64
     }
 }
 
-/// How many keys the map has, by `counts`, those of all passes in the order of their numbers, when nobody changes it.
+/// How many keys the map has, if these are fewer than 2^64 and no pass is changing it. `counts` are those of all passes, in the order of
+/// their numbers.
 pub fn total(counts: &[KeyCount]) -> u64
     ensures { (front : List Change) → AreCounts front counts.now → length (map_of front) < 2 ^ 64 → result ≡ length (map_of front) }
 {

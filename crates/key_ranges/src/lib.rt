@@ -41,7 +41,7 @@ pub fn previous_key(key: &Key) -> Option<Key>
     Some(of_front(front))
 }
 
-/// The key of the bytes `front`.
+/// The key of the bytes `front`, `MAX_BYTES` at most.
 fn of_front(front: &[u8]) -> Key
     requires { IsKey front.now }
     ensures { result ≡ front.now }
@@ -63,7 +63,7 @@ fn with_byte(front: &[u8], last: u8) -> Key
     Key::from_padded(places, front.len() + 1)
 }
 
-/// The last key that begins with `prefix`: behind that are as many bytes of 255 as have room.
+/// The greatest key that begins with `prefix`: behind that are bytes of 255, up to `MAX_BYTES` in all.
 pub fn last_with_prefix(prefix: &Key) -> Key
     ensures { result ≡ last_with prefix.now }
 {

@@ -50,7 +50,7 @@ impl<'a> Iter<'a> {
     }
 }
 
-/// The key of `bytes`. Inline, as its caller is.
+/// The key of `bytes`, `MAX_BYTES` at most. Inline, as its caller is.
 #[inline(always)]
 pub(crate) fn key_of(bytes: &[u8]) -> Key
     requires { IsKey bytes.now }

@@ -39,7 +39,7 @@ impl Model for Pairs {
 }
 
 impl Pairs {
-    /// A list of no pairs. It takes no memory yet.
+    /// A list of no pairs, for memory of `alloc`. It takes none yet.
     pub fn new(alloc: Global) -> Pairs
         ensures { result ≡ [] }
     {
@@ -73,7 +73,7 @@ impl Pairs {
     }
 
     /// Adds a pair of a key and `value` at the end. The key has the first `length` bytes of `places`. An error if memory is refused: the
-    /// list stays as it is.
+    /// pairs stay as they are.
     #[inline(always)]
     pub fn push(
         &mut self,
@@ -112,7 +112,7 @@ impl Pairs {
         Iter::of(&self.bytes, &self.heads)
     }
 
-    /// The same pairs, with keys that are values of their own. Memory is refused only if there is a pair.
+    /// The same pairs, with keys that are values of their own. An error if memory is refused; it needs none if there is no pair.
     pub fn to_vec(&self, alloc: Global) -> Result<Vec<(Key, u64)>, AllocError>
         ensures list { IfOk result (λ list. list.items ≡ self.now) }
         ensures memory { OnErr result (self.now ≢ []) }
@@ -131,7 +131,7 @@ impl Pairs {
 /// Adds the first `length` bytes of `places` to the end of `bytes`. An error if memory is refused: `bytes` stay as they are.
 ///
 /// Most keys are short, and a copy of a number of bytes that is known beforehand needs no call. So, where there is room, eight bytes are
-/// copied for a key of eight. 64 are copied for one of up to 64, and those behind the key are dropped.
+/// copied for a key of eight. For other keys of up to 64, it copies 64 bytes, and drops those behind the key.
 #[inline(always)]
 fn append(bytes: &mut Vec<u8>, places: &[u8; MAX_BYTES], length: usize) -> Result<(), AllocError>
     requires { length ≤ MAX_BYTES }
@@ -147,7 +147,7 @@ fn append(bytes: &mut Vec<u8>, places: &[u8; MAX_BYTES], length: usize) -> Resul
     append_any(bytes, &places[..length])
 }
 
-/// Does what [`append`] does, for a key of up to 64 bytes.
+/// Does what [`append`] does, for a key of up to 64 bytes: copies 64, and drops those behind the key.
 #[inline(always)]
 fn append_short(
     bytes: &mut Vec<u8>,
@@ -163,8 +163,8 @@ fn append_short(
     Ok(())
 }
 
-/// Adds `key`, of any length, to the end of `bytes`. An error if memory is refused: `bytes` stay as they are. Never inline, so that short
-/// keys need not pass through what is ready for any.
+/// Adds `key`, of any length, to the end of `bytes`. An error if memory is refused: `bytes` stay as they are. Never inline, so that callers
+/// have less code for short keys.
 #[inline(never)]
 fn append_any(bytes: &mut Vec<u8>, key: &[u8]) -> Result<(), AllocError>
     ensures items { bytes.new.items ≡ if is_ok result then bytes.old.items ++ key.now else bytes.old.items }

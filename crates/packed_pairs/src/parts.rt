@@ -14,7 +14,7 @@ impl Pairs {
         (&self.heads, &self.bytes)
     }
 
-    /// Takes out the last pair, if there is one.
+    /// Takes out the last pair, if there is one. The list keeps its memory.
     fn pop(&mut self)
         ensures { self.new ≡ take (pred (length self.old)) self.old }
     {
@@ -39,7 +39,7 @@ impl Pairs {
         self.bytes.len()
     }
 
-    /// Takes out all pairs. The list keeps its memory only if neither the heads nor the bytes of keys have more than `most` bytes of it.
+    /// Takes out all pairs. The list frees its memory if its heads or the bytes of its keys have more than `most` bytes of it.
     pub fn let_go(&mut self, most: usize)
         ensures { self.new ≡ [] }
     {

@@ -49,7 +49,7 @@ struct Line {
 }
 
 impl Line {
-    /// A line with no detail and nothing found.
+    /// The line of the step `name` on `thing`, with no detail and nothing found.
     fn on(name: &'static str, thing: Thing) -> Line {
         Line {
             name,
@@ -59,7 +59,7 @@ impl Line {
         }
     }
 
-    /// A line with a number that was found or loaded.
+    /// The line of the step `name` on `thing`, with `number`, which it stored, loaded or found.
     fn found(name: &'static str, thing: Thing, number: u64) -> Line {
         Line {
             found: Found::Number(number),
@@ -67,7 +67,7 @@ impl Line {
         }
     }
 
-    /// A line on a word of a record, at this offset.
+    /// The line of the step `name` on the word of `rec` at `offset`, which is `word`.
     fn word(name: &'static str, rec: Rec, offset: u8, word: u64) -> Line {
         Line {
             name,
@@ -78,7 +78,7 @@ impl Line {
     }
 }
 
-/// What a step on a record is on.
+/// What a step on the record `rec` is on.
 fn thing_of_record(rec: Rec) -> Thing {
     match rec {
         Rec::Node(number) => Thing::Node(number),
@@ -86,7 +86,7 @@ fn thing_of_record(rec: Rec) -> Thing {
     }
 }
 
-/// What a step on an entry word is on.
+/// What a step on the entry word of `spot` is on.
 fn thing_of_spot(spot: Spot) -> Thing {
     match spot {
         Spot::Root => Thing::Root,
@@ -94,7 +94,7 @@ fn thing_of_spot(spot: Spot) -> Thing {
     }
 }
 
-/// What a step on a lock is on.
+/// What a step on the lock `target` is on.
 fn thing_of_target(target: Target) -> Thing {
     match target {
         Target::Anchor => Thing::Anchor,
@@ -102,7 +102,7 @@ fn thing_of_target(target: Target) -> Thing {
     }
 }
 
-/// The line of a step.
+/// The line of the step `act`.
 fn line_of(act: &Act) -> Line {
     match *act {
         Act::Claim { rec, found } => Line::found("claim", thing_of_record(rec), found),
@@ -131,7 +131,7 @@ fn line_of(act: &Act) -> Line {
     }
 }
 
-/// Adds a step to `text`: its name, on what it is, and the word that it stored, loaded or found.
+/// Adds the step `act` to `text`: its name, on what it is, and the word that it stored, loaded or found. An error if memory is refused.
 pub fn write_act(text: &mut String, act: &Act) -> Result<(), AllocError> {
     let line = line_of(act);
     write!(text, "{}{}", line.name, line.thing)?;

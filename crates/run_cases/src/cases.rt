@@ -6,8 +6,8 @@ use std::alloc::Global;
 use std::io;
 use std::io::ErrorKind;
 
-/// What a pass may do: make a call, list so many pairs from the lowest key on or from the highest one downwards, or make a round of
-/// collection.
+/// What a pass may do: make a call, list so many pairs, or make a round of collection. It lists from the lowest key on, or from the
+/// highest one downwards.
 #[derive(Drop)]
 pub enum Deed {
     Make(Call),
@@ -43,7 +43,7 @@ impl<'a> Case<'a> {
         }
     }
 
-    /// Begins a new case, on an index of as many nodes and leaves as the two numbers of `text` say.
+    /// Begins a new case, on an index of as many nodes and leaves as the two numbers of `text` say. `bad_line` if it hasn't these.
     pub fn begin(&mut self, text: &str) -> io::Result<()> {
         (self.nodes, self.leaves) = parse_two(text)?;
         self.before.clear();
@@ -53,12 +53,12 @@ impl<'a> Case<'a> {
     }
 }
 
-/// Why a case isn't run: a line that says nothing.
+/// The error for a line of a case that can't be read or done.
 pub fn bad_line() -> io::Error {
     io::Error::from(ErrorKind::InvalidInput)
 }
 
-/// The two numbers of a text, with a blank between them.
+/// The two numbers of `text`, with a blank between them; `bad_line` if it is anything else.
 pub fn parse_two(text: &str) -> io::Result<(u32, u32)> {
     match text.split_once(' ') {
         Some((first, second)) => Ok((parse_count(first)?, parse_count(second)?)),
@@ -66,17 +66,17 @@ pub fn parse_two(text: &str) -> io::Result<(u32, u32)> {
     }
 }
 
-/// The number that a word stands for.
+/// The number that `word` stands for; `bad_line` if it is none of 64 bits.
 fn parse_number(word: &str) -> io::Result<u64> {
     word.parse::<u64>().map_err(|_| bad_line())
 }
 
-/// The number that a word stands for, if it is of 32 bits.
+/// The number that `word` stands for; `bad_line` if it is none of 32 bits.
 fn parse_count(word: &str) -> io::Result<u32> {
     word.parse::<u32>().map_err(|_| bad_line())
 }
 
-/// Adds the deeds of a line, which are parted by commas. A word that says nothing fails.
+/// Adds the deeds of `text`, which are parted by commas, to `deeds`. `bad_line` at a part that is none; an error if memory is refused.
 pub fn parse_deeds(deeds: &mut Vec<Deed>, text: &str) -> io::Result<()> {
     let alloc = *deeds.allocator();
     for part in text.split(',') {
@@ -86,7 +86,7 @@ pub fn parse_deeds(deeds: &mut Vec<Deed>, text: &str) -> io::Result<()> {
     Ok(())
 }
 
-/// Adds the deed that these words stand for: of a call, one for each of its keys.
+/// Adds the deed of `words` to `deeds`: of a call, one for each of its keys. `bad_line` if it is none; an error if memory is refused.
 fn parse_deed(deeds: &mut Vec<Deed>, words: &[&str]) -> io::Result<()> {
     let (name, word, value) = match *words {
         ["collect"] => return Ok(deeds.push(Deed::Collect)?),
@@ -106,7 +106,7 @@ fn parse_deed(deeds: &mut Vec<Deed>, words: &[&str]) -> io::Result<()> {
     Ok(())
 }
 
-/// The call of this name. An exchange of a value gives the key the next one.
+/// The call `name` with `key` and `value`. An exchange expects `value` and gives the key the next one. `bad_line` if there is no such call.
 fn call_of(name: &str, key: Key, value: u64) -> io::Result<Call> {
     match name {
         "insert" => Ok(Call::Insert(key, value)),
@@ -120,8 +120,8 @@ fn call_of(name: &str, key: Key, value: u64) -> io::Result<Call> {
     }
 }
 
-/// Adds the keys that these words stand for, each in hexadecimal digits, or a dash where it is empty. Two bytes with two dots
-/// between them stand for all keys of one byte from the first to the last.
+/// Adds the keys that the words of `text` stand for to `keys`. Each is in hexadecimal digits, or a dash if it is empty. Two bytes with two
+/// dots between them stand for all keys of one byte from the first to the last. `bad_line` for other words; an error if memory is refused.
 pub fn parse_keys(keys: &mut Vec<Key>, text: &str) -> io::Result<()> {
     for word in text.split_whitespace() {
         match word.split_once("..") {
@@ -137,14 +137,14 @@ pub fn parse_keys(keys: &mut Vec<Key>, text: &str) -> io::Result<()> {
     Ok(())
 }
 
-/// The byte of two hexadecimal digits.
+/// The byte that `word`, two hexadecimal digits, stands for; else `bad_line`.
 fn parse_byte(word: &str) -> io::Result<u8> {
     let mut room = [0u8; 1];
     hex::decode_to_slice(word, &mut room).map_err(|_| bad_line())?;
     Ok(room[0])
 }
 
-/// The key of a word of hexadecimal digits.
+/// The key that `word` stands for: hexadecimal digits, or a dash if it is empty; `bad_line` if it is none.
 fn parse_key(word: &str) -> io::Result<Key> {
     if word == "-" {
         return key_of(&[]);
@@ -158,7 +158,7 @@ fn parse_key(word: &str) -> io::Result<Key> {
     key_of(bytes)
 }
 
-/// The key of these bytes, of which there are 240 at most.
+/// The key of `bytes`; `bad_line` if they are more than 240.
 fn key_of(bytes: &[u8]) -> io::Result<Key> {
     Key::from_bytes(bytes).map_err(|_| bad_line())
 }

@@ -17,7 +17,7 @@ use std::io;
 pub struct Chance(pub u64);
 
 impl Chance {
-    /// The next number, below `bound`; or 0 if that is 0.
+    /// The next number by chance, below `bound`; 0 if `bound` is 0.
     pub fn next_below(&mut self, bound: u64) -> u64 {
         self.0 = self
             .0
@@ -26,7 +26,7 @@ impl Chance {
         (self.0 >> 33).checked_rem(bound).unwrap_or(0)
     }
 
-    /// The next deed: with one of these keys, and with this value if it takes one.
+    /// The next deed by chance: with one of `keys`, or the empty key if there is none, and with `value` if it takes one.
     pub fn next_deed(&mut self, keys: &[Key], value: u64) -> Deed {
         let kind = self.next_below(16);
         let key = match keys.get(self.next_below(keys.len() as u64) as usize) {
@@ -45,7 +45,8 @@ impl Chance {
     }
 }
 
-/// Makes as many turns on a new index as `text` says behind the seed, and prints whether all were lawful.
+/// Takes turns on a new index, and prints whether all were lawful. `text` has the seed and how many turns; `bad_line` if it hasn't. An
+/// error if memory is refused, or a write failed.
 pub fn run_turns<R: Print + AllocGlobal>(rt: &R, case: &Case, text: &str) -> io::Result<()> {
     let (seed, turns) = parse_two(text)?;
     let (index, passes) = open(case.alloc, 2, case.nodes, case.leaves)?;
@@ -53,7 +54,7 @@ pub fn run_turns<R: Print + AllocGlobal>(rt: &R, case: &Case, text: &str) -> io:
     println!(rt; "{turns} turns from {seed}: {}", verdict(wrong))
 }
 
-/// How often something was wrong in so many turns from a seed on this index, which was just made.
+/// Does what `take_turns` does, on `index`, which was just made, with its two `passes`.
 fn count_wrong(
     case: &Case,
     index: &Index,
@@ -67,7 +68,7 @@ fn count_wrong(
     take_turns(case, &mut guest, &mut gate, seed, turns)
 }
 
-/// Takes so many turns from a seed. Returns how often something was wrong.
+/// Takes `turns` turns from `seed`, by `guest`, which `gate` stops. Returns how often something was wrong; an error if memory is refused.
 fn take_turns(
     case: &Case,
     guest: &mut Guest,
@@ -82,7 +83,8 @@ fn take_turns(
     Ok(gate.judge.wrong)
 }
 
-/// A deed by chance, in the middle of which the other pass makes another one. Now and then the index is compared with the replay.
+/// Makes a deed by chance, after one of whose steps the other pass makes another one. In each 32nd `turn` it compares the index with the
+/// replay, and drops the steps that were kept. An error if memory is refused.
 fn take_turn(
     case: &Case,
     guest: &mut Guest,

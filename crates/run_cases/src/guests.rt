@@ -9,7 +9,7 @@ use key_bits::Key;
 use std::alloc::{AllocError, Global};
 use std::io;
 
-/// A new index of so many passes, node records and leaf records, and its passes. A size that no index has fails.
+/// A new index of these numbers of passes, node and leaf records, and its passes. `bad_line` if `create` has a fault.
 pub fn open(alloc: Global, passes: u32, nodes: u32, leaves: u32) -> io::Result<(Index, Vec<Pass>)>
     ensures { IfOk result (λ made. All (Owns made.0) made.1.items) }
 {
@@ -22,7 +22,7 @@ pub fn open(alloc: Global, passes: u32, nodes: u32, leaves: u32) -> io::Result<(
 /// A pass at its index.
 pub type Guest<'a> = Handle<&'a Index>;
 
-/// Takes the last of the passes that are left, at its index. It fails if none is left.
+/// Takes the last of `passes`, those of `index` that are left, as a guest there. `bad_line` if none is left.
 pub fn next_guest<'a>(index: &'a Index, passes: &mut Vec<Pass>) -> io::Result<Guest<'a>>
     requires { All (Owns index.now) passes.old.items }
     ensures { All (Owns index.now) passes.new.items }
@@ -33,7 +33,8 @@ pub fn next_guest<'a>(index: &'a Index, passes: &mut Vec<Pass>) -> io::Result<Gu
     }
 }
 
-/// Does these deeds, with a gate that is told each step. Adds to `said` what each was answered, behind a semicolon.
+/// Does `deeds` by `guest`; `gate` is told each step. What each was answered goes to `said`, behind a semicolon. An error if memory is
+/// refused.
 pub fn do_deeds<G: Gate>(
     guest: &mut Guest,
     deeds: &[Deed],
@@ -63,7 +64,7 @@ pub fn do_deeds<G: Gate>(
     Ok(())
 }
 
-/// Scans for the first `limit` pairs of the index. `gate` is told each step.
+/// Scans for the first `limit` pairs of the index. `gate` is told each step. An error if memory is refused.
 pub fn scan_from_lowest<G: Gate>(
     guest: &mut Guest,
     alloc: Global,
@@ -74,7 +75,7 @@ pub fn scan_from_lowest<G: Gate>(
     index.scan_with(alloc, pass, &lowest(), &highest(), limit, gate)
 }
 
-/// Scans for the last `limit` pairs of the index, in falling order. `gate` is told each step.
+/// Scans for the last `limit` pairs of the index, in falling order. `gate` is told each step. An error if memory is refused.
 pub fn scan_from_highest<G: Gate>(
     guest: &mut Guest,
     alloc: Global,
@@ -101,7 +102,7 @@ fn highest() -> Key {
     }
 }
 
-/// Adds the values of the pairs that were listed, and whether there are more.
+/// Adds the values of the pairs that `scan` listed, and whether there are more, to the end of `said`. An error if memory is refused.
 fn write_scan(said: &mut String, scan: &Scan) -> Result<(), AllocError> {
     for (_, value) in scan.pairs.iter() {
         write!(said, "{value} ")?;

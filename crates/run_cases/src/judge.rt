@@ -20,7 +20,7 @@ pub struct Judge {
 }
 
 impl Judge {
-    /// A judge of an index that was just made, of so many passes, nodes and leaves.
+    /// A judge of an index that was just made with these numbers. An error if one is out of range, or memory is refused.
     pub fn new(alloc: Global, passes: u32, nodes: u32, leaves: u32) -> io::Result<Judge> {
         let layout = Layout::of(passes, nodes, leaves).map_err(|_| bad_line())?;
         Ok(Judge {
@@ -30,7 +30,8 @@ impl Judge {
         })
     }
 
-    /// Compares a scan of all keys, and one downwards, with the map that the steps so far have made. It counts each that differs.
+    /// Compares a scan of all keys by `guest`, and one downwards, with the map that the steps so far have made. It counts each that differs
+    /// as wrong. An error if memory is refused.
     pub fn compare(&mut self, alloc: Global, guest: &mut Guest) -> Result<(), AllocError> {
         let up = scan_from_lowest(guest, alloc, usize::MAX, self)?;
         self.compare_scan(alloc, &up)?;
@@ -60,7 +61,7 @@ impl Gate for Judge {
     }
 }
 
-/// How the runs of a line went: `lawful` if nothing was wrong.
+/// The word for runs in which something was wrong `wrong` times: `lawful` for 0, else `WRONG`.
 pub fn verdict(wrong: u64) -> &'static str {
     if wrong == 0 { "lawful" } else { "WRONG" }
 }
@@ -98,8 +99,8 @@ impl<'a> Gate for Stopper<'a> {
     }
 }
 
-/// Pass 0 of an index of two passes that was just made for a case, once it has done what is done beforehand; and its gate, which
-/// stops it for pass 1.
+/// Pass 0 of `index`, which was just made for `case` with two `passes`, and its gate, which stops it for pass 1. It has done what `case`
+/// does beforehand. `bad_line` if a pass is missing or a size is out of range; an error if memory is refused.
 pub fn seat_guest<'a>(
     case: &Case,
     index: &'a Index,

@@ -24,7 +24,7 @@ use std::rt::{Env, Files};
 use std::thread::Threads;
 use std::{fs, io};
 
-/// Runs the cases in files of the names that the command line has.
+/// Runs the cases in the files that the command line names, and prints each name first. An error of the first that has one.
 fn run<R>(rt: &R) -> io::Result<()>
 where
     R: Env + Files + Print + AllocGlobal + Threads + Sync,
@@ -37,7 +37,7 @@ where
     Ok(())
 }
 
-/// Runs the cases of a file, line by line.
+/// Runs the cases of a file with the bytes `text`, line by line. An error of the first line that has one, as of `run_line`.
 fn run_file<R>(rt: &R, text: &str) -> io::Result<()>
 where
     R: Print + AllocGlobal + Threads + Sync,
@@ -49,7 +49,7 @@ where
     Ok(())
 }
 
-/// Notes what a line says of the case, or makes the runs that it asks for.
+/// Keeps in `case` what `line` says of it, or makes the runs that it asks for. `bad_line` if it says neither; else the error of these.
 fn run_line<'a, R>(rt: &R, case: &mut Case<'a>, line: &'a str) -> io::Result<()>
 where
     R: Print + AllocGlobal + Threads + Sync,
@@ -70,6 +70,7 @@ where
     }
 }
 
+/// Runs the cases. An error as of `run`.
 fn main(rt: HostRuntime) -> io::Result<()> {
     run(&rt)
 }

@@ -14,7 +14,8 @@ use std::{io, mem};
 /// More steps than a pass makes in any case.
 const MAX_STEPS: u64 = 10_000;
 
-/// Prints what pass 0 of a new index was answered where it does the deeds of `text`, and a line for each of its steps.
+/// Lets pass 0 of a new index do the deeds of `text`. Prints what it was answered, a line for each of its steps, and whether all were
+/// lawful. `bad_line` at a part of `text` that is no deed; an error if memory is refused, or a write failed.
 pub fn print_steps<R: Print + AllocGlobal>(rt: &R, case: &Case, text: &str) -> io::Result<()> {
     let mut lines = String::new(case.alloc);
     let (index, passes) = open(case.alloc, 2, case.nodes, case.leaves)?;
@@ -22,7 +23,7 @@ pub fn print_steps<R: Print + AllocGlobal>(rt: &R, case: &Case, text: &str) -> i
     println!(rt; "{text}{lines}")
 }
 
-/// Adds what pass 0 was answered where it does the deeds of `text` on this index that was just made, and a line for each of its steps.
+/// Lets pass 0 of `index`, just made with `passes`, do the deeds of `text`. Adds what `print_steps` prints of that to `lines`.
 fn write_steps(
     case: &Case,
     index: &Index,
@@ -42,7 +43,7 @@ fn write_steps(
     Ok(write!(lines, "\n  {}", verdict(gate.judge.wrong))?)
 }
 
-/// Adds a line for each of these steps.
+/// Adds a line for each of the steps `told` to `lines`; an error if memory is refused.
 fn write_acts(lines: &mut String, told: &[Event]) -> Result<(), AllocError> {
     for event in told.iter() {
         write!(lines, "\n  ")?;
@@ -67,8 +68,9 @@ struct Stop {
     wrong: u64,
 }
 
-/// For each of the case's `other` lines stops pass 0, which does the deeds of `text`, after each of its steps, and prints how many
-/// stops there were and whether all were lawful. If `tells`, it also prints what both passes were answered.
+/// For each of the case's `other` lines stops pass 0, which does the deeds of `text`, after each of its steps. Prints how many stops there
+/// were and whether all were lawful. If `tells`, it also prints what both passes were answered. `bad_line` at a bad deed, or after
+/// `MAX_STEPS`; an error if memory is refused, or a write failed.
 pub fn stop_for_each<R: Print + AllocGlobal>(
     rt: &R,
     case: &Case,
@@ -86,7 +88,7 @@ pub fn stop_for_each<R: Print + AllocGlobal>(
 }
 
 /// Stops pass 0 after its first step, after its second, and so on, each time on a new index, until it makes fewer steps. If `tells`, it
-/// prints what both passes were answered, once for each range of stops with the same answers. Fails after `MAX_STEPS`.
+/// prints what both passes were answered, once for each range of stops with the same answers. Its errors are those of `stop_for_each`.
 fn stop_at_each<R: Print + AllocGlobal>(rt: &R, meeting: &Meeting, tells: bool) -> io::Result<()> {
     let alloc = meeting.case.alloc;
     let (mut said, mut before) = (String::new(alloc), String::new(alloc));
@@ -108,14 +110,14 @@ fn stop_at_each<R: Print + AllocGlobal>(rt: &R, meeting: &Meeting, tells: bool) 
     Err(bad_line())
 }
 
-/// Stops pass 0 of a new index after so many of its steps, and adds to `said` what both passes were answered.
+/// Stops pass 0 of a new index after `step` of its steps, and adds to `said` what both passes were answered. Returns what happened.
 fn stop_at(meeting: &Meeting, step: u64, said: &mut String) -> io::Result<Stop> {
     let case = meeting.case;
     let (index, passes) = open(case.alloc, 2, case.nodes, case.leaves)?;
     stop_on(meeting, &index, passes, step, said)
 }
 
-/// `stop_at`, on this index that was just made, with its passes.
+/// Does what `stop_at` does, on `index`, which was just made, with its `passes`.
 fn stop_on(
     meeting: &Meeting,
     index: &Index,

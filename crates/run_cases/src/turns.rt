@@ -20,7 +20,7 @@ const MAX_LOOKS: u32 = 50_000_000;
 /// How much a thread does.
 const DEEDS: u64 = 12;
 
-/// Whose turn it is to step, how many steps there were, which threads have begun and not ended, each a bit, and how many gave up.
+/// Whose turn it is to step, and how many steps there were; which threads have begun and not ended, each a bit. `lost` counts what failed.
 #[derive(Drop)]
 struct Rota {
     seed: u64,
@@ -31,7 +31,7 @@ struct Rota {
 }
 
 impl Rota {
-    /// Waits until it is this thread's turn.
+    /// Waits until it is the turn of thread `number`, or takes a turn that is nobody's. After `MAX_LOOKS` looks it counts one that gave up.
     fn wait(&self, number: u64) {
         for _ in 0..MAX_LOOKS {
             if self.turn.load(Ordering::SeqCst) == number
@@ -47,7 +47,8 @@ impl Rota {
         self.lost.fetch_add(1, Ordering::SeqCst);
     }
 
-    /// Gives the turn to a thread by chance, of those that have begun and not ended. Returns to which, or `FREE` if there is none.
+    /// Gives the turn to a thread by chance, by the seed and `step`, of those that have begun and not ended. Returns its number; `FREE` if
+    /// there is none.
     fn pass_on(&self, step: u64) -> u64 {
         let begun = self.begun.load(Ordering::SeqCst);
         let mut next = Chance(self.seed ^ step).next_below(4);
@@ -62,7 +63,7 @@ impl Rota {
     }
 }
 
-/// The bit of a thread, of which there are four.
+/// The bit of thread `number`, of which there are four.
 fn bit(number: u64) -> u64 {
     1 << (number & 3)
 }
@@ -89,7 +90,7 @@ impl<'a> Gate for Turns<'a> {
     }
 }
 
-/// What a thread does, by chance. Returns its steps.
+/// What a thread does: `DEEDS` deeds by chance, by `pass`, each step in its turn. Returns its steps, each with its number.
 fn run_thread(case: &Case, rota: &Rota, index: &Index, pass: Pass) -> Vec<(u64, Event)>
     requires { Owns index.now pass }
 {
@@ -112,7 +113,8 @@ fn run_thread(case: &Case, rota: &Rota, index: &Index, pass: Pass) -> Vec<(u64, 
     gate.told
 }
 
-/// Has the steps of all threads judged, each at its number, and the index compared with the replay afterwards.
+/// Lets `judge` judge the steps `told` of all threads in the order of their numbers, and then compare by `last`. An error if memory is
+/// refused.
 fn judge_all(
     alloc: Global,
     judge: &mut Judge,
@@ -133,7 +135,7 @@ fn judge_all(
     judge.compare(alloc, last)
 }
 
-/// Puts each step of a thread into `order`, at its number.
+/// Puts each of `steps`, those of a thread, into `order` at its number, if that is a place there.
 fn order_steps(order: &mut [Option<Event>], steps: &[(u64, Event)]) {
     for (step, event) in steps.iter() {
         if let Some(place) = order.get_mut(*step as usize) {
@@ -142,7 +144,7 @@ fn order_steps(order: &mut [Option<Event>], steps: &[(u64, Event)]) {
     }
 }
 
-/// Has a step judged, if there is one of this number.
+/// Lets `judge` judge `event`, the step of a number. `None`, if there is no such step, counts as wrong.
 fn judge_one(judge: &mut Judge, event: &Option<Event>) {
     match event {
         Some(event) => judge.at(event),
@@ -150,7 +152,8 @@ fn judge_one(judge: &mut Judge, event: &Option<Event>) {
     }
 }
 
-/// Lets so many threads step in an order made from the seed. Returns how often something was wrong.
+/// Lets `threads` threads step on a new index in an order made from `seed`. Returns how often something was wrong. An error if a number is
+/// out of range, memory is refused, or a thread can't be started.
 fn run_seed<R: AllocGlobal + Threads + Sync>(
     rt: &R,
     case: &Case,
@@ -162,7 +165,7 @@ fn run_seed<R: AllocGlobal + Threads + Sync>(
     run_threads(rt, case, &index, seats, passes, seed)
 }
 
-/// `run_seed`, on this index that was just made, with all its passes.
+/// Does what `run_seed` does, on `index`, which was just made, with all its passes, `seats`, in number `passes`.
 fn run_threads<R: AllocGlobal + Threads + Sync>(
     rt: &R,
     case: &Case,
@@ -178,7 +181,8 @@ fn run_threads<R: AllocGlobal + Threads + Sync>(
     count_wrong(case, passes, &mut last, &told, lost)
 }
 
-/// The steps of threads, one for each of these passes, and how many gave up.
+/// Lets a thread for each of `seats` step, in an order made from `seed`. Returns the steps of each, and how often one gave up or failed. An
+/// error if memory is refused, or a thread can't be started.
 fn step_all<R: AllocGlobal + Threads + Sync>(
     rt: &R,
     case: &Case,
@@ -202,7 +206,7 @@ fn step_all<R: AllocGlobal + Threads + Sync>(
     Ok((told, rota.lost.load(Ordering::SeqCst)))
 }
 
-/// How often something was wrong in the steps of threads of which so many gave up.
+/// How often something was wrong in the steps `told`, plus `lost`, how often a thread gave up or failed. An error if memory is refused.
 fn count_wrong(
     case: &Case,
     passes: u32,
@@ -215,7 +219,8 @@ fn count_wrong(
     Ok(judge.wrong.wrapping_add(lost))
 }
 
-/// Lets so many threads, two to four, step in turns on the index of a case, in so many orders.
+/// Lets threads step in turns on new indexes of `case`, and prints whether all was lawful. `text` says how many threads, two to four, and
+/// how many orders; `bad_line` if it doesn't. Another error is that of a `run_seed`, or of the write.
 pub fn run_seeds<R>(rt: &R, case: &Case, text: &str) -> io::Result<()>
 where
     R: Print + AllocGlobal + Threads + Sync,

@@ -44,7 +44,8 @@ pub struct RecordCounts {
     pub bytes: usize,
 }
 
-/// Loads the state of each record, nodes first. Returns how many records it found in each state, and the bytes of the table.
+/// Loads the state of each record, nodes first; `gate` is told each load. Returns how many records of each kind and class it found in each
+/// state, and the bytes of the table.
 pub fn count_records<G: Gate>(table: &HotTable, seat: &mut TableSeat, gate: &mut G) -> RecordCounts
     requires { IsSeatOf table.now seat.old }
     ensures pin { seat.new.known.pin ≡ seat.old.known.pin }
@@ -68,7 +69,7 @@ pub fn count_records<G: Gate>(table: &HotTable, seat: &mut TableSeat, gate: &mut
     }
 }
 
-/// Loads the state of each node record, and returns how many it found in each state.
+/// Loads the state of each node record, and returns how many it found in each state. `gate` is told each load.
 fn count_nodes<G: Gate>(table: &HotTable, seat: &mut TableSeat, gate: &mut G) -> StateCounts
     requires { IsSeatOf table.now seat.old }
     ensures pin { seat.new.known.pin ≡ seat.old.known.pin }
@@ -82,7 +83,8 @@ fn count_nodes<G: Gate>(table: &HotTable, seat: &mut TableSeat, gate: &mut G) ->
     counts
 }
 
-/// Loads the states of the leaf records from number `first` on and below `behind`, and returns how many it found in each state.
+/// Loads the states of the leaf records from number `first` on and below `behind`, and returns how many it found in each state. `gate` is
+/// told each load.
 fn count_leaves<G: Gate>(
     table: &HotTable,
     seat: &mut TableSeat,

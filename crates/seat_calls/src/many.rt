@@ -18,8 +18,8 @@ use rowex_table::{HotTable, TableSeat};
 const ENOUGH: usize = 16;
 
 /// Looks up `keys`, one after the other, each from the root down. What it finds goes to the key's place in `found`: the value, or `None`
-/// if the key is absent. If there are enough keys, they go down by turns before that, in groups. So the nodes on their ways are in the
-/// cache, and the places in them are known.
+/// if the key is absent. `gate` is told each step. Before that, groups of `TOGETHER` keys go down by turns: this loads their nodes into the
+/// cache, and finds the places in them. The last keys do not, if these are fewer than `ENOUGH`.
 pub fn look_up_each<G: Gate>(
     table: &HotTable,
     seat: &mut TableSeat,

@@ -21,8 +21,8 @@ pub struct Scratch {
     pub build: Build,
     /// What the pass has retired and not given back yet.
     pub limbo: Limbo,
-    /// Whether records were moving at the last full round. They were if it saw a retired one that a pass may still reach. They were too
-    /// if it gave back some of the kind that was lacked, which other passes may have taken since.
+    /// Whether records may come back after the last full round. They may if it saw a retired one that a pass may still reach. They may,
+    /// too, if it gave back some of the kind that was lacked, which other passes may have taken since.
     pub is_moving: bool,
 }
 
