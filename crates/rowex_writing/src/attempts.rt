@@ -137,8 +137,8 @@ fn try_plan<G: Gate>(
     }
 }
 
-/// Makes the change `deed` of a plan whose nodes are locked and checked: by [`make_removal`], if it takes a leaf out of a node that has one
-/// above it on the way. Else it is published; or, if no record was free, undone, and the kind of record is returned.
+/// Makes the change `deed` of a plan whose nodes are locked and checked. If it takes a leaf out of a node that has one above it on the way,
+/// [`make_removal`] makes it. If no record was free, the change is undone, and the kind of record is returned.
 fn change_span<G: Gate>(
     table: &HotTable,
     seat: &mut TableSeat,
@@ -231,7 +231,7 @@ fn take_span<G: Gate>(table: &HotTable, seat: &mut TableSeat, gate: &mut G, job:
     false
 }
 
-/// Undoes the change of `job`, for which no record was free: gives up the records that were made, and unlocks all that is locked.
+/// Undoes the change of `job`, for which no record was free: gives up the records in `build.made`, and unlocks all that is locked.
 fn undo_change<G: Gate>(
     table: &HotTable,
     seat: &mut TableSeat,

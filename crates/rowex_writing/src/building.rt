@@ -133,8 +133,8 @@ pub(crate) fn make_from_words_with_leaf<G: Gate>(
     make_from_words(table, seat, gate, build, words)
 }
 
-/// The entry for `half`, a side of a node that was cut, whose entry is `old`. One entry is itself, a new node gets a record, and the node as
-/// it was keeps `old`. `None` if a record was wanted and none was free.
+/// The entry for `half`, a side of the cut node that `old` names. It is the one entry itself, that of a record made for a new node, or
+/// `old` for the node as it was. `None` if a record was wanted and none was free.
 fn make_half<G: Gate>(
     table: &HotTable,
     seat: &mut TableSeat,

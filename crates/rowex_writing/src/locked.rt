@@ -153,7 +153,7 @@ pub(crate) fn load_locked_entry<G: Gate>(
 }
 
 /// Loads eight words of the locked node of `loads` into `words`, from index `first` on. If `first` isn't before `loads.end`, none is
-/// loaded. Inline, so that it is known where each stands.
+/// loaded. Inline, so that each index is known when it is compiled.
 #[inline(always)]
 fn load_eight<G: Gate>(
     table: &HotTable,

@@ -63,8 +63,8 @@ struct ClosedFork {
 /// Ends a removal by a merge, and returns whether it did. What is left of the leaf's node, in a record made for it, and its sibling become
 /// one node.
 ///
-/// It can if the two have at most 32 entries together, no other pass is at work there, and another record is free, if one is wanted. Else
-/// `false` is returned, and the pass has the records and locks that it had.
+/// It does if both are nodes of at most 32 entries together, and no other pass is at work there. Another record must be free, if one is
+/// wanted. Else the pass has the records and locks that it had.
 pub(crate) fn try_merge<G: Gate>(
     table: &HotTable,
     seat: &mut TableSeat,
@@ -104,10 +104,10 @@ fn sole_node(made: &[Rec]) -> Option<u32>
     }
 }
 
-/// Returns the merge of the node that loses a leaf with its sibling, in record `made`. `None` if the other side of the last fork is not
-/// one node, or both nodes have more than 33 entries together, with the leaf.
+/// Returns the merge of the node that loses a leaf with its sibling. `made` is the record of what is left of the node. `None` if the other
+/// side of the last fork is not one node, or both nodes have more than 33 entries together, with the leaf.
 ///
-/// A full node has none, for what is left of it has too many.
+/// A full node has none, since 31 entries are left of it, and a sibling has two at least.
 fn find_merge<G: Gate>(
     table: &HotTable,
     seat: &mut TableSeat,
@@ -176,7 +176,7 @@ fn merge_under_locks<G: Gate>(
 }
 
 /// Puts the node of both siblings into record `merge.made`. Returns the entry for what is left of the upper node, in a new record if that
-/// has other entries, too. `None` if the two have too many entries, or no record was free. Then the pass has the records that it had.
+/// has other entries, too. `None` if [`join_siblings`] has no node, or no record was free. Then the pass has the records that it had.
 fn make_merged<G: Gate>(
     table: &HotTable,
     seat: &mut TableSeat,

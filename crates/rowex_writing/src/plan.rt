@@ -84,7 +84,7 @@ pub enum Full {
 pub(crate) enum Outline {
     /// All is told.
     Known(Plan),
-    /// The new leaf goes beside the entries that `position` affects in the node at place `level` of the way: `plan_beside` tells the rest
+    /// The new leaf goes beside the entries that `position` affects in the node at index `level` of the way: `plan_beside` tells the rest
     /// from these.
     Beside { position: u16, level: usize },
 }
