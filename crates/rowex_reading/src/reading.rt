@@ -43,7 +43,7 @@ pub struct LeafAt {
     pub start: usize,
 }
 
-/// Loads the root's entry. Returns `None` if the tree is empty.
+/// Loads the root's entry; `None` if the tree is empty.
 pub fn load_root<G: Gate>(table: &HotTable, seat: &mut TableSeat, gate: &mut G) -> Option<Entry>
     requires own { IsSeatOf table.now seat.old }
     requires pinned { IsSome seat.old.known.pin }
