@@ -33,8 +33,8 @@ pub(crate) struct Ahead {
     pub node: Option<u32>,
 }
 
-/// Whether a walk that has listed `pairs` touches the leaves at the next `count` places: if these are several, and the keys so far have
-/// more than eight bytes on average.
+/// Whether a walk that has listed `pairs` touches the leaves at the next `count` places. It does if these are several, and the keys so far
+/// have together at least eight bytes more than eight for each.
 ///
 /// The leaf at one place alone is read at once. Shorter keys take few instructions each, always as many, so a processor reads ahead by
 /// itself.

@@ -85,8 +85,8 @@ pub(crate) fn is_earlier(direction: Direction, first: &[u8], second: &[u8]) -> b
     }
 }
 
-/// Whether the key with the bytes `first` is before that with the bytes `second`, as their first different bit says. Their first
-/// different byte says the same.
+/// Whether the key with the bytes `first` is before that with the bytes `second`, as their first different bit says. Their first different
+/// byte says the same. `false` if they are one key.
 pub(crate) fn is_before(first: &[u8], second: &[u8]) -> bool
     requires keys { IsKey first.now × IsKey second.now }
     ensures before { IsTrue result → IsBefore first.now second.now }

@@ -119,7 +119,7 @@ pub fn scan_root<G: Gate>(
     }
 }
 
-/// The first key of `range` in its direction: the last one of a scan downwards.
+/// The key of `range` that comes first in its direction: `range.from` upwards, `range.upto` downwards.
 #[inline(always)]
 pub(crate) fn first_key<'a>(range: &'a Range) -> &'a Key
     ensures { result.now ≡ first_key_of range.now }
