@@ -10,7 +10,7 @@ use plain_trie::{Place, PlainTrie, place};
 use std::alloc::{AllocError, Global};
 use std::process::Abort;
 
-/// The call that a letter names, of the key of one byte. An exchange gives it the next value.
+/// The call that `letter` names, of the key of one byte. An exchange expects `value` and gives the next one.
 fn call(rt: &impl Abort, letter: u8, byte: u8, value: u64) -> Call {
     let key = key(rt, &[byte]);
     match letter {
@@ -24,6 +24,7 @@ fn call(rt: &impl Abort, letter: u8, byte: u8, value: u64) -> Call {
     }
 }
 
+/// A plain index gives the replies worked out by hand to a run of all kinds of calls.
 #[test]
 fn calls_answer_as_a_map(rt: HostRuntime) {
     let cases = [
@@ -155,7 +156,7 @@ fn histories_are_told_legal_or_not(rt: HostRuntime) {
     }
 }
 
-/// The scan has these pairs.
+/// Asserts that `scan` has the pairs `want` and the flag `more`.
 fn expect_scan(rt: &impl Abort, scan: Result<Scan, AllocError>, want: &[(&[u8], u64)], more: bool) {
     match scan {
         Ok(scan) => {
@@ -186,7 +187,7 @@ const SCANS: [(usize, &[u8], &[u8], usize, &[(&[u8], u64)], bool); 11] = [
     (2, b"", b"", 2, &[], false),
 ];
 
-// With no key, with a = 5 alone, and with b = 6 beside it.
+/// A plain trie and a plain index, each of none, one or both of two keys, give the expected pairs and flag.
 #[test]
 fn scans_give_the_first_pairs(rt: HostRuntime) {
     for (held, from, upto, limit, want, more) in SCANS {
@@ -202,7 +203,7 @@ fn scans_give_the_first_pairs(rt: HostRuntime) {
     }
 }
 
-/// A trie of so many keys of one byte or of two in rising order, and of one more if it is not empty.
+/// A trie of the numbers below `count` in rising order, as keys of two bytes if `wide`, else of one, and of `further`, unless empty.
 fn trie_of(rt: &impl Abort, alloc: Global, wide: bool, count: u16, further: &[u8]) -> PlainTrie {
     let mut trie = PlainTrie::new(alloc);
     for number in 0..count {
@@ -220,6 +221,7 @@ fn trie_of(rt: &impl Abort, alloc: Global, wide: bool, count: u16, further: &[u8
     trie
 }
 
+/// The node that `entry` names in `trie`; panics if there is none.
 fn node_of<'a>(rt: &impl Abort, trie: &'a PlainTrie, entry: Option<Entry>) -> &'a Node {
     let number = match entry {
         Some(Entry::Node { number, .. }) => number,
@@ -269,6 +271,7 @@ const SHAPES: [Shape; 16] = [
     (true, 1056, &[4, 0, 0], &[1, 1], 1, &[14, 15, 16, 17], 16),
 ];
 
+/// The node at each path has the expected height, count and columns, and the trie the height of its root.
 #[test]
 fn tries_have_their_shapes(rt: HostRuntime) {
     for (i, (wide, count, further, path, height, positions, entries)) in SHAPES.iter().enumerate() {
@@ -287,7 +290,8 @@ fn tries_have_their_shapes(rt: HostRuntime) {
     }
 }
 
-/// A key of a kind, by a number: of two bytes, of eight that share few of them, or of 66 that differ in one byte or end before it.
+/// The key that `number` gives of a kind. Kind 0 has two bytes, kind 1 eight that share few. Others have 66 that differ in one, or end
+/// before it.
 fn key_by_chance(rt: &impl Abort, kind: u8, number: u64) -> Key {
     if kind == 0 {
         return key(rt, &((number % 1024) as u16).to_be_bytes());
@@ -307,7 +311,7 @@ fn key_by_chance(rt: &impl Abort, kind: u8, number: u64) -> Key {
     key(rt, first_bytes(&bytes, end))
 }
 
-/// The first bytes, or all where there are no more.
+/// The first `count` of `bytes`, or all if there are no more.
 fn first_bytes(bytes: &[u8], count: usize) -> &[u8] {
     if count < bytes.len() {
         &bytes[..count]
@@ -316,7 +320,7 @@ fn first_bytes(bytes: &[u8], count: usize) -> &[u8] {
     }
 }
 
-/// A trie and a plain index answer one call alike; which call, a number says.
+/// Makes a call of `key`, or a scan from it, on `trie` and on `index`, as `number` says. Asserts that both return the same.
 fn call_both(
     rt: &impl Abort,
     alloc: Global,
@@ -341,7 +345,7 @@ fn call_both(
     assert!(rt; found.ok() == want.ok());
 }
 
-/// What a trie holds of a key.
+/// What `trie` has for `key`, as the reply to a get.
 fn held(trie: &PlainTrie, key: &Key) -> Reply {
     match trie.get(key) {
         Some(value) => Reply::Value(value),
@@ -349,7 +353,7 @@ fn held(trie: &PlainTrie, key: &Key) -> Reply {
     }
 }
 
-/// A trie and a plain index give the same pairs from a key on.
+/// Asserts that scans from `from` on return the same from `trie` and `index`.
 fn scan_both(
     rt: &impl Abort,
     alloc: Global,
@@ -369,6 +373,7 @@ fn scan_both(
     assert!(rt; found.more == want.more && found.pairs.as_slice() == want.pairs.as_slice());
 }
 
+/// For keys of each of three kinds, 2,000 calls by chance return the same from a plain trie and a plain index.
 #[test]
 fn calls_by_chance_are_answered_alike(rt: HostRuntime) {
     for kind in 0..3u8 {
@@ -429,6 +434,7 @@ const CHOSEN: [Chosen; 4] = [
     (&[(2, 3, 2, 1)], 8, 0, 1, (0, 1, 1, Case::LeafPushdown), 0),
 ];
 
+/// Four insertions have the expected level, choice and end of the chain; `place` tells the three cases of a full node.
 #[test]
 fn insertions_have_their_cases(rt: HostRuntime) {
     for (passed, position, level, entry, want, end) in CHOSEN {

@@ -7,7 +7,7 @@ use compound_node::{Entry, Node};
 use record_words::{FIRST_ROWS, NODE_FIELDS, close_fork, pack_node, position_of, row_of};
 use std::process::Abort;
 
-/// A node of two entries below a third one at position 4: the two part at position 6, and the third is the last or the first.
+/// The node of children 10 and 11 and leaf 12 with the rows `rows`, whose forks are at the positions 4 and 6.
 fn upper(rt: &impl Abort, rows: [u32; 3]) -> Node {
     let mut sparse = [u32::MAX; 32];
     for i in 0..3 {
@@ -27,7 +27,7 @@ fn child(number: u32) -> Entry
     Entry::Node { number, height: 1 }
 }
 
-/// These stand beside the node's places.
+/// Asserts that `node.beside` returns `want` for its places: the place beside and the fork's position, or `None`.
 fn expect_beside(rt: &impl Abort, node: &Node, want: &[Option<(u8, u16)>]) {
     assert!(rt; want.len() == node.count() as usize);
     for i in 0..node.count() {
@@ -35,6 +35,7 @@ fn expect_beside(rt: &impl Abort, node: &Node, want: &[Option<(u8, u16)>]) {
     }
 }
 
+/// In nodes of two, three and 32 entries the place beside each is found, or none where several are beside it.
 #[test]
 fn places_are_beside_others(rt: HostRuntime) {
     let last = upper(&rt, [0, 0x4000_0000, 0x8000_0000]);
@@ -55,13 +56,14 @@ const POSITIONS: [u16; 31] = [
     26, 27, 28, 29, 30,
 ];
 
-/// The node of two, which have room in it and fork later than at the position.
+/// The node of `zero` and `one` with a fork at `position`. Asserts that they have room in it and fork later.
 fn joined(rt: &impl Abort, position: u16, zero: &Node, one: &Node) -> Node {
     assert!(rt; zero.count() + one.count() <= 32);
     assert!(rt; position < zero.first_position() && position < one.first_position());
     Node::join(position, zero, one)
 }
 
+/// Joined nodes have the expected columns, rows and leaves, where both sides have a column and where one has.
 #[test]
 fn two_nodes_become_one(rt: HostRuntime) {
     let two = Node::pair(7, Entry::Leaf(3), Entry::Leaf(4));
@@ -97,6 +99,7 @@ const ODD: [u16; 15] = [1, 3, 5, 7, 9, 11, 13, 15, 17, 19, 21, 23, 25, 27, 29];
 
 const EVEN: [u16; 15] = [2, 4, 6, 8, 10, 12, 14, 16, 18, 20, 22, 24, 26, 28, 30];
 
+/// Two nodes of 16 entries without a common column become one with 32 entries and 31 columns.
 #[test]
 fn two_nodes_become_a_full_one(rt: HostRuntime) {
     let node = joined(&rt, 0, &comb(&rt, &ODD), &comb(&rt, &EVEN));
@@ -115,8 +118,8 @@ fn two_nodes_become_a_full_one(rt: HostRuntime) {
     }
 }
 
-/// The words of a node of height 2 in which child 20 has taken the place of the entry at `at` and of the one beside it; or that child, if
-/// the node has no others.
+/// Puts child 20 in the place of the entry at `at` and of the one beside it. Returns the child if nothing else is left, and the words of
+/// `node`, of height 2, after it.
 fn closed(rt: &impl Abort, node: &Node, at: u8) -> (Option<Entry>, [u64; NODE_FIELDS]) {
     let (count, height) = (node.count(), node.height());
     if at >= count {
@@ -133,6 +136,7 @@ fn closed(rt: &impl Abort, node: &Node, at: u8) -> (Option<Entry>, [u64; NODE_FI
     (left, words)
 }
 
+/// Closing a fork gives the words of a pair, from either side; of a node of two the entry alone is left.
 #[test]
 fn one_entry_takes_the_place_of_two(rt: HostRuntime) {
     let last = upper(&rt, [0, 0x4000_0000, 0x8000_0000]);
@@ -155,6 +159,7 @@ fn one_entry_takes_the_place_of_two(rt: HostRuntime) {
     }
 }
 
+/// `row_of` reads the half of a word by the place, and `position_of` the quarter by the column.
 #[test]
 fn numbers_are_read_of_their_words(rt: HostRuntime) {
     let words = pack_node(&comb(&rt, &POSITIONS));
