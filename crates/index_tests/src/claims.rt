@@ -13,7 +13,7 @@ use std::process::Abort;
 use std::test::*;
 use std::thread::{Threads, join};
 
-/// A table of two seats and eight leaf records, and its seats.
+/// A table of two seats, eight node records and eight leaf records, and its seats.
 fn table_of(rt: &impl Abort, alloc: Global) -> (HotTable, TableSeat, TableSeat)
     ensures layout { (result.0.layout.passes ≡ 2) × (result.0.layout.nodes ≡ 8) × (result.0.layout.leaves ≡ 8) }
     ensures own { IsSeatOf result.0 result.1 × IsSeatOf result.0 result.2 }
@@ -30,7 +30,7 @@ fn table_of(rt: &impl Abort, alloc: Global) -> (HotTable, TableSeat, TableSeat)
     }
 }
 
-/// Loads the state of a record and claims it, if it finds it free; tells whether the seat has it now.
+/// Loads the state of `rec` and claims it, if it is free. Returns whether the seat has it now.
 fn take(table: &HotTable, seat: &mut TableSeat, rec: Rec) -> bool
     requires own { IsSeatOf table.now seat.old }
     requires range { HasRecord table.now.layout rec }
@@ -44,7 +44,7 @@ fn take(table: &HotTable, seat: &mut TableSeat, rec: Rec) -> bool
     table.claim(seat, &mut gate, rec) == 0
 }
 
-/// A seat takes a record, which another can't claim then, and releases it; then the other can.
+/// Asserts that `second` can't claim a record that `first` has taken, and can once `first` has released it.
 fn hand_over(
     rt: &impl Abort,
     table: &HotTable,
@@ -64,7 +64,7 @@ fn hand_over(
     assert!(rt; table.claim(second, &mut NoGate, rec) == 0);
 }
 
-/// A word that a seat fills into a record of its own stands there.
+/// Asserts that a word that the seat fills into node record 0, which it has claimed, is loaded from there.
 fn fill_node(rt: &impl Abort, table: &HotTable, seat: &mut TableSeat)
     requires own { IsSeatOf table.now seat.old }
     requires range { 0 < table.now.layout.nodes }
@@ -76,7 +76,7 @@ fn fill_node(rt: &impl Abort, table: &HotTable, seat: &mut TableSeat)
     assert!(rt; table.load_fixed(seat, &mut NoGate, node, 1) == 7);
 }
 
-/// Makes the epoch the next one, loads it and both pins, which are clear, and tries to give a free record back: it stays.
+/// Raises the epoch, loads it and both pins, which are clear, and tries to give leaf record 0 back. Asserts that this is found free.
 fn give_none(rt: &impl Abort, table: &HotTable, seat: &mut TableSeat)
     requires own { IsSeatOf table.now seat.old }
     requires range { (0 < table.now.layout.leaves) × (table.now.layout.passes ≡ 2) }
@@ -91,7 +91,7 @@ fn give_none(rt: &impl Abort, table: &HotTable, seat: &mut TableSeat)
     assert!(rt; table.give_back(seat, &mut NoGate, Rec::Leaf(0), 1) == 0);
 }
 
-/// Claims each leaf record that is free; a bit for each of these.
+/// Claims each leaf record that is free. Returns a mask: bit `n % 64` is set if leaf n was claimed.
 fn claim_each(table: &HotTable, seat: &mut TableSeat) -> u64
     requires own { IsSeatOf table.now seat.old }
 {
@@ -104,7 +104,7 @@ fn claim_each(table: &HotTable, seat: &mut TableSeat) -> u64
     claimed
 }
 
-/// Two threads claim each leaf record that is free: together all but the first, each once.
+/// Two threads claim each leaf record that is free. Asserts that they claim all but the first together, each once.
 fn claim_all(rt: &(impl Abort + Threads + Sync), table: &HotTable, seats: (TableSeat, TableSeat))
     requires first { IsSeatOf table.now seats.0 }
     requires second { IsSeatOf table.now seats.1 }
@@ -122,6 +122,7 @@ fn claim_all(rt: &(impl Abort + Threads + Sync), table: &HotTable, seats: (Table
     assert!(rt; ours & theirs == 0 && ours | theirs == 0xfe);
 }
 
+/// A free record isn't given back, a filled word stands, a record taken is handed over, and two threads claim none twice.
 #[test]
 fn a_record_has_one_seat(rt: HostRuntime) {
     let (table, mut first, mut second) = table_of(&rt, rt.alloc());

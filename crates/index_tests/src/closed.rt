@@ -19,7 +19,7 @@ fn closed_of(rt: &impl Abort, alloc: Global) -> (Index, Vec<ClosedPass>)
     }
 }
 
-/// The handle, opened.
+/// Opens `closed`; panics if memory is refused.
 fn opened<'a>(
     rt: &impl Abort,
     alloc: Global,
@@ -31,7 +31,7 @@ fn opened<'a>(
     }
 }
 
-/// An open handle of the last of the passes that are left.
+/// Takes the last pass out of `passes`, and opens a handle of it.
 fn open_next<'a>(
     rt: &impl Abort,
     alloc: Global,
@@ -47,7 +47,7 @@ fn open_next<'a>(
     }
 }
 
-/// One handle puts in a key, the other puts in another, and finds the first one there already.
+/// The first handle inserts a key. The second upserts the other key, and finds the first one there. Together they count two keys.
 fn put_each(
     rt: &impl Abort,
     first: &mut Handle<&Index>,
@@ -60,7 +60,7 @@ fn put_each(
     assert!(rt; total(&[first.count(), second.count()]) == 2);
 }
 
-/// One handle takes both keys out, and so one more than it has put in.
+/// The second handle removes both keys, one more than it has put in, so its count is below 0. Together they count none.
 fn take_both(
     rt: &impl Abort,
     first: &mut Handle<&Index>,
@@ -75,6 +75,7 @@ fn take_both(
     assert!(rt; total(&[first.count(), second.count()]) == 0);
 }
 
+/// A closed handle counts its one key, and still does when it is opened again.
 #[test]
 fn a_handle_keeps_its_count_while_it_is_closed(rt: HostRuntime) {
     let (index, mut passes) = closed_of(&rt, rt.alloc());

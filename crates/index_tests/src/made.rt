@@ -7,7 +7,7 @@ use hot_index::{Index, IndexFault, Key, Pass, create};
 use std::alloc::Global;
 use std::process::Abort;
 
-/// The key of these bytes, which are few enough.
+/// The key with the bytes `bytes`; panics if they are more than 240.
 pub fn key(rt: &impl Abort, bytes: &[u8]) -> Key {
     match Key::from_bytes(bytes) {
         Ok(key) => key,
@@ -20,7 +20,7 @@ pub fn ends(rt: &impl Abort) -> (Key, Key) {
     (key(rt, b""), key(rt, &[255; 240]))
 }
 
-/// An index of so many passes, two nodes and eight leaves, and its passes. Where it is refused memory, the next call makes it.
+/// An index of `passes` passes, two nodes and eight leaves, with its passes. If memory is refused it tries once more.
 pub fn index_of(rt: &impl Abort, alloc: Global, passes: u32) -> (Index, Vec<Pass>)
     ensures { All (Owns result.0) result.1.items }
 {
@@ -33,7 +33,7 @@ pub fn index_of(rt: &impl Abort, alloc: Global, passes: u32) -> (Index, Vec<Pass
     }
 }
 
-/// The index, which is not refused now.
+/// The index and passes of a second try; panics if it is refused.
 fn index_again(rt: &impl Abort, alloc: Global, passes: u32) -> (Index, Vec<Pass>)
     ensures { All (Owns result.0) result.1.items }
 {
@@ -43,7 +43,7 @@ fn index_again(rt: &impl Abort, alloc: Global, passes: u32) -> (Index, Vec<Pass>
     }
 }
 
-/// The last of the passes that are left.
+/// Takes the last pass out of `passes` and returns it; panics if there is none.
 pub fn next_pass(rt: &impl Abort, index: &Index, passes: &mut Vec<Pass>) -> Pass
     requires { All (Owns index.now) passes.old.items }
     ensures one { Owns index.now result }

@@ -25,7 +25,7 @@ enum Way {
     Down,
 }
 
-/// The pairs from the one key to the other.
+/// The pairs from the first of `ends` to the second, nine at most, in the direction `way`. An error if memory is refused.
 fn list(alloc: Global, guest: &mut Guest, way: Way, ends: &(Key, Key)) -> Result<Scan, AllocError> {
     match way {
         Way::Up => guest.scan(alloc, &ends.0, &ends.1, 9),
@@ -33,7 +33,7 @@ fn list(alloc: Global, guest: &mut Guest, way: Way, ends: &(Key, Key)) -> Result
     }
 }
 
-/// A scan gave so many pairs, and there are no more.
+/// Asserts that `scan` has `count` pairs, and that there are no more.
 fn expect_whole(rt: &impl Abort, scan: Result<Scan, AllocError>, count: usize) {
     match scan {
         Ok(scan) => assert!(rt; scan.pairs.len() == count && !scan.more),
@@ -41,19 +41,19 @@ fn expect_whole(rt: &impl Abort, scan: Result<Scan, AllocError>, count: usize) {
     }
 }
 
-/// Inserts two keys.
+/// Inserts the two keys, with the values 1 and 2.
 fn insert_both(rt: &impl Abort, guest: &mut Guest, keys: &(Key, Key)) {
     assert!(rt; guest.try_insert(&keys.0, 1) == Ok(Reply::Inserted));
     assert!(rt; guest.try_insert(&keys.1, 2) == Ok(Reply::Inserted));
 }
 
-/// Replaces the leaf of the first key, which comes back with the next round.
+/// Replaces the leaf of the first key, and asserts that the next round gives it back.
 fn replace_first(rt: &impl Abort, guest: &mut Guest, keys: &(Key, Key)) {
     assert!(rt; guest.try_upsert(&keys.0, 3) == Ok(Reply::Was(1)));
     assert!(rt; guest.collect().leaves == 1);
 }
 
-/// A scan of two keys leaves no pin, though it was refused: a leaf that another pass replaces after it comes back with the next round.
+/// Asserts that a scan of two keys leaves no pin, even if memory is refused. A round after it gives back the leaf that `other` replaces.
 fn list_beside(rt: &impl Abort, alloc: Global, guest: &mut Guest, other: &mut Guest, way: Way) {
     let ends = ends(rt);
     insert_both(rt, other, &ends);
@@ -67,7 +67,7 @@ fn list_beside(rt: &impl Abort, alloc: Global, guest: &mut Guest, other: &mut Gu
     find_last(rt, alloc, guest, &ends.1);
 }
 
-/// The last pair up to a key.
+/// The last pair up to `key`. If memory is refused it asks once more.
 fn last_of(alloc: Global, guest: &mut Guest, key: &Key) -> Result<Option<(Key, u64)>, AllocError> {
     match guest.last(alloc, key) {
         Ok(last) => Ok(last),
@@ -75,7 +75,7 @@ fn last_of(alloc: Global, guest: &mut Guest, key: &Key) -> Result<Option<(Key, u
     }
 }
 
-/// The last pair is that of this key, with the value 2.
+/// Asserts that the last pair up to `key` is that of `key`, with the value 2.
 fn find_last(rt: &impl Abort, alloc: Global, guest: &mut Guest, key: &Key) {
     let Ok(Some((found, value))) = last_of(alloc, guest, key) else {
         panic!(rt; "no pair")
@@ -83,7 +83,7 @@ fn find_last(rt: &impl Abort, alloc: Global, guest: &mut Guest, key: &Key) {
     assert!(rt; found == *key && value == 2);
 }
 
-/// Lists a new index beside another pass.
+/// Asserts that a scan in the direction `way` of a new index of two passes leaves no pin.
 fn list_new(rt: &impl Abort, alloc: Global, way: Way) {
     let (index, mut passes) = index_of(rt, alloc, 2);
     let mut guest = Handle::new(&index, next_pass(rt, &index, &mut passes));
@@ -91,13 +91,14 @@ fn list_new(rt: &impl Abort, alloc: Global, way: Way) {
     list_beside(rt, alloc, &mut guest, &mut other, way);
 }
 
+/// A scan that was refused memory leaves no pin, upwards as downwards.
 #[test]
 fn scans_leave_no_pin(rt: HostRuntime) {
     list_new(&rt, rt.alloc(), Way::Up);
     list_new(&rt, rt.alloc(), Way::Down);
 }
 
-/// Gives a replay each step, once more where it wanted memory.
+/// Gives a replay each step, once more if memory was refused. Counts the steps that it doesn't take.
 #[derive(Drop)]
 struct Insisting {
     replay: Replay,
@@ -121,7 +122,7 @@ impl Gate for Insisting {
     }
 }
 
-/// A replay of no event yet, of an index of one pass.
+/// A replay of no event yet, of an index of one pass. If memory is refused it tries once more.
 fn replay_of(rt: &impl Abort, alloc: Global) -> Replay {
     let Ok(layout) = Layout::of(1, 2, 8) else {
         panic!(rt; "no layout")
@@ -135,7 +136,7 @@ fn replay_of(rt: &impl Abort, alloc: Global) -> Replay {
     }
 }
 
-/// Inserts two keys and removes one of them, and has each step told to a replay, which holds the other one then.
+/// Inserts two keys and removes one of them, and tells `gate` each step. Asserts that its replay takes each and has three changes.
 fn change_told(rt: &impl Abort, guest: &mut Guest, gate: &mut Insisting) {
     let (low, high) = ends(rt);
     let (index, pass) = (guest.index, &mut guest.pass);
@@ -145,7 +146,7 @@ fn change_told(rt: &impl Abort, guest: &mut Guest, gate: &mut Insisting) {
     assert!(rt; gate.wrong == 0 && gate.replay.changes() == 3);
 }
 
-/// A replay holds so many pairs.
+/// Asserts that `replay` has `count` pairs. If memory is refused it asks once more.
 fn expect_held(rt: &impl Abort, alloc: Global, replay: &Replay, count: usize) {
     let held = match replay.content(alloc) {
         Ok(pairs) => Ok(pairs),
@@ -157,6 +158,7 @@ fn expect_held(rt: &impl Abort, alloc: Global, replay: &Replay, count: usize) {
     }
 }
 
+/// A step refused for want of memory changes nothing: told again, it is made. The replay has three changes and one pair then.
 #[test]
 fn a_replay_stays_as_it_was(rt: HostRuntime) {
     let (index, mut passes) = index_of(&rt, rt.alloc(), 1);
@@ -169,7 +171,7 @@ fn a_replay_stays_as_it_was(rt: HostRuntime) {
     expect_held(&rt, rt.alloc(), &gate.replay, 1);
 }
 
-/// Inserts a key. Where that was refused memory, the key is absent, and the next call inserts it.
+/// Inserts `key`. If memory was refused, asserts that the key is absent and that a second insert adds it.
 fn insert_plain(rt: &impl Abort, index: &mut PlainIndex, key: Key) {
     if index.apply(Call::Insert(key.copy(), 1)).is_err() {
         let told = index.apply(Call::Get(key.copy()));
@@ -179,6 +181,7 @@ fn insert_plain(rt: &impl Abort, index: &mut PlainIndex, key: Key) {
     }
 }
 
+/// An insert that was refused memory adds nothing, and a second one does; a scan has all twenty keys.
 #[test]
 fn a_plain_index_stays_as_it_was(rt: HostRuntime) {
     let mut index = PlainIndex::new(rt.alloc());
@@ -193,7 +196,7 @@ fn a_plain_index_stays_as_it_was(rt: HostRuntime) {
     expect_whole(&rt, scan, 20);
 }
 
-/// Inserts a key. Where that was refused memory, the key is absent, and an upsert adds it.
+/// Inserts `key`. If memory was refused, asserts that the key is absent and that an upsert adds it.
 fn insert_in_trie(rt: &impl Abort, trie: &mut PlainTrie, key: &Key) {
     if trie.insert(key, 1).is_err() {
         assert!(rt; trie.get(key).is_none());
@@ -202,6 +205,7 @@ fn insert_in_trie(rt: &impl Abort, trie: &mut PlainTrie, key: &Key) {
     }
 }
 
+/// An insert that was refused memory adds nothing, and an upsert then does; a scan has all forty keys.
 #[test]
 fn a_plain_trie_stays_as_it_was(rt: HostRuntime) {
     let mut trie = PlainTrie::new(rt.alloc());

@@ -11,7 +11,7 @@ use std::sync::Wait;
 use std::test::*;
 use std::thread::{Threads, join};
 
-/// Inserts a key by a pass that ends then. Answers a stamp of what the pass had seen, if the key was inserted.
+/// Inserts `key` by `pass`, which ends then. Returns whether it was inserted, and a stamp of what the pass has seen.
 fn insert_stamped<R: Wait>(rt: &R, index: &Index, mut pass: Pass, key: &Key) -> (bool, Stamp)
     requires { Owns index.now pass }
     ensures { IsStampFrom index.now result.1 }
@@ -20,7 +20,7 @@ fn insert_stamped<R: Wait>(rt: &R, index: &Index, mut pass: Pass, key: &Key) -> 
     (told == Ok(Reply::Inserted), index.stamp(&mut pass))
 }
 
-/// Inserts two keys at the same time, each by a thread.
+/// Inserts two keys at the same time, each by a pass in its thread. Returns for each whether it was inserted, and the pass's stamp.
 fn insert_both<R: Threads + Wait + Sync>(
     rt: &R,
     index: &Index,
@@ -46,7 +46,7 @@ fn insert_both<R: Threads + Wait + Sync>(
     )
 }
 
-/// A pass finds the keys that two others insert at the same time, once it has followed their stamps.
+/// Asserts that `last` finds the keys that `passes` insert at the same time, once it has followed their stamps.
 fn find_both<R: Abort + Threads + Wait + Sync>(
     rt: &R,
     index: &Index,

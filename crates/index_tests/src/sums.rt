@@ -12,7 +12,7 @@ use std::thread::{Threads, join};
 /// How often each thread adds.
 const TIMES: u64 = 1000;
 
-/// Adds one to the value of a key, so often. Answers how often it was there.
+/// Adds one to the value of `key`, [`TIMES`] times. Returns how often the key was there.
 fn add_often<R: Wait>(rt: &R, index: &Index, pass: Pass, key: &Key) -> u64
     requires { Owns index.now pass }
 {
@@ -26,7 +26,7 @@ fn add_often<R: Wait>(rt: &R, index: &Index, pass: Pass, key: &Key) -> u64
     added
 }
 
-/// Two passes add to the value of a key at the same time, each in a thread.
+/// Two passes add to the value of `key` at the same time, each in a thread. Returns how often each found the key.
 fn add_both<R: Threads + Wait + Sync>(
     rt: &R,
     index: &Index,
@@ -48,7 +48,7 @@ fn add_both<R: Threads + Wait + Sync>(
     )
 }
 
-/// An absent key stays absent; one that is there gets each sum, beyond the greatest number from 0 on.
+/// Asserts that additions leave an absent key absent, and that a sum beyond the greatest number starts again from 0. The value is 0 then.
 fn add_alone(rt: &(impl Abort + Wait), index: &Index, pass: &mut Pass, key: &Key)
     requires { Owns index.now pass.old }
     ensures { Owns index.now pass.new }
@@ -61,6 +61,7 @@ fn add_alone(rt: &(impl Abort + Wait), index: &Index, pass: &mut Pass, key: &Key
     assert!(rt; index.get(pass, key) == Some(0));
 }
 
+/// Sums of one pass go beyond the greatest number to 0; two threads that add at the same time lose nothing.
 #[test]
 fn what_two_threads_add_is_the_sum(rt: HostRuntime) {
     let (index, mut passes) = index_of(&rt, rt.alloc(), 3);

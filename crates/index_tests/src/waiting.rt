@@ -13,7 +13,7 @@ use std::thread::{Threads, join};
 /// How often a thread looks for a key before it gives up.
 const MAX_LOOKS: u32 = 1_000_000;
 
-/// Looks for a key until it is found.
+/// Looks for `key` until it is found, [`MAX_LOOKS`] times at most. Returns whether it was found.
 fn find(guest: &mut Handle<&Index>, key: &Key) -> bool
     ensures { guest.new.index ≡ guest.old.index }
 {
@@ -26,7 +26,7 @@ fn find(guest: &mut Handle<&Index>, key: &Key) -> bool
     false
 }
 
-/// Inserts a key, and then looks for another until it is found. Gives the handle back.
+/// Inserts `own`, and then looks for `other`. Returns whether `own` was inserted and `other` found, and the handle.
 fn insert_and_find<'a, R: Wait>(
     rt: &R,
     mut guest: Handle<&'a Index>,
@@ -66,11 +66,12 @@ fn wait_for_each_other<R: Abort + Threads + Wait + Sync>(
     find_both(rt, &mut second, keys);
 }
 
-/// A pass finds both keys.
+/// Asserts that `guest` finds both keys, each with the value 1.
 fn find_both(rt: &impl Abort, guest: &mut Handle<&Index>, keys: &(Key, Key)) {
     assert!(rt; guest.get(&keys.0) == Some(1) && guest.get(&keys.1) == Some(1));
 }
 
+/// Each of two threads finds the key of the other; both passes find both keys once they have met.
 #[test]
 fn threads_find_each_others_keys(rt: HostRuntime) {
     let (index, mut passes) = index_of(&rt, rt.alloc(), 2);
