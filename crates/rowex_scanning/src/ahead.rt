@@ -64,9 +64,9 @@ fn most_together(limit: usize, pairs: &Pairs) -> u8
     }
 }
 
-/// Loads the entries at the next places in the node `top`, up to the first that leads to a node: at [`most_together`] places, or fewer if
-/// fewer are to come. The leaves' numbers go to the first of `leaves`, and the leaves are touched where [`should_touch`] says so. Returns
-/// how many these are, and that node, if there is one.
+/// Loads the entries at the next places in the node `top`, up to the first that leads to a node. It looks at [`most_together`] places, or
+/// fewer if fewer are to come. The leaves' numbers go to the first of `leaves`, and the leaves are touched where [`should_touch`] says so.
+/// Returns how many these are, and that node, if there is one.
 #[inline(always)]
 pub(crate) fn look_ahead<G: Gate>(
     scan: &Scan,

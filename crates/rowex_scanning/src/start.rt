@@ -69,11 +69,11 @@ pub(crate) fn find_start<G: Gate>(
     }
 }
 
-/// Finds where a scan upwards from `key` starts on `way`, the way of the key's search, which ended at `found`. If that leaf has the key, it
-/// is there.
+/// Finds where a scan upwards from `key` starts on `way`, the way of the key's search, which ended at `found`. If that leaf has the key,
+/// the scan starts there.
 ///
 /// Else the leaf's key differs first at the position `found.mismatch`. That parts `key` from the keys of the entries that it affects, and
-/// these from all others. So the scan starts at the first of them, or behind the last.
+/// these from all others. So the scan starts at the first of them, or behind the last if `key` has a 1 there.
 fn find_start_upwards<G: Gate>(
     table: &HotTable,
     seat: &mut TableSeat,

@@ -39,8 +39,7 @@ use thiserror::Error;
 /// Why an attempt was refused. It has changed nothing then.
 #[derive(Clone, Copy, Debug, PartialEq, Eq, Error)]
 pub enum TryFault {
-    /// Another pass had locked or retired what the attempt had to lock, a record or the anchor, or has made a change since the attempt
-    /// began.
+    /// Another pass had locked or retired what the attempt had to lock, or has made a change since the attempt began.
     #[error("another pass is at work there")]
     Busy,
     /// Each node record was found not free.
@@ -199,8 +198,8 @@ fn make_removal<G: Gate>(
     }
 }
 
-/// Locks what `job` is to change, and checks that it stands as the search found it. If a lock is refused, or something else stands there,
-/// all locks are given back, and `false` is returned.
+/// Locks what `job` is to change, checks that it stands as the search found it, and returns whether it does. If a lock is refused, or
+/// something else stands there, all locks are given back.
 fn take_span<G: Gate>(table: &HotTable, seat: &mut TableSeat, gate: &mut G, job: &Job<'_>) -> bool
     requires own { IsSeatOf table.now seat.old }
     requires possible { IsPossible table.now.layout seat.old.known }

@@ -45,7 +45,8 @@ pub struct Build {
 
 /// Makes a record for `node`, adds it to `build.made`, and returns its entry. `None` if no node record was free: none is added.
 ///
-/// The claims try at most `build.left_nodes` records, from `build.nodes.next` on. These are all, where the change has claimed none yet.
+/// The claim tries the last spare record, and then `build.left_nodes` others at most, from `build.nodes.next` on. These are all, where the
+/// change has claimed none yet.
 pub(crate) fn make_node<G: Gate>(
     table: &HotTable,
     seat: &mut TableSeat,

@@ -33,7 +33,7 @@ use record_words::{NODE_FIELDS, can_take_leaf, drop_entry, read_node};
 use rowex_core::Gate;
 use rowex_table::{HotTable, TableSeat};
 
-/// Makes what takes the place of the locked node `number` when `fork` goes into it: one entry, or a fork of two if it was full. `None` if no
+/// Makes what takes the place of the locked node `number` when it gets `fork`: one entry, or a fork of two if it was full. `None` if no
 /// node record was free: one that was made by then stays in `build.made`. The locked record stays as it is.
 fn raise_level<G: Gate>(
     table: &HotTable,
@@ -124,8 +124,8 @@ fn make_with_leaf<G: Gate>(
     make_with_leaf_by_value(table, seat, gate, build, loaded, new)
 }
 
-/// Makes what takes the place of the locked node `number`, the lowest of a span, with the leaf `new`. This is one entry, or a fork of two if
-/// the node was full. The flag tells whether the node stays, as one side of that fork. `None` if no node record was free.
+/// Makes what takes the place of the locked node `number`, the lowest of a span, with the leaf `new`. This is one entry, or a fork of two
+/// if the node was full. The flag tells whether the node stays, as one side of that fork. `None` if no node record was free.
 fn raise_lowest<G: Gate>(
     table: &HotTable,
     seat: &mut TableSeat,

@@ -393,10 +393,10 @@ fn calls_by_chance_are_answered_alike(rt: HostRuntime) {
 /// A node on a way: its height, its first position, its count, and the place that is taken there.
 type Passed = (u16, u16, u8, u8);
 
-/// A way, a first difference with a level and an entry where it is looked for, the level, the entries and the case of the choice, and
-/// where the chain of full nodes ends. The keys 00 to 21, and then 22: the root's entry 1 alone is affected, a node, which gets the
-/// key. 00 to 3f, and then 2000: the full node's halves go into the root. 0000 to 041f, and then 040000: the root is two higher. 00
-/// to 20, and then 21: a leaf is pushed down.
+/// A way, and a first difference with a level and an entry where it is looked for. Then the level, the entries and the case of the choice,
+/// and where the chain of full nodes ends. Keys 00 to 21, and then 22: the root's entry 1 alone is affected, a node, which gets the key.
+/// Keys 00 to 3f, and then 2000: the full node's halves go into the root. Keys 0000 to 041f, and then 040000: the root is two higher. Keys
+/// 00 to 20, and then 21: a leaf is pushed down.
 type Chosen = (
     &'static [Passed],
     u16,

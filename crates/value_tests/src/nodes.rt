@@ -456,8 +456,8 @@ fn leaves_and_nodes_have_their_words(rt: HostRuntime) {
     }
 }
 
-/// What the leaf of the key a becomes where one of its words is another: the word's place, the word, and the key that is spelled, if
-/// any. A length above 240 is none of a key, and in a word with bytes of the key those behind it are 0; the words behind may be any.
+/// What the leaf of the key a becomes where one of its words is another. A row has the word's place, the word, and the key, if it spells
+/// one. A length above 240 is none of a key. In a word with bytes of the key those behind it are 0; the words behind may be any.
 const OTHER_LEAVES: [(usize, u64, Option<&[u8]>); 10] = [
     (1, 0, Some(b"")),
     (1, 8, Some(b"a\0\0\0\0\0\0\0")),
