@@ -7,7 +7,7 @@ use super::entries::{
 use super::halves::{Cut, Half, cut_of, rest_of};
 use super::heads::Head;
 use super::joining::{concatenate_rows, ensure_columns};
-use super::rows::place_beside;
+use super::rows::find_sibling;
 use arrayvec::ArrayVec;
 use key_bits::Key;
 use partial_keys::Columns;
@@ -82,7 +82,7 @@ impl Node {
     }
 
     /// The node of all entries of `zero` and `one`, the sides of a fork at `position`. Its height is one above the greatest of theirs.
-    pub fn join(position: u16, zero: &Node, one: &Node) -> Node
+    pub fn merge(position: u16, zero: &Node, one: &Node) -> Node
         requires room { length zero.now.entries + length one.now.entries ≤ 32 }
         requires after { RisesFrom 0 (Fork position (piece zero.now) (piece one.now)) }
         ensures { IsBuiltFrom result (Fork position (piece zero.now) (piece one.now)) }
@@ -189,14 +189,14 @@ impl Node {
 
     /// The slot that is alone on the other side of the last fork on the path to slot `at`, and the position of that fork. `None` if that
     /// side has several slots.
-    pub fn beside(&self, at: u8) -> Option<(u8, u16)>
+    pub fn find_sibling(&self, at: u8) -> Option<(u8, u16)>
         requires { at < length self.now.entries }
         ensures { result ≡ beside at (piece self.now) }
     {
         let columns = self.head.columns();
         let before = self.row(at.saturating_sub(1));
         let (own, after, second) = (self.row(at), self.row(at + 1), self.row(at + 2));
-        match place_beside(at, before, own, after, second) {
+        match find_sibling(at, before, own, after, second) {
             Some((slot, column)) => Some((slot, columns.position(column))),
             None => None,
         }

@@ -341,7 +341,7 @@ fn fork_column(row: u32) -> u8
 ///
 /// `before`, `own`, `after` and `second` are the rows at the slots from `at - 1` to `at + 2`. The result is that of each node with these.
 #[inline(always)]
-pub fn place_beside(at: u8, before: u32, own: u32, after: u32, second: u32) -> Option<(u8, u8)>
+pub fn find_sibling(at: u8, before: u32, own: u32, after: u32, second: u32) -> Option<(u8, u8)>
     requires { at < 32 }
     ensures { (node : NodeView) → IsLawfulNode node → at < length node.entries →
         AreRound node.rows at before own after second → IsBesideIn node at result }

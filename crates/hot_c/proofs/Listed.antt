@@ -6,7 +6,8 @@ use Rattle.std.specs.declared.alloc.AllocError.{AllocError}
 use Rattle.finite_map.specs.declared.Scan.{Scan}
 use Rattle.record_words.specs.declared.layout.Layout.{Layout}
 use Rattle.version_laws.specs.Scan.{Range}
-use Rattle.seat_calls.specs.Answers.{HasFoundPair, IsListed, IsListedBy, IsUnnoted, ScanLaw, range_from}
+use Rattle.version_laws.specs.Directions.{ScanLaw}
+use Rattle.seat_calls.specs.Answers.{HasFoundPair, IsListed, IsListedBy, IsUnnoted, range_from}
 use Rattle.seat_calls.specs.Calls.{IsListReadBy, IsRangeRead}
 use Rattle.hot_index.specs.Handles.{HandleView, Stays}
 use Rattle.seat_calls.specs.Passes.{PassView}

@@ -8,7 +8,7 @@ use crate::scans::fill;
 use key_bits::MAX_BYTES;
 
 /// Writes the first pair whose key is `from` or above to `pair`: `FOUND`, or `ABSENT` if there is none. `CLOSED`, `KEY_TOO_LONG` or
-/// `NO_MEMORY` says why there was no scan. Only `FOUND` writes.
+/// `NO_MEMORY` if the scan fails. Only `FOUND` writes.
 #[unsafe(no_mangle)]
 pub extern "C" fn hot_first(handle: &mut Handle, from: &[u8], pair: &mut Pair) -> u32
     ensures call { FindsFirst from.now handle.old.slot.opened handle.new.slot.opened pair.old pair.new result }
@@ -22,7 +22,7 @@ pub extern "C" fn hot_first(handle: &mut Handle, from: &[u8], pair: &mut Pair) -
 }
 
 /// Writes the last pair whose key is `upto` or below to `pair`: `FOUND`, or `ABSENT` if there is none. `CLOSED`, `KEY_TOO_LONG` or
-/// `NO_MEMORY` says why there was no scan. Only `FOUND` writes.
+/// `NO_MEMORY` if the scan fails. Only `FOUND` writes.
 #[unsafe(no_mangle)]
 pub extern "C" fn hot_last(handle: &mut Handle, upto: &[u8], pair: &mut Pair) -> u32
     ensures call { FindsLast upto.now handle.old.slot.opened handle.new.slot.opened pair.old pair.new result }
@@ -35,8 +35,8 @@ pub extern "C" fn hot_last(handle: &mut Handle, upto: &[u8], pair: &mut Pair) ->
     find(handle, &query, pair)
 }
 
-/// Writes the pair that a scan for one pair of `query` finds to `pair`: `FOUND`, or `ABSENT` if it finds none. Another status says why
-/// there was no scan.
+/// Writes the pair that a scan for one pair of `query` finds to `pair`: `FOUND`, or `ABSENT` if it finds none. `CLOSED`, `KEY_TOO_LONG`
+/// or `NO_MEMORY` if the scan fails. Only `FOUND` writes.
 fn find(handle: &mut Handle, query: &Query, pair: &mut Pair) -> u32
     ensures { FindsIn query.now.order query.now.from.now query.now.upto.now handle.old.slot.opened handle.new.slot.opened pair.old pair.new result }
 {

@@ -25,7 +25,7 @@ use key_bits::{Key, KeyFault};
 use record_words::{Layout, Stock};
 use std::alloc::Global;
 
-/// Makes an empty index with these numbers of node and leaf records and a pass for each of `handles`, and opens all of them: `DONE`. Else
+/// Makes an empty index with `nodes` node records, `leaves` leaf records and a pass for each of `handles`, and opens these: `DONE`. Else
 /// all stay as they were: `OUT_OF_RANGE`, `OPEN` if one is not closed before, or `NO_MEMORY`.
 #[unsafe(no_mangle)]
 pub extern "C" fn hot_create(alloc: Global, nodes: u32, leaves: u32, handles: &mut [Handle]) -> u32
@@ -140,8 +140,8 @@ pub extern "C" fn hot_stock_for_keys(count: u32, longest: usize, stock: &mut Hot
     stock.set(Stock::for_keys(count, longest));
 }
 
-/// Writes how many bytes the table of an index with this stock and this number of handles takes to `bytes`: `DONE`. `OUT_OF_RANGE`, and
-/// nothing is written, if there is no such index.
+/// Writes how many bytes the table of an index with the records of `stock` and `handles` passes takes to `bytes`: `DONE`. If there is no
+/// such index, `OUT_OF_RANGE`, and `bytes` stays.
 #[unsafe(no_mangle)]
 pub extern "C" fn hot_stock_bytes(stock: &HotStock, handles: usize, bytes: &mut usize) -> u32
     ensures range { ¬ IsStockSize handles (stock_in stock.now) → (result ≡ OUT_OF_RANGE) × (bytes.new ≡ bytes.old) }
@@ -159,8 +159,8 @@ pub extern "C" fn hot_stock_bytes(stock: &HotStock, handles: usize, bytes: &mut 
     }
 }
 
-/// Writes the number of a handle's pass, which is the handle's place among those that were opened with it: `DONE`. `CLOSED` if the handle
-/// is closed, and nothing is written.
+/// Writes the number of the handle's pass to `number`: `DONE`. After `hot_create` or `hot_create_with` it is the handle's place in
+/// `handles`. If the handle is closed, `CLOSED`, and `number` stays.
 #[unsafe(no_mangle)]
 pub extern "C" fn hot_number(handle: &mut Handle, number: &mut u16) -> u32
     ensures closed { handle.old.slot.opened ≡ None → (result ≡ CLOSED) × (number.new ≡ number.old) }
@@ -191,8 +191,8 @@ pub extern "C" fn hot_get(handle: &mut Handle, key: &[u8], value: &mut u64) -> u
     }
 }
 
-/// Looks up many keys, in turn, and writes what it found for each: `FOUND`, with its value, or `ABSENT`. It returns `DONE`; or `CLOSED`,
-/// `KEY_TOO_LONG` if one key is too long, or `NO_MEMORY`, and looks up none.
+/// Looks up the keys of `lookups`, in their order, and writes what it found there: `FOUND`, with the value, or `ABSENT`. It returns
+/// `DONE`; or `CLOSED`, `KEY_TOO_LONG` if one key is too long, or `NO_MEMORY`, and looks up none.
 #[unsafe(no_mangle)]
 pub extern "C" fn hot_get_many(
     alloc: Global,
@@ -218,8 +218,8 @@ pub extern "C" fn hot_get_many(
     DONE
 }
 
-/// Inserts `key` with `value`: `INSERTED`; or `EXISTS` with the value that the key has already, and keeps, in `had`. Another status says
-/// why nothing was changed.
+/// Inserts `key` with `value`: `INSERTED`; or `EXISTS` with the value that the key has already, and keeps, in `had`. With `BUSY`,
+/// `FULL_NODES`, `FULL_LEAVES`, `HELD_BACK`, `CLOSED` or `KEY_TOO_LONG` nothing was changed, and `had` stays.
 #[unsafe(no_mangle)]
 pub extern "C" fn hot_try_insert(handle: &mut Handle, key: &[u8], value: u64, had: &mut u64) -> u32
     ensures call { Answers key.now (Insert key.now value) handle.old.slot.opened handle.new.slot.opened had.old had.new result }
@@ -228,8 +228,8 @@ pub extern "C" fn hot_try_insert(handle: &mut Handle, key: &[u8], value: u64, ha
     make_call(handle, &mut call, key, had)
 }
 
-/// Gives `key` the value `value`, whether it has one or not: `NEW`, or `WAS` with the value that it had in `had`. Another status says why
-/// nothing was changed.
+/// Gives `key` the value `value`, whether it has one or not: `NEW`, or `WAS` with the value that it had in `had`. It is refused with the
+/// same statuses as `hot_try_insert`.
 #[unsafe(no_mangle)]
 pub extern "C" fn hot_try_upsert(handle: &mut Handle, key: &[u8], value: u64, had: &mut u64) -> u32
     ensures call { Answers key.now (Upsert key.now value) handle.old.slot.opened handle.new.slot.opened had.old had.new result }
@@ -239,7 +239,7 @@ pub extern "C" fn hot_try_upsert(handle: &mut Handle, key: &[u8], value: u64, ha
 }
 
 /// Gives `key` the value `value` if it has the value `expected` (`EXCHANGED`). Else it changes nothing: `DIFFERS` with the value that the
-/// key has in `had`, or `ABSENT`. Another status says why nothing was changed.
+/// key has in `had`, or `ABSENT`. It is refused with the same statuses as `hot_try_insert`.
 #[unsafe(no_mangle)]
 pub extern "C" fn hot_try_exchange(
     handle: &mut Handle,
@@ -255,7 +255,7 @@ pub extern "C" fn hot_try_exchange(
 }
 
 /// Adds `delta` to the value of `key`, modulo 2 to the power of 64: `WAS` with the value that it had in `had`. `ABSENT` if the key is
-/// absent, and then nothing changes. Another status says why nothing was changed.
+/// absent, and then nothing changes. It is refused with the same statuses as `hot_try_insert`.
 #[unsafe(no_mangle)]
 pub extern "C" fn hot_try_add(handle: &mut Handle, key: &[u8], delta: u64, had: &mut u64) -> u32
     ensures call { Answers key.now (Add key.now delta) handle.old.slot.opened handle.new.slot.opened had.old had.new result }
@@ -264,8 +264,8 @@ pub extern "C" fn hot_try_add(handle: &mut Handle, key: &[u8], delta: u64, had: 
     make_call(handle, &mut call, key, had)
 }
 
-/// Removes `key`: `REMOVED` with the value that it had in `had`, or `ABSENT`. It needs no leaf record, so it never returns `FULL_LEAVES`.
-/// Another status says why nothing was changed.
+/// Removes `key`: `REMOVED` with the value that it had in `had`, or `ABSENT`. It is refused with the same statuses as `hot_try_insert`.
+/// But it needs no leaf record, so it never returns `FULL_LEAVES`.
 #[unsafe(no_mangle)]
 pub extern "C" fn hot_try_remove(handle: &mut Handle, key: &[u8], had: &mut u64) -> u32
     ensures call { Answers key.now (Remove key.now) handle.old.slot.opened handle.new.slot.opened had.old had.new result }
@@ -293,7 +293,7 @@ pub extern "C" fn hot_try_remove_if(
 }
 
 /// Makes `call` with `key` in place of its own, and returns the status. `CLOSED` if the handle is closed, `KEY_TOO_LONG` if the key is
-/// too long. Inline, so that the key's bytes are written once, where the call stands.
+/// too long. The reply's value, if it has one, goes to `had`. Inline, so that the key's bytes are written once, where the call stands.
 #[inline(always)]
 fn make_call(handle: &mut Handle, call: &mut Call, key: &[u8], had: &mut u64) -> u32
     ensures call { Answers key.now (for_key key.now call.old) handle.old.slot.opened handle.new.slot.opened had.old had.new result }
@@ -336,8 +336,8 @@ fn make_open(handle: &mut Handle, call: &Call, size: usize, had: &mut u64) -> u3
     handle.slot.lend().make(call, size, had)
 }
 
-/// Makes one round of collection, and writes how many node and leaf records it gave back: `DONE`. `CLOSED` if the handle is closed, and
-/// nothing is written.
+/// Makes one round of collection, and writes how many node and leaf records it gave back to `nodes` and `leaves`: `DONE`. If the handle
+/// is closed, `CLOSED`, and both stay.
 #[unsafe(no_mangle)]
 pub extern "C" fn hot_collect(handle: &mut Handle, nodes: &mut u32, leaves: &mut u32) -> u32
     ensures closed { handle.old.slot.opened ≡ None → (result ≡ CLOSED) × (handle.new.slot.opened ≡ None) × (nodes.new ≡ nodes.old) × (leaves.new ≡ leaves.old) }
@@ -352,8 +352,8 @@ pub extern "C" fn hot_collect(handle: &mut Handle, nodes: &mut u32, leaves: &mut
     DONE
 }
 
-/// Counts how many node records, and leaf records of each size, are free, held, live and obsolete: `DONE`. The counts are of no single
-/// moment. `CLOSED` if the handle is closed, and nothing is written.
+/// Writes how many node records, and leaf records of each class, are free, held, live and obsolete to `counts`: `DONE`. The counts are of
+/// no single moment. If the handle is closed, `CLOSED`, and `counts` stays.
 #[unsafe(no_mangle)]
 pub extern "C" fn hot_census(handle: &mut Handle, counts: &mut RecordCounts) -> u32
     ensures closed { handle.old.slot.opened ≡ None → (result ≡ CLOSED) × (handle.new.slot.opened ≡ None) × (counts.new ≡ counts.old) }

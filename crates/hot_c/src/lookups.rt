@@ -41,7 +41,7 @@ pub fn keys_of(alloc: Global, lookups: &[Lookup<'_>]) -> Result<Vec<Key>, AllocE
     Ok(keys)
 }
 
-/// Writes what was found for each key to its place in `lookups`.
+/// Writes each of `found` to its place in `lookups`: `FOUND` with the value; or `ABSENT`, and the value there stays.
 pub fn write_found(found: &[Option<u64>], lookups: &mut [Lookup<'_>])
     requires { length found.now ≡ length lookups.old }
     ensures { lookups.new ≡ are_answered lookups.old found.now }
@@ -51,7 +51,7 @@ pub fn write_found(found: &[Option<u64>], lookups: &mut [Lookup<'_>])
     }
 }
 
-/// Writes what was found for a key to `lookup`: `FOUND` with the value; or `ABSENT`, and its value stays.
+/// Writes `found`, the value of a key, to `lookup`: `FOUND` with the value; or `ABSENT`, and the value there stays.
 fn write_answer(found: Option<u64>, lookup: &mut Lookup<'_>)
     ensures { lookup.new ≡ answer lookup.old found }
 {

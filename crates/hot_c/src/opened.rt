@@ -23,7 +23,7 @@ use packed_pairs::Pairs;
 use std::alloc::{AllocError, Global};
 use std::sync::Arc;
 
-/// So many bytes of memory at most does a list keep between two scans for its keys, and as many for the rest.
+/// The most bytes of memory that a list keeps between two scans for its keys, and the most for all else.
 const MOST_KEPT: usize = 32_768;
 
 /// A handle of the index, with a share of it, and a list which each scan fills anew.
@@ -36,8 +36,8 @@ pub struct Opened {
 }
 
 impl Opened {
-    /// Opens the next of the closed handles that are kept; `None` if none is kept. If memory is refused, it is an error, and the handle
-    /// is kept on.
+    /// Opens the next of the closed handles that are kept, the last of `kept`; `None` if none is kept. If memory is refused, an error, and
+    /// all stay kept.
     pub fn open_next(&mut self, alloc: Global) -> Result<Option<Box<Opened, Global>>, AllocError>
         ensures opened { IfOk result (λ next. MatchOption next (self.old.kept.items ≡ [] × KeepsAll self.old self.new) (λ b. HasOpenedNext self.old self.new b.value)) }
         ensures refused { IfErr result (λ _. KeepsAll self.old self.new) }
@@ -56,7 +56,7 @@ impl Opened {
         Err(AllocError)
     }
 
-    /// The value of `key`, as a reply. No `Call` is made for it, which would be a copy of the key.
+    /// The reply to a get of `key`: `Value`, or `Absent`. No `Call` is made for it, which would copy the key.
     pub fn get(&mut self, key: &Key) -> Reply
         ensures { Stays (λ index k j. IsNoted index.layout k j (Get key.now) result × HasGot index untold (k, tt) (j, tt)) self.old.handle self.new.handle }
     {
@@ -66,8 +66,8 @@ impl Opened {
         }
     }
 
-    /// Tries to make `call`, for a key of `size` bytes, and returns the status. The reply's value, if it has one, goes to `had`. Where it
-    /// finds no record free, it counts all records, and so tells whether other calls hold some back.
+    /// Tries to make `call`, whose key has `size` bytes, and returns the status. The reply's value, if it has one, goes to `had`; else `had`
+    /// stays. If no record is free, it counts all records. So the status tells whether other calls hold some back.
     pub fn make(&mut self, call: &Call, size: usize, had: &mut u64) -> u32
         ensures call { (outcome : Result ReplyView FaultView) × Stays (TellsOutcome size call.now result outcome) self.old.handle self.new.handle
             × (had.new ≡ value_after had.old outcome) × IfErr outcome (MayRefuse call.now) }
@@ -80,8 +80,8 @@ impl Opened {
         }
     }
 
-    /// Lists at most `limit` pairs of the range in the handle's list, in the order of the scan, and returns whether there are more. An
-    /// error if memory is refused.
+    /// Replaces the list with at most `limit` pairs whose keys are from `from` to `upto`: the first ones for `Upwards`, else the last ones,
+    /// in falling order. Returns whether there are more. An error if memory is refused.
     pub fn scan(
         &mut self,
         order: Order,
@@ -121,7 +121,7 @@ impl Opened {
             .follow(&mut self.handle.pass, stamp);
     }
 
-    /// Empties the list, and gives its memory back if it has grown large.
+    /// Takes all pairs out of the list, and frees its memory if it has more than `MOST_KEPT` allows.
     pub fn empty_list(&mut self)
         ensures { self.new.handle ≡ self.old.handle }
     {
@@ -129,7 +129,7 @@ impl Opened {
     }
 }
 
-/// `handle` in a box, open, with an empty list, which keeps no other; or the handle again, if memory is refused.
+/// A box of `handle` with an empty list, which keeps no other handle. If memory is refused, the error is `handle`.
 fn box_handle(
     alloc: Global,
     handle: Handle<Arc<Index, Global>>,

@@ -48,7 +48,7 @@ pub fn is_stock_size(passes: usize, stock: &Stock) -> bool
         && leaves <= u32::MAX as u64
 }
 
-/// Opens `handles`, which are closed, each with the pass of its place in `passes`.
+/// Opens `handles`, which are closed, each with the one of its place in `passes`. There are as many of these.
 pub fn open_all(handles: &mut [Handle], passes: Vec<Box<Opened, Global>>)
     requires closed { AreClosed handles.old }
     requires count { length passes.items ≡ length handles.old }
@@ -128,7 +128,7 @@ fn keep(
     Ok(Box::new(alloc, Opened { handle, list, kept })?)
 }
 
-/// Closed handles of `passes`, each with a share of `index`; an error if memory is refused.
+/// Closed handles of `passes`, in their order, each with a share of `index`; an error if memory is refused.
 fn closed_handles(
     alloc: Global,
     index: &Arc<Index, Global>,
@@ -144,7 +144,7 @@ fn closed_handles(
     Ok(handles)
 }
 
-/// The passes of `index`, each with its share; an error if memory is refused.
+/// The `passes` of `index` in their order, each with a share of it, an empty list and no kept handle. An error if memory is refused.
 fn share(
     alloc: Global,
     index: Index,

@@ -13,8 +13,8 @@ use packed_pairs::{Head, Pairs};
 
 /// Lists the first pairs whose keys are from `from` to `upto`, both included, in key order, packed. The bytes of their keys go to
 /// `bytes`, one after another, and a head for each to `heads`. It lists as many as `heads` has places, and only those whose keys together
-/// have room in `bytes`. `count` becomes their number, and `more` 1 if the range has more, else 0. A status other than `DONE` leaves all
-/// as it was.
+/// have room in `bytes`. `count` becomes their number, and `more` 1 if the range has more, else 0: `DONE`. With `CLOSED`, `KEY_TOO_LONG`
+/// or `NO_MEMORY` these four stay.
 #[unsafe(no_mangle)]
 pub extern "C" fn hot_scan_packed(
     handle: &mut Handle,
@@ -33,7 +33,7 @@ pub extern "C" fn hot_scan_packed(
 }
 
 /// Lists the last pairs whose keys are from `from` to `upto`, both included, in falling key order, packed as by `hot_scan_packed`.
-/// `count` becomes their number, and `more` 1 if the range has more below them, else 0. A status other than `DONE` leaves all as it was.
+/// `count` becomes their number, and `more` 1 if the range has more below them, else 0: `DONE`. Other statuses are as of that.
 #[unsafe(no_mangle)]
 pub extern "C" fn hot_scan_packed_reverse(
     handle: &mut Handle,
@@ -51,7 +51,7 @@ pub extern "C" fn hot_scan_packed_reverse(
     list_packed(handle, &query, bytes, heads, count, more)
 }
 
-/// Lists the pairs of a range in the order `order`, packed as by `hot_scan_packed`. A status other than `DONE` leaves all as it was.
+/// Lists pairs of `query`, packed as by `hot_scan_packed`, with its statuses: the first ones upwards, or the last ones downwards.
 fn list_packed(
     handle: &mut Handle,
     query: &Query,

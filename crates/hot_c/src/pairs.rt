@@ -35,7 +35,7 @@ pub struct Query<'a> {
     pub upto: &'a [u8],
 }
 
-/// Writes `pairs`, as a scan left them, to the first places of `room`, in the order `order`.
+/// Writes `pairs`, which a scan has listed, to the first places of `room`: the last one first for `LastUpwards`, else the first one first.
 pub fn write_in(order: Order, pairs: &Pairs, room: &mut [Pair])
     requires { length pairs.now ≤ length room.old }
     ensures written { AreSpelled (in_order order pairs.now) room.new }
@@ -106,7 +106,7 @@ fn write_ends<const N: usize>(key: &[u8], value: u64, pair: &mut Pair)
     pair.value = value;
 }
 
-/// Writes `key`, of any length, and `value` to `pair`. Never inline: so a loop over pairs has little to keep at hand.
+/// Writes `key`, of any length, and `value` to `pair`. Never inline: so a loop over pairs needs few registers.
 #[inline(never)]
 fn write_any(key: &[u8], value: u64, pair: &mut Pair)
     requires { IsKey key.now }
@@ -117,7 +117,7 @@ fn write_any(key: &[u8], value: u64, pair: &mut Pair)
     pair.value = value;
 }
 
-/// Writes the first of `pairs` to `pair`: `FOUND`, or `ABSENT` if there is none.
+/// Writes the first of `pairs` to `pair`: `FOUND`. If there is none, `ABSENT`, and `pair` stays.
 pub fn tell_first(pairs: &Pairs, pair: &mut Pair) -> u32
     ensures { IsPairTold (slice_get pairs.now 0) pair.old pair.new result }
 {

@@ -31,7 +31,7 @@ pub fn tell_leaves(size: usize, counts: &RecordCounts) -> u32
     }
 }
 
-/// Whether the records of one kind and class are all in use, by `counts`.
+/// Whether the records of one kind and class are all in use, by `counts`; true if there is none.
 fn are_in_use(counts: &StateCounts) -> bool
     ensures { IsTrue result ↔ AreInUse counts.now }
 {
@@ -45,7 +45,7 @@ fn are_none(counts: &StateCounts) -> bool
     are_in_use(counts) && counts.live == 0
 }
 
-/// Whether all leaf records with room for a key of `size` bytes are in use, by `counts`.
+/// Whether all leaf records with room for a key of `size` bytes are in use, by `counts`; true if there is none.
 fn are_leaves_in_use(size: usize, counts: &RecordCounts) -> bool
     ensures { IsTrue result ↔ OfLeaves AreInUse size counts.now }
 {

@@ -11,7 +11,7 @@ use crate::status::{CLOSED, DONE, KEY_TOO_LONG, NO_MEMORY};
 use key_bits::Key;
 
 /// Lists the first pairs whose keys are from `from` to `upto`, both included, in key order: as many as `room` has places. `count` becomes
-/// their number, and `more` 1 if the range has more, else 0. A status other than `DONE` leaves all as it was.
+/// their number, and `more` 1 if the range has more, else 0: `DONE`. With `CLOSED`, `KEY_TOO_LONG` or `NO_MEMORY` these three stay.
 #[unsafe(no_mangle)]
 pub extern "C" fn hot_scan(
     handle: &mut Handle,
@@ -29,7 +29,7 @@ pub extern "C" fn hot_scan(
 }
 
 /// Lists the last pairs whose keys are from `from` to `upto`, both included, in falling key order: as many as `room` has places. `count`
-/// becomes their number, and `more` 1 if the range has more below, else 0. A status other than `DONE` leaves all as it was.
+/// becomes their number, and `more` 1 if the range has more below, else 0: `DONE`. The other statuses are as of `hot_scan`.
 #[unsafe(no_mangle)]
 pub extern "C" fn hot_scan_reverse(
     handle: &mut Handle,
@@ -47,7 +47,7 @@ pub extern "C" fn hot_scan_reverse(
 }
 
 /// Lists the last pairs whose keys are from `from` to `upto`, both included, in rising key order: as many as `room` has places. `count`
-/// becomes their number, and `more` 1 if the range has more below, else 0. A status other than `DONE` leaves all as it was.
+/// becomes their number, and `more` 1 if the range has more below, else 0: `DONE`. The other statuses are as of `hot_scan`.
 #[unsafe(no_mangle)]
 pub extern "C" fn hot_scan_last(
     handle: &mut Handle,
@@ -90,8 +90,8 @@ fn list_query(
     }
 }
 
-/// Scans a range into the handle's list. Returns how many pairs it found and whether there are more; or the status that says why it found
-/// none.
+/// Scans the range of `query` into the handle's list, for at most `limit` pairs, as `Opened::scan` does. Returns how many it found, and
+/// whether there are more. The error is `CLOSED`, `KEY_TOO_LONG` or `NO_MEMORY`.
 pub fn fill(handle: &mut Handle, query: &Query, limit: usize) -> Result<(usize, bool), u32>
     ensures ok { IfOk result (λ found. HasFilled (IsFilledIn query.now.order) (range_from query.now.from.now query.now.upto.now limit)
         handle.old.slot.opened handle.new.slot.opened found.0 found.1) }

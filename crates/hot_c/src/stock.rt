@@ -18,7 +18,7 @@ pub struct HotStock {
 }
 
 impl HotStock {
-    /// The stock with these numbers.
+    /// The `Stock` with the same numbers.
     pub fn stock(&self) -> Stock
         ensures { result ≡ stock_in self.now }
     {
@@ -32,7 +32,7 @@ impl HotStock {
         }
     }
 
-    /// Copies the numbers of `stock`.
+    /// Replaces the numbers with those of `stock`.
     pub fn set(&mut self, stock: Stock)
         ensures { stock_in self.new ≡ stock }
     {

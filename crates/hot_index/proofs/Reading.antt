@@ -19,7 +19,8 @@ use Rattle.rowex_table.specs.Seats.{IsSeatOf, SeatView, TableView}
 use Rattle.version_laws.specs.Scan.{Range}
 use Rattle.epochs.specs.Runs.{Pins}
 use Rattle.tries.specs.Keys.{Key}
-use Rattle.seat_calls.specs.Answers.{IsFoundBy, IsListedBy, IsUnnoted, ScanLaw, range_from}
+use Rattle.version_laws.specs.Directions.{ScanLaw}
+use Rattle.seat_calls.specs.Answers.{IsFoundBy, IsListedBy, IsUnnoted, range_from}
 use Rattle.seat_calls.specs.Calls.{IsListReadBy, IsRangeReadWith, IsScanReadBy, no_part}
 use Rattle.seat_calls.specs.Passes.{PassView, IsSettled, pass_of}
 use Rattle.hot_index.proofs.Found.{listed_found, part_found}

@@ -4,10 +4,10 @@ ghost use Rattle.finite_map.specs.declared.Call.TheVariants.{Add};
 ghost use Rattle.seat_calls.specs.Calls.{IsAwaited, IsTried, IsTriedWith};
 ghost use Rattle.seat_calls.specs.Passes.{Owns};
 
-use crate::index::{Index, Pass, Untold};
+use crate::index::{Index, Pass};
 use finite_map::{Call, Reply};
 use key_bits::Key;
-use rowex_core::Gate;
+use rowex_core::{Gate, NoGate};
 use rowex_writing::{Full, TryFault};
 use std::sync::Wait;
 
@@ -20,7 +20,7 @@ impl Index {
         requires { Owns self.now pass.old }
         ensures { IsTried (Add key.now delta) result self.now pass.old pass.new }
     {
-        self.try_add_with(pass, key, delta, &mut Untold)
+        self.try_add_with(pass, key, delta, &mut NoGate)
     }
 
     /// Does what `try_add` does, and reports each of its steps to `gate`.
@@ -51,6 +51,6 @@ impl Index {
         requires { Owns self.now pass.old }
         ensures { IsAwaited (Add key.now delta) result self.now pass.old pass.new }
     {
-        self.retry_change_with(rt, pass, &mut Untold, &Call::Add(key.copy(), delta))
+        self.retry_change_with(rt, pass, &mut NoGate, &Call::Add(key.copy(), delta))
     }
 }

@@ -8,21 +8,22 @@ ghost use Rattle.seat_calls.specs.Counts.{try_steps};
 ghost use Rattle.seat_calls.specs.Passes.{Owns};
 ghost use Rattle.seat_calls.specs.Traces.{HasTold};
 
-use crate::index::{Index, Pass, Untold, reply_of};
+use crate::index::{Index, Pass, reply_of};
 use finite_map::{Call, Reply};
-use rowex_core::Gate;
+use rowex_core::{Gate, NoGate};
 use rowex_writing::{Full, TryFault};
 use std::sync::Wait;
 
 impl Index {
     /// Makes `call`, as `get`, `try_insert`, `try_upsert`, `try_exchange`, `try_add`, `try_remove` or `try_remove_if` does.
     ///
-    /// It makes no more steps than `try_insert` may. A get is never refused. A removal is never refused as full of leaves.
+    /// It makes no more steps than `try_insert` may, and is refused for the same reasons. But a get is never refused, and a removal
+    /// never returns `FullLeaves`.
     pub fn try_call(&self, pass: &mut Pass, call: &Call) -> Result<Reply, TryFault>
         requires { Owns self.now pass.old }
         ensures { IsCallTried call.now result self.now pass.old pass.new }
     {
-        self.try_call_with(pass, call, &mut Untold)
+        self.try_call_with(pass, call, &mut NoGate)
     }
 
     /// Does what `try_call` does, and reports each of its steps to `gate`.
@@ -50,7 +51,7 @@ impl Index {
     /// Makes `call`, as `get`, `insert`, `upsert`, `exchange`, `add`, `remove` or `remove_if` does. It reports each of its steps to
     /// `gate`.
     ///
-    /// A get is never refused. A removal never returns `Full::Leaves`.
+    /// It is refused for the same reasons as `insert`. But a get is never refused, and a removal never returns `Full::Leaves`.
     pub fn call_with<R: Wait, G: Gate>(
         &self,
         rt: &R,

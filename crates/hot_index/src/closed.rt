@@ -41,7 +41,7 @@ impl ClosedPass {
         self.count
     }
 
-    /// Opens the pass, for calls at `index`, or gives it back where memory is refused.
+    /// Opens the pass for calls at `index`, with buffers of `alloc`. If memory is refused, an error that has the closed pass.
     pub fn open(self, alloc: Global, index: &Index) -> Result<Pass, AllocFailed<ClosedPass>>
         ensures opened { IfOk result (λ pass. pass ≡ self) }
         ensures kept { IfErr result (λ refused. refused.value ≡ self) }
@@ -58,7 +58,7 @@ impl ClosedPass {
 }
 
 impl Pass {
-    /// Closes the pass, whose buffers are freed. What it has seen and its calls stay known of it.
+    /// Closes the pass, and frees its buffers. Its number, its calls and what it has seen stay the same.
     pub fn close(self) -> ClosedPass
         ensures { result ≡ self }
     {
@@ -88,7 +88,7 @@ impl<I: ShowsIndex> Model for ClosedHandle<I> {
 }
 
 impl<I: ShowsIndex> ClosedHandle<I> {
-    /// A closed handle of `pass` at `index`, or at the share of one.
+    /// A closed handle of `pass` at `index`, a reference to the pass's index or a share of it.
     pub fn new(index: I, pass: ClosedPass) -> ClosedHandle<I>
         requires { Owns (I.shown index) pass }
         ensures { result ≡ handle_at (I.shown index) pass }
@@ -104,7 +104,7 @@ impl<I: ShowsIndex> ClosedHandle<I> {
         self.pass.count()
     }
 
-    /// Opens the handle, or gives it back where memory is refused.
+    /// Opens the handle, with buffers of `alloc`. If memory is refused, an error that has the closed handle.
     pub fn open(self, alloc: Global) -> Result<Handle<I>, AllocFailed<ClosedHandle<I>>>
         ensures opened { IfOk result (λ handle. handle ≡ self) }
         ensures kept { IfErr result (λ refused. refused.value ≡ self) }
@@ -120,7 +120,7 @@ impl<I: ShowsIndex> ClosedHandle<I> {
 }
 
 impl<I: ShowsIndex> Handle<I> {
-    /// Closes the handle, whose pass's buffers are freed.
+    /// Closes the handle, and frees the buffers of its pass. All else of it stays the same.
     pub fn close(self) -> ClosedHandle<I>
         ensures { result ≡ self }
     {

@@ -27,9 +27,9 @@ pub enum IndexFault {
     Memory,
 }
 
-/// Makes an empty index with this number of passes (1 to 64), node records (1 to 65,535) and leaf records (1 to 262,143). Returns it with
-/// its passes in the order of their numbers. It checks the three numbers first, in this order. The fault names the first that is out of
-/// range; `Memory` if memory is refused.
+/// Makes an empty index with `passes` passes (1 to 64), `nodes` node records (1 to 65,535) and `leaves` leaf records (1 to 262,143).
+/// Returns it with its passes in the order of their numbers. It checks the three numbers first, in this order. The fault `Layout` has the
+/// first that is out of range; `Memory` if memory is refused.
 ///
 /// All leaf records are long. So a call that lacks one has found each of them taken (`laws::all_long_full_is_full`).
 pub fn create(
@@ -50,11 +50,11 @@ pub fn create(
     make_with_open_passes(alloc, Layout::of(passes, nodes, leaves))
 }
 
-/// Makes an empty index with this number of passes (1 to 1,024) and this stock of records. Returns it with its passes in the order of
-/// their numbers.
+/// Makes an empty index with `passes` passes (1 to 1,024) and the records of `stock`. Returns it with its passes in the order of their
+/// numbers.
 ///
 /// A stock has 1 to 4,294,967,295 node records, and 1 to 4,294,967,295 leaf records of all classes together. It checks the numbers first,
-/// in this order. The fault names the first that is out of range; `Memory` if memory is refused.
+/// in this order. The fault `Layout` has the first that is out of range; `Memory` if memory is refused.
 ///
 /// `Layout::bytes` returns the bytes of the table. Twice as many are in use while it is made.
 pub fn create_with(

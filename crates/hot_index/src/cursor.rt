@@ -50,21 +50,21 @@ impl Cursor {
         Cursor { rest: Some(rest) }
     }
 
-    /// A cursor at the beginning of the keys that have the prefix: of all keys, if it is the empty key.
+    /// A cursor at the beginning of the keys that begin with `prefix`; of all keys, if that is the empty key.
     pub fn of_prefix(prefix: &Key) -> Cursor
         ensures { result ≡ Some (rest_of prefix.now (last_with prefix.now)) }
     {
         Cursor::new(prefix, &last_with_prefix(prefix))
     }
 
-    /// Lists the next pairs of the range, at most `limit`, and drops earlier pairs of the list. Returns whether there are more. If
-    /// not, the cursor is at its end, and each later call lists nothing.
+    /// Lists the next pairs of the range, at most `limit`, into `pairs`, whose earlier pairs are dropped. Returns whether there are
+    /// more. If not, the cursor is at its end, and each later call lists nothing.
     ///
     /// Before its end, each call is a `scan_into` of the keys that are left, with its promise and bound on steps. The next call
     /// goes on at the least key above the last one listed. So it lists a key that was inserted between two calls if that lies above,
     /// and not if it lies below.
     ///
-    /// Out of memory, the cursor stays where it is, and the list holds the first pairs, as after a `scan_into`.
+    /// An error if memory is refused: the cursor stays where it is, and `pairs` holds the first pairs, as after a `scan_into`.
     pub fn next_into(
         &mut self,
         index: &Index,

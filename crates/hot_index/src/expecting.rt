@@ -4,10 +4,10 @@ ghost use Rattle.finite_map.specs.declared.Call.TheVariants.{Exchange, RemoveIf}
 ghost use Rattle.seat_calls.specs.Calls.{IsAwaited, IsTried, IsTriedWith};
 ghost use Rattle.seat_calls.specs.Passes.{Owns};
 
-use crate::index::{Index, Pass, Untold};
+use crate::index::{Index, Pass};
 use finite_map::{Call, Reply};
 use key_bits::Key;
-use rowex_core::Gate;
+use rowex_core::{Gate, NoGate};
 use rowex_writing::{Full, TryFault};
 use std::sync::Wait;
 
@@ -26,7 +26,7 @@ impl Index {
         requires { Owns self.now pass.old }
         ensures { IsTried (Exchange key.now expected value) result self.now pass.old pass.new }
     {
-        self.try_exchange_with(pass, key, expected, value, &mut Untold)
+        self.try_exchange_with(pass, key, expected, value, &mut NoGate)
     }
 
     /// Does what `try_exchange` does, and reports each of its steps to `gate`.
@@ -63,7 +63,7 @@ impl Index {
         self.retry_change_with(
             rt,
             pass,
-            &mut Untold,
+            &mut NoGate,
             &Call::Exchange(key.copy(), expected, value),
         )
     }
@@ -81,7 +81,7 @@ impl Index {
         requires { Owns self.now pass.old }
         ensures { IsTried (RemoveIf key.now expected) result self.now pass.old pass.new }
     {
-        self.try_remove_if_with(pass, key, expected, &mut Untold)
+        self.try_remove_if_with(pass, key, expected, &mut NoGate)
     }
 
     /// Does what `try_remove_if` does, and reports each of its steps to `gate`.
@@ -113,6 +113,6 @@ impl Index {
         requires { Owns self.now pass.old }
         ensures { IsAwaited (RemoveIf key.now expected) result self.now pass.old pass.new }
     {
-        self.retry_change_with(rt, pass, &mut Untold, &Call::RemoveIf(key.copy(), expected))
+        self.retry_change_with(rt, pass, &mut NoGate, &Call::RemoveIf(key.copy(), expected))
     }
 }

@@ -62,7 +62,7 @@ impl ShowsIndex for Arc<Index, Global> {
 /// parts, as in `handle.index.get_with(&mut handle.pass, key, gate)`.
 #[derive(Drop)]
 pub struct Handle<I: ShowsIndex> {
-    /// The index, or a share of it.
+    /// A reference to the index, or a share of it.
     pub index: I,
     /// The pass.
     pub pass: Pass,
@@ -80,7 +80,7 @@ impl<I: ShowsIndex> Model for Handle<I> {
 }
 
 impl<I: ShowsIndex> Handle<I> {
-    /// A handle of `pass` at `index`, or at the share of one.
+    /// A handle of `pass` at `index`, a reference to the pass's index or a share of it.
     pub fn new(index: I, pass: Pass) -> Handle<I>
         requires { Owns (I.shown index) pass }
         ensures { result ≡ handle_at (I.shown index) pass }
@@ -88,7 +88,7 @@ impl<I: ShowsIndex> Handle<I> {
         Handle { index, pass }
     }
 
-    /// The index, or the share of it, and the pass.
+    /// The reference to the index, or the share of it, and the pass.
     pub fn into_parts(self) -> (I, Pass)
         ensures index { I.shown result.0 ≡ self.index }
         ensures pass { result.1 ≡ self.pass }
@@ -237,7 +237,7 @@ impl<I: ShowsIndex> Handle<I> {
         self.index.show().try_call(&mut self.pass, call)
     }
 
-    /// The first `limit` pairs from `from` to `upto`, and whether there are more, as by `Index::scan`. An error if memory is refused.
+    /// The first `limit` pairs from `from` to `upto`, and whether there are more, as `Index::scan` returns. An error if memory is refused.
     pub fn scan(
         &mut self,
         alloc: Global,
@@ -300,8 +300,8 @@ impl<I: ShowsIndex> Handle<I> {
             .scan_reverse_into(&mut self.pass, from, upto, limit, pairs)
     }
 
-    /// The last `limit` pairs from `from` to `upto`, downwards, and whether there are more, as by `Index::scan_reverse`. An error if
-    /// memory is refused.
+    /// The last `limit` pairs from `from` to `upto`, downwards, and whether there are more, as `Index::scan_reverse` returns. An error
+    /// if memory is refused.
     pub fn scan_reverse(
         &mut self,
         alloc: Global,

@@ -17,7 +17,7 @@ use epochs::{Given, collect_round, pin, unpin};
 use finite_map::{Call, Reply};
 use key_bits::Key;
 use key_counts::KeyCount;
-use rowex_core::{Event, Gate};
+use rowex_core::{Gate, NoGate};
 use rowex_reading::look_up;
 use rowex_table::{HotTable, TableSeat};
 use rowex_writing::{Full, TryFault};
@@ -61,22 +61,6 @@ impl Model for Pass {
     ghost invariant = { λ p. IsSettledWith p.seat.known p.count };
 }
 
-/// The gate of the calls that take none. It does nothing, and contracts see nothing of it.
-#[derive(Drop)]
-pub(crate) struct Untold;
-
-impl Model for Untold {
-    ghost Value = { Unit {0} };
-
-    ghost view = { λ _. tt };
-}
-
-impl Gate for Untold {
-    ghost becomes = { λ _ _ _. Unit {0} };
-
-    fn at(&mut self, _event: &Event) {}
-}
-
 impl Pass {
     /// The number of the pass: `create` gives its passes in the order of their numbers, from 0 on.
     pub fn number(&self) -> u16
@@ -106,11 +90,11 @@ impl Index {
         ensures call { IsNoted self.now.layout pass.old pass.new (Get key.now) (got result) }
         ensures made { HasGot self.now untold (pass.old, tt) (pass.new, tt) }
     {
-        self.get_with(pass, key, &mut Untold)
+        self.get_with(pass, key, &mut NoGate)
     }
 
-    /// Looks up many keys, in their order, and writes to `found`, at each key's place, what `get` would return. `found` must have as
-    /// many places as there are keys.
+    /// Looks up `keys`, in their order, and writes to `found`, at each key's place, what `get` would return. `found` must have as many
+    /// places as there are keys.
     ///
     /// It takes no lock, allocates nothing and never blocks. It makes at most 4 atomic steps, 34 for each key, and 29 for each entry
     /// of a node that it loads. In all it loads at most 2,168 entries a key.
@@ -126,10 +110,10 @@ impl Index {
         ensures call { AreNoted self.now.layout pass.old pass.new (gets keys.now found.new) }
         ensures made { HasGotMany self.now untold (length keys.now) (pass.old, tt) (pass.new, tt) }
     {
-        self.get_many_with(pass, keys, found, &mut Untold)
+        self.get_many_with(pass, keys, found, &mut NoGate)
     }
 
-    /// Inserts a key with a value: `Inserted`; or `Exists` with the value that the key has already, and keeps.
+    /// Inserts `key` with `value`: `Inserted`; or `Exists` with the value that the key has already, and keeps.
     ///
     /// It never blocks. It makes at most two attempts, with a round of collection between them. An attempt that tries no lock makes at
     /// most 61 atomic steps, and 26 for each entry of a node that its search loads. Any other makes at most 127, and 26 for each such
@@ -148,7 +132,7 @@ impl Index {
         requires { Owns self.now pass.old }
         ensures { IsTried (Insert key.now value) result self.now pass.old pass.new }
     {
-        self.try_insert_with(pass, key, value, &mut Untold)
+        self.try_insert_with(pass, key, value, &mut NoGate)
     }
 
     /// Gives `key` the value `value`, whether it has one or not: `New`, or `Was` with the value that it had.
@@ -158,7 +142,7 @@ impl Index {
         requires { Owns self.now pass.old }
         ensures { IsTried (Upsert key.now value) result self.now pass.old pass.new }
     {
-        self.try_upsert_with(pass, key, value, &mut Untold)
+        self.try_upsert_with(pass, key, value, &mut NoGate)
     }
 
     /// Removes `key`: `Removed` with the value that it had, or `Absent`.
@@ -169,10 +153,10 @@ impl Index {
         requires { Owns self.now pass.old }
         ensures { IsTried (Remove key.now) result self.now pass.old pass.new }
     {
-        self.try_remove_with(pass, key, &mut Untold)
+        self.try_remove_with(pass, key, &mut NoGate)
     }
 
-    /// Inserts a key with a value: `Inserted`; or `Exists` with the value that the key has already, and keeps.
+    /// Inserts `key` with `value`: `Inserted`; or `Exists` with the value that the key has already, and keeps. `rt` allows it to wait.
     ///
     /// Where `try_insert` would return `Busy`, it lets other threads run and begins again, as often as need be. It also begins again
     /// where no record is free, if records may come back. Then another pass's call keeps retired ones from reuse, or other passes
@@ -190,7 +174,7 @@ impl Index {
         requires { Owns self.now pass.old }
         ensures { IsAwaited (Insert key.now value) result self.now pass.old pass.new }
     {
-        self.retry_change_with(rt, pass, &mut Untold, &Call::Insert(key.copy(), value))
+        self.retry_change_with(rt, pass, &mut NoGate, &Call::Insert(key.copy(), value))
     }
 
     /// Gives `key` the value `value`, whether it has one or not: `New`, or `Was` with the value that it had.
@@ -206,7 +190,7 @@ impl Index {
         requires { Owns self.now pass.old }
         ensures { IsAwaited (Upsert key.now value) result self.now pass.old pass.new }
     {
-        self.retry_change_with(rt, pass, &mut Untold, &Call::Upsert(key.copy(), value))
+        self.retry_change_with(rt, pass, &mut NoGate, &Call::Upsert(key.copy(), value))
     }
 
     /// Removes `key`: `Removed` with the value that it had, or `Absent`.
@@ -217,14 +201,14 @@ impl Index {
         requires { Owns self.now pass.old }
         ensures { IsAwaited (Remove key.now) result self.now pass.old pass.new }
     {
-        self.retry_change_with(rt, pass, &mut Untold, &Call::Remove(key.copy()))
+        self.retry_change_with(rt, pass, &mut NoGate, &Call::Remove(key.copy()))
     }
 
-    /// Lets two passes meet, and returns them. Each has then seen what the other had seen, and all that was published before. Both know
-    /// of the same steps, and the meeting is counted among the `asides` of each. All else that they know is as it was.
+    /// Lets `first` and `second` meet, and returns both, in this order. Each has then seen what the other had seen, and all that was
+    /// published before. Both know of the same steps, and the meeting is counted among the `asides` of each. All else that they know
+    /// is as it was.
     ///
-    /// It loads one word three times and ignores what it finds. These loads count as no steps of either pass, and no gate hears of
-    /// them.
+    /// It loads one word three times and ignores what it finds. These loads count as no steps of either pass, and are told no gate.
     pub fn meet(&self, first: Pass, second: Pass) -> (Pass, Pass)
         requires { Owns self.now first × Owns self.now second }
         ensures own { Owns self.now result.0 × Owns self.now result.1 }
@@ -263,7 +247,7 @@ impl Index {
         ensures call { IsUnnoted self.now.layout pass.old pass.new }
         ensures made { HasCollected self.now untold (pass.old, tt) (pass.new, tt) result.nodes result.leaves }
     {
-        self.collect_with(pass, &mut Untold)
+        self.collect_with(pass, &mut NoGate)
     }
 
     /// Counts how many node records, and leaf records of each class, are free, held, live and obsolete. Returns these counts with the
@@ -277,7 +261,7 @@ impl Index {
         ensures call { IsUnnoted self.now.layout pass.old pass.new }
         ensures made { HasCounted self.now untold (pass.old, tt) (pass.new, tt) result }
     {
-        self.census_with(pass, &mut Untold)
+        self.census_with(pass, &mut NoGate)
     }
 
     /// Does what `get` does, and reports each of its steps to `gate`.
@@ -374,7 +358,8 @@ impl Index {
         count_records(&self.table, &mut pass.seat, gate)
     }
 
-    /// Tries to make the change `call`, at most twice, and reports each step to `gate`. Returns the reply, or why it was refused.
+    /// Tries to make the change `call`, at most twice, and reports each step to `gate`. Returns the reply, or why it was refused. The
+    /// pass counts the key.
     pub(crate) fn try_change_with<G: Gate>(
         &self,
         pass: &mut Pass,

@@ -2,20 +2,19 @@
 
 ghost use Rattle.hot_index.specs.Statements.{AllLongFullIsFull, CountsAddUp, OnePassFullIsFull, OnePassIsNeverBusy, ReturnedBeforeBegun};
 
-/// If all leaf records are long, as `create` makes them, a call refused as `FullLeaves` has found each leaf record not free. It found so
-/// after it began, and no leaf record was its pass's own.
+/// If all leaf records are long, as `create` makes them, a call that returns `FullLeaves` has found each of them not free since it began.
+/// None was claimed by its own pass.
 pub fn all_long_full_is_full()
     ensures { AllLongFullIsFull }
 {}
 
-/// A call is busy only because of another pass of the index. In an index of one pass no call is.
+/// A call returns `Busy` only because of another pass of the index. In an index of one pass no call does.
 pub fn one_pass_is_never_busy()
     ensures { OnePassIsNeverBusy }
 {}
 
-/// In an index of one pass a call is full of leaves only if each leaf record that would serve holds a leaf, or is retired. It is full of
-/// nodes only if at least a third of the node records hold nodes or are retired. So do all but 4,320 at most, which the call may have
-/// claimed itself.
+/// In an index of one pass a call returns `FullLeaves` only if each leaf record with room for its key was in the tree or retired. It
+/// returns `FullNodes` only if at least a third of the node records were so. The others, 4,320 at most, the call may have claimed itself.
 pub fn one_pass_full_is_full()
     ensures { OnePassFullIsFull }
 {}

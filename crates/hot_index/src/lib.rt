@@ -30,7 +30,7 @@
 //! # Gates
 //!
 //! The forms `_with` take a [`Gate`], which is told each atomic step that the call makes. Tests stop a call there and let another
-//! pass go on. The plain forms tell nobody; [`NoGate`] is a gate that does nothing.
+//! pass go on. The plain forms use [`NoGate`], which does nothing.
 #![tactic(auto)]
 
 mod adding;

@@ -15,7 +15,8 @@ use rowex_scanning::Direction;
 use std::alloc::{AllocError, Global};
 
 impl Index {
-    /// Lists the first `limit` pairs whose keys begin with the prefix, in key order. Returns whether there are more.
+    /// Lists the first `limit` pairs whose keys begin with `prefix` into `pairs`, whose earlier pairs are dropped. They have key order.
+    /// Returns whether there are more; an error if memory is refused.
     ///
     /// It is a `scan_into` of the range from the prefix to the last key that begins with it, with the same promise and bound on
     /// steps. That range has exactly the keys with the prefix (`key_ranges::laws::prefix_is_a_range`).
@@ -32,10 +33,10 @@ impl Index {
         self.scan_into(pass, prefix, &last_with_prefix(prefix), limit, pairs)
     }
 
-    /// The first pair whose key is `from` or above. If `from` is the empty key, that is the first pair of the index.
+    /// The first pair whose key is `from` or above; `None` if there is none. For the empty key it is the first pair of the index.
     ///
     /// It is a scan for one pair, with a scan's promise and bound on steps. The pair was there at some moment of the call, and no
-    /// lower key from `from` on was there all along. It runs out of memory only if it has found a pair, and returns none then.
+    /// lower key from `from` on was there all along. An error if memory is refused, only if it has found a pair.
     pub fn first(
         &self,
         alloc: Global,
@@ -45,7 +46,7 @@ impl Index {
         requires { Owns self.now pass.old }
         ensures { IsRangeRead (λ layout k j. IsFirstFound layout k j from.now) (range_from from.now (last_with []) 1) result self.now pass.old pass.new }
     {
-        let last = last_with_prefix(&Key::of_places([0; MAX_BYTES], 0));
+        let last = last_with_prefix(&Key::from_padded([0; MAX_BYTES], 0));
         self.find_first(alloc, pass, Direction::Upwards, from, &last)
     }
 }

@@ -8,11 +8,11 @@ ghost use Rattle.seat_calls.specs.Passes.{Owns};
 ghost use Rattle.seat_calls.specs.Reverse.{IsLastFound};
 ghost use Rattle.seat_calls.specs.Traces.{untold};
 
-use crate::index::{Index, Pass, Untold};
+use crate::index::{Index, Pass};
 use finite_map::Scan;
 use key_bits::{Key, MAX_BYTES};
 use packed_pairs::Pairs;
-use rowex_core::Gate;
+use rowex_core::{Gate, NoGate};
 use rowex_scanning::{Direction, Range};
 use std::alloc::{AllocError, Global};
 
@@ -20,12 +20,12 @@ impl Index {
     /// Lists the last `limit` pairs whose keys are from `from` to `upto`, both included, in falling key order. Returns them, and
     /// whether the range has more below.
     ///
-    /// It is `scan` from right to left: it takes no lock, never blocks, and makes no more steps than `scan` may.
+    /// It is `scan` in the other direction: it takes no lock, never blocks, and makes no more steps than `scan` may.
     ///
     /// It is no snapshot. Each pair was in the index at some moment of the call. No key is missing that was there all along; if
     /// there are more, no key down to the last one listed. To go on, scan up to the `previous_key` of the last pair's key.
     ///
-    /// It runs out of memory only if it has found a pair to list, and lists nothing then.
+    /// An error if memory is refused, which happens only if it has found a pair to list. Then it lists nothing.
     pub fn scan_reverse(
         &self,
         alloc: Global,
@@ -43,14 +43,14 @@ impl Index {
             direction: Direction::Downwards,
             limit,
         };
-        self.scan_range(alloc, pass, &range, &mut Untold)
+        self.scan_range(alloc, pass, &range, &mut NoGate)
     }
 
-    /// `scan_reverse` into a list, whose earlier pairs are dropped. The pair with the greatest key comes first. Returns whether the
-    /// range has more below.
+    /// Does what `scan_reverse` does, but lists into `pairs`, whose earlier pairs are dropped. The pair with the greatest key comes
+    /// first. Returns whether the range has more below.
     ///
-    /// Out of memory, it returns the error. The list then holds the first of these pairs, fewer than the limit: what a scan with their
-    /// number as its limit lists, where the range has more below.
+    /// An error if memory is refused. Then `pairs` holds the first of these pairs, fewer than `limit`, and the range has more below. So
+    /// it is what a scan with their number as its limit lists.
     pub fn scan_reverse_into(
         &self,
         pass: &mut Pass,
@@ -62,14 +62,14 @@ impl Index {
         requires { Owns self.now pass.old }
         ensures { IsListReadBy IsLawfulReverseScan (range_from from.now upto.now limit) pairs.new result self.now untold (pass.old, tt) (pass.new, tt) }
     {
-        self.scan_reverse_into_with(pass, from, upto, limit, pairs, &mut Untold)
+        self.scan_reverse_into_with(pass, from, upto, limit, pairs, &mut NoGate)
     }
 
-    /// The last pair whose key is `upto` or below. If `upto` is the greatest key that there can be (`last_with_prefix` of the empty
-    /// key), that is the last pair of the index.
+    /// The last pair whose key is `upto` or below; `None` if there is none. For the greatest key that there can be (`last_with_prefix`
+    /// of the empty key) it is the last pair of the index.
     ///
     /// It is a scan downwards for one pair, with its promise and bound on steps. The pair was there at some moment of the call, and
-    /// no greater key up to `upto` was there all along. It runs out of memory only if it has found a pair, and returns none then.
+    /// no greater key up to `upto` was there all along. An error if memory is refused, only if it has found a pair.
     pub fn last(
         &self,
         alloc: Global,
@@ -79,7 +79,7 @@ impl Index {
         requires { Owns self.now pass.old }
         ensures { IsRangeRead (λ layout k j. IsLastFound layout k j upto.now) (range_from [] upto.now 1) result self.now pass.old pass.new }
     {
-        let empty = Key::of_places([0; MAX_BYTES], 0);
+        let empty = Key::from_padded([0; MAX_BYTES], 0);
         self.find_first(alloc, pass, Direction::Downwards, &empty, upto)
     }
 

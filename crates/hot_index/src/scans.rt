@@ -6,18 +6,18 @@ ghost use Rattle.seat_calls.specs.Answers.{IsFoundBy, range_from};
 ghost use Rattle.seat_calls.specs.Calls.{IsListRead, IsListReadBy, IsListReadWith, IsRangeRead, IsScanRead, IsScanReadBy, IsScanReadWith};
 ghost use Rattle.seat_calls.specs.Passes.{Owns};
 
-use crate::index::{Index, Pass, Untold};
+use crate::index::{Index, Pass};
 use epochs::{pin, unpin};
 use finite_map::Scan;
 use key_bits::Key;
 use packed_pairs::Pairs;
-use rowex_core::Gate;
+use rowex_core::{Gate, NoGate};
 use rowex_scanning::{Direction, Range, scan_root};
 use std::alloc::{AllocError, Global};
 
 impl Index {
     /// Lists the first `limit` pairs whose keys are from `from` to `upto`, both included, in key order. Returns them, and whether the
-    /// range has more.
+    /// range has more. The memory for them is of `alloc`.
     ///
     /// It takes no lock and never blocks. It makes at most 101 atomic steps, 8 for each pair of the limit, and 26 for each entry of a
     /// node that it loads. It loads at most 6,481 entries, and two for each pair of the limit. That is at most 168,607 steps, and 60
@@ -26,7 +26,7 @@ impl Index {
     /// It is no snapshot. Each pair was in the index at some moment of the call. No key is missing that was there all along; if
     /// there are more, no key up to the last one listed.
     ///
-    /// It runs out of memory only if it has found a pair to list, and lists nothing then.
+    /// An error if memory is refused, which happens only if it has found a pair to list. Then it lists nothing.
     pub fn scan(
         &self,
         alloc: Global,
@@ -38,7 +38,7 @@ impl Index {
         requires { Owns self.now pass.old }
         ensures { IsScanRead (range_from from.now upto.now limit) result self.now pass.old pass.new }
     {
-        self.scan_with(alloc, pass, from, upto, limit, &mut Untold)
+        self.scan_with(alloc, pass, from, upto, limit, &mut NoGate)
     }
 
     /// Does what `scan` does, and reports each of its steps to `gate`.
@@ -63,13 +63,13 @@ impl Index {
         self.scan_range(alloc, pass, &range, gate)
     }
 
-    /// `scan` into a list, whose earlier pairs are dropped. Returns whether the range has more.
+    /// Does what `scan` does, but lists into `pairs`, whose earlier pairs are dropped. Returns whether the range has more.
     ///
     /// A list that is used again keeps its memory, and a key takes no more bytes of it than it has. So this is the form for frequent
     /// scans.
     ///
-    /// Out of memory, the list holds the first pairs, fewer than the limit, and the range has more. So it is what a scan with their
-    /// number as its limit lists.
+    /// An error if memory is refused. Then `pairs` holds the first pairs, fewer than `limit`, and the range has more. So it is what a
+    /// scan with their number as its limit lists.
     pub fn scan_into(
         &self,
         pass: &mut Pass,
@@ -81,7 +81,7 @@ impl Index {
         requires { Owns self.now pass.old }
         ensures { IsListRead (range_from from.now upto.now limit) pairs.new result self.now pass.old pass.new }
     {
-        self.scan_into_with(pass, from, upto, limit, pairs, &mut Untold)
+        self.scan_into_with(pass, from, upto, limit, pairs, &mut NoGate)
     }
 
     /// Does what `scan_into` does, and reports each of its steps to `gate`.
@@ -106,8 +106,9 @@ impl Index {
         self.list_range(pass, &range, pairs, gate)
     }
 
-    /// Lists the pairs of `range` into `pairs`, in its direction, and drops earlier ones. Returns whether the range has more. If memory is
-    /// refused, an error: `pairs` then holds a part, as `scan_into` says. Inline, so that each direction has a walk of its own.
+    /// Lists the pairs of `range` into `pairs`, in its direction, and drops earlier ones. Each step is told `gate`. Returns whether the
+    /// range has more. An error if memory is refused: `pairs` holds a part, as `scan_into` says. Inline, so that each direction has code
+    /// of its own.
     #[inline(always)]
     pub(crate) fn list_range<G: Gate>(
         &self,
@@ -132,7 +133,8 @@ impl Index {
         scan
     }
 
-    /// The pairs of `range`, listed in its direction, and whether the range has more; an error if memory is refused. Inline as `list_range`.
+    /// The pairs of `range`, listed in its direction, and whether the range has more; an error if memory is refused. Each step is told
+    /// `gate`. Inline, as `list_range` is.
     #[inline(always)]
     pub(crate) fn scan_range<G: Gate>(
         &self,
@@ -150,7 +152,8 @@ impl Index {
         Ok(Scan { pairs, more })
     }
 
-    /// The pair from `from` to `upto` that comes first in this direction; `None` if no pair was found. An error if memory is refused.
+    /// The pair that comes first in `direction` of those with keys from `from` to `upto`; `None` if no pair was found. An error if memory
+    /// is refused.
     #[inline(always)]
     pub(crate) fn find_first(
         &self,
@@ -171,7 +174,7 @@ impl Index {
             limit: 1,
         };
         let mut list = Pairs::new(alloc);
-        self.list_range(pass, &range, &mut list, &mut Untold)?;
+        self.list_range(pass, &range, &mut list, &mut NoGate)?;
         let mut pairs = list.to_vec(alloc)?;
         Ok(pairs.pop())
     }

@@ -25,7 +25,7 @@ impl Model for Stamp {
 }
 
 impl Index {
-    /// A stamp of all that the pass has seen, its own changes included. The pass stays as it is, but that the stamp is counted among its
+    /// A stamp of all that `pass` has seen, its own changes included. The pass stays as it is, but that the stamp is counted among its
     /// `asides`. The call makes one load, which counts as no step.
     pub fn stamp(&self, pass: &mut Pass) -> Stamp
         requires { Owns self.now pass.old }
@@ -39,7 +39,7 @@ impl Index {
         Stamp { stamp }
     }
 
-    /// Lets the pass see all that was seen when `stamp` was made. So its later calls come after the calls that had returned by then
+    /// Lets `pass` see all that was seen when `stamp` was made. So its later calls come after the calls that had returned by then
     /// (`laws::returned_before_begun`). Nothing else of the pass changes, but that this is counted among its `asides`. The call makes two
     /// loads, which count as no steps.
     pub fn follow(&self, pass: &mut Pass, stamp: Stamp)

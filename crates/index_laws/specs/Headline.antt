@@ -25,7 +25,8 @@ use Rattle.rowex_scanning.specs.Counts.{scan_entries}
 use Rattle.rowex_table.specs.Seats.{SeatView, TableView}
 use Rattle.rowex_writing.specs.declared.attempts.TryFault.{TryFault}
 use Rattle.rowex_writing.specs.declared.attempts.TryFault.TheVariants.{Busy, FullLeaves}
-use Rattle.seat_calls.specs.Answers.{HaveMet, IsCause, IsListedBy, IsNoted, IsRefused, IsScannedBy, MayRefuse, ScanLaw, range_from}
+use Rattle.version_laws.specs.Directions.{ScanLaw}
+use Rattle.seat_calls.specs.Answers.{HaveMet, IsCause, IsListedBy, IsNoted, IsRefused, IsScannedBy, MayRefuse, range_from}
 use Rattle.seat_calls.specs.declared.census.RecordCounts.{RecordCounts}
 use Rattle.seat_calls.specs.Census.{HasCounted}
 use Rattle.seat_calls.specs.Counts.{round_steps, try_steps}

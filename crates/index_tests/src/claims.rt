@@ -30,8 +30,8 @@ fn table_of(rt: &impl Abort, alloc: Global) -> (HotTable, TableSeat, TableSeat)
     }
 }
 
-/// Loads the state of `rec` and claims it, if it is free. Returns whether the seat has it now.
-fn take(table: &HotTable, seat: &mut TableSeat, rec: Rec) -> bool
+/// Loads the state of `rec`, and claims it if it is free. Returns whether the seat has claimed it.
+fn claim_if_free(table: &HotTable, seat: &mut TableSeat, rec: Rec) -> bool
     requires own { IsSeatOf table.now seat.old }
     requires range { HasRecord table.now.layout rec }
     ensures own { IsSeatOf table.now seat.new }
@@ -44,7 +44,7 @@ fn take(table: &HotTable, seat: &mut TableSeat, rec: Rec) -> bool
     table.claim(seat, &mut gate, rec) == 0
 }
 
-/// Asserts that `second` can't claim a record that `first` has taken, and can once `first` has released it.
+/// `first` claims `rec`, which `second` can't claim then. `first` releases it, and then `second` can.
 fn hand_over(
     rt: &impl Abort,
     table: &HotTable,
@@ -58,26 +58,26 @@ fn hand_over(
     ensures first { IsSeatOf table.now first.new }
     ensures second { IsSeatOf table.now second.new }
 {
-    assert!(rt; take(table, first, rec));
+    assert!(rt; claim_if_free(table, first, rec));
     assert!(rt; table.claim(second, &mut NoGate, rec) == 1);
     table.release(first, &mut NoGate, rec);
     assert!(rt; table.claim(second, &mut NoGate, rec) == 0);
 }
 
-/// Asserts that a word that the seat fills into node record 0, which it has claimed, is loaded from there.
+/// A word that `seat` fills into a record that it has claimed stands there.
 fn fill_node(rt: &impl Abort, table: &HotTable, seat: &mut TableSeat)
     requires own { IsSeatOf table.now seat.old }
     requires range { 0 < table.now.layout.nodes }
     ensures own { IsSeatOf table.now seat.new }
 {
     let node = Rec::Node(0);
-    assert!(rt; take(table, seat, node));
+    assert!(rt; claim_if_free(table, seat, node));
     table.fill(seat, &mut NoGate, node, 1, 7);
     assert!(rt; table.load_fixed(seat, &mut NoGate, node, 1) == 7);
 }
 
-/// Raises the epoch, loads it and both pins, which are clear, and tries to give leaf record 0 back. Asserts that this is found free.
-fn give_none(rt: &impl Abort, table: &HotTable, seat: &mut TableSeat)
+/// Raises the epoch, and loads it and both pins, which are clear. A free record that it tries to give back stays.
+fn give_back_none(rt: &impl Abort, table: &HotTable, seat: &mut TableSeat)
     requires own { IsSeatOf table.now seat.old }
     requires range { (0 < table.now.layout.leaves) × (table.now.layout.passes ≡ 2) }
     ensures own { IsSeatOf table.now seat.new }
@@ -104,8 +104,12 @@ fn claim_each(table: &HotTable, seat: &mut TableSeat) -> u64
     claimed
 }
 
-/// Two threads claim each leaf record that is free. Asserts that they claim all but the first together, each once.
-fn claim_all(rt: &(impl Abort + Threads + Sync), table: &HotTable, seats: (TableSeat, TableSeat))
+/// Two threads claim each leaf record that is free. Together they claim all but the first, each once.
+fn claim_in_threads(
+    rt: &(impl Abort + Threads + Sync),
+    table: &HotTable,
+    seats: (TableSeat, TableSeat),
+)
     requires first { IsSeatOf table.now seats.0 }
     requires second { IsSeatOf table.now seats.1 }
 {
@@ -122,12 +126,12 @@ fn claim_all(rt: &(impl Abort + Threads + Sync), table: &HotTable, seats: (Table
     assert!(rt; ours & theirs == 0 && ours | theirs == 0xfe);
 }
 
-/// A free record isn't given back, a filled word stands, a record taken is handed over, and two threads claim none twice.
+/// A free record isn't given back, a filled word stands, a record claimed is handed over, and two threads claim none twice.
 #[test]
 fn a_record_has_one_seat(rt: HostRuntime) {
     let (table, mut first, mut second) = table_of(&rt, rt.alloc());
-    give_none(&rt, &table, &mut first);
+    give_back_none(&rt, &table, &mut first);
     fill_node(&rt, &table, &mut first);
     hand_over(&rt, &table, &mut first, &mut second, Rec::Leaf(0));
-    claim_all(&rt, &table, (first, second));
+    claim_in_threads(&rt, &table, (first, second));
 }

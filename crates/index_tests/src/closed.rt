@@ -3,14 +3,14 @@
 ghost use Rattle.std.specs.Prelude.{All};
 ghost use Rattle.seat_calls.specs.Passes.{Owns};
 
-use crate::made::*;
+use crate::shared::*;
 use hot_index::{ClosedHandle, ClosedPass, Handle, Index, Key, Reply, Stock, create_closed, total};
 use std::alloc::Global;
 use std::process::Abort;
 use std::test::*;
 
 /// An index for eight keys, and its two passes, which are closed.
-fn closed_of(rt: &impl Abort, alloc: Global) -> (Index, Vec<ClosedPass>)
+fn create_closed_passes(rt: &impl Abort, alloc: Global) -> (Index, Vec<ClosedPass>)
     ensures { All (Owns result.0) result.1.items }
 {
     match create_closed(alloc, 2, Stock::for_keys(8, 240)) {
@@ -19,20 +19,16 @@ fn closed_of(rt: &impl Abort, alloc: Global) -> (Index, Vec<ClosedPass>)
     }
 }
 
-/// Opens `closed`; panics if memory is refused.
-fn opened<'a>(
-    rt: &impl Abort,
-    alloc: Global,
-    closed: ClosedHandle<&'a Index>,
-) -> Handle<&'a Index> {
+/// Opens the handle `closed`.
+fn open<'a>(rt: &impl Abort, alloc: Global, closed: ClosedHandle<&'a Index>) -> Handle<&'a Index> {
     match closed.open(alloc) {
         Ok(handle) => handle,
         Err(_) => panic!(rt; "no memory"),
     }
 }
 
-/// Takes the last pass out of `passes`, and opens a handle of it.
-fn open_next<'a>(
+/// Takes the last of `passes` out, and opens a handle of it.
+fn open_last<'a>(
     rt: &impl Abort,
     alloc: Global,
     index: &'a Index,
@@ -42,13 +38,13 @@ fn open_next<'a>(
     ensures { All (Owns index.now) passes.new.items }
 {
     match passes.pop() {
-        Some(pass) => opened(rt, alloc, ClosedHandle::new(index, pass)),
+        Some(pass) => open(rt, alloc, ClosedHandle::new(index, pass)),
         None => panic!(rt; "no pass"),
     }
 }
 
-/// The first handle inserts a key. The second upserts the other key, and finds the first one there. Together they count two keys.
-fn put_each(
+/// `first` inserts a key, and `second` another one. `second` finds the first key there already. Together they count two keys.
+fn insert_by_both(
     rt: &impl Abort,
     first: &mut Handle<&Index>,
     second: &mut Handle<&Index>,
@@ -60,8 +56,8 @@ fn put_each(
     assert!(rt; total(&[first.count(), second.count()]) == 2);
 }
 
-/// The second handle removes both keys, one more than it has put in, so its count is below 0. Together they count none.
-fn take_both(
+/// `second` removes both keys, one more than it has inserted, so its count is below 0. Together they count none.
+fn remove_both(
     rt: &impl Abort,
     first: &mut Handle<&Index>,
     second: &mut Handle<&Index>,
@@ -78,13 +74,13 @@ fn take_both(
 /// A closed handle counts its one key, and still does when it is opened again.
 #[test]
 fn a_handle_keeps_its_count_while_it_is_closed(rt: HostRuntime) {
-    let (index, mut passes) = closed_of(&rt, rt.alloc());
-    let mut first = open_next(&rt, rt.alloc(), &index, &mut passes);
-    let mut second = open_next(&rt, rt.alloc(), &index, &mut passes);
+    let (index, mut passes) = create_closed_passes(&rt, rt.alloc());
+    let mut first = open_last(&rt, rt.alloc(), &index, &mut passes);
+    let mut second = open_last(&rt, rt.alloc(), &index, &mut passes);
     let keys = ends(&rt);
-    put_each(&rt, &mut first, &mut second, &keys);
+    insert_by_both(&rt, &mut first, &mut second, &keys);
     let closed = first.close();
     assert!(rt; closed.count().keys == 1);
-    let mut first = opened(&rt, rt.alloc(), closed);
-    take_both(&rt, &mut first, &mut second, &keys);
+    let mut first = open(&rt, rt.alloc(), closed);
+    remove_both(&rt, &mut first, &mut second, &keys);
 }

@@ -8,9 +8,9 @@ mod claims;
 #[cfg(test)]
 mod closed;
 #[cfg(test)]
-mod made;
-#[cfg(test)]
 mod refused;
+#[cfg(test)]
+mod shared;
 #[cfg(test)]
 mod stamps;
 #[cfg(test)]

@@ -4,7 +4,7 @@
 ghost use Rattle.std.specs.Prelude.{All};
 ghost use Rattle.seat_calls.specs.Passes.{Owns};
 
-use crate::made::*;
+use crate::shared::*;
 use finite_map::{Call, Scan};
 use hot_index::{Event, Gate, Handle, Index, Key, Reply};
 use plain_index::PlainIndex;
@@ -18,22 +18,27 @@ use std::test::*;
 /// A pass at its index.
 type Guest<'a> = Handle<&'a Index>;
 
-/// Which way a scan goes.
+/// The direction of a scan.
 #[derive(Clone, Copy)]
-enum Way {
-    Up,
-    Down,
+enum Direction {
+    Upwards,
+    Downwards,
 }
 
-/// The pairs from the first of `ends` to the second, nine at most, in the direction `way`. An error if memory is refused.
-fn list(alloc: Global, guest: &mut Guest, way: Way, ends: &(Key, Key)) -> Result<Scan, AllocError> {
-    match way {
-        Way::Up => guest.scan(alloc, &ends.0, &ends.1, 9),
-        Way::Down => guest.scan_reverse(alloc, &ends.0, &ends.1, 9),
+/// Scans nine pairs at most between the two keys of `ends`, in `direction`. An error if memory is refused.
+fn scan_between(
+    alloc: Global,
+    guest: &mut Guest,
+    direction: Direction,
+    ends: &(Key, Key),
+) -> Result<Scan, AllocError> {
+    match direction {
+        Direction::Upwards => guest.scan(alloc, &ends.0, &ends.1, 9),
+        Direction::Downwards => guest.scan_reverse(alloc, &ends.0, &ends.1, 9),
     }
 }
 
-/// Asserts that `scan` has `count` pairs, and that there are no more.
+/// `scan` gave `count` pairs, and there are no more.
 fn expect_whole(rt: &impl Abort, scan: Result<Scan, AllocError>, count: usize) {
     match scan {
         Ok(scan) => assert!(rt; scan.pairs.len() == count && !scan.more),
@@ -47,65 +52,75 @@ fn insert_both(rt: &impl Abort, guest: &mut Guest, keys: &(Key, Key)) {
     assert!(rt; guest.try_insert(&keys.1, 2) == Ok(Reply::Inserted));
 }
 
-/// Replaces the leaf of the first key, and asserts that the next round gives it back.
+/// Replaces the leaf of the first key. The next round gives the old one back.
 fn replace_first(rt: &impl Abort, guest: &mut Guest, keys: &(Key, Key)) {
     assert!(rt; guest.try_upsert(&keys.0, 3) == Ok(Reply::Was(1)));
     assert!(rt; guest.collect().leaves == 1);
 }
 
-/// Asserts that a scan of two keys leaves no pin, even if memory is refused. A round after it gives back the leaf that `other` replaces.
-fn list_beside(rt: &impl Abort, alloc: Global, guest: &mut Guest, other: &mut Guest, way: Way) {
+/// A scan of two keys leaves no pin, even if memory is refused. So a leaf that `other` replaces after it comes back with the next round.
+fn scan_beside(
+    rt: &impl Abort,
+    alloc: Global,
+    guest: &mut Guest,
+    other: &mut Guest,
+    direction: Direction,
+) {
     let ends = ends(rt);
     insert_both(rt, other, &ends);
-    let first = list(alloc, guest, way, &ends);
+    let first = scan_between(alloc, guest, direction, &ends);
     replace_first(rt, other, &ends);
     let scan = match first {
         Ok(scan) => Ok(scan),
-        Err(_) => list(alloc, guest, way, &ends),
+        Err(_) => scan_between(alloc, guest, direction, &ends),
     };
     expect_whole(rt, scan, 2);
-    find_last(rt, alloc, guest, &ends.1);
+    expect_last(rt, alloc, guest, &ends.1);
 }
 
-/// The last pair up to `key`. If memory is refused it asks once more.
-fn last_of(alloc: Global, guest: &mut Guest, key: &Key) -> Result<Option<(Key, u64)>, AllocError> {
+/// The last pair up to `key`, asked for again where memory is refused once.
+fn find_last(
+    alloc: Global,
+    guest: &mut Guest,
+    key: &Key,
+) -> Result<Option<(Key, u64)>, AllocError> {
     match guest.last(alloc, key) {
         Ok(last) => Ok(last),
         Err(_) => guest.last(alloc, key),
     }
 }
 
-/// Asserts that the last pair up to `key` is that of `key`, with the value 2.
-fn find_last(rt: &impl Abort, alloc: Global, guest: &mut Guest, key: &Key) {
-    let Ok(Some((found, value))) = last_of(alloc, guest, key) else {
+/// The last pair up to `key` is that of `key`, with the value 2.
+fn expect_last(rt: &impl Abort, alloc: Global, guest: &mut Guest, key: &Key) {
+    let Ok(Some((found, value))) = find_last(alloc, guest, key) else {
         panic!(rt; "no pair")
     };
     assert!(rt; found == *key && value == 2);
 }
 
-/// Asserts that a scan in the direction `way` of a new index of two passes leaves no pin.
-fn list_new(rt: &impl Abort, alloc: Global, way: Way) {
+/// Makes an index of two passes: a scan by one of them, in `direction`, leaves no pin.
+fn scan_new_index(rt: &impl Abort, alloc: Global, direction: Direction) {
     let (index, mut passes) = index_of(rt, alloc, 2);
-    let mut guest = Handle::new(&index, next_pass(rt, &index, &mut passes));
-    let mut other = Handle::new(&index, next_pass(rt, &index, &mut passes));
-    list_beside(rt, alloc, &mut guest, &mut other, way);
+    let mut guest = Handle::new(&index, pop_pass(rt, &index, &mut passes));
+    let mut other = Handle::new(&index, pop_pass(rt, &index, &mut passes));
+    scan_beside(rt, alloc, &mut guest, &mut other, direction);
 }
 
 /// A scan that was refused memory leaves no pin, upwards as downwards.
 #[test]
 fn scans_leave_no_pin(rt: HostRuntime) {
-    list_new(&rt, rt.alloc(), Way::Up);
-    list_new(&rt, rt.alloc(), Way::Down);
+    scan_new_index(&rt, rt.alloc(), Direction::Upwards);
+    scan_new_index(&rt, rt.alloc(), Direction::Downwards);
 }
 
-/// Gives a replay each step, once more if memory was refused. Counts the steps that it doesn't take.
+/// A gate that gives each step to a replay, and once more where memory was refused. It counts the steps that are refused in the end.
 #[derive(Drop)]
-struct Insisting {
+struct RetryingGate {
     replay: Replay,
     wrong: u32,
 }
 
-impl Gate for Insisting {
+impl Gate for RetryingGate {
     ghost becomes = { λ _ _ _. Unit {0} };
 
     fn at(&mut self, event: &Event) {
@@ -122,7 +137,7 @@ impl Gate for Insisting {
     }
 }
 
-/// A replay of no event yet, of an index of one pass. If memory is refused it tries once more.
+/// A replay without an event, of an index with one pass.
 fn replay_of(rt: &impl Abort, alloc: Global) -> Replay {
     let Ok(layout) = Layout::of(1, 2, 8) else {
         panic!(rt; "no layout")
@@ -136,8 +151,8 @@ fn replay_of(rt: &impl Abort, alloc: Global) -> Replay {
     }
 }
 
-/// Inserts two keys and removes one of them, and tells `gate` each step. Asserts that its replay takes each and has three changes.
-fn change_told(rt: &impl Abort, guest: &mut Guest, gate: &mut Insisting) {
+/// Inserts two keys and removes one of them, and tells `gate` each step. Its replay takes each, and has three changes then.
+fn change_with_gate(rt: &impl Abort, guest: &mut Guest, gate: &mut RetryingGate) {
     let (low, high) = ends(rt);
     let (index, pass) = (guest.index, &mut guest.pass);
     assert!(rt; index.try_insert_with(pass, &low, 1, gate) == Ok(Reply::Inserted));
@@ -146,7 +161,7 @@ fn change_told(rt: &impl Abort, guest: &mut Guest, gate: &mut Insisting) {
     assert!(rt; gate.wrong == 0 && gate.replay.changes() == 3);
 }
 
-/// Asserts that `replay` has `count` pairs. If memory is refused it asks once more.
+/// `replay` holds `count` pairs.
 fn expect_held(rt: &impl Abort, alloc: Global, replay: &Replay, count: usize) {
     let held = match replay.content(alloc) {
         Ok(pairs) => Ok(pairs),
@@ -162,16 +177,16 @@ fn expect_held(rt: &impl Abort, alloc: Global, replay: &Replay, count: usize) {
 #[test]
 fn a_replay_stays_as_it_was(rt: HostRuntime) {
     let (index, mut passes) = index_of(&rt, rt.alloc(), 1);
-    let mut guest = Handle::new(&index, next_pass(&rt, &index, &mut passes));
-    let mut gate = Insisting {
+    let mut guest = Handle::new(&index, pop_pass(&rt, &index, &mut passes));
+    let mut gate = RetryingGate {
         replay: replay_of(&rt, rt.alloc()),
         wrong: 0,
     };
-    change_told(&rt, &mut guest, &mut gate);
+    change_with_gate(&rt, &mut guest, &mut gate);
     expect_held(&rt, rt.alloc(), &gate.replay, 1);
 }
 
-/// Inserts `key`. If memory was refused, asserts that the key is absent and that a second insert adds it.
+/// Inserts `key`. Where memory was refused, the key is absent, and the next call inserts it.
 fn insert_plain(rt: &impl Abort, index: &mut PlainIndex, key: Key) {
     if index.apply(Call::Insert(key.copy(), 1)).is_err() {
         let told = index.apply(Call::Get(key.copy()));
@@ -196,7 +211,7 @@ fn a_plain_index_stays_as_it_was(rt: HostRuntime) {
     expect_whole(&rt, scan, 20);
 }
 
-/// Inserts `key`. If memory was refused, asserts that the key is absent and that an upsert adds it.
+/// Inserts `key`. Where memory was refused, the key is absent, and an upsert adds it.
 fn insert_in_trie(rt: &impl Abort, trie: &mut PlainTrie, key: &Key) {
     if trie.insert(key, 1).is_err() {
         assert!(rt; trie.get(key).is_none());

@@ -4,14 +4,14 @@ ghost use Rattle.std.specs.Prelude.{All};
 ghost use Rattle.seat_calls.specs.Passes.{Owns};
 ghost use Rattle.hot_index.specs.Stamps.{IsStampFrom};
 
-use crate::made::*;
+use crate::shared::*;
 use hot_index::{Index, Key, Pass, Reply, Stamp};
 use std::process::Abort;
 use std::sync::Wait;
 use std::test::*;
 use std::thread::{Threads, join};
 
-/// Inserts `key` by `pass`, which ends then. Returns whether it was inserted, and a stamp of what the pass has seen.
+/// Inserts `key` with `pass`, which ends then. Returns whether the key was inserted, and a stamp of what the pass had seen.
 fn insert_stamped<R: Wait>(rt: &R, index: &Index, mut pass: Pass, key: &Key) -> (bool, Stamp)
     requires { Owns index.now pass }
     ensures { IsStampFrom index.now result.1 }
@@ -20,8 +20,8 @@ fn insert_stamped<R: Wait>(rt: &R, index: &Index, mut pass: Pass, key: &Key) -> 
     (told == Ok(Reply::Inserted), index.stamp(&mut pass))
 }
 
-/// Inserts two keys at the same time, each by a pass in its thread. Returns for each whether it was inserted, and the pass's stamp.
-fn insert_both<R: Threads + Wait + Sync>(
+/// Inserts two keys at the same time, each by a thread. Returns what `insert_stamped` does, for each.
+fn insert_in_threads<R: Threads + Wait + Sync>(
     rt: &R,
     index: &Index,
     passes: (Pass, Pass),
@@ -46,8 +46,8 @@ fn insert_both<R: Threads + Wait + Sync>(
     )
 }
 
-/// Asserts that `last` finds the keys that `passes` insert at the same time, once it has followed their stamps.
-fn find_both<R: Abort + Threads + Wait + Sync>(
+/// `last` follows the stamps of two passes that insert keys at the same time, and finds these keys then.
+fn follow_and_find<R: Abort + Threads + Wait + Sync>(
     rt: &R,
     index: &Index,
     passes: (Pass, Pass),
@@ -58,7 +58,7 @@ fn find_both<R: Abort + Threads + Wait + Sync>(
     requires last { Owns index.now last.old }
 {
     let keys = (key(rt, &[0]), key(rt, &[1]));
-    let (ours, theirs) = insert_both(rt, index, passes, &keys);
+    let (ours, theirs) = insert_in_threads(rt, index, passes, &keys);
     assert!(rt; ours.0 && theirs.0);
     index.follow(last, ours.1);
     index.follow(last, theirs.1);
@@ -69,8 +69,8 @@ fn find_both<R: Abort + Threads + Wait + Sync>(
 #[test]
 fn a_pass_that_follows_stamps_finds_what_they_tell_of(rt: HostRuntime) {
     let (index, mut passes) = index_of(&rt, rt.alloc(), 3);
-    let first = next_pass(&rt, &index, &mut passes);
-    let second = next_pass(&rt, &index, &mut passes);
-    let mut last = next_pass(&rt, &index, &mut passes);
-    find_both(&rt, &index, (first, second), &mut last);
+    let first = pop_pass(&rt, &index, &mut passes);
+    let second = pop_pass(&rt, &index, &mut passes);
+    let mut last = pop_pass(&rt, &index, &mut passes);
+    follow_and_find(&rt, &index, (first, second), &mut last);
 }

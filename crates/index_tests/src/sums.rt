@@ -2,7 +2,7 @@
 
 ghost use Rattle.seat_calls.specs.Passes.{Owns};
 
-use crate::made::*;
+use crate::shared::*;
 use hot_index::{Handle, Index, Key, Pass, Reply};
 use std::process::Abort;
 use std::sync::Wait;
@@ -12,7 +12,7 @@ use std::thread::{Threads, join};
 /// How often each thread adds.
 const TIMES: u64 = 1000;
 
-/// Adds one to the value of `key`, [`TIMES`] times. Returns how often the key was there.
+/// Adds one to the value of `key`, `TIMES` times. Returns how often the key was there.
 fn add_often<R: Wait>(rt: &R, index: &Index, pass: Pass, key: &Key) -> u64
     requires { Owns index.now pass }
 {
@@ -26,8 +26,8 @@ fn add_often<R: Wait>(rt: &R, index: &Index, pass: Pass, key: &Key) -> u64
     added
 }
 
-/// Two passes add to the value of `key` at the same time, each in a thread. Returns how often each found the key.
-fn add_both<R: Threads + Wait + Sync>(
+/// Two passes add to the value of `key` at the same time, each in a thread. Returns how often each found it there.
+fn add_in_threads<R: Threads + Wait + Sync>(
     rt: &R,
     index: &Index,
     passes: (Pass, Pass),
@@ -48,7 +48,7 @@ fn add_both<R: Threads + Wait + Sync>(
     )
 }
 
-/// Asserts that additions leave an absent key absent, and that a sum beyond the greatest number starts again from 0. The value is 0 then.
+/// An absent key stays absent. One that is there gets each sum, modulo 2 to the power of 64, and has the value 0 in the end.
 fn add_alone(rt: &(impl Abort + Wait), index: &Index, pass: &mut Pass, key: &Key)
     requires { Owns index.now pass.old }
     ensures { Owns index.now pass.new }
@@ -65,12 +65,12 @@ fn add_alone(rt: &(impl Abort + Wait), index: &Index, pass: &mut Pass, key: &Key
 #[test]
 fn what_two_threads_add_is_the_sum(rt: HostRuntime) {
     let (index, mut passes) = index_of(&rt, rt.alloc(), 3);
-    let first = next_pass(&rt, &index, &mut passes);
-    let second = next_pass(&rt, &index, &mut passes);
-    let mut last = next_pass(&rt, &index, &mut passes);
+    let first = pop_pass(&rt, &index, &mut passes);
+    let second = pop_pass(&rt, &index, &mut passes);
+    let mut last = pop_pass(&rt, &index, &mut passes);
     let one = key(&rt, &[1]);
     add_alone(&rt, &index, &mut last, &one);
-    let added = add_both(&rt, &index, (first, second), &one);
+    let added = add_in_threads(&rt, &index, (first, second), &one);
     assert!(rt; added == (TIMES, TIMES));
     assert!(rt; index.get(&mut last, &one) == Some(2 * TIMES));
 }

@@ -2,7 +2,7 @@
 
 ghost use Rattle.std.specs.Prelude.{◌≡◌};
 
-use crate::made::*;
+use crate::shared::*;
 use hot_index::{Handle, Index, Key, Reply};
 use std::process::Abort;
 use std::sync::Wait;
@@ -13,8 +13,8 @@ use std::thread::{Threads, join};
 /// How often a thread looks for a key before it gives up.
 const MAX_LOOKS: u32 = 1_000_000;
 
-/// Looks for `key` until it is found, [`MAX_LOOKS`] times at most. Returns whether it was found.
-fn find(guest: &mut Handle<&Index>, key: &Key) -> bool
+/// Looks for `key` until it is found, at most `MAX_LOOKS` times. Returns whether it was found.
+fn wait_for(guest: &mut Handle<&Index>, key: &Key) -> bool
     ensures { guest.new.index ≡ guest.old.index }
 {
     for _ in 0..MAX_LOOKS {
@@ -26,7 +26,7 @@ fn find(guest: &mut Handle<&Index>, key: &Key) -> bool
     false
 }
 
-/// Inserts `own`, and then looks for `other`. Returns whether `own` was inserted and `other` found, and the handle.
+/// Inserts `own`, and then waits for `other`. Returns whether both succeeded, and the handle.
 fn insert_and_find<'a, R: Wait>(
     rt: &R,
     mut guest: Handle<&'a Index>,
@@ -37,7 +37,7 @@ fn insert_and_find<'a, R: Wait>(
 {
     let told = guest.insert(rt, own, 1);
     (
-        find(&mut guest, other) && told == Ok(Reply::Inserted),
+        wait_for(&mut guest, other) && told == Ok(Reply::Inserted),
         guest,
     )
 }
@@ -66,7 +66,7 @@ fn wait_for_each_other<R: Abort + Threads + Wait + Sync>(
     find_both(rt, &mut second, keys);
 }
 
-/// Asserts that `guest` finds both keys, each with the value 1.
+/// `guest` finds both keys.
 fn find_both(rt: &impl Abort, guest: &mut Handle<&Index>, keys: &(Key, Key)) {
     assert!(rt; guest.get(&keys.0) == Some(1) && guest.get(&keys.1) == Some(1));
 }
@@ -75,8 +75,8 @@ fn find_both(rt: &impl Abort, guest: &mut Handle<&Index>, keys: &(Key, Key)) {
 #[test]
 fn threads_find_each_others_keys(rt: HostRuntime) {
     let (index, mut passes) = index_of(&rt, rt.alloc(), 2);
-    let first = Handle::new(&index, next_pass(&rt, &index, &mut passes));
-    let second = Handle::new(&index, next_pass(&rt, &index, &mut passes));
+    let first = Handle::new(&index, pop_pass(&rt, &index, &mut passes));
+    let second = Handle::new(&index, pop_pass(&rt, &index, &mut passes));
     let keys = (key(&rt, &[0]), key(&rt, &[1]));
     wait_for_each_other(&rt, first, second, &keys);
 }

@@ -94,7 +94,7 @@ impl Key {
     }
 
     /// The key of the first `count` of `bytes`, where all others are 0.
-    pub fn of_places(bytes: [u8; MAX_BYTES], count: usize) -> Key
+    pub fn from_padded(bytes: [u8; MAX_BYTES], count: usize) -> Key
         requires { HoldsKey bytes count }
         ensures { result ≡ take count bytes }
     {

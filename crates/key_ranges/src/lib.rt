@@ -48,7 +48,7 @@ fn of_front(front: &[u8]) -> Key
 {
     let mut places = [0; MAX_BYTES];
     places[..front.len()].copy_from_slice(front);
-    Key::of_places(places, front.len())
+    Key::from_padded(places, front.len())
 }
 
 /// The key of the bytes `front`, which has room for one more, and `last` behind them.
@@ -60,7 +60,7 @@ fn with_byte(front: &[u8], last: u8) -> Key
     let mut places = [0; MAX_BYTES];
     places[..front.len()].copy_from_slice(front);
     places[front.len()] = last;
-    Key::of_places(places, front.len() + 1)
+    Key::from_padded(places, front.len() + 1)
 }
 
 /// The last key that begins with `prefix`: behind that are as many bytes of 255 as have room.
@@ -70,5 +70,5 @@ pub fn last_with_prefix(prefix: &Key) -> Key
     let bytes = prefix.as_bytes();
     let mut places = [u8::MAX; MAX_BYTES];
     places[..bytes.len()].copy_from_slice(bytes);
-    Key::of_places(places, MAX_BYTES)
+    Key::from_padded(places, MAX_BYTES)
 }

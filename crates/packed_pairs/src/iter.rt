@@ -58,7 +58,7 @@ pub(crate) fn key_of(bytes: &[u8]) -> Key
 {
     let mut places = [0; MAX_BYTES];
     places[..bytes.len()].copy_from_slice(bytes);
-    Key::of_places(places, bytes.len())
+    Key::from_padded(places, bytes.len())
 }
 
 impl<'a> Iterator for Iter<'a> {

@@ -44,7 +44,7 @@ pub fn raise(nodes: &mut Vec<Node>, entry: Entry, key: &Key, position: u16, leaf
     ensures capacity { vec_capacity nodes.new ≡ vec_capacity nodes.old }
 {
     match entry {
-        Entry::Leaf(_) => beside(entry, position, key.bit(position), Entry::Leaf(leaf)),
+        Entry::Leaf(_) => fork_entries(entry, position, key.bit(position), Entry::Leaf(leaf)),
         Entry::Node { number, height } => {
             let node = &nodes[number as usize];
             let at = node.search(key);
@@ -71,7 +71,7 @@ fn takes_leaf(height: u16, first: u8, last: u8) -> bool
 }
 
 /// The fork at `position` of the entries `old` and `new`, where `new` is the side of `bit`.
-fn beside(old: Entry, position: u16, bit: bool, new: Entry) -> Risen
+fn fork_entries(old: Entry, position: u16, bit: bool, new: Entry) -> Risen
     ensures { subtrie_of result ≡ subtrie_forked bit position new (At old) }
 {
     if bit {

@@ -28,12 +28,12 @@ pub fn read_entry(word: u64) -> Option<Entry>
 {
     match word {
         0 => None,
-        _ => Some(read_some(word)),
+        _ => Some(read_some_entry(word)),
     }
 }
 
 /// The entry whose word is `word`, which isn't 0. A leaf's word has no height.
-pub fn read_some(word: u64) -> Entry
+pub fn read_some_entry(word: u64) -> Entry
     requires { IsSpelling (λ entry. HasEntryWord (Some entry)) (λ entry. entry_word (Some entry)) word }
     ensures { IsSpelledBy (λ entry. HasEntryWord (Some entry)) (λ entry. entry_word (Some entry)) word result }
 {

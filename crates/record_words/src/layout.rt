@@ -78,7 +78,7 @@ impl LeafClass {
     }
 
     /// Its index among the classes, the smallest first.
-    pub fn place(self) -> usize
+    pub fn index(self) -> usize
         ensures { result < LEAF_CLASSES }
     {
         match self {
@@ -228,7 +228,7 @@ impl Layout {
 
     /// The first leaf record of a class with at least `words` words, or where it would be: those below have fewer, and those behind have
     /// enough. If no class is so large, it is the first long one.
-    pub fn first_with(&self, words: usize) -> u32
+    pub fn first_leaf_with(&self, words: usize) -> u32
         ensures below { (q : ℕ) → q < result → leaf_size self.now q < words }
         ensures from { words ≤ LEAF_WORDS → (q : ℕ) → result ≤ q → words ≤ leaf_size self.now q }
         ensures few { result ≤ self.now.leaves }

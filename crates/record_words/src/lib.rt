@@ -14,14 +14,14 @@ mod state;
 mod stock;
 
 pub use affected::affected_in;
-pub use entry::{pack_entry, read_entry, read_some};
+pub use entry::{pack_entry, read_entry, read_some_entry};
 use key_bits::MAX_BYTES;
 pub use layout::{Layout, LayoutFault, LeafClass, Location, Stock};
 pub use leaf::{key_word_at, key_words, pack_leaf, words_for, write_word};
 pub use node::{add_leaf, can_take_leaf, close_fork, drop_entry, pack_node, read_node};
 pub use numbers::{HeadNumbers, position_of, read_numbers, row_of};
 pub use origins::Origins;
-pub use search::{dense_in, search_in};
+pub use search::{extract_in, search_in};
 pub use state::{Tag, obsolete_word, pack_state, unpack_state};
 
 /// Epochs are below this number, and at least 1.

@@ -11,7 +11,7 @@ ghost use Rattle.record_words.specs.Node.{CanCloseAt, CanTakeLeaf, HasHeadWords,
 ghost use Rattle.record_words.specs.Packed.{row_word};
 ghost use Rattle.record_words.specs.Reading.{IsSpelledBy, IsSpelling};
 
-use crate::entry::{pack_entry, read_some};
+use crate::entry::{pack_entry, read_some_entry};
 use crate::fixed::{read_positions, word_of_numbers, word_of_positions, words_of_rows};
 use crate::numbers::read_numbers;
 use crate::search::{has_lane, quarters, rows_in};
@@ -128,7 +128,7 @@ pub fn drop_entry(words: &mut [u64; NODE_FIELDS], at: u8) -> Option<Entry>
 {
     let mut head = read_head(&words[..HEAD_WORDS]);
     if head.count() == 2 {
-        return Some(read_some(words[HEAD_WORDS + 1 - at as usize]));
+        return Some(read_some_entry(words[HEAD_WORDS + 1 - at as usize]));
     }
     let last = HEAD_WORDS + head.count() as usize - 1;
     remove_in(words, last + 1, HEAD_WORDS + at as usize, 0);
@@ -171,7 +171,7 @@ pub fn read_node(words: &[u64; NODE_FIELDS]) -> Node
 {
     let mut entries = ArrayVec::new();
     for i in 0..read_numbers(words[0]).count {
-        entries.push(read_some(words[HEAD_WORDS + i as usize]));
+        entries.push(read_some_entry(words[HEAD_WORDS + i as usize]));
     }
     Node::of(read_head(&words[..HEAD_WORDS]), entries)
 }

@@ -19,7 +19,7 @@ use std::simd::prelude::*;
 /// The dense partial key of `key` for each node whose head begins with `words`: the bit of column j is bit 31-j. The positions are read
 /// as a vector as they stand. `search_in` needs the words behind these alone, so a caller can load those later.
 #[inline(always)]
-pub fn dense_in(words: &[u64; FIRST_ROWS], key: &Key) -> u32
+pub fn extract_in(words: &[u64; FIRST_ROWS], key: &Key) -> u32
     requires { IsSpelling HasHeadWords front_words words.now }
     ensures { (node : NodeView) → IsLawfulNode node → front_words (head_of node) ≡ words.now → result ≡ dense_of node.columns (bit_of key.now) }
 {

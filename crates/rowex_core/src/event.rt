@@ -1,5 +1,6 @@
 //! Atomic steps on the shared words, as events.
 
+use std::marker::Model;
 use versions::Rec;
 
 /// What a writer locks.
@@ -78,9 +79,15 @@ pub trait Gate {
         ensures { becomes self.old event.now self.new };
 }
 
-/// A gate that does nothing.
-#[derive(Clone, Copy)]
+/// A gate that does nothing. Contracts see no state of it.
+#[derive(Clone, Copy, Drop)]
 pub struct NoGate;
+
+impl Model for NoGate {
+    ghost Value = { Unit {0} };
+
+    ghost view = { λ _. tt };
+}
 
 impl Gate for NoGate {
     ghost becomes = { λ _ _ _. Unit {0} };

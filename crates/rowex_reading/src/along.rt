@@ -9,11 +9,11 @@ ghost use Rattle.rowex_reading.specs.Turns.{AreRows, AreSomeTurns, AreTips, AreT
 ghost use Rattle.rowex_reading.specs.Reads.{IsReader, Looks, Reads};
 
 use crate::lookup::find_place;
-use crate::reading::{NodeAt, load_entry, load_root};
+use crate::reading::{load_entry, load_root};
 use compound_node::Entry;
 use key_bits::Key;
 use rowex_core::{Gate, Rec};
-use rowex_table::{HotTable, TableSeat};
+use rowex_table::{HotTable, NodeAt, TableSeat};
 
 /// How many keys go down by turns.
 pub const TOGETHER: usize = 16;
@@ -180,14 +180,14 @@ fn touch_record<G: Gate>(table: &HotTable, seat: &mut TableSeat, gate: &mut G, e
         Entry::Leaf(number) => {
             let rec = Rec::Leaf(number);
             let start = table.start_of(rec);
-            table.load_fixed_from(seat, gate, rec, start, 2);
+            table.load_fixed_at(seat, gate, rec, start, 2);
         }
         Entry::Node { number, .. } => {
             let rec = Rec::Node(number);
             let start = table.start_of(rec);
-            table.load_fixed_from(seat, gate, rec, start, 1);
-            table.load_fixed_from(seat, gate, rec, start, 9);
-            table.load_fixed_from(seat, gate, rec, start, 17);
+            table.load_fixed_at(seat, gate, rec, start, 1);
+            table.load_fixed_at(seat, gate, rec, start, 9);
+            table.load_fixed_at(seat, gate, rec, start, 17);
         }
     }
 }

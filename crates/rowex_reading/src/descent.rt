@@ -7,13 +7,13 @@ ghost use Rattle.rowex_reading.specs.Possible.{IsPossible};
 ghost use Rattle.rowex_reading.specs.Seen.{since};
 ghost use Rattle.rowex_reading.specs.Ways.{IsWayOf, value_of};
 
-use crate::reading::{LeafAt, NodeAt, load_entry, load_leaf, load_root, search_node};
+use crate::reading::{load_entry, load_leaf, load_root, search_node};
 use arrayvec::ArrayVec;
 use compound_node::Entry;
 use insert_cases::PathNode;
 use key_bits::{Key, MAX_BYTES, mismatch_in};
 use rowex_core::{Gate, Rec};
-use rowex_table::{HotTable, TableSeat};
+use rowex_table::{HotTable, LeafAt, NodeAt, TableSeat};
 
 /// The most nodes on a way: a node's height is above that of the next one, and at most 2,160.
 pub const MOST_NODES: usize = 2_160;

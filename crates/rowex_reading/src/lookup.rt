@@ -15,11 +15,11 @@ ghost use Rattle.rowex_reading.specs.Seen.{IsLedTo, Sure};
 ghost use Rattle.rowex_reading.specs.Turns.{AreTurnsOfKey, IsTurn};
 
 use crate::along::{MOST_TURNS, TOGETHER, Turn};
-use crate::reading::{NodeAt, load_entry, load_root, load_value, search_node};
+use crate::reading::{load_entry, load_root, load_value, search_node};
 use compound_node::Entry;
 use key_bits::Key;
 use rowex_core::{Gate, Rec};
-use rowex_table::{HotTable, TableSeat};
+use rowex_table::{HotTable, NodeAt, TableSeat};
 
 /// Searches for `key` from the root down to a leaf, and compares the leaf's key. Returns the key's value, or `None` if the key is absent.
 /// This was so in a version since the load of the root.

@@ -19,29 +19,11 @@ use compound_node::Entry;
 use insert_cases::PathNode;
 use key_bits::{Key, MAX_BYTES};
 use record_words::{
-    FIRST_ROWS, HEAD_WORDS, ROW_WORDS, dense_in, key_word_at, key_words, read_entry, read_some,
-    search_in, write_word,
+    FIRST_ROWS, HEAD_WORDS, ROW_WORDS, extract_in, key_word_at, key_words, read_entry,
+    read_some_entry, search_in, write_word,
 };
 use rowex_core::{Gate, Rec, Spot};
-use rowex_table::{HotTable, TableSeat};
-
-/// A node's record.
-#[derive(Clone, Copy)]
-pub struct NodeAt {
-    /// The record's number.
-    pub number: u32,
-    /// The word of the table at which the record begins. Several loads find it once.
-    pub start: usize,
-}
-
-/// A leaf's record.
-#[derive(Clone, Copy)]
-pub struct LeafAt {
-    /// The record's number.
-    pub number: u32,
-    /// The word of the table at which the record begins.
-    pub start: usize,
-}
+use rowex_table::{HotTable, LeafAt, NodeAt, TableSeat};
 
 /// Loads the root's entry; `None` if the tree is empty.
 pub fn load_root<G: Gate>(table: &HotTable, seat: &mut TableSeat, gate: &mut G) -> Option<Entry>
@@ -75,13 +57,7 @@ fn load_head_part<G: Gate>(
 {
     for index in 0..words.len() {
         let offset = (first + index) as u8 + 1;
-        words[index] = table.load_fixed_from(
-            seat,
-            gate,
-            Rec::Node(node.number),
-            node.start,
-            offset,
-        );
+        words[index] = table.load_fixed_at(seat, gate, Rec::Node(node.number), node.start, offset);
     }
 }
 
@@ -150,7 +126,7 @@ pub fn search_node<G: Gate>(
 {
     let mut front = [0; FIRST_ROWS];
     load_head_part(table, seat, gate, node, 0, &mut front);
-    let dense = dense_in(&front, key);
+    let dense = extract_in(&front, key);
     let mut back = [0; ROW_WORDS];
     load_head_part(table, seat, gate, node, FIRST_ROWS, &mut back);
     PathNode {
@@ -178,14 +154,14 @@ pub fn load_entry<G: Gate>(
     ensures entry { (m h : ℕ) → HasPlace seat.old.known m node.number h place →
         (height_of result < h) × Sure seat.new.known (λ s. IsPlaced s m node.number place result) }
 {
-    let word = table.load_slot_from(seat, gate, node.number, node.start, place);
-    read_some(word)
+    let word = table.load_slot_at(seat, gate, node.number, node.start, place);
+    read_some_entry(word)
 }
 
 /// Loads `leaf`: its value, its key's length, and the words with bytes of the key, which go at once to the first of `places`. Returns the
 /// key's length and the value.
 ///
-/// The words behind are not loaded, and their places stay. If all were 0, `places` are the key's (`Key::of_places`); else those behind the
+/// The words behind are not loaded, and their places stay. If all were 0, `places` are the key's (`Key::from_padded`); else those behind the
 /// key mean nothing. Keys of eight bytes are common, and their one word needs no loop. Inline, so that a caller has the bytes where they
 /// were read.
 #[inline(always)]
@@ -208,16 +184,16 @@ pub fn load_leaf<G: Gate>(
 {
     let rec = Rec::Leaf(leaf.number);
     let start = leaf.start;
-    let value = table.load_fixed_from(seat, gate, rec, start, 1);
-    let length = table.load_fixed_from(seat, gate, rec, start, 2);
+    let value = table.load_fixed_at(seat, gate, rec, start, 1);
+    let length = table.load_fixed_at(seat, gate, rec, start, 2);
     if length == 8 {
-        let word = table.load_fixed_from(seat, gate, rec, start, 3);
+        let word = table.load_fixed_at(seat, gate, rec, start, 3);
         write_word(places, 0, word);
         return (length as usize, value);
     }
     let used = 2 + key_words(length);
     for index in 2..used {
-        let word = table.load_fixed_from(seat, gate, rec, start, index as u8 + 1);
+        let word = table.load_fixed_at(seat, gate, rec, start, index as u8 + 1);
         write_word(places, index - 2, word);
     }
     (length as usize, value)
@@ -266,15 +242,15 @@ fn compare_leaf<G: Gate>(
         Sure seat.new.known (λ s. IsCompared s m leaf.number key.now result) }
 {
     let rec = Rec::Leaf(leaf.number);
-    if table.load_fixed_from(seat, gate, rec, leaf.start, 2) != size {
+    if table.load_fixed_at(seat, gate, rec, leaf.start, 2) != size {
         return None;
     }
     let end = 2 + key_words(size);
     for index in 2..end {
-        let word = table.load_fixed_from(seat, gate, rec, leaf.start, index as u8 + 1);
+        let word = table.load_fixed_at(seat, gate, rec, leaf.start, index as u8 + 1);
         if word != key_word_at(key, index - 2) {
             return None;
         }
     }
-    Some(table.load_fixed_from(seat, gate, rec, leaf.start, 1))
+    Some(table.load_fixed_at(seat, gate, rec, leaf.start, 1))
 }

@@ -18,15 +18,8 @@ ghost use Rattle.rowex_records.specs.Records.{HaveBelow, IsFilled, IsFilledLeaf,
 use key_bits::Key;
 use record_words::{FIRST_ENTRY, FIRST_ROWS, HEAD_WORDS, NODE_FIELDS, key_word_at, key_words};
 use rowex_core::{Gate, Rec};
-use rowex_table::{HotTable, RecordAt, TableSeat};
+use rowex_table::{HotTable, NodeAt, RecordAt, TableSeat};
 use std::ops::Range;
-
-/// A node record: its number, and the word at which it begins.
-#[derive(Clone, Copy)]
-pub struct NodeAt {
-    pub number: u32,
-    pub start: usize,
-}
 
 /// Fills the claimed leaf record `number`, which has room for `key`, with `value` and with the words of `key` up to its end.
 ///
@@ -64,7 +57,7 @@ pub fn fill_leaf<G: Gate>(
 /// Fills the claimed node record `number` with `words`, those of a node but its state, in a step or two for each. A word in which the
 /// node has nothing is loaded, and stored only where another stands.
 #[tactic(auto, using(crate::proofs::Used::spelled_positions, crate::proofs::Used::spelled_rows, crate::proofs::Used::spelled_entries))]
-pub fn fill_words<G: Gate>(
+pub fn fill_node<G: Gate>(
     table: &HotTable,
     seat: &mut TableSeat,
     gate: &mut G,
@@ -196,9 +189,9 @@ fn load_word<G: Gate>(
     match at.rec {
         Rec::Node(number) if offset as usize >= FIRST_ENTRY => {
             let entry = offset - FIRST_ENTRY as u8;
-            table.load_slot_from(seat, gate, number, at.start, entry)
+            table.load_slot_at(seat, gate, number, at.start, entry)
         }
-        _ => table.load_fixed_from(seat, gate, at.rec, at.start, offset),
+        _ => table.load_fixed_at(seat, gate, at.rec, at.start, offset),
     }
 }
 

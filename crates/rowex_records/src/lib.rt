@@ -5,4 +5,4 @@ mod claiming;
 mod filling;
 
 pub use claiming::{RecordKind, claim_numbered, claim_record, claim_within, give_up, give_up_all};
-pub use filling::{NodeAt, fill_leaf, fill_words, make_ready};
+pub use filling::{fill_leaf, fill_node, make_ready};

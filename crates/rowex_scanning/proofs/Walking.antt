@@ -652,9 +652,6 @@ entered_first {d} e = subst (λ (z : PathNode). z.at ≡ first_gap d z.count) (s
 pub entered_number : {d : Direction} {k : Known} {m n h : ℕ} {top : PathNode} → IsEntered d k m n h top → top.number ≡ n
 entered_number e = ap (λ (z : PathNode). z.number) e.top_is
 
-pub popped_is : {frames : List PathNode} {popped : Option PathNode} {lower : PathNode} (rest : List PathNode) → frames ≡ rest ++ option_to_list popped → popped ≡ Some lower → frames ≡ rest ++ lower ∷ []
-popped_is rest e is = e ∙ ap (λ z. rest ++ option_to_list z) is
-
 pub none_popped : {frames : List PathNode} {popped : Option PathNode} → IsSome popped ↔ (0 < length frames) → popped ≡ None → frames ≡ []
 none_popped {frames} some is = empty_is frames (⊎_elim (λ lt. absurd (let z : IsSome {T = PathNode} None = subst IsSome is (some.1 lt) in cc)) (λ le. omega (arith, le)) (cases_lt 0 (length frames)))
 

@@ -15,8 +15,8 @@ use insert_cases::PathNode;
 use packed_pairs::Pairs;
 use record_words::Origins;
 use rowex_core::{Gate, Rec};
-use rowex_reading::{NodeAt, load_entry};
-use rowex_table::{HotTable, TableSeat};
+use rowex_reading::load_entry;
+use rowex_table::{HotTable, NodeAt, TableSeat};
 
 /// How many places of a node a walk looks at together, at most.
 pub(crate) const MOST_AHEAD: u8 = 16;
@@ -132,5 +132,5 @@ fn touch_leaf<G: Gate>(
     requires led { (m : ℕ) × IsLedTo seat.old.known m (LeafEntry number) }
     ensures reads { Reads table.now G.becomes 0 1 (seat.old, gate.old) (seat.new, gate.new) }
 {
-    table.load_fixed_from(seat, gate, Rec::Leaf(number), origins.leaf(number), 2);
+    table.load_fixed_at(seat, gate, Rec::Leaf(number), origins.leaf(number), 2);
 }

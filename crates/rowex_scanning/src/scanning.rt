@@ -28,8 +28,8 @@ use key_bits::{Key, MAX_BYTES};
 use packed_pairs::Pairs;
 use record_words::{Origins, key_word_at};
 use rowex_core::{Gate, Rec};
-use rowex_reading::{Found, LeafAt, MOST_NODES, enter_node, load_leaf, load_root, search_way};
-use rowex_table::{HotTable, TableSeat};
+use rowex_reading::{Found, MOST_NODES, enter_node, load_leaf, load_root, search_way};
+use rowex_table::{HotTable, LeafAt, TableSeat};
 use std::alloc::AllocError;
 use version_laws::Direction;
 

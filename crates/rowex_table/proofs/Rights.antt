@@ -25,19 +25,6 @@ use Rattle.rowex_core.specs.Knowing.{Knows}
 use Rattle.rowex_table.specs.Rule.{MayStep}
 use Rattle.rowex_table.specs.Rights.{OwnsAs}
 
--- A record whose state word is 0 is free
-
-pub free_tag : (lock : Option ℕ) (f : Fate) → state_word (tag_of lock f) ≡ 0 → f ≡ Free
-free_tag lock Free e = refl
-free_tag lock (HeldBy q) e = absurd (omega arith)
-free_tag None (ReadyBy q) e = absurd (omega arith)
-free_tag (Some p) (ReadyBy q) e = absurd (omega arith)
-free_tag None (InTree s) e = absurd (omega arith)
-free_tag (Some p) (InTree s) e = absurd (omega arith)
-free_tag None (UnlinkedBy s l q) e = absurd (omega arith)
-free_tag (Some p) (UnlinkedBy s l q) e = absurd (omega arith)
-free_tag lock (Marked s l epoch) e = absurd (omega arith)
-
 pub mapped : (f : Owned → Owned) (own : List Owned) (o : Owned) → Contains own o → Contains (map f own) (f o)
 mapped f own o h = (h.0, subst (λ n. h.0 < n) (sym (length-map own f)) h.1, get_or-map f own h.0 o (f o) h.1 ∙ ap f h.2)
 

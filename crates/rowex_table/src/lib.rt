@@ -13,7 +13,7 @@ mod steps;
 mod table;
 mod traces;
 
-pub use record_steps::RecordAt;
+pub use record_steps::{LeafAt, NodeAt, RecordAt};
 pub use stamping::TableStamp;
 pub use table::{HotTable, TableSeat};
 pub use traces::{Trace, TracedView};

@@ -1,12 +1,10 @@
-//! Where the words of entries and of locks stand, and the state word of an obsolete record.
+//! Where the words of entries and of locks stand.
 
-ghost use Rattle.std.specs.Prelude.{◌≡◌, ◌^◌, ◌<◌};
-ghost use Rattle.record_words.specs.declared.state.Tag.TheVariants.{Obsolete};
-ghost use Rattle.record_words.specs.State.{state_word};
+ghost use Rattle.std.specs.Prelude.{◌≡◌};
 ghost use Rattle.rowex_core.specs.Events.{spot_word, target_word};
 ghost use Rattle.rowex_table.specs.Rule.{HasEntrySlot};
 
-use record_words::{EPOCHS, FIRST_ENTRY, Location};
+use record_words::{FIRST_ENTRY, Location};
 use rowex_core::{Spot, Target};
 
 /// The location of the entry at `spot`: the root, or a word of a node record.
@@ -31,12 +29,4 @@ pub(crate) fn target_location(target: Target) -> Location
         Target::Anchor => Location::Anchor,
         Target::Node(node) => Location::NodeWord { node, offset: 0 },
     }
-}
-
-/// The state word of a record that was retired in `epoch`.
-pub(crate) fn obsolete_word(epoch: u64) -> u64
-    requires { epoch < EPOCHS }
-    ensures { result ≡ state_word (Obsolete epoch) }
-{
-    8 * epoch + 4
 }

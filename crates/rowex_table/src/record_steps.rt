@@ -8,10 +8,9 @@ ghost use Rattle.rowex_table.specs.Rule.{IsStartOf, MayStep};
 ghost use Rattle.rowex_table.specs.Runs.{Steps};
 ghost use Rattle.rowex_table.specs.Seats.{IsSeatOf};
 
-use crate::locations::obsolete_word;
 use crate::steps::Exchange;
 use crate::table::{HotTable, TableSeat};
-use record_words::{EPOCHS, Tag, pack_state};
+use record_words::{EPOCHS, Tag, obsolete_word, pack_state};
 use rowex_core::{Act, Gate, Rec};
 use std::marker::Brand;
 
@@ -19,6 +18,24 @@ use std::marker::Brand;
 #[derive(Clone, Copy)]
 pub struct RecordAt {
     pub rec: Rec,
+    pub start: usize,
+}
+
+/// A node's record.
+#[derive(Clone, Copy)]
+pub struct NodeAt {
+    /// The record's number.
+    pub number: u32,
+    /// The word of the table at which the record begins. Several loads find it once.
+    pub start: usize,
+}
+
+/// A leaf's record.
+#[derive(Clone, Copy)]
+pub struct LeafAt {
+    /// The record's number.
+    pub number: u32,
+    /// The word of the table at which the record begins.
     pub start: usize,
 }
 
@@ -132,13 +149,13 @@ impl HotTable {
         requires range { HasRecord self.now.layout rec × IsFixedOffset rec offset × HasWord self.now.layout rec offset }
         ensures { Steps self.now G.becomes (LoadFixed rec offset result) (seat.old, gate.old) (seat.new, gate.new) }
     {
-        self.load_fixed_from(seat, gate, rec, self.start_of(rec), offset)
+        self.load_fixed_at(seat, gate, rec, self.start_of(rec), offset)
     }
 
     /// Loads the word at `offset` of `rec`, which is neither its state nor an entry, and returns it. `rec` begins at word `start`, which
     /// several loads find once by `start_of`.
     #[inline(always)]
-    pub fn load_fixed_from<G: Gate>(
+    pub fn load_fixed_at<G: Gate>(
         &self,
         seat: &mut TableSeat,
         gate: &mut G,

@@ -31,7 +31,7 @@ impl HotTable {
 
     /// Loads the word of entry `entry` of node `node`, whose record begins at word `start`, and returns it.
     #[inline(always)]
-    pub fn load_slot_from<G: Gate>(
+    pub fn load_slot_at<G: Gate>(
         &self,
         seat: &mut TableSeat,
         gate: &mut G,

@@ -157,8 +157,8 @@ FitsAbove words e =
     (height_of e ≤ (node_words_of words).fixed.height + 1) × (size (node_words_of words).subtrie < 32 → height_of e ≤ (node_words_of words).fixed.height)
 
 -- where the locked node at this place of the way has these words, the entry may take its place
-abbrev pub FitsAt : Known → List PathNode → ℕ → Option Entry → Type 0
-FitsAt k way end answer = (s : PathNode) (words : List ℕ) → slice_get way end ≡ Some s → HasLocked k s.number words → IfSome answer (FitsAbove words)
+abbrev pub FitsOnWay : Known → List PathNode → ℕ → Option Entry → Type 0
+FitsOnWay k way end answer = (s : PathNode) (words : List ℕ) → slice_get way end ≡ Some s → HasLocked k s.number words → IfSome answer (FitsAbove words)
 
 -- ---- at the lower end
 -- The new leaf is made and nothing else, and the locked node is where it goes: there its search took the entry at the leaf's place.

@@ -1,24 +1,12 @@
 //! What a call asks for, by the value that its key was found to have.
 
 ghost use Rattle.std.specs.Prelude.{◌≡◌};
-ghost use Rattle.finite_map.specs.Maps.{key_of as the_key};
 ghost use Rattle.rowex_reading.specs.Ways.{value_of as the_value};
-ghost use Rattle.rowex_writing.specs.Asking.{aim_of as the_aim, aim_where as the_aim_where, reply_to as the_reply, value_in as the_value_in};
+ghost use Rattle.rowex_writing.specs.Asking.{aim_of as the_aim, aim_where as the_aim_where, value_in as the_value_in};
 
 use crate::plan::Aim;
-use finite_map::{Call, Reply};
-use key_bits::Key;
+use finite_map::Call;
 use rowex_reading::Found;
-
-/// The key of `call`.
-pub(crate) fn key_of(call: &Call) -> &Key
-    ensures { result.now ≡ the_key call.now }
-{
-    match call {
-        Call::Insert(key, _) | Call::Upsert(key, _) | Call::Exchange(key, _, _) => key,
-        Call::Add(key, _) | Call::Get(key) | Call::Remove(key) | Call::RemoveIf(key, _) => key,
-    }
-}
 
 /// The value that `call` gives its key, if it changes the map. `held` is the key's value before; `None` if it is absent. The result is 0
 /// for a get, a removal, and an addition to an absent key, which give none.
@@ -70,29 +58,5 @@ fn aim_where(expected: u64, held: Option<u64>, aim: Aim) -> Option<Aim>
     match held {
         Some(held) if held == expected => Some(aim),
         _ => None,
-    }
-}
-
-/// The reply to `call` if its key has the value `held` when the call is made; `None` stands for an absent key.
-pub(crate) fn reply_to(call: &Call, held: Option<u64>) -> Reply
-    ensures { result ≡ the_reply call.now held }
-{
-    match (call, held) {
-        (Call::Insert(..), None) => Reply::Inserted,
-        (Call::Insert(..), Some(held)) => Reply::Exists(held),
-        (Call::Upsert(..), None) => Reply::New,
-        (Call::Upsert(..), Some(held)) => Reply::Was(held),
-        (Call::Exchange(..), None) => Reply::Absent,
-        (Call::Exchange(_, expected, _), Some(held)) if held == *expected => Reply::Exchanged,
-        (Call::Exchange(..), Some(held)) => Reply::Differs(held),
-        (Call::Add(..), None) => Reply::Absent,
-        (Call::Add(..), Some(held)) => Reply::Was(held),
-        (Call::Get(_), None) => Reply::Absent,
-        (Call::Get(_), Some(held)) => Reply::Value(held),
-        (Call::Remove(_), None) => Reply::Absent,
-        (Call::Remove(_), Some(held)) => Reply::Removed(held),
-        (Call::RemoveIf(..), None) => Reply::Absent,
-        (Call::RemoveIf(_, expected), Some(held)) if held == *expected => Reply::Removed(held),
-        (Call::RemoveIf(..), Some(held)) => Reply::Differs(held),
     }
 }

@@ -18,7 +18,7 @@ ghost use Rattle.rowex_writing.specs.Locks.{HasMadeNoChange, HasMetLock, TriesNo
 ghost use Rattle.rowex_writing.specs.Counts.{change_steps, most_locks, most_steps, span_steps};
 ghost use Rattle.record_words.specs.declared.TheConstants.{HEAD_WORDS};
 
-use crate::asking::{aim_of, key_of, reply_to, value_in, value_of};
+use crate::asking::{aim_of, value_in, value_of};
 use crate::building::Build;
 use crate::checking::check_span;
 use crate::deeds::{Job, carry_out};
@@ -78,11 +78,11 @@ pub fn attempt<G: Gate>(
     ensures leafless { IsLeafless TryFault.FullLeaves call.now result }
     ensures few { seat.new.known.steps ≤ seat.old.known.steps + most_steps table.now.layout }
 {
-    let key = key_of(call);
+    let key = call.key();
     let found = search_way(table, seat, gate, key, way);
     let held = value_of(found);
     let Some(aim) = aim_of(call, held) else {
-        return Ok(reply_to(call, held));
+        return Ok(call.reply(held));
     };
     let way = way.as_slice();
     match find_plan(table, seat, gate, way, aim, found) {
@@ -96,7 +96,7 @@ pub fn attempt<G: Gate>(
                 span,
             };
             match try_plan(table, seat, gate, build, &job, deed) {
-                Ok(()) => Ok(reply_to(call, held)),
+                Ok(()) => Ok(call.reply(held)),
                 Err(fault) => Err(fault),
             }
         }

@@ -19,7 +19,7 @@ use compound_node::{Entry, Half, Node};
 use insert_cases::{Grown, Risen};
 use record_words::{HEAD_WORDS, LEAF_CLASSES, NODE_FIELDS, affected_in, pack_node};
 use rowex_core::{Gate, Rec};
-use rowex_records::fill_words;
+use rowex_records::fill_node;
 use rowex_table::{HotTable, TableSeat};
 
 /// The most records that one change makes: a leaf, two nodes for each node of the longest way, and one above them.
@@ -87,7 +87,7 @@ pub(crate) fn make_from_words<G: Gate>(
     ensures same { result ≡ None → (seat.new.known.own ≡ seat.old.known.own) × (build.new.made.items ≡ build.old.made.items) }
 {
     let number = claim_node(table, seat, gate, build)?;
-    fill_words(table, seat, gate, number, words);
+    fill_node(table, seat, gate, number, words);
     build.made.push(Rec::Node(number));
     Some(Entry::Node {
         number,

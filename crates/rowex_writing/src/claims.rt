@@ -143,7 +143,7 @@ pub(crate) fn claim_leaf<G: Gate>(
     ensures few { seat.new.known.steps ≤ seat.old.known.steps + 4 * table.now.layout.leaves }
 {
     let layout = table.layout();
-    let first = layout.first_with(words);
+    let first = layout.first_leaf_with(words);
     let from = skip_classes(layout, classes, first);
     if let Some(number) = claim_between(table, seat, gate, from, layout.leaves, classes) {
         return Some(number);
@@ -160,7 +160,7 @@ fn skip_classes(layout: Layout, classes: &mut [Hint; LEAF_CLASSES], first: u32) 
 {
     let mut from = first;
     while from < layout.leaves {
-        let hint = &mut classes[layout.class_of(from).place()];
+        let hint = &mut classes[layout.class_of(from).index()];
         if hint.skips == 0 {
             return from;
         }
@@ -194,7 +194,7 @@ fn claim_between<G: Gate>(
     let mut first = from;
     while first < upto {
         let end = layout.class_end(first).min(upto);
-        let hint = &mut classes[layout.class_of(first).place()];
+        let hint = &mut classes[layout.class_of(first).index()];
         let kind = RecordKind::Leaf { first, end };
         if let Some(number) = claim_by_hint(table, seat, gate, kind, hint) {
             return Some(first + number);

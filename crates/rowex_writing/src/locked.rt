@@ -14,13 +14,13 @@ ghost use Rattle.rowex_table.specs.Seats.{IsSeatOf};
 ghost use Rattle.rowex_writing.specs.Going.{ReadsOn, HasLocked, IsLockedBy, HasLockedNode, IsNodeOf};
 ghost use Rattle.rowex_writing.specs.Loads.{ReadsEight};
 
-use compound_node::{Entry, Node, place_beside};
+use compound_node::{Entry, Node, find_sibling};
 use record_words::{
-    FIRST_ROWS, HEAD_WORDS, MAX_ENTRIES, NODE_FIELDS, position_of, read_node, read_some, row_of,
+    FIRST_ROWS, HEAD_WORDS, MAX_ENTRIES, NODE_FIELDS, position_of, read_node, read_some_entry,
+    row_of,
 };
 use rowex_core::{Gate, Rec, Spot};
-use rowex_records::NodeAt;
-use rowex_table::{HotTable, TableSeat};
+use rowex_table::{HotTable, NodeAt, TableSeat};
 
 /// A locked node whose words are loaded, all those before index `end`: there the words of its entries end.
 #[derive(Clone, Copy)]
@@ -85,7 +85,7 @@ fn load_row<G: Gate>(
 
 /// Returns the place beside place `at` of the locked node `number`, and the column of the fork between the two. `None` if the other side
 /// of the last fork on the path to `at` has several places. At most four rows are loaded.
-pub(crate) fn load_place_beside<G: Gate>(
+pub(crate) fn load_sibling<G: Gate>(
     table: &HotTable,
     seat: &mut TableSeat,
     gate: &mut G,
@@ -105,7 +105,7 @@ pub(crate) fn load_place_beside<G: Gate>(
     let own = load_row(table, seat, gate, node, at);
     let after = load_row(table, seat, gate, node, at + 1);
     let second = load_row(table, seat, gate, node, at + 2);
-    place_beside(at, before, own, after, second)
+    find_sibling(at, before, own, after, second)
 }
 
 /// Loads the position of column `column` of the locked node `number`.
@@ -149,7 +149,7 @@ pub(crate) fn load_locked_entry<G: Gate>(
         node: number,
         entry: place,
     };
-    read_some(table.load_ref(seat, gate, spot))
+    read_some_entry(table.load_ref(seat, gate, spot))
 }
 
 /// Loads eight words of the locked node of `loads` into `words`, from index `first` on. If `first` isn't before `loads.end`, none is
@@ -216,9 +216,9 @@ fn load_word<G: Gate>(
 {
     if index < HEAD_WORDS {
         let offset = index as u8 + 1;
-        table.load_fixed_from(seat, gate, Rec::Node(node.number), node.start, offset)
+        table.load_fixed_at(seat, gate, Rec::Node(node.number), node.start, offset)
     } else {
         let entry = (index - HEAD_WORDS) as u8;
-        table.load_slot_from(seat, gate, node.number, node.start, entry)
+        table.load_slot_at(seat, gate, node.number, node.start, entry)
     }
 }

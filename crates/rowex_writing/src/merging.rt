@@ -25,7 +25,7 @@ ghost use Rattle.rowex_writing.specs.declared.plan.Deed.TheVariants.{Take};
 use crate::building::{Build, make_from_words};
 use crate::deeds::Job;
 use crate::growing::has_number;
-use crate::locked::{load_locked_entry, load_place_beside, load_position, load_words, read_locked};
+use crate::locked::{load_locked_entry, load_position, load_sibling, load_words, read_locked};
 use crate::publishing::{Store, publish_entry, spot_above};
 use crate::widening::{narrow_locks, widen_locks};
 use compound_node::{Entry, Half, Node};
@@ -33,7 +33,7 @@ use insert_cases::PathNode;
 use record_words::{NODE_FIELDS, close_fork, pack_node};
 use rowex_core::{Gate, Rec};
 use rowex_reading::Found;
-use rowex_records::fill_words;
+use rowex_records::fill_node;
 use rowex_table::{HotTable, TableSeat};
 
 /// A merge of a node that loses a leaf, the lower one, with its sibling. Both stand in the upper node.
@@ -124,7 +124,7 @@ fn find_merge<G: Gate>(
     if low.count > 31 {
         return None;
     }
-    let Some((place, column)) = load_place_beside(table, seat, gate, above.number, above.at) else {
+    let Some((place, column)) = load_sibling(table, seat, gate, above.number, above.at) else {
         return None;
     };
     let Entry::Node { number, .. } = load_locked_entry(table, seat, gate, above.number, place)
@@ -205,7 +205,7 @@ fn make_merged<G: Gate>(
     };
     let entry = raise_closed(table, seat, gate, build, fork)?;
     has_number(entry);
-    fill_words(table, seat, gate, merge.made, &pack_node(&joined));
+    fill_node(table, seat, gate, merge.made, &pack_node(&joined));
     Some(entry)
 }
 
@@ -246,9 +246,9 @@ fn join_sides(bit: bool, position: u16, own: &Node, other: &Node) -> Node
     ensures { IsBuiltFrom result (fork_of bit position (piece own.now) (piece other.now)) }
 {
     if bit {
-        Node::join(position, other, own)
+        Node::merge(position, other, own)
     } else {
-        Node::join(position, own, other)
+        Node::merge(position, own, other)
     }
 }
 

@@ -4,7 +4,7 @@ ghost use Rattle.std.specs.Prelude.{◌≡◌, ◌≢◌, ◌<◌, ◌≤◌, �
 ghost use Rattle.insert_cases.specs.declared.choice.PathNode.{PathNode as PathNodeView};
 ghost use Rattle.rowex_table.specs.Made.{Made};
 ghost use Rattle.publish_laws.specs.Rises.{IsSide};
-ghost use Rattle.rowex_writing.specs.Building.{IsBuilding, IsGrowing, IsLevelRisen, IsLowRisen, IsNextTo, IsRaising, IsRisenAt, MakesGrown, newcomer_of, Rises, GetsFork, GetsLeaf, FitsAbove, FitsAt, HasNotMade, HasRisenTo, gone_unless_whole, gone_with_way, levels_above};
+ghost use Rattle.rowex_writing.specs.Building.{IsBuilding, IsGrowing, IsLevelRisen, IsLowRisen, IsNextTo, IsRaising, IsRisenAt, MakesGrown, newcomer_of, Rises, GetsFork, GetsLeaf, FitsAbove, FitsOnWay, HasNotMade, HasRisenTo, gone_unless_whole, gone_with_way, levels_above};
 ghost use Rattle.rowex_writing.specs.Going.{HasLocked, IsLockedBy, LeadsLocked};
 ghost use Rattle.rowex_writing.specs.Locks.{locks_of};
 ghost use Rattle.rowex_writing.specs.Remaking.{AwaitsLeaf};
@@ -233,7 +233,7 @@ fn raise_on<G: Gate>(
         (HasNotMade table.now seat.new build.new.made.items)
         (HasRisenTo table.now seat.new build.new.made.items way.now b.here.newcomer rise.entry.end
         (gone_with_way way.now rise.entry.end rise.entry.level b.here.gone)) }
-    ensures low { FitsAt seat.old.known way.now rise.entry.end result }
+    ensures low { FitsOnWay seat.old.known way.now rise.entry.end result }
 {
     let level = rise.level;
     if level == rise.end {
@@ -261,7 +261,7 @@ fn raise_above<G: Gate>(
         (HasNotMade table.now seat.new build.new.made.items)
         (HasRisenTo table.now seat.new build.new.made.items way.now b.here.newcomer rise.entry.end
         (gone_with_way way.now rise.entry.end rise.entry.level b.here.gone)) }
-    ensures low { FitsAt seat.old.known way.now rise.entry.end result }
+    ensures low { FitsOnWay seat.old.known way.now rise.entry.end result }
 {
     match rise.risen {
         Risen::Whole(_) => unreachable!(),

@@ -90,7 +90,7 @@ pub fn scan_from_highest<G: Gate>(
 
 /// The key of no bytes, below which there is none.
 pub fn lowest() -> Key {
-    Key::of_places([0; 240], 0)
+    Key::from_padded([0; 240], 0)
 }
 
 /// The key of 240 bytes 255, above which there is none.

@@ -11,6 +11,7 @@ use Rattle.record_words.specs.State.{HasStateWord, state_word}
 use Rattle.versions.specs.declared.Rec.{Rec}
 use Rattle.versions.specs.declared.Rec.TheVariants.{Node as a_node, Leaf as a_leaf}
 use Rattle.versions.specs.Core.{Fate, Free as FreeFate, Held as HeldFate, Ready, InTree, Unlinked, Marked}
+use Rattle.rowex_core.proofs.States.{has_state_word}
 use Rattle.rowex_core.specs.declared.event.Act.{Act}
 use Rattle.rowex_core.specs.declared.event.Act.TheVariants.{LoadState}
 use Rattle.rowex_core.specs.declared.event.Event.{Event}
@@ -82,22 +83,11 @@ loads_many : (kind : ℕ → Rec) (n : ℕ) (tags : List Tag) → length (loads_
 loads_many kind n [] = refl
 loads_many kind n (tag ∷ tags) = ap suc (loads_many kind (suc n) tags)
 
-has_word : (o : Option ℕ) (f : Fate) → ((since last epoch : ℕ) → f ≡ Marked since last epoch → (1 ≤ epoch) × (epoch < EPOCHS)) → HasStateWord (tag_of o f)
-has_word o FreeFate marked = tt
-has_word o (HeldFate q) marked = tt
-has_word None (Ready q) marked = tt
-has_word (Some p) (Ready q) marked = tt
-has_word None (InTree since) marked = tt
-has_word (Some p) (InTree since) marked = tt
-has_word None (Unlinked since last q) marked = tt
-has_word (Some p) (Unlinked since last q) marked = tt
-has_word o (Marked since last epoch) marked = marked since last epoch refl
-
 module _ {G : Type 0} {table : TableView} {becomes : G → Event → G → Type 0} where
   -- the tag that a load of a state found
   pub found_tag : {r : Rec} {word : ℕ} {a b : SeatView × G} → Steps table becomes (LoadState r word) a b → IsSpelling HasStateWord state_word word
   found_tag {r = r} step = let e = step.event in
-      (tag_of (lock_of e.core r) (e.core.fate r), has_word (lock_of e.core r) (e.core.fate r) (λ since last epoch is. e.lawful.epochs.marked r since last epoch is), sym e.legal.1.1)
+      (tag_of (lock_of e.core r) (e.core.fate r), has_state_word (lock_of e.core r) (e.core.fate r) (λ since last epoch is. e.lawful.epochs.marked r since last epoch is), sym e.legal.1.1)
 
   pub counts_none : {kind : ℕ → Rec} {first : ℕ} {counts : StateCounts} {a : SeatView × G} → counts ≡ counts_of [] → CountsFrom table becomes kind first first counts a a
   counts_none {first = first} {a = a} none = ([], omega arith, none, does_none table becomes collecting a (λ k. refl))

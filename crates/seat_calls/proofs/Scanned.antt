@@ -19,7 +19,8 @@ use Rattle.rowex_table.specs.Seats.{SeatView, TableView}
 use Rattle.version_laws.specs.Scan.{Range}
 use Rattle.tries.specs.Keys.{Key}
 use Rattle.seat_calls.specs.Passes.{PassView, IsSettled, pass_of}
-use Rattle.seat_calls.specs.Answers.{IsListedBy, IsScannedBy, IsUnnoted, ScanLaw}
+use Rattle.version_laws.specs.Directions.{ScanLaw}
+use Rattle.seat_calls.specs.Answers.{IsListedBy, IsScannedBy, IsUnnoted}
 use Rattle.version_laws.specs.Directions.{IsLawfulBy}
 use Rattle.rowex_scanning.specs.Scanning.{HasScanned}
 use Rattle.version_laws.specs.declared.direction.Direction.{Direction}

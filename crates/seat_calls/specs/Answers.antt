@@ -15,6 +15,7 @@ use Rattle.finite_map.specs.Weaves.{LegalHistory, weave}
 use Rattle.tries.specs.Keys.{Key}
 use Rattle.record_words.specs.declared.layout.Layout.{Layout}
 use Rattle.rowex_scanning.specs.Scanning.{limited}
+use Rattle.version_laws.specs.Directions.{ScanLaw}
 use Rattle.version_laws.specs.Scan.{Range}
 use Rattle.rowex_writing.specs.Changes.{LacksLeaves, LacksNodes}
 use Rattle.rowex_writing.specs.Locks.{HasMetTaken}
@@ -51,10 +52,6 @@ pub record IsNoted (layout : Layout) (k j : PassView) (call : Call) (reply : Rep
 -- the range from one key to another, of which a scan lists so many pairs at most
 abbrev pub range_from : Key → Key → ℕ → Range
 range_from from upto limit = record { from = from; upto = upto; limit = limit }
-
--- when a scan of a range, with this limit, is lawful while one front grew to another: upwards or downwards
-abbrev pub ScanLaw : Type 1
-ScanLaw = List Change → List Change → Key → Key → ℕ → Scan → Type 0
 
 -- A scan was answered: it is lawful from the last load of the root to what the pass has seen now, and adds no note.
 pub record IsScannedBy (IsLawful : ScanLaw) (layout : Layout) (k j : PassView) (range : Range) (scan : Scan) : Type 0 where

@@ -15,7 +15,8 @@ use Rattle.rowex_writing.specs.declared.plan.Full.{Full}
 use Rattle.rowex_writing.specs.declared.plan.Full.TheVariants.{Leaves}
 use Rattle.version_laws.specs.Scan.{Range}
 use Rattle.tries.specs.Keys.{Key}
-use Rattle.seat_calls.specs.Answers.{HasFoundPair, IsListedBy, IsListedInPartBy, IsNoted, IsRefused, IsScannedBy, IsUnnoted, MayRefuse, ScanLaw, fault_of}
+use Rattle.version_laws.specs.Directions.{ScanLaw}
+use Rattle.seat_calls.specs.Answers.{HasFoundPair, IsListedBy, IsListedInPartBy, IsNoted, IsRefused, IsScannedBy, IsUnnoted, MayRefuse, fault_of}
 use Rattle.seat_calls.specs.Asked.{last_try}
 use Rattle.seat_calls.specs.Counts.{scan_steps}
 use Rattle.seat_calls.specs.Passes.{Owns, PassView}

@@ -57,7 +57,7 @@ fn keep_spare(build: &mut Build, layout: Layout, rec: Rec) {
     match rec {
         Rec::Node(number) => build.nodes.give_back(number),
         Rec::Leaf(number) => {
-            let place = layout.class_of(number).place();
+            let place = layout.class_of(number).index();
             let first = first_of_class(layout, number);
             build.leaves[place].give_back(number.saturating_sub(first));
         }

@@ -10,8 +10,8 @@ use plain_trie::{Place, PlainTrie, place};
 use std::alloc::{AllocError, Global};
 use std::process::Abort;
 
-/// The call that `letter` names, of the key of one byte. An exchange expects `value` and gives the next one.
-fn call(rt: &impl Abort, letter: u8, byte: u8, value: u64) -> Call {
+/// The call that `letter` names, about the key of the one byte `byte`. An exchange expects `value` and gives the next one.
+fn call_of(rt: &impl Abort, letter: u8, byte: u8, value: u64) -> Call {
     let key = key(rt, &[byte]);
     match letter {
         b'i' => Call::Insert(key, value),
@@ -26,7 +26,7 @@ fn call(rt: &impl Abort, letter: u8, byte: u8, value: u64) -> Call {
 
 /// A plain index gives the replies worked out by hand to a run of all kinds of calls.
 #[test]
-fn calls_answer_as_a_map(rt: HostRuntime) {
+fn calls_reply_as_a_map(rt: HostRuntime) {
     let cases = [
         (b'i', b'a', 5, Reply::Inserted),
         (b'i', b'a', 6, Reply::Exists(5)),
@@ -53,7 +53,7 @@ fn calls_answer_as_a_map(rt: HostRuntime) {
     let mut calls = Vec::new(rt.alloc());
     let mut want = Vec::new(rt.alloc());
     for (letter, byte, value, reply) in cases {
-        assert!(rt; calls.push(call(&rt, letter, byte, value)).is_ok());
+        assert!(rt; calls.push(call_of(&rt, letter, byte, value)).is_ok());
         assert!(rt; want.push(reply).is_ok());
     }
     let mut index = PlainIndex::new(rt.alloc());
@@ -63,7 +63,7 @@ fn calls_answer_as_a_map(rt: HostRuntime) {
     }
 }
 
-/// Changes of the key a, each by its pass, its value and its kind.
+/// Changes of the key `a`: each row is a pass, a value and a kind.
 fn front_of(rt: &impl Abort, alloc: Global, rows: &[(u16, u64, Kind)]) -> Vec<Change> {
     let mut changes = Vec::new(alloc);
     for (pass, value, kind) in rows {
@@ -81,13 +81,13 @@ fn front_of(rt: &impl Abort, alloc: Global, rows: &[(u16, u64, Kind)]) -> Vec<Ch
 /// A note by its place, its call's letter, the byte of its key and its value, and the reply.
 type Row = (u64, u8, u8, u64, Reply);
 
-/// The notes of these rows.
+/// The notes of `rows`.
 fn notes_of(rt: &impl Abort, alloc: Global, rows: &[Row]) -> Vec<Note> {
     let mut notes = Vec::new(alloc);
     for (place, letter, byte, value, reply) in rows {
         let note = Note {
             place: *place,
-            call: call(rt, *letter, *byte, *value),
+            call: call_of(rt, *letter, *byte, *value),
             reply: *reply,
         };
         assert!(rt; notes.push(note).is_ok());
@@ -96,6 +96,12 @@ fn notes_of(rt: &impl Abort, alloc: Global, rows: &[Row]) -> Vec<Note> {
 }
 
 const FIRST: Row = (0, b'i', b'a', 5, Reply::Inserted);
+
+const HELD: Row = (1, b'g', b'a', 0, Reply::Value(5));
+
+const LATER: Row = (2, b'g', b'a', 0, Reply::Value(6));
+
+const NONE: Row = (2, b'g', b'b', 0, Reply::Absent);
 
 const LAST: Row = (2, b'r', b'a', 0, Reply::Removed(6));
 
@@ -106,46 +112,44 @@ const FRONT: [(u16, u64, Kind); 3] = [
     (1, 6, Kind::Removed),
 ];
 
-// The first four are legal. What is wrong with the others: a reply of another map, a place that falls, one past the front, a change
-// without its note, a note without its change, a change noted twice, one of another pass, an addition of another number, and a removal
-// of an absent key.
+/// From which change on the front is taken, a pass, its notes, and whether they are legal. What is wrong with those that are not: a reply
+/// of another map, a place that falls, one past the front, a change without its note, a note without its change, a change noted twice,
+/// one of another pass, an addition of another number, and a removal of an absent key.
+const HISTORIES: [(usize, u16, &[Row], bool); 13] = [
+    (
+        0,
+        1,
+        &[
+            (0, b'g', b'a', 0, Reply::Absent),
+            FIRST,
+            HELD,
+            LAST,
+            (3, b'g', b'a', 0, Reply::Absent),
+        ],
+        true,
+    ),
+    (0, 2, &[(1, b'u', b'a', 6, Reply::Was(5)), NONE], true),
+    (0, 3, &[HELD, LATER], true),
+    (0, 2, &[(1, b'p', b'a', 1, Reply::Was(5)), NONE], true),
+    (
+        0,
+        1,
+        &[FIRST, (1, b'g', b'a', 0, Reply::Value(6)), LAST],
+        false,
+    ),
+    (0, 3, &[LATER, HELD], false),
+    (0, 3, &[(4, b'g', b'a', 0, Reply::Absent)], false),
+    (0, 1, &[FIRST], false),
+    (0, 3, &[(3, b'i', b'b', 7, Reply::Inserted)], false),
+    (0, 1, &[FIRST, FIRST, LAST], false),
+    (0, 3, &[FIRST, LAST], false),
+    (0, 2, &[(1, b'p', b'a', 2, Reply::Was(5)), NONE], false),
+    (2, 3, &[], false),
+];
+
 #[test]
-fn histories_are_told_legal_or_not(rt: HostRuntime) {
-    let (before, held) = (
-        (0, b'g', b'a', 0, Reply::Absent),
-        (1, b'g', b'a', 0, Reply::Value(5)),
-    );
-    let (after, own) = (
-        (3, b'g', b'a', 0, Reply::Absent),
-        (1, b'u', b'a', 6, Reply::Was(5)),
-    );
-    let (later, none) = (
-        (2, b'g', b'a', 0, Reply::Value(6)),
-        (2, b'g', b'b', 0, Reply::Absent),
-    );
-    let other = (1, b'g', b'a', 0, Reply::Value(6));
-    let past = (4, b'g', b'a', 0, Reply::Absent);
-    let without = (3, b'i', b'b', 7, Reply::Inserted);
-    let (more, much) = (
-        (1, b'p', b'a', 1, Reply::Was(5)),
-        (1, b'p', b'a', 2, Reply::Was(5)),
-    );
-    let cases: [(usize, u16, &[Row], bool); 13] = [
-        (0, 1, &[before, FIRST, held, LAST, after], true),
-        (0, 2, &[own, none], true),
-        (0, 3, &[held, later], true),
-        (0, 2, &[more, none], true),
-        (0, 1, &[FIRST, other, LAST], false),
-        (0, 3, &[later, held], false),
-        (0, 3, &[past], false),
-        (0, 1, &[FIRST], false),
-        (0, 3, &[without], false),
-        (0, 1, &[FIRST, FIRST, LAST], false),
-        (0, 3, &[FIRST, LAST], false),
-        (0, 2, &[much, none], false),
-        (2, 3, &[], false),
-    ];
-    for (i, (from, pass, rows, legal)) in cases.iter().enumerate() {
+fn histories_are_legal_or_not(rt: HostRuntime) {
+    for (i, (from, pass, rows, legal)) in HISTORIES.iter().enumerate() {
         assert!(rt; *from < 3);
         let changes = front_of(&rt, rt.alloc(), &FRONT[*from..]);
         let notes = notes_of(&rt, rt.alloc(), rows);
@@ -156,7 +160,7 @@ fn histories_are_told_legal_or_not(rt: HostRuntime) {
     }
 }
 
-/// Asserts that `scan` has the pairs `want` and the flag `more`.
+/// `scan` gave the pairs of `want`, and `more` says whether there are further ones.
 fn expect_scan(rt: &impl Abort, scan: Result<Scan, AllocError>, want: &[(&[u8], u64)], more: bool) {
     match scan {
         Ok(scan) => {
@@ -203,7 +207,7 @@ fn scans_give_the_first_pairs(rt: HostRuntime) {
     }
 }
 
-/// A trie of the numbers below `count` in rising order, as keys of two bytes if `wide`, else of one, and of `further`, unless empty.
+/// A trie of the first `count` keys of one byte, or of two if `wide`, in rising order. The key `further` is added if it is not empty.
 fn trie_of(rt: &impl Abort, alloc: Global, wide: bool, count: u16, further: &[u8]) -> PlainTrie {
     let mut trie = PlainTrie::new(alloc);
     for number in 0..count {
@@ -221,7 +225,7 @@ fn trie_of(rt: &impl Abort, alloc: Global, wide: bool, count: u16, further: &[u8
     trie
 }
 
-/// The node that `entry` names in `trie`; panics if there is none.
+/// The node of `trie` that `entry` names.
 fn node_of<'a>(rt: &impl Abort, trie: &'a PlainTrie, entry: Option<Entry>) -> &'a Node {
     let number = match entry {
         Some(Entry::Node { number, .. }) => number,
@@ -290,8 +294,8 @@ fn tries_have_their_shapes(rt: HostRuntime) {
     }
 }
 
-/// The key that `number` gives of a kind. Kind 0 has two bytes, kind 1 eight that share few. Others have 66 that differ in one, or end
-/// before it.
+/// A key that `number` chooses among those of `kind`. For 0 it has two bytes, for 1 eight that few keys share. Else it has 66 that differ
+/// in one byte, or ends before that byte.
 fn key_by_chance(rt: &impl Abort, kind: u8, number: u64) -> Key {
     if kind == 0 {
         return key(rt, &((number % 1024) as u16).to_be_bytes());
@@ -311,7 +315,7 @@ fn key_by_chance(rt: &impl Abort, kind: u8, number: u64) -> Key {
     key(rt, first_bytes(&bytes, end))
 }
 
-/// The first `count` of `bytes`, or all if there are no more.
+/// The first `count` bytes, or all if there are fewer.
 fn first_bytes(bytes: &[u8], count: usize) -> &[u8] {
     if count < bytes.len() {
         &bytes[..count]
@@ -320,7 +324,7 @@ fn first_bytes(bytes: &[u8], count: usize) -> &[u8] {
     }
 }
 
-/// Makes a call of `key`, or a scan from it, on `trie` and on `index`, as `number` says. Asserts that both return the same.
+/// `trie` and `index` reply alike to one call about `key`, which `number` chooses.
 fn call_both(
     rt: &impl Abort,
     alloc: Global,
@@ -339,21 +343,21 @@ fn call_both(
             trie.upsert(&key, value),
             index.apply(Call::Upsert(key, value)),
         ),
-        2 => (Ok(held(trie, &key)), index.apply(Call::Get(key))),
+        2 => (Ok(get_reply(trie, &key)), index.apply(Call::Get(key))),
         _ => return scan_both(rt, alloc, trie, index, &key, (value % 4) as usize),
     };
     assert!(rt; found.ok() == want.ok());
 }
 
-/// What `trie` has for `key`, as the reply to a get.
-fn held(trie: &PlainTrie, key: &Key) -> Reply {
+/// The reply of `trie` to a look-up of `key`.
+fn get_reply(trie: &PlainTrie, key: &Key) -> Reply {
     match trie.get(key) {
         Some(value) => Reply::Value(value),
         None => Reply::Absent,
     }
 }
 
-/// Asserts that scans from `from` on return the same from `trie` and `index`.
+/// `trie` and `index` give the same first `limit` pairs from `from` on.
 fn scan_both(
     rt: &impl Abort,
     alloc: Global,

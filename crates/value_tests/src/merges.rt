@@ -8,7 +8,7 @@ use record_words::{FIRST_ROWS, NODE_FIELDS, close_fork, pack_node, position_of, 
 use std::process::Abort;
 
 /// The node of children 10 and 11 and leaf 12 with the rows `rows`, whose forks are at the positions 4 and 6.
-fn upper(rt: &impl Abort, rows: [u32; 3]) -> Node {
+fn node_over_nodes(rt: &impl Abort, rows: [u32; 3]) -> Node {
     let mut sparse = [u32::MAX; 32];
     for i in 0..3 {
         sparse[i] = rows[i];
@@ -27,20 +27,20 @@ fn child(number: u32) -> Entry
     Entry::Node { number, height: 1 }
 }
 
-/// Asserts that `node.beside` returns `want` for its places: the place beside and the fork's position, or `None`.
+/// What `beside` returns for each place of `node` is in `want`.
 fn expect_beside(rt: &impl Abort, node: &Node, want: &[Option<(u8, u16)>]) {
     assert!(rt; want.len() == node.count() as usize);
     for i in 0..node.count() {
-        assert!(rt; node.beside(i) == want[i as usize], "{i}");
+        assert!(rt; node.find_sibling(i) == want[i as usize], "{i}");
     }
 }
 
 /// In nodes of two, three and 32 entries the place beside each is found, or none where several are beside it.
 #[test]
 fn places_are_beside_others(rt: HostRuntime) {
-    let last = upper(&rt, [0, 0x4000_0000, 0x8000_0000]);
+    let last = node_over_nodes(&rt, [0, 0x4000_0000, 0x8000_0000]);
     expect_beside(&rt, &last, &[Some((1, 6)), Some((0, 6)), None]);
-    let first = upper(&rt, [0, 0x8000_0000, 0xc000_0000]);
+    let first = node_over_nodes(&rt, [0, 0x8000_0000, 0xc000_0000]);
     expect_beside(&rt, &first, &[None, Some((2, 6)), Some((1, 6))]);
     let two = Node::pair(7, Entry::Leaf(0), Entry::Leaf(1));
     expect_beside(&rt, &two, &[Some((1, 7)), Some((0, 7))]);
@@ -56,11 +56,11 @@ const POSITIONS: [u16; 31] = [
     26, 27, 28, 29, 30,
 ];
 
-/// The node of `zero` and `one` with a fork at `position`. Asserts that they have room in it and fork later.
-fn joined(rt: &impl Abort, position: u16, zero: &Node, one: &Node) -> Node {
+/// The node of all entries of `zero` and `one`, with a fork at `position` between them. Both fork later, and have room in one node.
+fn join_nodes(rt: &impl Abort, position: u16, zero: &Node, one: &Node) -> Node {
     assert!(rt; zero.count() + one.count() <= 32);
     assert!(rt; position < zero.first_position() && position < one.first_position());
-    Node::join(position, zero, one)
+    Node::merge(position, zero, one)
 }
 
 /// Joined nodes have the expected columns, rows and leaves, where both sides have a column and where one has.
@@ -70,7 +70,7 @@ fn two_nodes_become_one(rt: HostRuntime) {
     let rows = [0, 0x4000_0000, 0x8000_0000, 0xc000_0000];
     expect_node(
         &rt,
-        &joined(&rt, 6, &two, &two),
+        &join_nodes(&rt, 6, &two, &two),
         &[6, 7],
         &rows,
         &[3, 4, 3, 4],
@@ -79,7 +79,7 @@ fn two_nodes_become_one(rt: HostRuntime) {
     let rows = [0, 0x4000_0000, 0x6000_0000, 0x8000_0000, 0xa000_0000];
     expect_node(
         &rt,
-        &joined(&rt, 6, &three(), &later),
+        &join_nodes(&rt, 6, &three(), &later),
         &[6, 7, 8],
         &rows,
         &[0, 1, 2, 3, 4],
@@ -87,7 +87,7 @@ fn two_nodes_become_one(rt: HostRuntime) {
     let rows = [0, 0x2000_0000, 0x8000_0000, 0xc000_0000, 0xe000_0000];
     expect_node(
         &rt,
-        &joined(&rt, 6, &later, &three()),
+        &join_nodes(&rt, 6, &later, &three()),
         &[6, 7, 8],
         &rows,
         &[3, 4, 0, 1, 2],
@@ -102,7 +102,7 @@ const EVEN: [u16; 15] = [2, 4, 6, 8, 10, 12, 14, 16, 18, 20, 22, 24, 26, 28, 30]
 /// Two nodes of 16 entries without a common column become one with 32 entries and 31 columns.
 #[test]
 fn two_nodes_become_a_full_one(rt: HostRuntime) {
-    let node = joined(&rt, 0, &comb(&rt, &ODD), &comb(&rt, &EVEN));
+    let node = join_nodes(&rt, 0, &comb(&rt, &ODD), &comb(&rt, &EVEN));
     assert!(rt; node.count() == 32 && node.columns().as_slice() == POSITIONS.as_slice());
     for (at, row) in [
         (0, 0),
@@ -118,9 +118,9 @@ fn two_nodes_become_a_full_one(rt: HostRuntime) {
     }
 }
 
-/// Puts child 20 in the place of the entry at `at` and of the one beside it. Returns the child if nothing else is left, and the words of
-/// `node`, of height 2, after it.
-fn closed(rt: &impl Abort, node: &Node, at: u8) -> (Option<Entry>, [u64; NODE_FIELDS]) {
+/// Puts child 20 in the place of the entry at `at` of `node`, which is 2 high, and of the one beside it. Returns the words of the node
+/// then. If the node has no other entries, the child is returned with them.
+fn close_fork_at(rt: &impl Abort, node: &Node, at: u8) -> (Option<Entry>, [u64; NODE_FIELDS]) {
     let (count, height) = (node.count(), node.height());
     if at >= count {
         panic!(rt; "no entry");
@@ -128,7 +128,7 @@ fn closed(rt: &impl Abort, node: &Node, at: u8) -> (Option<Entry>, [u64; NODE_FI
     if height != 2 {
         panic!(rt; "of another height");
     }
-    let Some((place, _)) = node.beside(at) else {
+    let Some((place, _)) = node.find_sibling(at) else {
         panic!(rt; "none beside");
     };
     let mut words = pack_node(node);
@@ -139,22 +139,22 @@ fn closed(rt: &impl Abort, node: &Node, at: u8) -> (Option<Entry>, [u64; NODE_FI
 /// Closing a fork gives the words of a pair, from either side; of a node of two the entry alone is left.
 #[test]
 fn one_entry_takes_the_place_of_two(rt: HostRuntime) {
-    let last = upper(&rt, [0, 0x4000_0000, 0x8000_0000]);
+    let last = node_over_nodes(&rt, [0, 0x4000_0000, 0x8000_0000]);
     let want = pack_node(&Node::pair(4, child(20), Entry::Leaf(12)));
     assert!(rt; want[0] == 131_330 && want[1] == 0xffff_ffff_ffff_0004 && want[9] == 1 << 63);
     for at in 0..2 {
-        let (left, words) = closed(&rt, &last, at);
+        let (left, words) = close_fork_at(&rt, &last, at);
         assert!(rt; left.is_none() && words == want, "{at}");
     }
-    let first = upper(&rt, [0, 0x8000_0000, 0xc000_0000]);
+    let first = node_over_nodes(&rt, [0, 0x8000_0000, 0xc000_0000]);
     let want = pack_node(&Node::pair(4, child(10), child(20)));
     for at in 1..3 {
-        let (left, words) = closed(&rt, &first, at);
+        let (left, words) = close_fork_at(&rt, &first, at);
         assert!(rt; left.is_none() && words == want, "{at}");
     }
     let two = Node::pair(4, child(10), child(11));
     for at in 0..2 {
-        let (left, _) = closed(&rt, &two, at);
+        let (left, _) = close_fork_at(&rt, &two, at);
         assert!(rt; left == Some(child(20)), "{at}");
     }
 }

@@ -5,8 +5,8 @@ use Rattle.key_ranges.specs.Ranges.{last_with}
 use Rattle.key_ranges.proofs.Places.{holds_last, takes_last, written_last}
 use Rattle.key_ranges.proofs.last_with_prefix.Goals as goal
 
-pub of_places-requires : goal.of_places-requires
-of_places-requires c =
+pub from_padded-requires : goal.from_padded-requires
+from_padded-requires c =
     let bytes = c.as_bytes-bytes.result.now in
     holds_last bytes _ (subst IsKey (sym c.as_bytes-bytes.ensures.bytes) c.as_bytes-bytes.ensures.key) (written_last bytes c.copy_from_slice.new.self c.copy_from_slice.ensures.after)
 
@@ -14,4 +14,4 @@ pub returns : goal.returns
 returns c =
     let bytes = c.as_bytes-bytes.result.now in
     let is_key = subst IsKey (sym c.as_bytes-bytes.ensures.bytes) c.as_bytes-bytes.ensures.key in
-    c.of_places.ensures ∙ (takes_last bytes _ is_key (written_last bytes c.copy_from_slice.new.self c.copy_from_slice.ensures.after) ∙ ap last_with c.as_bytes-bytes.ensures.bytes)
+    c.from_padded.ensures ∙ (takes_last bytes _ is_key (written_last bytes c.copy_from_slice.new.self c.copy_from_slice.ensures.after) ∙ ap last_with c.as_bytes-bytes.ensures.bytes)

@@ -5,6 +5,6 @@ use Rattle.index_tests.proofs.claims.hand_over.Goals as goal
 
 pub release-requires-clause-may : goal.release-requires-clause-may
 release-requires-clause-may g c =
-    let has : c.take.result ≡ true = search rules in
-    let claimed = c.take.ensures.taken has in
+    let has : c.claim_if_free.result ≡ true = search rules in
+    let claimed = c.claim_if_free.ensures.taken has in
     releases _ _ c.args.rec claimed.0 c.requires.range claimed.2

@@ -218,9 +218,9 @@ returns-in-Leaf-clause-raised t c = λ leaves value s a.
     let x = item c.args.leaf c.args.key.now value in
     let nodes = c.args.nodes.now.items in
     let r = beside_raised nodes leaves x c.args.position c.in-Leaf.field-0 s i in
-    let subtrie_is = c.beside.ensures ∙ (ap (λ o. subtrie_forked o c.args.position (Leaf c.args.leaf) (Place c.args.entry)) c.bit.ensures ∙
+    let subtrie_is = c.fork_entries.ensures ∙ (ap (λ o. subtrie_forked o c.args.position (Leaf c.args.leaf) (Place c.args.entry)) c.bit.ensures ∙
     ap (λ e. subtrie_forked (bit c.args.key.now c.args.position) c.args.position (Leaf c.args.leaf) (Place e)) c.in-Leaf.is) in
-    subst (λ h. IsRaised nodes nodes leaves x c.args.position s (suc h) (subtrie_of c.beside.result)) (sym (ap height_of c.in-Leaf.is))
+    subst (λ h. IsRaised nodes nodes leaves x c.args.position s (suc h) (subtrie_of c.fork_entries.result)) (sym (ap height_of c.in-Leaf.is))
     (subst (IsRaised nodes nodes leaves x c.args.position s 1) (sym subtrie_is) r)
 
 pub returns-else-takes_leaf-clause-raised : goal.returns-else-takes_leaf-clause-raised
@@ -253,11 +253,11 @@ forked_between ms us n at view risen p l e false is put = put (Leaf l) e is
 
 pub returns-in-Leaf-clause-case : goal.returns-in-Leaf-clause-case
 returns-in-Leaf-clause-case t c = λ leaves value s a.
-    leaf_by_case c.args.nodes.now.items c.args.nodes.now.items c.args.key.now c.args.position c.args.leaf c.in-Leaf.field-0 s (is_split c.beside.result) (addable_to c.in-Leaf.is a).head
-    (forked_split c.beside.result c.bit.result c.args.position c.args.leaf c.args.entry c.beside.ensures)
+    leaf_by_case c.args.nodes.now.items c.args.nodes.now.items c.args.key.now c.args.position c.args.leaf c.in-Leaf.field-0 s (is_split c.fork_entries.result) (addable_to c.in-Leaf.is a).head
+    (forked_split c.fork_entries.result c.bit.result c.args.position c.args.leaf c.args.entry c.fork_entries.ensures)
 
 pub returns-in-Leaf-clause-low : goal.returns-in-Leaf-clause-low
-returns-in-Leaf-clause-low t c = λ z. (refl, c.bit.result, c.beside.ensures)
+returns-in-Leaf-clause-low t c = λ z. (refl, c.bit.result, c.fork_entries.ensures)
 
 pub returns-else-takes_leaf-clause-low : goal.returns-else-takes_leaf-clause-low
 returns-else-takes_leaf-clause-low t c = λ z. absurd (let u = node_here (addable_to c.in-Node.is c.requires.place.3) in omega (arith, here_positive u, ap height_of c.in-Node.is, z))

@@ -24,8 +24,8 @@ remove_in-requires-clause-in_range c = omega (arith, at_head c.args.words.now c.
 pub remove_in-requires-clause-room : goal.remove_in-requires-clause-room
 remove_in-requires-clause-room c = omega (arith, c.fits-words, c.count-2.ensures.count, same_count _ c.count-2.ensures.lawful, c.count-2.ensures.lawful.room)
 
-pub read_some-requires : goal.read_some-requires
-read_some-requires c =
+pub read_some_entry-requires : goal.read_some_entry-requires
+read_some_entry-requires c =
     let (node, has, same, here) = c.requires in
     let counted = rows_counted c.args.words.now c.read_head-head.result c.read_head-head.ensures node has same in
     let two : length node.entries ≡ 2 = omega (arith, counted, c.count.ensures.count, c.if-count-eq2.true) in
@@ -40,9 +40,9 @@ returns-then-count-eq2 c = λ node has same.
     let two : length node.entries ≡ 2 = omega (arith, counted, c.count.ensures.count, c.if-count-eq2.true) in
     let at : 25 + (1 - c.args.at) ≡ 26 - c.args.at = omega (arith, here, two) in
     let spelled = entry_spelled node c.args.words.now (1 - c.args.at) has same (omega (arith, two)) in
-    let read : c.read_some.result ≡ get_or node.entries (1 - c.args.at) (Leaf 0) =
-    c.read_some.ensures.only (get_or node.entries (1 - c.args.at) (Leaf 0)) spelled.0 (spelled.1 ∙ ap (λ k. get_or c.args.words.now k 0) at) in
-    other_left node has c.args.at c.read_some.result (omega (arith, here, two)) two read
+    let read : c.read_some_entry.result ≡ get_or node.entries (1 - c.args.at) (Leaf 0) =
+    c.read_some_entry.ensures.only (get_or node.entries (1 - c.args.at) (Leaf 0)) spelled.0 (spelled.1 ∙ ap (λ k. get_or c.args.words.now k 0) at) in
+    other_left node has c.args.at c.read_some_entry.result (omega (arith, here, two)) two read
 
 -- the words of the entries that are left
 still_spelled : (c : After-height) (node : NodeView) → HasNodeWords node → node_words node ≡ c.args.words.now →

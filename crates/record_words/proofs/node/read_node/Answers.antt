@@ -11,8 +11,8 @@ use Rattle.record_words.proofs.node.read_node.Goals.{After-loop-i}
 pub bounds-words-i : goal.bounds-words-i
 bounds-words-i c = omega (arith, c.read_numbers-i-end.ensures.parts.0, entries_counted c.requires.0 c.args.words.now c.requires.1 c.requires.2, c.requires.1.entries.room)
 
-pub read_some-requires : goal.read_some-requires
-read_some-requires c =
+pub read_some_entry-requires : goal.read_some_entry-requires
+read_some_entry-requires c =
     let node = c.requires.0 in
     let words = c.args.words.now in
     let spelled = entry_spelled node words c.loop-i.i c.requires.1 c.requires.2 (omega (arith, c.read_numbers-i-end.ensures.parts.0, entries_counted node words c.requires.1 c.requires.2)) in
@@ -22,8 +22,8 @@ pub loop-i-preserved : goal.loop-i-preserved
 loop-i-preserved c = λ node has same.
     let inside : c.loop-i.i < length node.entries = omega (arith, c.read_numbers-i-end.ensures.parts.0, entries_counted node c.args.words.now has same) in
     let spelled = entry_spelled node c.args.words.now c.loop-i.i has same inside in
-    one_more_read node.entries c.loop-i.entries.items _ c.loop-i.i c.read_some.result
-    (c.read_some.ensures.only (get_or node.entries c.loop-i.i (Leaf 0)) spelled.0 spelled.1) inside (c.loop-i.invariant node has same) c.push.ensures.items
+    one_more_read node.entries c.loop-i.entries.items _ c.loop-i.i c.read_some_entry.result
+    (c.read_some_entry.ensures.only (get_or node.entries c.loop-i.i (Leaf 0)) spelled.0 spelled.1) inside (c.loop-i.invariant node has same) c.push.ensures.items
 
 pub read_head-requires : goal.read_head-requires
 read_head-requires c = (head_of c.requires.0, (c.requires.0, c.requires.1.lawful, refl), head_part c.requires.0 c.args.words.now c.requires.2)

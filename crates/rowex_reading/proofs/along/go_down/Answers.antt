@@ -45,9 +45,6 @@ loop-depth-preserved g c =
       );
     }
 
-pub loop-depth-smaller : goal.loop-depth-smaller
-loop-depth-smaller g c = omega (arith, c.loop-depth-test.true)
-
 pub returns-after-loop-depth : goal.returns-after-loop-depth
 returns-after-loop-depth g c =
     let i = c.loop-depth.invariant in

@@ -19,12 +19,12 @@ start_of-start-requires-in-Node g c =
     led_in_table c.args.table.now.layout c.args.seat.now.known tip.0 (Node c.in-Node.number c.in-Node.height) c.requires.reader.1 tip.1
 
 pub returns-in-Leaf : goal.returns-in-Leaf
-returns-in-Leaf g c = record { reads = (1, omega arith, reads_one (LoadFixed (a_leaf c.in-Leaf.number) 2 c.load_fixed_from.result) tt c.load_fixed_from.ensures) }
+returns-in-Leaf g c = record { reads = (1, omega arith, reads_one (LoadFixed (a_leaf c.in-Leaf.number) 2 c.load_fixed_at.result) tt c.load_fixed_at.ensures) }
 
 pub returns-in-Node : goal.returns-in-Node
 returns-in-Node g c =
     let n = c.in-Node.number in
-    let one = reads_one (LoadFixed (a_node n) 1 c.load_fixed_from-in-Node.result) tt c.load_fixed_from-in-Node.ensures in
-    let two = reads_one (LoadFixed (a_node n) 9 c.load_fixed_from-in-Node-2.result) tt c.load_fixed_from-in-Node-2.ensures in
-    let three = reads_one (LoadFixed (a_node n) 17 c.load_fixed_from-in-Node-3.result) tt c.load_fixed_from-in-Node-3.ensures in
+    let one = reads_one (LoadFixed (a_node n) 1 c.load_fixed_at-in-Node.result) tt c.load_fixed_at-in-Node.ensures in
+    let two = reads_one (LoadFixed (a_node n) 9 c.load_fixed_at-in-Node-2.result) tt c.load_fixed_at-in-Node-2.ensures in
+    let three = reads_one (LoadFixed (a_node n) 17 c.load_fixed_at-in-Node-3.result) tt c.load_fixed_at-in-Node-3.ensures in
     record { reads = (3, omega arith, reads_trans (reads_trans one two) three) }

@@ -1,9 +1,8 @@
 -- The node has the forks still that were read, or they have been read anew.
-use Rattle.std.proofs.Common.{ap, le_refl, subst, sym}
+use Rattle.std.proofs.Common.{ap, subst, sym}
 use Rattle.std.specs.Prelude.{IfSome}
 use Rattle.compound_node.specs.declared.entries.Entry.TheVariants.{Node}
 use Rattle.insert_cases.specs.declared.choice.PathNode.{PathNode}
-use Rattle.record_words.specs.declared.TheConstants.{HEAD_WORDS}
 use Rattle.version_laws.specs.Scan.{IsShaped}
 use Rattle.rowex_reading.specs.Seen.{IsLedTo, Sure, shape_of}
 use Rattle.rowex_reading.specs.Turns.{IsTurn}
@@ -19,9 +18,6 @@ returns-in-Some-clause-place g c = λ m h led.
       subst (λ n. Sure k (λ s. IsShaped s m n turn.forks)) c.if-turn-node.true (shape_kept k turn.since m c.in-Some.turn.number h turn.forks turn.led.0 turn.shaped here),
       turn.place,
     )
-
-pub returns-in_default-clause-reads : goal.returns-in_default-clause-reads
-returns-in_default-clause-reads g c = (HEAD_WORDS, le_refl HEAD_WORDS, c.search_node.ensures.reads)
 
 pub returns-in_default-clause-place : goal.returns-in_default-clause-place
 returns-in_default-clause-place g c = λ m h led. let (head, seen, is) = c.search_node.ensures.step m h led in (shape_of head, seen.shaped, ap (λ (s : PathNode). s.at) is)

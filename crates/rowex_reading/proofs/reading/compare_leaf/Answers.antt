@@ -13,29 +13,29 @@ use Rattle.rowex_reading.proofs.Led.{reader_then, reads_one, reads_trans}
 use Rattle.rowex_reading.proofs.Wording.{none_loaded}
 use Rattle.rowex_reading.proofs.reading.compare_leaf.Goals as goal
 
-pub load_fixed_from-requires : goal.load_fixed_from-requires
-load_fixed_from-requires g c = record {
+pub load_fixed_at-requires : goal.load_fixed_at-requires
+load_fixed_at-requires g c = record {
   own = c.requires.reader.0;
   range = (c.requires.start.0, (lit≤ tt, lit≤ tt), omega (arith, size_fits c.args.table.now.layout c.args.leaf.number));
   start = c.requires.start;
 }
 
-pub returns-then-load_fixed_from-size-clause-reads : goal.returns-then-load_fixed_from-size-clause-reads
-returns-then-load_fixed_from-size-clause-reads g c = (1, lit≤ tt, reads_one (LoadFixed (a_leaf c.args.leaf.number) 2 c.load_fixed_from.result) tt c.load_fixed_from.ensures)
+pub returns-then-load_fixed_at-size-clause-reads : goal.returns-then-load_fixed_at-size-clause-reads
+returns-then-load_fixed_at-size-clause-reads g c = (1, lit≤ tt, reads_one (LoadFixed (a_leaf c.args.leaf.number) 2 c.load_fixed_at.result) tt c.load_fixed_at.ensures)
 
-pub returns-then-load_fixed_from-size-clause-leaf : goal.returns-then-load_fixed_from-size-clause-leaf
-returns-then-load_fixed_from-size-clause-leaf g c = λ m led.
-    other_key _ _ c.args.leaf.number c.args.key.now m led _ _ 1 c.load_fixed_from.result _ (none_loaded c.args.seat.now.known (a_leaf c.args.leaf.number) 0 _) (lit≤ tt) (lit< tt) (inl refl) c.load_fixed_from.ensures.event
-    (λ e. c.if-load_fixed_from-size.true (e ∙ (length_word c.args.key.now ∙ sym c.requires.key.1)))
+pub returns-then-load_fixed_at-size-clause-leaf : goal.returns-then-load_fixed_at-size-clause-leaf
+returns-then-load_fixed_at-size-clause-leaf g c = λ m led.
+    other_key _ _ c.args.leaf.number c.args.key.now m led _ _ 1 c.load_fixed_at.result _ (none_loaded c.args.seat.now.known (a_leaf c.args.leaf.number) 0 _) (lit≤ tt) (lit< tt) (inl refl) c.load_fixed_at.ensures.event
+    (λ e. c.if-load_fixed_at-size.true (e ∙ (length_word c.args.key.now ∙ sym c.requires.key.1)))
 
 pub loop-index-init : goal.loop-index-init
 loop-index-init g c =
     let l = c.requires.led in
-    let one = reads_one (LoadFixed (a_leaf c.args.leaf.number) 2 c.load_fixed_from.result) tt c.load_fixed_from.ensures in
+    let one = reads_one (LoadFixed (a_leaf c.args.leaf.number) 2 c.load_fixed_at.result) tt c.load_fixed_at.ensures in
     let size = c.requires.key.1 in
     let short = c.requires.key.0.short in
     let reader = reader_then c.requires.reader one in
-    let loaded = first_same _ _ c.args.leaf.number c.args.key.now l.0 l.1 _ c.load_fixed_from.result c.load_fixed_from.ensures.event (omega (arith, size, c.if-load_fixed_from-size.false)) in
+    let loaded = first_same _ _ c.args.leaf.number c.args.key.now l.0 l.1 _ c.load_fixed_at.result c.load_fixed_at.ensures.event (omega (arith, size, c.if-load_fixed_at-size.false)) in
     let room = subst (λ z. words_for z ≤ leaf_size c.args.table.now.layout c.args.leaf.number) (length_word c.args.key.now)
     (room_of c.args.table.now.layout _ _ c.args.leaf.number (IsKeyWord 2) (words_with c.args.key.now) reader.1 loaded (lit< tt, lit≤ tt) l.0 l.1) in
     record {
@@ -47,8 +47,8 @@ loop-index-init g c =
       loaded = loaded;
     }
 
-pub load_fixed_from-word-requires : goal.load_fixed_from-word-requires
-load_fixed_from-word-requires g c = let i = c.loop-index.invariant in record {
+pub load_fixed_at-word-requires : goal.load_fixed_at-word-requires
+load_fixed_at-word-requires g c = let i = c.loop-index.invariant in record {
   own = i.reader.0;
   range = (c.requires.start.0, (omega arith, omega (arith, i.fits, c.loop-index-test.true)), omega (arith, i.room, c.loop-index-test.true));
   start = c.requires.start;
@@ -57,35 +57,35 @@ load_fixed_from-word-requires g c = let i = c.loop-index.invariant in record {
 pub returns-then-word-key_word_at-clause-reads : goal.returns-then-word-key_word_at-clause-reads
 returns-then-word-key_word_at-clause-reads g c =
     let i = c.loop-index.invariant in
-    let one = reads_one (LoadFixed (a_leaf c.args.leaf.number) (c.loop-index.index + 1) c.load_fixed_from-word.result) tt c.load_fixed_from-word.ensures in
+    let one = reads_one (LoadFixed (a_leaf c.args.leaf.number) (c.loop-index.index + 1) c.load_fixed_at-word.result) tt c.load_fixed_at-word.ensures in
     (c.loop-index.index - 1 + 1, omega (arith, i.fits, c.loop-index-test.true, c.loop-index.auto.index), reads_trans i.reads one)
 
 pub returns-then-word-key_word_at-clause-leaf : goal.returns-then-word-key_word_at-clause-leaf
 returns-then-word-key_word_at-clause-leaf g c = λ m led.
     let i = c.loop-index.invariant in
     let low : c.loop-index.index < LEAF_FIELDS = omega (arith, i.fits, c.loop-index-test.true) in
-    other_key _ _ c.args.leaf.number c.args.key.now m led _ _ c.loop-index.index c.load_fixed_from-word.result _ i.loaded (omega (arith, c.loop-index.auto.index)) low
-    (inr ((lit≤ tt, omega (arith, c.loop-index.auto.index)), omega (arith, i.end_is, c.loop-index-test.true))) c.load_fixed_from-word.ensures.event
+    other_key _ _ c.args.leaf.number c.args.key.now m led _ _ c.loop-index.index c.load_fixed_at-word.result _ i.loaded (omega (arith, c.loop-index.auto.index)) low
+    (inr ((lit≤ tt, omega (arith, c.loop-index.auto.index)), omega (arith, i.end_is, c.loop-index-test.true))) c.load_fixed_at-word.ensures.event
     (λ e. c.if-word-key_word_at.true (e ∙ (byte_word c.args.key.now c.loop-index.index c.loop-index.auto.index low ∙ sym c.key_word_at.ensures)))
 
 pub loop-index-preserved : goal.loop-index-preserved
 loop-index-preserved g c =
     let l = c.requires.led in
     let i = c.loop-index.invariant in
-    let one = reads_one (LoadFixed (a_leaf c.args.leaf.number) (c.loop-index.index + 1) c.load_fixed_from-word.result) tt c.load_fixed_from-word.ensures in
+    let one = reads_one (LoadFixed (a_leaf c.args.leaf.number) (c.loop-index.index + 1) c.load_fixed_at-word.result) tt c.load_fixed_at-word.ensures in
     let low : c.loop-index.index < LEAF_FIELDS = omega (arith, i.fits, c.loop-index-test.true) in
     record {
       reader = reader_then i.reader one;
       end_is = i.end_is;
       fits = i.fits;
       room = i.room;
-      reads = subst (λ n. Reads c.args.table.now g.G.Gate.becomes 0 n (c.args.seat.now, c.args.gate.now) (c.load_fixed_from-word.new.seat, c.load_fixed_from-word.new.gate)) (omega (arith, c.loop-index.auto.index)) (reads_trans i.reads one);
-      loaded = next_same _ _ c.args.leaf.number c.args.key.now l.0 l.1 _ _ c.loop-index.index c.load_fixed_from-word.result i.loaded low c.load_fixed_from-word.ensures.event
+      reads = subst (λ n. Reads c.args.table.now g.G.Gate.becomes 0 n (c.args.seat.now, c.args.gate.now) (c.load_fixed_at-word.new.seat, c.load_fixed_at-word.new.gate)) (omega (arith, c.loop-index.auto.index)) (reads_trans i.reads one);
+      loaded = next_same _ _ c.args.leaf.number c.args.key.now l.0 l.1 _ _ c.loop-index.index c.load_fixed_at-word.result i.loaded low c.load_fixed_at-word.ensures.event
           (c.if-word-key_word_at.false ∙ (c.key_word_at.ensures ∙ sym (byte_word c.args.key.now c.loop-index.index c.loop-index.auto.index low)));
     }
 
-pub load_fixed_from-requires-2 : goal.load_fixed_from-requires-2
-load_fixed_from-requires-2 g c = record {
+pub load_fixed_at-requires-2 : goal.load_fixed_at-requires-2
+load_fixed_at-requires-2 g c = record {
   own = c.loop-index.invariant.reader.0;
   range = (c.requires.start.0, (lit≤ tt, lit≤ tt), omega (arith, size_fits c.args.table.now.layout c.args.leaf.number));
   start = c.requires.start;
@@ -94,12 +94,12 @@ load_fixed_from-requires-2 g c = record {
 pub returns-clause-reads : goal.returns-clause-reads
 returns-clause-reads g c =
     let i = c.loop-index.invariant in
-    let one = reads_one (LoadFixed (a_leaf c.args.leaf.number) 1 c.load_fixed_from-2.result) tt c.load_fixed_from-2.ensures in
+    let one = reads_one (LoadFixed (a_leaf c.args.leaf.number) 1 c.load_fixed_at-2.result) tt c.load_fixed_at-2.ensures in
     (c.loop-index.index - 1 + 1, omega (arith, i.fits, c.loop-index-test.false, c.loop-index.auto.index, c.loop-index.auto.index-end), reads_trans i.reads one)
 
 pub returns-clause-leaf : goal.returns-clause-leaf
 returns-clause-leaf g c = λ m led.
     let i = c.loop-index.invariant in
-    let one = reads_one (LoadFixed (a_leaf c.args.leaf.number) 1 c.load_fixed_from-2.result) tt c.load_fixed_from-2.ensures in
-    same_key _ _ c.args.leaf.number c.args.key.now m led _ _ c.loop-index.index c.load_fixed_from-2.result (reader_then i.reader one).1 i.loaded
-    (omega (arith, i.end_is, c.loop-index-test.false, c.loop-index.auto.index-end)) c.load_fixed_from-2.ensures.event (record { key = c.requires.key.0; value = search rules })
+    let one = reads_one (LoadFixed (a_leaf c.args.leaf.number) 1 c.load_fixed_at-2.result) tt c.load_fixed_at-2.ensures in
+    same_key _ _ c.args.leaf.number c.args.key.now m led _ _ c.loop-index.index c.load_fixed_at-2.result (reader_then i.reader one).1 i.loaded
+    (omega (arith, i.end_is, c.loop-index-test.false, c.loop-index.auto.index-end)) c.load_fixed_at-2.ensures.event (record { key = c.requires.key.0; value = search rules })

@@ -19,11 +19,11 @@ loop-index-init g c = record {
 
 pub loop-index-preserved : goal.loop-index-preserved
 loop-index-preserved g c =
-    let l = c.requires.led in let i = c.loop-index.invariant in let e = c.load_fixed_from.ensures in
-    let one = reads_one (LoadFixed (a_node c.args.node.number) (c.args.first + c.loop-index.index + 1) c.load_fixed_from.result) tt e in
+    let l = c.requires.led in let i = c.loop-index.invariant in let e = c.load_fixed_at.ensures in
+    let one = reads_one (LoadFixed (a_node c.args.node.number) (c.args.first + c.loop-index.index + 1) c.load_fixed_at.result) tt e in
     record {
       reader = reader_then i.reader one;
-      long = length-set c.loop-index.words c.loop-index.index c.load_fixed_from.result ∙ i.long;
+      long = length-set c.loop-index.words c.loop-index.index c.load_fixed_at.result ∙ i.long;
       reads = reads_trans i.reads one;
       loaded = next_loaded _ _ _ _ (a_node c.args.node.number) c.args.first _ _ c.loop-index.words i.loaded (omega (arith, i.long, c.loop-index-test.true)) e.event l.0 (led_stood c.args.seat.now.known l.0 (Node c.args.node.number l.1) l.2);
     }

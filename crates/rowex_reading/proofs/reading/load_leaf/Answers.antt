@@ -12,24 +12,24 @@ use Rattle.rowex_reading.proofs.Fronting.{front, front_small, front_written, fro
 use Rattle.rowex_reading.proofs.Whole.{HasAll, whole_few, whole_key, whole_read, whole_reads}
 use Rattle.rowex_reading.proofs.reading.load_leaf.Goals as goal
 
-pub load_fixed_from-value-requires : goal.load_fixed_from-value-requires
-load_fixed_from-value-requires g c = record {
+pub load_fixed_at-value-requires : goal.load_fixed_at-value-requires
+load_fixed_at-value-requires g c = record {
   own = c.requires.reader.0;
   range = (c.requires.start.0, (lit≤ tt, lit≤ tt), omega (arith, size_fits c.args.table.now.layout c.args.leaf.number));
   start = c.requires.start;
 }
 
-pub load_fixed_from-length-requires : goal.load_fixed_from-length-requires
-load_fixed_from-length-requires g c = record {
-  own = (reader_then c.requires.reader (reads_one (LoadFixed (a_leaf c.args.leaf.number) 1 c.load_fixed_from-value.result) tt c.load_fixed_from-value.ensures)).0;
+pub load_fixed_at-length-requires : goal.load_fixed_at-length-requires
+load_fixed_at-length-requires g c = record {
+  own = (reader_then c.requires.reader (reads_one (LoadFixed (a_leaf c.args.leaf.number) 1 c.load_fixed_at-value.result) tt c.load_fixed_at-value.ensures)).0;
   range = (c.requires.start.0, (lit≤ tt, lit≤ tt), omega (arith, size_fits c.args.table.now.layout c.args.leaf.number));
   start = c.requires.start;
 }
 
 -- A key of eight bytes has one word more,
-pub load_fixed_from-word-requires : goal.load_fixed_from-word-requires
-load_fixed_from-word-requires g c =
-    let f = first_read c.requires.reader c.requires.led c.load_fixed_from-value.ensures c.load_fixed_from-length.ensures in
+pub load_fixed_at-word-requires : goal.load_fixed_at-word-requires
+load_fixed_at-word-requires g c =
+    let f = first_read c.requires.reader c.requires.led c.load_fixed_at-value.ensures c.load_fixed_at-length.ensures in
     record {
       own = f.reader.0;
       range = (c.requires.start.0, (lit≤ tt, lit≤ tt), omega (arith, size_fits c.args.table.now.layout c.args.leaf.number));
@@ -39,14 +39,14 @@ load_fixed_from-word-requires g c =
 -- and with it all are loaded.
 pub returns-then-length-eq8 : goal.returns-then-length-eq8
 returns-then-length-eq8 g c =
-    let l = c.requires.led in let e = c.load_fixed_from-word.ensures in let w = c.write_word.ensures in
-    let f = first_read {i = (c.load_fixed_from-value.new.seat, c.load_fixed_from-value.new.gate)} {b = (c.load_fixed_from-length.new.seat, c.load_fixed_from-length.new.gate)} c.requires.reader l c.load_fixed_from-value.ensures c.load_fixed_from-length.ensures in
-    let next = reads_one (LoadFixed (a_leaf c.args.leaf.number) 3 c.load_fixed_from-word.result) tt e in
-    let is : c.load_fixed_from-length.result ≡ 8 = c.if-length-eq8.true in
-    let first = so_far_first _ _ c.args.leaf.number c.load_fixed_from-value.result c.load_fixed_from-length.result f.loaded in
+    let l = c.requires.led in let e = c.load_fixed_at-word.ensures in let w = c.write_word.ensures in
+    let f = first_read {i = (c.load_fixed_at-value.new.seat, c.load_fixed_at-value.new.gate)} {b = (c.load_fixed_at-length.new.seat, c.load_fixed_at-length.new.gate)} c.requires.reader l c.load_fixed_at-value.ensures c.load_fixed_at-length.ensures in
+    let next = reads_one (LoadFixed (a_leaf c.args.leaf.number) 3 c.load_fixed_at-word.result) tt e in
+    let is : c.load_fixed_at-length.result ≡ 8 = c.if-length-eq8.true in
+    let first = so_far_first _ _ c.args.leaf.number c.load_fixed_at-value.result c.load_fixed_at-length.result f.loaded in
     let long : length c.args.places.now ≡ MAX_BYTES = search rules in
     let long' : length c.write_word.new.bytes ≡ MAX_BYTES = search rules in
-    let has : HasAll c.args.table.now g.G.Gate.becomes (c.args.seat.now, c.args.gate.now) (c.load_fixed_from-word.new.seat, c.load_fixed_from-word.new.gate) c.args.leaf.number 3 c.load_fixed_from-value.result c.load_fixed_from-length.result c.write_word.new.bytes = record {
+    let has : HasAll c.args.table.now g.G.Gate.becomes (c.args.seat.now, c.args.gate.now) (c.load_fixed_at-word.new.seat, c.load_fixed_at-word.new.gate) c.args.leaf.number 3 c.load_fixed_at-value.result c.load_fixed_at-length.result c.write_word.new.bytes = record {
       reader = reader_then f.reader next;
       reads = reads_trans f.reads next;
       fits = lit≤ tt;
@@ -55,8 +55,8 @@ returns-then-length-eq8 g c =
       long = long';
       small = front_small 3 c.write_word.new.bytes long' (lit≤ tt) w.small;
       so_far = so_far_next _ _ _ _ c.args.leaf.number 2 _ _ _ _ (front 3 c.write_word.new.bytes) first (lit≤ tt) (lit< tt) e.event l.0 l.1 (length-front 3 c.write_word.new.bytes long' (lit≤ tt))
-          (front_written 2 c.load_fixed_from-word.result c.args.places.now c.write_word.new.bytes long long' (lit≤ tt) (lit< tt) w.written w.others)
-          (front_others 2 c.load_fixed_from-word.result c.args.places.now c.write_word.new.bytes long long' (lit≤ tt) (lit< tt) w.written w.others);
+          (front_written 2 c.load_fixed_at-word.result c.args.places.now c.write_word.new.bytes long long' (lit≤ tt) (lit< tt) w.written w.others)
+          (front_others 2 c.load_fixed_at-word.result c.args.places.now c.write_word.new.bytes long long' (lit≤ tt) (lit< tt) w.written w.others);
     } in
     record {
       reads = whole_reads has l;
@@ -65,19 +65,19 @@ returns-then-length-eq8 g c =
       places = λ zeros.
           all_places _ _ _ c.args.leaf.number _ _ _ c.write_word.new.bytes has.reader.1
           (so_far_next _ _ _ _ c.args.leaf.number 2 _ _ _ c.args.places.now c.write_word.new.bytes
-          (subst (λ z. AreSoFar c.args.seat.now.known c.load_fixed_from-length.new.seat.known c.args.leaf.number 2 c.load_fixed_from-value.result c.load_fixed_from-length.result z) (sym zeros) first) (lit≤ tt) (lit< tt) e.event l.0 l.1 long' w.written w.others) has.at_end w.small l.0 l.1;
+          (subst (λ z. AreSoFar c.args.seat.now.known c.load_fixed_at-length.new.seat.known c.args.leaf.number 2 c.load_fixed_at-value.result c.load_fixed_at-length.result z) (sym zeros) first) (lit≤ tt) (lit< tt) e.event l.0 l.1 long' w.written w.others) has.at_end w.small l.0 l.1;
       leaf = whole_read has;
     }
 
 -- Of any other, words are loaded up to the last one.
 pub key_words-used-requires : goal.key_words-used-requires
 key_words-used-requires g c =
-    let f = first_read c.requires.reader c.requires.led c.load_fixed_from-value.ensures c.load_fixed_from-length.ensures in
+    let f = first_read c.requires.reader c.requires.led c.load_fixed_at-value.ensures c.load_fixed_at-length.ensures in
     let short = f.short in omega (arith, short)
 
 pub loop-index-init : goal.loop-index-init
 loop-index-init g c =
-    let f = first_read c.requires.reader c.requires.led c.load_fixed_from-value.ensures c.load_fixed_from-length.ensures in
+    let f = first_read c.requires.reader c.requires.led c.load_fixed_at-value.ensures c.load_fixed_at-length.ensures in
     let short = f.short in
     record {
       reader = f.reader;
@@ -87,12 +87,12 @@ loop-index-init g c =
       reads = f.reads;
       long = search rules;
       small = zero_small MAX_BYTES;
-      so_far = so_far_first _ _ c.args.leaf.number c.load_fixed_from-value.result c.load_fixed_from-length.result f.loaded;
-      zeros = λ zeros. (rw zeros (so_far_first _ _ c.args.leaf.number c.load_fixed_from-value.result c.load_fixed_from-length.result f.loaded), rw zeros (zero_small MAX_BYTES));
+      so_far = so_far_first _ _ c.args.leaf.number c.load_fixed_at-value.result c.load_fixed_at-length.result f.loaded;
+      zeros = λ zeros. (rw zeros (so_far_first _ _ c.args.leaf.number c.load_fixed_at-value.result c.load_fixed_at-length.result f.loaded), rw zeros (zero_small MAX_BYTES));
     }
 
-pub load_fixed_from-word-requires-in-loop-index : goal.load_fixed_from-word-requires-in-loop-index
-load_fixed_from-word-requires-in-loop-index g c = let i = c.loop-index.invariant in record {
+pub load_fixed_at-word-requires-in-loop-index : goal.load_fixed_at-word-requires-in-loop-index
+load_fixed_at-word-requires-in-loop-index g c = let i = c.loop-index.invariant in record {
   own = i.reader.0;
   range = (c.requires.start.0, (omega arith, omega (arith, i.fits, c.loop-index-test.true)), omega (arith, i.room, c.loop-index-test.true));
   start = c.requires.start;
@@ -100,8 +100,8 @@ load_fixed_from-word-requires-in-loop-index g c = let i = c.loop-index.invariant
 
 pub loop-index-preserved : goal.loop-index-preserved
 loop-index-preserved g c =
-    let l = c.requires.led in let i = c.loop-index.invariant in let e = c.load_fixed_from-word-in-loop-index.ensures in let w = c.write_word-in-loop-index.ensures in
-    let n = c.loop-index.index in let word = c.load_fixed_from-word-in-loop-index.result in let old = c.loop-index.places in let new = c.write_word-in-loop-index.new.bytes in
+    let l = c.requires.led in let i = c.loop-index.invariant in let e = c.load_fixed_at-word-in-loop-index.ensures in let w = c.write_word-in-loop-index.ensures in
+    let n = c.loop-index.index in let word = c.load_fixed_at-word-in-loop-index.result in let old = c.loop-index.places in let new = c.write_word-in-loop-index.new.bytes in
     let one = reads_one (LoadFixed (a_leaf c.args.leaf.number) (n + 1) word) tt e in
     let from = c.loop-index.auto.index in
     let low : n < LEAF_FIELDS = omega (arith, i.fits, c.loop-index-test.true) in
@@ -122,12 +122,12 @@ loop-index-preserved g c =
 pub returns : goal.returns
 returns g c =
     let l = c.requires.led in let i = c.loop-index.invariant in
-    let at_end : c.loop-index.index ≡ 2 + words_of_key c.load_fixed_from-length.result = omega (arith, i.used_is, c.loop-index-test.false, c.loop-index.auto.index-end) in
-    let has : HasAll c.args.table.now g.G.Gate.becomes (c.args.seat.now, c.args.gate.now) (c.loop-index.seat, c.loop-index.gate) c.args.leaf.number c.loop-index.index c.load_fixed_from-value.result c.load_fixed_from-length.result c.loop-index.places = record {
+    let at_end : c.loop-index.index ≡ 2 + words_of_key c.load_fixed_at-length.result = omega (arith, i.used_is, c.loop-index-test.false, c.loop-index.auto.index-end) in
+    let has : HasAll c.args.table.now g.G.Gate.becomes (c.args.seat.now, c.args.gate.now) (c.loop-index.seat, c.loop-index.gate) c.args.leaf.number c.loop-index.index c.load_fixed_at-value.result c.load_fixed_at-length.result c.loop-index.places = record {
       reader = i.reader;
       reads = i.reads;
       fits = omega (arith, i.fits, c.loop-index-test.false, c.loop-index.auto.index-end);
-      short = (first_read {i = (c.load_fixed_from-value.new.seat, c.load_fixed_from-value.new.gate)} {b = (c.load_fixed_from-length.new.seat, c.load_fixed_from-length.new.gate)} c.requires.reader l c.load_fixed_from-value.ensures c.load_fixed_from-length.ensures).short;
+      short = (first_read {i = (c.load_fixed_at-value.new.seat, c.load_fixed_at-value.new.gate)} {b = (c.load_fixed_at-length.new.seat, c.load_fixed_at-length.new.gate)} c.requires.reader l c.load_fixed_at-value.ensures c.load_fixed_at-length.ensures).short;
       at_end = at_end;
       long = i.long;
       small = i.small;

@@ -6,9 +6,6 @@ use Rattle.rowex_reading.proofs.reading.load_root.Goals as goal
 pub read_entry-requires : goal.read_entry-requires
 read_entry-requires g c = let e = c.load_ref-word.ensures.event in root_spelled _ _ _ _ e
 
-pub returns-clause-reads : goal.returns-clause-reads
-returns-clause-reads g c = (c.load_ref-word.result, c.load_ref-word.ensures)
-
 pub returns-clause-root : goal.returns-clause-root
 returns-clause-root g c =
     let p = pinned_by c.args.seat.now.known.pin c.requires.pinned in let r = c.read_entry.ensures in

@@ -14,8 +14,8 @@ are_words g c m h led =
     let e = c.load_head_part.ensures in let f = c.load_head_part-2.ensures in
     both_read _ _ _ _ c.args.node.number c.load_head_part.new.words c.load_head_part-2.new.words (reader_then (reader_then c.requires.reader e.reads) f.reads).1 e.loaded f.loaded e.long f.long m h led
 
-pub dense_in-dense-requires : goal.dense_in-dense-requires
-dense_in-dense-requires g c =
+pub extract_in-dense-requires : goal.extract_in-dense-requires
+extract_in-dense-requires g c =
     let (m, h, led) = c.requires.led in let e = c.load_head_part.ensures in
     front_spelled _ _ _ c.args.node.number c.load_head_part.new.words (reader_then c.requires.reader e.reads).1 e.loaded e.long m h led
 
@@ -41,4 +41,4 @@ returns-clause-reads g c = reads_trans c.load_head_part.ensures.reads c.load_hea
 pub returns-clause-step : goal.returns-clause-step
 returns-clause-step g c = λ m h led.
     let are = are_words g (goal.at.returns-clause-step g c).After-load_head_part-2 m h led in
-    (are.head, are.seen, step_read c.load_head_part.new.words c.load_head_part-2.new.words c.load_head_part.ensures.long are c.args.key.now c.dense_in-dense.result c.search_in.result c.dense_in-dense.ensures c.search_in.ensures c.args.node.number)
+    (are.head, are.seen, step_read c.load_head_part.new.words c.load_head_part-2.new.words c.load_head_part.ensures.long are c.args.key.now c.extract_in-dense.result c.search_in.result c.extract_in-dense.ensures c.search_in.ensures c.args.node.number)

@@ -6,7 +6,7 @@ use Rattle.rowex_records.proofs.SetAll.{fixed_is_load}
 use Rattle.rowex_records.proofs.filling.load_word.Goals as goal
 
 pub returns-in-Node : goal.returns-in-Node
-returns-in-Node g c = rw (c.in-Node.is, le-ltb c.args.offset FIRST_ENTRY (omega (arith, c.if-offset-ge-FIRST_ENTRY.true))) c.load_slot_from.ensures
+returns-in-Node g c = rw (c.in-Node.is, le-ltb c.args.offset FIRST_ENTRY (omega (arith, c.if-offset-ge-FIRST_ENTRY.true))) c.load_slot_at.ensures
 
 pub returns-in_default : goal.returns-in_default
-returns-in_default g c = rw (fixed_is_load c.args.at.rec c.args.offset c.load_fixed_from.result c.load_fixed_from.ensures.event.legal.1.1) c.load_fixed_from.ensures
+returns-in_default g c = rw (fixed_is_load c.args.at.rec c.args.offset c.load_fixed_at.result c.load_fixed_at.ensures.event.legal.1.1) c.load_fixed_at.ensures

@@ -7,10 +7,10 @@ use Rattle.rowex_reading.proofs.Led.{reads_one}
 use Rattle.rowex_scanning.proofs.Begins.{leaf_begins}
 use Rattle.rowex_scanning.proofs.ahead.touch_leaf.Goals as goal
 
-pub load_fixed_from-requires : goal.load_fixed_from-requires
-load_fixed_from-requires g c =
+pub load_fixed_at-requires : goal.load_fixed_at-requires
+load_fixed_at-requires g c =
     let start = leaf_begins c.args.table.now.layout c.args.origins.now.layout c.args.seat.now.known c.requires.led.0 c.args.number c.leaf.result c.requires.reader.1 c.requires.led.1 c.requires.origins c.leaf.ensures in
     record { own = c.requires.reader.0; range = (start.0, (lit≤ tt, lit≤ tt), omega (arith, size_fits c.args.table.now.layout c.args.number)); start = start }
 
 pub returns : goal.returns
-returns g c = record { reads = reads_one (LoadFixed (a_leaf c.args.number) 2 c.load_fixed_from.result) tt c.load_fixed_from.ensures }
+returns g c = record { reads = reads_one (LoadFixed (a_leaf c.args.number) 2 c.load_fixed_at.result) tt c.load_fixed_at.ensures }

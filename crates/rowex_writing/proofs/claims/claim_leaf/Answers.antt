@@ -34,9 +34,9 @@ returns-in_err-number-clause-claims g c =
     let later = subst (λ (z : Layout). AllMissedBetween (IsAnothersTo table.layout c.args.seat.now.known) c.skip_classes-from.result z.leaves c.claim_between.new.seat.known.failed since) at c.in_default.ensures.claims.1 in
     rw c.from_residual.ensures (
       c.in_err-number.ensures.claims.0 ∙ c.in_default.ensures.claims.0,
-      missed_all table g.G.Gate.becomes (IsAnothersTo table.layout c.args.seat.now.known) c.args.words c.first_with-first.result c.skip_classes-from.result since (c.claim_between.new.seat, c.claim_between.new.gate)
+      missed_all table g.G.Gate.becomes (IsAnothersTo table.layout c.args.seat.now.known) c.args.words c.first_leaf_with-first.result c.skip_classes-from.result since (c.claim_between.new.seat, c.claim_between.new.gate)
           (c.claim_between-2.new.seat, c.claim_between-2.new.gate) late c.claim_between-2.ensures.goes
-          (λ q low. subst (λ (z : Layout). leaf_size z q < c.args.words) at (c.first_with-first.ensures.below q low)) later
+          (λ q low. subst (λ (z : Layout). leaf_size z q < c.args.words) at (c.first_leaf_with-first.ensures.below q low)) later
           (λ q low high. missed_before table.layout c.args.seat.now.known c.claim_between.new.seat.known c.claim_between-2.new.seat.known.failed (a_leaf q) c.claim_between.new.seat.known.steps
           goes.stays.0.pass c.in_default.ensures.claims.0 goes.stays.1 (c.in_err-number.ensures.claims.1 q low high)),
     )
@@ -50,17 +50,17 @@ returns-in-Some-clause-few g c =
 
 pub returns-in_err-number-clause-few : goal.returns-in_err-number-clause-few
 returns-in_err-number-clause-few g c =
-    few_all _ _ _ c.first_with-first.result c.skip_classes-from.result c.layout-layout.result.leaves _ (ap (λ (z : Layout). z.leaves) c.layout-layout.ensures) c.skip_classes-from.ensures.0 c.skip_classes-from.ensures.1 c.in_default.ensures.few c.in_err-number.ensures.few
+    few_all _ _ _ c.first_leaf_with-first.result c.skip_classes-from.result c.layout-layout.result.leaves _ (ap (λ (z : Layout). z.leaves) c.layout-layout.ensures) c.skip_classes-from.ensures.0 c.skip_classes-from.ensures.1 c.in_default.ensures.few c.in_err-number.ensures.few
 
 pub returns-clause-claims : goal.returns-clause-claims
 returns-clause-claims g c =
     let all : c.layout-layout.result.leaves ≡ c.args.table.now.layout.leaves = ap (λ (z : Layout). z.leaves) c.layout-layout.ensures in
     let (low, high, holds) = c.in_ok-number.ensures.claims in (
       omega (arith, all, high, c.skip_classes-from.ensures.1),
-      subst (λ (z : Layout). c.args.words ≤ leaf_size z c.in_ok-number.number) c.layout-layout.ensures (c.first_with-first.ensures.from c.requires.words c.in_ok-number.number low),
+      subst (λ (z : Layout). c.args.words ≤ leaf_size z c.in_ok-number.number) c.layout-layout.ensures (c.first_leaf_with-first.ensures.from c.requires.words c.in_ok-number.number low),
       more_since (a_leaf c.in_ok-number.number) c.args.seat.now.known c.claim_between.new.seat.known c.claim_between-2.new.seat.known c.in_default.ensures.claims.0 holds,
     )
 
 pub returns-clause-few : goal.returns-clause-few
 returns-clause-few g c =
-    few_all _ _ _ c.first_with-first.result c.skip_classes-from.result c.layout-layout.result.leaves _ (ap (λ (z : Layout). z.leaves) c.layout-layout.ensures) c.skip_classes-from.ensures.0 c.skip_classes-from.ensures.1 c.in_default.ensures.few c.in_ok-number.ensures.few
+    few_all _ _ _ c.first_leaf_with-first.result c.skip_classes-from.result c.layout-layout.result.leaves _ (ap (λ (z : Layout). z.leaves) c.layout-layout.ensures) c.skip_classes-from.ensures.0 c.skip_classes-from.ensures.1 c.in_default.ensures.few c.in_ok-number.ensures.few

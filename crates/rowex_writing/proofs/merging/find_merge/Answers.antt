@@ -7,12 +7,12 @@ use Rattle.rowex_writing.proofs.Locking.{locked_on, reads_fixed, reads_more}
 use Rattle.rowex_writing.proofs.Beside.{column_few, found_beside, locked_node, place_shown, sibling_is, takes_on, upper_held, upper_place, upper_range, upper_within}
 use Rattle.rowex_writing.proofs.merging.find_merge.Goals as goal
 
-pub load_place_beside-requires-clause-range : goal.load_place_beside-requires-clause-range
-load_place_beside-requires-clause-range g c =
+pub load_sibling-requires-clause-range : goal.load_sibling-requires-clause-range
+load_sibling-requires-clause-range g c =
     upper_range c.args.table.now c.args.job.now c.requires.takes.0
 
-pub load_place_beside-requires-clause-place : goal.load_place_beside-requires-clause-place
-load_place_beside-requires-clause-place g c =
+pub load_sibling-requires-clause-place : goal.load_sibling-requires-clause-place
+load_sibling-requires-clause-place g c =
     let (words, h) = upper_held c.args.table.now c.args.seat.now c.args.job.now c.requires.takes in
     let (view, node) = locked_node c.args.table.now.layout c.args.seat.now.known (upper c.args.job.now).number words c.requires.takes.2 h in
     omega (arith, upper_within c.args.table.now c.args.seat.now c.args.job.now c.requires.takes words h view node, node.has.lawful.room)
@@ -20,43 +20,43 @@ load_place_beside-requires-clause-place g c =
 -- the pass after the rows were loaded
 pub load_locked_entry-requires-clause-own : goal.load_locked_entry-requires-clause-own
 load_locked_entry-requires-clause-own g c =
-    (takes_on c.args.table.now g.G.Gate.becomes (c.args.seat.now, c.args.gate.now) (c.load_place_beside.new.seat, c.load_place_beside.new.gate) c.args.job.now c.load_place_beside.ensures.reads.goes c.requires.takes).1
+    (takes_on c.args.table.now g.G.Gate.becomes (c.args.seat.now, c.args.gate.now) (c.load_sibling.new.seat, c.load_sibling.new.gate) c.args.job.now c.load_sibling.ensures.reads.goes c.requires.takes).1
 
 pub load_locked_entry-requires-clause-possible : goal.load_locked_entry-requires-clause-possible
 load_locked_entry-requires-clause-possible g c =
-    (takes_on c.args.table.now g.G.Gate.becomes (c.args.seat.now, c.args.gate.now) (c.load_place_beside.new.seat, c.load_place_beside.new.gate) c.args.job.now c.load_place_beside.ensures.reads.goes c.requires.takes).2
+    (takes_on c.args.table.now g.G.Gate.becomes (c.args.seat.now, c.args.gate.now) (c.load_sibling.new.seat, c.load_sibling.new.gate) c.args.job.now c.load_sibling.ensures.reads.goes c.requires.takes).2
 
 pub load_locked_entry-requires-clause-place : goal.load_locked_entry-requires-clause-place
 load_locked_entry-requires-clause-place g c =
     let (words, h) = upper_held c.args.table.now c.args.seat.now c.args.job.now c.requires.takes in
     let (view, node) = locked_node c.args.table.now.layout c.args.seat.now.known (upper c.args.job.now).number words c.requires.takes.2 h in
     let forks = c.in-Some.ensures.beside view (words, h, node) (upper_within c.args.table.now c.args.seat.now c.args.job.now c.requires.takes words h view node) in
-    let now = takes_on c.args.table.now g.G.Gate.becomes (c.args.seat.now, c.args.gate.now) (c.load_place_beside.new.seat, c.load_place_beside.new.gate) c.args.job.now c.load_place_beside.ensures.reads.goes c.requires.takes in
-    let there = locked_on c.args.seat.now.known c.load_place_beside.new.seat.known (upper c.args.job.now).number words c.load_place_beside.ensures.reads.goes.stays.1 h in (
+    let now = takes_on c.args.table.now g.G.Gate.becomes (c.args.seat.now, c.args.gate.now) (c.load_sibling.new.seat, c.load_sibling.new.gate) c.args.job.now c.load_sibling.ensures.reads.goes c.requires.takes in
+    let there = locked_on c.args.seat.now.known c.load_sibling.new.seat.known (upper c.args.job.now).number words c.load_sibling.ensures.reads.goes.stays.1 h in (
       _,
       (upper c.args.job.now).height,
-      upper_place c.args.table.now c.load_place_beside.new.seat c.args.job.now now words there c.in-Some.place (place_shown c.args.table.now c.args.seat.now c.args.job.now c.requires.takes words h view node c.in-Some.place c.in-Some.column forks),
+      upper_place c.args.table.now c.load_sibling.new.seat c.args.job.now now words there c.in-Some.place (place_shown c.args.table.now c.args.seat.now c.args.job.now c.requires.takes words h view node c.in-Some.place c.in-Some.column forks),
     )
 
 pub load_locked_entry-requires-clause-locked : goal.load_locked_entry-requires-clause-locked
 load_locked_entry-requires-clause-locked g c =
     let (words, h) = upper_held c.args.table.now c.args.seat.now c.args.job.now c.requires.takes in
-    (words, locked_on c.args.seat.now.known c.load_place_beside.new.seat.known (upper c.args.job.now).number words c.load_place_beside.ensures.reads.goes.stays.1 h)
+    (words, locked_on c.args.seat.now.known c.load_sibling.new.seat.known (upper c.args.job.now).number words c.load_sibling.ensures.reads.goes.stays.1 h)
 
 pub returns-in_default-load_locked_entry-clause-reads : goal.returns-in_default-load_locked_entry-clause-reads
 returns-in_default-load_locked_entry-clause-reads g c =
-    reads_more c.args.table.now g.G.Gate.becomes (c.args.seat.now, c.args.gate.now) (c.load_place_beside.new.seat, c.load_place_beside.new.gate) (c.load_locked_entry.new.seat, c.load_locked_entry.new.gate) c.load_place_beside.ensures.reads c.load_locked_entry.ensures.reads
+    reads_more c.args.table.now g.G.Gate.becomes (c.args.seat.now, c.args.gate.now) (c.load_sibling.new.seat, c.load_sibling.new.gate) (c.load_locked_entry.new.seat, c.load_locked_entry.new.gate) c.load_sibling.ensures.reads c.load_locked_entry.ensures.reads
 
 pub load_fixed-count-requires-clause-own : goal.load_fixed-count-requires-clause-own
 load_fixed-count-requires-clause-own g c =
-    (takes_on c.args.table.now g.G.Gate.becomes (c.args.seat.now, c.args.gate.now) (c.load_locked_entry.new.seat, c.load_locked_entry.new.gate) c.args.job.now (reads_more c.args.table.now g.G.Gate.becomes (c.args.seat.now, c.args.gate.now) (c.load_place_beside.new.seat, c.load_place_beside.new.gate) (c.load_locked_entry.new.seat, c.load_locked_entry.new.gate) c.load_place_beside.ensures.reads c.load_locked_entry.ensures.reads).goes c.requires.takes).1
+    (takes_on c.args.table.now g.G.Gate.becomes (c.args.seat.now, c.args.gate.now) (c.load_locked_entry.new.seat, c.load_locked_entry.new.gate) c.args.job.now (reads_more c.args.table.now g.G.Gate.becomes (c.args.seat.now, c.args.gate.now) (c.load_sibling.new.seat, c.load_sibling.new.gate) (c.load_locked_entry.new.seat, c.load_locked_entry.new.gate) c.load_sibling.ensures.reads c.load_locked_entry.ensures.reads).goes c.requires.takes).1
 
 pub load_fixed-count-requires-clause-range : goal.load_fixed-count-requires-clause-range
 load_fixed-count-requires-clause-range g c =
     let (words, h) = upper_held c.args.table.now c.args.seat.now c.args.job.now c.requires.takes in
     let (view, node) = locked_node c.args.table.now.layout c.args.seat.now.known (upper c.args.job.now).number words c.requires.takes.2 h in
     let forks = c.in-Some.ensures.beside view (words, h, node) (upper_within c.args.table.now c.args.seat.now c.args.job.now c.requires.takes words h view node) in
-    let there = locked_on c.args.seat.now.known c.load_place_beside.new.seat.known (upper c.args.job.now).number words c.load_place_beside.ensures.reads.goes.stays.1 h in
+    let there = locked_on c.args.seat.now.known c.load_sibling.new.seat.known (upper c.args.job.now).number words c.load_sibling.ensures.reads.goes.stays.1 h in
     let p = c.requires.takes.2 in
     let is = sibling_is c.args.table.now c.args.seat.now c.args.job.now c.requires.takes words h view node c.in-Some.place c.in-Some.column forks c.in-Node.number c.in-Node.height (c.in-Node.ensures.entry words there) in
     let low : c.in-Node.number < c.args.table.now.layout.nodes = beside_in_table c.args.table.now.layout c.args.seat.now.known p.core p.lawful p.layout_is p.knows c.args.job.now.key.now (upper c.args.job.now).number c.in-Node.number _ c.in-Node.height words h is in
@@ -64,13 +64,13 @@ load_fixed-count-requires-clause-range g c =
 
 pub returns-then-saturating_add-gt33-clause-reads : goal.returns-then-saturating_add-gt33-clause-reads
 returns-then-saturating_add-gt33-clause-reads g c =
-    reads_more c.args.table.now g.G.Gate.becomes (c.args.seat.now, c.args.gate.now) (c.load_locked_entry.new.seat, c.load_locked_entry.new.gate) (c.load_fixed-count.new.seat, c.load_fixed-count.new.gate) (reads_more c.args.table.now g.G.Gate.becomes (c.args.seat.now, c.args.gate.now) (c.load_place_beside.new.seat, c.load_place_beside.new.gate) (c.load_locked_entry.new.seat, c.load_locked_entry.new.gate) c.load_place_beside.ensures.reads c.load_locked_entry.ensures.reads)
+    reads_more c.args.table.now g.G.Gate.becomes (c.args.seat.now, c.args.gate.now) (c.load_locked_entry.new.seat, c.load_locked_entry.new.gate) (c.load_fixed-count.new.seat, c.load_fixed-count.new.gate) (reads_more c.args.table.now g.G.Gate.becomes (c.args.seat.now, c.args.gate.now) (c.load_sibling.new.seat, c.load_sibling.new.gate) (c.load_locked_entry.new.seat, c.load_locked_entry.new.gate) c.load_sibling.ensures.reads c.load_locked_entry.ensures.reads)
     (reads_fixed c.args.table.now g.G.Gate.becomes c.in-Node.number 1 c.load_fixed-count.result (c.load_locked_entry.new.seat, c.load_locked_entry.new.gate) (c.load_fixed-count.new.seat, c.load_fixed-count.new.gate) c.load_fixed-count.ensures)
 
 -- and after the count was loaded
 pub load_position-position-requires-clause-own : goal.load_position-position-requires-clause-own
 load_position-position-requires-clause-own g c =
-    (takes_on c.args.table.now g.G.Gate.becomes (c.args.seat.now, c.args.gate.now) (c.load_fixed-count.new.seat, c.load_fixed-count.new.gate) c.args.job.now (reads_more c.args.table.now g.G.Gate.becomes (c.args.seat.now, c.args.gate.now) (c.load_locked_entry.new.seat, c.load_locked_entry.new.gate) (c.load_fixed-count.new.seat, c.load_fixed-count.new.gate) (reads_more c.args.table.now g.G.Gate.becomes (c.args.seat.now, c.args.gate.now) (c.load_place_beside.new.seat, c.load_place_beside.new.gate) (c.load_locked_entry.new.seat, c.load_locked_entry.new.gate) c.load_place_beside.ensures.reads c.load_locked_entry.ensures.reads)
+    (takes_on c.args.table.now g.G.Gate.becomes (c.args.seat.now, c.args.gate.now) (c.load_fixed-count.new.seat, c.load_fixed-count.new.gate) c.args.job.now (reads_more c.args.table.now g.G.Gate.becomes (c.args.seat.now, c.args.gate.now) (c.load_locked_entry.new.seat, c.load_locked_entry.new.gate) (c.load_fixed-count.new.seat, c.load_fixed-count.new.gate) (reads_more c.args.table.now g.G.Gate.becomes (c.args.seat.now, c.args.gate.now) (c.load_sibling.new.seat, c.load_sibling.new.gate) (c.load_locked_entry.new.seat, c.load_locked_entry.new.gate) c.load_sibling.ensures.reads c.load_locked_entry.ensures.reads)
     (reads_fixed c.args.table.now g.G.Gate.becomes c.in-Node.number 1 c.load_fixed-count.result (c.load_locked_entry.new.seat, c.load_locked_entry.new.gate) (c.load_fixed-count.new.seat, c.load_fixed-count.new.gate) c.load_fixed-count.ensures)).goes c.requires.takes).1
 
 pub load_position-position-requires-clause-range : goal.load_position-position-requires-clause-range
@@ -86,7 +86,7 @@ load_position-position-requires-clause-column g c =
 
 pub returns-clause-reads : goal.returns-clause-reads
 returns-clause-reads g c =
-    reads_more c.args.table.now g.G.Gate.becomes (c.args.seat.now, c.args.gate.now) (c.load_fixed-count.new.seat, c.load_fixed-count.new.gate) (c.load_position-position.new.seat, c.load_position-position.new.gate) (reads_more c.args.table.now g.G.Gate.becomes (c.args.seat.now, c.args.gate.now) (c.load_locked_entry.new.seat, c.load_locked_entry.new.gate) (c.load_fixed-count.new.seat, c.load_fixed-count.new.gate) (reads_more c.args.table.now g.G.Gate.becomes (c.args.seat.now, c.args.gate.now) (c.load_place_beside.new.seat, c.load_place_beside.new.gate) (c.load_locked_entry.new.seat, c.load_locked_entry.new.gate) c.load_place_beside.ensures.reads c.load_locked_entry.ensures.reads)
+    reads_more c.args.table.now g.G.Gate.becomes (c.args.seat.now, c.args.gate.now) (c.load_fixed-count.new.seat, c.load_fixed-count.new.gate) (c.load_position-position.new.seat, c.load_position-position.new.gate) (reads_more c.args.table.now g.G.Gate.becomes (c.args.seat.now, c.args.gate.now) (c.load_locked_entry.new.seat, c.load_locked_entry.new.gate) (c.load_fixed-count.new.seat, c.load_fixed-count.new.gate) (reads_more c.args.table.now g.G.Gate.becomes (c.args.seat.now, c.args.gate.now) (c.load_sibling.new.seat, c.load_sibling.new.gate) (c.load_locked_entry.new.seat, c.load_locked_entry.new.gate) c.load_sibling.ensures.reads c.load_locked_entry.ensures.reads)
     (reads_fixed c.args.table.now g.G.Gate.becomes c.in-Node.number 1 c.load_fixed-count.result (c.load_locked_entry.new.seat, c.load_locked_entry.new.gate) (c.load_fixed-count.new.seat, c.load_fixed-count.new.gate) c.load_fixed-count.ensures)) c.load_position-position.ensures.reads
 
 pub returns-clause-beside : goal.returns-clause-beside
@@ -94,9 +94,9 @@ returns-clause-beside g c =
     let (words, h) = upper_held c.args.table.now c.args.seat.now c.args.job.now c.requires.takes in
     let (view, node) = locked_node c.args.table.now.layout c.args.seat.now.known (upper c.args.job.now).number words c.requires.takes.2 h in
     let forks = c.in-Some.ensures.beside view (words, h, node) (upper_within c.args.table.now c.args.seat.now c.args.job.now c.requires.takes words h view node) in
-    let first = c.load_place_beside.ensures.reads.goes.stays.1 in
-    let there = locked_on c.args.seat.now.known c.load_place_beside.new.seat.known (upper c.args.job.now).number words first h in
-    let upto = (reads_more c.args.table.now g.G.Gate.becomes (c.args.seat.now, c.args.gate.now) (c.load_locked_entry.new.seat, c.load_locked_entry.new.gate) (c.load_fixed-count.new.seat, c.load_fixed-count.new.gate) (reads_more c.args.table.now g.G.Gate.becomes (c.args.seat.now, c.args.gate.now) (c.load_place_beside.new.seat, c.load_place_beside.new.gate) (c.load_locked_entry.new.seat, c.load_locked_entry.new.gate) c.load_place_beside.ensures.reads c.load_locked_entry.ensures.reads)
+    let first = c.load_sibling.ensures.reads.goes.stays.1 in
+    let there = locked_on c.args.seat.now.known c.load_sibling.new.seat.known (upper c.args.job.now).number words first h in
+    let upto = (reads_more c.args.table.now g.G.Gate.becomes (c.args.seat.now, c.args.gate.now) (c.load_locked_entry.new.seat, c.load_locked_entry.new.gate) (c.load_fixed-count.new.seat, c.load_fixed-count.new.gate) (reads_more c.args.table.now g.G.Gate.becomes (c.args.seat.now, c.args.gate.now) (c.load_sibling.new.seat, c.load_sibling.new.gate) (c.load_locked_entry.new.seat, c.load_locked_entry.new.gate) c.load_sibling.ensures.reads c.load_locked_entry.ensures.reads)
     (reads_fixed c.args.table.now g.G.Gate.becomes c.in-Node.number 1 c.load_fixed-count.result (c.load_locked_entry.new.seat, c.load_locked_entry.new.gate) (c.load_fixed-count.new.seat, c.load_fixed-count.new.gate) c.load_fixed-count.ensures)).goes.stays.1 in
     let then = locked_on c.args.seat.now.known c.load_fixed-count.new.seat.known (upper c.args.job.now).number words upto h in (
       beside_on c.args.seat.now.known c.load_position-position.new.seat.known c.args.job.now _ (c.load_position-position.ensures.reads.goes.stays.1 ∙ upto)

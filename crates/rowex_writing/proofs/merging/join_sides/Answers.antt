@@ -5,14 +5,14 @@ use Rattle.pieces.specs.Piece.{RisesFrom}
 use Rattle.tries.specs.Place.{fork_of}
 use Rattle.rowex_writing.proofs.merging.join_sides.Goals as goal
 
-pub join-requires-clause-after : goal.join-requires-clause-after
-join-requires-clause-after c = subst (λ u. RisesFrom 0 (fork_of u c.args.position (piece c.args.own.now) (piece c.args.other.now))) c.if-bit.true c.requires.after
+pub merge-requires-clause-after : goal.merge-requires-clause-after
+merge-requires-clause-after c = subst (λ u. RisesFrom 0 (fork_of u c.args.position (piece c.args.own.now) (piece c.args.other.now))) c.if-bit.true c.requires.after
 
 pub returns-then-bit : goal.returns-then-bit
-returns-then-bit c = subst (λ u. IsBuiltFrom c.join.result (fork_of u c.args.position (piece c.args.own.now) (piece c.args.other.now))) (sym c.if-bit.true) c.join.ensures
+returns-then-bit c = subst (λ u. IsBuiltFrom c.merge.result (fork_of u c.args.position (piece c.args.own.now) (piece c.args.other.now))) (sym c.if-bit.true) c.merge.ensures
 
-pub join-requires-else-bit-clause-after : goal.join-requires-else-bit-clause-after
-join-requires-else-bit-clause-after c = subst (λ u. RisesFrom 0 (fork_of u c.args.position (piece c.args.own.now) (piece c.args.other.now))) c.if-bit.false c.requires.after
+pub merge-requires-else-bit-clause-after : goal.merge-requires-else-bit-clause-after
+merge-requires-else-bit-clause-after c = subst (λ u. RisesFrom 0 (fork_of u c.args.position (piece c.args.own.now) (piece c.args.other.now))) c.if-bit.false c.requires.after
 
 pub returns-else-bit : goal.returns-else-bit
-returns-else-bit c = subst (λ u. IsBuiltFrom c.join-else-bit.result (fork_of u c.args.position (piece c.args.own.now) (piece c.args.other.now))) (sym c.if-bit.false) c.join-else-bit.ensures
+returns-else-bit c = subst (λ u. IsBuiltFrom c.merge-else-bit.result (fork_of u c.args.position (piece c.args.own.now) (piece c.args.other.now))) (sym c.if-bit.false) c.merge-else-bit.ensures

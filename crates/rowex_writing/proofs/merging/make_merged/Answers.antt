@@ -38,18 +38,18 @@ pub returns-in_err-entry-clause-goes : goal.returns-in_err-entry-clause-goes
 returns-in_err-entry-clause-goes g c =
     goes_more c.args.table.now g.G.Gate.becomes (c.args.seat.now, c.args.gate.now) (c.join_siblings.new.seat, c.join_siblings.new.gate) (c.raise_closed.new.seat, c.raise_closed.new.gate) c.join_siblings.ensures.reads.goes c.raise_closed.ensures.goes
 
-pub fill_words-requires-clause-own : goal.fill_words-requires-clause-own
-fill_words-requires-clause-own g c =
+pub fill_node-requires-clause-own : goal.fill_node-requires-clause-own
+fill_node-requires-clause-own g c =
     let goes = goes_more c.args.table.now g.G.Gate.becomes (c.args.seat.now, c.args.gate.now) (c.join_siblings.new.seat, c.join_siblings.new.gate) (c.raise_closed.new.seat, c.raise_closed.new.gate) c.join_siblings.ensures.reads.goes c.raise_closed.ensures.goes in
     seat_of c.args.table.now g.G.Gate.becomes (c.args.seat.now, c.args.gate.now) (c.raise_closed.new.seat, c.raise_closed.new.gate) goes c.requires.wide.seat
 
-pub fill_words-requires-clause-range : goal.fill_words-requires-clause-range
-fill_words-requires-clause-range g c =
+pub fill_node-requires-clause-range : goal.fill_node-requires-clause-range
+fill_node-requires-clause-range g c =
     let (news, b) = c.requires.building in
     subst (λ made. AreInTable c.args.table.now.layout made) c.requires.made (made_records c.args.table.now c.args.seat.now c.args.build.now.made.items news b) 0 (a_node 0) (omega arith)
 
-pub fill_words-requires-clause-held : goal.fill_words-requires-clause-held
-fill_words-requires-clause-held g c =
+pub fill_node-requires-clause-held : goal.fill_node-requires-clause-held
+fill_node-requires-clause-held g c =
     let (news, b) = c.requires.building in
     let (us, m, rec_is, side, built) = closed_made c.args.table.now g.G.Gate.becomes (c.args.seat.now, c.args.gate.now) (c.join_siblings.new.seat, c.join_siblings.new.gate) c.args.job.now c.args.merge.now c.join_siblings.ensures.reads.goes c.requires.wide c.requires.beside c.in_ok-joined.joined c.in_ok-joined.ensures.joined
     c.args.build.now.made.items c.raise_closed.new.build.made.items news c.args.merge.now.made c.height.result c.in_ok-entry.entry c.raise_closed.new.seat c.height.ensures c.requires.made c.join_siblings.ensures.reads.own b c.in_ok-entry.ensures.made in
@@ -58,7 +58,7 @@ fill_words-requires-clause-held g c =
 pub returns-clause-goes : goal.returns-clause-goes
 returns-clause-goes g c =
     let goes = goes_more c.args.table.now g.G.Gate.becomes (c.args.seat.now, c.args.gate.now) (c.join_siblings.new.seat, c.join_siblings.new.gate) (c.raise_closed.new.seat, c.raise_closed.new.gate) c.join_siblings.ensures.reads.goes c.raise_closed.ensures.goes in
-    goes_more c.args.table.now g.G.Gate.becomes (c.args.seat.now, c.args.gate.now) (c.raise_closed.new.seat, c.raise_closed.new.gate) (c.fill_words.new.seat, c.fill_words.new.gate) goes (set_all_on c.args.table.now g.G.Gate.becomes _ _ _ _ c.fill_words.ensures.fills)
+    goes_more c.args.table.now g.G.Gate.becomes (c.args.seat.now, c.args.gate.now) (c.raise_closed.new.seat, c.raise_closed.new.gate) (c.fill_node.new.seat, c.fill_node.new.gate) goes (set_all_on c.args.table.now g.G.Gate.becomes _ _ _ _ c.fill_node.ensures.fills)
 
 pub returns-clause-may : goal.returns-clause-may
 returns-clause-may g c =
@@ -66,14 +66,14 @@ returns-clause-may g c =
     let (news, b) = c.requires.building in
     let (us, m, rec_is, side, built) = closed_made table g.G.Gate.becomes (c.args.seat.now, c.args.gate.now) (c.join_siblings.new.seat, c.join_siblings.new.gate) c.args.job.now c.args.merge.now c.join_siblings.ensures.reads.goes c.requires.wide c.requires.beside c.in_ok-joined.joined c.in_ok-joined.ensures.joined
     c.args.build.now.made.items c.raise_closed.new.build.made.items news c.args.merge.now.made c.height.result c.in_ok-entry.entry c.raise_closed.new.seat c.height.ensures c.requires.made c.join_siblings.ensures.reads.own b c.in_ok-entry.ensures.made in
-    let filled = refilled table g.G.Gate.becomes (c.raise_closed.new.seat, c.raise_closed.new.gate) (c.fill_words.new.seat, c.fill_words.new.gate) c.raise_closed.new.build.made.items us m c.args.merge.now.made c.pack_node.result rec_is c.fill_words.ensures.fills c.fill_words.ensures.filled.1 built in
-    let whole = subst (λ ws. IsBuilding table c.fill_words.new.seat c.raise_closed.new.build.made.items (us ++ record { rec = a_node c.args.merge.now.made; words = ws } ∷ [])) c.pack_node.ensures.words filled in
+    let filled = refilled table g.G.Gate.becomes (c.raise_closed.new.seat, c.raise_closed.new.gate) (c.fill_node.new.seat, c.fill_node.new.gate) c.raise_closed.new.build.made.items us m c.args.merge.now.made c.pack_node.result rec_is c.fill_node.ensures.fills c.fill_node.ensures.filled.1 built in
+    let whole = subst (λ ws. IsBuilding table c.fill_node.new.seat c.raise_closed.new.build.made.items (us ++ record { rec = a_node c.args.merge.now.made; words = ws } ∷ [])) c.pack_node.ensures.words filled in
     let first = goes_more table g.G.Gate.becomes (c.args.seat.now, c.args.gate.now) (c.join_siblings.new.seat, c.join_siblings.new.gate) (c.raise_closed.new.seat, c.raise_closed.new.gate) c.join_siblings.ensures.reads.goes c.raise_closed.ensures.goes in
-    let goes = goes_more table g.G.Gate.becomes (c.args.seat.now, c.args.gate.now) (c.raise_closed.new.seat, c.raise_closed.new.gate) (c.fill_words.new.seat, c.fill_words.new.gate) first (set_all_on table g.G.Gate.becomes _ _ _ _ c.fill_words.ensures.fills) in
+    let goes = goes_more table g.G.Gate.becomes (c.args.seat.now, c.args.gate.now) (c.raise_closed.new.seat, c.raise_closed.new.gate) (c.fill_node.new.seat, c.fill_node.new.gate) first (set_all_on table g.G.Gate.becomes _ _ _ _ c.fill_node.ensures.fills) in
     let word = word_of c.in_ok-entry.entry c.has_number.ensures c.in_ok-entry.ensures.height in
-    may_merge_into table c.fill_words.new.seat c.args.job.now c.args.merge.now.number
-    (wide_now table g.G.Gate.becomes (c.args.seat.now, c.args.gate.now) (c.fill_words.new.seat, c.fill_words.new.gate) c.args.job.now c.args.merge.now goes c.requires.wide c.requires.beside c.in_ok-joined.joined c.in_ok-joined.ensures.joined) c.args.merge.now refl
-    (beside_now table g.G.Gate.becomes (c.args.seat.now, c.args.gate.now) (c.fill_words.new.seat, c.fill_words.new.gate) c.args.job.now c.args.merge.now goes c.requires.wide c.requires.beside c.in_ok-joined.joined c.in_ok-joined.ensures.joined)
+    may_merge_into table c.fill_node.new.seat c.args.job.now c.args.merge.now.number
+    (wide_now table g.G.Gate.becomes (c.args.seat.now, c.args.gate.now) (c.fill_node.new.seat, c.fill_node.new.gate) c.args.job.now c.args.merge.now goes c.requires.wide c.requires.beside c.in_ok-joined.joined c.in_ok-joined.ensures.joined) c.args.merge.now refl
+    (beside_now table g.G.Gate.becomes (c.args.seat.now, c.args.gate.now) (c.fill_node.new.seat, c.fill_node.new.gate) c.args.job.now c.args.merge.now goes c.requires.wide c.requires.beside c.in_ok-joined.joined c.in_ok-joined.ensures.joined)
     c.raise_closed.new.build.made.items us c.args.merge.now.made c.in_ok-joined.joined c.in_ok-entry.entry whole c.pack_node.ensures.fits
-    (merged_for table g.G.Gate.becomes (c.args.seat.now, c.args.gate.now) (c.fill_words.new.seat, c.fill_words.new.gate) c.args.job.now c.args.merge.now goes c.requires.wide c.requires.beside c.in_ok-joined.joined c.in_ok-joined.ensures.joined)
+    (merged_for table g.G.Gate.becomes (c.args.seat.now, c.args.gate.now) (c.fill_node.new.seat, c.fill_node.new.gate) c.args.job.now c.args.merge.now goes c.requires.wide c.requires.beside c.in_ok-joined.joined c.in_ok-joined.ensures.joined)
     side word (omega (arith, c.raise_closed.ensures.more, ap length c.requires.made))

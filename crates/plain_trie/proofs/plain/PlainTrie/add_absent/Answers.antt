@@ -1,6 +1,5 @@
 -- The search ends at the key's own leaf, or the key is absent and gets one, which rises to the root.
 use Rattle.std.proofs.Common.{◌≡◌, ℕ, ◌∷◌, [], ◌++◌, Bool, arith, List, suc, length, refl, ap, sym, ◌∙◌, subst, Option, Some, None, rules}
-use Rattle.std.proofs.lemmas.Option.{slice_get_within}
 use Rattle.std.proofs.lemmas.Result.{err_from_is_err_and}
 use Rattle.std.specs.Vec.{vec_capacity, vec_len}
 use Rattle.key_bits.specs.Bits.{IsFirstDifference, bit_of}

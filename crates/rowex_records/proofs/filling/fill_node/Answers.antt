@@ -4,7 +4,7 @@ use Rattle.versions.specs.declared.Rec.TheVariants.{Node as a_node}
 use Rattle.rowex_core.specs.Reading.{IsPacked}
 use Rattle.rowex_records.proofs.SetAll.{set_claimed, sets_eights, sets_node, sets_count, sets_give}
 use Rattle.rowex_records.proofs.Used.{numbers_used}
-use Rattle.rowex_records.proofs.filling.fill_words.Goals as goal
+use Rattle.rowex_records.proofs.filling.fill_node.Goals as goal
 
 -- the first word has something
 pub store_word-requires-clause-stored : goal.store_word-requires-clause-stored

@@ -7,8 +7,8 @@ use Rattle.partial_keys.proofs.Growing.{weight}
 use Rattle.partial_keys.specs.Rows.{with_unused}
 use Rattle.pieces.specs.Positions.{front_below}
 use Rattle.compound_node.specs.Nodes.{IsBuiltFrom, NodeView}
-use Rattle.compound_node.proofs.nodes.Node.join.Goals as goal
-use Rattle.compound_node.proofs.nodes.Node.join.Goals.{After-as_slice-3, After-below}
+use Rattle.compound_node.proofs.nodes.Node.merge.Goals as goal
+use Rattle.compound_node.proofs.nodes.Node.merge.Goals.{After-as_slice-3, After-below}
 
 pub ensure_columns-requires-clause-small : goal.ensure_columns-requires-clause-small
 ensure_columns-requires-clause-small c = join_below c.args.position c.args.zero.now c.args.one.now c.count.ensures.lawful c.count-2.ensures.lawful c.requires.after

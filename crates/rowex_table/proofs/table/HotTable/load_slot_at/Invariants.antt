@@ -1,7 +1,7 @@
 -- The event of this step.
 use Rattle.std.specs.Prelude.{Some}
 use Rattle.rowex_table.specs.Runs.{silent}
-use Rattle.rowex_table.proofs.table.HotTable.load_fixed_from.Given as goal
+use Rattle.rowex_table.proofs.table.HotTable.load_slot_at.Given as goal
 
 abbrev pub ghosts-load_at : goal.ghosts-load_at
 ghosts-load_at g a = record { layout = Some a.self.now.layout; act = a.act; said = silent }

@@ -15,12 +15,12 @@ pub fn key(rt: &impl Abort, bytes: &[u8]) -> Key {
     }
 }
 
-/// The lowest key of all, and the highest one.
+/// The lowest and the highest of all keys.
 pub fn ends(rt: &impl Abort) -> (Key, Key) {
     (key(rt, b""), key(rt, &[255; 240]))
 }
 
-/// An index of `passes` passes, two nodes and eight leaves, with its passes. If memory is refused it tries once more.
+/// An index of two nodes and eight leaves with `passes` passes, and these passes. Where memory is refused once, the next call makes it.
 pub fn index_of(rt: &impl Abort, alloc: Global, passes: u32) -> (Index, Vec<Pass>)
     ensures { All (Owns result.0) result.1.items }
 {
@@ -28,13 +28,13 @@ pub fn index_of(rt: &impl Abort, alloc: Global, passes: u32) -> (Index, Vec<Pass
         Ok(made) => made,
         Err(fault) => {
             assert!(rt; matches!(fault, IndexFault::Memory));
-            index_again(rt, alloc, passes)
+            create_again(rt, alloc, passes)
         }
     }
 }
 
-/// The index and passes of a second try; panics if it is refused.
-fn index_again(rt: &impl Abort, alloc: Global, passes: u32) -> (Index, Vec<Pass>)
+/// Creates the index of `index_of` at a second try, which is not refused.
+fn create_again(rt: &impl Abort, alloc: Global, passes: u32) -> (Index, Vec<Pass>)
     ensures { All (Owns result.0) result.1.items }
 {
     match create(alloc, passes, 2, 8) {
@@ -43,8 +43,8 @@ fn index_again(rt: &impl Abort, alloc: Global, passes: u32) -> (Index, Vec<Pass>
     }
 }
 
-/// Takes the last pass out of `passes` and returns it; panics if there is none.
-pub fn next_pass(rt: &impl Abort, index: &Index, passes: &mut Vec<Pass>) -> Pass
+/// Takes the last of `passes`, which belongs to `index`, out of them.
+pub fn pop_pass(rt: &impl Abort, index: &Index, passes: &mut Vec<Pass>) -> Pass
     requires { All (Owns index.now) passes.old.items }
     ensures one { Owns index.now result }
     ensures rest { All (Owns index.now) passes.new.items }

@@ -5,7 +5,7 @@ use Rattle.compound_node.specs.Beside.{AreRound, IsBesideIn, column_before}
 use Rattle.compound_node.specs.Nodes.{IsLawfulNode, NodeView}
 use Rattle.pieces.proofs.Beside.{found}
 use Rattle.pieces.proofs.Seams.{beside_by, by_before, by_next, by_several_before, by_several_next}
-use Rattle.compound_node.proofs.rows.place_beside.Goals as goal
+use Rattle.compound_node.proofs.rows.find_sibling.Goals as goal
 
 -- from what the columns tell
 told_as : (at before own after second : ℕ) (result : Option (ℕ × ℕ)) → beside_by at (column_before before) (column_before own) (column_before after) (column_before second) ≡ result →

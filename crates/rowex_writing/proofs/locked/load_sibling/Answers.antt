@@ -1,7 +1,7 @@
 -- The rows round the place tell it.
 use Rattle.std.proofs.Common.{◌∙◌, ap, get_or}
 use Rattle.rowex_writing.proofs.Locking.{locked_on, reads_more}
-use Rattle.rowex_writing.proofs.locked.load_place_beside.Goals as goal
+use Rattle.rowex_writing.proofs.locked.load_sibling.Goals as goal
 
 pub returns-clause-reads : goal.returns-clause-reads
 returns-clause-reads g c =
@@ -17,7 +17,7 @@ returns-clause-beside g c = λ node (words, h, is) inside.
     let own = locked_on c.args.seat.now.known c.load_row-before.new.seat.known n words c.load_row-before.ensures.reads.goes.stays.1 h in
     let after = locked_on c.load_row-before.new.seat.known c.load_row-own.new.seat.known n words c.load_row-own.ensures.reads.goes.stays.1 own in
     let second = locked_on c.load_row-own.new.seat.known c.load_row-after.new.seat.known n words c.load_row-after.ensures.reads.goes.stays.1 after in
-    c.place_beside.ensures node is.has.lawful inside (record {
+    c.find_sibling.ensures node is.has.lawful inside (record {
       before_is = c.load_row-before.ensures.row node (words, h, is) ∙ ap (λ k. get_or node.rows k 4294967295) c.saturating_sub.ensures;
       own_is = c.load_row-own.ensures.row node (words, own, is);
       after_is = c.load_row-after.ensures.row node (words, after, is);
