@@ -26,7 +26,7 @@ pub const MOST_TURNS: usize = 8;
 pub struct Turn {
     /// The node's record number.
     pub number: u32,
-    /// The place of the entry that the way takes.
+    /// The slot of the entry that the way takes.
     pub place: u8,
 }
 

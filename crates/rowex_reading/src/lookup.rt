@@ -38,7 +38,7 @@ pub fn look_up<G: Gate>(
 }
 
 /// Looks `key` up from the root, along a way that it went before: the turns at `index` in `rows`. In a node that the way had at this depth
-/// the place is known, and the head isn't loaded anew. Returns what [`look_up`] does.
+/// the slot is known, and the head isn't loaded anew. Returns what [`look_up`] does.
 pub fn look_up_along<G: Gate>(
     table: &HotTable,
     seat: &mut TableSeat,
@@ -104,7 +104,7 @@ fn turn_in(rows: &[[Option<Turn>; TOGETHER]], depth: usize, index: usize) -> Opt
     }
 }
 
-/// The place in `node` to which the bits of `key` lead. It is that of `turn`, if that is a turn in this node. Else the node's head is
+/// The slot in `node` to which the bits of `key` lead. It is that of `turn`, if that is a turn in this node. Else the node's head is
 /// searched.
 #[inline(always)]
 pub(crate) fn find_place<G: Gate>(

@@ -61,7 +61,7 @@ fn load_head_part<G: Gate>(
     }
 }
 
-/// Loads all words of the head of node `number` into `words`, those of unused places too. So no load waits for the numbers of entries and
+/// Loads all words of the head of node `number` into `words`, those of unused slots too. So no load waits for the numbers of entries and
 /// columns.
 #[inline(always)]
 pub(crate) fn load_head_words<G: Gate>(
@@ -105,7 +105,7 @@ pub fn enter_node<G: Gate>(
     }
 }
 
-/// Loads the head of `node` and searches it for `key`. Returns the node of the key's path, with the place to which the bits of `key` lead.
+/// Loads the head of `node` and searches it for `key`. Returns the node of the key's path, with the slot to which the bits of `key` lead.
 ///
 /// All 25 words are loaded, whatever the node's size, so no load waits for another. The key's bits are gathered before the rows are loaded.
 /// So the rows stay in registers until the search.
@@ -138,7 +138,7 @@ pub fn search_node<G: Gate>(
     }
 }
 
-/// Loads the entry at `place` of `node`, which has that place.
+/// Loads the entry in slot `place` of `node`, which has that slot.
 #[inline(always)]
 pub fn load_entry<G: Gate>(
     table: &HotTable,

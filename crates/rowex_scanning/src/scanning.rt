@@ -200,10 +200,10 @@ fn scan_node<G: Gate>(
     walk(scan, seat, gate, way, places, pairs)
 }
 
-/// Walks over the places of the last node of `way`, from its gap `at` on, and of the nodes above it, in the scan's direction. Adds the
+/// Walks over the slots of the last node of `way`, from its gap `at` on, and of the nodes above it, in the scan's direction. Adds the
 /// pairs of the range to `pairs`, and returns whether there is a further one. An error if memory is refused.
 ///
-/// It looks at several places together, so that it doesn't wait for each leaf alone. The bytes of each key go to the same `places`,
+/// It looks at several slots together, so that it doesn't wait for each leaf alone. The bytes of each key go to the same `places`,
 /// whatever stands there.
 #[inline(always)]
 fn walk<G: Gate>(

@@ -19,10 +19,10 @@ use version_laws::Direction;
 pub(crate) struct Start {
     /// The level of the node in which it starts.
     pub level: usize,
-    /// That node, with the place at which the scan starts.
+    /// That node, with the gap at which the scan starts, or the leaf's slot if `leaf` is true.
     pub top: PathNode,
-    /// Whether the leaf at which the search ended comes first. It stands at the place, and is not looked for there again: by
-    /// now there may be another entry, with keys out of the range.
+    /// Whether the leaf at which the search ended comes first. It is not looked for in its slot again: by now there may be another
+    /// entry, with keys out of the range.
     pub leaf: bool,
 }
 

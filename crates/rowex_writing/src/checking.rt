@@ -111,7 +111,7 @@ fn entries_stand<G: Gate>(
     true
 }
 
-/// Returns whether the locked node `step.number` has `entry` at place `step.at`, by one load.
+/// Returns whether the locked node `step.number` has `entry` in slot `step.at`, by one load.
 pub(crate) fn entry_stands<G: Gate>(
     table: &HotTable,
     seat: &mut TableSeat,

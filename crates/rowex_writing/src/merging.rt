@@ -39,7 +39,7 @@ use rowex_table::{HotTable, TableSeat};
 /// A merge of a node that loses a leaf, the lower one, with its sibling. Both stand in the upper node.
 #[derive(Clone, Copy)]
 pub(crate) struct Merge {
-    /// The sibling's place in the upper node.
+    /// The sibling's slot in the upper node.
     pub place: u8,
     /// The position of the fork between the two.
     pub position: u16,
@@ -52,9 +52,9 @@ pub(crate) struct Merge {
 /// A fork of a locked node, whose place an entry takes.
 #[derive(Clone, Copy)]
 struct ClosedFork {
-    /// The node, and a place below the fork.
+    /// The node, and a slot below the fork.
     step: PathNode,
-    /// The place that stands alone on the fork's other side.
+    /// The slot that stands alone on the fork's other side.
     place: u8,
     /// The entry that takes the fork's place.
     entry: Entry,

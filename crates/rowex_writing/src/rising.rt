@@ -326,7 +326,7 @@ pub(crate) fn raise_grown<G: Gate>(
     Some((entry, stays))
 }
 
-/// The entry for what is left of the locked node `number` without the leaf at place `at`, to which some key's search leads. It is that of a
+/// The entry for what is left of the locked node `number` without the leaf in slot `at`, to which some key's search leads. It is that of a
 /// new record, or the only entry left. `None` if no node record was free: none is made then.
 ///
 /// The node's words become those of the record, so that no node is read, searched or packed.

@@ -237,7 +237,7 @@ fn node_of<'a>(rt: &impl Abort, trie: &'a PlainTrie, entry: Option<Entry>) -> &'
     }
 }
 
-/// A trie as `trie_of` makes it, the places on the way to a node, and that node's height, positions and entries.
+/// A trie as `trie_of` makes it, the slots on the way to a node, and that node's height, positions and entries.
 type Shape = (
     bool,
     u16,
@@ -394,7 +394,7 @@ fn calls_by_chance_are_answered_alike(rt: HostRuntime) {
     }
 }
 
-/// A node on a way: its height, its first position, its count, and the place that is taken there.
+/// A node on a way: its height, its first position, its count, and the slot that is taken there.
 type Passed = (u16, u16, u8, u8);
 
 /// A way, and a first difference with a level and an entry where it is looked for. Then the level, the entries and the case of the choice,

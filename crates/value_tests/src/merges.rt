@@ -1,4 +1,4 @@
-//! Nodes that become one, by value: the place beside one, two nodes under a fork, and one entry in place of the fork.
+//! Nodes that become one, by value: the slot beside one, two nodes under a fork, and one entry in place of the fork.
 
 ghost use Rattle.std.specs.Prelude.{◌≡◌};
 
@@ -27,7 +27,7 @@ fn child(number: u32) -> Entry
     Entry::Node { number, height: 1 }
 }
 
-/// What `beside` returns for each place of `node` is in `want`.
+/// What `beside` returns for each slot of `node` is in `want`.
 fn expect_beside(rt: &impl Abort, node: &Node, want: &[Option<(u8, u16)>]) {
     assert!(rt; want.len() == node.count() as usize);
     for i in 0..node.count() {
@@ -35,7 +35,7 @@ fn expect_beside(rt: &impl Abort, node: &Node, want: &[Option<(u8, u16)>]) {
     }
 }
 
-/// In nodes of two, three and 32 entries the place beside each is found, or none where several are beside it.
+/// In nodes of two, three and 32 entries the slot beside each is found, or none where several are beside it.
 #[test]
 fn places_are_beside_others(rt: HostRuntime) {
     let last = node_over_nodes(&rt, [0, 0x4000_0000, 0x8000_0000]);
@@ -118,7 +118,7 @@ fn two_nodes_become_a_full_one(rt: HostRuntime) {
     }
 }
 
-/// Puts child 20 in the place of the entry at `at` of `node`, which is 2 high, and of the one beside it. Returns the words of the node
+/// Puts child 20 in the place of the entry in slot `at` of `node`, which is 2 high, and of the one beside it. Returns the words of the node
 /// then. If the node has no other entries, the child is returned with them.
 fn close_fork_at(rt: &impl Abort, node: &Node, at: u8) -> (Option<Entry>, [u64; NODE_FIELDS]) {
     let (count, height) = (node.count(), node.height());
@@ -159,7 +159,7 @@ fn one_entry_takes_the_place_of_two(rt: HostRuntime) {
     }
 }
 
-/// `row_of` reads the half of a word by the place, and `position_of` the quarter by the column.
+/// `row_of` reads the half of a word by the slot, and `position_of` the quarter by the column.
 #[test]
 fn numbers_are_read_of_their_words(rt: HostRuntime) {
     let words = pack_node(&comb(&rt, &POSITIONS));

@@ -97,7 +97,7 @@ fn bits_are_gathered_from_the_highest(rt: HostRuntime) {
     }
 }
 
-/// Both searches return the last place whose row has only bits that the key has.
+/// Both searches return the last slot whose row has only bits that the key has.
 #[test]
 fn searches_find_the_highest_complying_entry(rt: HostRuntime) {
     let mut sparse = [u32::MAX; 32];
@@ -131,7 +131,7 @@ fn four() -> Node
     three().insert(0, 2, 6, true, Entry::Leaf(3))
 }
 
-/// A node and its head find the place of each key by its gathered bits; a fork before its own affects all places.
+/// A node and its head find the slot of each key by its gathered bits; a fork before its own affects all slots.
 #[test]
 fn nodes_are_searched(rt: HostRuntime) {
     let node = three();
