@@ -91,7 +91,7 @@ fn search_along<G: Gate>(
     }
 }
 
-/// The turn at `index` in the row of `depth`. `None` if there is none, or no such row.
+/// The turn at `index` in row `depth` of `rows`. `None` if there is none, or no such row.
 #[inline(always)]
 fn turn_in(rows: &[[Option<Turn>; TOGETHER]], depth: usize, index: usize) -> Option<Turn>
     requires { index < TOGETHER }

@@ -65,8 +65,8 @@ fn most_together(limit: usize, pairs: &Pairs) -> u8
 }
 
 /// Loads the entries in the next slots of the node `top`, up to the first that leads to a node. It looks at [`most_together`] slots, or
-/// fewer if fewer are to come. The leaves' numbers go to the first of `leaves`, and the leaves are touched where [`should_touch`] says so.
-/// Returns how many these are, and that node, if there is one.
+/// fewer if fewer are to come. `pairs` are those listed so far. The leaves' numbers go to the first of `leaves`, and the leaves are touched
+/// where [`should_touch`] says so. Returns how many leaves these are, and that node, if there is one.
 #[inline(always)]
 pub(crate) fn look_ahead<G: Gate>(
     scan: &Scan,

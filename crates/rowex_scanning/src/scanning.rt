@@ -329,9 +329,9 @@ fn take_leaf<G: Gate>(
     take_pair(pairs, scan.range, places, length, value)
 }
 
-/// Adds a pair to `pairs`, if it belongs to `range` and the limit leaves room, and returns what becomes of the scan. An error if memory
-/// is refused. The pair's key has the first `length` of `places`, and does not come before the range. Inline, so that the key's bytes go at
-/// once from where they were read to their place among the pairs.
+/// Adds a pair with the value `value` to `pairs`, if it belongs to `range` and the limit leaves room. Returns what becomes of the scan. An
+/// error if memory is refused. The pair's key has the first `length` of `places`, and does not come before the range. Inline, so that the
+/// key's bytes go at once from where they were read to their place among the pairs.
 #[inline(always)]
 fn take_pair(
     pairs: &mut Pairs,

@@ -49,7 +49,8 @@ pub(crate) fn check_span<G: Gate>(
     entries_stand(table, seat, gate, job)
 }
 
-/// The entry that names the node at `index` of `way`. Past the last node it is what the search ended at: the leaf found, or `None`.
+/// The entry that names the node at `index` of `way`. Past the last node it is what the search ended at, as `found` says: the leaf, or
+/// `None`.
 pub(crate) fn naming_entry(way: &[PathNode], found: Found, index: usize) -> Option<Entry>
     ensures { result ≡ named way.now found index }
 {

@@ -152,8 +152,8 @@ pub(crate) fn claim_leaf<G: Gate>(
     Some(number)
 }
 
-/// The number of the first leaf record, from `first` on, whose class is not to be skipped; `layout.leaves` if there is none. Each class
-/// that is skipped has one claim less to skip afterwards.
+/// The number of the first leaf record, from `first` on, whose class is not to be skipped; `layout.leaves` if there is none. In `classes`,
+/// each class that is skipped has one claim less to skip afterwards.
 fn skip_classes(layout: Layout, classes: &mut [Hint; LEAF_CLASSES], first: u32) -> u32
     requires { first ≤ layout.leaves }
     ensures { (first ≤ result) × (result ≤ layout.leaves) }
@@ -171,7 +171,8 @@ fn skip_classes(layout: Layout, classes: &mut [Hint; LEAF_CLASSES], first: u32) 
 }
 
 /// Claims a leaf record from number `from` on and below `upto`, of the smallest class that has one free, and returns its number. `None` if
-/// none was free. A class with none free is to be skipped afterwards. Inline, so that the class of the first one is known.
+/// none was free. A class with none free is to be skipped afterwards, as its hint in `classes` says then. Inline, so that the class of the
+/// first one is known.
 #[inline(always)]
 fn claim_between<G: Gate>(
     table: &HotTable,

@@ -60,7 +60,7 @@ pub(crate) fn load_words<G: Gate>(
     load_eight(table, seat, gate, loads, words, 49);
 }
 
-/// Loads the row of slot `at` of the locked node `node`. Past the last one it is 4,294,967,295.
+/// Loads the row of slot `at` of the locked node `node`; 4,294,967,295 for an unused slot, and past the last one.
 #[inline(always)]
 fn load_row<G: Gate>(
     table: &HotTable,

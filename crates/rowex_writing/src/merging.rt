@@ -209,8 +209,8 @@ fn make_merged<G: Gate>(
     Some(entry)
 }
 
-/// Returns what is left of the lower node and all of its sibling as one node, with the fork between the two. `None` if they have more
-/// than 32 entries, or one entry alone is left of the lower node.
+/// Returns what is left of the lower node and all of its sibling as one node, with a fork of the two at `merge.position`. `None` if they
+/// have more than 32 entries, or one entry alone is left of the lower node.
 fn join_siblings<G: Gate>(
     table: &HotTable,
     seat: &mut TableSeat,
