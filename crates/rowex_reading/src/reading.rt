@@ -161,9 +161,9 @@ pub fn load_entry<G: Gate>(
 /// Loads `leaf`: its value, its key's length, and the words with bytes of the key, which go at once to the first of `places`. Returns the
 /// key's length and the value.
 ///
-/// The words behind are not loaded, and their places stay. If all were 0, `places` are the key's (`Key::from_padded`); else those behind the
-/// key mean nothing. Keys of eight bytes are common, and their one word needs no loop. Inline, so that a caller has the bytes where they
-/// were read.
+/// The words behind are not loaded, and their places stay. If all were 0 before, `places` are the key's (`Key::from_padded`); else those
+/// behind the key mean nothing. Keys of eight bytes are common, and their one word needs no loop. Inline, so that a caller has the bytes
+/// where they were read.
 #[inline(always)]
 pub fn load_leaf<G: Gate>(
     table: &HotTable,
