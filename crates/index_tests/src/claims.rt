@@ -13,7 +13,7 @@ use std::process::Abort;
 use std::test::*;
 use std::thread::{Threads, join};
 
-/// A table of two seats and eight leaf records, and its seats.
+/// A table of two seats, eight node records and eight leaf records, and its seats.
 fn table_of(rt: &impl Abort, alloc: Global) -> (HotTable, TableSeat, TableSeat)
     ensures layout { (result.0.layout.passes ≡ 2) × (result.0.layout.nodes ≡ 8) × (result.0.layout.leaves ≡ 8) }
     ensures own { IsSeatOf result.0 result.1 × IsSeatOf result.0 result.2 }
@@ -91,7 +91,7 @@ fn give_back_none(rt: &impl Abort, table: &HotTable, seat: &mut TableSeat)
     assert!(rt; table.give_back(seat, &mut NoGate, Rec::Leaf(0), 1) == 0);
 }
 
-/// Claims each leaf record that is free. Returns a number with a bit for each of these.
+/// Claims each leaf record that is free. Returns a mask: bit `n % 64` is set if leaf n was claimed.
 fn claim_each(table: &HotTable, seat: &mut TableSeat) -> u64
     requires own { IsSeatOf table.now seat.old }
 {
@@ -126,6 +126,7 @@ fn claim_in_threads(
     assert!(rt; ours & theirs == 0 && ours | theirs == 0xfe);
 }
 
+/// A free record isn't given back, a filled word stands, a record claimed is handed over, and two threads claim none twice.
 #[test]
 fn a_record_has_one_seat(rt: HostRuntime) {
     let (table, mut first, mut second) = table_of(&rt, rt.alloc());

@@ -43,7 +43,7 @@ fn open_last<'a>(
     }
 }
 
-/// `first` inserts a key, and `second` another one. `second` finds the first key there already.
+/// `first` inserts a key, and `second` another one. `second` finds the first key there already. Together they count two keys.
 fn insert_by_both(
     rt: &impl Abort,
     first: &mut Handle<&Index>,
@@ -56,7 +56,7 @@ fn insert_by_both(
     assert!(rt; total(&[first.count(), second.count()]) == 2);
 }
 
-/// `second` removes both keys, and so one more than it has inserted.
+/// `second` removes both keys, one more than it has inserted, so its count is below 0. Together they count none.
 fn remove_both(
     rt: &impl Abort,
     first: &mut Handle<&Index>,
@@ -71,6 +71,7 @@ fn remove_both(
     assert!(rt; total(&[first.count(), second.count()]) == 0);
 }
 
+/// A closed handle counts its one key, and still does when it is opened again.
 #[test]
 fn a_handle_keeps_its_count_while_it_is_closed(rt: HostRuntime) {
     let (index, mut passes) = create_closed_passes(&rt, rt.alloc());

@@ -25,7 +25,7 @@ enum Direction {
     Downwards,
 }
 
-/// Scans the pairs between the two keys of `ends`.
+/// Scans nine pairs at most between the two keys of `ends`, in `direction`. An error if memory is refused.
 fn scan_between(
     alloc: Global,
     guest: &mut Guest,
@@ -46,7 +46,7 @@ fn expect_whole(rt: &impl Abort, scan: Result<Scan, AllocError>, count: usize) {
     }
 }
 
-/// Inserts two keys.
+/// Inserts the two keys, with the values 1 and 2.
 fn insert_both(rt: &impl Abort, guest: &mut Guest, keys: &(Key, Key)) {
     assert!(rt; guest.try_insert(&keys.0, 1) == Ok(Reply::Inserted));
     assert!(rt; guest.try_insert(&keys.1, 2) == Ok(Reply::Inserted));
@@ -98,7 +98,7 @@ fn expect_last(rt: &impl Abort, alloc: Global, guest: &mut Guest, key: &Key) {
     assert!(rt; found == *key && value == 2);
 }
 
-/// Does so with a new index and two passes.
+/// Makes an index of two passes: a scan by one of them, in `direction`, leaves no pin.
 fn scan_new_index(rt: &impl Abort, alloc: Global, direction: Direction) {
     let (index, mut passes) = index_of(rt, alloc, 2);
     let mut guest = Handle::new(&index, pop_pass(rt, &index, &mut passes));
@@ -106,6 +106,7 @@ fn scan_new_index(rt: &impl Abort, alloc: Global, direction: Direction) {
     scan_beside(rt, alloc, &mut guest, &mut other, direction);
 }
 
+/// A scan that was refused memory leaves no pin, upwards as downwards.
 #[test]
 fn scans_leave_no_pin(rt: HostRuntime) {
     scan_new_index(&rt, rt.alloc(), Direction::Upwards);
@@ -150,7 +151,7 @@ fn replay_of(rt: &impl Abort, alloc: Global) -> Replay {
     }
 }
 
-/// Inserts two keys and removes one of them. `gate` is told of each step, and its replay holds the other key then.
+/// Inserts two keys and removes one of them, and tells `gate` each step. Its replay takes each, and has three changes then.
 fn change_with_gate(rt: &impl Abort, guest: &mut Guest, gate: &mut RetryingGate) {
     let (low, high) = ends(rt);
     let (index, pass) = (guest.index, &mut guest.pass);
@@ -172,6 +173,7 @@ fn expect_held(rt: &impl Abort, alloc: Global, replay: &Replay, count: usize) {
     }
 }
 
+/// A step refused for want of memory changes nothing: told again, it is made. The replay has three changes and one pair then.
 #[test]
 fn a_replay_stays_as_it_was(rt: HostRuntime) {
     let (index, mut passes) = index_of(&rt, rt.alloc(), 1);
@@ -194,6 +196,7 @@ fn insert_plain(rt: &impl Abort, index: &mut PlainIndex, key: Key) {
     }
 }
 
+/// An insert that was refused memory adds nothing, and a second one does; a scan has all twenty keys.
 #[test]
 fn a_plain_index_stays_as_it_was(rt: HostRuntime) {
     let mut index = PlainIndex::new(rt.alloc());
@@ -217,6 +220,7 @@ fn insert_in_trie(rt: &impl Abort, trie: &mut PlainTrie, key: &Key) {
     }
 }
 
+/// An insert that was refused memory adds nothing, and an upsert then does; a scan has all forty keys.
 #[test]
 fn a_plain_trie_stays_as_it_was(rt: HostRuntime) {
     let mut trie = PlainTrie::new(rt.alloc());

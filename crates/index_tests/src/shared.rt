@@ -7,7 +7,7 @@ use hot_index::{Index, IndexFault, Key, Pass, create};
 use std::alloc::Global;
 use std::process::Abort;
 
-/// The key of these bytes, which are few enough.
+/// The key with the bytes `bytes`; panics if they are more than 240.
 pub fn key(rt: &impl Abort, bytes: &[u8]) -> Key {
     match Key::from_bytes(bytes) {
         Ok(key) => key,

@@ -48,7 +48,7 @@ fn add_in_threads<R: Threads + Wait + Sync>(
     )
 }
 
-/// An absent key stays absent. One that is there gets each sum, modulo 2 to the power of 64.
+/// An absent key stays absent. One that is there gets each sum, modulo 2 to the power of 64, and has the value 0 in the end.
 fn add_alone(rt: &(impl Abort + Wait), index: &Index, pass: &mut Pass, key: &Key)
     requires { Owns index.now pass.old }
     ensures { Owns index.now pass.new }
@@ -61,6 +61,7 @@ fn add_alone(rt: &(impl Abort + Wait), index: &Index, pass: &mut Pass, key: &Key
     assert!(rt; index.get(pass, key) == Some(0));
 }
 
+/// Sums of one pass go beyond the greatest number to 0; two threads that add at the same time lose nothing.
 #[test]
 fn what_two_threads_add_is_the_sum(rt: HostRuntime) {
     let (index, mut passes) = index_of(&rt, rt.alloc(), 3);

@@ -71,6 +71,7 @@ fn find_both(rt: &impl Abort, guest: &mut Handle<&Index>, keys: &(Key, Key)) {
     assert!(rt; guest.get(&keys.0) == Some(1) && guest.get(&keys.1) == Some(1));
 }
 
+/// Each of two threads finds the key of the other; both passes find both keys once they have met.
 #[test]
 fn threads_find_each_others_keys(rt: HostRuntime) {
     let (index, mut passes) = index_of(&rt, rt.alloc(), 2);

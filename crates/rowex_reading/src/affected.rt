@@ -13,7 +13,7 @@ use record_words::{HEAD_WORDS, affected_in};
 use rowex_core::Gate;
 use rowex_table::{HotTable, TableSeat};
 
-/// The places of the first and the last entry of node `number` that a new fork at `position` affects. The entry at `found`, a place that
+/// The slots of the first and the last entry of node `number` that a new fork at `position` affects. The entry in `found`, a slot that
 /// the node has, is one of these. It loads all words of the node's head, and `gate` is told of each load.
 #[inline(always)]
 pub fn find_affected<G: Gate>(

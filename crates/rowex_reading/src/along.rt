@@ -26,13 +26,13 @@ pub const MOST_TURNS: usize = 8;
 pub struct Turn {
     /// The node's record number.
     pub number: u32,
-    /// The place of the entry that the way takes.
+    /// The slot of the entry that the way takes.
     pub place: u8,
 }
 
 /// Loads the root, and lets `count` keys of `keys`, from index `first` on, go down by turns, each a node at a time. Returns the turns of
-/// their ways: a row for each level, the topmost first, and in it a place for each key. The place is `None` where the key's way has no
-/// node.
+/// their ways in the first [`MOST_TURNS`] levels: a row for each level, the topmost first, with an item for each key. The item is `None`
+/// where the key's way has no node.
 pub fn go_down<G: Gate>(
     table: &HotTable,
     seat: &mut TableSeat,
@@ -70,7 +70,7 @@ fn has_node(tips: &[Option<Entry>; TOGETHER]) -> bool
 }
 
 /// Finds the turns of the first `count` of `keys` in the nodes to which their ways have led, as `tips` says. `None` for a key whose way has
-/// ended.
+/// ended, and behind the last of these keys.
 fn find_turns<G: Gate>(
     table: &HotTable,
     seat: &mut TableSeat,
@@ -118,7 +118,8 @@ fn find_turn<G: Gate>(
     }
 }
 
-/// Loads the entries to which the first `count` of `turns` lead, and touches the records that they name. `None` where there is no turn.
+/// Loads the entries to which the first `count` of `turns` lead, and touches the records that they name. `None` where there is no turn, and
+/// behind the last of these.
 fn follow_turns<G: Gate>(
     table: &HotTable,
     seat: &mut TableSeat,
@@ -168,8 +169,8 @@ fn follow_turn<G: Gate>(
     }
 }
 
-/// Loads a word of each of the first lines of the record that `entry` names: one of a leaf, three of a node. So the lines are at hand
-/// when the record is read, and those of several keys' records come side by side.
+/// Loads a word of each of the first cache lines of the record that `entry` names: one of a leaf, three of a node. So the lines are in the
+/// cache when the record is read, and those of several records are loaded at the same time.
 fn touch_record<G: Gate>(table: &HotTable, seat: &mut TableSeat, gate: &mut G, entry: Entry)
     requires reader { IsReader table.now seat.old }
     requires led { IsWayTip seat.old.known entry }

@@ -34,8 +34,8 @@ pub enum Found {
     },
 }
 
-/// Searches for a key from the root down. Fills `way` with the nodes on the way, the topmost first, and returns what stands at its end.
-/// The key had the value that was found, or was absent, in a version since this load of the root.
+/// Searches for `key` from the root down. Sets `way` to the nodes on the way, the topmost first, and returns what stands at its end. The
+/// key had the value that was found, or was absent, in a version since the load of the root.
 pub fn search_way<G: Gate>(
     table: &HotTable,
     seat: &mut TableSeat,

@@ -8,8 +8,8 @@
 //!
 //! 1. the nine words with the node's count, height and positions. The key's bits at the positions are gathered into a dense
 //!    partial key;
-//! 2. the sixteen words with the sparse partial keys, its rows. The last row that complies with the dense key tells the place;
-//! 3. the entry at that place. It names a leaf, or a node of lower height, so the path ends.
+//! 2. the sixteen words with the sparse partial keys, its rows. The last row that complies with the dense key tells the slot;
+//! 3. the entry in that slot. It names a leaf, or a node of lower height, so the path ends.
 //!
 //! At the leaf the length and the words of the key are loaded and compared, up to the first difference. If there is none, the
 //! value is loaded.

@@ -37,8 +37,8 @@ pub fn look_up<G: Gate>(
     search_along(table, seat, gate, key, &[], 0)
 }
 
-/// Looks `key` up from the root, along a way that it went before: the turns at `index` in `rows`. In a node that the way had at this
-/// depth the place is known, and the head isn't loaded anew. Returns the key's value, or `None` if the key is absent.
+/// Looks `key` up from the root, along a way that it went before: the turns at `index` in `rows`. In a node that the way had at this depth
+/// the slot is known, and the head isn't loaded anew. Returns what [`look_up`] does.
 pub fn look_up_along<G: Gate>(
     table: &HotTable,
     seat: &mut TableSeat,
@@ -57,8 +57,8 @@ pub fn look_up_along<G: Gate>(
     search_along(table, seat, gate, key, rows, index)
 }
 
-/// Looks `key` up from the root, along the turns at `index` in `rows`, as far as there are any. Where there is none, the node's head is
-/// searched. Returns the key's value, or `None` if the key is absent.
+/// Looks `key` up from the root, along the turns at `index` in `rows`, as far as there are any. Where there is none, or one in another
+/// node, the node's head is searched. Returns the key's value, or `None` if the key is absent.
 #[inline(always)]
 fn search_along<G: Gate>(
     table: &HotTable,
@@ -91,7 +91,7 @@ fn search_along<G: Gate>(
     }
 }
 
-/// The turn at `index` in the row of `depth`. `None` if there is none, or no such row.
+/// The turn at `index` in row `depth` of `rows`. `None` if there is none, or no such row.
 #[inline(always)]
 fn turn_in(rows: &[[Option<Turn>; TOGETHER]], depth: usize, index: usize) -> Option<Turn>
     requires { index < TOGETHER }
@@ -104,7 +104,7 @@ fn turn_in(rows: &[[Option<Turn>; TOGETHER]], depth: usize, index: usize) -> Opt
     }
 }
 
-/// The place in `node` to which the bits of `key` lead. It is that of `turn`, if that is a turn in this node. Else the node's head is
+/// The slot in `node` to which the bits of `key` lead. It is that of `turn`, if that is a turn in this node. Else the node's head is
 /// searched.
 #[inline(always)]
 pub(crate) fn find_place<G: Gate>(

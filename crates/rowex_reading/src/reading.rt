@@ -25,7 +25,7 @@ use record_words::{
 use rowex_core::{Gate, Rec, Spot};
 use rowex_table::{HotTable, LeafAt, NodeAt, TableSeat};
 
-/// Loads the root's entry. Returns `None` if the tree is empty.
+/// Loads the root's entry; `None` if the tree is empty.
 pub fn load_root<G: Gate>(table: &HotTable, seat: &mut TableSeat, gate: &mut G) -> Option<Entry>
     requires own { IsSeatOf table.now seat.old }
     requires pinned { IsSome seat.old.known.pin }
@@ -61,7 +61,7 @@ fn load_head_part<G: Gate>(
     }
 }
 
-/// Loads all words of the head of node `number` into `words`, those of unused places too. So no load waits for the numbers of entries and
+/// Loads all words of the head of node `number` into `words`, those of unused slots too. So no load waits for the numbers of entries and
 /// columns.
 #[inline(always)]
 pub(crate) fn load_head_words<G: Gate>(
@@ -105,7 +105,7 @@ pub fn enter_node<G: Gate>(
     }
 }
 
-/// Loads the head of `node` and searches it for `key`. Returns the node of the key's path, with the place to which the bits of `key` lead.
+/// Loads the head of `node` and searches it for `key`. Returns the node of the key's path, with the slot to which the bits of `key` lead.
 ///
 /// All 25 words are loaded, whatever the node's size, so no load waits for another. The key's bits are gathered before the rows are loaded.
 /// So the rows stay in registers until the search.
@@ -138,7 +138,7 @@ pub fn search_node<G: Gate>(
     }
 }
 
-/// Loads the entry at `place` of `node`, which has that place.
+/// Loads the entry in slot `place` of `node`, which has that slot.
 #[inline(always)]
 pub fn load_entry<G: Gate>(
     table: &HotTable,
@@ -161,9 +161,9 @@ pub fn load_entry<G: Gate>(
 /// Loads `leaf`: its value, its key's length, and the words with bytes of the key, which go at once to the first of `places`. Returns the
 /// key's length and the value.
 ///
-/// The words behind are not loaded, and their places stay. If all were 0, `places` are the key's (`Key::from_padded`); else those behind the
-/// key mean nothing. Keys of eight bytes are common, and their one word needs no loop. Inline, so that a caller has the bytes where they
-/// were read.
+/// The words behind are not loaded, and their places stay. If all were 0 before, `places` are the key's (`Key::from_padded`); else those
+/// behind the key mean nothing. Keys of eight bytes are common, and their one word needs no loop. Inline, so that a caller has the bytes
+/// where they were read.
 #[inline(always)]
 pub fn load_leaf<G: Gate>(
     table: &HotTable,

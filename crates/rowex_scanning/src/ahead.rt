@@ -18,10 +18,10 @@ use rowex_core::{Gate, Rec};
 use rowex_reading::load_entry;
 use rowex_table::{HotTable, NodeAt, TableSeat};
 
-/// How many places of a node a walk looks at together, at most.
+/// How many slots of a node a walk looks at together, at most.
 pub(crate) const MOST_AHEAD: u8 = 16;
 
-/// If the limit leaves fewer pairs, a walk looks at one place at a time.
+/// If the limit leaves fewer pairs, a walk looks at one slot at a time.
 const LEAST_PAIRS: usize = 4;
 
 /// What comes next in a node.
@@ -33,10 +33,10 @@ pub(crate) struct Ahead {
     pub node: Option<u32>,
 }
 
-/// Whether a walk that has listed `pairs` touches the leaves at the next `count` places: if these are several, and the keys so far have
-/// more than eight bytes on average.
+/// Whether a walk that has listed `pairs` touches the leaves in the next `count` slots. It does if these are several, and the keys so far
+/// have together at least eight bytes more than eight for each.
 ///
-/// The leaf at one place alone is read at once. Shorter keys take few instructions each, always as many, so a processor reads ahead by
+/// The leaf in one slot alone is read at once. Shorter keys take few instructions each, always as many, so a processor reads ahead by
 /// itself.
 #[inline(always)]
 fn should_touch(count: u8, pairs: &Pairs) -> bool
@@ -45,7 +45,7 @@ fn should_touch(count: u8, pairs: &Pairs) -> bool
     count > 1 && pairs.key_bytes() / 8 > pairs.len()
 }
 
-/// At how many places a walk that has listed `pairs` looks together: those of the pairs that `limit` leaves, and one more. `MOST_AHEAD` at
+/// At how many slots a walk that has listed `pairs` looks together: those of the pairs that `limit` leaves, and one more. `MOST_AHEAD` at
 /// most, and one if fewer than `LEAST_PAIRS` are left.
 #[inline(always)]
 fn most_together(limit: usize, pairs: &Pairs) -> u8
@@ -64,9 +64,9 @@ fn most_together(limit: usize, pairs: &Pairs) -> u8
     }
 }
 
-/// Loads the entries at the next places in the node `top`, up to the first that leads to a node: at [`most_together`] places, or fewer if
-/// fewer are to come. The leaves' numbers go to the first of `leaves`, and the leaves are touched where [`should_touch`] says so. Returns
-/// how many these are, and that node, if there is one.
+/// Loads the entries in the next slots of the node `top`, up to the first that leads to a node. It looks at [`most_together`] slots, or
+/// fewer if fewer are to come. `pairs` are those listed so far. The leaves' numbers go to the first of `leaves`, and the leaves are touched
+/// where [`should_touch`] says so. Returns how many leaves these are, and that node, if there is one.
 #[inline(always)]
 pub(crate) fn look_ahead<G: Gate>(
     scan: &Scan,

@@ -1,4 +1,4 @@
-//! In which order a scan passes places and keys, by its direction. In a node, gap `i` is before the entry at place `i`, and the last gap
+//! In which order a scan passes slots and keys, by its direction. In a node, gap `i` is before the entry in slot `i`, and the last gap
 //! behind all entries.
 
 ghost use Rattle.std.specs.Prelude.{◌≡◌, ◌<◌, ◌≤◌, IsTrue, false};
@@ -35,7 +35,7 @@ pub(crate) fn gap_after(direction: Direction, top: PathNode, entries: u8) -> u8
     }
 }
 
-/// The place in the node `top` of the entry that comes after the next `entries` ones, for a walk in the direction `direction`.
+/// The slot in the node `top` of the entry that comes after the next `entries` ones, for a walk in the direction `direction`.
 #[inline(always)]
 pub(crate) fn place_ahead(direction: Direction, top: PathNode, entries: u8) -> u8
     requires fits { top.at ≤ top.count }
@@ -48,7 +48,7 @@ pub(crate) fn place_ahead(direction: Direction, top: PathNode, entries: u8) -> u
     }
 }
 
-/// The gap at which a walk in the direction `direction` stands after the entry at `place`.
+/// The gap at which a walk in the direction `direction` stands after the entry in slot `place`.
 #[inline(always)]
 pub(crate) fn gap_behind(direction: Direction, place: u8) -> u8
     requires { place < 32 }
@@ -85,8 +85,8 @@ pub(crate) fn is_earlier(direction: Direction, first: &[u8], second: &[u8]) -> b
     }
 }
 
-/// Whether the key with the bytes `first` is before that with the bytes `second`, as their first different bit says. Their first
-/// different byte says the same.
+/// Whether the key with the bytes `first` is before that with the bytes `second`, as their first different bit says. Their first different
+/// byte says the same. `false` if they are one key.
 pub(crate) fn is_before(first: &[u8], second: &[u8]) -> bool
     requires keys { IsKey first.now × IsKey second.now }
     ensures before { IsTrue result → IsBefore first.now second.now }

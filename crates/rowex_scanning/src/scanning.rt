@@ -119,7 +119,7 @@ pub fn scan_root<G: Gate>(
     }
 }
 
-/// The first key of `range` in its direction: the last one of a scan downwards.
+/// The key of `range` that comes first in its direction: `range.from` upwards, `range.upto` downwards.
 #[inline(always)]
 pub(crate) fn first_key<'a>(range: &'a Range) -> &'a Key
     ensures { result.now ≡ first_key_of range.now }
@@ -200,10 +200,10 @@ fn scan_node<G: Gate>(
     walk(scan, seat, gate, way, places, pairs)
 }
 
-/// Walks over the places of the last node of `way`, from its gap `at` on, and of the nodes above it, in the scan's direction. Adds the
+/// Walks over the slots of the last node of `way`, from its gap `at` on, and of the nodes above it, in the scan's direction. Adds the
 /// pairs of the range to `pairs`, and returns whether there is a further one. An error if memory is refused.
 ///
-/// It looks at several places together, so that it doesn't wait for each leaf alone. The bytes of each key go to the same `places`,
+/// It looks at several slots together, so that it doesn't wait for each leaf alone. The bytes of each key go to the same `places`,
 /// whatever stands there.
 #[inline(always)]
 fn walk<G: Gate>(
@@ -329,9 +329,9 @@ fn take_leaf<G: Gate>(
     take_pair(pairs, scan.range, places, length, value)
 }
 
-/// Adds a pair to `pairs`, if it belongs to `range` and the limit leaves room, and returns what becomes of the scan. An error if memory
-/// is refused. The pair's key has the first `length` of `places`, and does not come before the range. Inline, so that the key's bytes go at
-/// once from where they were read to their place among the pairs.
+/// Adds a pair with the value `value` to `pairs`, if it belongs to `range` and the limit leaves room. Returns what becomes of the scan. An
+/// error if memory is refused. The pair's key has the first `length` of `places`, and does not come before the range. Inline, so that the
+/// key's bytes go at once from where they were read to their place among the pairs.
 #[inline(always)]
 fn take_pair(
     pairs: &mut Pairs,

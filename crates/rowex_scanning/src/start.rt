@@ -19,10 +19,10 @@ use version_laws::Direction;
 pub(crate) struct Start {
     /// The level of the node in which it starts.
     pub level: usize,
-    /// That node, with the place at which the scan starts.
+    /// That node, with the gap at which the scan starts, or the leaf's slot if `leaf` is true.
     pub top: PathNode,
-    /// Whether the leaf at which the search ended comes first. It stands at the place, and is not looked for there again: by
-    /// now there may be another entry, with keys out of the range.
+    /// Whether the leaf at which the search ended comes first. It is not looked for in its slot again: by now there may be another
+    /// entry, with keys out of the range.
     pub leaf: bool,
 }
 
@@ -37,8 +37,8 @@ pub(crate) struct SearchEnd {
 
 /// Finds where `scan` starts on `way`, the way of the search for its first key, which ended at `found`.
 ///
-/// A scan downwards starts left of the place at which one upwards does. If the leaf stands there with a key that is not above, it comes
-/// first, and the scan goes on left of it.
+/// A scan downwards starts left of the gap at which one upwards does. If the found leaf has the key, or stands just left of that gap, it
+/// comes first, and the scan goes on left of it.
 pub(crate) fn find_start<G: Gate>(
     scan: &Scan,
     seat: &mut TableSeat,
@@ -69,11 +69,11 @@ pub(crate) fn find_start<G: Gate>(
     }
 }
 
-/// Finds where a scan upwards from `key` starts on `way`, the way of the key's search, which ended at `found`. If that leaf has the key, it
-/// is there.
+/// Finds where a scan upwards from `key` starts on `way`, the way of the key's search, which ended at `found`. If that leaf has the key,
+/// the scan starts there.
 ///
 /// Else the leaf's key differs first at the position `found.mismatch`. That parts `key` from the keys of the entries that it affects, and
-/// these from all others. So the scan starts at the first of them, or behind the last.
+/// these from all others. So the scan starts at the first of them, or behind the last if `key` has a 1 there.
 fn find_start_upwards<G: Gate>(
     table: &HotTable,
     seat: &mut TableSeat,

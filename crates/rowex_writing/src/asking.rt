@@ -8,8 +8,8 @@ use crate::plan::Aim;
 use finite_map::Call;
 use rowex_reading::Found;
 
-/// The value that `call` gives its key, whose value is `held`, or which is absent (`None`). It is 0 for a get, a removal, and an addition
-/// to an absent key, which give none.
+/// The value that `call` gives its key, if it changes the map. `held` is the key's value before; `None` if it is absent. The result is 0
+/// for a get, a removal, and an addition to an absent key, which give none.
 pub(crate) fn value_in(call: &Call, held: Option<u64>) -> u64
     ensures { result ≡ the_value_in call.now held }
 {
@@ -35,8 +35,8 @@ pub(crate) fn value_of(found: Found) -> Option<u64>
     }
 }
 
-/// What `call` aims at when its key has the value `held`, or is absent (`None`). It is `None` for a get, for a call that expects another
-/// value, and for an addition to an absent key.
+/// What `call` aims at when its key has the value `held`, or is absent (`None`). It is `None` for a get, for a call whose expected value is
+/// not the key's, and for an addition to an absent key.
 pub(crate) fn aim_of(call: &Call, held: Option<u64>) -> Option<Aim>
     ensures { result ≡ the_aim call.now held }
 {

@@ -39,8 +39,7 @@ use thiserror::Error;
 /// Why an attempt was refused. It has changed nothing then.
 #[derive(Clone, Copy, Debug, PartialEq, Eq, Error)]
 pub enum TryFault {
-    /// Another pass had locked or retired what the attempt had to lock, a record or the anchor, or has made a change since the attempt
-    /// began.
+    /// Another pass had locked or retired what the attempt had to lock, or has made a change since the attempt began.
     #[error("another pass is at work there")]
     Busy,
     /// Each node record was found not free.
@@ -137,8 +136,8 @@ fn try_plan<G: Gate>(
     }
 }
 
-/// Makes the change `deed` of a plan whose nodes are locked and checked: by [`make_removal`], if it takes a leaf out of a node that has one
-/// above it on the way. Else it is published; or, if no record was free, undone, and the kind of record is returned.
+/// Makes the change `deed` of a plan whose nodes are locked and checked. If it takes a leaf out of a node that has one above it on the way,
+/// [`make_removal`] makes it. If no record was free, the change is undone, and the kind of record is returned.
 fn change_span<G: Gate>(
     table: &HotTable,
     seat: &mut TableSeat,
@@ -199,8 +198,8 @@ fn make_removal<G: Gate>(
     }
 }
 
-/// Locks what `job` is to change, and checks that it stands as the search found it. If a lock is refused, or something else stands there,
-/// all locks are given back, and `false` is returned.
+/// Locks what `job` is to change, checks that it stands as the search found it, and returns whether it does. If a lock is refused, or
+/// something else stands there, all locks are given back.
 fn take_span<G: Gate>(table: &HotTable, seat: &mut TableSeat, gate: &mut G, job: &Job<'_>) -> bool
     requires own { IsSeatOf table.now seat.old }
     requires possible { IsPossible table.now.layout seat.old.known }
@@ -231,7 +230,7 @@ fn take_span<G: Gate>(table: &HotTable, seat: &mut TableSeat, gate: &mut G, job:
     false
 }
 
-/// Undoes the change of `job`, for which no record was free: gives up the records that were made, and unlocks all that is locked.
+/// Undoes the change of `job`, for which no record was free: gives up the records in `build.made`, and unlocks all that is locked.
 fn undo_change<G: Gate>(
     table: &HotTable,
     seat: &mut TableSeat,

@@ -45,7 +45,8 @@ pub struct Build {
 
 /// Makes a record for `node`, adds it to `build.made`, and returns its entry. `None` if no node record was free: none is added.
 ///
-/// The claims try at most `build.left_nodes` records, from `build.nodes.next` on. These are all, where the change has claimed none yet.
+/// The claim tries the last spare record, and then `build.left_nodes` others at most, from `build.nodes.next` on. These are all, where the
+/// change has claimed none yet.
 pub(crate) fn make_node<G: Gate>(
     table: &HotTable,
     seat: &mut TableSeat,
@@ -133,8 +134,8 @@ pub(crate) fn make_from_words_with_leaf<G: Gate>(
     make_from_words(table, seat, gate, build, words)
 }
 
-/// The entry for `half`, a side of a node that was cut, whose entry is `old`. One entry is itself, a new node gets a record, and the node as
-/// it was keeps `old`. `None` if a record was wanted and none was free.
+/// The entry for `half`, a side of the cut node that `old` names. It is the one entry itself, that of a record made for a new node, or
+/// `old` for the node as it was. `None` if a record was wanted and none was free.
 fn make_half<G: Gate>(
     table: &HotTable,
     seat: &mut TableSeat,

@@ -24,9 +24,9 @@ use rowex_core::{Gate, Spot};
 use rowex_reading::{Found, load_root};
 use rowex_table::{HotTable, TableSeat};
 
-/// Returns whether each node that is locked for the span, and the root under the anchor's lock, still names what the search found there.
-/// Each is loaded once, from the top down. What the search read below the lowest of them needs no second look. If one names something
-/// else, another pass has made a change since the search loaded the root.
+/// Returns whether each node locked for the span still names what the search found there, and the root too, if the anchor is locked. Each
+/// is loaded once, from the top down, up to the first that names something else. If one does, another pass has made a change since the
+/// search loaded the root. What the search read below the lowest of them needs no second look.
 pub(crate) fn check_span<G: Gate>(
     table: &HotTable,
     seat: &mut TableSeat,
@@ -49,7 +49,8 @@ pub(crate) fn check_span<G: Gate>(
     entries_stand(table, seat, gate, job)
 }
 
-/// The entry that names the node at `index` of `way`. Past the last node it is what the search ended at: the leaf found, or `None`.
+/// The entry that names the node at `index` of `way`. Past the last node it is what the search ended at, as `found` says: the leaf, or
+/// `None`.
 pub(crate) fn naming_entry(way: &[PathNode], found: Found, index: usize) -> Option<Entry>
     ensures { result ≡ named way.now found index }
 {
@@ -111,7 +112,7 @@ fn entries_stand<G: Gate>(
     true
 }
 
-/// Returns whether the locked node `step.number` has `entry` at place `step.at`, by one load.
+/// Returns whether the locked node `step.number` has `entry` in slot `step.at`, by one load.
 pub(crate) fn entry_stands<G: Gate>(
     table: &HotTable,
     seat: &mut TableSeat,
@@ -138,8 +139,8 @@ pub(crate) fn entry_stands<G: Gate>(
     is_word_of(entry, word)
 }
 
-/// Whether `word` is that of `entry`, or 0 for `None`. A node of height 0 has no word. The word of `entry` is made and compared, which
-/// takes less than to read `word`.
+/// Whether `word` is that of `entry`, or 0 for `None`. `false` for a node of height 0, which has no word. The word of `entry` is made and
+/// compared, which takes less than to read `word`.
 fn is_word_of(entry: Option<Entry>, word: u64) -> bool
     ensures same { result ≡ true → HasEntryWord entry × (entry_word entry ≡ word) }
     ensures differ { result ≡ false → (e : Option EntryValue) → HasEntryWord e → entry_word e ≡ word → e ≢ entry }

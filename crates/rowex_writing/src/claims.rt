@@ -53,8 +53,8 @@ impl Hint {
         }
     }
 
-    /// Adds `number` to the spare ones, with which claims begin. Where there are [`MOST_SPARE`] already it is not kept. Claims don't skip these
-    /// records then.
+    /// Adds `number` to the spare ones, with which claims begin. Where there are [`MOST_SPARE`] already it is not kept. Whether it is kept
+    /// or not, claims skip these records no more.
     pub fn give_back(&mut self, number: u32)
         ensures kept { length self.old.spare.items < MOST_SPARE → self.new.spare.items ≡ self.old.spare.items ++ number ∷ [] }
         ensures full { MOST_SPARE ≤ length self.old.spare.items → self.new.spare.items ≡ self.old.spare.items }
@@ -68,7 +68,7 @@ impl Hint {
     }
 }
 
-/// Claims a record of `kind` and returns its number. `None` if none was free.
+/// Claims a record of `kind` and returns its number, counted from the first of the kind on. `None` if none was free.
 ///
 /// It tries the last spare number of `hint` first, which is spare no more. Then it tries each record once, from `hint.next` on. That
 /// becomes the number after one claimed so. Inline, so that no claim asks of which kind it is.
@@ -97,8 +97,8 @@ pub(crate) fn claim_by_hint<G: Gate>(
     Some(number)
 }
 
-/// Takes the last number out of `spare`, and returns it if the pass could claim its record. `None` if it couldn't, or if `spare` was
-/// empty. Inline, so that no claim asks of which kind it is.
+/// Takes the last number out of `spare`, and returns it if the pass could claim that record of `kind`. `None` if it couldn't, or if `spare`
+/// was empty. Inline, so that no claim asks of which kind it is.
 #[inline(always)]
 pub(crate) fn claim_spare<G: Gate>(
     table: &HotTable,
@@ -121,10 +121,10 @@ pub(crate) fn claim_spare<G: Gate>(
     None
 }
 
-/// Claims a leaf record of at least `words` words and returns its number. `None` if none was free.
+/// Claims a leaf record of at least `words` words and returns its number. `None` if none was free. `classes` has the hint of each class.
 ///
-/// The classes of records that are large enough are tried one after the other, the smallest first. The smallest ones that are to be
-/// skipped come after the others.
+/// The classes of records that are large enough are tried one after the other, the smallest first. The smallest ones that are to be skipped
+/// come after the others.
 pub(crate) fn claim_leaf<G: Gate>(
     table: &HotTable,
     seat: &mut TableSeat,
@@ -152,8 +152,8 @@ pub(crate) fn claim_leaf<G: Gate>(
     Some(number)
 }
 
-/// The number of the first leaf record, from `first` on, whose class is not to be skipped; `layout.leaves` if there is none. Each class
-/// that is skipped has one claim less to skip afterwards.
+/// The number of the first leaf record, from `first` on, whose class is not to be skipped; `layout.leaves` if there is none. In `classes`,
+/// each class that is skipped has one claim less to skip afterwards.
 fn skip_classes(layout: Layout, classes: &mut [Hint; LEAF_CLASSES], first: u32) -> u32
     requires { first ≤ layout.leaves }
     ensures { (first ≤ result) × (result ≤ layout.leaves) }
@@ -171,9 +171,8 @@ fn skip_classes(layout: Layout, classes: &mut [Hint; LEAF_CLASSES], first: u32) 
 }
 
 /// Claims a leaf record from number `from` on and below `upto`, of the smallest class that has one free, and returns its number. `None` if
-/// none was free. A class with none free is to be skipped afterwards.
-///
-/// Inline, for it is known then of which class the first of them is.
+/// none was free. A class with none free is to be skipped afterwards, as its hint in `classes` says then. Inline, so that the class of the
+/// first one is known.
 #[inline(always)]
 fn claim_between<G: Gate>(
     table: &HotTable,

@@ -41,8 +41,8 @@ pub(crate) struct Raised {
     pub leaf: Option<u32>,
 }
 
-/// Makes the records of the change `deed`, which other passes don't see yet. Returns what is to take the place of the span's nodes, or the
-/// kind of record of which none was free. The nodes of the span are locked and checked.
+/// Makes the records of the change `deed`, which other passes don't see yet. Returns what is to take the place of the nodes of `job.span`,
+/// which are locked and checked. If no record of a kind was free, returns that kind: the records made by then stay in `build.made`.
 pub(crate) fn carry_out<G: Gate>(
     table: &HotTable,
     seat: &mut TableSeat,
@@ -63,8 +63,8 @@ pub(crate) fn carry_out<G: Gate>(
     }
 }
 
-/// Makes the new leaf, which is to take the place of what the search found: nothing, or the leaf that has the key. `Full::Leaves` if no
-/// leaf record with room was free.
+/// Makes and returns the new leaf, which is to take the place of what the search found: nothing, or the leaf that has the key.
+/// `Full::Leaves` if no leaf record with room was free.
 pub(crate) fn put_leaf<G: Gate>(
     table: &HotTable,
     seat: &mut TableSeat,
@@ -96,8 +96,8 @@ fn found_leaf(found: Found) -> Option<u32>
     }
 }
 
-/// Makes the new leaf, and a node of it and the found leaf with a fork at `position`. That node is to take the found leaf's place.
-/// `Full::Leaves` if no leaf record with room was free, and `Full::Nodes` if no node record was free.
+/// Makes the new leaf, and a node of it and the found leaf with a fork at `position`. Returns that node, which is to take the found leaf's
+/// place. `Full::Leaves` if no leaf record with room was free. `Full::Nodes` if no node record was free: the leaf stays in `build.made`.
 pub(crate) fn push_down<G: Gate>(
     table: &HotTable,
     seat: &mut TableSeat,

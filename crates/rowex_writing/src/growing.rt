@@ -21,8 +21,8 @@ use compound_node::Entry;
 use rowex_core::Gate;
 use rowex_table::{HotTable, TableSeat};
 
-/// Makes the new leaf and puts it into the lowest node of the span, beside the entries that `position` affects. Returns what is to take
-/// the place of the span's nodes, or the kind of record of which none was free.
+/// Makes the new leaf, and what the span's nodes become with it in the lowest one, beside the entries that `position` affects. Returns what
+/// is to take the place of these nodes, or the kind of record of which none was free.
 pub(crate) fn grow_node<G: Gate>(
     table: &HotTable,
     seat: &mut TableSeat,
@@ -78,7 +78,7 @@ fn grow_with_leaf<G: Gate>(
     })
 }
 
-/// The number of the record of `entry` has 32 bits, as its type says. The function does nothing else than to tell it.
+/// Does nothing, and tells the proof that the number of the record of `entry` has 32 bits, as its type says.
 pub(crate) fn has_number(entry: Entry)
     ensures { HasNumber entry }
 {

@@ -60,7 +60,7 @@ pub(crate) fn load_words<G: Gate>(
     load_eight(table, seat, gate, loads, words, 49);
 }
 
-/// Loads the row at place `at` of the locked node `node`. Past the last one it is 4,294,967,295.
+/// Loads the row of slot `at` of the locked node `node`; 4,294,967,295 for an unused slot, and past the last one.
 #[inline(always)]
 fn load_row<G: Gate>(
     table: &HotTable,
@@ -83,8 +83,8 @@ fn load_row<G: Gate>(
     row_of(load_word(table, seat, gate, node, index), at)
 }
 
-/// Returns the place beside place `at` of the locked node `number`, and the column of the fork between the two. `None` if the other side
-/// of the last fork on the path to `at` has several places. At most four rows are loaded.
+/// Returns the slot beside slot `at` of the locked node `number`, and the column of the fork between the two. `None` if the other side
+/// of the last fork on the path to `at` has several slots. At most four rows are loaded.
 pub(crate) fn load_sibling<G: Gate>(
     table: &HotTable,
     seat: &mut TableSeat,
@@ -129,7 +129,7 @@ pub(crate) fn load_position<G: Gate>(
     position_of(load_word(table, seat, gate, node, index), column)
 }
 
-/// Loads the entry at place `place` of the locked node `number`, which has that place.
+/// Loads the entry in slot `place` of the locked node `number`, which has that slot.
 pub(crate) fn load_locked_entry<G: Gate>(
     table: &HotTable,
     seat: &mut TableSeat,
@@ -153,7 +153,7 @@ pub(crate) fn load_locked_entry<G: Gate>(
 }
 
 /// Loads eight words of the locked node of `loads` into `words`, from index `first` on. If `first` isn't before `loads.end`, none is
-/// loaded. Inline, so that it is known where each stands.
+/// loaded. Inline, so that each index is known when it is compiled.
 #[inline(always)]
 fn load_eight<G: Gate>(
     table: &HotTable,

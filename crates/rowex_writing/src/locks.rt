@@ -12,9 +12,9 @@ use record_words::{Tag, pack_state};
 use rowex_core::{Gate, Target};
 use rowex_table::{HotTable, TableSeat};
 
-/// Locks the nodes of `span` and the one above it that gets the new entry, from the lowest upwards. The anchor comes last, where the span
-/// goes up to the root. Each is tried once at most. If another pass has locked one or has retired it, those that were locked are given
-/// back, and `false` is returned.
+/// Locks the nodes of `span` on `way`, and the one above it that gets the new entry, from the lowest upwards. The anchor comes last, where
+/// the span goes up to the root. Each is tried once at most. Returns whether all are locked. If another pass has locked one or has retired
+/// it, those that were locked are given back.
 pub(crate) fn lock_span<G: Gate>(
     table: &HotTable,
     seat: &mut TableSeat,

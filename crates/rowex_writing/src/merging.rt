@@ -39,7 +39,7 @@ use rowex_table::{HotTable, TableSeat};
 /// A merge of a node that loses a leaf, the lower one, with its sibling. Both stand in the upper node.
 #[derive(Clone, Copy)]
 pub(crate) struct Merge {
-    /// The sibling's place in the upper node.
+    /// The sibling's slot in the upper node.
     pub place: u8,
     /// The position of the fork between the two.
     pub position: u16,
@@ -52,9 +52,9 @@ pub(crate) struct Merge {
 /// A fork of a locked node, whose place an entry takes.
 #[derive(Clone, Copy)]
 struct ClosedFork {
-    /// The node, and a place below the fork.
+    /// The node, and a slot below the fork.
     step: PathNode,
-    /// The place that stands alone on the fork's other side.
+    /// The slot that stands alone on the fork's other side.
     place: u8,
     /// The entry that takes the fork's place.
     entry: Entry,
@@ -63,8 +63,8 @@ struct ClosedFork {
 /// Ends a removal by a merge, and returns whether it did. What is left of the leaf's node, in a record made for it, and its sibling become
 /// one node.
 ///
-/// It can if the two have at most 32 entries together, no other pass is at work there, and another record is free, if one is wanted. Else
-/// `false` is returned, and the pass has the records and locks that it had.
+/// It does if both are nodes of at most 32 entries together, and no other pass is at work there. Another record must be free, if one is
+/// wanted. Else the pass has the records and locks that it had.
 pub(crate) fn try_merge<G: Gate>(
     table: &HotTable,
     seat: &mut TableSeat,
@@ -104,10 +104,10 @@ fn sole_node(made: &[Rec]) -> Option<u32>
     }
 }
 
-/// Returns the merge of the node that loses a leaf with its sibling, in record `made`. `None` if the other side of the last fork is not
-/// one node, or both nodes have more than 33 entries together, with the leaf.
+/// Returns the merge of the node that loses a leaf with its sibling. `made` is the record of what is left of the node. `None` if the other
+/// side of the last fork is not one node, or both nodes have more than 33 entries together, with the leaf.
 ///
-/// A full node has none, for what is left of it has too many.
+/// A full node has none, since 31 entries are left of it, and a sibling has two at least.
 fn find_merge<G: Gate>(
     table: &HotTable,
     seat: &mut TableSeat,
@@ -176,7 +176,7 @@ fn merge_under_locks<G: Gate>(
 }
 
 /// Puts the node of both siblings into record `merge.made`. Returns the entry for what is left of the upper node, in a new record if that
-/// has other entries, too. `None` if the two have too many entries, or no record was free. Then the pass has the records that it had.
+/// has other entries, too. `None` if [`join_siblings`] has no node, or no record was free. Then the pass has the records that it had.
 fn make_merged<G: Gate>(
     table: &HotTable,
     seat: &mut TableSeat,
@@ -209,8 +209,8 @@ fn make_merged<G: Gate>(
     Some(entry)
 }
 
-/// Returns what is left of the lower node and all of its sibling as one node, with the fork between the two. `None` if they have more
-/// than 32 entries, or one entry alone is left of the lower node.
+/// Returns what is left of the lower node and all of its sibling as one node, with a fork of the two at `merge.position`. `None` if they
+/// have more than 32 entries, or one entry alone is left of the lower node.
 fn join_siblings<G: Gate>(
     table: &HotTable,
     seat: &mut TableSeat,

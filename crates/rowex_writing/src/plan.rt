@@ -29,8 +29,8 @@ pub(crate) enum Aim {
     Remove,
 }
 
-/// The nodes of the way that get others in their place: those from `end` on, before `len`. The topmost of the others goes
-/// into the entry that the search took in the node at `end - 1`, or to the root where `end` is 0.
+/// The nodes of the way that get others in their place: those from `end` on, before `len`. The topmost of the others goes into the entry
+/// that the search took in the node at `end - 1`. Where `end` is 0, it goes to the root.
 #[derive(Clone, Copy)]
 pub(crate) struct Span {
     pub len: usize,
@@ -84,7 +84,7 @@ pub enum Full {
 pub(crate) enum Outline {
     /// All is told.
     Known(Plan),
-    /// The new leaf goes beside the entries that `position` affects in the node at place `level` of the way: `plan_beside` tells the rest
+    /// The new leaf goes beside the entries that `position` affects in the node at index `level` of the way: `plan_beside` tells the rest
     /// from these.
     Beside { position: u16, level: usize },
 }
@@ -149,8 +149,8 @@ fn plan_low(way: &[PathNode], position: u16, level: usize) -> Plan
     }
 }
 
-/// Returns what a call does whose new leaf goes beside entries of the node at `level` of `way`: those from `first` to `last`, which
-/// `position` affects.
+/// Returns what a call does whose new leaf goes beside entries of the node at `level` of `way`. `position` affects those from `first` to
+/// `last`.
 pub(crate) fn plan_beside(
     way: &[PathNode],
     position: u16,

@@ -37,8 +37,8 @@ use rowex_core::{Gate, Rec, Spot};
 use rowex_records::{fill_leaf, make_ready};
 use rowex_table::{HotTable, TableSeat};
 
-/// Makes a record for the new leaf of `key` and `value`, the first record of a change, and returns its number. `None` if no leaf record
-/// with room for `key` was free.
+/// Makes a record for the new leaf of `key` and `value`, the first record of a change, and returns its number. `build.made` is this record
+/// alone then. `None` if no leaf record with room for `key` was free: `build.made` is empty then.
 pub(crate) fn make_leaf<G: Gate>(
     table: &HotTable,
     seat: &mut TableSeat,
@@ -64,8 +64,8 @@ pub(crate) fn make_leaf<G: Gate>(
     Some(number)
 }
 
-/// Makes all records of a change ready, those in `made`, the last one first. Then they may be linked. They are taken out of `made` one by
-/// one, since to clear it would be a call for a record or two.
+/// Makes the records in `made`, all those of a change, ready to be linked, the last one first. Each is taken out of `made`: for a record or
+/// two, a call that clears it would cost more.
 fn ready_all<G: Gate>(
     table: &HotTable,
     seat: &mut TableSeat,
@@ -82,7 +82,7 @@ fn ready_all<G: Gate>(
     }
 }
 
-/// The word of `entry`, or of an empty root for `None`. The word is known to spell an entry, so the height of a node is at least 1.
+/// The word of `entry`, or that of an empty root for `None`. `entry` is one that has a word: the height of a node is at least 1.
 fn stored_word(entry: Option<Entry>) -> u64
     requires { HasEntryWord (entry_of (entry_word entry)) }
     ensures { result ≡ entry_word entry }
@@ -94,8 +94,8 @@ fn stored_word(entry: Option<Entry>) -> u64
     }
 }
 
-/// Publishes a change: makes its records ready, stores the word of `raised.entry` above the span, and marks the records that the store
-/// unlinks. Then it unlocks the nodes that stay, the one above the span first, and the anchor, if that is locked.
+/// Publishes the change of `job`. It makes the records in `build.made` ready, stores the word of `raised.entry` above the span, and marks
+/// the records that the store unlinks. Then it unlocks the nodes that stay, the one above the span first, and the anchor, if locked.
 pub(crate) fn publish_change<G: Gate>(
     table: &HotTable,
     seat: &mut TableSeat,
@@ -132,7 +132,7 @@ pub(crate) struct Store {
     pub entry: Option<Entry>,
 }
 
-/// Makes the one store of a change whose records are made. It makes them ready, stores the word of `store.entry`, and marks the records in
+/// Makes the one store of a change. It makes the records in `build.made` ready, stores the word of `store.entry`, and marks the records in
 /// `build.gone`, which the store unlinks. Then it unlocks the nodes `kept`, the first one first, and the anchor, if the root is stored.
 pub(crate) fn publish_entry<G: Gate>(
     table: &HotTable,
@@ -169,7 +169,7 @@ fn is_root(spot: Spot) -> bool
     }
 }
 
-/// Lists in `build.gone` the records that a change unlinks: those of the nodes of `steps`, and leaf record `leaf`, if there is one.
+/// Sets `build.gone` to the records that a change unlinks: those of the nodes of `steps`, and leaf record `leaf`, if there is one.
 fn list_gone(build: &mut Build, steps: &[PathNode], leaf: Option<u32>)
     requires { length steps.now ≤ 2160 }
     ensures gone { build.new.gone.items ≡ map (λ (s : PathNodeView). a_node s.number) steps.now ++ leaf_gone leaf }
@@ -184,7 +184,8 @@ fn list_gone(build: &mut Build, steps: &[PathNode], leaf: Option<u32>)
     }
 }
 
-/// Returns the locked nodes that a change keeps: the one above the span, if there is one, and the span's lowest, if `low` is its index.
+/// Returns the locked nodes of `way` that a change keeps. These are the one above `span`, if there is one, and the span's lowest, if `low`
+/// is its index. Else `low` is `span.len`.
 fn list_kept(way: &[PathNode], span: Span, low: usize) -> ArrayVec<PathNode, 2>
     requires { (span.end ≤ low) × (low ≤ span.len) × (span.len ≤ low + 1) × (span.len ≤ length way.now) }
     ensures { result.items ≡ slice_range way.now (span.end - 1) span.end ++ slice_range way.now low span.len }

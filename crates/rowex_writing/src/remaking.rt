@@ -38,8 +38,8 @@ pub(crate) fn add_leaf(node: &mut Node, new: &NewLeaf<'_>)
     node.add(first, last, new.position, bit, Entry::Leaf(new.number));
 }
 
-/// The two sides of the first fork of the full node `node` with the leaf `new`. If `new.position` is before the first fork of `node`, one
-/// side is `node` as it is.
+/// The two sides of the first fork that the full node `node` has with the leaf `new`. One side is `node` as it is, exactly if
+/// `new.position` is before the first fork of `node`.
 pub(crate) fn cut_with_leaf(node: &Node, new: &NewLeaf<'_>) -> Grown
     requires full { length node.now.entries ≡ 32 }
     requires leads { spot new.now.key.now (piece node.now) ≡ new.now.at }
@@ -85,7 +85,7 @@ pub(crate) fn add_fork(node: &mut Node, fork: &Fork<'_>)
     put_fork(node, at, fork.position, fork.zero, fork.one);
 }
 
-/// The two sides of the first fork of the full node `node` with `fork`, which takes the place of the entry to which the search for
+/// The two sides of the first fork that the full node `node` has with `fork`. This takes the place of the entry to which the search for
 /// `fork.key` leads. Neither side is `node` as it is.
 pub(crate) fn cut_with_fork(node: &Node, fork: &Fork<'_>) -> Grown
     requires full { length node.now.entries ≡ 32 }

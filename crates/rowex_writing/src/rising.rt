@@ -33,7 +33,7 @@ use record_words::{NODE_FIELDS, can_take_leaf, drop_entry, read_node};
 use rowex_core::Gate;
 use rowex_table::{HotTable, TableSeat};
 
-/// Makes what takes the place of the locked node `number` when `fork` goes into it: one entry, or a fork of two if it was full. `None` if no
+/// Makes what takes the place of the locked node `number` when it gets `fork`: one entry, or a fork of two if it was full. `None` if no
 /// node record was free: one that was made by then stays in `build.made`. The locked record stays as it is.
 fn raise_level<G: Gate>(
     table: &HotTable,
@@ -70,8 +70,8 @@ pub(crate) struct LoadedNode {
     pub words: [u64; NODE_FIELDS],
 }
 
-/// Makes what [`make_with_leaf`] makes, by a value of the node that is read from `loaded`. A node with room gets the leaf in that value, and a
-/// full one is cut. `None` if no node record was free.
+/// Makes what [`make_with_leaf`] makes, by a value of the node that is read from `loaded`. A node with room gets the leaf `new` in that
+/// value, and a full one is cut. `None` if no node record was free.
 fn make_with_leaf_by_value<G: Gate>(
     table: &HotTable,
     seat: &mut TableSeat,
@@ -102,7 +102,7 @@ fn make_with_leaf_by_value<G: Gate>(
 /// Makes what takes the place of the node `loaded` with the leaf `new`: one entry, or a fork of two if it was full. The flag tells whether
 /// the node stays, as one side of that fork. `None` if no node record was free.
 ///
-/// A node of leaves alone with room gets the leaf in its words, so that none is read or packed.
+/// A node of leaves alone with room gets the leaf in `loaded.words`, so that no node is read or packed.
 fn make_with_leaf<G: Gate>(
     table: &HotTable,
     seat: &mut TableSeat,
@@ -124,8 +124,8 @@ fn make_with_leaf<G: Gate>(
     make_with_leaf_by_value(table, seat, gate, build, loaded, new)
 }
 
-/// Makes what takes the place of the locked node `number`, the lowest of a span, with the leaf `new`. This is one entry, or a fork of two if
-/// the node was full. The flag tells whether the node stays, as one side of that fork. `None` if no node record was free.
+/// Makes what takes the place of the locked node `number`, the lowest of a span, with the leaf `new`. This is one entry, or a fork of two
+/// if the node was full. The flag tells whether the node stays, as one side of that fork. `None` if no node record was free.
 fn raise_lowest<G: Gate>(
     table: &HotTable,
     seat: &mut TableSeat,
@@ -172,7 +172,7 @@ fn is_whole_node(half: &Half) -> bool
 }
 
 /// The one entry for `risen`, which takes the place of the locked node `number`. It is the entry itself, or that of a new node of two for a
-/// fork. `None` if no node record was free. Inline, for mostly it is the entry already.
+/// fork. `None` if no node record was free. Inline, since mostly it is the entry already.
 #[inline(always)]
 fn make_one_entry<G: Gate>(
     table: &HotTable,
@@ -203,8 +203,8 @@ fn make_one_entry<G: Gate>(
     }
 }
 
-/// What has risen to the node at place `level` of a way: `risen` takes its place, for the key of the search. It is to rise on to the node at
-/// `end`, which is `level` or less.
+/// What has risen to the node at index `level` of a way: `risen` takes its place, for the key of the search. It is to rise on to the node
+/// at `end`, which is `level` or less.
 #[derive(Drop)]
 pub(crate) struct Rise<'a> {
     pub key: &'a Key,
@@ -214,7 +214,7 @@ pub(crate) struct Rise<'a> {
 }
 
 /// The one entry that takes the place of the node at `rise.end` of `way`, when `rise.risen` takes the place of the one at `rise.level`.
-/// `None` if no node record was free. Inline, for mostly these are one node.
+/// `None` if no node record was free. Inline, since mostly these are one node.
 #[inline(always)]
 #[cycle(raising)]
 fn raise_on<G: Gate>(
@@ -326,10 +326,10 @@ pub(crate) fn raise_grown<G: Gate>(
     Some((entry, stays))
 }
 
-/// The entry for what is left of the locked node `number` without the leaf at place `at`: a new record's, or the only one left. `None` if
-/// no node record was free: none is made then.
+/// The entry for what is left of the locked node `number` without the leaf in slot `at`, to which some key's search leads. It is that of a
+/// new record, or the only entry left. `None` if no node record was free: none is made then.
 ///
-/// Some key's search leads to the place. The node's words become those of the record, so that no node is read, searched or packed.
+/// The node's words become those of the record, so that no node is read, searched or packed.
 pub(crate) fn raise_without<G: Gate>(
     table: &HotTable,
     seat: &mut TableSeat,

@@ -18,8 +18,8 @@ use rowex_core::Gate;
 use rowex_reading::Found;
 use rowex_table::{HotTable, TableSeat};
 
-/// Takes the found leaf out of its node, and returns the entry for what is left, which is to take the node's place. If the leaf was the
-/// root, the root is to be empty. `Full::Nodes` if no node record was free for what is left.
+/// Makes what is left of the found leaf's node without the leaf, and returns the entry for that, which is to take the node's place. If the
+/// leaf was the root, the root is to be empty. `Full::Nodes` if no node record was free for what is left.
 pub(crate) fn remove_leaf<G: Gate>(
     table: &HotTable,
     seat: &mut TableSeat,

@@ -28,7 +28,8 @@ use rowex_core::{Gate, Target};
 use rowex_table::{HotTable, TableSeat};
 
 /// Locks node `number`, the sibling of the lower node of a removal's span. Then it locks what names the upper node, and checks that this
-/// still does. Each is tried once at most. Returns whether both are locked. If one is refused, or something else is named, both are given back.
+/// still does. Each is tried once at most. Returns whether both are locked. If `number` is a node near the span ([`is_near_span`]), a lock
+/// is refused, or something else is named, neither stays locked.
 pub(crate) fn widen_locks<G: Gate>(
     table: &HotTable,
     seat: &mut TableSeat,
@@ -72,8 +73,8 @@ fn is_near_span(job: &Job<'_>, number: u32) -> bool
     false
 }
 
-/// Locks what names the upper node of a removal's span, the node above it or the anchor, and checks that it still does. If a lock is
-/// refused, or something else is named, `false` is returned, and the locks are as before.
+/// Locks what names the upper node of a removal's span, the node above it or the anchor, and checks that it still does. Returns whether it
+/// is locked. If the lock is refused, or something else is named, the locks are as before.
 fn lock_above<G: Gate>(table: &HotTable, seat: &mut TableSeat, gate: &mut G, job: &Job<'_>) -> bool
     requires own { IsSeatOf table.now seat.old }
     requires possible { IsPossible table.now.layout seat.old.known }
@@ -95,7 +96,7 @@ fn lock_above<G: Gate>(table: &HotTable, seat: &mut TableSeat, gate: &mut G, job
     lock_step(table, seat, gate, job.way[end - 1], named)
 }
 
-/// Locks the anchor, and checks that the root is `root`. If the lock is refused, or the root is another, `false` is returned, and the
+/// Locks the anchor, and checks that the root is `root`. Returns whether it is locked. If the lock is refused, or the root is another, the
 /// locks are as before.
 fn lock_root<G: Gate>(
     table: &HotTable,
@@ -122,8 +123,8 @@ fn lock_root<G: Gate>(
     false
 }
 
-/// Locks node `step.number`, and checks that its entry at `step.at` is `entry`. If the lock is refused, or the entry is another, `false`
-/// is returned, and the locks are as before.
+/// Locks node `step.number`, and checks that its entry at `step.at` is `entry`. Returns whether it is locked. If the lock is refused, or
+/// the entry is another, the locks are as before.
 fn lock_step<G: Gate>(
     table: &HotTable,
     seat: &mut TableSeat,

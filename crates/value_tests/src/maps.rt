@@ -10,7 +10,7 @@ use plain_trie::{Place, PlainTrie, place};
 use std::alloc::{AllocError, Global};
 use std::process::Abort;
 
-/// The call that `letter` names, about the key of the one byte `byte`. An exchange gives the key the next value.
+/// The call that `letter` names, about the key of the one byte `byte`. An exchange expects `value` and gives the next one.
 fn call_of(rt: &impl Abort, letter: u8, byte: u8, value: u64) -> Call {
     let key = key(rt, &[byte]);
     match letter {
@@ -24,6 +24,7 @@ fn call_of(rt: &impl Abort, letter: u8, byte: u8, value: u64) -> Call {
     }
 }
 
+/// A plain index gives the replies worked out by hand to a run of all kinds of calls.
 #[test]
 fn calls_reply_as_a_map(rt: HostRuntime) {
     let cases = [
@@ -190,7 +191,7 @@ const SCANS: [(usize, &[u8], &[u8], usize, &[(&[u8], u64)], bool); 11] = [
     (2, b"", b"", 2, &[], false),
 ];
 
-// With no key, with a = 5 alone, and with b = 6 beside it.
+/// A plain trie and a plain index, each of none, one or both of two keys, give the expected pairs and flag.
 #[test]
 fn scans_give_the_first_pairs(rt: HostRuntime) {
     for (held, from, upto, limit, want, more) in SCANS {
@@ -236,7 +237,7 @@ fn node_of<'a>(rt: &impl Abort, trie: &'a PlainTrie, entry: Option<Entry>) -> &'
     }
 }
 
-/// A trie as `trie_of` makes it, the places on the way to a node, and that node's height, positions and entries.
+/// A trie as `trie_of` makes it, the slots on the way to a node, and that node's height, positions and entries.
 type Shape = (
     bool,
     u16,
@@ -274,6 +275,7 @@ const SHAPES: [Shape; 16] = [
     (true, 1056, &[4, 0, 0], &[1, 1], 1, &[14, 15, 16, 17], 16),
 ];
 
+/// The node at each path has the expected height, count and columns, and the trie the height of its root.
 #[test]
 fn tries_have_their_shapes(rt: HostRuntime) {
     for (i, (wide, count, further, path, height, positions, entries)) in SHAPES.iter().enumerate() {
@@ -375,6 +377,7 @@ fn scan_both(
     assert!(rt; found.more == want.more && found.pairs.as_slice() == want.pairs.as_slice());
 }
 
+/// For keys of each of three kinds, 2,000 calls by chance return the same from a plain trie and a plain index.
 #[test]
 fn calls_by_chance_are_answered_alike(rt: HostRuntime) {
     for kind in 0..3u8 {
@@ -391,13 +394,13 @@ fn calls_by_chance_are_answered_alike(rt: HostRuntime) {
     }
 }
 
-/// A node on a way: its height, its first position, its count, and the place that is taken there.
+/// A node on a way: its height, its first position, its count, and the slot that is taken there.
 type Passed = (u16, u16, u8, u8);
 
-/// A way, a first difference with a level and an entry where it is looked for, the level, the entries and the case of the choice, and
-/// where the chain of full nodes ends. The keys 00 to 21, and then 22: the root's entry 1 alone is affected, a node, which gets the
-/// key. 00 to 3f, and then 2000: the full node's halves go into the root. 0000 to 041f, and then 040000: the root is two higher. 00
-/// to 20, and then 21: a leaf is pushed down.
+/// A way, and a first difference with a level and an entry where it is looked for. Then the level, the entries and the case of the choice,
+/// and where the chain of full nodes ends. Keys 00 to 21, and then 22: the root's entry 1 alone is affected, a node, which gets the key.
+/// Keys 00 to 3f, and then 2000: the full node's halves go into the root. Keys 0000 to 041f, and then 040000: the root is two higher. Keys
+/// 00 to 20, and then 21: a leaf is pushed down.
 type Chosen = (
     &'static [Passed],
     u16,
@@ -435,6 +438,7 @@ const CHOSEN: [Chosen; 4] = [
     (&[(2, 3, 2, 1)], 8, 0, 1, (0, 1, 1, Case::LeafPushdown), 0),
 ];
 
+/// Four insertions have the expected level, choice and end of the chain; `place` tells the three cases of a full node.
 #[test]
 fn insertions_have_their_cases(rt: HostRuntime) {
     for (passed, position, level, entry, want, end) in CHOSEN {

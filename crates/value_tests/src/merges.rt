@@ -1,4 +1,4 @@
-//! Nodes that become one, by value: the place beside one, two nodes under a fork, and one entry in place of the fork.
+//! Nodes that become one, by value: the slot beside one, two nodes under a fork, and one entry in place of the fork.
 
 ghost use Rattle.std.specs.Prelude.{◌≡◌};
 
@@ -7,7 +7,7 @@ use compound_node::{Entry, Node};
 use record_words::{FIRST_ROWS, NODE_FIELDS, close_fork, pack_node, position_of, row_of};
 use std::process::Abort;
 
-/// A node of two entries below a third one at position 4: the two part at position 6, and the third is the last or the first.
+/// The node of children 10 and 11 and leaf 12 with the rows `rows`, whose forks are at the positions 4 and 6.
 fn node_over_nodes(rt: &impl Abort, rows: [u32; 3]) -> Node {
     let mut sparse = [u32::MAX; 32];
     for i in 0..3 {
@@ -27,7 +27,7 @@ fn child(number: u32) -> Entry
     Entry::Node { number, height: 1 }
 }
 
-/// What `beside` returns for each place of `node` is in `want`.
+/// What `beside` returns for each slot of `node` is in `want`.
 fn expect_beside(rt: &impl Abort, node: &Node, want: &[Option<(u8, u16)>]) {
     assert!(rt; want.len() == node.count() as usize);
     for i in 0..node.count() {
@@ -35,6 +35,7 @@ fn expect_beside(rt: &impl Abort, node: &Node, want: &[Option<(u8, u16)>]) {
     }
 }
 
+/// In nodes of two, three and 32 entries the slot beside each is found, or none where several are beside it.
 #[test]
 fn places_are_beside_others(rt: HostRuntime) {
     let last = node_over_nodes(&rt, [0, 0x4000_0000, 0x8000_0000]);
@@ -62,6 +63,7 @@ fn join_nodes(rt: &impl Abort, position: u16, zero: &Node, one: &Node) -> Node {
     Node::merge(position, zero, one)
 }
 
+/// Joined nodes have the expected columns, rows and leaves, where both sides have a column and where one has.
 #[test]
 fn two_nodes_become_one(rt: HostRuntime) {
     let two = Node::pair(7, Entry::Leaf(3), Entry::Leaf(4));
@@ -97,6 +99,7 @@ const ODD: [u16; 15] = [1, 3, 5, 7, 9, 11, 13, 15, 17, 19, 21, 23, 25, 27, 29];
 
 const EVEN: [u16; 15] = [2, 4, 6, 8, 10, 12, 14, 16, 18, 20, 22, 24, 26, 28, 30];
 
+/// Two nodes of 16 entries without a common column become one with 32 entries and 31 columns.
 #[test]
 fn two_nodes_become_a_full_one(rt: HostRuntime) {
     let node = join_nodes(&rt, 0, &comb(&rt, &ODD), &comb(&rt, &EVEN));
@@ -115,7 +118,7 @@ fn two_nodes_become_a_full_one(rt: HostRuntime) {
     }
 }
 
-/// Puts child 20 in the place of the entry at `at` of `node`, which is 2 high, and of the one beside it. Returns the words of the node
+/// Puts child 20 in the place of the entry in slot `at` of `node`, which is 2 high, and of the one beside it. Returns the words of the node
 /// then. If the node has no other entries, the child is returned with them.
 fn close_fork_at(rt: &impl Abort, node: &Node, at: u8) -> (Option<Entry>, [u64; NODE_FIELDS]) {
     let (count, height) = (node.count(), node.height());
@@ -133,6 +136,7 @@ fn close_fork_at(rt: &impl Abort, node: &Node, at: u8) -> (Option<Entry>, [u64; 
     (left, words)
 }
 
+/// Closing a fork gives the words of a pair, from either side; of a node of two the entry alone is left.
 #[test]
 fn one_entry_takes_the_place_of_two(rt: HostRuntime) {
     let last = node_over_nodes(&rt, [0, 0x4000_0000, 0x8000_0000]);
@@ -155,6 +159,7 @@ fn one_entry_takes_the_place_of_two(rt: HostRuntime) {
     }
 }
 
+/// `row_of` reads the half of a word by the slot, and `position_of` the quarter by the column.
 #[test]
 fn numbers_are_read_of_their_words(rt: HostRuntime) {
     let words = pack_node(&comb(&rt, &POSITIONS));

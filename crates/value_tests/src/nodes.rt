@@ -16,7 +16,7 @@ use record_words::{
 use replay_trees::{unpack_entry, unpack_head, unpack_leaf, unpack_node};
 use std::process::Abort;
 
-/// The key of these bytes, which are few enough.
+/// The key with the bytes `bytes`; panics if they are more than 240.
 pub fn key(rt: &impl Abort, bytes: &[u8]) -> Key {
     match Key::from_bytes(bytes) {
         Ok(key) => key,
@@ -32,13 +32,14 @@ const DIFFERENT: [(&[u8], &[u8], Option<u16>); 4] = [
     (b"a", b"a", None),
 ];
 
-/// These keys differ first here, and the first is the lesser one then.
+/// Asserts that the keys first differ at `want`, in either order, and that `one` is the lesser if they differ.
 fn expect_mismatch(rt: &impl Abort, one: &[u8], other: &[u8], want: Option<u16>) {
     let (one, other) = (key(rt, one), key(rt, other));
     assert!(rt; mismatch(&one, &other) == want && mismatch(&other, &one) == want);
     assert!(rt; (one < other) == want.is_some());
 }
 
+/// Keys first differ at the bits worked out by hand, up to the last one of 240 bytes; 241 bytes are no key.
 #[test]
 fn keys_differ_first(rt: HostRuntime) {
     for (one, other, want) in DIFFERENT {
@@ -70,7 +71,7 @@ const GATHERED: [(&[u8], &[u16], u32); 7] = [
     (&[1; 40], &[8, 187, 188, 359], 0xb000_0000),
 ];
 
-/// A node with columns at these positions: each fork but the first stands on the 1 side of the one before.
+/// A node with columns at `positions`: each fork but the first stands on the 1 side of the one before. Each entry is leaf 0.
 pub fn comb(rt: &impl Abort, positions: &[u16]) -> Node
     requires { length positions.now ≤ 31 }
 {
@@ -85,6 +86,7 @@ pub fn comb(rt: &impl Abort, positions: &[u16]) -> Node
     }
 }
 
+/// `extract` and `dense` gather a key's bits at the positions, the first one as the highest bit.
 #[test]
 fn bits_are_gathered_from_the_highest(rt: HostRuntime) {
     for (bytes, positions, want) in GATHERED {
@@ -95,6 +97,7 @@ fn bits_are_gathered_from_the_highest(rt: HostRuntime) {
     }
 }
 
+/// Both searches return the last slot whose row has only bits that the key has.
 #[test]
 fn searches_find_the_highest_complying_entry(rt: HostRuntime) {
     let mut sparse = [u32::MAX; 32];
@@ -128,6 +131,7 @@ fn four() -> Node
     three().insert(0, 2, 6, true, Entry::Leaf(3))
 }
 
+/// A node and its head find the slot of each key by its gathered bits; a fork before its own affects all slots.
 #[test]
 fn nodes_are_searched(rt: HostRuntime) {
     let node = three();
@@ -145,7 +149,7 @@ fn nodes_are_searched(rt: HostRuntime) {
     assert!(rt; node.affected(0, 6) == (0, 2));
 }
 
-/// The node of a half that is one.
+/// The node in `half`; panics if it has none.
 fn many(rt: &impl Abort, half: Half) -> Node {
     match half {
         Half::Many(node) => node,
@@ -153,7 +157,7 @@ fn many(rt: &impl Abort, half: Half) -> Node {
     }
 }
 
-/// The node has these positions, rows and leaves.
+/// Asserts that `node` has the height 1, these positions, rows and leaves, and no other rows.
 pub fn expect_node(rt: &impl Abort, node: &Node, positions: &[u16], rows: &[u32], leaves: &[u32]) {
     let count = node.count() as usize;
     assert!(rt; node.height() == 1 && node.columns().as_slice() == positions);
@@ -165,7 +169,7 @@ pub fn expect_node(rt: &impl Abort, node: &Node, positions: &[u16], rows: &[u32]
     expect_unused(rt, node);
 }
 
-/// The node's other rows are those of no entry.
+/// Asserts that the rows of `node` behind its entries have all bits set.
 fn expect_unused(rt: &impl Abort, node: &Node) {
     for i in node.count()..32 {
         assert!(rt; node.sparse(i) == u32::MAX);
@@ -179,7 +183,7 @@ const FOUR_ROWS: [u32; 4] = [0, 0x4000_0000, 0x6000_0000, 0x8000_0000];
 
 const FIRST_ROWS: [u32; 4] = [0, 0x8000_0000, 0xc000_0000, 0xe000_0000];
 
-// The nodes of a, b, c and of a, b, c, d, one before e, f, g, a, b, c, d without d and without a, and its front half.
+/// Inserts behind and before, removals of the last and the first leaf, and a cut give the nodes worked out by hand.
 #[test]
 fn nodes_grow_and_shrink(rt: HostRuntime) {
     expect_node(&rt, &three(), &[7, 8], &THREE_ROWS, &[0, 1, 2]);
@@ -200,6 +204,7 @@ fn nodes_grow_and_shrink(rt: HostRuntime) {
     expect_node(&rt, &front, &[7, 8], &THREE_ROWS, &[0, 1, 2]);
 }
 
+/// A node is one higher than its child, and stays so without it; a side of one entry is that entry.
 #[test]
 fn heights_and_single_entries(rt: HostRuntime) {
     let child = Entry::Node {
@@ -213,6 +218,7 @@ fn heights_and_single_entries(rt: HostRuntime) {
     assert!(rt; cut.position == 6 && matches!(cut.one, Half::One(Entry::Leaf(3))));
 }
 
+/// Where a node has room, `grow` returns one node with the new leaf.
 #[test]
 fn a_node_with_room_grows_whole(rt: HostRuntime) {
     let Grown::One(node) = grow(&three(), 0, 2, 6, true, Entry::Leaf(3)) else {
@@ -246,6 +252,7 @@ pub fn words_of_leaf(byte: u8, value: u64) -> [u64; LEAF_FIELDS] {
     words
 }
 
+/// `Layout::of` tells the first of passes, nodes and leaves that is out of range, and takes the greatest counts.
 #[test]
 fn layouts_are_in_range(rt: HostRuntime) {
     for (passes, nodes, leaves, want) in [
@@ -264,6 +271,7 @@ fn layouts_are_in_range(rt: HostRuntime) {
     }
 }
 
+/// A small layout has its parts at the expected words, none at the words between or behind, and 808 words.
 #[test]
 fn layouts_have_their_places(rt: HostRuntime) {
     let Ok(layout) = Layout::of(2, 8, 8) else {
@@ -287,7 +295,7 @@ fn layouts_have_their_places(rt: HostRuntime) {
     assert!(rt; layout.words() == 808);
 }
 
-/// The word at this place of a leaf record, which begins at this word, is known as such.
+/// Asserts that `location` finds the word `place` of leaf record `leaf`, which begins at `word`, at `word` + `place`.
 fn expect_word(rt: &impl Abort, layout: &Layout, leaf: u32, word: usize, place: usize) {
     let location = layout.location(word.wrapping_add(place));
     assert!(rt;
@@ -296,7 +304,7 @@ fn expect_word(rt: &impl Abort, layout: &Layout, leaf: u32, word: usize, place: 
     );
 }
 
-/// A leaf record begins at this word and has so many words; the first and the last of them are known as such.
+/// Asserts that leaf record `leaf` begins at `word` and has `size` words, and that the first and the last are found there.
 fn expect_leaf(rt: &impl Abort, layout: &Layout, leaf: u32, word: usize, size: usize) {
     assert!(rt;
         layout.leaf(leaf) == word && layout.leaf_size(leaf) == size,
@@ -306,6 +314,7 @@ fn expect_leaf(rt: &impl Abort, layout: &Layout, leaf: u32, word: usize, size: u
     expect_word(rt, layout, leaf, word, size.wrapping_sub(1));
 }
 
+/// Leaf records of all five classes begin where the one before ends; the layout ends behind the last.
 #[test]
 fn leaf_records_have_their_sizes(rt: HostRuntime) {
     let stock = Stock {
@@ -338,6 +347,7 @@ fn leaf_records_have_their_sizes(rt: HostRuntime) {
     );
 }
 
+/// `Layout::with_stock` tells the first of passes, nodes and leaves that is out of range, and takes the greatest counts.
 #[test]
 fn stocks_are_in_range(rt: HostRuntime) {
     for (passes, nodes, short, long, want) in [
@@ -360,6 +370,7 @@ fn stocks_are_in_range(rt: HostRuntime) {
     }
 }
 
+/// `Stock::for_keys` takes the class of the longest key, and counts of nodes and leaves by the number of keys.
 #[test]
 fn stocks_are_told_by_keys(rt: HostRuntime) {
     for (count, longest, class, nodes, leaves) in [
@@ -389,6 +400,7 @@ fn stocks_are_told_by_keys(rt: HostRuntime) {
     }
 }
 
+/// Words of states and entries are read or refused as expected; what is read packs to the same word.
 #[test]
 fn states_and_entries_have_their_words(rt: HostRuntime) {
     for (word, want) in [
@@ -429,6 +441,7 @@ fn states_and_entries_have_their_words(rt: HostRuntime) {
     }
 }
 
+/// A leaf and a node pack to the words worked out by hand, and are read from them.
 #[test]
 fn leaves_and_nodes_have_their_words(rt: HostRuntime) {
     let leaf = words_of_leaf(b'a', 5);
@@ -443,8 +456,8 @@ fn leaves_and_nodes_have_their_words(rt: HostRuntime) {
     }
 }
 
-/// What the leaf of the key a becomes where one of its words is another: the word's place, the word, and the key that is spelled, if
-/// any. A length above 240 is none of a key, and in a word with bytes of the key those behind it are 0; the words behind may be any.
+/// What the leaf of the key a becomes where one of its words is another. A row has the word's place, the word, and the key, if it spells
+/// one. A length above 240 is none of a key. In a word with bytes of the key those behind it are 0; the words behind may be any.
 const OTHER_LEAVES: [(usize, u64, Option<&[u8]>); 10] = [
     (1, 0, Some(b"")),
     (1, 8, Some(b"a\0\0\0\0\0\0\0")),
@@ -458,6 +471,7 @@ const OTHER_LEAVES: [(usize, u64, Option<&[u8]>); 10] = [
     (31, 1, Some(b"a")),
 ];
 
+/// With one other word, a leaf is read with the expected key, or refused.
 #[test]
 fn leaves_are_read_up_to_the_end_of_their_keys(rt: HostRuntime) {
     for (at, word, want) in OTHER_LEAVES {
@@ -471,7 +485,7 @@ fn leaves_are_read_up_to_the_end_of_their_keys(rt: HostRuntime) {
     }
 }
 
-// A number, an unused position, an unused sparse partial key, an unused entry and a lower bit that are off.
+/// A node with a wrong count, unused position, row or entry, or low bit of a row is refused; so is a head of zeros.
 #[test]
 fn other_words_of_nodes_are_refused(rt: HostRuntime) {
     for (at, word) in [

@@ -9,7 +9,7 @@ use rowex_replay::{Replay, ReplayFault};
 use std::alloc::Global;
 use std::process::Abort;
 
-/// What the leaves a, b, c and q show below these nodes, with one leaf that is not linked and spells no key.
+/// What `root` shows over these nodes and five leaves: a, b, c, q and one that spells no key. `None` if that is no tree.
 fn tree(
     rt: &impl Abort,
     alloc: Global,
@@ -29,6 +29,7 @@ fn tree(
     }
 }
 
+/// The tree has the keys a, b and c with numbers and values; of the records just these and node 0 are linked.
 #[test]
 fn words_show_a_tree_of_three_leaves(rt: HostRuntime) {
     let nodes = [words_of_three(), [9; NODE_FIELDS]];
@@ -113,6 +114,7 @@ enum Step {
     GiveBack(Rec, u64, u64),
 }
 
+/// The act of `step`.
 fn act_of(step: &Step) -> Act {
     match *step {
         Step::Claim(rec, found) => Act::Claim { rec, found },
@@ -138,7 +140,7 @@ fn act_of(step: &Step) -> Act {
 /// A pass's event, and whether it is legal where it comes.
 type Line = (u16, Step, bool);
 
-/// Each event is accepted where it is legal, and refused where it is not.
+/// Gives `replay` each event of `lines`. Asserts that it is accepted where it is legal, and refused as illegal where it is not.
 fn expect_all(rt: &impl Abort, replay: &mut Replay, lines: &[Line]) {
     for (i, (pass, step, legal)) in lines.iter().enumerate() {
         let (pass, act) = (*pass, act_of(step));
@@ -151,7 +153,7 @@ fn expect_all(rt: &impl Abort, replay: &mut Replay, lines: &[Line]) {
     }
 }
 
-/// A record is claimed, filled and made ready.
+/// Asserts that it is legal that `pass` claims `rec`, fills it with `words` from offset 1 on, and makes it ready.
 fn make(rt: &impl Abort, replay: &mut Replay, pass: u16, rec: Rec, words: &[u64]) {
     expect_all(rt, replay, &[(pass, Step::Claim(rec, 0), true)]);
     for (offset, word) in (1..64u8).zip(words.iter()) {
@@ -160,7 +162,7 @@ fn make(rt: &impl Abort, replay: &mut Replay, pass: u16, rec: Rec, words: &[u64]
     expect_all(rt, replay, &[(pass, Step::Ready(rec), true)]);
 }
 
-/// So many changes were made, and these keys of one byte have these values.
+/// Asserts that `changes` changes were made, and that the replay's pairs are `want`, keys of one byte with their values.
 fn expect_pairs(rt: &impl Abort, alloc: Global, replay: &Replay, changes: u64, want: &[(u8, u64)]) {
     assert!(rt; replay.changes() == changes);
     match replay.content(alloc) {
@@ -174,7 +176,7 @@ fn expect_pairs(rt: &impl Abort, alloc: Global, replay: &Replay, changes: u64, w
     }
 }
 
-/// A replay of no event yet.
+/// A replay of no event yet, for `layout`; panics if that is a fault.
 fn begun(rt: &impl Abort, alloc: Global, layout: Result<Layout, LayoutFault>) -> Replay {
     let Ok(layout) = layout else {
         panic!(rt; "no layout");
@@ -224,6 +226,7 @@ const ONE_LEAF: [Line; 6] = [
     (0, Step::Mark(LEAF, 1), false),
 ];
 
+/// Claims, locks, pins and a round are legal or not as expected without a change; then a leaf is published.
 #[test]
 fn one_leaf_is_published(rt: HostRuntime) {
     let mut replay = begun(&rt, rt.alloc(), Layout::of(1, 1, 1));
@@ -248,6 +251,7 @@ const SHORT: [Line; 10] = [
     (0, Step::LoadFixed(LEAF, 3, 0x6162_6364_6566_6768), true),
 ];
 
+/// A short record has no word at offset 4, and can be made ready with a key of eight bytes, not of nine.
 #[test]
 fn a_short_record_has_room_for_eight_bytes(rt: HostRuntime) {
     let stock = Stock::of_class(1, LeafClass::Short, 1);
@@ -268,6 +272,7 @@ const SPELLED: [Line; 9] = [
     (0, Step::Lock(Target::Anchor, 2), true),
 ];
 
+/// Other words behind a key are legal, and are loaded again; another byte behind it in its last word isn't.
 #[test]
 fn what_stands_behind_a_key_says_nothing(rt: HostRuntime) {
     let mut replay = begun(&rt, rt.alloc(), Layout::of(1, 1, 1));
@@ -361,6 +366,7 @@ const REMOVED: [Line; 8] = [
     (0, Step::Unlock(Target::Anchor), true),
 ];
 
+/// Inserts, a round, a replaced leaf and a removal are legal step by step as expected, and give the expected pairs.
 #[test]
 fn a_node_grows_and_shrinks(rt: HostRuntime) {
     let mut replay = begun(&rt, rt.alloc(), Layout::of(2, 2, 4));
