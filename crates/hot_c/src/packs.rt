@@ -25,7 +25,8 @@ pub extern "C" fn hot_scan_packed(
     count: &mut usize,
     more: &mut u32,
 ) -> u32
-    ensures call { ListsPacked from.now upto.now handle.old.slot.opened handle.new.slot.opened (packing bytes.old heads.old count.old more.old) (packing bytes.new heads.new count.new more.new) result }
+    ensures call { ListsPacked from.now upto.now handle.old.slot.opened handle.new.slot.opened
+        (packing bytes.old heads.old count.old more.old) (packing bytes.new heads.new count.new more.new) result }
 {
     let order = Order::Upwards;
     let query = Query { order, from, upto };
@@ -44,7 +45,8 @@ pub extern "C" fn hot_scan_packed_reverse(
     count: &mut usize,
     more: &mut u32,
 ) -> u32
-    ensures call { ListsPackedReverse from.now upto.now handle.old.slot.opened handle.new.slot.opened (packing bytes.old heads.old count.old more.old) (packing bytes.new heads.new count.new more.new) result }
+    ensures call { ListsPackedReverse from.now upto.now handle.old.slot.opened handle.new.slot.opened
+        (packing bytes.old heads.old count.old more.old) (packing bytes.new heads.new count.new more.new) result }
 {
     let order = Order::Downwards;
     let query = Query { order, from, upto };

@@ -39,7 +39,8 @@ pub extern "C" fn hot_scan_reverse(
     count: &mut usize,
     more: &mut u32,
 ) -> u32
-    ensures call { ListsReverse from.now upto.now handle.old.slot.opened handle.new.slot.opened (listing room.old count.old more.old) (listing room.new count.new more.new) result }
+    ensures call { ListsReverse from.now upto.now handle.old.slot.opened handle.new.slot.opened
+        (listing room.old count.old more.old) (listing room.new count.new more.new) result }
 {
     let order = Order::Downwards;
     let query = Query { order, from, upto };
@@ -57,7 +58,8 @@ pub extern "C" fn hot_scan_last(
     count: &mut usize,
     more: &mut u32,
 ) -> u32
-    ensures call { ListsLast from.now upto.now handle.old.slot.opened handle.new.slot.opened (listing room.old count.old more.old) (listing room.new count.new more.new) result }
+    ensures call { ListsLast from.now upto.now handle.old.slot.opened handle.new.slot.opened
+        (listing room.old count.old more.old) (listing room.new count.new more.new) result }
 {
     let order = Order::LastUpwards;
     let query = Query { order, from, upto };
