@@ -21,7 +21,8 @@ pub extern "C" fn hot_scan(
     count: &mut usize,
     more: &mut u32,
 ) -> u32
-    ensures call { Lists from.now upto.now handle.old.slot.opened handle.new.slot.opened (listing room.old count.old more.old) (listing room.new count.new more.new) result }
+    ensures call { Lists from.now upto.now handle.old.slot.opened handle.new.slot.opened
+        (listing room.old count.old more.old) (listing room.new count.new more.new) result }
 {
     let order = Order::Upwards;
     let query = Query { order, from, upto };
