@@ -15,13 +15,13 @@ use std::cmp::Ordering;
 pub fn change_between(pass: u16, before: &[Item], after: &[Item]) -> Option<Change>
     ensures { AreSame (map read_item before.now) (map read_item after.now) → IsFoundChange pass (map read_item before.now) (map read_item after.now) result }
 {
-    let front = count_common(before, after);
-    change_at_front(pass, &before[front..], &after[front..])
+    let front = count_same_first_items(before, after);
+    change_where_firsts_differ(pass, &before[front..], &after[front..])
 }
 
 /// As `change_between`, of `gone`, the leaves before, and `come`, those after. Their first leaves, if both lists have one, have different
 /// numbers.
-fn change_at_front(pass: u16, gone: &[Item], come: &[Item]) -> Option<Change>
+fn change_where_firsts_differ(pass: u16, gone: &[Item], come: &[Item]) -> Option<Change>
     requires { BeginApart (map read_item gone.now) (map read_item come.now) }
     ensures { AreSame (map read_item gone.now) (map read_item come.now) → IsFoundChange pass (map read_item gone.now) (map read_item come.now) result }
 {
@@ -48,7 +48,7 @@ fn make_change(
 ) -> Option<Change>
     ensures { IsMade (map read_item before.now) (map read_item after.now) (record { pass = pass; key = item.now.key; value = item.now.value; kind = kind }) result }
 {
-    if before.len() == after.len() && count_common(before, after) == before.len() {
+    if before.len() == after.len() && count_same_first_items(before, after) == before.len() {
         Some(Change {
             pass,
             key: item.key.copy(),
@@ -61,7 +61,7 @@ fn make_change(
 }
 
 /// How many first leaves of `before` and `after` have the same numbers: those before the first that differ, or all of the shorter list.
-fn count_common(before: &[Item], after: &[Item]) -> usize
+fn count_same_first_items(before: &[Item], after: &[Item]) -> usize
     ensures within { result ≤ length before.now }
     ensures within_both { result ≤ length after.now }
     ensures same { (k : ℕ) → k < result → slice_index (numbers (map read_item before.now)) k ≡ slice_index (numbers (map read_item after.now)) k }

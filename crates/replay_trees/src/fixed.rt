@@ -33,7 +33,7 @@ impl Fixed {
         }
         let positions = unpack_positions(&words[1..9]);
         let (used, unused) = positions.split_at(column_count as usize);
-        if !are_unused(unused) {
+        if !are_unused_positions(unused) {
             return Err(WordFault::Bad);
         }
         Ok(Fixed {
@@ -70,7 +70,7 @@ fn unpack_rows(words: &[u64]) -> [u32; 32]
 }
 
 /// Whether each of `positions` is 65,535, which is that of no column.
-fn are_unused(positions: &[u16]) -> bool
+fn are_unused_positions(positions: &[u16]) -> bool
     ensures { IsTrue result ↔ EachIndex positions.now (λ i. slice_index positions.now i ≡ 65535) }
 {
     positions.iter().all(|position| *position == u16::MAX)

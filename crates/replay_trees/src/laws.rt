@@ -4,6 +4,6 @@ ghost use Rattle.replay_trees.specs.Statements.{LeavesAreOne};
 
 /// Leaves of one number, in the newest tree and in the one that the store of a word would show, are one leaf. `change_between` asks that of
 /// its lists.
-pub fn leaves_are_one()
+pub fn leaves_of_one_number_are_one()
     ensures { LeavesAreOne }
 {}

@@ -17,17 +17,17 @@ pub fn unpack_leaf(words: &[u64; LEAF_FIELDS]) -> Result<(Key, u64), WordFault>
     if words[1] > MAX_BYTES as u64 {
         return Err(WordFault::Bad);
     }
-    unpack_with_bytes(words, &unpack_key_bytes(words))
+    unpack_leaf_with_bytes(words, &unpack_key_bytes(words))
 }
 
 /// As `unpack_leaf`, of `words` whose key words have the bytes `bytes`. `WordFault::Bad` if a byte behind the key isn't 0.
-fn unpack_with_bytes(words: &[u64; LEAF_FIELDS], bytes: &[u8]) -> Result<(Key, u64), WordFault>
+fn unpack_leaf_with_bytes(words: &[u64; LEAF_FIELDS], bytes: &[u8]) -> Result<(Key, u64), WordFault>
     requires short { slice_index words.now 1 ≤ MAX_BYTES }
     requires spelled { IsBytesOf bytes.now (take KEY_WORDS (drop 2 (up_to_key words.now))) }
     ensures { IsReading HasLeafWords leaf_words (up_to_key words.now) result }
 {
     let (key, unused) = bytes.split_at(words[1] as usize);
-    if !are_zero(unused) {
+    if !are_zero_bytes(unused) {
         return Err(WordFault::Bad);
     }
     match Key::from_bytes(key) {
@@ -37,7 +37,7 @@ fn unpack_with_bytes(words: &[u64; LEAF_FIELDS], bytes: &[u8]) -> Result<(Key, u
 }
 
 /// Whether all of `bytes` are 0.
-fn are_zero(bytes: &[u8]) -> bool
+fn are_zero_bytes(bytes: &[u8]) -> bool
     ensures { IsTrue result ↔ EachIndex bytes.now (λ i. slice_index bytes.now i ≡ 0) }
 {
     bytes.iter().all(|byte| *byte == 0)

@@ -89,7 +89,7 @@ fn read_cut(records: Records, least: u32, cut: Cut, linked: &mut Linked) -> Resu
     if !read_half(records, u32::from(position) + 1, cut.one, linked)? {
         return Ok(false);
     }
-    Ok(are_parted(position, &linked.items[zero].key, &linked.items[one].key))
+    Ok(are_parted_keys(position, &linked.items[zero].key, &linked.items[one].key))
 }
 
 /// Adds leaf record `number` of `leaves` to `linked`, and returns `true`. `false`, and nothing is added, if the table has no such record or
@@ -127,7 +127,7 @@ fn node_at(nodes: &[[u64; NODE_FIELDS]], number: u32, height: u16) -> Option<Nod
 }
 
 /// Whether the keys `zero` and `one` differ first at `position`, where `zero` has 0.
-fn are_parted(position: u16, zero: &Key, one: &Key) -> bool
+fn are_parted_keys(position: u16, zero: &Key, one: &Key) -> bool
     ensures { IsTrue result ↔ IsParted position zero.now one.now }
 {
     let Some(first) = mismatch(zero, one) else {

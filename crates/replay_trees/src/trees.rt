@@ -38,8 +38,8 @@ pub fn read_tree(
 {
     let mut linked = Linked {
         items: Vec::new(alloc),
-        nodes: unset_marks(alloc, nodes.len())?,
-        leaves: unset_marks(alloc, leaves.len())?,
+        nodes: make_unset_marks(alloc, nodes.len())?,
+        leaves: make_unset_marks(alloc, leaves.len())?,
     };
     if let Some(entry) = root {
         if !read_entry(Records { nodes, leaves }, 0, entry, &mut linked)? {
@@ -50,7 +50,7 @@ pub fn read_tree(
 }
 
 /// A list of `count` marks, all `false`; an error if memory is refused.
-fn unset_marks(alloc: Global, count: usize) -> Result<Vec<bool>, AllocError>
+fn make_unset_marks(alloc: Global, count: usize) -> Result<Vec<bool>, AllocError>
     ensures { IfOk result (λ marks. marks.items ≡ replicate count false) }
 {
     let mut marks = Vec::new(alloc);

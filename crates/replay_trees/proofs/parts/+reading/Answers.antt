@@ -32,7 +32,7 @@ read_cut-returns-clause-read t c words are p s =
     c.index.result.now c.index-2.result.now c.len-zero.result c.len-one.result (omega (arith, c.len-zero.ensures, c.args.linked.now.items.ok.0)) (omega (arith, c.len-one.ensures, c.read_half.new.linked.items.ok.0))
     (omega (arith, c.len-zero.ensures, c.args.linked.now.items.ok.0, c.in_ok-read_half.ensures.grown.longer c.if-not-branch.false, c.in_ok-read_half-2.ensures.grown.longer c.if-not-branch-2.false))
     (omega (arith, c.len-one.ensures, c.read_half.new.linked.items.ok.0, c.in_ok-read_half-2.ensures.grown.longer c.if-not-branch-2.false))
-    (sym c.index.ensures) (sym c.index-2.ensures) c.are_parted.result c.are_parted.ensures p s
+    (sym c.index.ensures) (sym c.index-2.ensures) c.are_parted_keys.result c.are_parted_keys.ensures p s
 
 pub read_entry-returns-in_default-clause-read : goal.read_entry-returns-in_default-clause-read
 read_entry-returns-in_default-clause-read t c words are p is s =

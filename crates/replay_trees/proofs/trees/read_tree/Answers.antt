@@ -11,7 +11,7 @@ use Rattle.replay_trees.proofs.trees.read_tree.Goals.{in-Some+in_ok-read_entry+e
 pub returns-then-not-branch : goal.returns-then-not-branch
 returns-then-not-branch c words are =
     let table : Table = record { nodes = c.args.nodes.now; leaves = c.args.leaves.now } in
-    let old : Linked = record { items = c.new.result; nodes = c.in_ok-unset_marks.field-0; leaves = c.in_ok-unset_marks-2.field-0 } in
+    let old : Linked = record { items = c.new.result; nodes = c.in_ok-make_unset_marks.field-0; leaves = c.in_ok-make_unset_marks-2.field-0 } in
     subst (λ r. IsReadVersion table words r None) (sym c.in-Some.is)
     (top_none table words c.in-Some.entry old c.read_entry.new.linked
     (subst (λ g. IsTreeRead (ShowsPart table words 0 (Place c.in-Some.entry)) g old c.read_entry.new.linked) c.if-not-branch.true (c.in_ok-read_entry.ensures.read words are (Place c.in-Some.entry) refl)))
@@ -35,7 +35,7 @@ returns c words are =
     table = record { nodes = c.args.nodes.now; leaves = c.args.leaves.now }
 
     old : Linked
-    old = record { items = c.new.result; nodes = c.in_ok-unset_marks.field-0; leaves = c.in_ok-unset_marks-2.field-0 }
+    old = record { items = c.new.result; nodes = c.in_ok-make_unset_marks.field-0; leaves = c.in_ok-make_unset_marks-2.field-0 }
 
     empty : IsEmpty table old
-    empty = record { no_items = c.new.ensures.items; nodes_are = c.in_ok-unset_marks.ensures; leaves_are = c.in_ok-unset_marks-2.ensures }
+    empty = record { no_items = c.new.ensures.items; nodes_are = c.in_ok-make_unset_marks.ensures; leaves_are = c.in_ok-make_unset_marks-2.ensures }

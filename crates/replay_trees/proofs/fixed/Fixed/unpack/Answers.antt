@@ -13,13 +13,13 @@ returns-then-meta c =
     let numbers = (fixed_words_parts fixed.count fixed.height fixed.columns.items fixed.sparse c.args.words.now same).numbers in
     omega (arith, numbers, has.count, has.few, has.height, c.then-meta.either))
 
-pub returns-then-not-are_unused : goal.returns-then-not-are_unused
-returns-then-not-are_unused c =
+pub returns-then-not-are_unused_positions : goal.returns-then-not-are_unused_positions
+returns-then-not-are_unused_positions c =
     let positions = c.unpack_positions-positions in
     reads_none Bad (λ fixed has same.
     let unused : EachIndex c.split_at.result.1.now (λ i. get_or c.split_at.result.1.now i 0 ≡ 65535) =
     rw c.split_at.ensures.back (unused_read positions.result c.args.words.now fixed _ positions.ensures has same refl) in
-    absurd (cc (c.are_unused.ensures.1 unused)))
+    absurd (cc (c.are_unused_positions.ensures.1 unused)))
 
 pub returns : goal.returns
 returns c =
@@ -27,7 +27,7 @@ returns c =
     let n : ℕ = get_or c.args.words.now 0 0 / 256 % 256 in
     let columns : c.copy_columns.result.items ≡ take n positions.result = c.copy_columns.ensures ∙ c.split_at.ensures.front in
     let unused : EachIndex (drop n positions.result) (λ i. get_or (drop n positions.result) i 0 ≡ 65535) =
-    rw c.split_at.ensures.back at (c.are_unused.ensures.0 c.if-not-are_unused.false) in
+    rw c.split_at.ensures.back at (c.are_unused_positions.ensures.0 c.if-not-are_unused_positions.false) in
     reads_fixed _ c.args.words.now
     (rw columns (fixed_fits positions.result c.unpack_rows.result c.args.words.now n positions.ensures c.unpack_rows.ensures c.if-meta.false c.if-column_count-gt31.false))
     (rw columns (fixed_read positions.result c.unpack_rows.result c.args.words.now n c.requires positions.ensures c.unpack_rows.ensures c.if-meta.false refl c.if-column_count-gt31.false unused))

@@ -1,7 +1,7 @@
 -- The numbers are the same up to the first that differ.
 use Rattle.std.proofs.Common.{below_more, arith}
 use Rattle.replay_trees.proofs.Between.{same_number, other_number}
-use Rattle.replay_trees.proofs.changes.count_common.Goals as goal
+use Rattle.replay_trees.proofs.changes.count_same_first_items.Goals as goal
 
 pub loop-i-preserved : goal.loop-i-preserved
 loop-i-preserved c =
