@@ -12,7 +12,7 @@ use record_words::EPOCHS;
 
 impl State {
     /// The pin and the round of `pass`, which the index has.
-    pub(crate) fn state_of(&self, pass: u16) -> PassState
+    pub(crate) fn pass_state(&self, pass: u16) -> PassState
         requires { pass < length self.now.passes }
         ensures { slice_get self.now.passes pass ≡ Some result }
     {
@@ -36,7 +36,7 @@ impl State {
             return false;
         }
         let version = self.changes.len() as u64;
-        let loaded = self.state_of(pass).begin_round(self.epoch, version);
+        let loaded = self.pass_state(pass).begin_round(self.epoch, version);
         set_item(&mut self.passes, pass as usize, loaded);
         true
     }
@@ -61,7 +61,7 @@ impl State {
         requires { pass < length self.old.passes }
         ensures { IsStepped result self.old self.new pass (SetPin word) }
     {
-        let mut own = self.state_of(pass);
+        let mut own = self.pass_state(pass);
         if !own.may_pin(word) {
             return false;
         }
@@ -75,7 +75,7 @@ impl State {
         requires { pass < length self.old.passes }
         ensures { IsStepped result self.old self.new pass ClearPin }
     {
-        let mut own = self.state_of(pass);
+        let mut own = self.pass_state(pass);
         if own.pin.is_none() {
             return false;
         }
@@ -96,7 +96,7 @@ impl State {
         if word != other.pin.unwrap_or(0) {
             return false;
         }
-        let seen = self.state_of(pass).see_pin(of, other.pin);
+        let seen = self.pass_state(pass).see_pin(of, other.pin);
         set_item(&mut self.passes, pass as usize, seen);
         true
     }

@@ -26,20 +26,20 @@ impl Fate {
     ghost use Rattle.replay_state.specs.Fates.{stored_fate};
 
     /// The state of a record of this fate, where `lock` is the pass that has locked it, if any.
-    pub(crate) fn tag(self, lock: Option<u16>) -> Tag
+    pub(crate) fn state(self, lock: Option<u16>) -> Tag
         ensures { result ≡ tag_of lock (stored_fate self) }
     {
         match self {
             Fate::Free => Tag::Free,
             Fate::Held { .. } => Tag::Held,
             Fate::Marked { epoch, .. } => Tag::Obsolete(epoch),
-            _ => tag_of_lock(lock),
+            _ => live_state(lock),
         }
     }
 }
 
 /// The state of what is live: locked by the pass in `lock`, or unlocked if there is none.
-pub(crate) fn tag_of_lock(lock: Option<u16>) -> Tag
+pub(crate) fn live_state(lock: Option<u16>) -> Tag
     ensures { result ≡ lock_tag lock }
 {
     match lock {

@@ -33,7 +33,7 @@ impl Fate {
 
     /// The fate after `pass` has published version `now + 1`, of which `is_linked` says whether it links the record. A ready record that is
     /// linked is in the tree then. One of the tree that isn't linked is unlinked, and all other fates stay.
-    fn after_publish(self, now: u64, pass: u16, is_linked: bool) -> Fate
+    fn fate_after_publish(self, now: u64, pass: u16, is_linked: bool) -> Fate
         requires { now + 1 < 2 ^ 64 }
         ensures { stored_fate result ≡ next_fate now pass is_linked (stored_fate self) }
     {
@@ -81,7 +81,7 @@ pub(crate) fn update_each_fate(fates: &mut [Fate], now: u64, pass: u16, linked: 
     ensures { AreNextFates now pass linked.now fates.old fates.new }
 {
     for i in 0..fates.len() {
-        fates[i] = fates[i].after_publish(now, pass, flag_at(linked, i));
+        fates[i] = fates[i].fate_after_publish(now, pass, flag_at(linked, i));
     }
 }
 

@@ -47,7 +47,7 @@ impl State {
     pub(crate) fn load_state(&self, pass: u16, rec: Rec, word: u64) -> bool
         ensures { IsStepped result self.now self.now pass (LoadState rec word) }
     {
-        self.records.has_state(rec, word)
+        self.records.has_state_word(rec, word)
     }
 }
 

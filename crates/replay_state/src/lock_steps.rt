@@ -6,7 +6,7 @@ ghost use Rattle.rowex_core.specs.declared.event.Act.TheVariants.{Lock, Unlock};
 ghost use Rattle.rowex_core.specs.declared.event.Target.TheVariants.{Anchor, Node as NodeTarget};
 ghost use Rattle.replay_state.specs.States.{IsStepped};
 
-use crate::fate::tag_of_lock;
+use crate::fate::live_state;
 use crate::state::State;
 use record_words::{Tag, pack_state};
 use rowex_core::{Rec, Target};
@@ -44,7 +44,7 @@ impl State {
     fn lock_anchor(&mut self, pass: u16, found: u64) -> bool
         ensures { IsStepped result self.old self.new pass (Lock Anchor found) }
     {
-        if found != pack_state(tag_of_lock(self.anchor)) {
+        if found != pack_state(live_state(self.anchor)) {
             return false;
         }
         if self.anchor.is_none() {
@@ -57,7 +57,7 @@ impl State {
     fn lock_node(&mut self, pass: u16, node: u32, found: u64) -> bool
         ensures { IsStepped result self.old self.new pass (Lock (NodeTarget node) found) }
     {
-        if !self.records.has_state(Rec::Node(node), found) {
+        if !self.records.has_state_word(Rec::Node(node), found) {
             return false;
         }
         if found == pack_state(Tag::Live) {

@@ -18,7 +18,7 @@ impl State {
     pub(crate) fn claim(&mut self, pass: u16, rec: Rec, found: u64) -> bool
         ensures { IsStepped result self.old self.new pass (Claim rec found) }
     {
-        if !self.records.has_state(rec, found) {
+        if !self.records.has_state_word(rec, found) {
             return false;
         }
         if found == pack_state(Tag::Free) {
@@ -68,7 +68,7 @@ impl State {
         requires { pass < length self.old.passes }
         ensures { IsStepped result self.old self.new pass (Mark rec epoch) }
     {
-        let own = self.state_of(pass);
+        let own = self.pass_state(pass);
         let Some(Fate::Unlinked { since, last, by }) = self.records.fate(rec) else {
             return false;
         };
@@ -76,7 +76,7 @@ impl State {
             return false;
         }
         self.records
-            .set_fate_unlocked(rec, Fate::Marked { since, last, epoch });
+            .set_fate_and_unlock(rec, Fate::Marked { since, last, epoch });
         true
     }
 
@@ -86,10 +86,13 @@ impl State {
         requires { pass < length self.old.passes }
         ensures { IsStepped result self.old self.new pass (GiveBack rec epoch found) }
     {
-        if !self.state_of(pass).is_unreachable(epoch, self.passes.len()) {
+        if !self
+            .pass_state(pass)
+            .is_unreachable(epoch, self.passes.len())
+        {
             return false;
         }
-        if !self.records.has_state(rec, found) {
+        if !self.records.has_state_word(rec, found) {
             return false;
         }
         if self.records.is_marked(rec, epoch) {

@@ -86,12 +86,12 @@ impl Records {
     }
 
     /// The state of `rec`; `None` if the table hasn't the record.
-    pub(crate) fn tag(&self, rec: Rec) -> Option<Tag>
+    pub(crate) fn state(&self, rec: Rec) -> Option<Tag>
         ensures { result ≡ tag_in self.now rec }
     {
         let fate = self.fate(rec)?;
         let lock = self.lock_of(rec)?;
-        Some(fate.tag(lock))
+        Some(fate.state(lock))
     }
 
     /// The words of `rec` but its state; `None` if the table hasn't the record.
@@ -149,10 +149,10 @@ impl Records {
     }
 
     /// Whether `word` is the state word of `rec`; `false` if the table hasn't the record.
-    pub(crate) fn has_state(&self, rec: Rec, word: u64) -> bool
+    pub(crate) fn has_state_word(&self, rec: Rec, word: u64) -> bool
         ensures { IsTrue result ↔ HasState self.now rec word }
     {
-        match (self.tag(rec), unpack_state(word)) {
+        match (self.state(rec), unpack_state(word)) {
             (Some(tag), Ok(shown)) => tag == shown,
             _ => false,
         }
@@ -179,14 +179,14 @@ impl Records {
                 None => false,
             },
             Rec::Leaf(number) => match self.leaf(number) {
-                Some(words) => are_leaf_words(&words) && self.has_room(number, &words),
+                Some(words) => are_leaf_words(&words) && self.has_room_for_key(number, &words),
                 None => false,
             },
         }
     }
 
     /// Whether leaf record `number` has room for a key of the length in `words`, a leaf's words from offset 1 on.
-    fn has_room(&self, number: u32, words: &[u64; LEAF_FIELDS]) -> bool
+    fn has_room_for_key(&self, number: u32, words: &[u64; LEAF_FIELDS]) -> bool
         ensures { IsTrue result ↔ FitsIn self.now.layout (a_leaf number) words.now }
     {
         words[1] <= 8 * (self.layout.leaf_size(number) as u64 - 3)
@@ -281,7 +281,7 @@ impl Records {
     }
 
     /// Gives `rec` the fate `fate`, and unlocks it. If the table hasn't the record, nothing changes.
-    pub(crate) fn set_fate_unlocked(&mut self, rec: Rec, fate: Fate)
+    pub(crate) fn set_fate_and_unlock(&mut self, rec: Rec, fate: Fate)
         ensures { self.new ≡ marked_in self.old rec fate }
     {
         if let Rec::Node(number) = rec {

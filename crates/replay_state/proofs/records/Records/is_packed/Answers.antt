@@ -5,8 +5,8 @@ use Rattle.replay_state.proofs.records.Records.is_packed.Goals as goal
 
 pub returns-then-are_leaf_words : goal.returns-then-are_leaf_words
 returns-then-are_leaf_words c =
-    leaf_is_packed c.args.self.now c.args.rec c.in-Leaf.number c.in-Some-leaf.words c.in-Leaf.is (sym c.leaf.ensures ∙ c.in-Some-leaf.is) c.has_room.result
-    (λ t. ((c.are_leaf_words.ensures c.in-Leaf.number).0 c.if-are_leaf_words.true, c.has_room.ensures.0 t)) (λ (packed, room). c.has_room.ensures.1 room)
+    leaf_is_packed c.args.self.now c.args.rec c.in-Leaf.number c.in-Some-leaf.words c.in-Leaf.is (sym c.leaf.ensures ∙ c.in-Some-leaf.is) c.has_room_for_key.result
+    (λ t. ((c.are_leaf_words.ensures c.in-Leaf.number).0 c.if-are_leaf_words.true, c.has_room_for_key.ensures.0 t)) (λ (packed, room). c.has_room_for_key.ensures.1 room)
 
 pub returns-else-are_leaf_words : goal.returns-else-are_leaf_words
 returns-else-are_leaf_words c =

@@ -5,4 +5,4 @@ use Rattle.replay_state.proofs.state.State.clear_pin.Goals as goal
 
 pub returns : goal.returns
 returns c = rw (sym c.self.view_is, c.set_item.ensures)
-    (unpins _ c.args.pass c.state_of-own.result (pass_in _ _ c.self.view_is _ _ c.state_of-own.ensures) (some_from c.state_of-own.result.pin (let a = c.is_none.ensures in let b = c.if-is_none.false in grind arith)))
+    (unpins _ c.args.pass c.pass_state-own.result (pass_in _ _ c.self.view_is _ _ c.pass_state-own.ensures) (some_from c.pass_state-own.result.pin (let a = c.is_none.ensures in let b = c.if-is_none.false in grind arith)))

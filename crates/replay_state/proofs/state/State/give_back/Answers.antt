@@ -10,20 +10,20 @@ pub returns-then-is_marked : goal.returns-then-is_marked
 returns-then-is_marked c =
     let long : c.len.result ≡ length c.self.inside.passes.items = omega (arith, c.len.ensures, c.self.inside.passes.ok.0) in
     rw (sym c.self.view_is, c.set_fate.ensures)
-    (gives_back _ c.args.pass c.args.rec c.args.epoch c.args.found c.state_of.result (pass_in _ _ c.self.view_is _ _ c.state_of.ensures)
-    (subst (IsOutOfReach c.state_of.result c.args.epoch) long (c.is_unreachable.ensures.0 c.if-not-is_unreachable.false)) (c.has_state.ensures.0 c.if-not-has_state.false) (c.is_marked.ensures.0 c.if-is_marked.true))
+    (gives_back _ c.args.pass c.args.rec c.args.epoch c.args.found c.pass_state.result (pass_in _ _ c.self.view_is _ _ c.pass_state.ensures)
+    (subst (IsOutOfReach c.pass_state.result c.args.epoch) long (c.is_unreachable.ensures.0 c.if-not-is_unreachable.false)) (c.has_state_word.ensures.0 c.if-not-has_state_word.false) (c.is_marked.ensures.0 c.if-is_marked.true))
 
 pub returns-else-is_marked : goal.returns-else-is_marked
 returns-else-is_marked c =
     let long : c.len.result ≡ length c.self.inside.passes.items = omega (arith, c.len.ensures, c.self.inside.passes.ok.0) in
     rw (sym c.self.view_is)
-    (keeps_back _ c.args.pass c.args.rec c.args.epoch c.args.found c.state_of.result (pass_in _ _ c.self.view_is _ _ c.state_of.ensures)
-    (subst (IsOutOfReach c.state_of.result c.args.epoch) long (c.is_unreachable.ensures.0 c.if-not-is_unreachable.false)) (c.has_state.ensures.0 c.if-not-has_state.false)
+    (keeps_back _ c.args.pass c.args.rec c.args.epoch c.args.found c.pass_state.result (pass_in _ _ c.self.view_is _ _ c.pass_state.ensures)
+    (subst (IsOutOfReach c.pass_state.result c.args.epoch) long (c.is_unreachable.ensures.0 c.if-not-is_unreachable.false)) (c.has_state_word.ensures.0 c.if-not-has_state_word.false)
     (λ h. let x = c.is_marked.ensures.1 h in let y = c.if-is_marked.false in cc))
 
-pub returns-then-not-has_state : goal.returns-then-not-has_state
-returns-then-not-has_state c = rw (sym c.self.view_is) (
+pub returns-then-not-has_state_word : goal.returns-then-not-has_state_word
+returns-then-not-has_state_word c = rw (sym c.self.view_is) (
   refl,
   λ core lawful h legal.
-      no_state _ c.args.rec c.args.found (λ has. absurd (let x = c.has_state.ensures.1 has in let y = c.if-not-has_state.true in cc)) core lawful h (legal.0, legal.1),
+      no_state _ c.args.rec c.args.found (λ has. absurd (let x = c.has_state_word.ensures.1 has in let y = c.if-not-has_state_word.true in cc)) core lawful h (legal.0, legal.1),
 )
