@@ -34,7 +34,7 @@ impl History {
     }
 
     /// The history with `_event` appended.
-    pub(crate) fn append(&self, _event: &Event) -> History
+    pub(crate) fn append_event(&self, _event: &Event) -> History
         ensures { result.run ≡ with_event self.now.run _event.now }
     {
         History {}

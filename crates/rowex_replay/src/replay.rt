@@ -58,7 +58,7 @@ impl Replay {
         ensures refused { OnErr result (self.new ≡ self.old) }
     {
         self.state.step(event)?;
-        self.history = self.history.append(&event);
+        self.history = self.history.append_event(&event);
         Ok(())
     }
 

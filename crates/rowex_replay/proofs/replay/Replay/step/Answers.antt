@@ -16,9 +16,9 @@ returns-in_err-step-clause-memory c =
 
 pub invariant_of-self-2 : goal.invariant_of-self-2
 invariant_of-self-2 c =
-    rw c.append-self-inside.ensures (goes_on c.self.inside.state c.step.new.self c.self.inside.history.run c.args.event c.self.invariant c.in_ok-step.ensures.ok)
+    rw c.append_event-self-inside.ensures (goes_on c.self.inside.state c.step.new.self c.self.inside.history.run c.args.event c.self.invariant c.in_ok-step.ensures.ok)
 
 pub returns-clause-ok : goal.returns-clause-ok
 returns-clause-ok c =
     let next = legal_next c.self.inside.state c.step.new.self c.self.inside.history.run c.args.event c.self.invariant c.in_ok-step.ensures.ok in
-    rw (sym c.self.view_is) (next.0, c.append-self-inside.ensures)
+    rw (sym c.self.view_is) (next.0, c.append_event-self-inside.ensures)

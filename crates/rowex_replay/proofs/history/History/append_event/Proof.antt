@@ -1,4 +1,4 @@
--- `append` makes the empty struct, with the run that its clause names. Assumes `Logic`.
+-- `append_event` makes the empty struct, with the run that its clause names. Assumes `Logic`.
 use Rattle.std.proofs.Common.{List, [], ◌∷◌, ◌++◌, refl}
 use seplogic.Ra.Ura.{Ura}
 use mir.Syntax.{Fn}
@@ -29,10 +29,10 @@ use Rattle.rowex_replay.proofs.Walks.{none, none_made}
 use Rattle.rowex_replay.specs.contracts.history.History as History
 use Rattle.rowex_core.specs.contracts.event.Event as Event
 use Rattle.rowex_replay.specs.Runs.{with_event}
-use Rattle.rowex_replay.specs.contracts.history.History.append as F
-use Rattle.rowex_replay.specs.contracts.history.History.append.Key.{name as #self}
-use Rattle.rowex_replay.proofs.history.History.append.Statement as stated
-use Rattle.rowex_replay.proofs.history.History.append.Code as code
+use Rattle.rowex_replay.specs.contracts.history.History.append_event as F
+use Rattle.rowex_replay.specs.contracts.history.History.append_event.Key.{name as #self}
+use Rattle.rowex_replay.proofs.history.History.append_event.Statement as stated
+use Rattle.rowex_replay.proofs.history.History.append_event.Code as code
 
 abbrev function : Fn
 function = code.function
@@ -79,9 +79,9 @@ module _ {M : Type 1} {𝓤 : Ura M} (𝓛 : Logic 𝓤) (at_mem : Memory → SP
       walk_Meets 𝓛 ended stayed (Goes-dropped 𝓛 2 (RefOf (0 ∷ []) tt (plain (λ _. History.the_row)) (λ _. tt)) yes (λ κs x f. refl), (Goes-dropped 𝓛 2 (RefOf (1 ∷ []) tt (plain (λ _. Event.the_row)) (λ _. tt)) yes (λ κs x f. refl), tt)) held
       (WpFn 𝓤 H 𝓣.C 𝓣.Λ function) (WpFn-mono 𝓤 H 𝓛.laws 𝓣 function) (walks 𝓣.C 𝓣.Λ)
 
-pub append_spec : {M : Type 1} → stated.statement M
+pub append_event_spec : {M : Type 1} → stated.statement M
 unfolding tables_of
-append_spec 𝓤 𝓛 𝓜 𝓡 wired =
+append_event_spec 𝓤 𝓛 𝓜 𝓡 wired =
     let 𝓣 : Tables 𝓤 𝓛.H = tables_of 𝓤 𝓛.H 𝓜 (tables 𝓤 𝓛.H 𝓜 𝓡 𝓡.env) in
     entered 𝓤 𝓛.H (triple_of 𝓛 ended.signature (closing 𝓛 ended (held 𝓛 𝓜.mem 𝓡.returns))) 𝓣.C 𝓣.Λ #self function
     (code.unfolded 𝓤 𝓛.H 𝓜 𝓡 wired) (meets 𝓛 𝓜.mem 𝓡.returns 𝓣)
