@@ -13,8 +13,8 @@ pub fn are_legal(front: &[Change], pass: u16, notes: &[Note]) -> bool
     ensures { IsTrue result ↔ LegalCalls front.now pass notes.now }
 {
     is_legal_front(front)
-        && notes.iter().all(|note| stands_in(front, pass, note))
-        && rises_from(0, notes)
+        && notes.iter().all(|note| stands_in_front(front, pass, note))
+        && places_rise_from(0, notes)
         && tell_own_changes(front, pass, notes)
 }
 
@@ -52,7 +52,7 @@ fn held_value(front: &[Change], key: &Key) -> Option<u64>
 }
 
 /// Whether a change of the kind `kind` with `value` is legal where the key has the value `held`; `None` stands for an absent key.
-fn fits(kind: Kind, held: Option<u64>, value: u64) -> bool
+fn is_legal_change(kind: Kind, held: Option<u64>, value: u64) -> bool
     ensures { IsTrue result ↔ FitsKind kind held value }
 {
     match kind {
@@ -67,7 +67,7 @@ fn is_legal_front(front: &[Change]) -> bool
     ensures { IsTrue result ↔ LegalFront front.now }
 {
     for (i, change) in front.iter().enumerate() {
-        if !fits(
+        if !is_legal_change(
             change.kind,
             held_value(&front[..i], &change.key),
             change.value,
@@ -86,7 +86,7 @@ fn changes_map(note: &Note) -> bool
 }
 
 /// Whether `change` is the one that the call of `note` made, as a call of `pass`.
-fn tells_of(note: &Note, pass: u16, change: &Change) -> bool
+fn tells_of_change(note: &Note, pass: u16, change: &Change) -> bool
     ensures { IsTrue result ↔ (change_of pass note.now ≡ Some change.now) }
 {
     match effect_of(&note.call, note.reply) {
@@ -108,14 +108,14 @@ fn names_change(front: &[Change], pass: u16, note: &Note) -> bool
         return true;
     }
     match front.get(note.place as usize) {
-        Some(change) => tells_of(note, pass, change),
+        Some(change) => tells_of_change(note, pass, change),
         None => false,
     }
 }
 
 /// Whether `note` is legal in `front` as a note of `pass`. Its place is in the front, and its reply is that of the map there. The change
 /// that it tells of, if any, stands at that place.
-fn stands_in(front: &[Change], pass: u16, note: &Note) -> bool
+fn stands_in_front(front: &[Change], pass: u16, note: &Note) -> bool
     ensures { IsTrue result ↔ StandsIn front.now pass note.now }
 {
     if note.place > front.len() as u64 {
@@ -126,7 +126,7 @@ fn stands_in(front: &[Change], pass: u16, note: &Note) -> bool
 }
 
 /// Whether the places of `notes` begin at `low` or later, never fall, and rise behind each note that tells of a change.
-fn rises_from(low: u128, notes: &[Note]) -> bool
+fn places_rise_from(low: u128, notes: &[Note]) -> bool
     ensures { IsTrue result ↔ RisesFrom low notes.now }
 {
     let Some((note, later)) = notes.split_first() else {
@@ -134,7 +134,7 @@ fn rises_from(low: u128, notes: &[Note]) -> bool
     };
     let place = u128::from(note.place);
     let next = if changes_map(note) { place + 1 } else { place };
-    low <= place && rises_from(next, later)
+    low <= place && places_rise_from(next, later)
 }
 
 /// Whether the changes of `front` by `pass` are just those that `notes` tell of, in the same order.
@@ -145,7 +145,7 @@ fn tell_own_changes(front: &[Change], pass: u16, notes: &[Note]) -> bool
         (Some((change, rest)), _) if change.pass != pass => tell_own_changes(rest, pass, notes),
         (_, Some((note, later))) if !changes_map(note) => tell_own_changes(front, pass, later),
         (Some((change, rest)), Some((note, later))) => {
-            tells_of(note, pass, change) && tell_own_changes(rest, pass, later)
+            tells_of_change(note, pass, change) && tell_own_changes(rest, pass, later)
         }
         (None, None) => true,
         _ => false,

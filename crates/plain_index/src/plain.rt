@@ -53,8 +53,8 @@ impl PlainIndex {
                 Some(held) => Ok(Reply::Was(held)),
                 None => Ok(Reply::New),
             },
-            Call::Exchange(key, expected, value) => self.exchange(key, expected, value),
-            Call::Add(key, delta) => self.add(key, delta),
+            Call::Exchange(key, expected, value) => self.exchange_value(key, expected, value),
+            Call::Add(key, delta) => self.add_to_value(key, delta),
             Call::Get(key) => match self.entries.get(&key) {
                 Some(held) => Ok(Reply::Value(*held)),
                 None => Ok(Reply::Absent),
@@ -69,7 +69,7 @@ impl PlainIndex {
 
     /// Gives `key` the value `value` if it has the value `expected`, and returns `Exchanged`. Else nothing changes, and it returns
     /// `Differs` with the key's value, or `Absent`. It returns no error.
-    fn exchange(&mut self, key: Key, expected: u64, value: u64) -> Result<Reply, AllocError>
+    fn exchange_value(&mut self, key: Key, expected: u64, value: u64) -> Result<Reply, AllocError>
         ensures reply { IfOk result (λ reply. reply ≡ reply_of self.old (Exchange key expected value)) }
         ensures map { OnOk result (self.new ≡ map_after self.old (Exchange key expected value)) }
         ensures memory { IsOk result }
@@ -86,7 +86,7 @@ impl PlainIndex {
 
     /// Adds `delta` to the value of `key`, modulo 2 to the power of 64, and returns `Was` with the value before. An absent key stays
     /// absent, and `Absent` is returned. It returns no error.
-    fn add(&mut self, key: Key, delta: u64) -> Result<Reply, AllocError>
+    fn add_to_value(&mut self, key: Key, delta: u64) -> Result<Reply, AllocError>
         ensures reply { IfOk result (λ reply. reply ≡ reply_of self.old (Add key delta)) }
         ensures map { OnOk result (self.new ≡ map_after self.old (Add key delta)) }
         ensures memory { IsOk result }

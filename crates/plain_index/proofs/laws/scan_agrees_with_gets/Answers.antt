@@ -1,6 +1,6 @@
 -- The law is a lemma on scans.
 use Rattle.plain_index.proofs.Gets.{scan-gets}
-use Rattle.plain_index.proofs.laws.scan_is_gets.Goals as goal
+use Rattle.plain_index.proofs.laws.scan_agrees_with_gets.Goals as goal
 
 pub returns : goal.returns
 returns c = scan-gets

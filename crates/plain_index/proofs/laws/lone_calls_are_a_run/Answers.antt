@@ -1,6 +1,6 @@
 -- The law is a lemma on the calls of one pass.
 use Rattle.finite_map.proofs.Alone.{alone-run}
-use Rattle.plain_index.proofs.laws.alone.Goals as goal
+use Rattle.plain_index.proofs.laws.lone_calls_are_a_run.Goals as goal
 
 pub returns : goal.returns
 returns c = alone-run
