@@ -7,8 +7,8 @@
 //!
 //! 1. The search ends at a leaf with another key. Room is made for all that may be needed ([`make_room`]): a leaf, and a node for each
 //!    height.
-//! 2. [`raise`] goes down to the node that the new leaf affects, and adds the leaf there: beside entries of the node, or in a new node
-//!    with one leaf. A full node is cut in two.
+//! 2. [`raise_newcomer`] goes down to the node that the new leaf affects, and adds the leaf there: beside entries of the node, or in a
+//!    new node with one leaf. A full node is cut in two.
 //! 3. What a node was cut into rises. It goes into the node above if that is one higher (pulling it up), else into a node of its own
 //!    between the two, or into a new root ([`make_root`]). [`place`] is this rule by itself.
 //!
@@ -26,6 +26,6 @@ mod scanning;
 pub use leaf::LeafRecord;
 pub use overflow::place;
 pub use places::Place;
-pub use rising::{make_root, raise};
+pub use rising::{make_root, raise_newcomer};
 pub use room::make_room;
 pub use scanning::{Range, scan_below};

@@ -34,12 +34,12 @@ pub fn store_grown(nodes: &mut Vec<Node>, number: u32, height: u16, grown: Grown
 {
     match grown {
         Grown::One(node) => Risen::Whole(put_node(nodes, number, node)),
-        Grown::Two(cut) => split(nodes, number, height, cut),
+        Grown::Two(cut) => store_cut(nodes, number, height, cut),
     }
 }
 
 /// Stores the two halves of `cut` in place of node `number`, whose height was `height`, and returns the fork of their entries.
-fn split(nodes: &mut Vec<Node>, number: u32, height: u16, cut: Cut) -> Risen
+fn store_cut(nodes: &mut Vec<Node>, number: u32, height: u16, cut: Cut) -> Risen
     requires number { number < vec_len nodes.old }
     requires room { vec_len nodes.old < vec_capacity nodes.old }
     requires small { vec_len nodes.old < 2 ^ 32 }

@@ -27,7 +27,13 @@ use key_bits::Key;
 /// from that of the leaf where its search ends. The search goes down to the node that takes the new leaf, or to a leaf. Below a node over
 /// other nodes a leaf counts as a child of height 0. It gives way to a fork of itself and the new one. Each node on the way back takes what
 /// took its child's place.
-pub fn raise(nodes: &mut Vec<Node>, entry: Entry, key: &Key, position: u16, leaf: u32) -> Risen
+pub fn raise_newcomer(
+    nodes: &mut Vec<Node>,
+    entry: Entry,
+    key: &Key,
+    position: u16,
+    leaf: u32,
+) -> Risen
     requires place { (leaves : List LeafRecord) × (value : ℕ) × (t : Tree) × IsAddable nodes.old.items leaves (item leaf key.now value) position entry t }
     requires position { position < 65535 }
     requires room { vec_len nodes.old + height_of entry ≤ vec_capacity nodes.old }
@@ -55,8 +61,8 @@ pub fn raise(nodes: &mut Vec<Node>, entry: Entry, key: &Key, position: u16, leaf
                 return store_grown(nodes, number, height, grown);
             }
             let child = node.entry(at);
-            let risen = raise(nodes, child, key, position, leaf);
-            lift(nodes, number, height, at, child.height(), risen)
+            let risen = raise_newcomer(nodes, child, key, position, leaf);
+            lift_risen(nodes, number, height, at, child.height(), risen)
         }
     }
 }
@@ -91,7 +97,14 @@ fn fork_entries(old: Entry, position: u16, bit: bool, new: Entry) -> Risen
 /// Puts `risen` in the place of entry `at` of node `number`, which is `height` high, and returns what takes the node's place. `low` is the
 /// height of the entry that was there. A fork goes into the node if that is one higher than `low`, else into a new node at the place. A
 /// full node that takes in the fork is cut, and the fork of its sides is returned.
-fn lift(nodes: &mut Vec<Node>, number: u32, height: u16, at: u8, low: u16, risen: Risen) -> Risen
+fn lift_risen(
+    nodes: &mut Vec<Node>,
+    number: u32,
+    height: u16,
+    at: u8,
+    low: u16,
+    risen: Risen,
+) -> Risen
     requires place { (ns : List NodeView) × (leaves : List LeafRecord) × (x : Item) × (p : ℕ) × (y : Fixed) × (b : Tree) ×
         IsLifting (records ns leaves) nodes.old.items x p (level number height at low) y b (subtrie_of risen) }
     requires room { vec_len nodes.old < vec_capacity nodes.old }

@@ -59,7 +59,7 @@ fn scan_leaf(leaf: &LeafRecord, range: Range, scan: &mut Scan) -> Result<(), All
         MatchResult result (λ _. IsScanOf (m ++ (leaf.now.key, leaf.now.value) ∷ []) range.entry.from.now range.entry.upto.now range.entry.limit scan.new)
         (λ _. take range.entry.limit (range_of (m ++ (leaf.now.key, leaf.now.value) ∷ []) range.entry.from.now range.entry.upto.now) ≢ []) }
 {
-    let inside = is_within(range, &leaf.key);
+    let inside = is_in_range(range, &leaf.key);
     if !inside {
         return Ok(());
     }
@@ -72,7 +72,7 @@ fn scan_leaf(leaf: &LeafRecord, range: Range, scan: &mut Scan) -> Result<(), All
 }
 
 /// Whether `key` is neither below `range` nor above it.
-fn is_within(range: Range, key: &Key) -> bool
+fn is_in_range(range: Range, key: &Key) -> bool
     ensures { result ≡ is_within range.entry.from.now range.entry.upto.now key.now }
 {
     *range.from <= *key && !(*range.upto < *key)

@@ -13,7 +13,7 @@ mod scan;
 use compound_node::{Entry, Node};
 use finite_map::Reply;
 use key_bits::{Key, mismatch};
-use plain_records::{LeafRecord, make_room, make_root, raise};
+use plain_records::{LeafRecord, make_room, make_root, raise_newcomer};
 use std::alloc::{AllocError, Global};
 use std::marker::Model;
 
@@ -104,7 +104,7 @@ impl PlainTrie {
         match self.top {
             None => None,
             Some(entry) => {
-                let leaf = &self.leaves[self.find(key, entry)];
+                let leaf = &self.leaves[self.find_leaf(key, entry)];
                 if leaf.key == *key {
                     Some(leaf.value)
                 } else {
@@ -151,7 +151,7 @@ impl PlainTrie {
             return Ok(Reply::New);
         };
         let held = self.leaves[leaf].value;
-        self.set(leaf, key, value);
+        self.set_value(leaf, key, value);
         Ok(Reply::Was(held))
     }
 
@@ -167,10 +167,10 @@ impl PlainTrie {
         ensures heights { KeepsHeights self.old.nodes self.new.nodes }
     {
         let Some(top) = self.top else {
-            self.plant(key, value)?;
+            self.add_first_leaf(key, value)?;
             return Ok(None);
         };
-        let held = self.find(key, top);
+        let held = self.find_leaf(key, top);
         let Some(position) = mismatch(key, &self.leaves[held].key) else {
             return Ok(Some(held));
         };
@@ -180,13 +180,13 @@ impl PlainTrie {
             key: key.copy(),
             value,
         });
-        let risen = raise(&mut self.nodes, top, key, position, leaf);
+        let risen = raise_newcomer(&mut self.nodes, top, key, position, leaf);
         self.top = Some(make_root(&mut self.nodes, risen));
         Ok(None)
     }
 
     /// Adds `key` with `value` to a trie without keys. If memory is refused, it returns `AllocError`, and nothing is changed.
-    fn plant(&mut self, key: &Key, value: u64) -> Result<(), AllocError>
+    fn add_first_leaf(&mut self, key: &Key, value: u64) -> Result<(), AllocError>
         requires { self.old.top ≡ None }
         ensures map { OnOk result (trie_map self.new ≡ with_value (trie_map self.old) key.now value) }
         ensures err { OnErr result (IsOutOfMemory (Insert key.now value) self.old self.new) }
@@ -203,7 +203,7 @@ impl PlainTrie {
     }
 
     /// Gives `key`, which is held in leaf record `leaf`, the value `value`.
-    fn set(&mut self, leaf: usize, key: &Key, value: u64)
+    fn set_value(&mut self, leaf: usize, key: &Key, value: u64)
         requires { IsHeldInLeaf self.old key.now leaf }
         ensures map { trie_map self.new ≡ with_value (trie_map self.old) key.now value }
         ensures room { KeepsRoom self.old self.new }
@@ -216,7 +216,7 @@ impl PlainTrie {
     }
 
     /// The place of the leaf record at which the search for `key` ends, from the root's entry `top` down.
-    fn find(&self, key: &Key, top: Entry) -> usize
+    fn find_leaf(&self, key: &Key, top: Entry) -> usize
         requires { self.now.top ≡ Some top }
         ensures { EndsAt self.now top key.now result }
     {

@@ -18,4 +18,4 @@ returns-in-One-clause-does c = λ old P at s big.
     rw c.in-One.is (c.in-One.node, rw c.put_node.ensures.nodes (set_same c.args.nodes.now.items c.args.number c.in-One.node (omega (arith, c.requires.number, c.args.nodes.now.ok.0))), built)
 
 pub returns-in-Two-clause-does : goal.returns-in-Two-clause-does
-returns-in-Two-clause-does c = λ old P at s big. rw c.in-Two.is (c.split.ensures.side old P at (rw c.in-Two.is at s) big)
+returns-in-Two-clause-does c = λ old P at s big. rw c.in-Two.is (c.store_cut.ensures.side old P at (rw c.in-Two.is at s) big)

@@ -8,10 +8,10 @@ use Rattle.plain_trie.proofs.plain.PlainTrie.get.Goals as goal
 
 pub index-leaf-requires : goal.index-leaf-requires
 index-leaf-requires c =
-    omega (arith, slice_get_within c.args.self.now.leaves c.find.result _ c.find.ensures.at, ap (λ (v : PlainView). length v.leaves) c.self.view_is, c.self.inside.leaves.ok.0)
+    omega (arith, slice_get_within c.args.self.now.leaves c.find_leaf.result _ c.find_leaf.ensures.at, ap (λ (v : PlainView). length v.leaves) c.self.view_is, c.self.inside.leaves.ok.0)
 
 pub returns-then-eq : goal.returns-then-eq
-returns-then-eq c = sym (end_found c.find.ensures c.index-leaf.result.now (rw (← c.self.view_is) c.index-leaf.ensures) (c.eq.ensures.same.0 c.if-eq.true))
+returns-then-eq c = sym (end_found c.find_leaf.ensures c.index-leaf.result.now (rw (← c.self.view_is) c.index-leaf.ensures) (c.eq.ensures.same.0 c.if-eq.true))
 
 pub returns-else-eq : goal.returns-else-eq
-returns-else-eq c = sym (end_missed c.find.ensures c.index-leaf.result.now (rw (← c.self.view_is) c.index-leaf.ensures) (λ e. false≢true (sym c.if-eq.false ∙ c.eq.ensures.same.1 e)))
+returns-else-eq c = sym (end_missed c.find_leaf.ensures c.index-leaf.result.now (rw (← c.self.view_is) c.index-leaf.ensures) (λ e. false≢true (sym c.if-eq.false ∙ c.eq.ensures.same.1 e)))

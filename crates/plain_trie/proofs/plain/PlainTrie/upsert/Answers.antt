@@ -12,8 +12,8 @@ returns-clause-ok c =
     let l = c.index.result.now in
     let held = held_value _ c.args.self.now k c.in-Some.leaf l (c.self.view_is ∙ a.1) a.0 c.index.ensures in
     let r = held_reply (trie_map c.args.self.now) k c.args.value l.value held in
-    (r.1, c.set.ensures.map ∙ (ap (λ (u : PlainView). with_value (trie_map u) k c.args.value) a.1 ∙ r.3))
+    (r.1, c.set_value.ensures.map ∙ (ap (λ (u : PlainView). with_value (trie_map u) k c.args.value) a.1 ∙ r.3))
 
-pub set-requires : goal.set-requires
-set-requires c =
+pub set_value-requires : goal.set_value-requires
+set_value-requires c =
     let a = rw c.in-Some.is at c.in_ok-leaf.ensures.ok in subst (λ u. IsHeldInLeaf u c.args.key.now c.in-Some.leaf) (sym a.1) a.0

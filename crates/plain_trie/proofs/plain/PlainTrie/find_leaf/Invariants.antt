@@ -4,7 +4,7 @@ use Rattle.tries.specs.Tree.{Tree}
 use Rattle.plain_records.proofs.Searching.{IsOnWay}
 use Rattle.plain_trie.specs.Views.{IsTree}
 use Rattle.plain_trie.proofs.Trees.{view}
-use Rattle.plain_trie.proofs.plain.PlainTrie.find.Given as goal
+use Rattle.plain_trie.proofs.plain.PlainTrie.find_leaf.Given as goal
 
 abbrev pub decreases-loop-entry : goal.decreases-loop-entry
 decreases-loop-entry l = height_of l.entry

@@ -30,8 +30,8 @@ use Rattle.plain_records.proofs.Lifting.{not_below, old_stays}
 use Rattle.plain_records.proofs.Steady.{grow_steady}
 use Rattle.plain_records.proofs.Searching.{read_at}
 use Rattle.plain_records.proofs.Climbing.{IsHere, old_at, addable_to, node_here, here_positive, here_within, here_high, here_spot, here_from, here_upto, here_entry, here_raised, here_lifting, range, part, way_below, child_addable, child_low, beside_raised}
-use Rattle.plain_records.proofs.rising.+raise.Goals as goal
-use Rattle.plain_records.proofs.rising.+raise.Goals.{After-affected-first, After-raise-risen}
+use Rattle.plain_records.proofs.rising.+raise_newcomer.Goals as goal
+use Rattle.plain_records.proofs.rising.+raise_newcomer.Goals.{After-affected-first, After-raise_newcomer-risen}
 
 pub index-node-requires : goal.index-node-requires
 index-node-requires t c =
@@ -151,8 +151,8 @@ returns-then-takes_leaf-clause-len t c =
     let u = node_here (addable_to c.in-Node.is c.requires.place.3) in omega (arith, here_positive u, ap height_of c.in-Node.is, c.store_grown.ensures.len)
 
 -- ---- or the search goes on below it
-pub raise-risen-requires : goal.raise-risen-requires
-raise-risen-requires t c =
+pub raise_newcomer-risen-requires : goal.raise_newcomer-risen-requires
+raise_newcomer-risen-requires t c =
     let q = c.requires.place in
     let i = addable_to c.in-Node.is q.3 in
     let u = node_here i in
@@ -169,10 +169,10 @@ few_of first last h takes e f = (
 )
 
 -- what took the child's place, where the search goes on there
-lifts : (t : ℕ) (c : After-raise-risen t) (leaves : List LeafRecord) (value : ℕ) (s : Tree) →
+lifts : (t : ℕ) (c : After-raise_newcomer-risen t) (leaves : List LeafRecord) (value : ℕ) (s : Tree) →
     IsAddable c.args.nodes.now.items leaves (item c.args.leaf c.args.key.now value) c.args.position c.args.entry s → (low : ℕ) → low ≡ height_of c.entry-child.result →
-    (y : Fixed) × (b : Tree) × (s ≡ node c.in-Node.number y b) × IsLifting (records c.args.nodes.now.items leaves) c.raise-risen.new.nodes.items (item c.args.leaf c.args.key.now value) c.args.position
-    (level c.in-Node.number c.in-Node.height c.search-at.result low) y b (subtrie_of c.raise-risen.result)
+    (y : Fixed) × (b : Tree) × (s ≡ node c.in-Node.number y b) × IsLifting (records c.args.nodes.now.items leaves) c.raise_newcomer-risen.new.nodes.items (item c.args.leaf c.args.key.now value) c.args.position
+    (level c.in-Node.number c.in-Node.height c.search-at.result low) y b (subtrie_of c.raise_newcomer-risen.result)
 lifts t c leaves value s a low is_low =
     let i = addable_to c.in-Node.is a in
     let u = node_here i in
@@ -184,32 +184,32 @@ lifts t c leaves value s a low is_low =
     let from = here_from u v c.index-node.ensures at first leads c.affected-first.ensures.from in
     let upto = here_upto u v c.index-node.ensures at first last leads c.affected-first.ensures.upto in
     let is = here_entry u v c.index-node.ensures at c.entry-child.result c.count.ensures.lawful leads c.entry-child.ensures.entry in
-    let up = c.raise-risen.ensures.raised leaves value _ (child_addable i u c.entry-child.result is) in
+    let up = c.raise_newcomer-risen.ensures.raised leaves value _ (child_addable i u c.entry-child.result is) in
     let few = (few_of first last c.in-Node.height c.takes_leaf.result c.takes_leaf.ensures c.if-takes_leaf.false).0 in (
       u.fixed,
       u.body,
       u.is,
-      here_lifting u at low c.entry-child.result c.raise-risen.new.nodes.items (subtrie_of c.raise-risen.result) (way_below i u first last from upto few)
+      here_lifting u at low c.entry-child.result c.raise_newcomer-risen.new.nodes.items (subtrie_of c.raise_newcomer-risen.result) (way_below i u first last from upto few)
           (here_spot u v c.index-node.ensures at leads) is is_low up,
     )
 
-pub lift-requires-clause-place : goal.lift-requires-clause-place
-lift-requires-clause-place t c =
+pub lift_risen-requires-clause-place : goal.lift_risen-requires-clause-place
+lift_risen-requires-clause-place t c =
     let (leaves, value, s, a) = c.requires.place in
-    let (y, b, is, l) = lifts t (goal.at.lift-requires-clause-place t c).After-raise-risen leaves value s a c.height.result c.height.ensures in
+    let (y, b, is, l) = lifts t (goal.at.lift_risen-requires-clause-place t c).After-raise_newcomer-risen leaves value s a c.height.result c.height.ensures in
     (c.args.nodes.now.items, leaves, item c.args.leaf c.args.key.now value, c.args.position, y, b, l)
 
-pub lift-requires-clause-room : goal.lift-requires-clause-room
-lift-requires-clause-room t c =
+pub lift_risen-requires-clause-room : goal.lift_risen-requires-clause-room
+lift_risen-requires-clause-room t c =
     let u = node_here (addable_to c.in-Node.is c.requires.place.3) in
     let is = here_entry u c.index-node.result.now c.index-node.ensures c.search-at.result c.entry-child.result c.count.ensures.lawful c.search-at.ensures.leads c.entry-child.ensures.entry in
-    omega (arith, child_low u c.entry-child.result is, ap height_of c.in-Node.is, c.requires.room, c.raise-risen.ensures.len, c.raise-risen.ensures.capacity)
+    omega (arith, child_low u c.entry-child.result is, ap height_of c.in-Node.is, c.requires.room, c.raise_newcomer-risen.ensures.len, c.raise_newcomer-risen.ensures.capacity)
 
-pub lift-requires-clause-small : goal.lift-requires-clause-small
-lift-requires-clause-small t c =
+pub lift_risen-requires-clause-small : goal.lift_risen-requires-clause-small
+lift_risen-requires-clause-small t c =
     let u = node_here (addable_to c.in-Node.is c.requires.place.3) in
     let is = here_entry u c.index-node.result.now c.index-node.ensures c.search-at.result c.entry-child.result c.count.ensures.lawful c.search-at.ensures.leads c.entry-child.ensures.entry in
-    omega (arith, child_low u c.entry-child.result is, ap height_of c.in-Node.is, c.requires.small, c.raise-risen.ensures.len)
+    omega (arith, child_low u c.entry-child.result is, ap height_of c.in-Node.is, c.requires.small, c.raise_newcomer-risen.ensures.len)
 
 pub returns-in-Leaf-clause-raised : goal.returns-in-Leaf-clause-raised
 unfolding bit
@@ -226,23 +226,23 @@ returns-in-Leaf-clause-raised t c = λ leaves value s a.
 pub returns-else-takes_leaf-clause-raised : goal.returns-else-takes_leaf-clause-raised
 returns-else-takes_leaf-clause-raised t c = λ leaves value s a.
     let x = item c.args.leaf c.args.key.now value in
-    let (y, b, is, l) = lifts t (goal.at.returns-else-takes_leaf-clause-raised t c).After-raise-risen leaves value s a c.height.result c.height.ensures in
-    let r = c.lift.ensures.raised c.args.nodes.now.items leaves x c.args.position y b l in
-    subst (λ h. IsRaised c.args.nodes.now.items c.lift.new.nodes.items leaves x c.args.position s (suc h) (subtrie_of c.lift.result)) (sym (ap height_of c.in-Node.is))
-    (subst (λ z. IsRaised c.args.nodes.now.items c.lift.new.nodes.items leaves x c.args.position z (suc c.in-Node.height) (subtrie_of c.lift.result)) (sym is) r)
+    let (y, b, is, l) = lifts t (goal.at.returns-else-takes_leaf-clause-raised t c).After-raise_newcomer-risen leaves value s a c.height.result c.height.ensures in
+    let r = c.lift_risen.ensures.raised c.args.nodes.now.items leaves x c.args.position y b l in
+    subst (λ h. IsRaised c.args.nodes.now.items c.lift_risen.new.nodes.items leaves x c.args.position s (suc h) (subtrie_of c.lift_risen.result)) (sym (ap height_of c.in-Node.is))
+    (subst (λ z. IsRaised c.args.nodes.now.items c.lift_risen.new.nodes.items leaves x c.args.position z (suc c.in-Node.height) (subtrie_of c.lift_risen.result)) (sym is) r)
 
 pub returns-else-takes_leaf-clause-heights : goal.returns-else-takes_leaf-clause-heights
 returns-else-takes_leaf-clause-heights t c =
     let (leaves, value, s, a) = c.requires.place in
-    let (y, b, is, l) = lifts t (goal.at.returns-else-takes_leaf-clause-heights t c).After-raise-risen leaves value s a c.height.result c.height.ensures in
-    heights_over c.args.nodes.now.items c.raise-risen.new.nodes.items c.lift.new.nodes.items c.raise-risen.ensures.heights c.lift.ensures.heights
-    c.in-Node.number l.shown.0.view l.shown.0.at (old_at l) c.lift.ensures.others
+    let (y, b, is, l) = lifts t (goal.at.returns-else-takes_leaf-clause-heights t c).After-raise_newcomer-risen leaves value s a c.height.result c.height.ensures in
+    heights_over c.args.nodes.now.items c.raise_newcomer-risen.new.nodes.items c.lift_risen.new.nodes.items c.raise_newcomer-risen.ensures.heights c.lift_risen.ensures.heights
+    c.in-Node.number l.shown.0.view l.shown.0.at (old_at l) c.lift_risen.ensures.others
 
 pub returns-else-takes_leaf-clause-len : goal.returns-else-takes_leaf-clause-len
 returns-else-takes_leaf-clause-len t c =
     let u = node_here (addable_to c.in-Node.is c.requires.place.3) in
     let is = here_entry u c.index-node.result.now c.index-node.ensures c.search-at.result c.entry-child.result c.count.ensures.lawful c.search-at.ensures.leads c.entry-child.ensures.entry in
-    omega (arith, child_low u c.entry-child.result is, ap height_of c.in-Node.is, c.raise-risen.ensures.len, c.lift.ensures.len)
+    omega (arith, child_low u c.entry-child.result is, ap height_of c.in-Node.is, c.raise_newcomer-risen.ensures.len, c.lift_risen.ensures.len)
 
 -- ---- the case
 -- the fork of a leaf and the new one, on either side
@@ -272,8 +272,8 @@ returns-else-takes_leaf-clause-case t c = λ leaves value s a.
     let first = c.affected-first.result.0 in
     let last = c.affected-first.result.1 in
     let ns = c.args.nodes.now.items in
-    let ms = c.raise-risen.new.nodes.items in
-    let us = c.lift.new.nodes.items in
+    let ms = c.raise_newcomer-risen.new.nodes.items in
+    let us = c.lift_risen.new.nodes.items in
     let n = c.in-Node.number in
     let k = c.args.key.now in
     let p = c.args.position in
@@ -285,32 +285,32 @@ returns-else-takes_leaf-clause-case t c = λ leaves value s a.
     let (few, tall) = few_of first last c.in-Node.height c.takes_leaf.result c.takes_leaf.ensures c.if-takes_leaf.false in
     let way = way_below i u first last from upto few in
     let b = child_addable i u e is in
-    let rose = is_split c.raise-risen.result in
-    let up = is_split c.lift.result in
+    let rose = is_split c.raise_newcomer-risen.result in
+    let up = is_split c.lift_risen.result in
     let view = u.shown.0.view in
     let still : slice_get ms n ≡ Some view =
-    old_stays ns leaves n u.fixed u.body u.trie u.built u.shown ms (item l k value) p (suc (height_of e)) (subtrie_of c.raise-risen.result) way
-    (c.raise-risen.ensures.raised leaves value (child k u.body) b) (omega (arith, child_low u e is, u.high)) in
-    let takes = c.lift.ensures.takes view still in
+    old_stays ns leaves n u.fixed u.body u.trie u.built u.shown ms (item l k value) p (suc (height_of e)) (subtrie_of c.raise_newcomer-risen.result) way
+    (c.raise_newcomer-risen.ensures.raised leaves value (child k u.body) b) (omega (arith, child_low u e is, u.high)) in
+    let takes = c.lift_risen.ensures.takes view still in
     subst (λ z. AddsByCase ns us k p l z up) (sym u.is) (elim (cases_lt 0 (height_of e)) [
       | inl high ↦
           let does : IsLevelDone (height_of (seek k (subtrie u.body))) rose view takes.0 (spot k (subtrie u.body)) up =
           subst (λ d. IsLevelDone d rose view takes.0 (spot k (subtrie u.body)) up) (c.height.ensures ∙ ap height_of is)
           (subst (λ j. IsLevelDone c.height.result rose view takes.0 j up) (here_spot u v c.index-node.ensures at leads) takes.2) in
-          above_by_case ns ms us k p l n u.fixed u.body rose up (not_below ns leaves n u.fixed u.body u.trie u.built u.shown) way c.lift.ensures.others
+          above_by_case ns ms us k p l n u.fixed u.body rose up (not_below ns leaves n u.fixed u.body u.trie u.built u.shown) way c.lift_risen.ensures.others
           (record { before = view; after = takes.0; old_at = u.shown.0.at; new_at = takes.1; does = does })
-          (node_by_case ns ms k p l e (child k u.body) rose b.head high (c.raise-risen.ensures.case leaves value (child k u.body) b))
+          (node_by_case ns ms k p l e (child k u.body) rose b.head high (c.raise_newcomer-risen.ensures.case leaves value (child k u.body) b))
       | inr z ↦
           let zero_high : height_of e ≡ 0 = omega arith in
-          let r = c.raise-risen.ensures.low zero_high in
+          let r = c.raise_newcomer-risen.ensures.low zero_high in
           let high : 1 < c.in-Node.height = omega (arith, here_positive u, tall) in
           let far : c.height.result + 1 < c.in-Node.height = omega (arith, c.height.ensures) in
           let within = (c.affected-first.ensures.range at (omega (arith, c.search-at.ensures.in_range))).0 (λ j g h. refl) in
           let first_is : at ≡ first = omega (arith, within.0, within.1, few) in
           let put : IsPutBetween ms us n at view (subtrie_forked r.1 p (Leaf l) (Place e)) =
-          forked_between ms us n at view c.raise-risen.result p l e r.1 r.2 (λ z o f. c.lift.ensures.between view p z o still f far) in
+          forked_between ms us n at view c.raise_newcomer-risen.result p l e r.1 r.2 (λ z o f. c.lift_risen.ensures.between view p z o still f far) in
           let above : IsLevelDone c.height.result true view takes.0 at up =
-          subst (λ o. IsLevelDone c.height.result o view takes.0 at up) (forked_split c.raise-risen.result r.1 p l e r.2) takes.2 in
+          subst (λ o. IsLevelDone c.height.result o view takes.0 at up) (forked_split c.raise_newcomer-risen.result r.1 p l e r.2) takes.2 in
           let stays = above.1 (λ f. absurd (omega (arith, f, far, here_high u))) in
           pushed_by_case i u first last from upto e few high zero_high is c.entry-child.ensures.stands.0 ms us r.1 up stays.1
           (subst (λ j. IsPutBetween ms us n j view (subtrie_forked r.1 p (Leaf l) (Place e))) first_is put)

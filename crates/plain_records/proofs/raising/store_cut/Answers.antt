@@ -4,7 +4,7 @@ use Rattle.std.specs.Vec.{vec_len}
 use Rattle.plain_records.specs.Risen.{pushed_nodes}
 use Rattle.plain_records.proofs.Heights.{heights_double}
 use Rattle.plain_records.proofs.Storing.{double_shows, double_side, single_side, others_kept, others_pushed}
-use Rattle.plain_records.proofs.raising.split.Goals as goal
+use Rattle.plain_records.proofs.raising.store_cut.Goals as goal
 
 pub returns-in-One-clause-side : goal.returns-in-One-clause-side
 returns-in-One-clause-side c = λ old P at s big.

@@ -2,8 +2,8 @@
 use Rattle.std.proofs.Common.{ap, ◌∙◌, set}
 use Rattle.plain_trie.specs.Views.{PlainView}
 use Rattle.plain_trie.proofs.Inserting.{Becomes, held_becomes}
-use Rattle.plain_trie.proofs.plain.PlainTrie.set.Goals as goal
-use Rattle.plain_trie.proofs.plain.PlainTrie.set.Goals.{After-index_mut}
+use Rattle.plain_trie.proofs.plain.PlainTrie.set_value.Goals as goal
+use Rattle.plain_trie.proofs.plain.PlainTrie.set_value.Goals.{After-index_mut}
 
 module _ (c : After-index_mut) where
   abbrev after : PlainView

@@ -17,7 +17,7 @@ use Rattle.plain_records.proofs.Heights.{heights_new, heights_over}
 use Rattle.plain_records.proofs.Searching.{read_at}
 use Rattle.plain_records.proofs.Steady.{pull_steady, size-grafted}
 use Rattle.plain_records.proofs.Storing.{push_old}
-use Rattle.plain_records.proofs.rising.lift.Goals as goal
+use Rattle.plain_records.proofs.rising.lift_risen.Goals as goal
 
 -- ---- one entry
 pub replace_entry-requires : goal.replace_entry-requires
