@@ -24,7 +24,7 @@ use std::thread::Threads;
 
 /// Makes the run that the command line asks for, from standard input and the machine's files to standard output. The error says why there
 /// are no answers.
-fn run<R>(rt: &R) -> Result<(), Ending>
+fn run_program<R>(rt: &R) -> Result<(), Ending>
 where
     R: Env + Files + Input + Print + AllocGlobal + Wait + Threads + Sync,
 {
@@ -35,7 +35,7 @@ where
 
 /// The program. Its exit status is 0, or else that of the `Ending`, whose text goes to standard error.
 fn main(rt: HostRuntime) -> ExitCode {
-    match run(&rt) {
+    match run_program(&rt) {
         Ok(()) => ExitCode::SUCCESS,
         Err(ending) => {
             let status = ending.status();

@@ -3,7 +3,7 @@ use Rattle.std.proofs.Common.{◌++◌, List, drop, take}
 use Rattle.seat_calls.specs.Passes.{PassView}
 use Rattle.hot_run.specs.declared.together.Done.{Done}
 use Rattle.hot_run.specs.Progress.{AreAt, MeetInTurn}
-use Rattle.hot_run.proofs.together.meet_all.Given as goal
+use Rattle.hot_run.proofs.together.meet_all_passes.Given as goal
 
 abbrev pub invariant-loop-script : goal.invariant-loop-script
 invariant-loop-script l = record {

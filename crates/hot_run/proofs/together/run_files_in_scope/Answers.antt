@@ -1,11 +1,11 @@
--- Why `run_within` meets its contract.
+-- Why `run_files_in_scope` meets its contract.
 use Rattle.std.proofs.Common.{map}
 use Rattle.std.specs.List.{AllZip, zip}
 use Rattle.std.proofs.lemmas.Result.{IfOk-weaker}
 use Rattle.hot_scripts.specs.Parses.{script_commands}
 use Rattle.hot_run.specs.Progress.{AllThree, HasKept, IsDone}
 use Rattle.hot_run.proofs.Numbered.{all_joined}
-use Rattle.hot_run.proofs.together.run_within.Goals as goal
+use Rattle.hot_run.proofs.together.run_files_in_scope.Goals as goal
 
 pub returns : goal.returns
 returns g c =

@@ -1,11 +1,11 @@
--- Why `meet_all` meets its contract.
+-- Why `meet_all_passes` meets its contract.
 use Rattle.std.proofs.Common.{◌≡◌, ◌+◌, ◌<◌, ◌≤◌, [], ◌∷◌, ◌∙◌, append_assoc, append-nil, arith, drop, get_or, length, refl, sym}
 use Rattle.std.proofs.lemmas.List.{drop-set-lt, drop_all, drop_more, take_all, take_more_set}
 use Rattle.std.proofs.lemmas.List.Elements.{All-get_or, All-set}
 use Rattle.seat_calls.specs.Answers.{HaveMet}
 use Rattle.hot_run.specs.declared.together.Done.{Done}
 use Rattle.hot_run.specs.Progress.{MeetInTurn}
-use Rattle.hot_run.proofs.together.meet_all.Goals as goal
+use Rattle.hot_run.proofs.together.meet_all_passes.Goals as goal
 
 pub meet_script-last-requires : goal.meet_script-last-requires
 meet_script-last-requires c =

@@ -1,8 +1,8 @@
--- Why `run_alone` meets its contract.
+-- Why `run_script_alone` meets its contract.
 use Rattle.std.proofs.lemmas.Result.{IfOk-weaker}
 use Rattle.hot_scripts.specs.Parses.{script_commands}
 use Rattle.hot_run.proofs.Progressing.{HasRunCommands-untold}
-use Rattle.hot_run.proofs.one.run_alone.Goals as goal
+use Rattle.hot_run.proofs.one.run_script_alone.Goals as goal
 
 pub returns : goal.returns
 returns c =

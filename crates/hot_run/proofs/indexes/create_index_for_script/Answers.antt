@@ -1,4 +1,4 @@
--- Why `create_for_script` meets its contract: each leaf record has room for the longest key of the script's calls.
+-- Why `create_index_for_script` meets its contract: each leaf record has room for the longest key of the script's calls.
 use Rattle.std.proofs.Common.{◌≡◌, ◌≤◌, ◌<◌, ◌++◌, [], ◌∷◌, ℕ, length, ◌∙◌, ap, arith, length-append}
 use Rattle.std.specs.Prelude.{slice_get}
 use Rattle.std.proofs.lemmas.List.{nil_from_length}
@@ -9,7 +9,7 @@ use Rattle.record_words.specs.Leaf.{words_for}
 use Rattle.hot_scripts.specs.declared.command.Command.{Command}
 use Rattle.hot_scripts.specs.Grammar.{HasKeyUpTo}
 use Rattle.hot_run.specs.Told.{HasRoomFor}
-use Rattle.hot_run.proofs.indexes.create_for_script.Goals as goal
+use Rattle.hot_run.proofs.indexes.create_index_for_script.Goals as goal
 
 room_for : (layout : Layout) (longest : ℕ) → longest ≤ MAX_BYTES
     → ((leaf bytes : ℕ) → leaf < layout.leaves → bytes ≤ longest → bytes ≤ MAX_BYTES → words_for bytes ≤ leaf_size layout leaf)

@@ -1,9 +1,9 @@
--- Why `create_for_files` meets its contract: the last pass is taken off the passes of a new index.
+-- Why `create_index_for_files` meets its contract: the last pass is taken off the passes of a new index.
 use Rattle.std.proofs.Common.{◌≡◌, ◌+◌, [], ◌∷◌, ◌++◌, length, ap, subst, arith, length-append}
 use Rattle.hot_run.specs.Progress.{IsNewPassOf}
 use Rattle.hot_run.specs.Scripts.{AllFrom}
 use Rattle.hot_run.proofs.Numbered.{AllFrom-zero, AllFrom-left, AllFrom-right}
-use Rattle.hot_run.proofs.indexes.create_for_files.Goals as goal
+use Rattle.hot_run.proofs.indexes.create_index_for_files.Goals as goal
 
 pub returns-clause-each : goal.returns-clause-each
 returns-clause-each c =
