@@ -38,7 +38,10 @@ pub struct Opened {
 impl Opened {
     /// Opens the next of the closed handles that are kept, the last of `kept`; `None` if none is kept. If memory is refused, an error, and
     /// all stay kept.
-    pub fn open_next(&mut self, alloc: Global) -> Result<Option<Box<Opened, Global>>, AllocError>
+    pub fn open_next_handle(
+        &mut self,
+        alloc: Global,
+    ) -> Result<Option<Box<Opened, Global>>, AllocError>
         ensures opened { IfOk result (λ next. MatchOption next (self.old.kept.items ≡ [] × KeepsAll self.old self.new) (λ b. HasOpenedNext self.old self.new b.value)) }
         ensures refused { IfErr result (λ _. KeepsAll self.old self.new) }
     {
@@ -68,7 +71,7 @@ impl Opened {
 
     /// Tries to make `call`, whose key has `size` bytes, and returns the status. The reply's value, if it has one, goes to `had`; else
     /// `had` stays. If no record is free, it counts all records. So the status tells whether other calls hold some back.
-    pub fn make(&mut self, call: &Call, size: usize, had: &mut u64) -> u32
+    pub fn try_call(&mut self, call: &Call, size: usize, had: &mut u64) -> u32
         ensures call { (outcome : Result ReplyView FaultView) × Stays (TellsOutcome size call.now result outcome) self.old.handle self.new.handle
             × (had.new ≡ value_after had.old outcome) × IfErr outcome (MayRefuse call.now) }
     {

@@ -3,7 +3,7 @@ use Rattle.std.proofs.Common.{◌≡◌, ℕ, ◌+◌, ◌-◌, ◌≤◌, List,
 use Rattle.std.proofs.lemmas.List.{length-append, length-drop, length-take-le, take-append-drop, take-append-le, take-take, take_rest}
 use Rattle.std.proofs.lemmas.Slice.{take-put_mid}
 use borrow.Rule.Slice.PartMut.{put_mid}
-use Rattle.hot_c.proofs.pairs.write_ends.Goals as goal
+use Rattle.hot_c.proofs.pairs.write_pair_by_ends.Goals as goal
 
 -- the last n bytes are written over what begins with the first n
 ends_meet : (key front others back : List ℕ) (n k : ℕ) → n ≤ length key → length key ≤ n + n → front ≡ take n key → back ≡ drop (length key - n) key

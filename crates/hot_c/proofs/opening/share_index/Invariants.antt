@@ -5,7 +5,7 @@ use Rattle.std.specs.Vec.Iter.{into_iter_items, into_iter_len}
 use Rattle.seat_calls.specs.Passes.{PassView, Owns, IsNewPass}
 use Rattle.hot_c.specs.declared.opened.Opened.{Opened}
 use Rattle.hot_c.proofs.Places.{AreFrom}
-use Rattle.hot_c.proofs.opening.share.Given as goal
+use Rattle.hot_c.proofs.opening.share_index.Given as goal
 
 abbrev pub invariant-loop-pass : goal.invariant-loop-pass
 invariant-loop-pass l = record {

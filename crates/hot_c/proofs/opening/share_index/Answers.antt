@@ -8,7 +8,7 @@ use Rattle.seat_calls.specs.Passes.{PassView, Owns, IsNewPass}
 use Rattle.rowex_table.specs.Seats.{TableView}
 use Rattle.hot_c.specs.declared.opened.Opened.{Opened}
 use Rattle.hot_c.proofs.Places.{AreFrom, each_longer, first_of, rest_of}
-use Rattle.hot_c.proofs.opening.share.Goals as goal
+use Rattle.hot_c.proofs.opening.share_index.Goals as goal
 
 pub new-handle-requires : goal.new-handle-requires
 new-handle-requires c =

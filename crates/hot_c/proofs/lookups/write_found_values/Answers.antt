@@ -1,7 +1,7 @@
 -- One look-up more is answered.
 use Rattle.std.proofs.Common.{arith}
 use Rattle.hot_c.proofs.LookedUp.{none_answered, one_answered}
-use Rattle.hot_c.proofs.lookups.write_found.Goals as goal
+use Rattle.hot_c.proofs.lookups.write_found_values.Goals as goal
 
 pub loop-place-init : goal.loop-place-init
 loop-place-init c = record { short = omega arith; written = none_answered c.args.lookups.now }

@@ -2,7 +2,7 @@
 use Rattle.std.specs.Prelude.{◌≡◌, ◌+◌, Some, length, map, take, drop}
 use Rattle.std.specs.Vec.Iter.{into_iter_items, into_iter_len}
 use Rattle.hot_c.specs.Calls.{AreClosed}
-use Rattle.hot_c.proofs.opening.open_all.Given as goal
+use Rattle.hot_c.proofs.opening.open_handles.Given as goal
 
 abbrev pub invariant-loop-opened : goal.invariant-loop-opened
 invariant-loop-opened l = record {

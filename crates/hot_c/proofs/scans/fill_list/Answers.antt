@@ -2,7 +2,7 @@
 use Rattle.std.proofs.Common.{refl}
 use Rattle.hot_c.proofs.Answered.{of_key}
 use Rattle.hot_c.proofs.Listed.{filled, unfilled}
-use Rattle.hot_c.proofs.scans.fill.Goals as goal
+use Rattle.hot_c.proofs.scans.fill_list.Goals as goal
 
 pub returns-in-Ok-clause-ok : goal.returns-in-Ok-clause-ok
 returns-in-Ok-clause-ok c = filled c.args.query.now.from.now c.args.query.now.upto.now _ _ _ _ _ _ _ c.lend-opened.ensures.value

@@ -2,7 +2,7 @@
 use Rattle.std.proofs.Common.{Err, ap, refl, ◌∙◌}
 use Rattle.rowex_writing.specs.declared.attempts.TryFault.{TryFault}
 use Rattle.hot_c.proofs.Answered.{told_leaves, told_reply}
-use Rattle.hot_c.proofs.opened.Opened.make.Goals as goal
+use Rattle.hot_c.proofs.opened.Opened.try_call.Goals as goal
 
 pub returns-in-Ok : goal.returns-in-Ok
 returns-in-Ok c = record {

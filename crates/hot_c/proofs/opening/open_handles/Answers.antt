@@ -4,7 +4,7 @@ use Rattle.std.proofs.lemmas.List.{drop-set-lt, length-set}
 use Rattle.std.specs.Vec.Iter.{into_iter_items}
 use Rattle.hot_c.specs.declared.handle.Handle.{Handle}
 use Rattle.hot_c.proofs.Places.{alike, all_after, first_after, one_less}
-use Rattle.hot_c.proofs.opening.open_all.Goals as goal
+use Rattle.hot_c.proofs.opening.open_handles.Goals as goal
 
 pub open-requires : goal.open-requires
 open-requires c =

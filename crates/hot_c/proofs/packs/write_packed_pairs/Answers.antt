@@ -2,7 +2,7 @@
 use Rattle.std.proofs.Common.{◌≡◌, ℕ, List, ◌++◌, length, drop, refl, ap, ◌∙◌}
 use Rattle.std.proofs.lemmas.List.{length-map}
 use Rattle.packed_pairs.specs.Parts.{packed_head}
-use Rattle.hot_c.proofs.packs.write_packed.Goals as goal
+use Rattle.hot_c.proofs.packs.write_packed_pairs.Goals as goal
 
 laid : {A : Type 0} (new part old goal : List A) (n : ℕ) → new ≡ part → part ≡ goal → length goal ≡ n → new ++ drop (length part) old ≡ goal ++ drop n old
 laid new part old goal n copied same many = ap (λ l. l ++ drop (length part) old) (copied ∙ same) ∙ ap (λ m. goal ++ drop m old) (ap length same ∙ many)

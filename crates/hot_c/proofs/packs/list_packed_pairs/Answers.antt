@@ -6,8 +6,8 @@ use Rattle.packed_pairs.proofs.Fits.{few_fit, room_fits}
 use Rattle.hot_c.specs.Orders.{IsFilledIn}
 use Rattle.hot_c.specs.Packs.{IsListedByParts}
 use Rattle.hot_c.proofs.Listed.{by_parts, count_here, few_here, listed, made_here}
-use Rattle.hot_c.proofs.packs.list_packed.Goals as goal
-use Rattle.hot_c.proofs.packs.list_packed.Goals.{then-is_more, else-is_more}
+use Rattle.hot_c.proofs.packs.list_packed_pairs.Goals as goal
+use Rattle.hot_c.proofs.packs.list_packed_pairs.Goals.{then-is_more, else-is_more}
 
 -- one of two tests holds
 first : (one other either : Bool) → one ≡ true → either ≡ one → either ≡ (one || other)
@@ -16,8 +16,8 @@ first one other either holds is = is ∙ rw holds refl
 second : (one other either : Bool) → one ≡ false → either ≡ other → either ≡ (one || other)
 second one other either fails is = is ∙ rw fails refl
 
-pub write_packed-requires : goal.write_packed-requires
-write_packed-requires c =
+pub write_packed_pairs-requires : goal.write_packed_pairs-requires
+write_packed_pairs-requires c =
     let u = c.lend-opened.result.now in
     let room = length c.args.bytes.now in
     let few = few_fit room u.list in
@@ -42,8 +42,8 @@ returns-after-is_more c =
       written = c.fit.new.self;
       fit = c.fit.ensures;
       short = few_here h u is;
-      bytes = c.write_packed.ensures.bytes;
-      heads = c.write_packed.ensures.heads;
+      bytes = c.write_packed_pairs.ensures.bytes;
+      heads = c.write_packed_pairs.ensures.heads;
       count = c.len.ensures.count;
       more = c.from.ensures ∙ ap from_bool (is_further ∙ (ap (λ n. c.in-Ok.is_more || nat_lt n c.in-Ok.found) c.len.ensures.count ∙ ap (λ n. c.in-Ok.is_more || nat_lt (length c.fit.new.self) n) many));
     })
