@@ -38,7 +38,7 @@ pub fn create_index_for_script(
     ensures sized { IfOk result (λ made. IsSizedFor (script_commands script.now) 1 records.nodes records.leaves made.0) }
     ensures pass { IfOk result (λ made. IsNewPassOf made.0 0 made.1) }
 {
-    let stock = choose_stock(records, script.longest_key());
+    let stock = choose_stock(records, script.longest_key_length());
     let (index, mut passes) = match create_with(alloc, 1, stock) {
         Ok(made) => made,
         Err(IndexFault::Memory) => return Err(AllocError),

@@ -6,7 +6,7 @@ use Rattle.hot_scripts.specs.declared.command.Command.{Command}
 use Rattle.hot_scripts.specs.declared.fault.Reason.{Reason}
 use Rattle.hot_scripts.specs.Grammar.{HasKeyUpTo, asked, reading_of}
 use Rattle.hot_scripts.specs.Words.{parts_left, text_len}
-use Rattle.hot_scripts.proofs.script.Commands.longest_key.Goals as goal
+use Rattle.hot_scripts.proofs.script.Commands.longest_key_length.Goals as goal
 
 one_more : (most bound : ℕ) (reading : Result (Option Command) Reason) (command : Option Command) (rest : List (Result (Option Command) Reason))
     → reading ≡ Ok command → IfSome command (HasKeyUpTo bound) → bound ≤ most → All (HasKeyUpTo most) (filter_map asked rest)
@@ -26,7 +26,7 @@ loop-left-preserved c =
     record {
       bad = rw (parts, asks) at was.bad;
       small = omega (arith, was.small, c.split_first.ensures.left, ap text_len c.in-Some.is);
-      few = c.larger-longest.ensures.few was.few c.key_bytes.ensures.few;
-      keys = λ most above fits. was.keys most (omega (arith, above, c.larger-longest.ensures.bound))
-          (rw parts (one_more most c.key_bytes.result (reads line) c.in-Ok.command (map reads rest) asks c.key_bytes.ensures.key (omega (arith, above, c.larger-longest.ensures.bound)) fits));
+      few = c.larger_number-longest.ensures.few was.few c.key_length.ensures.few;
+      keys = λ most above fits. was.keys most (omega (arith, above, c.larger_number-longest.ensures.bound))
+          (rw parts (one_more most c.key_length.result (reads line) c.in-Ok.command (map reads rest) asks c.key_length.ensures.key (omega (arith, above, c.larger_number-longest.ensures.bound)) fits));
     }
