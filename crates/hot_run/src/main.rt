@@ -13,7 +13,7 @@ mod together;
 mod waiting;
 
 use asked::run_command_line;
-use hot_command_line::arguments::words;
+use hot_command_line::arguments::read_words;
 use hot_command_line::ending::Ending;
 use hot_command_line::files::Disk;
 use std::io;
@@ -28,7 +28,7 @@ fn run_program<R>(rt: &R) -> Result<(), Ending>
 where
     R: Env + Files + Input + Print + AllocGlobal + Wait + Threads + Sync,
 {
-    let words = words(rt)?;
+    let words = read_words(rt)?;
     let (mut reader, mut writer) = (rt.reader(), io::writer(rt));
     run_command_line(rt, &Disk { rt }, &words, &mut reader, &mut writer)
 }

@@ -1,4 +1,4 @@
--- Why `parse` meets its contract.
+-- Why `parse_request` meets its contract.
 use Rattle.std.proofs.Common.{◌≡◌, ◌∙◌, inl, ℕ, List, [], map, false, refl, ap, ap₂, arith, slice_index}
 use Rattle.std.specs.Prelude.{codes, string_bytes}
 use Rattle.std.specs.Borrow.{Bor}
@@ -12,7 +12,7 @@ use Rattle.record_words.specs.declared.TheConstants.{MAX_LEAVES, MAX_NODES}
 use Rattle.hot_command_line.specs.Options.{IsArgument, command_line, count_rule, names_rule}
 use Rattle.hot_command_line.proofs.Given.{faultless_at, few_named, many_named, names_given, number_given, refused_so, rows_are}
 use Rattle.hot_command_line.proofs.Ranges.{InRange-other, IsOpen-added, IsOpen-new, option_parsed, or_in_range}
-use Rattle.hot_command_line.proofs.arguments.parse.Goals as goal
+use Rattle.hot_command_line.proofs.arguments.parse_request.Goals as goal
 
 -- two texts whose first bytes differ
 differ : (xs ys : List ℕ) → (slice_index xs 0 ≡ slice_index ys 0 → ⊥) → xs ≡ ys → ⊥
@@ -23,7 +23,7 @@ invariant_of-result-clause-nodes_fit c =
     let id = codes "nodes" in
     let a = c.count_option.ensures in
     let b = c.count_option-2.ensures in
-    let d = c.file_names.ensures in
+    let d = c.names_argument.ensures in
     let zero = IsOpen-new c.new.result id 65535 c.new.ensures.empty.0 c.new.ensures.empty.1 c.new.ensures.local in
     let one = IsOpen-added c.new.result c.in_ok-arg.field-0 (codes "nodes") _ _ id 65535 zero c.in_ok-arg.ensures a.argument (λ _. a.parser) in
     let two = IsOpen-added c.in_ok-arg.field-0 c.in_ok-arg-2.field-0 (codes "leaves") _ _ id 65535 one c.in_ok-arg-2.ensures b.argument
@@ -41,7 +41,7 @@ invariant_of-result-clause-leaves_fit c =
     let id = codes "leaves" in
     let a = c.count_option.ensures in
     let b = c.count_option-2.ensures in
-    let d = c.file_names.ensures in
+    let d = c.names_argument.ensures in
     let zero = IsOpen-new c.new.result id 262143 c.new.ensures.empty.0 c.new.ensures.empty.1 c.new.ensures.local in
     let one = IsOpen-added c.new.result c.in_ok-arg.field-0 (codes "nodes") _ _ id 262143 zero c.in_ok-arg.ensures a.argument
     (InRange-other (codes "nodes") _ _ id 262143 a.argument (differ (codes "nodes") id (λ e. omega arith))) in
@@ -65,7 +65,7 @@ line_of zero one two three a b d new first second third nodes leaves names =
 pub returns-clause-asked : goal.returns-clause-asked
 returns-clause-asked c =
     let line = line_of c.new.result c.in_ok-arg.field-0 c.in_ok-arg-2.field-0 c.in_ok-command.command _ _ _ c.new.ensures.app c.in_ok-arg.ensures.shape c.in_ok-arg-2.ensures.shape c.in_ok-command.ensures.shape
-    c.count_option.ensures.argument c.count_option-2.ensures.argument c.file_names.ensures in
+    c.count_option.ensures.argument c.count_option-2.ensures.argument c.names_argument.ensures in
     let rows = rows_are _ _ c.in_ok-matches.matches c.in_ok-matches.ensures.matches line in
     let named = names_given (found_of c.in_ok-matches.matches) _ (codes "FILE") c.get_strs.result _ c.unwrap_or-names.result c.unwrap_or-names.result.now rows c.get_strs.ensures c.unwrap_or-names.ensures refl refl in
     record {
@@ -80,14 +80,14 @@ returns-clause-asked c =
 pub returns-in_err-matches-clause-refused : goal.returns-in_err-matches-clause-refused
 returns-in_err-matches-clause-refused c =
     let line = line_of c.new.result c.in_ok-arg.field-0 c.in_ok-arg-2.field-0 c.in_ok-command.command _ _ _ c.new.ensures.app c.in_ok-arg.ensures.shape c.in_ok-arg-2.ensures.shape c.in_ok-command.ensures.shape
-    c.count_option.ensures.argument c.count_option-2.ensures.argument c.file_names.ensures in
+    c.count_option.ensures.argument c.count_option-2.ensures.argument c.names_argument.ensures in
     let p = err_from_is_err_and c.from_residual-in_err-matches.result c.from_residual-in_err-matches.ensures.1 in
     rw p.1 (refused_so _ _ line c.in_err-matches.field-0.0 p.0 c.in_err-matches.ensures.kinds p.2)
 
 pub returns-then-names-gt-MAX_FILES-clause-refused : goal.returns-then-names-gt-MAX_FILES-clause-refused
 returns-then-names-gt-MAX_FILES-clause-refused c =
     let line = line_of c.new.result c.in_ok-arg.field-0 c.in_ok-arg-2.field-0 c.in_ok-command.command _ _ _ c.new.ensures.app c.in_ok-arg.ensures.shape c.in_ok-arg-2.ensures.shape c.in_ok-command.ensures.shape
-    c.count_option.ensures.argument c.count_option-2.ensures.argument c.file_names.ensures in
+    c.count_option.ensures.argument c.count_option-2.ensures.argument c.names_argument.ensures in
     let rows = rows_are _ _ c.in_ok-matches.matches c.in_ok-matches.ensures.matches line in
     inl (
       refl,
