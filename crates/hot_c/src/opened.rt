@@ -15,7 +15,7 @@ ghost use Rattle.hot_c.specs.Orders.{IsFilledIn};
 ghost use Rattle.hot_c.specs.Statuses.{value_after};
 
 use crate::pairs::Order;
-use crate::refusals::{tell_leaves, tell_nodes};
+use crate::refusals::{tell_lack_of_leaves, tell_lack_of_nodes};
 use crate::status::{BUSY, tell_reply};
 use hot_index::{Call, ClosedHandle, Handle, Index, Reply, ShowsIndex, Stamp, TryFault};
 use key_bits::Key;
@@ -78,8 +78,8 @@ impl Opened {
         match self.handle.try_call(call) {
             Ok(reply) => tell_reply(reply, had),
             Err(TryFault::Busy) => BUSY,
-            Err(TryFault::FullNodes) => tell_nodes(&self.handle.census()),
-            Err(TryFault::FullLeaves) => tell_leaves(size, &self.handle.census()),
+            Err(TryFault::FullNodes) => tell_lack_of_nodes(&self.handle.census()),
+            Err(TryFault::FullLeaves) => tell_lack_of_leaves(size, &self.handle.census()),
         }
     }
 

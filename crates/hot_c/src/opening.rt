@@ -118,7 +118,7 @@ fn keep_passes(
     ensures all { IfOk result (λ b. reverse b.value.kept.items ++ b.value.handle ∷ [] ≡ map (handle_at index) passes.items) }
 {
     let index = Arc::new(alloc, index)?;
-    let mut kept = closed_handles(alloc, &index, passes)?;
+    let mut kept = make_closed_handles(alloc, &index, passes)?;
     let Some(last) = kept.pop() else {
         return Err(AllocError);
     };
@@ -129,7 +129,7 @@ fn keep_passes(
 }
 
 /// Closed handles of `passes`, in their order, each with a share of `index`; an error if memory is refused.
-fn closed_handles(
+fn make_closed_handles(
     alloc: Global,
     index: &Arc<Index, Global>,
     passes: Vec<ClosedPass>,

@@ -11,5 +11,5 @@ returns-in-Ok c = record {
 
 pub returns-in-Err-FullLeaves : goal.returns-in-Err-FullLeaves
 returns-in-Err-FullLeaves c = record {
-  call = told_leaves c.args.size c.args.call.now c.try_call.result c.tell_leaves.result c.args.had.now c.args.had.now c.args.self.now.handle c.try_call.new.self c.census-in-Err-FullLeaves.new.self c.census-in-Err-FullLeaves.result c.census-in-Err-FullLeaves.ensures (c.in-Err-FullLeaves.is ∙ ap (λ (f : TryFault). Err f) c.in-Err-FullLeaves.field-0-is) c.try_call.ensures c.tell_leaves.ensures refl;
+  call = told_leaves c.args.size c.args.call.now c.try_call.result c.tell_lack_of_leaves.result c.args.had.now c.args.had.now c.args.self.now.handle c.try_call.new.self c.census-in-Err-FullLeaves.new.self c.census-in-Err-FullLeaves.result c.census-in-Err-FullLeaves.ensures (c.in-Err-FullLeaves.is ∙ ap (λ (f : TryFault). Err f) c.in-Err-FullLeaves.field-0-is) c.try_call.ensures c.tell_lack_of_leaves.ensures refl;
 }
