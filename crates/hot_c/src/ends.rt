@@ -3,8 +3,8 @@
 ghost use Rattle.hot_c.specs.Ends.{FindsFirst, FindsIn, FindsLast};
 
 use crate::handle::Handle;
-use crate::pairs::{Order, Pair, Query, tell_first};
-use crate::scans::fill;
+use crate::pairs::{Order, Pair, Query, tell_first_pair};
+use crate::scans::fill_list;
 use key_bits::MAX_BYTES;
 
 /// Writes the first pair whose key is `from` or above to `pair`: `FOUND`, or `ABSENT` if there is none. `CLOSED`, `KEY_TOO_LONG` or
@@ -18,7 +18,7 @@ pub extern "C" fn hot_first(handle: &mut Handle, from: &[u8], pair: &mut Pair) -
         from,
         upto: &[u8::MAX; MAX_BYTES],
     };
-    find(handle, &query, pair)
+    find_pair(handle, &query, pair)
 }
 
 /// Writes the last pair whose key is `upto` or below to `pair`: `FOUND`, or `ABSENT` if there is none. `CLOSED`, `KEY_TOO_LONG` or
@@ -32,18 +32,18 @@ pub extern "C" fn hot_last(handle: &mut Handle, upto: &[u8], pair: &mut Pair) ->
         from: &[],
         upto,
     };
-    find(handle, &query, pair)
+    find_pair(handle, &query, pair)
 }
 
 /// Writes the pair that a scan for one pair of `query` finds to `pair`: `FOUND`, or `ABSENT` if it finds none. `CLOSED`, `KEY_TOO_LONG`
 /// or `NO_MEMORY` if the scan fails. Only `FOUND` writes.
-fn find(handle: &mut Handle, query: &Query, pair: &mut Pair) -> u32
+fn find_pair(handle: &mut Handle, query: &Query, pair: &mut Pair) -> u32
     ensures { FindsIn query.now.order query.now.from.now query.now.upto.now handle.old.slot.opened handle.new.slot.opened pair.old pair.new result }
 {
-    match fill(handle, query, 1) {
+    match fill_list(handle, query, 1) {
         Ok(_) => {
             let opened = handle.slot.lend();
-            let status = tell_first(&opened.list, pair);
+            let status = tell_first_pair(&opened.list, pair);
             opened.empty_list();
             status
         }

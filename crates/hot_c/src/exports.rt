@@ -11,9 +11,10 @@ ghost use Rattle.hot_c.specs.Stocks.{TakesBytes, stock_in};
 ghost use Rattle.record_words.specs.Layout.{stock_for};
 
 use crate::handle::Handle;
-use crate::lookups::{Lookup, are_fit, keys_of, write_found};
+use crate::lookups::{Lookup, copy_keys, have_fitting_keys, write_found_values};
 use crate::opening::{
-    are_closed, is_size, is_stock_size, make_keeper, make_passes, make_stocked, open_all,
+    are_closed, is_size, is_stock_size, make_keeper, make_passes, make_passes_with_stock,
+    open_handles,
 };
 use crate::status::{
     BUSY, CLOSED, DONE, FULL_LEAVES, FULL_NODES, HELD_BACK, KEY_TOO_LONG, NO_HANDLE, NO_MEMORY,
@@ -42,7 +43,7 @@ pub extern "C" fn hot_create(alloc: Global, nodes: u32, leaves: u32, handles: &m
     }
     match make_passes(alloc, handles.len() as u32, nodes, leaves) {
         Ok(passes) => {
-            open_all(handles, passes);
+            open_handles(handles, passes);
             DONE
         }
         Err(IndexFault::Layout(_)) => OUT_OF_RANGE,
@@ -59,16 +60,16 @@ pub extern "C" fn hot_create_with(alloc: Global, stock: &HotStock, handles: &mut
     ensures made { AreClosed handles.old → IsStockSize (length handles.old) (stock_in stock.now) →
         ((result ≡ DONE) × HaveOpenedStock (stock_in stock.now) handles.new) ⊎ ((result ≡ NO_MEMORY) × (handles.new ≡ handles.old)) }
 {
-    let records = stock.stock();
+    let records = stock.to_stock();
     if !is_stock_size(handles.len(), &records) {
         return OUT_OF_RANGE;
     }
     if !are_closed(handles) {
         return OPEN;
     }
-    match make_stocked(alloc, handles.len() as u32, records) {
+    match make_passes_with_stock(alloc, handles.len() as u32, records) {
         Ok(stocked) => {
-            open_all(handles, stocked);
+            open_handles(handles, stocked);
             DONE
         }
         Err(IndexFault::Layout(_)) => OUT_OF_RANGE,
@@ -90,7 +91,7 @@ pub extern "C" fn hot_create_keeping(
     ensures made { handle.old.slot.opened ≡ None → IsStockSize passes (stock_in stock.now) →
         ((result ≡ DONE) × HasOpenedKeeper passes (stock_in stock.now) handle.new.slot.opened) ⊎ ((result ≡ NO_MEMORY) × (handle.new ≡ handle.old)) }
 {
-    let records = stock.stock();
+    let records = stock.to_stock();
     if !is_stock_size(passes, &records) {
         return OUT_OF_RANGE;
     }
@@ -122,7 +123,7 @@ pub extern "C" fn hot_open_kept(alloc: Global, keeper: &mut Handle, handle: &mut
     if handle.is_open() {
         return OPEN;
     }
-    match keeper.slot.lend().open_next(alloc) {
+    match keeper.slot.lend().open_next_handle(alloc) {
         Ok(Some(opened)) => {
             handle.open(opened);
             DONE
@@ -137,7 +138,7 @@ pub extern "C" fn hot_open_kept(alloc: Global, keeper: &mut Handle, handle: &mut
 pub extern "C" fn hot_stock_for_keys(count: u32, longest: usize, stock: &mut HotStock)
     ensures { stock_in stock.new ≡ stock_for count longest }
 {
-    stock.set(Stock::for_keys(count, longest));
+    stock.set_counts(Stock::for_keys(count, longest));
 }
 
 /// Writes how many bytes the table of an index with the records of `stock` and `handles` passes takes to `bytes`: `DONE`. If there is no
@@ -150,7 +151,7 @@ pub extern "C" fn hot_stock_bytes(stock: &HotStock, handles: usize, bytes: &mut 
     let Ok(passes) = u32::try_from(handles) else {
         return OUT_OF_RANGE;
     };
-    match Layout::with_stock(passes, stock.stock()) {
+    match Layout::with_stock(passes, stock.to_stock()) {
         Ok(layout) => {
             *bytes = layout.bytes();
             DONE
@@ -204,17 +205,17 @@ pub extern "C" fn hot_get_many(
     if !handle.is_open() {
         return CLOSED;
     }
-    if !are_fit(lookups) {
+    if !have_fitting_keys(lookups) {
         return KEY_TOO_LONG;
     }
-    let Ok(keys) = keys_of(alloc, lookups) else {
+    let Ok(keys) = copy_keys(alloc, lookups) else {
         return NO_MEMORY;
     };
     let Ok(mut found) = Vec::from_elem(alloc, None, keys.len()) else {
         return NO_MEMORY;
     };
     handle.slot.lend().handle.get_many(&keys, &mut found);
-    write_found(&found, lookups);
+    write_found_values(&found, lookups);
     DONE
 }
 
@@ -303,7 +304,7 @@ fn make_call(handle: &mut Handle, call: &mut Call, key: &[u8], had: &mut u64) ->
         return CLOSED;
     }
     match set_key(call, key) {
-        Ok(()) => make_open(handle, call, key.len(), had),
+        Ok(()) => make_call_on_open_handle(handle, call, key.len(), had),
         Err(_) => KEY_TOO_LONG,
     }
 }
@@ -328,12 +329,12 @@ fn set_key(call: &mut Call, key: &[u8]) -> Result<(), KeyFault>
 /// Makes `call`, for a key of `size` bytes, through an open handle, and returns the status. The reply's value, if it has one, goes to
 /// `had`.
 #[inline(never)]
-fn make_open(handle: &mut Handle, call: &Call, size: usize, had: &mut u64) -> u32
+fn make_call_on_open_handle(handle: &mut Handle, call: &Call, size: usize, had: &mut u64) -> u32
     requires { IsSome handle.old.slot.opened }
     ensures call { (key : List ℕ) → FitsInKey key → length key ≡ size → Answers key call.now handle.old.slot.opened handle.new.slot.opened had.old had.new result }
     ensures leafless { ¬ MayRefuse call.now FullLeaves → result ≢ FULL_LEAVES }
 {
-    handle.slot.lend().make(call, size, had)
+    handle.slot.lend().try_call(call, size, had)
 }
 
 /// Makes one round of collection, and writes how many node and leaf records it gave back to `nodes` and `leaves`: `DONE`. If the handle

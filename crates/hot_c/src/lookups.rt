@@ -19,14 +19,14 @@ pub struct Lookup<'a> {
 }
 
 /// Whether no key of `lookups` is too long.
-pub fn are_fit(lookups: &[Lookup<'_>]) -> bool
+pub fn have_fitting_keys(lookups: &[Lookup<'_>]) -> bool
     ensures { IsTrue result ↔ All (λ l. FitsInKey (key_in l)) lookups.now }
 {
     lookups.iter().all(|lookup| lookup.key.len() <= MAX_BYTES)
 }
 
 /// The keys of `lookups`, none of which is too long, in their order; an error if memory is refused.
-pub fn keys_of(alloc: Global, lookups: &[Lookup<'_>]) -> Result<Vec<Key>, AllocError>
+pub fn copy_keys(alloc: Global, lookups: &[Lookup<'_>]) -> Result<Vec<Key>, AllocError>
     requires { All (λ l. FitsInKey (key_in l)) lookups.now }
     ensures { IfOk result (λ keys. keys.items ≡ map key_in lookups.now) }
 {
@@ -42,7 +42,7 @@ pub fn keys_of(alloc: Global, lookups: &[Lookup<'_>]) -> Result<Vec<Key>, AllocE
 }
 
 /// Writes each of `found` to its place in `lookups`: `FOUND` with the value; or `ABSENT`, and the value there stays.
-pub fn write_found(found: &[Option<u64>], lookups: &mut [Lookup<'_>])
+pub fn write_found_values(found: &[Option<u64>], lookups: &mut [Lookup<'_>])
     requires { length found.now ≡ length lookups.old }
     ensures { lookups.new ≡ are_answered lookups.old found.now }
 {

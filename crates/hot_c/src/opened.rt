@@ -15,7 +15,7 @@ ghost use Rattle.hot_c.specs.Orders.{IsFilledIn};
 ghost use Rattle.hot_c.specs.Statuses.{value_after};
 
 use crate::pairs::Order;
-use crate::refusals::{tell_leaves, tell_nodes};
+use crate::refusals::{tell_lack_of_leaves, tell_lack_of_nodes};
 use crate::status::{BUSY, tell_reply};
 use hot_index::{Call, ClosedHandle, Handle, Index, Reply, ShowsIndex, Stamp, TryFault};
 use key_bits::Key;
@@ -38,7 +38,10 @@ pub struct Opened {
 impl Opened {
     /// Opens the next of the closed handles that are kept, the last of `kept`; `None` if none is kept. If memory is refused, an error, and
     /// all stay kept.
-    pub fn open_next(&mut self, alloc: Global) -> Result<Option<Box<Opened, Global>>, AllocError>
+    pub fn open_next_handle(
+        &mut self,
+        alloc: Global,
+    ) -> Result<Option<Box<Opened, Global>>, AllocError>
         ensures opened { IfOk result (λ next. MatchOption next (self.old.kept.items ≡ [] × KeepsAll self.old self.new) (λ b. HasOpenedNext self.old self.new b.value)) }
         ensures refused { IfErr result (λ _. KeepsAll self.old self.new) }
     {
@@ -68,15 +71,15 @@ impl Opened {
 
     /// Tries to make `call`, whose key has `size` bytes, and returns the status. The reply's value, if it has one, goes to `had`; else
     /// `had` stays. If no record is free, it counts all records. So the status tells whether other calls hold some back.
-    pub fn make(&mut self, call: &Call, size: usize, had: &mut u64) -> u32
+    pub fn try_call(&mut self, call: &Call, size: usize, had: &mut u64) -> u32
         ensures call { (outcome : Result ReplyView FaultView) × Stays (TellsOutcome size call.now result outcome) self.old.handle self.new.handle
             × (had.new ≡ value_after had.old outcome) × IfErr outcome (MayRefuse call.now) }
     {
         match self.handle.try_call(call) {
             Ok(reply) => tell_reply(reply, had),
             Err(TryFault::Busy) => BUSY,
-            Err(TryFault::FullNodes) => tell_nodes(&self.handle.census()),
-            Err(TryFault::FullLeaves) => tell_leaves(size, &self.handle.census()),
+            Err(TryFault::FullNodes) => tell_lack_of_nodes(&self.handle.census()),
+            Err(TryFault::FullLeaves) => tell_lack_of_leaves(size, &self.handle.census()),
         }
     }
 

@@ -49,7 +49,7 @@ pub fn is_stock_size(passes: usize, stock: &Stock) -> bool
 }
 
 /// Opens `handles`, which are closed, each with the one of its place in `passes`. There are as many of these.
-pub fn open_all(handles: &mut [Handle], passes: Vec<Box<Opened, Global>>)
+pub fn open_handles(handles: &mut [Handle], passes: Vec<Box<Opened, Global>>)
     requires closed { AreClosed handles.old }
     requires count { length passes.items ≡ length handles.old }
     ensures { map (λ h. h.slot.opened) handles.new ≡ map (λ b. Some b.value) passes.items }
@@ -74,12 +74,12 @@ pub fn make_passes(
     ensures made { IfOk result (λ made. AreNew passes (HasCounts nodes leaves) (map (λ b. b.value) made.items)) }
 {
     let (index, passes) = create(alloc, passes, nodes, leaves)?;
-    share(alloc, index, passes).map_err(|_| IndexFault::Memory)
+    share_index(alloc, index, passes).map_err(|_| IndexFault::Memory)
 }
 
 /// The passes of a new index with the records of `stock`, each with its share of the index. `IndexFault::Memory` if memory is refused;
 /// another fault if a number is out of range.
-pub fn make_stocked(
+pub fn make_passes_with_stock(
     alloc: Global,
     passes: u32,
     stock: Stock,
@@ -89,7 +89,7 @@ pub fn make_stocked(
     ensures made { IfOk result (λ made. AreNew passes (λ layout. HasStock layout stock) (map (λ b. b.value) made.items)) }
 {
     let (index, passes) = create_with(alloc, passes, stock)?;
-    share(alloc, index, passes).map_err(|_| IndexFault::Memory)
+    share_index(alloc, index, passes).map_err(|_| IndexFault::Memory)
 }
 
 /// The last pass of a new index with the records of `stock`, opened, with its share of the index. It keeps the others, and the first of
@@ -104,12 +104,12 @@ pub fn make_keeper(
     ensures made { IfOk result (λ made. IsKeeper passes (λ layout. HasStock layout stock) made.value) }
 {
     let (index, passes) = create_closed(alloc, passes, stock)?;
-    keep(alloc, index, passes).map_err(|_| IndexFault::Memory)
+    keep_passes(alloc, index, passes).map_err(|_| IndexFault::Memory)
 }
 
 /// The last of `passes`, which are those of `index`, opened, with its share. It keeps the others, the first one last. An error if memory
 /// is refused.
-fn keep(
+fn keep_passes(
     alloc: Global,
     index: Index,
     passes: Vec<ClosedPass>,
@@ -118,7 +118,7 @@ fn keep(
     ensures all { IfOk result (λ b. reverse b.value.kept.items ++ b.value.handle ∷ [] ≡ map (handle_at index) passes.items) }
 {
     let index = Arc::new(alloc, index)?;
-    let mut kept = closed_handles(alloc, &index, passes)?;
+    let mut kept = make_closed_handles(alloc, &index, passes)?;
     let Some(last) = kept.pop() else {
         return Err(AllocError);
     };
@@ -129,7 +129,7 @@ fn keep(
 }
 
 /// Closed handles of `passes`, in their order, each with a share of `index`; an error if memory is refused.
-fn closed_handles(
+fn make_closed_handles(
     alloc: Global,
     index: &Arc<Index, Global>,
     passes: Vec<ClosedPass>,
@@ -145,7 +145,7 @@ fn closed_handles(
 }
 
 /// The `passes` of `index` in their order, each with a share of it, an empty list and no kept handle. An error if memory is refused.
-fn share(
+fn share_index(
     alloc: Global,
     index: Index,
     passes: Vec<Pass>,

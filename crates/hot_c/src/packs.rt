@@ -7,7 +7,7 @@ ghost use Rattle.packed_pairs.specs.Parts.{packed_head, keys_in};
 
 use crate::handle::Handle;
 use crate::pairs::{Order, Query};
-use crate::scans::fill;
+use crate::scans::fill_list;
 use crate::status::DONE;
 use packed_pairs::{Head, Pairs};
 
@@ -30,7 +30,7 @@ pub extern "C" fn hot_scan_packed(
 {
     let order = Order::Upwards;
     let query = Query { order, from, upto };
-    list_packed(handle, &query, bytes, heads, count, more)
+    list_packed_pairs(handle, &query, bytes, heads, count, more)
 }
 
 /// Lists the last pairs whose keys are from `from` to `upto`, both included, in falling key order, packed as by `hot_scan_packed`.
@@ -50,11 +50,11 @@ pub extern "C" fn hot_scan_packed_reverse(
 {
     let order = Order::Downwards;
     let query = Query { order, from, upto };
-    list_packed(handle, &query, bytes, heads, count, more)
+    list_packed_pairs(handle, &query, bytes, heads, count, more)
 }
 
 /// Lists pairs of `query`, packed as by `hot_scan_packed`, with its statuses: the first ones upwards, or the last ones downwards.
-fn list_packed(
+fn list_packed_pairs(
     handle: &mut Handle,
     query: &Query,
     bytes: &mut [u8],
@@ -65,13 +65,13 @@ fn list_packed(
     ensures { ListsPackedBy (IsFilledIn query.now.order) query.now.from.now query.now.upto.now handle.old.slot.opened handle.new.slot.opened
         (packing bytes.old heads.old count.old more.old) (packing bytes.new heads.new count.new more.new) result }
 {
-    match fill(handle, query, heads.len()) {
+    match fill_list(handle, query, heads.len()) {
         Ok((found, is_more)) => {
             let opened = handle.slot.lend();
             opened.list.fit(bytes.len());
             *count = opened.list.len();
             *more = u32::from(is_more || *count < found);
-            write_packed(&opened.list, bytes, heads);
+            write_packed_pairs(&opened.list, bytes, heads);
             opened.empty_list();
             DONE
         }
@@ -80,7 +80,7 @@ fn list_packed(
 }
 
 /// Writes the heads of `pairs` and the bytes of their keys to the first places of `heads` and `bytes`, which have room for them.
-fn write_packed(pairs: &Pairs, bytes: &mut [u8], heads: &mut [Head])
+fn write_packed_pairs(pairs: &Pairs, bytes: &mut [u8], heads: &mut [Head])
     requires bytes { length (keys_in pairs.now) ≤ length bytes.old }
     requires heads { length pairs.now ≤ length heads.old }
     ensures bytes { bytes.new ≡ keys_in pairs.now ++ drop (length (keys_in pairs.now)) bytes.old }

@@ -36,7 +36,7 @@ pub struct Query<'a> {
 }
 
 /// Writes `pairs`, which a scan has listed, to the first places of `room`: the last one first for `LastUpwards`, else the first one first.
-pub fn write_in(order: Order, pairs: &Pairs, room: &mut [Pair])
+pub fn write_pairs_in_order(order: Order, pairs: &Pairs, room: &mut [Pair])
     requires { length pairs.now ≤ length room.old }
     ensures written { AreSpelled (in_order order pairs.now) room.new }
     ensures others { drop (length pairs.now) room.new ≡ drop (length pairs.now) room.old }
@@ -83,15 +83,15 @@ fn write_pair(key: &[u8], value: u64, pair: &mut Pair)
             pair.length = 8;
             pair.value = value;
         }
-        16..=31 => write_ends::<16>(key, value, pair),
-        32..=64 => write_ends::<32>(key, value, pair),
-        _ => write_any(key, value, pair),
+        16..=31 => write_pair_by_ends::<16>(key, value, pair),
+        32..=64 => write_pair_by_ends::<32>(key, value, pair),
+        _ => write_pair_of_any_length(key, value, pair),
     }
 }
 
 /// Writes `key` and `value` to `pair`. The key is written by two copies of N bytes, of its first and of its last, which may be partly the
 /// same ones. The array holds either part in turn: with two arrays they would go through memory.
-fn write_ends<const N: usize>(key: &[u8], value: u64, pair: &mut Pair)
+fn write_pair_by_ends<const N: usize>(key: &[u8], value: u64, pair: &mut Pair)
     requires key { IsKey key.now }
     requires covered { (N ≤ length key.now) × (length key.now ≤ N + N) }
     ensures { Spells (key.now, value) pair.new }
@@ -108,7 +108,7 @@ fn write_ends<const N: usize>(key: &[u8], value: u64, pair: &mut Pair)
 
 /// Writes `key`, of any length, and `value` to `pair`. Never inline: so a loop over pairs needs few registers.
 #[inline(never)]
-fn write_any(key: &[u8], value: u64, pair: &mut Pair)
+fn write_pair_of_any_length(key: &[u8], value: u64, pair: &mut Pair)
     requires { IsKey key.now }
     ensures { Spells (key.now, value) pair.new }
 {
@@ -118,7 +118,7 @@ fn write_any(key: &[u8], value: u64, pair: &mut Pair)
 }
 
 /// Writes the first of `pairs` to `pair`: `FOUND`. If there is none, `ABSENT`, and `pair` stays.
-pub fn tell_first(pairs: &Pairs, pair: &mut Pair) -> u32
+pub fn tell_first_pair(pairs: &Pairs, pair: &mut Pair) -> u32
     ensures { IsPairTold (slice_get pairs.now 0) pair.old pair.new result }
 {
     match pairs.iter().next() {

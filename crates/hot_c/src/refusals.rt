@@ -7,10 +7,10 @@ use crate::status::{FULL_LEAVES, FULL_NODES, HELD_BACK, KEY_TOO_LONG};
 use hot_index::{RecordCounts, StateCounts};
 
 /// The status of a call that found no node record free: `FULL_NODES` if all are in use by `counts`, else `HELD_BACK`.
-pub fn tell_nodes(counts: &RecordCounts) -> u32
+pub fn tell_lack_of_nodes(counts: &RecordCounts) -> u32
     ensures { TellsOfNodes counts.now result }
 {
-    if are_in_use(&counts.nodes) {
+    if are_all_in_use(&counts.nodes) {
         FULL_NODES
     } else {
         HELD_BACK
@@ -19,12 +19,12 @@ pub fn tell_nodes(counts: &RecordCounts) -> u32
 
 /// The status of a call that found no leaf record free for a key of `size` bytes. `HELD_BACK` if not all with room for the key are in use
 /// by `counts`. Else `KEY_TOO_LONG` if there are none, and `FULL_LEAVES` if there are some.
-pub fn tell_leaves(size: usize, counts: &RecordCounts) -> u32
+pub fn tell_lack_of_leaves(size: usize, counts: &RecordCounts) -> u32
     ensures { TellsOfLeaves size counts.now result }
 {
-    if !are_leaves_in_use(size, counts) {
+    if !are_all_leaves_in_use(size, counts) {
         HELD_BACK
-    } else if are_no_leaves(size, counts) {
+    } else if have_no_leaf(size, counts) {
         KEY_TOO_LONG
     } else {
         FULL_LEAVES
@@ -32,37 +32,37 @@ pub fn tell_leaves(size: usize, counts: &RecordCounts) -> u32
 }
 
 /// Whether the records of one kind and class are all in use, by `counts`; true if there is none.
-fn are_in_use(counts: &StateCounts) -> bool
+fn are_all_in_use(counts: &StateCounts) -> bool
     ensures { IsTrue result ↔ AreInUse counts.now }
 {
     counts.free == 0 && counts.held == 0 && counts.obsolete == 0
 }
 
 /// Whether there is no record of one kind and class, by `counts`.
-fn are_none(counts: &StateCounts) -> bool
+fn have_no_record(counts: &StateCounts) -> bool
     ensures { IsTrue result ↔ AreNone counts.now }
 {
-    are_in_use(counts) && counts.live == 0
+    are_all_in_use(counts) && counts.live == 0
 }
 
 /// Whether all leaf records with room for a key of `size` bytes are in use, by `counts`; true if there is none.
-fn are_leaves_in_use(size: usize, counts: &RecordCounts) -> bool
+fn are_all_leaves_in_use(size: usize, counts: &RecordCounts) -> bool
     ensures { IsTrue result ↔ OfLeaves AreInUse size counts.now }
 {
-    (size > 8 || are_in_use(&counts.short))
-        && (size > 24 || are_in_use(&counts.medium))
-        && (size > 56 || are_in_use(&counts.large))
-        && (size > 88 || are_in_use(&counts.wide))
-        && are_in_use(&counts.long)
+    (size > 8 || are_all_in_use(&counts.short))
+        && (size > 24 || are_all_in_use(&counts.medium))
+        && (size > 56 || are_all_in_use(&counts.large))
+        && (size > 88 || are_all_in_use(&counts.wide))
+        && are_all_in_use(&counts.long)
 }
 
 /// Whether there is no leaf record with room for a key of `size` bytes, by `counts`.
-fn are_no_leaves(size: usize, counts: &RecordCounts) -> bool
+fn have_no_leaf(size: usize, counts: &RecordCounts) -> bool
     ensures { IsTrue result ↔ OfLeaves AreNone size counts.now }
 {
-    (size > 8 || are_none(&counts.short))
-        && (size > 24 || are_none(&counts.medium))
-        && (size > 56 || are_none(&counts.large))
-        && (size > 88 || are_none(&counts.wide))
-        && are_none(&counts.long)
+    (size > 8 || have_no_record(&counts.short))
+        && (size > 24 || have_no_record(&counts.medium))
+        && (size > 56 || have_no_record(&counts.large))
+        && (size > 88 || have_no_record(&counts.wide))
+        && have_no_record(&counts.long)
 }

@@ -6,7 +6,7 @@ ghost use Rattle.hot_c.specs.Orders.{IsFilledIn, IsListedIn};
 ghost use Rattle.hot_c.specs.Scans.{HasFilled, Lists, ListsBy, ListsLast, ListsNothing, ListsReverse, listing};
 
 use crate::handle::Handle;
-use crate::pairs::{Order, Pair, Query, write_in};
+use crate::pairs::{Order, Pair, Query, write_pairs_in_order};
 use crate::status::{CLOSED, DONE, KEY_TOO_LONG, NO_MEMORY};
 use key_bits::Key;
 
@@ -80,12 +80,12 @@ fn list_query(
     ensures { ListsBy (IsListedIn query.now.order) query.now.from.now query.now.upto.now handle.old.slot.opened handle.new.slot.opened
         (listing room.old count.old more.old) (listing room.new count.new more.new) result }
 {
-    match fill(handle, query, room.len()) {
+    match fill_list(handle, query, room.len()) {
         Ok((found, is_more)) => {
             let opened = handle.slot.lend();
             *count = found;
             *more = u32::from(is_more);
-            write_in(query.order, &opened.list, room);
+            write_pairs_in_order(query.order, &opened.list, room);
             opened.empty_list();
             DONE
         }
@@ -95,7 +95,7 @@ fn list_query(
 
 /// Scans the range of `query` into the handle's list, for at most `limit` pairs, as `Opened::scan` does. Returns how many it found, and
 /// whether there are more. The error is `CLOSED`, `KEY_TOO_LONG` or `NO_MEMORY`.
-pub fn fill(handle: &mut Handle, query: &Query, limit: usize) -> Result<(usize, bool), u32>
+pub fn fill_list(handle: &mut Handle, query: &Query, limit: usize) -> Result<(usize, bool), u32>
     ensures ok { IfOk result (λ found. HasFilled (IsFilledIn query.now.order) (range_from query.now.from.now query.now.upto.now limit)
         handle.old.slot.opened handle.new.slot.opened found.0 found.1) }
     ensures short { IfOk result (λ found. found.0 < 2 ^ 63) }

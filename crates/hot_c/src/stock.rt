@@ -19,7 +19,7 @@ pub struct HotStock {
 
 impl HotStock {
     /// The `Stock` with the same numbers.
-    pub fn stock(&self) -> Stock
+    pub fn to_stock(&self) -> Stock
         ensures { result ≡ stock_in self.now }
     {
         Stock {
@@ -33,7 +33,7 @@ impl HotStock {
     }
 
     /// Replaces the numbers with those of `stock`.
-    pub fn set(&mut self, stock: Stock)
+    pub fn set_counts(&mut self, stock: Stock)
         ensures { stock_in self.new ≡ stock }
     {
         self.nodes = stock.nodes;

@@ -46,7 +46,7 @@ impl From<clap::Error> for Ending {
 }
 
 /// The words of the command line, the program's name first. `Fault(Memory)` if memory is refused, `Usage` if they can't be read.
-pub fn words<R: Env + AllocGlobal>(rt: &R) -> Result<Vec<String>, Ending>
+pub fn read_words<R: Env + AllocGlobal>(rt: &R) -> Result<Vec<String>, Ending>
     ensures { IfErr result (λ ending. (ending ≡ Usage) ⊎ (ending ≡ Fault Memory)) }
 {
     match env::args(rt) {
@@ -67,7 +67,7 @@ fn count_option<'a>(alloc: Global, name: &'a str, most: u32) -> Arg<'a>
 }
 
 /// The argument `name`: the words that are no options, any number of them.
-fn file_names<'a>(alloc: Global, name: &'a str) -> Arg<'a>
+fn names_argument<'a>(alloc: Global, name: &'a str) -> Arg<'a>
     ensures { IsArgument name.now (names_rule name.now) result }
 {
     Arg::new(alloc, name).action(ArgAction::Append)
@@ -76,14 +76,14 @@ fn file_names<'a>(alloc: Global, name: &'a str) -> Arg<'a>
 /// What `words`, those of the command line, ask for. The records are the numbers that follow `--nodes` and `--leaves`, or else 4,096 and
 /// 16,384. The files have the order of the words. `Usage` if they don't parse or name more than `MAX_FILES` files; `Fault(Memory)` if
 /// memory is refused.
-pub fn parse<'a>(alloc: Global, words: &'a [String]) -> Result<Request<'a>, Ending>
+pub fn parse_request<'a>(alloc: Global, words: &'a [String]) -> Result<Request<'a>, Ending>
     ensures asked { IfOk result (λ request. IsAsked (map string_bytes words.now) request.nodes request.leaves (map (λ name. name.now) request.files.items)) }
     ensures refused { IfErr result (λ ending. ((ending ≡ Usage) × (DoParse (map string_bytes words.now) → ⊥)) ⊎ (ending ≡ Fault Memory)) }
 {
     let command = Command::new(alloc, "hot-run")
         .arg(count_option(alloc, "nodes", MAX_NODES))?
         .arg(count_option(alloc, "leaves", MAX_LEAVES))?
-        .arg(file_names(alloc, "FILE"))?;
+        .arg(names_argument(alloc, "FILE"))?;
     let matches = command.try_get_matches_from(words)?;
     let nodes = matches.get_one::<u32>("nodes").unwrap_or(4096);
     let leaves = matches.get_one::<u32>("leaves").unwrap_or(16_384);

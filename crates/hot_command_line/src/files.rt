@@ -47,7 +47,7 @@ impl<R: Files> FileSystem for Disk<'_, R> {
 
 /// The first bytes that `reader` has: all, or one more than a script may have, which shows that it is too long. `Memory` if memory is
 /// refused, `Read` if a read failed.
-fn read_start<R: Read + Drop>(alloc: Global, reader: R) -> Result<Vec<u8>, RunFault>
+fn read_file_start<R: Read + Drop>(alloc: Global, reader: R) -> Result<Vec<u8>, RunFault>
     ensures fault { IfErr result IsFileFault }
     ensures start { IfOk result (λ bytes. IsFileStart (R.remaining reader) bytes.items) }
 {
@@ -62,13 +62,13 @@ fn read_start<R: Read + Drop>(alloc: Global, reader: R) -> Result<Vec<u8>, RunFa
     }
 }
 
-/// The script in the file `name` of `system`, as far as `read_start` reads it, with its faults; `Read` if it can't be opened.
+/// The script in the file `name` of `system`, as far as `read_file_start` reads it, with its faults; `Read` if it can't be opened.
 fn read_file<S: FileSystem>(alloc: Global, system: &S, name: &str) -> Result<Vec<u8>, RunFault>
     ensures fault { IfErr result IsFileFault }
     ensures start { IfOk result (λ bytes. IsFileStart (S.bytes name.now) bytes.items) }
 {
     let file = system.open(name)?;
-    read_start(alloc, file)
+    read_file_start(alloc, file)
 }
 
 /// The scripts in the files `names` of `system`, in order: of each all its bytes, or one more than a script may have. `Read` if one can't

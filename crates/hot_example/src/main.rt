@@ -18,14 +18,14 @@ fn put_both<'a, R: Wait>(
 ) -> Handle<&'a Index>
     ensures { result.index ≡ handle.entry.index }
 {
-    put(rt, &mut handle, one.0, one.1);
-    put(rt, &mut handle, two.0, two.1);
+    put_word(rt, &mut handle, one.0, one.1);
+    put_word(rt, &mut handle, two.0, two.1);
     handle
 }
 
 /// Inserts `word` with `value`. If it has a value already, that stays. A word is left out if it is too long for a key, or no record is
 /// free.
-fn put<R: Wait>(rt: &R, handle: &mut Handle<&Index>, word: &str, value: u64)
+fn put_word<R: Wait>(rt: &R, handle: &mut Handle<&Index>, word: &str, value: u64)
     ensures { handle.new.index ≡ handle.old.index }
 {
     if let Ok(key) = key(word) {
@@ -34,7 +34,7 @@ fn put<R: Wait>(rt: &R, handle: &mut Handle<&Index>, word: &str, value: u64)
 }
 
 /// Fills an index by two threads, lets their passes meet, and prints what they find. An error if memory is refused, or a write failed.
-fn run<R: Threads + Wait + AllocGlobal + Print + Sync>(rt: &R) -> io::Result<()> {
+fn run_example<R: Threads + Wait + AllocGlobal + Print + Sync>(rt: &R) -> io::Result<()> {
     // Two passes, 64 node records and 1,024 leaf records.
     let (index, mut passes) = create(rt.alloc(), 2, 64, 1024).map_err(as_error)?;
     let (Some(second), Some(first)) = (passes.pop(), passes.pop()) else {
@@ -64,11 +64,14 @@ fn run<R: Threads + Wait + AllocGlobal + Print + Sync>(rt: &R) -> io::Result<()>
         scan.pairs.len(),
         scan.more
     )?;
-    read_on(rt, &mut first)
+    print_further_reads(rt, &mut first)
 }
 
-/// Looks two words up by one call, lists the first words of all by a cursor, and prints both. An error as of `run`.
-fn read_on<R: AllocGlobal + Print>(rt: &R, handle: &mut Handle<&Index>) -> io::Result<()> {
+/// Looks two words up by one call, lists the first words of all by a cursor, and prints both. An error as of `run_example`.
+fn print_further_reads<R: AllocGlobal + Print>(
+    rt: &R,
+    handle: &mut Handle<&Index>,
+) -> io::Result<()> {
     let keys = [key("ash")?, key("elm")?];
     let mut found = [None; 2];
     handle.get_many(&keys, &mut found);
@@ -95,7 +98,7 @@ fn as_error(fault: IndexFault) -> io::Error {
     })
 }
 
-/// Runs the example. An error as of `run`.
+/// Runs the example. An error as of `run_example`.
 fn main(rt: HostRuntime) -> io::Result<()> {
-    run(&rt)
+    run_example(&rt)
 }

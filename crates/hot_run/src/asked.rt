@@ -10,7 +10,7 @@ ghost use Rattle.hot_run.specs.Asked.{AnswersAll, IsAnsweredAsAsked, MayEndAllBy
 
 use crate::one::run_one;
 use crate::scripts::run_scripts;
-use hot_command_line::arguments::{Request, parse};
+use hot_command_line::arguments::{Request, parse_request};
 use hot_command_line::ending::Ending;
 use hot_command_line::files::{FileSystem, read_files};
 use hot_scripts::fault::RunFault;
@@ -41,7 +41,7 @@ where
     // Nothing was written but where a write failed.
     ensures nothing { IfErr result (λ ending. ending ≢ Fault WriteFault → writer.new ≡ writer.old) }
 {
-    let request = parse(rt.alloc(), words)?;
+    let request = parse_request(rt.alloc(), words)?;
     run_request(rt, system, &request, reader, writer)?;
     Ok(())
 }

@@ -30,7 +30,7 @@ pub struct Records {
 
 /// An empty index of `records` for `script`, and its only pass; an error if memory is refused. All leaf records are of the smallest class
 /// with room for the keys of the script's calls. So they are close together, and a scan takes less time.
-pub fn create_for_script(
+pub fn create_index_for_script(
     alloc: Global,
     records: Records,
     script: &Script,
@@ -38,7 +38,7 @@ pub fn create_for_script(
     ensures sized { IfOk result (λ made. IsSizedFor (script_commands script.now) 1 records.nodes records.leaves made.0) }
     ensures pass { IfOk result (λ made. IsNewPassOf made.0 0 made.1) }
 {
-    let stock = choose_stock(records, script.longest_key());
+    let stock = choose_stock(records, script.longest_key_length());
     let (index, mut passes) = match create_with(alloc, 1, stock) {
         Ok(made) => made,
         Err(IndexFault::Memory) => return Err(AllocError),
@@ -62,7 +62,7 @@ fn choose_stock(records: Records, longest: usize) -> Stock
 
 /// An empty index of `records`, the passes for `files` files, and the pass of the last script. The files' passes are in the order of their
 /// numbers, from 0 on. An error if memory is refused.
-pub fn create_for_files(
+pub fn create_index_for_files(
     alloc: Global,
     files: u32,
     records: Records,

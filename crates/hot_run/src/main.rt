@@ -13,7 +13,7 @@ mod together;
 mod waiting;
 
 use asked::run_command_line;
-use hot_command_line::arguments::words;
+use hot_command_line::arguments::read_words;
 use hot_command_line::ending::Ending;
 use hot_command_line::files::Disk;
 use std::io;
@@ -24,18 +24,18 @@ use std::thread::Threads;
 
 /// Makes the run that the command line asks for, from standard input and the machine's files to standard output. The error says why there
 /// are no answers.
-fn run<R>(rt: &R) -> Result<(), Ending>
+fn run_program<R>(rt: &R) -> Result<(), Ending>
 where
     R: Env + Files + Input + Print + AllocGlobal + Wait + Threads + Sync,
 {
-    let words = words(rt)?;
+    let words = read_words(rt)?;
     let (mut reader, mut writer) = (rt.reader(), io::writer(rt));
     run_command_line(rt, &Disk { rt }, &words, &mut reader, &mut writer)
 }
 
 /// The program. Its exit status is 0, or else that of the `Ending`, whose text goes to standard error.
 fn main(rt: HostRuntime) -> ExitCode {
-    match run(&rt) {
+    match run_program(&rt) {
         Ok(()) => ExitCode::SUCCESS,
         Err(ending) => {
             let status = ending.status();

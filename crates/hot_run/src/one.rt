@@ -12,7 +12,7 @@ ghost use Rattle.hot_run.specs.Runs.{AreAnswered, IsAnsweredScript, MayEndBy};
 
 use crate::callers::Alone;
 use crate::engine::run_script;
-use crate::indexes::{Records, create_for_script};
+use crate::indexes::{Records, create_index_for_script};
 use hot_index::{Handle, Index, NoGate, Pass};
 use hot_scripts::fault::RunFault;
 use hot_scripts::script::Script;
@@ -56,12 +56,12 @@ pub fn run_one<R: Read, W: Write>(
 fn run_on_new_index(alloc: Global, records: Records, script: &Script) -> Result<Vec<u8>, AllocError>
     ensures { IfOk result (λ text. AreAnswered records.nodes records.leaves (script_commands script.now) text.items) }
 {
-    let (index, pass) = create_for_script(alloc, records, script)?;
-    run_alone(alloc, &index, pass, script)
+    let (index, pass) = create_index_for_script(alloc, records, script)?;
+    run_script_alone(alloc, &index, pass, script)
 }
 
 /// The answers to `script` on `index`, whose only pass is `pass`; an error if memory is refused.
-fn run_alone(
+fn run_script_alone(
     alloc: Global,
     index: &Index,
     pass: Pass,

@@ -10,7 +10,7 @@ ghost use Rattle.hot_run.specs.Scripts.{AllFrom, LawfulScripts, MayEndScriptsBy}
 ghost use Rattle.hot_run.specs.Told.{IsToldOf};
 
 use crate::indexes::Records;
-use crate::together::run_all;
+use crate::together::run_all_scripts;
 use hot_index::{Gate, NoGate};
 use hot_scripts::fault::RunFault;
 use hot_scripts::in_files::parse_files;
@@ -102,7 +102,7 @@ where
     let bytes = read_script(rt.alloc(), reader)?;
     let last = Script::parse(bytes)?;
     let records = Records { nodes, leaves };
-    let results = run_all(rt, records, &scripts, gates, &last)?;
+    let results = run_all_scripts(rt, records, &scripts, gates, &last)?;
     write_sections(writer, &results.texts)?;
     Ok(results.gates)
 }

@@ -13,7 +13,7 @@ ghost use Rattle.hot_run.specs.Scripts.{AreAllAnswered};
 use crate::answer::make_sections;
 use crate::callers::Waits;
 use crate::engine::run_script;
-use crate::indexes::{Records, create_for_files};
+use crate::indexes::{Records, create_index_for_files};
 use core::mem::replace_with;
 use hot_index::{Gate, Handle, Index, NoGate, Pass, handles_of};
 use hot_scripts::script::Script;
@@ -59,7 +59,7 @@ impl<'a, G: Gate> Promise<Result<(Done<'a>, G), AllocError>> for Order<'a, G> {
 /// Makes an index of `records` and runs scripts on it. Those of files, `scripts`, run at the same time, each in a thread with its gate;
 /// `last` runs when they have ended. Returns all answers, and the gates in the order of `scripts`; an error if memory is refused, or a
 /// thread can't be started.
-pub fn run_all<T: AllocGlobal + Threads + Wait + Sync, G: Gate + Send + Drop>(
+pub fn run_all_scripts<T: AllocGlobal + Threads + Wait + Sync, G: Gate + Send + Drop>(
     rt: &T,
     records: Records,
     scripts: &[Script],
@@ -72,13 +72,13 @@ pub fn run_all<T: AllocGlobal + Threads + Wait + Sync, G: Gate + Send + Drop>(
     ensures answered { IfOk result (λ results. AreAllAnswered records.nodes records.leaves G.becomes (zip gates.items results.gates.items)
         (map script_commands scripts.now) (script_commands last.now) (flat_map (λ t. t.items) results.texts.items)) }
 {
-    let (index, passes, pass) = create_for_files(rt.alloc(), scripts.len() as u32, records)?;
-    run_by(rt, Handle::new(&index, pass), passes, scripts, gates, last)
+    let (index, passes, pass) = create_index_for_files(rt.alloc(), scripts.len() as u32, records)?;
+    run_by_passes(rt, Handle::new(&index, pass), passes, scripts, gates, last)
 }
 
 /// Runs `scripts`, those of files, at the same time, each by the pass and the gate of its place. Then the pass of `handle` meets these, and
 /// runs `last`. Returns all answers, and the gates in the order of `scripts`; an error if memory is refused, or a thread can't be started.
-fn run_by<'a, T: AllocGlobal + Threads + Wait + Sync, G: Gate + Send + Drop>(
+fn run_by_passes<'a, T: AllocGlobal + Threads + Wait + Sync, G: Gate + Send + Drop>(
     rt: &T,
     handle: Handle<&'a Index>,
     passes: Vec<Pass>,
@@ -96,8 +96,8 @@ fn run_by<'a, T: AllocGlobal + Threads + Wait + Sync, G: Gate + Send + Drop>(
     let ended = run_files(rt, alloc, handle.index, passes, scripts, gates)?;
     let (mut ran, gates) = split_gates(alloc, ended)?;
     let done: &mut [Done] = &mut ran;
-    let handle = meet_all(handle, done);
-    let texts = run_last(rt, alloc, handle, done, last)?;
+    let handle = meet_all_passes(handle, done);
+    let texts = run_last_script(rt, alloc, handle, done, last)?;
     Ok(Results { texts, gates })
 }
 
@@ -120,7 +120,7 @@ fn split_gates<'a, G: Drop>(
 
 /// Runs `last`, the last script, by `handle`, whose pass has met those of `met` and meets them again. Returns the answers of all as texts
 /// that follow one another; an error if memory is refused.
-fn run_last<'a, T: Wait>(
+fn run_last_script<'a, T: Wait>(
     rt: &T,
     alloc: Global,
     handle: Handle<&'a Index>,
@@ -134,7 +134,7 @@ fn run_last<'a, T: Wait>(
     // The handle is opened: its pass belongs to its index.
     let _pass = &handle.pass;
     let (done, _gate) = run_file(rt, alloc, handle, last, NoGate)?;
-    meet_all(done.handle, met);
+    meet_all_passes(done.handle, met);
     make_sections(alloc, met, done.text)
 }
 
@@ -159,12 +159,12 @@ fn run_files<'a, T: Threads + Wait + Sync, G: Gate + Send + Drop>(
         |threads| -> Result<Vec<(Done, G)>, AllocError>
             requires { AreReady handles.items scripts.now gates.items }
             ensures { IfOk result (λ done. AllThree (IsDone G.becomes) (zip handles.entry.items gates.items) (map script_commands scripts.entry.now) done.items) }
-        { run_within(threads, rt, alloc, handles, scripts, gates) },
+        { run_files_in_scope(threads, rt, alloc, handles, scripts, gates) },
     )
 }
 
 /// Does what `run_files` does, by threads of the scope `threads`.
-fn run_within<'a: 's, 's, E, T: Threads + Wait + Sync + 's, G: Gate + Send + Drop + 's>(
+fn run_files_in_scope<'a: 's, 's, E, T: Threads + Wait + Sync + 's, G: Gate + Send + Drop + 's>(
     threads: &Scope<'s, E>,
     rt: &'s T,
     alloc: Global,
@@ -269,7 +269,7 @@ fn run_file<'a, T: Wait, G: Gate + Drop>(
 
 /// Lets the pass of `handle` meet that of each script of `done`, in order, as `Handle::meet` does; all are at one index. So each sees what
 /// the handle and those before it had seen. Returns the handle.
-fn meet_all<'a>(handle: Handle<&'a Index>, done: &mut [Done<'a>]) -> Handle<&'a Index>
+fn meet_all_passes<'a>(handle: Handle<&'a Index>, done: &mut [Done<'a>]) -> Handle<&'a Index>
     requires { AreAt handle.index handle done.old }
     ensures index { AreAt handle.entry.index result done.new }
     ensures met { MeetInTurn handle.entry.index handle.entry.pass done.old result.pass done.new }

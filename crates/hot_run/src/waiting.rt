@@ -42,7 +42,7 @@ impl Gate for Waiting<'_> {
 }
 
 /// The bytes of two scripts, with one command each; an error if memory is refused.
-fn files_of(alloc: Global) -> Result<Vec<Vec<u8>>, AllocError>
+fn two_scripts(alloc: Global) -> Result<Vec<Vec<u8>>, AllocError>
     ensures { IfOk result (λ files. length files.items ≡ 2) }
 {
     let mut files = Vec::new(alloc);
@@ -52,7 +52,7 @@ fn files_of(alloc: Global) -> Result<Vec<Vec<u8>>, AllocError>
 }
 
 /// The gate that sets the flag `own` at its first step and waits for `other`.
-fn gate_of<'a>(own: &'a AtomicBool, other: &'a AtomicBool) -> Waiting<'a> {
+fn make_gate<'a>(own: &'a AtomicBool, other: &'a AtomicBool) -> Waiting<'a> {
     Waiting {
         own,
         other,
@@ -62,7 +62,7 @@ fn gate_of<'a>(own: &'a AtomicBool, other: &'a AtomicBool) -> Waiting<'a> {
 }
 
 /// The gates of two files, with the flags `first` and `second`; each waits for the other's. An error if memory is refused.
-fn gates_of<'a>(
+fn make_gates<'a>(
     alloc: Global,
     first: &'a AtomicBool,
     second: &'a AtomicBool,
@@ -70,8 +70,8 @@ fn gates_of<'a>(
     ensures { IfOk result (λ gates. length gates.items ≡ 2) }
 {
     let mut gates = Vec::new(alloc);
-    gates.push(gate_of(first, second))?;
-    gates.push(gate_of(second, first))?;
+    gates.push(make_gate(first, second))?;
+    gates.push(make_gate(second, first))?;
     Ok(gates)
 }
 
@@ -79,8 +79,10 @@ fn gates_of<'a>(
 #[test]
 fn gates_wait_for_each_other(rt: HostRuntime) {
     let (first, second) = (AtomicBool::new(false), AtomicBool::new(false));
-    let (Ok(files), Ok(gates)) = (files_of(rt.alloc()), gates_of(rt.alloc(), &first, &second))
-    else {
+    let (Ok(files), Ok(gates)) = (
+        two_scripts(rt.alloc()),
+        make_gates(rt.alloc(), &first, &second),
+    ) else {
         panic!(rt; "no memory")
     };
     let mut text = Vec::new(rt.alloc());

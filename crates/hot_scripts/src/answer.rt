@@ -45,7 +45,7 @@ fn put_key(page: &mut Page, key: &[u8])
     ensures { page.new ≡ page.old ++ key_text key.now }
 {
     if key.is_empty() {
-        page.put(b"-");
+        page.put_text(b"-");
     } else {
         page.put_hex(key);
     }
@@ -58,11 +58,11 @@ fn put_pair(page: &mut Page, key: &[u8], value: u64)
     requires room { length page.old + MOST_BYTES ≤ ROOM }
     ensures { page.new ≡ page.old ++ pair_line (key.now, value) }
 {
-    page.put(b"pair ");
+    page.put_text(b"pair ");
     put_key(page, key);
-    page.put(b" ");
+    page.put_text(b" ");
     page.put_number(value);
-    page.put(b"\n");
+    page.put_text(b"\n");
 }
 
 /// Makes room on the page for a line. If the page is full, its lines go to the end of `text`, and it is cleared. An error if memory is

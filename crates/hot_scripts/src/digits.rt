@@ -17,8 +17,8 @@ pub fn write_hex(bytes: &[u8], room: &mut [u8])
     let whole = bytes.len() / 8 * 8;
     'eights: for index in 0..whole {
         let byte = bytes[index];
-        room[2 * index] = digit(byte / 16);
-        room[2 * index + 1] = digit(byte % 16);
+        room[2 * index] = hex_digit(byte / 16);
+        room[2 * index + 1] = hex_digit(byte % 16);
     }
     'rest: for index in whole..bytes.len() {
         let byte = bytes[index];
@@ -29,7 +29,7 @@ pub fn write_hex(bytes: &[u8], room: &mut [u8])
 
 /// The lower case hexadecimal digit of `number`, which is below 16.
 #[inline(always)]
-fn digit(number: u8) -> u8
+fn hex_digit(number: u8) -> u8
     requires { number < 16 }
     ensures { result ≡ slice_index lower_digits number }
 {

@@ -61,7 +61,7 @@ fn split_words(line: &[u8]) -> Words<'_>
 }
 
 /// The command `name` for `key` alone; `Reason::Command` if there is none, or `Key` if `key` stands for no key of `version`.
-fn parse_with_key(version: Version, name: &[u8], key: &[u8]) -> Result<Command, Reason>
+fn parse_key_command(version: Version, name: &[u8], key: &[u8]) -> Result<Command, Reason>
     ensures { result ≡ command_of version (name.now ∷ key.now ∷ []) }
 {
     if name == b"get".as_slice() {
@@ -76,7 +76,7 @@ fn parse_with_key(version: Version, name: &[u8], key: &[u8]) -> Result<Command, 
 }
 
 /// The command `name` for `key` and `value`; `Reason::Command` if there is none, or else `Key` or `Value` for the first bad word.
-fn parse_with_value(
+fn parse_value_command(
     version: Version,
     name: &[u8],
     key: &[u8],
@@ -98,7 +98,7 @@ fn parse_with_value(
 }
 
 /// The command `name` for a range and a limit; `Reason::Command` if there is none, or else `Key` or `Limit` for the first bad word.
-fn parse_with_range(
+fn parse_range_command(
     version: Version,
     name: &[u8],
     from: &[u8],
@@ -122,9 +122,11 @@ fn parse_command(version: Version, line: &[u8]) -> Result<Command, Reason>
     ensures { result ≡ command_of version (line_words line.now) }
 {
     match split_words(line) {
-        Words::Two(name, key) => parse_with_key(version, name, key),
-        Words::Three(name, key, value) => parse_with_value(version, name, key, value),
-        Words::Four(name, from, upto, limit) => parse_with_range(version, name, from, upto, limit),
+        Words::Two(name, key) => parse_key_command(version, name, key),
+        Words::Three(name, key, value) => parse_value_command(version, name, key, value),
+        Words::Four(name, from, upto, limit) => parse_range_command(
+            version, name, from, upto, limit,
+        ),
         Words::Other => Err(Reason::Command),
     }
 }

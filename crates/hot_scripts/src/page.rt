@@ -72,7 +72,7 @@ impl Page {
 
     /// Puts `text` on the page, behind what is there; the page has room for it.
     #[inline(always)]
-    pub fn put(&mut self, text: &[u8])
+    pub fn put_text(&mut self, text: &[u8])
         requires { length self.old + length text.now ≤ ROOM }
         ensures { self.new ≡ self.old ++ text.now }
     {

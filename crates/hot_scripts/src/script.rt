@@ -42,14 +42,14 @@ impl Script {
         ensures { Parses result (commands_of text.items) }
     {
         let (first, commands) = Commands::opening(&text);
-        match commands.longest_key(first) {
+        match commands.longest_key_length(first) {
             Err((line, reason)) => Err(RunFault::Script { line, reason }),
             Ok(longest) => Ok(Script { text, longest }),
         }
     }
 
     /// How many bytes the longest key of its calls has, or 0 if it has no call.
-    pub fn longest_key(&self) -> usize
+    pub fn longest_key_length(&self) -> usize
         ensures keys { All (HasKeyUpTo result) (script_commands self.now) }
         ensures few { result ≤ MAX_BYTES }
     {
@@ -106,7 +106,7 @@ impl<'a> Commands<'a> {
 
     /// The most bytes that the key of a call in these lines has. If a line is bad, it returns the number of the first such line, and what
     /// is wrong with it. The first line has the number `first`.
-    fn longest_key(self, first: u32) -> Result<usize, (u32, Reason)>
+    fn longest_key_length(self, first: u32) -> Result<usize, (u32, Reason)>
         requires { first + text_len self.left < 2 ^ 32 }
         ensures good { IfOk result (λ longest. first_bad first (readings_left self.entry) ≡ None) }
         ensures keys { IfOk result (λ longest. All (HasKeyUpTo longest) (commands_left self.entry)) }
@@ -119,7 +119,7 @@ impl<'a> Commands<'a> {
         while let Some(text) = left {
             let (line, rest) = split_first(b'\n', text);
             match parse_line(self.version, line) {
-                Ok(command) => longest = larger(longest, key_bytes(&command)),
+                Ok(command) => longest = larger_number(longest, key_length(&command)),
                 Err(reason) => return Err((number, reason)),
             }
             number += 1;
@@ -130,7 +130,7 @@ impl<'a> Commands<'a> {
 }
 
 /// How many bytes the key of the call `command` has; 0 if it is a scan or `None`.
-fn key_bytes(command: &Option<Command>) -> usize
+fn key_length(command: &Option<Command>) -> usize
     ensures key { IfSome command.now (HasKeyUpTo result) }
     ensures few { result ≤ MAX_BYTES }
 {
@@ -141,7 +141,7 @@ fn key_bytes(command: &Option<Command>) -> usize
 }
 
 /// The larger of `first` and `second`.
-fn larger(first: usize, second: usize) -> usize
+fn larger_number(first: usize, second: usize) -> usize
     ensures bound { (first ≤ result) × (second ≤ result) }
     ensures few { first ≤ MAX_BYTES → second ≤ MAX_BYTES → result ≤ MAX_BYTES }
 {

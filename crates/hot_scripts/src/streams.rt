@@ -48,7 +48,7 @@ fn write_text<W: Write>(writer: &mut W, text: &[u8]) -> Result<(), RunFault>
 }
 
 /// Flushes `writer`; `RunFault::Write` if that failed.
-fn flush<W: Write>(writer: &mut W) -> Result<(), RunFault>
+fn flush_writer<W: Write>(writer: &mut W) -> Result<(), RunFault>
     ensures ok { OnOk result (Keeps (W.contents writer.old) (W.contents writer.new)) }
     ensures fault { IfErr result (λ fault. fault ≡ RunFault.Write) }
 {
@@ -64,7 +64,7 @@ pub fn write_answers<W: Write>(writer: &mut W, text: &[u8]) -> Result<(), RunFau
     ensures fault { IfErr result (λ fault. fault ≡ RunFault.Write) }
 {
     write_text(writer, text)?;
-    flush(writer)
+    flush_writer(writer)
 }
 
 /// Writes `texts` to `writer`, one after another, and flushes it; `RunFault::Write` if either failed.
@@ -75,5 +75,5 @@ pub fn write_sections<W: Write>(writer: &mut W, texts: &[Vec<u8>]) -> Result<(),
     for text in texts {
         write_text(writer, text)?;
     }
-    flush(writer)
+    flush_writer(writer)
 }

@@ -14,7 +14,7 @@ use std::test::*;
 use std::thread::{Threads, join};
 
 /// A table of two seats, eight node records and eight leaf records, and its seats.
-fn table_of(rt: &impl Abort, alloc: Global) -> (HotTable, TableSeat, TableSeat)
+fn make_table(rt: &impl Abort, alloc: Global) -> (HotTable, TableSeat, TableSeat)
     ensures layout { (result.0.layout.passes ≡ 2) × (result.0.layout.nodes ≡ 8) × (result.0.layout.leaves ≡ 8) }
     ensures own { IsSeatOf result.0 result.1 × IsSeatOf result.0 result.2 }
 {
@@ -45,7 +45,7 @@ fn claim_if_free(table: &HotTable, seat: &mut TableSeat, rec: Rec) -> bool
 }
 
 /// `first` claims `rec`, which `second` can't claim then. `first` releases it, and then `second` can.
-fn hand_over(
+fn hand_record_over(
     rt: &impl Abort,
     table: &HotTable,
     first: &mut TableSeat,
@@ -92,7 +92,7 @@ fn give_back_none(rt: &impl Abort, table: &HotTable, seat: &mut TableSeat)
 }
 
 /// Claims each leaf record that is free. Returns a mask: bit `n % 64` is set if leaf n was claimed.
-fn claim_each(table: &HotTable, seat: &mut TableSeat) -> u64
+fn claim_free_leaves(table: &HotTable, seat: &mut TableSeat) -> u64
     requires own { IsSeatOf table.now seat.old }
 {
     let mut claimed = 0;
@@ -118,10 +118,10 @@ fn claim_in_threads(
         rt,
         || -> u64
             requires { IsSeatOf table.now first }
-        { claim_each(table, &mut first) },
+        { claim_free_leaves(table, &mut first) },
         || -> u64
             requires { IsSeatOf table.now second }
-        { claim_each(table, &mut second) },
+        { claim_free_leaves(table, &mut second) },
     );
     assert!(rt; ours & theirs == 0 && ours | theirs == 0xfe);
 }
@@ -129,9 +129,9 @@ fn claim_in_threads(
 /// A free record isn't given back, a filled word stands, a record claimed is handed over, and two threads claim none twice.
 #[test]
 fn a_record_has_one_seat(rt: HostRuntime) {
-    let (table, mut first, mut second) = table_of(&rt, rt.alloc());
+    let (table, mut first, mut second) = make_table(&rt, rt.alloc());
     give_back_none(&rt, &table, &mut first);
     fill_node(&rt, &table, &mut first);
-    hand_over(&rt, &table, &mut first, &mut second, Rec::Leaf(0));
+    hand_record_over(&rt, &table, &mut first, &mut second, Rec::Leaf(0));
     claim_in_threads(&rt, &table, (first, second));
 }

@@ -20,7 +20,11 @@ fn create_closed_passes(rt: &impl Abort, alloc: Global) -> (Index, Vec<ClosedPas
 }
 
 /// Opens the handle `closed`.
-fn open<'a>(rt: &impl Abort, alloc: Global, closed: ClosedHandle<&'a Index>) -> Handle<&'a Index> {
+fn open_handle<'a>(
+    rt: &impl Abort,
+    alloc: Global,
+    closed: ClosedHandle<&'a Index>,
+) -> Handle<&'a Index> {
     match closed.open(alloc) {
         Ok(handle) => handle,
         Err(_) => panic!(rt; "no memory"),
@@ -28,7 +32,7 @@ fn open<'a>(rt: &impl Abort, alloc: Global, closed: ClosedHandle<&'a Index>) -> 
 }
 
 /// Takes the last of `passes` out, and opens a handle of it.
-fn open_last<'a>(
+fn open_last_handle<'a>(
     rt: &impl Abort,
     alloc: Global,
     index: &'a Index,
@@ -38,7 +42,7 @@ fn open_last<'a>(
     ensures { All (Owns index.now) passes.new.items }
 {
     match passes.pop() {
-        Some(pass) => open(rt, alloc, ClosedHandle::new(index, pass)),
+        Some(pass) => open_handle(rt, alloc, ClosedHandle::new(index, pass)),
         None => panic!(rt; "no pass"),
     }
 }
@@ -57,7 +61,7 @@ fn insert_by_both(
 }
 
 /// `second` removes both keys, one more than it has inserted, so its count is below 0. Together they count none.
-fn remove_both(
+fn remove_both_keys(
     rt: &impl Abort,
     first: &mut Handle<&Index>,
     second: &mut Handle<&Index>,
@@ -75,12 +79,12 @@ fn remove_both(
 #[test]
 fn a_handle_keeps_its_count_while_it_is_closed(rt: HostRuntime) {
     let (index, mut passes) = create_closed_passes(&rt, rt.alloc());
-    let mut first = open_last(&rt, rt.alloc(), &index, &mut passes);
-    let mut second = open_last(&rt, rt.alloc(), &index, &mut passes);
+    let mut first = open_last_handle(&rt, rt.alloc(), &index, &mut passes);
+    let mut second = open_last_handle(&rt, rt.alloc(), &index, &mut passes);
     let keys = ends(&rt);
     insert_by_both(&rt, &mut first, &mut second, &keys);
     let closed = first.close();
     assert!(rt; closed.count().keys == 1);
-    let mut first = open(&rt, rt.alloc(), closed);
-    remove_both(&rt, &mut first, &mut second, &keys);
+    let mut first = open_handle(&rt, rt.alloc(), closed);
+    remove_both_keys(&rt, &mut first, &mut second, &keys);
 }

@@ -26,7 +26,7 @@ enum Direction {
 }
 
 /// Scans nine pairs at most between the two keys of `ends`, in `direction`. An error if memory is refused.
-fn scan_between(
+fn scan_between_keys(
     alloc: Global,
     guest: &mut Guest,
     direction: Direction,
@@ -39,7 +39,7 @@ fn scan_between(
 }
 
 /// `scan` gave `count` pairs, and there are no more.
-fn expect_whole(rt: &impl Abort, scan: Result<Scan, AllocError>, count: usize) {
+fn expect_whole_scan(rt: &impl Abort, scan: Result<Scan, AllocError>, count: usize) {
     match scan {
         Ok(scan) => assert!(rt; scan.pairs.len() == count && !scan.more),
         Err(_) => panic!(rt; "no memory"),
@@ -47,19 +47,19 @@ fn expect_whole(rt: &impl Abort, scan: Result<Scan, AllocError>, count: usize) {
 }
 
 /// Inserts the two keys, with the values 1 and 2.
-fn insert_both(rt: &impl Abort, guest: &mut Guest, keys: &(Key, Key)) {
+fn insert_both_keys(rt: &impl Abort, guest: &mut Guest, keys: &(Key, Key)) {
     assert!(rt; guest.try_insert(&keys.0, 1) == Ok(Reply::Inserted));
     assert!(rt; guest.try_insert(&keys.1, 2) == Ok(Reply::Inserted));
 }
 
 /// Replaces the leaf of the first key. The next round gives the old one back.
-fn replace_first(rt: &impl Abort, guest: &mut Guest, keys: &(Key, Key)) {
+fn replace_first_leaf(rt: &impl Abort, guest: &mut Guest, keys: &(Key, Key)) {
     assert!(rt; guest.try_upsert(&keys.0, 3) == Ok(Reply::Was(1)));
     assert!(rt; guest.collect().leaves == 1);
 }
 
 /// A scan of two keys leaves no pin, even if memory is refused. So a leaf that `other` replaces after it comes back with the next round.
-fn scan_beside(
+fn scan_beside_change(
     rt: &impl Abort,
     alloc: Global,
     guest: &mut Guest,
@@ -67,19 +67,19 @@ fn scan_beside(
     direction: Direction,
 ) {
     let ends = ends(rt);
-    insert_both(rt, other, &ends);
-    let first = scan_between(alloc, guest, direction, &ends);
-    replace_first(rt, other, &ends);
+    insert_both_keys(rt, other, &ends);
+    let first = scan_between_keys(alloc, guest, direction, &ends);
+    replace_first_leaf(rt, other, &ends);
     let scan = match first {
         Ok(scan) => Ok(scan),
-        Err(_) => scan_between(alloc, guest, direction, &ends),
+        Err(_) => scan_between_keys(alloc, guest, direction, &ends),
     };
-    expect_whole(rt, scan, 2);
-    expect_last(rt, alloc, guest, &ends.1);
+    expect_whole_scan(rt, scan, 2);
+    expect_last_pair(rt, alloc, guest, &ends.1);
 }
 
 /// The last pair up to `key`, asked for again where memory is refused once.
-fn find_last(
+fn find_last_pair(
     alloc: Global,
     guest: &mut Guest,
     key: &Key,
@@ -91,8 +91,8 @@ fn find_last(
 }
 
 /// The last pair up to `key` is that of `key`, with the value 2.
-fn expect_last(rt: &impl Abort, alloc: Global, guest: &mut Guest, key: &Key) {
-    let Ok(Some((found, value))) = find_last(alloc, guest, key) else {
+fn expect_last_pair(rt: &impl Abort, alloc: Global, guest: &mut Guest, key: &Key) {
+    let Ok(Some((found, value))) = find_last_pair(alloc, guest, key) else {
         panic!(rt; "no pair")
     };
     assert!(rt; found == *key && value == 2);
@@ -100,10 +100,10 @@ fn expect_last(rt: &impl Abort, alloc: Global, guest: &mut Guest, key: &Key) {
 
 /// Makes an index of two passes: a scan by one of them, in `direction`, leaves no pin.
 fn scan_new_index(rt: &impl Abort, alloc: Global, direction: Direction) {
-    let (index, mut passes) = index_of(rt, alloc, 2);
+    let (index, mut passes) = make_index(rt, alloc, 2);
     let mut guest = Handle::new(&index, pop_pass(rt, &index, &mut passes));
     let mut other = Handle::new(&index, pop_pass(rt, &index, &mut passes));
-    scan_beside(rt, alloc, &mut guest, &mut other, direction);
+    scan_beside_change(rt, alloc, &mut guest, &mut other, direction);
 }
 
 /// A scan that was refused memory leaves no pin, upwards as downwards.
@@ -138,7 +138,7 @@ impl Gate for RetryingGate {
 }
 
 /// A replay without an event, of an index with one pass.
-fn replay_of(rt: &impl Abort, alloc: Global) -> Replay {
+fn make_replay(rt: &impl Abort, alloc: Global) -> Replay {
     let Ok(layout) = Layout::of(1, 2, 8) else {
         panic!(rt; "no layout")
     };
@@ -162,7 +162,7 @@ fn change_with_gate(rt: &impl Abort, guest: &mut Guest, gate: &mut RetryingGate)
 }
 
 /// `replay` holds `count` pairs.
-fn expect_held(rt: &impl Abort, alloc: Global, replay: &Replay, count: usize) {
+fn expect_pair_count(rt: &impl Abort, alloc: Global, replay: &Replay, count: usize) {
     let held = match replay.content(alloc) {
         Ok(pairs) => Ok(pairs),
         Err(_) => replay.content(alloc),
@@ -175,19 +175,19 @@ fn expect_held(rt: &impl Abort, alloc: Global, replay: &Replay, count: usize) {
 
 /// A step refused for want of memory changes nothing: told again, it is made. The replay has three changes and one pair then.
 #[test]
-fn a_replay_stays_as_it_was(rt: HostRuntime) {
-    let (index, mut passes) = index_of(&rt, rt.alloc(), 1);
+fn a_replay_refused_memory_stays_as_it_was(rt: HostRuntime) {
+    let (index, mut passes) = make_index(&rt, rt.alloc(), 1);
     let mut guest = Handle::new(&index, pop_pass(&rt, &index, &mut passes));
     let mut gate = RetryingGate {
-        replay: replay_of(&rt, rt.alloc()),
+        replay: make_replay(&rt, rt.alloc()),
         wrong: 0,
     };
     change_with_gate(&rt, &mut guest, &mut gate);
-    expect_held(&rt, rt.alloc(), &gate.replay, 1);
+    expect_pair_count(&rt, rt.alloc(), &gate.replay, 1);
 }
 
 /// Inserts `key`. Where memory was refused, the key is absent, and the next call inserts it.
-fn insert_plain(rt: &impl Abort, index: &mut PlainIndex, key: Key) {
+fn insert_in_plain_index(rt: &impl Abort, index: &mut PlainIndex, key: Key) {
     if index.apply(Call::Insert(key.copy(), 1)).is_err() {
         let told = index.apply(Call::Get(key.copy()));
         assert!(rt; matches!(told, Ok(Reply::Absent)));
@@ -198,17 +198,17 @@ fn insert_plain(rt: &impl Abort, index: &mut PlainIndex, key: Key) {
 
 /// An insert that was refused memory adds nothing, and a second one does; a scan has all twenty keys.
 #[test]
-fn a_plain_index_stays_as_it_was(rt: HostRuntime) {
+fn a_plain_index_refused_memory_stays_as_it_was(rt: HostRuntime) {
     let mut index = PlainIndex::new(rt.alloc());
     for byte in 1..=20u8 {
-        insert_plain(&rt, &mut index, key(&rt, &[byte]));
+        insert_in_plain_index(&rt, &mut index, key(&rt, &[byte]));
     }
     let (from, upto) = ends(&rt);
     let scan = match index.scan(rt.alloc(), &from, &upto, 100) {
         Ok(scan) => Ok(scan),
         Err(_) => index.scan(rt.alloc(), &from, &upto, 100),
     };
-    expect_whole(&rt, scan, 20);
+    expect_whole_scan(&rt, scan, 20);
 }
 
 /// Inserts `key`. Where memory was refused, the key is absent, and an upsert adds it.
@@ -222,7 +222,7 @@ fn insert_in_trie(rt: &impl Abort, trie: &mut PlainTrie, key: &Key) {
 
 /// An insert that was refused memory adds nothing, and an upsert then does; a scan has all forty keys.
 #[test]
-fn a_plain_trie_stays_as_it_was(rt: HostRuntime) {
+fn a_plain_trie_refused_memory_stays_as_it_was(rt: HostRuntime) {
     let mut trie = PlainTrie::new(rt.alloc());
     for byte in 1..=40u8 {
         insert_in_trie(&rt, &mut trie, &key(&rt, &[byte]));
@@ -232,5 +232,5 @@ fn a_plain_trie_stays_as_it_was(rt: HostRuntime) {
         Ok(scan) => Ok(scan),
         Err(_) => trie.scan(rt.alloc(), &from, &upto, 100),
     };
-    expect_whole(&rt, scan, 40);
+    expect_whole_scan(&rt, scan, 40);
 }

@@ -21,20 +21,20 @@ pub fn ends(rt: &impl Abort) -> (Key, Key) {
 }
 
 /// An index of two nodes and eight leaves with `passes` passes, and these passes. Where memory is refused once, the next call makes it.
-pub fn index_of(rt: &impl Abort, alloc: Global, passes: u32) -> (Index, Vec<Pass>)
+pub fn make_index(rt: &impl Abort, alloc: Global, passes: u32) -> (Index, Vec<Pass>)
     ensures { All (Owns result.0) result.1.items }
 {
     match create(alloc, passes, 2, 8) {
         Ok(made) => made,
         Err(fault) => {
             assert!(rt; matches!(fault, IndexFault::Memory));
-            create_again(rt, alloc, passes)
+            make_index_again(rt, alloc, passes)
         }
     }
 }
 
-/// Creates the index of `index_of` at a second try, which is not refused.
-fn create_again(rt: &impl Abort, alloc: Global, passes: u32) -> (Index, Vec<Pass>)
+/// Creates the index of `make_index` at a second try, which is not refused.
+fn make_index_again(rt: &impl Abort, alloc: Global, passes: u32) -> (Index, Vec<Pass>)
     ensures { All (Owns result.0) result.1.items }
 {
     match create(alloc, passes, 2, 8) {

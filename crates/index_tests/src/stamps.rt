@@ -12,7 +12,7 @@ use std::test::*;
 use std::thread::{Threads, join};
 
 /// Inserts `key` with `pass`, which ends then. Returns whether the key was inserted, and a stamp of what the pass had seen.
-fn insert_stamped<R: Wait>(rt: &R, index: &Index, mut pass: Pass, key: &Key) -> (bool, Stamp)
+fn insert_and_stamp<R: Wait>(rt: &R, index: &Index, mut pass: Pass, key: &Key) -> (bool, Stamp)
     requires { Owns index.now pass }
     ensures { IsStampFrom index.now result.1 }
 {
@@ -20,7 +20,7 @@ fn insert_stamped<R: Wait>(rt: &R, index: &Index, mut pass: Pass, key: &Key) -> 
     (told == Ok(Reply::Inserted), index.stamp(&mut pass))
 }
 
-/// Inserts two keys at the same time, each by a thread. Returns what `insert_stamped` does, for each.
+/// Inserts two keys at the same time, each by a thread. Returns what `insert_and_stamp` does, for each.
 fn insert_in_threads<R: Threads + Wait + Sync>(
     rt: &R,
     index: &Index,
@@ -38,11 +38,11 @@ fn insert_in_threads<R: Threads + Wait + Sync>(
         || -> (bool, Stamp)
             requires { Owns index.now first }
             ensures { IsStampFrom index.entry.now result.1 }
-        { insert_stamped(rt, index, first, &keys.0) },
+        { insert_and_stamp(rt, index, first, &keys.0) },
         || -> (bool, Stamp)
             requires { Owns index.now second }
             ensures { IsStampFrom index.entry.now result.1 }
-        { insert_stamped(rt, index, second, &keys.1) },
+        { insert_and_stamp(rt, index, second, &keys.1) },
     )
 }
 
@@ -68,7 +68,7 @@ fn follow_and_find<R: Abort + Threads + Wait + Sync>(
 
 #[test]
 fn a_pass_that_follows_stamps_finds_what_they_tell_of(rt: HostRuntime) {
-    let (index, mut passes) = index_of(&rt, rt.alloc(), 3);
+    let (index, mut passes) = make_index(&rt, rt.alloc(), 3);
     let first = pop_pass(&rt, &index, &mut passes);
     let second = pop_pass(&rt, &index, &mut passes);
     let mut last = pop_pass(&rt, &index, &mut passes);

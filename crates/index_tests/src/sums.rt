@@ -13,7 +13,7 @@ use std::thread::{Threads, join};
 const TIMES: u64 = 1000;
 
 /// Adds one to the value of `key`, `TIMES` times. Returns how often the key was there.
-fn add_often<R: Wait>(rt: &R, index: &Index, pass: Pass, key: &Key) -> u64
+fn add_many_times<R: Wait>(rt: &R, index: &Index, pass: Pass, key: &Key) -> u64
     requires { Owns index.now pass }
 {
     let mut guest = Handle::new(index, pass);
@@ -41,15 +41,15 @@ fn add_in_threads<R: Threads + Wait + Sync>(
         rt,
         || -> u64
             requires { Owns index.now first }
-        { add_often(rt, index, first, key) },
+        { add_many_times(rt, index, first, key) },
         || -> u64
             requires { Owns index.now second }
-        { add_often(rt, index, second, key) },
+        { add_many_times(rt, index, second, key) },
     )
 }
 
 /// An absent key stays absent. One that is there gets each sum, modulo 2 to the power of 64, and has the value 0 in the end.
-fn add_alone(rt: &(impl Abort + Wait), index: &Index, pass: &mut Pass, key: &Key)
+fn add_by_one_pass(rt: &(impl Abort + Wait), index: &Index, pass: &mut Pass, key: &Key)
     requires { Owns index.now pass.old }
     ensures { Owns index.now pass.new }
 {
@@ -64,12 +64,12 @@ fn add_alone(rt: &(impl Abort + Wait), index: &Index, pass: &mut Pass, key: &Key
 /// Sums of one pass go beyond the greatest number to 0; two threads that add at the same time lose nothing.
 #[test]
 fn what_two_threads_add_is_the_sum(rt: HostRuntime) {
-    let (index, mut passes) = index_of(&rt, rt.alloc(), 3);
+    let (index, mut passes) = make_index(&rt, rt.alloc(), 3);
     let first = pop_pass(&rt, &index, &mut passes);
     let second = pop_pass(&rt, &index, &mut passes);
     let mut last = pop_pass(&rt, &index, &mut passes);
     let one = key(&rt, &[1]);
-    add_alone(&rt, &index, &mut last, &one);
+    add_by_one_pass(&rt, &index, &mut last, &one);
     let added = add_in_threads(&rt, &index, (first, second), &one);
     assert!(rt; added == (TIMES, TIMES));
     assert!(rt; index.get(&mut last, &one) == Some(2 * TIMES));

@@ -14,7 +14,7 @@ use std::thread::{Threads, join};
 const MAX_LOOKS: u32 = 1_000_000;
 
 /// Looks for `key` until it is found, at most `MAX_LOOKS` times. Returns whether it was found.
-fn wait_for(guest: &mut Handle<&Index>, key: &Key) -> bool
+fn wait_for_key(guest: &mut Handle<&Index>, key: &Key) -> bool
     ensures { guest.new.index ≡ guest.old.index }
 {
     for _ in 0..MAX_LOOKS {
@@ -37,7 +37,7 @@ fn insert_and_find<'a, R: Wait>(
 {
     let told = guest.insert(rt, own, 1);
     (
-        wait_for(&mut guest, other) && told == Ok(Reply::Inserted),
+        wait_for_key(&mut guest, other) && told == Ok(Reply::Inserted),
         guest,
     )
 }
@@ -62,19 +62,19 @@ fn wait_for_each_other<R: Abort + Threads + Wait + Sync>(
     );
     assert!(rt; ours.0 && theirs.0);
     let (mut first, mut second) = ours.1.meet(theirs.1);
-    find_both(rt, &mut first, keys);
-    find_both(rt, &mut second, keys);
+    find_both_keys(rt, &mut first, keys);
+    find_both_keys(rt, &mut second, keys);
 }
 
 /// `guest` finds both keys.
-fn find_both(rt: &impl Abort, guest: &mut Handle<&Index>, keys: &(Key, Key)) {
+fn find_both_keys(rt: &impl Abort, guest: &mut Handle<&Index>, keys: &(Key, Key)) {
     assert!(rt; guest.get(&keys.0) == Some(1) && guest.get(&keys.1) == Some(1));
 }
 
 /// Each of two threads finds the key of the other; both passes find both keys once they have met.
 #[test]
 fn threads_find_each_others_keys(rt: HostRuntime) {
-    let (index, mut passes) = index_of(&rt, rt.alloc(), 2);
+    let (index, mut passes) = make_index(&rt, rt.alloc(), 2);
     let first = Handle::new(&index, pop_pass(&rt, &index, &mut passes));
     let second = Handle::new(&index, pop_pass(&rt, &index, &mut passes));
     let keys = (key(&rt, &[0]), key(&rt, &[1]));

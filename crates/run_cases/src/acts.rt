@@ -50,7 +50,7 @@ struct Line {
 
 impl Line {
     /// The line of the step `name` on `thing`, with no detail and nothing found.
-    fn on(name: &'static str, thing: Thing) -> Line {
+    fn of_thing(name: &'static str, thing: Thing) -> Line {
         Line {
             name,
             thing,
@@ -60,15 +60,15 @@ impl Line {
     }
 
     /// The line of the step `name` on `thing`, with `number`, which it stored, loaded or found.
-    fn found(name: &'static str, thing: Thing, number: u64) -> Line {
+    fn of_number(name: &'static str, thing: Thing, number: u64) -> Line {
         Line {
             found: Found::Number(number),
-            ..Line::on(name, thing)
+            ..Line::of_thing(name, thing)
         }
     }
 
     /// The line of the step `name` on the word of `rec` at `offset`, which is `word`.
-    fn word(name: &'static str, rec: Rec, offset: u8, word: u64) -> Line {
+    fn of_word(name: &'static str, rec: Rec, offset: u8, word: u64) -> Line {
         Line {
             name,
             thing: thing_of_record(rec),
@@ -103,37 +103,45 @@ fn thing_of_target(target: Target) -> Thing {
 }
 
 /// The line of the step `act`.
-fn line_of(act: &Act) -> Line {
+fn line_of_act(act: &Act) -> Line {
     match *act {
-        Act::Claim { rec, found } => Line::found("claim", thing_of_record(rec), found),
-        Act::Fill { rec, offset, word } => Line::word("fill", rec, offset, word),
-        Act::Ready { rec } => Line::on("ready", thing_of_record(rec)),
-        Act::Release { rec } => Line::on("release", thing_of_record(rec)),
-        Act::LoadRef { spot, word } => Line::found("load_ref", thing_of_spot(spot), word),
-        Act::LoadFixed { rec, offset, word } => Line::word("load_fixed", rec, offset, word),
-        Act::Lock { target, found } => Line::found("lock", thing_of_target(target), found),
-        Act::Unlock { target } => Line::on("unlock", thing_of_target(target)),
-        Act::Publish { spot, word } => Line::found("publish", thing_of_spot(spot), word),
+        Act::Claim { rec, found } => Line::of_number("claim", thing_of_record(rec), found),
+        Act::Fill { rec, offset, word } => Line::of_word("fill", rec, offset, word),
+        Act::Ready { rec } => Line::of_thing("ready", thing_of_record(rec)),
+        Act::Release { rec } => Line::of_thing("release", thing_of_record(rec)),
+        Act::LoadRef { spot, word } => Line::of_number("load_ref", thing_of_spot(spot), word),
+        Act::LoadFixed { rec, offset, word } => Line::of_word("load_fixed", rec, offset, word),
+        Act::Lock { target, found } => Line::of_number("lock", thing_of_target(target), found),
+        Act::Unlock { target } => Line::of_thing("unlock", thing_of_target(target)),
+        Act::Publish { spot, word } => Line::of_number("publish", thing_of_spot(spot), word),
         Act::Mark { rec, epoch } => Line {
             detail: Some(("in", epoch)),
-            ..Line::on("mark", thing_of_record(rec))
+            ..Line::of_thing("mark", thing_of_record(rec))
         },
-        Act::LoadEpoch { word } => Line::found("load_epoch", Thing::Nothing, word),
-        Act::Advance { expected, found } => Line::found("advance", Thing::Number(expected), found),
-        Act::SetPin { word } => Line::found("set_pin", Thing::Nothing, word),
-        Act::ClearPin => Line::on("clear_pin", Thing::Nothing),
-        Act::LoadPin { of, word } => Line::found("load_pin", Thing::Number(u64::from(of)), word),
-        Act::LoadState { rec, word } => Line::found("load_state", thing_of_record(rec), word),
+        Act::LoadEpoch { word } => Line::of_number("load_epoch", Thing::Nothing, word),
+        Act::Advance { expected, found } => Line::of_number(
+            "advance",
+            Thing::Number(expected),
+            found,
+        ),
+        Act::SetPin { word } => Line::of_number("set_pin", Thing::Nothing, word),
+        Act::ClearPin => Line::of_thing("clear_pin", Thing::Nothing),
+        Act::LoadPin { of, word } => Line::of_number(
+            "load_pin",
+            Thing::Number(u64::from(of)),
+            word,
+        ),
+        Act::LoadState { rec, word } => Line::of_number("load_state", thing_of_record(rec), word),
         Act::GiveBack { rec, epoch, found } => Line {
             detail: Some(("of", epoch)),
-            ..Line::found("give_back", thing_of_record(rec), found)
+            ..Line::of_number("give_back", thing_of_record(rec), found)
         },
     }
 }
 
 /// Adds the step `act` to `text`: its name, on what it is, and the word that it stored, loaded or found. An error if memory is refused.
 pub fn write_act(text: &mut String, act: &Act) -> Result<(), AllocError> {
-    let line = line_of(act);
+    let line = line_of_act(act);
     write!(text, "{}{}", line.name, line.thing)?;
     if let Some((word, number)) = line.detail {
         write!(text, " {word} {number}")?;

@@ -9,7 +9,7 @@ use std::io::ErrorKind;
 /// What a pass may do: make a call, list so many pairs, or make a round of collection. It lists from the lowest key on, or from the
 /// highest one downwards.
 #[derive(Drop)]
-pub enum Deed {
+pub enum Task {
     Make(Call),
     Scan(usize),
     ScanReverse(usize),
@@ -23,7 +23,7 @@ pub struct Case<'a> {
     pub nodes: u32,
     pub leaves: u32,
     /// What pass 0 does beforehand.
-    pub before: Vec<Deed>,
+    pub before: Vec<Task>,
     /// What another pass does at a stop: each of these lines once.
     pub others: Vec<&'a str>,
     /// The keys of what is done by chance.
@@ -44,8 +44,8 @@ impl<'a> Case<'a> {
     }
 
     /// Begins a new case, on an index of as many nodes and leaves as the two numbers of `text` say. `bad_line` if it hasn't these.
-    pub fn begin(&mut self, text: &str) -> io::Result<()> {
-        (self.nodes, self.leaves) = parse_two(text)?;
+    pub fn begin_case(&mut self, text: &str) -> io::Result<()> {
+        (self.nodes, self.leaves) = parse_two_numbers(text)?;
         self.before.clear();
         self.others.clear();
         self.keys.clear();
@@ -59,7 +59,7 @@ pub fn bad_line() -> io::Error {
 }
 
 /// The two numbers of `text`, with a blank between them; `bad_line` if it is anything else.
-pub fn parse_two(text: &str) -> io::Result<(u32, u32)> {
+pub fn parse_two_numbers(text: &str) -> io::Result<(u32, u32)> {
     match text.split_once(' ') {
         Some((first, second)) => Ok((parse_count(first)?, parse_count(second)?)),
         None => Err(bad_line()),
@@ -76,38 +76,39 @@ fn parse_count(word: &str) -> io::Result<u32> {
     word.parse::<u32>().map_err(|_| bad_line())
 }
 
-/// Adds the deeds of `text`, which are parted by commas, to `deeds`. `bad_line` at a part that is none; an error if memory is refused.
-pub fn parse_deeds(deeds: &mut Vec<Deed>, text: &str) -> io::Result<()> {
-    let alloc = *deeds.allocator();
+/// Adds the tasks of `text`, parted by commas, to the end of `tasks`. `bad_line` at the first part that is no task; an error if memory is
+/// refused. The tasks before that stay in `tasks`.
+pub fn parse_tasks(tasks: &mut Vec<Task>, text: &str) -> io::Result<()> {
+    let alloc = *tasks.allocator();
     for part in text.split(',') {
         let words: Vec<&str> = part.split_whitespace().collect(alloc)?;
-        parse_deed(deeds, &words)?;
+        parse_task(tasks, &words)?;
     }
     Ok(())
 }
 
-/// Adds the deed of `words` to `deeds`: of a call, one for each of its keys. `bad_line` if it is none; an error if memory is refused.
-fn parse_deed(deeds: &mut Vec<Deed>, words: &[&str]) -> io::Result<()> {
+/// Adds the task of `words` to `tasks`: of a call, one for each of its keys. `bad_line` if it is none; an error if memory is refused.
+fn parse_task(tasks: &mut Vec<Task>, words: &[&str]) -> io::Result<()> {
     let (name, word, value) = match *words {
-        ["collect"] => return Ok(deeds.push(Deed::Collect)?),
-        ["scan", limit] => return Ok(deeds.push(Deed::Scan(parse_count(limit)? as usize))?),
-        ["scan_reverse", limit] => return Ok(deeds.push(Deed::ScanReverse(
+        ["collect"] => return Ok(tasks.push(Task::Collect)?),
+        ["scan", limit] => return Ok(tasks.push(Task::Scan(parse_count(limit)? as usize))?),
+        ["scan_reverse", limit] => return Ok(tasks.push(Task::ScanReverse(
             parse_count(limit)? as usize,
         ))?),
         [name, word] => (name, word, 0),
         [name, word, value] => (name, word, parse_number(value)?),
         _ => return Err(bad_line()),
     };
-    let mut keys = Vec::new(*deeds.allocator());
+    let mut keys = Vec::new(*tasks.allocator());
     parse_keys(&mut keys, word)?;
     for key in keys {
-        deeds.push(Deed::Make(call_of(name, key, value)?))?;
+        tasks.push(Task::Make(call_by_name(name, key, value)?))?;
     }
     Ok(())
 }
 
 /// The call `name` with `key` and `value`. An exchange expects `value` and gives the key the next one. `bad_line` if there is no such call.
-fn call_of(name: &str, key: Key, value: u64) -> io::Result<Call> {
+fn call_by_name(name: &str, key: Key, value: u64) -> io::Result<Call> {
     match name {
         "insert" => Ok(Call::Insert(key, value)),
         "upsert" => Ok(Call::Upsert(key, value)),
@@ -128,7 +129,7 @@ pub fn parse_keys(keys: &mut Vec<Key>, text: &str) -> io::Result<()> {
             Some((first, last)) => {
                 let (first, last) = (parse_byte(first)?, parse_byte(last)?);
                 for byte in first..=last {
-                    keys.push(key_of(&[byte])?)?;
+                    keys.push(make_key(&[byte])?)?;
                 }
             }
             None => keys.push(parse_key(word)?)?,
@@ -147,7 +148,7 @@ fn parse_byte(word: &str) -> io::Result<u8> {
 /// The key that `word` stands for: hexadecimal digits, or a dash if it is empty; `bad_line` if it is none.
 fn parse_key(word: &str) -> io::Result<Key> {
     if word == "-" {
-        return key_of(&[]);
+        return make_key(&[]);
     }
     if word.len() > 2 * MAX_BYTES {
         return Err(bad_line());
@@ -155,10 +156,10 @@ fn parse_key(word: &str) -> io::Result<Key> {
     let mut room = [0u8; MAX_BYTES];
     let bytes = &mut room[..word.len() / 2];
     hex::decode_to_slice(word, bytes).map_err(|_| bad_line())?;
-    key_of(bytes)
+    make_key(bytes)
 }
 
 /// The key of `bytes`; `bad_line` if they are more than 240.
-fn key_of(bytes: &[u8]) -> io::Result<Key> {
+fn make_key(bytes: &[u8]) -> io::Result<Key> {
     Key::from_bytes(bytes).map_err(|_| bad_line())
 }

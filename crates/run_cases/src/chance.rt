@@ -1,10 +1,10 @@
-//! Runs of two passes by chance, the deeds of one in the middle of the other's.
+//! Runs of two passes by chance, the tasks of one in the middle of the other's.
 
 ghost use Rattle.std.specs.Prelude.{All};
 ghost use Rattle.seat_calls.specs.Passes.{Owns};
 
-use crate::cases::{Case, Deed, parse_two};
-use crate::guests::{Guest, do_deeds, lowest, open};
+use crate::cases::{Case, Task, parse_two_numbers};
+use crate::guests::{Guest, create_index, do_tasks, lowest_key};
 use crate::judge::{Stopper, seat_guest, verdict};
 use finite_map::Call;
 use hot_index::{Index, Pass};
@@ -26,21 +26,21 @@ impl Chance {
         (self.0 >> 33).checked_rem(bound).unwrap_or(0)
     }
 
-    /// The next deed by chance: with one of `keys`, or the empty key if there is none, and with `value` if it takes one.
-    pub fn next_deed(&mut self, keys: &[Key], value: u64) -> Deed {
+    /// The next task by chance: with one of `keys`, or the empty key if there is none, and with `value` if it takes one.
+    pub fn next_task(&mut self, keys: &[Key], value: u64) -> Task {
         let kind = self.next_below(16);
         let key = match keys.get(self.next_below(keys.len() as u64) as usize) {
             Some(key) => key.copy(),
-            None => lowest(),
+            None => lowest_key(),
         };
         match kind {
-            0..=4 => Deed::Make(Call::Insert(key, value)),
-            5..=7 => Deed::Make(Call::Upsert(key, value)),
-            8 => Deed::Make(Call::Add(key, value)),
-            9..=12 => Deed::Make(Call::Remove(key)),
-            13 => Deed::Make(Call::Get(key)),
-            14 => Deed::Scan(4),
-            _ => Deed::Collect,
+            0..=4 => Task::Make(Call::Insert(key, value)),
+            5..=7 => Task::Make(Call::Upsert(key, value)),
+            8 => Task::Make(Call::Add(key, value)),
+            9..=12 => Task::Make(Call::Remove(key)),
+            13 => Task::Make(Call::Get(key)),
+            14 => Task::Scan(4),
+            _ => Task::Collect,
         }
     }
 }
@@ -48,14 +48,14 @@ impl Chance {
 /// Takes turns on a new index, and prints whether all were lawful. `text` has the seed and how many turns; `bad_line` if it hasn't. An
 /// error if memory is refused, or a write failed.
 pub fn run_turns<R: Print + AllocGlobal>(rt: &R, case: &Case, text: &str) -> io::Result<()> {
-    let (seed, turns) = parse_two(text)?;
-    let (index, passes) = open(case.alloc, 2, case.nodes, case.leaves)?;
-    let wrong = count_wrong(case, &index, passes, seed, turns)?;
+    let (seed, turns) = parse_two_numbers(text)?;
+    let (index, passes) = create_index(case.alloc, 2, case.nodes, case.leaves)?;
+    let wrong = take_turns_on_index(case, &index, passes, seed, turns)?;
     println!(rt; "{turns} turns from {seed}: {}", verdict(wrong))
 }
 
 /// Does what `take_turns` does, on `index`, which was just made, with its two `passes`.
-fn count_wrong(
+fn take_turns_on_index(
     case: &Case,
     index: &Index,
     passes: Vec<Pass>,
@@ -83,7 +83,7 @@ fn take_turns(
     Ok(gate.judge.wrong)
 }
 
-/// Makes a deed by chance, after one of whose steps the other pass makes another one. In each 32nd `turn` it compares the index with the
+/// Makes a task by chance, after one of whose steps the other pass makes another one. In each 32nd `turn` it compares the index with the
 /// replay, and drops the steps that were kept. An error if memory is refused.
 fn take_turn(
     case: &Case,
@@ -92,17 +92,17 @@ fn take_turn(
     chance: &mut Chance,
     turn: u64,
 ) -> Result<(), AllocError> {
-    let deed = chance.next_deed(&case.keys, turn);
-    gate.deeds.clear();
-    gate.deeds.push(chance.next_deed(&case.keys, turn))?;
+    let task = chance.next_task(&case.keys, turn);
+    gate.tasks.clear();
+    gate.tasks.push(chance.next_task(&case.keys, turn))?;
     gate.left = chance.next_below(160).wrapping_add(1);
     let mut said = String::new(case.alloc);
-    do_deeds(guest, &[deed], gate, &mut said)?;
+    do_tasks(guest, &[task], gate, &mut said)?;
     if turn % 32 == 0 {
         gate.left = 0;
         gate.said.clear();
         gate.judge.told.clear();
-        gate.judge.compare(case.alloc, guest)?;
+        gate.judge.judge_scans(case.alloc, guest)?;
     }
     Ok(())
 }

@@ -3,14 +3,19 @@
 ghost use Rattle.std.specs.Prelude.{IfOk, All};
 ghost use Rattle.seat_calls.specs.Passes.{Owns};
 
-use crate::cases::{Deed, bad_line};
+use crate::cases::{Task, bad_line};
 use hot_index::{Gate, Handle, Index, Pairs, Pass, Reply, Scan, TryFault, create};
 use key_bits::Key;
 use std::alloc::{AllocError, Global};
 use std::io;
 
 /// A new index of these numbers of passes, node and leaf records, and its passes. `bad_line` if `create` has a fault.
-pub fn open(alloc: Global, passes: u32, nodes: u32, leaves: u32) -> io::Result<(Index, Vec<Pass>)>
+pub fn create_index(
+    alloc: Global,
+    passes: u32,
+    nodes: u32,
+    leaves: u32,
+) -> io::Result<(Index, Vec<Pass>)>
     ensures { IfOk result (λ made. All (Owns made.0) made.1.items) }
 {
     match create(alloc, passes, nodes, leaves) {
@@ -23,7 +28,7 @@ pub fn open(alloc: Global, passes: u32, nodes: u32, leaves: u32) -> io::Result<(
 pub type Guest<'a> = Handle<&'a Index>;
 
 /// Takes the last of `passes`, those of `index` that are left, as a guest there. `bad_line` if none is left.
-pub fn next_guest<'a>(index: &'a Index, passes: &mut Vec<Pass>) -> io::Result<Guest<'a>>
+pub fn pop_guest<'a>(index: &'a Index, passes: &mut Vec<Pass>) -> io::Result<Guest<'a>>
     requires { All (Owns index.now) passes.old.items }
     ensures { All (Owns index.now) passes.new.items }
 {
@@ -33,29 +38,29 @@ pub fn next_guest<'a>(index: &'a Index, passes: &mut Vec<Pass>) -> io::Result<Gu
     }
 }
 
-/// Does `deeds` by `guest`; `gate` is told each step. What each was answered goes to `said`, behind a semicolon. An error if memory is
+/// Does `tasks` by `guest`; `gate` is told each step. What each was answered goes to `said`, behind a semicolon. An error if memory is
 /// refused.
-pub fn do_deeds<G: Gate>(
+pub fn do_tasks<G: Gate>(
     guest: &mut Guest,
-    deeds: &[Deed],
+    tasks: &[Task],
     gate: &mut G,
     said: &mut String,
 ) -> Result<(), AllocError> {
-    for deed in deeds.iter() {
+    for task in tasks.iter() {
         write!(said, "; ")?;
-        match deed {
-            Deed::Make(call) => {
+        match task {
+            Task::Make(call) => {
                 write_reply(said, guest.index.try_call_with(&mut guest.pass, call, gate))?;
             }
-            Deed::Scan(limit) => {
+            Task::Scan(limit) => {
                 let scan = scan_from_lowest(guest, *said.allocator(), *limit, gate)?;
                 write_scan(said, &scan)?;
             }
-            Deed::ScanReverse(limit) => {
+            Task::ScanReverse(limit) => {
                 let scan = scan_from_highest(guest, *said.allocator(), *limit, gate)?;
                 write_scan(said, &scan)?;
             }
-            Deed::Collect => {
+            Task::Collect => {
                 let given = guest.index.collect_with(&mut guest.pass, gate);
                 write!(said, "given {} {}", given.nodes, given.leaves)?;
             }
@@ -72,7 +77,7 @@ pub fn scan_from_lowest<G: Gate>(
     gate: &mut G,
 ) -> Result<Scan, AllocError> {
     let (index, pass) = (guest.index, &mut guest.pass);
-    index.scan_with(alloc, pass, &lowest(), &highest(), limit, gate)
+    index.scan_with(alloc, pass, &lowest_key(), &highest_key(), limit, gate)
 }
 
 /// Scans for the last `limit` pairs of the index, in falling order. `gate` is told each step. An error if memory is refused.
@@ -84,21 +89,28 @@ pub fn scan_from_highest<G: Gate>(
 ) -> Result<Scan, AllocError> {
     let (index, pass) = (guest.index, &mut guest.pass);
     let mut list = Pairs::new(alloc);
-    let more = index.scan_reverse_into_with(pass, &lowest(), &highest(), limit, &mut list, gate)?;
+    let more = index.scan_reverse_into_with(
+        pass,
+        &lowest_key(),
+        &highest_key(),
+        limit,
+        &mut list,
+        gate,
+    )?;
     let pairs = list.to_vec(alloc)?;
     Ok(Scan { pairs, more })
 }
 
 /// The key of no bytes, below which there is none.
-pub fn lowest() -> Key {
+pub fn lowest_key() -> Key {
     Key::from_padded([0; 240], 0)
 }
 
 /// The key of 240 bytes 255, above which there is none.
-fn highest() -> Key {
+fn highest_key() -> Key {
     match Key::from_bytes(&[255; 240]) {
         Ok(key) => key,
-        Err(_) => lowest(),
+        Err(_) => lowest_key(),
     }
 }
 

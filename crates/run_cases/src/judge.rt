@@ -3,8 +3,8 @@
 ghost use Rattle.std.specs.Prelude.{All};
 ghost use Rattle.seat_calls.specs.Passes.{Owns};
 
-use crate::cases::{Case, Deed, bad_line};
-use crate::guests::{Guest, do_deeds, next_guest, scan_from_highest, scan_from_lowest};
+use crate::cases::{Case, Task, bad_line};
+use crate::guests::{Guest, do_tasks, pop_guest, scan_from_highest, scan_from_lowest};
 use hot_index::{Event, Gate, Index, Pass, Scan};
 use record_words::Layout;
 use rowex_replay::Replay;
@@ -32,17 +32,17 @@ impl Judge {
 
     /// Compares a scan of all keys by `guest`, and one downwards, with the map that the steps so far have made. It counts each that differs
     /// as wrong. An error if memory is refused.
-    pub fn compare(&mut self, alloc: Global, guest: &mut Guest) -> Result<(), AllocError> {
+    pub fn judge_scans(&mut self, alloc: Global, guest: &mut Guest) -> Result<(), AllocError> {
         let up = scan_from_lowest(guest, alloc, usize::MAX, self)?;
-        self.compare_scan(alloc, &up)?;
+        self.judge_scan(alloc, &up)?;
         let mut down = scan_from_highest(guest, alloc, usize::MAX, self)?;
         down.pairs.reverse();
-        self.compare_scan(alloc, &down)
+        self.judge_scan(alloc, &down)
     }
 
     /// Counts one wrong if `scan`, upwards, has other pairs than the map that the steps so far have made, or says that there are more. An
     /// error, and nothing counted, if memory is refused.
-    fn compare_scan(&mut self, alloc: Global, scan: &Scan) -> Result<(), AllocError> {
+    fn judge_scan(&mut self, alloc: Global, scan: &Scan) -> Result<(), AllocError> {
         let content = self.replay.content(alloc)?;
         if scan.more || scan.pairs != content {
             self.wrong = self.wrong.wrapping_add(1);
@@ -72,7 +72,7 @@ pub struct Stopper<'a> {
     pub judge: Judge,
     other: Guest<'a>,
     /// What the other pass does.
-    pub deeds: Vec<Deed>,
+    pub tasks: Vec<Task>,
     /// After how many steps from now on it does so; never, where that is 0.
     pub left: u64,
     /// What the other pass was answered.
@@ -85,9 +85,9 @@ impl<'a> Gate for Stopper<'a> {
     fn at(&mut self, event: &Event) {
         self.judge.at(event);
         if self.left == 1 {
-            let done = do_deeds(
+            let done = do_tasks(
                 &mut self.other,
-                &self.deeds,
+                &self.tasks,
                 &mut self.judge,
                 &mut self.said,
             );
@@ -109,16 +109,16 @@ pub fn seat_guest<'a>(
     requires { All (Owns index.now) passes.items }
 {
     let alloc = case.alloc;
-    let other = next_guest(index, &mut passes)?;
-    let mut guest = next_guest(index, &mut passes)?;
+    let other = pop_guest(index, &mut passes)?;
+    let mut guest = pop_guest(index, &mut passes)?;
     let mut gate = Stopper {
         judge: Judge::new(alloc, 2, case.nodes, case.leaves)?,
         other,
-        deeds: Vec::new(alloc),
+        tasks: Vec::new(alloc),
         left: 0,
         said: String::new(alloc),
     };
     let mut said = String::new(alloc);
-    do_deeds(&mut guest, &case.before, &mut gate, &mut said)?;
+    do_tasks(&mut guest, &case.before, &mut gate, &mut said)?;
     Ok((guest, gate))
 }

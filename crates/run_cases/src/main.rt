@@ -1,13 +1,13 @@
 //! Runs of several passes on small indexes, as cases in files ask for them: each step is judged by a replay, and what happened is
-//! printed. A line of a case is one of these; a deed is a call (`insert 61 5`), `scan 9`, `scan_reverse 9` or `collect`, and commas
-//! part deeds.
+//! printed. A line of a case is one of these; a task is a call (`insert 61 5`), `scan 9`, `scan_reverse 9` or `collect`, and commas
+//! part tasks.
 //!
-//! - `index NODES LEAVES` begins a new case, `before DEEDS` says what pass 0 does on each new index, `other DEEDS` what pass 1 may
-//!   do at a stop, and `keys KEY ..` with which keys deeds are made by chance
-//! - `steps DEEDS` prints each step of what pass 0 does
-//! - `stop DEEDS` stops pass 0 after each of its steps, for each of the `other` lines; `tell DEEDS` also prints what both were
+//! - `index NODES LEAVES` begins a new case, `before TASKS` says what pass 0 does on each new index, `other TASKS` what pass 1 may
+//!   do at a stop, and `keys KEY ..` with which keys tasks are made by chance
+//! - `steps TASKS` prints each step of what pass 0 does
+//! - `stop TASKS` stops pass 0 after each of its steps, for each of the `other` lines; `tell TASKS` also prints what both were
 //!   answered, for each range of stops
-//! - `chance SEED TURNS` makes deeds by chance in the middle of others
+//! - `chance SEED TURNS` makes tasks by chance in the middle of others
 //! - `threads COUNT ORDERS` lets threads step one at a time, in orders made from seeds
 #![tactic(auto)]
 
@@ -19,13 +19,13 @@ mod judge;
 mod stops;
 mod turns;
 
-use crate::cases::{Case, parse_deeds, parse_keys};
+use crate::cases::{Case, parse_keys, parse_tasks};
 use std::rt::{Env, Files};
 use std::thread::Threads;
 use std::{fs, io};
 
 /// Runs the cases in the files that the command line names, and prints each name first. An error of the first that has one.
-fn run<R>(rt: &R) -> io::Result<()>
+fn run_named_files<R>(rt: &R) -> io::Result<()>
 where
     R: Env + Files + Print + AllocGlobal + Threads + Sync,
 {
@@ -57,20 +57,20 @@ where
     let (word, rest) = line.split_once(' ').unwrap_or((line, ""));
     match word {
         "" | "#" => Ok(()),
-        "index" => case.begin(rest),
-        "before" => parse_deeds(&mut case.before, rest),
+        "index" => case.begin_case(rest),
+        "before" => parse_tasks(&mut case.before, rest),
         "other" => Ok(case.others.push(rest)?),
         "keys" => parse_keys(&mut case.keys, rest),
         "steps" => stops::print_steps(rt, case, rest),
-        "stop" => stops::stop_for_each(rt, case, rest, false),
-        "tell" => stops::stop_for_each(rt, case, rest, true),
+        "stop" => stops::stop_for_each_other(rt, case, rest, false),
+        "tell" => stops::stop_for_each_other(rt, case, rest, true),
         "chance" => chance::run_turns(rt, case, rest),
-        "threads" => turns::run_seeds(rt, case, rest),
+        "threads" => turns::run_orders(rt, case, rest),
         _ => Err(cases::bad_line()),
     }
 }
 
-/// Runs the cases. An error as of `run`.
+/// Runs the cases in the files that the command line names. The error of the first file that has one.
 fn main(rt: HostRuntime) -> io::Result<()> {
-    run(&rt)
+    run_named_files(&rt)
 }

@@ -4,8 +4,8 @@ ghost use Rattle.std.specs.Prelude.{All};
 ghost use Rattle.seat_calls.specs.Passes.{Owns};
 
 use crate::acts::write_act;
-use crate::cases::{Case, Deed, bad_line, parse_deeds};
-use crate::guests::{do_deeds, open};
+use crate::cases::{Case, Task, bad_line, parse_tasks};
+use crate::guests::{create_index, do_tasks};
 use crate::judge::{seat_guest, verdict};
 use hot_index::{Event, Index, Pass};
 use std::alloc::AllocError;
@@ -14,16 +14,16 @@ use std::{io, mem};
 /// More steps than a pass makes in any case.
 const MAX_STEPS: u64 = 10_000;
 
-/// Lets pass 0 of a new index do the deeds of `text`. Prints what it was answered, a line for each of its steps, and whether all were
-/// lawful. `bad_line` at a part of `text` that is no deed; an error if memory is refused, or a write failed.
+/// Lets pass 0 of a new index do the tasks of `text`. Prints what it was answered, a line for each of its steps, and whether all were
+/// lawful. `bad_line` at a part of `text` that is no task; an error if memory is refused, or a write failed.
 pub fn print_steps<R: Print + AllocGlobal>(rt: &R, case: &Case, text: &str) -> io::Result<()> {
     let mut lines = String::new(case.alloc);
-    let (index, passes) = open(case.alloc, 2, case.nodes, case.leaves)?;
+    let (index, passes) = create_index(case.alloc, 2, case.nodes, case.leaves)?;
     write_steps(case, &index, passes, text, &mut lines)?;
     println!(rt; "{text}{lines}")
 }
 
-/// Lets pass 0 of `index`, just made with `passes`, do the deeds of `text`. Adds what `print_steps` prints of that to `lines`.
+/// Lets pass 0 of `index`, just made with `passes`, do the tasks of `text`. Adds what `print_steps` prints of that to `lines`.
 fn write_steps(
     case: &Case,
     index: &Index,
@@ -34,12 +34,12 @@ fn write_steps(
     requires { All (Owns index.now) passes.items }
 {
     let (mut guest, mut gate) = seat_guest(case, index, passes)?;
-    let mut deeds = Vec::new(case.alloc);
-    parse_deeds(&mut deeds, text)?;
+    let mut tasks = Vec::new(case.alloc);
+    parse_tasks(&mut tasks, text)?;
     gate.judge.told.clear();
-    do_deeds(&mut guest, &deeds, &mut gate, lines)?;
+    do_tasks(&mut guest, &tasks, &mut gate, lines)?;
     write_acts(lines, &gate.judge.told)?;
-    gate.judge.compare(case.alloc, &mut guest)?;
+    gate.judge.judge_scans(case.alloc, &mut guest)?;
     Ok(write!(lines, "\n  {}", verdict(gate.judge.wrong))?)
 }
 
@@ -55,7 +55,7 @@ fn write_acts(lines: &mut String, told: &[Event]) -> Result<(), AllocError> {
 /// What pass 0 does on a case's index, and the line of what pass 1 does where pass 0 is stopped.
 struct Meeting<'a> {
     case: &'a Case<'a>,
-    deeds: &'a [Deed],
+    tasks: &'a [Task],
     other: &'a str,
 }
 
@@ -68,35 +68,40 @@ struct Stop {
     wrong: u64,
 }
 
-/// For each of the case's `other` lines stops pass 0, which does the deeds of `text`, after each of its steps. Prints how many stops there
-/// were and whether all were lawful. If `tells`, it also prints what both passes were answered. `bad_line` at a bad deed, or after
+/// For each of the case's `other` lines stops pass 0, which does the tasks of `text`, after each of its steps. Prints how many stops there
+/// were and whether all were lawful. If `tells`, it also prints what both passes were answered. `bad_line` at a bad task, or after
 /// `MAX_STEPS`; an error if memory is refused, or a write failed.
-pub fn stop_for_each<R: Print + AllocGlobal>(
+pub fn stop_for_each_other<R: Print + AllocGlobal>(
     rt: &R,
     case: &Case,
     text: &str,
     tells: bool,
 ) -> io::Result<()> {
-    let mut deeds = Vec::new(case.alloc);
-    parse_deeds(&mut deeds, text)?;
-    let deeds = &deeds;
+    let mut tasks = Vec::new(case.alloc);
+    parse_tasks(&mut tasks, text)?;
+    let tasks = &tasks;
     for other in case.others.iter() {
         print!(rt; "{text} | {other}")?;
-        stop_at_each(rt, &Meeting { case, deeds, other }, tells)?;
+        stop_at_each_step(rt, &Meeting { case, tasks, other }, tells)?;
     }
     Ok(())
 }
 
 /// Stops pass 0 after its first step, after its second, and so on, each time on a new index, until it makes fewer steps. If `tells`, it
-/// prints what both passes were answered, once for each range of stops with the same answers. Its errors are those of `stop_for_each`.
-fn stop_at_each<R: Print + AllocGlobal>(rt: &R, meeting: &Meeting, tells: bool) -> io::Result<()> {
+/// prints what both passes were answered, once for each range of stops with the same answers. Its errors are those of
+/// `stop_for_each_other`.
+fn stop_at_each_step<R: Print + AllocGlobal>(
+    rt: &R,
+    meeting: &Meeting,
+    tells: bool,
+) -> io::Result<()> {
     let alloc = meeting.case.alloc;
     let (mut said, mut before) = (String::new(alloc), String::new(alloc));
     let (mut first, mut wrong) = (1, 0u64);
     for step in 1..MAX_STEPS {
         mem::swap(&mut said, &mut before);
         said.clear();
-        let stop = stop_at(meeting, step, &mut said)?;
+        let stop = stop_at_step(meeting, step, &mut said)?;
         wrong = wrong.wrapping_add(stop.wrong);
         let stops = step.wrapping_sub(1);
         if tells && step > 1 && (!stop.is_made || said != before) {
@@ -111,14 +116,14 @@ fn stop_at_each<R: Print + AllocGlobal>(rt: &R, meeting: &Meeting, tells: bool) 
 }
 
 /// Stops pass 0 of a new index after `step` of its steps, and adds to `said` what both passes were answered. Returns what happened.
-fn stop_at(meeting: &Meeting, step: u64, said: &mut String) -> io::Result<Stop> {
+fn stop_at_step(meeting: &Meeting, step: u64, said: &mut String) -> io::Result<Stop> {
     let case = meeting.case;
-    let (index, passes) = open(case.alloc, 2, case.nodes, case.leaves)?;
-    stop_on(meeting, &index, passes, step, said)
+    let (index, passes) = create_index(case.alloc, 2, case.nodes, case.leaves)?;
+    stop_on_index(meeting, &index, passes, step, said)
 }
 
-/// Does what `stop_at` does, on `index`, which was just made, with its `passes`.
-fn stop_on(
+/// Does what `stop_at_step` does, on `index`, which was just made, with its `passes`.
+fn stop_on_index(
     meeting: &Meeting,
     index: &Index,
     passes: Vec<Pass>,
@@ -128,11 +133,11 @@ fn stop_on(
     requires { All (Owns index.now) passes.items }
 {
     let (mut guest, mut gate) = seat_guest(meeting.case, index, passes)?;
-    parse_deeds(&mut gate.deeds, meeting.other)?;
+    parse_tasks(&mut gate.tasks, meeting.other)?;
     gate.left = step;
-    do_deeds(&mut guest, meeting.deeds, &mut gate, said)?;
+    do_tasks(&mut guest, meeting.tasks, &mut gate, said)?;
     write!(said, "{}", gate.said)?;
-    gate.judge.compare(meeting.case.alloc, &mut guest)?;
+    gate.judge.judge_scans(meeting.case.alloc, &mut guest)?;
     Ok(Stop {
         is_made: gate.left == 0,
         wrong: gate.judge.wrong,

@@ -3,9 +3,9 @@
 ghost use Rattle.std.specs.Prelude.{All};
 ghost use Rattle.seat_calls.specs.Passes.{Owns};
 
-use crate::cases::{Case, parse_two};
+use crate::cases::{Case, parse_two_numbers};
 use crate::chance::Chance;
-use crate::guests::{Guest, do_deeds, next_guest, open};
+use crate::guests::{Guest, create_index, do_tasks, pop_guest};
 use crate::judge::{Judge, verdict};
 use hot_index::{Event, Gate, Handle, Index, Pass};
 use std::alloc::{AllocError, Global};
@@ -18,7 +18,7 @@ const FREE: u64 = u64::MAX;
 /// How often a thread looks whether it is its turn before it gives up.
 const MAX_LOOKS: u32 = 50_000_000;
 /// How much a thread does.
-const DEEDS: u64 = 12;
+const TASKS: u64 = 12;
 
 /// Whose turn it is to step, and how many steps there were; which threads have begun and not ended, each a bit. `lost` counts what failed.
 #[derive(Drop)]
@@ -32,7 +32,7 @@ struct Rota {
 
 impl Rota {
     /// Waits until it is the turn of thread `number`, or takes a turn that is nobody's. After `MAX_LOOKS` looks it counts one that gave up.
-    fn wait(&self, number: u64) {
+    fn wait_for_turn(&self, number: u64) {
         for _ in 0..MAX_LOOKS {
             if self.turn.load(Ordering::SeqCst) == number
                 || self
@@ -49,22 +49,26 @@ impl Rota {
 
     /// Gives the turn to a thread by chance, by the seed and `step`, of those that have begun and not ended. Returns its number; `FREE` if
     /// there is none.
-    fn pass_on(&self, step: u64) -> u64 {
+    fn pass_on_turn(&self, step: u64) -> u64 {
         let begun = self.begun.load(Ordering::SeqCst);
         let mut next = Chance(self.seed ^ step).next_below(4);
         for _ in 0..3 {
-            if begun & bit(next) == 0 {
+            if begun & thread_bit(next) == 0 {
                 next = next.wrapping_add(1) & 3;
             }
         }
-        let turn = if begun & bit(next) == 0 { FREE } else { next };
+        let turn = if begun & thread_bit(next) == 0 {
+            FREE
+        } else {
+            next
+        };
         self.turn.store(turn, Ordering::SeqCst);
         turn
     }
 }
 
 /// The bit of thread `number`, of which there are four.
-fn bit(number: u64) -> u64 {
+fn thread_bit(number: u64) -> u64 {
     1 << (number & 3)
 }
 
@@ -83,14 +87,14 @@ impl<'a> Gate for Turns<'a> {
         let step = self.rota.steps.fetch_add(1, Ordering::SeqCst);
         let _ = self.told.push((step, *event));
         if Chance(self.rota.seed.wrapping_add(step)).next_below(4) == 0
-            && self.rota.pass_on(step) != self.number
+            && self.rota.pass_on_turn(step) != self.number
         {
-            self.rota.wait(self.number);
+            self.rota.wait_for_turn(self.number);
         }
     }
 }
 
-/// What a thread does: `DEEDS` deeds by chance, by `pass`, each step in its turn. Returns its steps, each with its number.
+/// What a thread does: `TASKS` tasks by chance, by `pass`, each step in its turn. Returns its steps, each with its number.
 fn run_thread(case: &Case, rota: &Rota, index: &Index, pass: Pass) -> Vec<(u64, Event)>
     requires { Owns index.now pass }
 {
@@ -100,22 +104,22 @@ fn run_thread(case: &Case, rota: &Rota, index: &Index, pass: Pass) -> Vec<(u64, 
     let told = Vec::new(case.alloc);
     let mut gate = Turns { rota, number, told };
     let mut said = String::new(case.alloc);
-    rota.begun.fetch_add(bit(number), Ordering::SeqCst);
-    rota.wait(number);
-    for turn in 0..DEEDS {
-        let deed = chance.next_deed(&case.keys, turn);
-        if do_deeds(&mut guest, &[deed], &mut gate, &mut said).is_err() {
+    rota.begun.fetch_add(thread_bit(number), Ordering::SeqCst);
+    rota.wait_for_turn(number);
+    for turn in 0..TASKS {
+        let task = chance.next_task(&case.keys, turn);
+        if do_tasks(&mut guest, &[task], &mut gate, &mut said).is_err() {
             rota.lost.fetch_add(1, Ordering::SeqCst);
         }
     }
-    rota.begun.fetch_sub(bit(number), Ordering::SeqCst);
-    rota.pass_on(rota.steps.load(Ordering::SeqCst));
+    rota.begun.fetch_sub(thread_bit(number), Ordering::SeqCst);
+    rota.pass_on_turn(rota.steps.load(Ordering::SeqCst));
     gate.told
 }
 
-/// Lets `judge` judge the steps `told` of all threads in the order of their numbers, and then compare by `last`. An error if memory is
+/// Lets `judge` judge the steps `told` of all threads in the order of their numbers, and then the scans by `last`. An error if memory is
 /// refused.
-fn judge_all(
+fn judge_steps(
     alloc: Global,
     judge: &mut Judge,
     last: &mut Guest,
@@ -130,9 +134,9 @@ fn judge_all(
         order_steps(&mut order, steps);
     }
     for event in order.iter() {
-        judge_one(judge, event);
+        judge_step(judge, event);
     }
-    judge.compare(alloc, last)
+    judge.judge_scans(alloc, last)
 }
 
 /// Puts each of `steps`, those of a thread, into `order` at its number, if that is a place there.
@@ -145,7 +149,7 @@ fn order_steps(order: &mut [Option<Event>], steps: &[(u64, Event)]) {
 }
 
 /// Lets `judge` judge `event`, the step of a number. `None`, if there is no such step, counts as wrong.
-fn judge_one(judge: &mut Judge, event: &Option<Event>) {
+fn judge_step(judge: &mut Judge, event: &Option<Event>) {
     match event {
         Some(event) => judge.at(event),
         None => judge.wrong = judge.wrong.wrapping_add(1),
@@ -154,18 +158,18 @@ fn judge_one(judge: &mut Judge, event: &Option<Event>) {
 
 /// Lets `threads` threads step on a new index in an order made from `seed`. Returns how often something was wrong. An error if a number is
 /// out of range, memory is refused, or a thread can't be started.
-fn run_seed<R: AllocGlobal + Threads + Sync>(
+fn run_order<R: AllocGlobal + Threads + Sync>(
     rt: &R,
     case: &Case,
     threads: u32,
     seed: u64,
 ) -> io::Result<u64> {
     let passes = threads.wrapping_add(1);
-    let (index, seats) = open(case.alloc, passes, case.nodes, case.leaves)?;
+    let (index, seats) = create_index(case.alloc, passes, case.nodes, case.leaves)?;
     run_threads(rt, case, &index, seats, passes, seed)
 }
 
-/// Does what `run_seed` does, on `index`, which was just made, with all its passes, `seats`, in number `passes`.
+/// Does what `run_order` does, on `index`, which was just made, with all its passes, `seats`, in number `passes`.
 fn run_threads<R: AllocGlobal + Threads + Sync>(
     rt: &R,
     case: &Case,
@@ -176,14 +180,14 @@ fn run_threads<R: AllocGlobal + Threads + Sync>(
 ) -> io::Result<u64>
     requires { All (Owns index.now) seats.items }
 {
-    let mut last = next_guest(index, &mut seats)?;
-    let (told, lost) = step_all(rt, case, index, seats, seed)?;
+    let mut last = pop_guest(index, &mut seats)?;
+    let (told, lost) = step_threads(rt, case, index, seats, seed)?;
     count_wrong(case, passes, &mut last, &told, lost)
 }
 
 /// Lets a thread for each of `seats` step, in an order made from `seed`. Returns the steps of each, and how often one gave up or failed. An
 /// error if memory is refused, or a thread can't be started.
-fn step_all<R: AllocGlobal + Threads + Sync>(
+fn step_threads<R: AllocGlobal + Threads + Sync>(
     rt: &R,
     case: &Case,
     index: &Index,
@@ -215,20 +219,20 @@ fn count_wrong(
     lost: u64,
 ) -> io::Result<u64> {
     let mut judge = Judge::new(case.alloc, passes, case.nodes, case.leaves)?;
-    judge_all(case.alloc, &mut judge, last, told)?;
+    judge_steps(case.alloc, &mut judge, last, told)?;
     Ok(judge.wrong.wrapping_add(lost))
 }
 
 /// Lets threads step in turns on new indexes of `case`, and prints whether all was lawful. `text` says how many threads, two to four, and
-/// how many orders; `bad_line` if it doesn't. Another error is that of a `run_seed`, or of the write.
-pub fn run_seeds<R>(rt: &R, case: &Case, text: &str) -> io::Result<()>
+/// how many orders; `bad_line` if it doesn't. Another error is that of a `run_order`, or of the write.
+pub fn run_orders<R>(rt: &R, case: &Case, text: &str) -> io::Result<()>
 where
     R: Print + AllocGlobal + Threads + Sync,
 {
-    let (threads, orders) = parse_two(text)?;
+    let (threads, orders) = parse_two_numbers(text)?;
     let mut wrong = 0u64;
     for seed in 0..u64::from(orders) {
-        wrong = wrong.wrapping_add(run_seed(rt, case, threads, seed << 20)?);
+        wrong = wrong.wrapping_add(run_order(rt, case, threads, seed << 20)?);
     }
     println!(rt; "{orders} orders of {threads} threads: {}", verdict(wrong))
 }

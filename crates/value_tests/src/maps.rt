@@ -11,7 +11,7 @@ use std::alloc::{AllocError, Global};
 use std::process::Abort;
 
 /// The call that `letter` names, about the key of the one byte `byte`. An exchange expects `value` and gives the next one.
-fn call_of(rt: &impl Abort, letter: u8, byte: u8, value: u64) -> Call {
+fn make_call(rt: &impl Abort, letter: u8, byte: u8, value: u64) -> Call {
     let key = key(rt, &[byte]);
     match letter {
         b'i' => Call::Insert(key, value),
@@ -53,7 +53,7 @@ fn calls_reply_as_a_map(rt: HostRuntime) {
     let mut calls = Vec::new(rt.alloc());
     let mut want = Vec::new(rt.alloc());
     for (letter, byte, value, reply) in cases {
-        assert!(rt; calls.push(call_of(&rt, letter, byte, value)).is_ok());
+        assert!(rt; calls.push(make_call(&rt, letter, byte, value)).is_ok());
         assert!(rt; want.push(reply).is_ok());
     }
     let mut index = PlainIndex::new(rt.alloc());
@@ -64,7 +64,7 @@ fn calls_reply_as_a_map(rt: HostRuntime) {
 }
 
 /// Changes of the key `a`: each row is a pass, a value and a kind.
-fn front_of(rt: &impl Abort, alloc: Global, rows: &[(u16, u64, Kind)]) -> Vec<Change> {
+fn make_front(rt: &impl Abort, alloc: Global, rows: &[(u16, u64, Kind)]) -> Vec<Change> {
     let mut changes = Vec::new(alloc);
     for (pass, value, kind) in rows {
         let change = Change {
@@ -82,12 +82,12 @@ fn front_of(rt: &impl Abort, alloc: Global, rows: &[(u16, u64, Kind)]) -> Vec<Ch
 type Row = (u64, u8, u8, u64, Reply);
 
 /// The notes of `rows`.
-fn notes_of(rt: &impl Abort, alloc: Global, rows: &[Row]) -> Vec<Note> {
+fn make_notes(rt: &impl Abort, alloc: Global, rows: &[Row]) -> Vec<Note> {
     let mut notes = Vec::new(alloc);
     for (place, letter, byte, value, reply) in rows {
         let note = Note {
             place: *place,
-            call: call_of(rt, *letter, *byte, *value),
+            call: make_call(rt, *letter, *byte, *value),
             reply: *reply,
         };
         assert!(rt; notes.push(note).is_ok());
@@ -151,8 +151,8 @@ const HISTORIES: [(usize, u16, &[Row], bool); 13] = [
 fn histories_are_legal_or_not(rt: HostRuntime) {
     for (i, (from, pass, rows, legal)) in HISTORIES.iter().enumerate() {
         assert!(rt; *from < 3);
-        let changes = front_of(&rt, rt.alloc(), &FRONT[*from..]);
-        let notes = notes_of(&rt, rt.alloc(), rows);
+        let changes = make_front(&rt, rt.alloc(), &FRONT[*from..]);
+        let notes = make_notes(&rt, rt.alloc(), rows);
         assert!(rt;
             are_legal(changes.as_slice(), *pass, notes.as_slice()) == *legal,
             "at {i}"
@@ -208,7 +208,7 @@ fn scans_give_the_first_pairs(rt: HostRuntime) {
 }
 
 /// A trie of the first `count` keys of one byte, or of two if `wide`, in rising order. The key `further` is added if it is not empty.
-fn trie_of(rt: &impl Abort, alloc: Global, wide: bool, count: u16, further: &[u8]) -> PlainTrie {
+fn make_trie(rt: &impl Abort, alloc: Global, wide: bool, count: u16, further: &[u8]) -> PlainTrie {
     let mut trie = PlainTrie::new(alloc);
     for number in 0..count {
         let bytes = number.to_be_bytes();
@@ -226,7 +226,7 @@ fn trie_of(rt: &impl Abort, alloc: Global, wide: bool, count: u16, further: &[u8
 }
 
 /// The node of `trie` that `entry` names.
-fn node_of<'a>(rt: &impl Abort, trie: &'a PlainTrie, entry: Option<Entry>) -> &'a Node {
+fn node_at_entry<'a>(rt: &impl Abort, trie: &'a PlainTrie, entry: Option<Entry>) -> &'a Node {
     let number = match entry {
         Some(Entry::Node { number, .. }) => number,
         _ => panic!(rt; "no node"),
@@ -237,7 +237,7 @@ fn node_of<'a>(rt: &impl Abort, trie: &'a PlainTrie, entry: Option<Entry>) -> &'
     }
 }
 
-/// A trie as `trie_of` makes it, the slots on the way to a node, and that node's height, positions and entries.
+/// A trie as `make_trie` makes it, the slots on the way to a node, and that node's height, positions and entries.
 type Shape = (
     bool,
     u16,
@@ -279,11 +279,11 @@ const SHAPES: [Shape; 16] = [
 #[test]
 fn tries_have_their_shapes(rt: HostRuntime) {
     for (i, (wide, count, further, path, height, positions, entries)) in SHAPES.iter().enumerate() {
-        let trie = trie_of(&rt, rt.alloc(), *wide, *count, further);
-        let mut node = node_of(&rt, &trie, trie.top());
+        let trie = make_trie(&rt, rt.alloc(), *wide, *count, further);
+        let mut node = node_at_entry(&rt, &trie, trie.top());
         for at in path.iter() {
             assert!(rt; *at < node.count());
-            node = node_of(&rt, &trie, Some(node.entry(*at)));
+            node = node_at_entry(&rt, &trie, Some(node.entry(*at)));
         }
         assert!(rt;
             node.height() == *height && node.count() == *entries,
@@ -325,7 +325,7 @@ fn first_bytes(bytes: &[u8], count: usize) -> &[u8] {
 }
 
 /// `trie` and `index` reply alike to one call about `key`, which `number` chooses.
-fn call_both(
+fn call_trie_and_index(
     rt: &impl Abort,
     alloc: Global,
     trie: &mut PlainTrie,
@@ -344,7 +344,7 @@ fn call_both(
             index.apply(Call::Upsert(key, value)),
         ),
         2 => (Ok(get_reply(trie, &key)), index.apply(Call::Get(key))),
-        _ => return scan_both(rt, alloc, trie, index, &key, (value % 4) as usize),
+        _ => return scan_trie_and_index(rt, alloc, trie, index, &key, (value % 4) as usize),
     };
     assert!(rt; found.ok() == want.ok());
 }
@@ -358,7 +358,7 @@ fn get_reply(trie: &PlainTrie, key: &Key) -> Reply {
 }
 
 /// `trie` and `index` give the same first `limit` pairs from `from` on.
-fn scan_both(
+fn scan_trie_and_index(
     rt: &impl Abort,
     alloc: Global,
     trie: &PlainTrie,
@@ -388,7 +388,7 @@ fn calls_by_chance_are_answered_alike(rt: HostRuntime) {
                 .wrapping_mul(6_364_136_223_846_793_005)
                 .wrapping_add(1_442_695_040_888_963_407);
             let key = key_by_chance(&rt, kind, number);
-            call_both(&rt, rt.alloc(), &mut trie, &mut index, key, state >> 33);
+            call_trie_and_index(&rt, rt.alloc(), &mut trie, &mut index, key, state >> 33);
             number = state >> 40;
         }
     }

@@ -2,7 +2,7 @@
 
 ghost use Rattle.std.specs.Prelude.{◌≡◌};
 
-use crate::nodes::{comb, expect_node, three};
+use crate::nodes::{comb_node, expect_node, node_of_three};
 use compound_node::{Entry, Node};
 use record_words::{FIRST_ROWS, NODE_FIELDS, close_fork, pack_node, position_of, row_of};
 use std::process::Abort;
@@ -13,7 +13,7 @@ fn node_over_nodes(rt: &impl Abort, rows: [u32; 3]) -> Node {
     for i in 0..3 {
         sparse[i] = rows[i];
     }
-    let entries = [child(10), child(11), Entry::Leaf(12)];
+    let entries = [child_entry(10), child_entry(11), Entry::Leaf(12)];
     match Node::from_parts(2, &[4, 6], &sparse, &entries) {
         Some(node) => node,
         None => panic!(rt; "no node"),
@@ -21,7 +21,7 @@ fn node_over_nodes(rt: &impl Abort, rows: [u32; 3]) -> Node {
 }
 
 /// An entry for a node of height 1.
-fn child(number: u32) -> Entry
+fn child_entry(number: u32) -> Entry
     ensures { result ≡ Entry.Node number 1 }
 {
     Entry::Node { number, height: 1 }
@@ -47,7 +47,7 @@ fn places_are_beside_others(rt: HostRuntime) {
     let mut want = [None; 32];
     want[30] = Some((31, 30));
     want[31] = Some((30, 30));
-    expect_beside(&rt, &comb(&rt, &POSITIONS), &want);
+    expect_beside(&rt, &comb_node(&rt, &POSITIONS), &want);
 }
 
 /// 31 positions.
@@ -57,7 +57,7 @@ const POSITIONS: [u16; 31] = [
 ];
 
 /// The node of all entries of `zero` and `one`, with a fork at `position` between them. Both fork later, and have room in one node.
-fn join_nodes(rt: &impl Abort, position: u16, zero: &Node, one: &Node) -> Node {
+fn merge_nodes(rt: &impl Abort, position: u16, zero: &Node, one: &Node) -> Node {
     assert!(rt; zero.count() + one.count() <= 32);
     assert!(rt; position < zero.first_position() && position < one.first_position());
     Node::merge(position, zero, one)
@@ -70,7 +70,7 @@ fn two_nodes_become_one(rt: HostRuntime) {
     let rows = [0, 0x4000_0000, 0x8000_0000, 0xc000_0000];
     expect_node(
         &rt,
-        &join_nodes(&rt, 6, &two, &two),
+        &merge_nodes(&rt, 6, &two, &two),
         &[6, 7],
         &rows,
         &[3, 4, 3, 4],
@@ -79,7 +79,7 @@ fn two_nodes_become_one(rt: HostRuntime) {
     let rows = [0, 0x4000_0000, 0x6000_0000, 0x8000_0000, 0xa000_0000];
     expect_node(
         &rt,
-        &join_nodes(&rt, 6, &three(), &later),
+        &merge_nodes(&rt, 6, &node_of_three(), &later),
         &[6, 7, 8],
         &rows,
         &[0, 1, 2, 3, 4],
@@ -87,7 +87,7 @@ fn two_nodes_become_one(rt: HostRuntime) {
     let rows = [0, 0x2000_0000, 0x8000_0000, 0xc000_0000, 0xe000_0000];
     expect_node(
         &rt,
-        &join_nodes(&rt, 6, &later, &three()),
+        &merge_nodes(&rt, 6, &later, &node_of_three()),
         &[6, 7, 8],
         &rows,
         &[3, 4, 0, 1, 2],
@@ -102,7 +102,7 @@ const EVEN: [u16; 15] = [2, 4, 6, 8, 10, 12, 14, 16, 18, 20, 22, 24, 26, 28, 30]
 /// Two nodes of 16 entries without a common column become one with 32 entries and 31 columns.
 #[test]
 fn two_nodes_become_a_full_one(rt: HostRuntime) {
-    let node = join_nodes(&rt, 0, &comb(&rt, &ODD), &comb(&rt, &EVEN));
+    let node = merge_nodes(&rt, 0, &comb_node(&rt, &ODD), &comb_node(&rt, &EVEN));
     assert!(rt; node.count() == 32 && node.columns().as_slice() == POSITIONS.as_slice());
     for (at, row) in [
         (0, 0),
@@ -132,7 +132,7 @@ fn close_fork_at(rt: &impl Abort, node: &Node, at: u8) -> (Option<Entry>, [u64; 
         panic!(rt; "none beside");
     };
     let mut words = pack_node(node);
-    let left = close_fork(&mut words, at, place, child(20));
+    let left = close_fork(&mut words, at, place, child_entry(20));
     (left, words)
 }
 
@@ -140,29 +140,29 @@ fn close_fork_at(rt: &impl Abort, node: &Node, at: u8) -> (Option<Entry>, [u64; 
 #[test]
 fn one_entry_takes_the_place_of_two(rt: HostRuntime) {
     let last = node_over_nodes(&rt, [0, 0x4000_0000, 0x8000_0000]);
-    let want = pack_node(&Node::pair(4, child(20), Entry::Leaf(12)));
+    let want = pack_node(&Node::pair(4, child_entry(20), Entry::Leaf(12)));
     assert!(rt; want[0] == 131_330 && want[1] == 0xffff_ffff_ffff_0004 && want[9] == 1 << 63);
     for at in 0..2 {
         let (left, words) = close_fork_at(&rt, &last, at);
         assert!(rt; left.is_none() && words == want, "{at}");
     }
     let first = node_over_nodes(&rt, [0, 0x8000_0000, 0xc000_0000]);
-    let want = pack_node(&Node::pair(4, child(10), child(20)));
+    let want = pack_node(&Node::pair(4, child_entry(10), child_entry(20)));
     for at in 1..3 {
         let (left, words) = close_fork_at(&rt, &first, at);
         assert!(rt; left.is_none() && words == want, "{at}");
     }
-    let two = Node::pair(4, child(10), child(11));
+    let two = Node::pair(4, child_entry(10), child_entry(11));
     for at in 0..2 {
         let (left, _) = close_fork_at(&rt, &two, at);
-        assert!(rt; left == Some(child(20)), "{at}");
+        assert!(rt; left == Some(child_entry(20)), "{at}");
     }
 }
 
 /// `row_of` reads the half of a word by the slot, and `position_of` the quarter by the column.
 #[test]
 fn numbers_are_read_of_their_words(rt: HostRuntime) {
-    let words = pack_node(&comb(&rt, &POSITIONS));
+    let words = pack_node(&comb_node(&rt, &POSITIONS));
     for at in 0..32u8 {
         let row = row_of(words[FIRST_ROWS + at as usize / 2], at);
         assert!(rt; row == !(u32::MAX >> at), "{at}");

@@ -72,7 +72,7 @@ const GATHERED: [(&[u8], &[u16], u32); 7] = [
 ];
 
 /// A node with columns at `positions`: each fork but the first stands on the 1 side of the one before. Each entry is leaf 0.
-pub fn comb(rt: &impl Abort, positions: &[u16]) -> Node
+pub fn comb_node(rt: &impl Abort, positions: &[u16]) -> Node
     requires { length positions.now ≤ 31 }
 {
     let mut sparse = [u32::MAX; 32];
@@ -93,7 +93,7 @@ fn bits_are_gathered_from_the_highest(rt: HostRuntime) {
         assert!(rt; positions.len() <= 31);
         let key = key(&rt, bytes);
         assert!(rt; extract(&key, positions) == want);
-        assert!(rt; comb(&rt, positions).columns().dense(&key) == want);
+        assert!(rt; comb_node(&rt, positions).columns().dense(&key) == want);
     }
 }
 
@@ -118,23 +118,23 @@ fn searches_find_the_highest_complying_entry(rt: HostRuntime) {
 }
 
 /// The node of three keys, of which the last two part at 8 and the first from both at 7.
-pub fn three() -> Node
+pub fn node_of_three() -> Node
     ensures { piece result ≡ Fork 7 (Place (LeafEntry 0)) (Fork 8 (Place (LeafEntry 1)) (Place (LeafEntry 2))) }
 {
     Node::pair(7, Entry::Leaf(0), Entry::Leaf(1)).insert(1, 1, 8, true, Entry::Leaf(2))
 }
 
 /// The node of three keys with one more behind, which parts from them at 6.
-fn four() -> Node
+fn node_of_four() -> Node
     ensures { piece result ≡ Fork 6 (Fork 7 (Place (LeafEntry 0)) (Fork 8 (Place (LeafEntry 1)) (Place (LeafEntry 2)))) (Place (LeafEntry 3)) }
 {
-    three().insert(0, 2, 6, true, Entry::Leaf(3))
+    node_of_three().insert(0, 2, 6, true, Entry::Leaf(3))
 }
 
 /// A node and its head find the slot of each key by its gathered bits; a fork before its own affects all slots.
 #[test]
 fn nodes_are_searched(rt: HostRuntime) {
-    let node = three();
+    let node = node_of_three();
     let head = node.head();
     for (byte, dense, place) in [
         (b'a', 0x4000_0000, 0),
@@ -150,7 +150,7 @@ fn nodes_are_searched(rt: HostRuntime) {
 }
 
 /// The node in `half`; panics if it has none.
-fn many(rt: &impl Abort, half: Half) -> Node {
+fn node_in_half(rt: &impl Abort, half: Half) -> Node {
     match half {
         Half::Many(node) => node,
         _ => panic!(rt; "no node"),
@@ -166,11 +166,11 @@ pub fn expect_node(rt: &impl Abort, node: &Node, positions: &[u16], rows: &[u32]
         assert!(rt; node.sparse(i) == rows[i as usize]);
         assert!(rt; node.entry(i) == Entry::Leaf(leaves[i as usize]));
     }
-    expect_unused(rt, node);
+    expect_unused_rows(rt, node);
 }
 
 /// Asserts that the rows of `node` behind its entries have all bits set.
-fn expect_unused(rt: &impl Abort, node: &Node) {
+fn expect_unused_rows(rt: &impl Abort, node: &Node) {
     for i in node.count()..32 {
         assert!(rt; node.sparse(i) == u32::MAX);
     }
@@ -186,13 +186,13 @@ const FIRST_ROWS: [u32; 4] = [0, 0x8000_0000, 0xc000_0000, 0xe000_0000];
 /// Inserts behind and before, removals of the last and the first leaf, and a cut give the nodes worked out by hand.
 #[test]
 fn nodes_grow_and_shrink(rt: HostRuntime) {
-    expect_node(&rt, &three(), &[7, 8], &THREE_ROWS, &[0, 1, 2]);
-    expect_node(&rt, &four(), &[6, 7, 8], &FOUR_ROWS, &[0, 1, 2, 3]);
-    let first = three().insert(0, 2, 6, false, Entry::Leaf(9));
+    expect_node(&rt, &node_of_three(), &[7, 8], &THREE_ROWS, &[0, 1, 2]);
+    expect_node(&rt, &node_of_four(), &[6, 7, 8], &FOUR_ROWS, &[0, 1, 2, 3]);
+    let first = node_of_three().insert(0, 2, 6, false, Entry::Leaf(9));
     expect_node(&rt, &first, &[6, 7, 8], &FIRST_ROWS, &[9, 0, 1, 2]);
-    let last_out = many(&rt, four().without(3));
+    let last_out = node_in_half(&rt, node_of_four().without(3));
     expect_node(&rt, &last_out, &[7, 8], &THREE_ROWS, &[0, 1, 2]);
-    let first_out = many(&rt, four().without(0));
+    let first_out = node_in_half(&rt, node_of_four().without(0));
     expect_node(
         &rt,
         &first_out,
@@ -200,7 +200,7 @@ fn nodes_grow_and_shrink(rt: HostRuntime) {
         &[0, 0x4000_0000, 0x8000_0000],
         &[1, 2, 3],
     );
-    let front = many(&rt, four().cut().zero);
+    let front = node_in_half(&rt, node_of_four().cut().zero);
     expect_node(&rt, &front, &[7, 8], &THREE_ROWS, &[0, 1, 2]);
 }
 
@@ -214,14 +214,14 @@ fn heights_and_single_entries(rt: HostRuntime) {
     let node = Node::pair(7, child, Entry::Leaf(1));
     assert!(rt; node.height() == 4 && node.replace(0, Entry::Leaf(5)).height() == 4);
     assert!(rt; matches!(node.without(0), Half::One(Entry::Leaf(1))));
-    let cut = four().cut();
+    let cut = node_of_four().cut();
     assert!(rt; cut.position == 6 && matches!(cut.one, Half::One(Entry::Leaf(3))));
 }
 
 /// Where a node has room, `grow` returns one node with the new leaf.
 #[test]
 fn a_node_with_room_grows_whole(rt: HostRuntime) {
-    let Grown::One(node) = grow(&three(), 0, 2, 6, true, Entry::Leaf(3)) else {
+    let Grown::One(node) = grow(&node_of_three(), 0, 2, 6, true, Entry::Leaf(3)) else {
         panic!(rt; "no node");
     };
     expect_node(&rt, &node, &[6, 7, 8], &FOUR_ROWS, &[0, 1, 2, 3]);
@@ -254,7 +254,7 @@ pub fn words_of_leaf(byte: u8, value: u64) -> [u64; LEAF_FIELDS] {
 
 /// `Layout::of` tells the first of passes, nodes and leaves that is out of range, and takes the greatest counts.
 #[test]
-fn layouts_are_in_range(rt: HostRuntime) {
+fn layout_of_refuses_counts_out_of_range(rt: HostRuntime) {
     for (passes, nodes, leaves, want) in [
         (0, 0, 0, LayoutFault::Passes as u8),
         (65, 1, 1, LayoutFault::Passes as u8),
@@ -449,7 +449,7 @@ fn leaves_and_nodes_have_their_words(rt: HostRuntime) {
     assert!(rt; unpack_leaf(&leaf).ok() == Some((key(&rt, b"a"), 5)));
     assert!(rt; pack_leaf(&key(&rt, &[0xab; 240]), u64::MAX)[31] == 0xabab_abab_abab_abab);
     let node = words_of_three();
-    assert!(rt; pack_node(&three()) == node);
+    assert!(rt; pack_node(&node_of_three()) == node);
     match unpack_node(&node) {
         Ok(same) => assert!(rt; pack_node(&same) == node),
         Err(_) => panic!(rt; "no node"),

@@ -10,7 +10,7 @@ use std::alloc::Global;
 use std::process::Abort;
 
 /// What `root` shows over these nodes and five leaves: a, b, c, q and one that spells no key. `None` if that is no tree.
-fn tree(
+fn shown_tree(
     rt: &impl Abort,
     alloc: Global,
     nodes: &[[u64; NODE_FIELDS]],
@@ -34,7 +34,7 @@ fn tree(
 fn words_show_a_tree_of_three_leaves(rt: HostRuntime) {
     let nodes = [words_of_three(), [9; NODE_FIELDS]];
     let (number, height) = (0, 1);
-    match tree(
+    match shown_tree(
         &rt,
         rt.alloc(),
         &nodes,
@@ -86,10 +86,10 @@ fn other_words_show_other_trees_or_none(rt: HostRuntime) {
         } else {
             Entry::Node { number, height }
         };
-        let found = tree(&rt, rt.alloc(), &[words], Some(root));
+        let found = shown_tree(&rt, rt.alloc(), &[words], Some(root));
         assert!(rt; found.map(|linked| linked.items.len()) == *want, "at {i}");
     }
-    assert!(rt; tree(&rt, rt.alloc(), &[], None).is_some());
+    assert!(rt; shown_tree(&rt, rt.alloc(), &[], None).is_some());
 }
 
 /// An event of a pass: the act, and what its words and numbers are.
@@ -115,7 +115,7 @@ enum Step {
 }
 
 /// The act of `step`.
-fn act_of(step: &Step) -> Act {
+fn act_of_step(step: &Step) -> Act {
     match *step {
         Step::Claim(rec, found) => Act::Claim { rec, found },
         Step::Fill(rec, offset, word) => Act::Fill { rec, offset, word },
@@ -141,9 +141,9 @@ fn act_of(step: &Step) -> Act {
 type Line = (u16, Step, bool);
 
 /// Gives `replay` each event of `lines`. Asserts that it is accepted where it is legal, and refused as illegal where it is not.
-fn expect_all(rt: &impl Abort, replay: &mut Replay, lines: &[Line]) {
+fn expect_events(rt: &impl Abort, replay: &mut Replay, lines: &[Line]) {
     for (i, (pass, step, legal)) in lines.iter().enumerate() {
-        let (pass, act) = (*pass, act_of(step));
+        let (pass, act) = (*pass, act_of_step(step));
         let answer = replay.step(Event { pass, act });
         assert!(rt; answer.is_ok() == *legal, "at {i}");
         assert!(rt;
@@ -154,12 +154,12 @@ fn expect_all(rt: &impl Abort, replay: &mut Replay, lines: &[Line]) {
 }
 
 /// Asserts that it is legal that `pass` claims `rec`, fills it with `words` from offset 1 on, and makes it ready.
-fn make(rt: &impl Abort, replay: &mut Replay, pass: u16, rec: Rec, words: &[u64]) {
-    expect_all(rt, replay, &[(pass, Step::Claim(rec, 0), true)]);
+fn expect_record_made(rt: &impl Abort, replay: &mut Replay, pass: u16, rec: Rec, words: &[u64]) {
+    expect_events(rt, replay, &[(pass, Step::Claim(rec, 0), true)]);
     for (offset, word) in (1..64u8).zip(words.iter()) {
-        expect_all(rt, replay, &[(pass, Step::Fill(rec, offset, *word), true)]);
+        expect_events(rt, replay, &[(pass, Step::Fill(rec, offset, *word), true)]);
     }
-    expect_all(rt, replay, &[(pass, Step::Ready(rec), true)]);
+    expect_events(rt, replay, &[(pass, Step::Ready(rec), true)]);
 }
 
 /// Asserts that `changes` changes were made, and that the replay's pairs are `want`, keys of one byte with their values.
@@ -177,7 +177,7 @@ fn expect_pairs(rt: &impl Abort, alloc: Global, replay: &Replay, changes: u64, w
 }
 
 /// A replay of no event yet, for `layout`; panics if that is a fault.
-fn begun(rt: &impl Abort, alloc: Global, layout: Result<Layout, LayoutFault>) -> Replay {
+fn make_replay(rt: &impl Abort, alloc: Global, layout: Result<Layout, LayoutFault>) -> Replay {
     let Ok(layout) = layout else {
         panic!(rt; "no layout");
     };
@@ -229,11 +229,11 @@ const ONE_LEAF: [Line; 6] = [
 /// Claims, locks, pins and a round are legal or not as expected without a change; then a leaf is published.
 #[test]
 fn one_leaf_is_published(rt: HostRuntime) {
-    let mut replay = begun(&rt, rt.alloc(), Layout::of(1, 1, 1));
-    expect_all(&rt, &mut replay, &NO_RECORD);
+    let mut replay = make_replay(&rt, rt.alloc(), Layout::of(1, 1, 1));
+    expect_events(&rt, &mut replay, &NO_RECORD);
     expect_pairs(&rt, rt.alloc(), &replay, 0, &[]);
-    make(&rt, &mut replay, 0, LEAF, &words_of_leaf(b'a', 5));
-    expect_all(&rt, &mut replay, &ONE_LEAF);
+    expect_record_made(&rt, &mut replay, 0, LEAF, &words_of_leaf(b'a', 5));
+    expect_events(&rt, &mut replay, &ONE_LEAF);
     expect_pairs(&rt, rt.alloc(), &replay, 1, &[(b'a', 5)]);
 }
 
@@ -255,8 +255,8 @@ const SHORT: [Line; 10] = [
 #[test]
 fn a_short_record_has_room_for_eight_bytes(rt: HostRuntime) {
     let stock = Stock::of_class(1, LeafClass::Short, 1);
-    let mut replay = begun(&rt, rt.alloc(), Layout::with_stock(1_024, stock));
-    expect_all(&rt, &mut replay, &SHORT);
+    let mut replay = make_replay(&rt, rt.alloc(), Layout::with_stock(1_024, stock));
+    expect_events(&rt, &mut replay, &SHORT);
 }
 
 // The words behind the key may be any, but no byte behind it in its last word.
@@ -275,11 +275,11 @@ const SPELLED: [Line; 9] = [
 /// Other words behind a key are legal, and are loaded again; another byte behind it in its last word isn't.
 #[test]
 fn what_stands_behind_a_key_says_nothing(rt: HostRuntime) {
-    let mut replay = begun(&rt, rt.alloc(), Layout::of(1, 1, 1));
-    expect_all(&rt, &mut replay, &SPELLED);
-    expect_all(&rt, &mut replay, &ONE_LEAF);
+    let mut replay = make_replay(&rt, rt.alloc(), Layout::of(1, 1, 1));
+    expect_events(&rt, &mut replay, &SPELLED);
+    expect_events(&rt, &mut replay, &ONE_LEAF);
     expect_pairs(&rt, rt.alloc(), &replay, 1, &[(b'a', 5)]);
-    expect_all(
+    expect_events(
         &rt,
         &mut replay,
         &[
@@ -369,17 +369,17 @@ const REMOVED: [Line; 8] = [
 /// Inserts, a round, a replaced leaf and a removal are legal step by step as expected, and give the expected pairs.
 #[test]
 fn a_node_grows_and_shrinks(rt: HostRuntime) {
-    let mut replay = begun(&rt, rt.alloc(), Layout::of(2, 2, 4));
+    let mut replay = make_replay(&rt, rt.alloc(), Layout::of(2, 2, 4));
     let two = Node::pair(7, Entry::Leaf(0), Entry::Leaf(1));
-    make(&rt, &mut replay, 0, LEAF, &words_of_leaf(b'a', 5));
-    make(&rt, &mut replay, 0, Rec::Leaf(1), &words_of_leaf(b'b', 6));
-    make(&rt, &mut replay, 0, OLD, &pack_node(&two));
-    expect_all(&rt, &mut replay, &TWO_KEYS);
+    expect_record_made(&rt, &mut replay, 0, LEAF, &words_of_leaf(b'a', 5));
+    expect_record_made(&rt, &mut replay, 0, Rec::Leaf(1), &words_of_leaf(b'b', 6));
+    expect_record_made(&rt, &mut replay, 0, OLD, &pack_node(&two));
+    expect_events(&rt, &mut replay, &TWO_KEYS);
     expect_pairs(&rt, rt.alloc(), &replay, 2, &[(b'a', 5), (b'b', 6)]);
-    make(&rt, &mut replay, 1, Rec::Leaf(2), &words_of_leaf(b'c', 7));
-    make(&rt, &mut replay, 1, Rec::Node(1), &words_of_three());
-    expect_all(&rt, &mut replay, &GROWN);
-    expect_all(&rt, &mut replay, &GIVEN_BACK);
+    expect_record_made(&rt, &mut replay, 1, Rec::Leaf(2), &words_of_leaf(b'c', 7));
+    expect_record_made(&rt, &mut replay, 1, Rec::Node(1), &words_of_three());
+    expect_events(&rt, &mut replay, &GROWN);
+    expect_events(&rt, &mut replay, &GIVEN_BACK);
     expect_pairs(
         &rt,
         rt.alloc(),
@@ -387,15 +387,15 @@ fn a_node_grows_and_shrinks(rt: HostRuntime) {
         3,
         &[(b'a', 5), (b'b', 6), (b'c', 7)],
     );
-    make(&rt, &mut replay, 0, Rec::Leaf(3), &words_of_leaf(b'a', 9));
-    expect_all(&rt, &mut replay, &REPLACED);
-    make(
+    expect_record_made(&rt, &mut replay, 0, Rec::Leaf(3), &words_of_leaf(b'a', 9));
+    expect_events(&rt, &mut replay, &REPLACED);
+    expect_record_made(
         &rt,
         &mut replay,
         0,
         OLD,
         &pack_node(&two.replace(0, Entry::Leaf(3))),
     );
-    expect_all(&rt, &mut replay, &REMOVED);
+    expect_events(&rt, &mut replay, &REMOVED);
     expect_pairs(&rt, rt.alloc(), &replay, 5, &[(b'a', 9), (b'b', 6)]);
 }

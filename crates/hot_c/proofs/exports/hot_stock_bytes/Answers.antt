@@ -8,7 +8,7 @@ returns-in-Ok-with_stock-clause-done c = λ size. (
   record {
     layout = c.in-Ok-with_stock.layout;
     passes_are = let made = c.in-Ok-with_stock.ensures.ok.0 in let same = c.in-Ok.ensures in omega (arith, made, same);
-    stock_is = rw c.stock.ensures at c.in-Ok-with_stock.ensures.ok.1;
+    stock_is = rw c.to_stock.ensures at c.in-Ok-with_stock.ensures.ok.1;
     bytes_are = c.bytes.ensures;
   },
 )

@@ -5,9 +5,9 @@ use Rattle.hot_c.proofs.exports.make_call.Goals as goal
 pub returns-in-Ok-clause-call : goal.returns-in-Ok-clause-call
 returns-in-Ok-clause-call c =
     let ok : IsOk c.set_key.result = subst IsOk (sym c.in-Ok.is) refl in
-    rw (← c.set_key.ensures.ok ok) (c.make_open.ensures.call c.args.key.now (c.set_key.ensures.fits.0 ok) refl)
+    rw (← c.set_key.ensures.ok ok) (c.make_call_on_open_handle.ensures.call c.args.key.now (c.set_key.ensures.fits.0 ok) refl)
 
 pub returns-in-Ok-clause-leafless : goal.returns-in-Ok-clause-leafless
 returns-in-Ok-clause-leafless c =
     let ok : IsOk c.set_key.result = subst IsOk (sym c.in-Ok.is) refl in
-    rw (← c.set_key.ensures.ok ok) c.make_open.ensures.leafless
+    rw (← c.set_key.ensures.ok ok) c.make_call_on_open_handle.ensures.leafless

@@ -4,8 +4,8 @@ use Rattle.hot_c.specs.Orders.{IsListedIn, in_order}
 use Rattle.hot_c.proofs.Listed.{as_many, count_here, few_here, in_its_order, listed, made_here}
 use Rattle.hot_c.proofs.scans.list_query.Goals as goal
 
-pub write_in-requires : goal.write_in-requires
-write_in-requires c = few_here c.in-Ok.ensures.ok c.lend-opened.result.now c.lend-opened.ensures.value
+pub write_pairs_in_order-requires : goal.write_pairs_in_order-requires
+write_pairs_in_order-requires c = few_here c.in-Ok.ensures.ok c.lend-opened.result.now c.lend-opened.ensures.value
 
 pub returns-in-Ok : goal.returns-in-Ok
 returns-in-Ok c =
@@ -16,8 +16,8 @@ returns-in-Ok c =
     listed (IsListedIn c.args.query.now.order) h u c.empty_list.new.self (in_order c.args.query.now.order u.list) is refl c.empty_list.ensures refl
     (in_its_order c.args.query.now.order _ _ _ _ _ _ (made_here h u is)) (record {
       short = subst (λ n. n ≤ length c.args.room.now) many (few_here h u is);
-      written = c.write_in.ensures.written;
-      others = subst (λ n. drop n c.write_in.new.room ≡ drop n c.args.room.now) many c.write_in.ensures.others;
+      written = c.write_pairs_in_order.ensures.written;
+      others = subst (λ n. drop n c.write_pairs_in_order.new.room ≡ drop n c.args.room.now) many c.write_pairs_in_order.ensures.others;
       count = count_here h u is ∙ many;
       more = search rules;
     })

@@ -12,7 +12,7 @@ returns c =
     let pass = c.in_ok-index.pass in
     let made = c.in_ok-index.ensures in
     let alone = alone_at_first index pass made.sized.passes_are made.pass.1 in
-    IfOk-weaker c.run_alone.result _ _
+    IfOk-weaker c.run_script_alone.result _ _
     (λ text (after, ran). record {
       index = index;
       sized = made.sized;
@@ -32,4 +32,4 @@ returns c =
       };
       commands_are = ran.commands_are;
       text_is = ran.text_is ∙ told_alone index _ _ _ alone ran.answers ran.told ∙ ap (λ f. text_told (map_of f) ran.answers) made.pass.1.1;
-    }) c.run_alone.ensures
+    }) c.run_script_alone.ensures

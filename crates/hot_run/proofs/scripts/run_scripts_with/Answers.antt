@@ -21,11 +21,11 @@ returns-in_err-bytes-clause-fault g c =
     rw (p.1, p.2) (read_ended (map (λ f. f.items) c.args.files.items) (g.R.Read.remaining c.args.reader.now) (g.R.Read.remaining c.read_script.new.reader)
     (map script_commands c.in_ok-scripts.scripts.items) c.in_ok-scripts.ensures.parsed c.in_err-bytes.field-0.0 c.in_err-bytes.ensures.fault)
 
-pub run_all-requires-clause-few : goal.run_all-requires-clause-few
-run_all-requires-clause-few g c κs within = omega (arith, c.requires.few, c.in_ok-scripts.ensures.count, ap length c.deref.ensures.value)
+pub run_all_scripts-requires-clause-few : goal.run_all_scripts-requires-clause-few
+run_all_scripts-requires-clause-few g c κs within = omega (arith, c.requires.few, c.in_ok-scripts.ensures.count, ap length c.deref.ensures.value)
 
-pub run_all-requires-clause-gates : goal.run_all-requires-clause-gates
-run_all-requires-clause-gates g c κs within = omega (arith, c.requires.gates, c.in_ok-scripts.ensures.count, ap length c.deref.ensures.value)
+pub run_all_scripts-requires-clause-gates : goal.run_all_scripts-requires-clause-gates
+run_all_scripts-requires-clause-gates g c κs within = omega (arith, c.requires.gates, c.in_ok-scripts.ensures.count, ap length c.deref.ensures.value)
 
 pub returns-in_err-results-clause-fault : goal.returns-in_err-results-clause-fault
 returns-in_err-results-clause-fault g c =

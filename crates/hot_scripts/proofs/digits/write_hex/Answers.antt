@@ -6,7 +6,7 @@ use Rattle.hot_scripts.proofs.digits.write_hex.Goals as goal
 
 pub eights-preserved : goal.eights-preserved
 eights-preserved c =
-    encode_step lower_digits c.args.bytes.now c.eights.room c.eights.index _ _ (omega arith) (omega arith) c.digit.ensures c.digit-in-eights.ensures c.eights.invariant
+    encode_step lower_digits c.args.bytes.now c.eights.room c.eights.index _ _ (omega arith) (omega arith) c.hex_digit.ensures c.hex_digit-in-eights.ensures c.eights.invariant
 
 pub rest-preserved : goal.rest-preserved
 rest-preserved c =

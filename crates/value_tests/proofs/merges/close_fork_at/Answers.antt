@@ -11,6 +11,6 @@ close_fork-left-requires g c = (
     in_range = omega (arith, c.count-count.ensures.count, c.if-at-count.false);
     position = c.in-Some.field-0-1;
     is_beside = sym c.find_sibling.ensures ∙ c.in-Some.is;
-    stands = rw c.child.ensures ((omega arith, omega arith), omega (arith, c.height-height.ensures, c.if-height-ne2.false));
+    stands = rw c.child_entry.ensures ((omega arith, omega arith), omega (arith, c.height-height.ensures, c.if-height-ne2.false));
   },
 )

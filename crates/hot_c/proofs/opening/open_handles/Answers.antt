@@ -1,0 +1,34 @@
+-- One handle more is open.
+use Rattle.std.proofs.Common.{◌≡◌, ◌+◌, ◌<◌, ◌∙◌, None, Some, All, ap, sym, subst, length, drop, arith}
+use Rattle.std.proofs.lemmas.List.{drop-set-lt, length-set}
+use Rattle.std.specs.Vec.Iter.{into_iter_items}
+use Rattle.hot_c.specs.declared.handle.Handle.{Handle}
+use Rattle.hot_c.proofs.Places.{alike, all_after, first_after, one_less}
+use Rattle.hot_c.proofs.opening.open_handles.Goals as goal
+
+pub open-requires : goal.open-requires
+open-requires c =
+    let at = c.loop-opened in
+    let shorter = ap length c.in-Some.ensures.steps.0 in
+    first_after (λ (h : Handle). h.slot.opened ≡ None) at.place at.handles c.index-handles-place.result (omega (arith, shorter, at.invariant.count)) at.invariant.closed
+
+pub loop-opened-preserved : goal.loop-opened-preserved
+loop-opened-preserved c =
+    let at = c.loop-opened in
+    let steps = c.in-Some.ensures.steps.0 in
+    let less = c.in-Some.ensures.steps.1 in
+    let shorter = ap length steps in
+    let long = at.invariant.long in
+    let count = at.invariant.count in
+    let opened = c.open.new.self in
+    let inside : at.place < length at.handles = omega (arith, shorter, count) in
+    let kept = length-set at.handles at.place opened in
+    record {
+      long = omega (arith, long, less, shorter);
+      count = omega (arith, count, shorter, kept);
+      left = sym (one_less at.place c.args.passes.items ∙ ap (drop 1) (sym at.invariant.left ∙ steps));
+      done = alike (λ (h : Handle). h.slot.opened) (λ b. Some b.value) at.place at.handles c.args.passes.items opened c.in-Some.opened (into_iter_items c.next.new.self) inside
+          (sym at.invariant.left ∙ steps) c.open.ensures at.invariant.done;
+      closed = subst (All (λ (h : Handle). h.slot.opened ≡ None)) (sym (drop-set-lt (at.place + 1) at.handles at.place opened (omega arith)))
+          (all_after (λ (h : Handle). h.slot.opened ≡ None) at.place at.handles at.invariant.closed);
+    }

@@ -1,0 +1,28 @@
+-- The key's first bytes and its last ones overlap or touch, so together they are the key.
+use Rattle.std.proofs.Common.{◌≡◌, ℕ, ◌+◌, ◌-◌, ◌≤◌, List, ◌++◌, length, take, drop, refl, ap, ◌∙◌, arith}
+use Rattle.std.proofs.lemmas.List.{length-append, length-drop, length-take-le, take-append-drop, take-append-le, take-take, take_rest}
+use Rattle.std.proofs.lemmas.Slice.{take-put_mid}
+use borrow.Rule.Slice.PartMut.{put_mid}
+use Rattle.hot_c.proofs.pairs.write_pair_by_ends.Goals as goal
+
+-- the last n bytes are written over what begins with the first n
+ends_meet : (key front others back : List ℕ) (n k : ℕ) → n ≤ length key → length key ≤ n + n → front ≡ take n key → back ≡ drop (length key - n) key
+    → take (length key) (put_mid (length key - n) k (front ++ others) back) ≡ key
+ends_meet key front others back n k short meet is_front is_back =
+    let last = length key - n in
+    let within : last ≤ length front = let long = ap length is_front ∙ length-take-le n key short in omega (arith, long) in
+    let many : length back ≡ length key - last = ap length is_back ∙ length-drop last key in
+    take-put_mid last k (front ++ others) back (length key) (omega (arith, many)) (omega (arith, within, length-append front others))
+    ∙ ap (λ bytes. bytes ++ back) (take-append-le last front others within ∙ ap (take last) is_front ∙ take-take last n key (omega arith))
+    ∙ ap (λ bytes. take last key ++ bytes) is_back ∙ take-append-drop last key
+
+pub returns : goal.returns
+returns g c =
+    let key = c.args.key.now in
+    let first = c.copy_from_slice-2.ensures.after ∙ c.copy_from_slice.ensures.after in
+    let rest = c.copy_from_slice-4.ensures.after ∙ c.copy_from_slice-3.ensures.after ∙ take_rest key (length key - g.row.N) in
+    record {
+      key = ends_meet key _ _ _ g.row.N _ c.requires.covered.0 c.requires.covered.1 first rest;
+      count = refl;
+      value = refl;
+    }

@@ -1,0 +1,32 @@
+-- One line more.
+use Rattle.std.proofs.Common.{◌≡◌, ◌≤◌, ℕ, List, ◌∷◌, map, Option, Some, None, Result, Ok, sym, ap, arith}
+use Rattle.std.specs.Prelude.{All, IfSome, filter_map}
+use Rattle.std.proofs.lemmas.List.Elements.{All-cons}
+use Rattle.hot_scripts.specs.declared.command.Command.{Command}
+use Rattle.hot_scripts.specs.declared.fault.Reason.{Reason}
+use Rattle.hot_scripts.specs.Grammar.{HasKeyUpTo, asked, reading_of}
+use Rattle.hot_scripts.specs.Words.{parts_left, text_len}
+use Rattle.hot_scripts.proofs.script.Commands.longest_key_length.Goals as goal
+
+one_more : (most bound : ℕ) (reading : Result (Option Command) Reason) (command : Option Command) (rest : List (Result (Option Command) Reason))
+    → reading ≡ Ok command → IfSome command (HasKeyUpTo bound) → bound ≤ most → All (HasKeyUpTo most) (filter_map asked rest)
+    → All (HasKeyUpTo most) (filter_map asked (reading ∷ rest))
+one_more most bound reading None rest is fits above all = rw is all
+one_more most bound reading (Some command) rest is fits above all =
+    rw is (All-cons (HasKeyUpTo most) command (filter_map asked rest) (omega (arith, fits, above)) all)
+
+pub loop-left-preserved : goal.loop-left-preserved
+loop-left-preserved c =
+    let was = c.loop-left.invariant in
+    let reads = reading_of c.args.self.version in
+    let line = c.split_first.result.0.now in
+    let rest = parts_left 10 c.split_first.result.1 in
+    let parts : parts_left 10 c.loop-left.left ≡ line ∷ rest = rw c.in-Some.is c.split_first.ensures.parts in
+    let asks : reads line ≡ Ok c.in-Ok.command = sym c.in-Ok.ensures in
+    record {
+      bad = rw (parts, asks) at was.bad;
+      small = omega (arith, was.small, c.split_first.ensures.left, ap text_len c.in-Some.is);
+      few = c.larger_number-longest.ensures.few was.few c.key_length.ensures.few;
+      keys = λ most above fits. was.keys most (omega (arith, above, c.larger_number-longest.ensures.bound))
+          (rw parts (one_more most c.key_length.result (reads line) c.in-Ok.command (map reads rest) asks c.key_length.ensures.key (omega (arith, above, c.larger_number-longest.ensures.bound)) fits));
+    }

@@ -1,6 +1,0 @@
--- The seat stays one of the table's.
-use Rattle.rowex_table.specs.Seats.{IsSeatOf}
-use Rattle.index_tests.proofs.claims.claim_each.Given as goal
-
-abbrev pub invariant-loop-number : goal.invariant-loop-number
-invariant-loop-number l = IsSeatOf l.table l.seat
