@@ -105,14 +105,18 @@ fn make_with_open_passes(
         Ok(made) => made,
         Err(fault) => return Err(fault),
     };
-    match open_each(alloc, &index, closed) {
+    match open_passes(alloc, &index, closed) {
         Ok(passes) => Ok((index, passes)),
         Err(_) => Err(IndexFault::Memory),
     }
 }
 
 /// Opens the passes `closed` for calls at `index`, and returns them in their order; an error if memory is refused.
-fn open_each(alloc: Global, index: &Index, closed: Vec<ClosedPass>) -> Result<Vec<Pass>, AllocError>
+fn open_passes(
+    alloc: Global,
+    index: &Index,
+    closed: Vec<ClosedPass>,
+) -> Result<Vec<Pass>, AllocError>
     ensures { IfOk result (λ passes. passes.items ≡ closed.items) }
 {
     let mut passes = Vec::new(alloc);
@@ -146,12 +150,12 @@ fn make_index(alloc: Global, layout: Layout) -> Result<(Index, Vec<ClosedPass>),
     ensures each { IfOk result (λ made. (q : ℕ) (p : PassView) → slice_get made.1.items q ≡ Some p → Owns made.0 p × IsNewPass q p) }
 {
     let (table, seats) = HotTable::new(alloc, layout)?;
-    let passes = passes_of(alloc, &table, seats)?;
+    let passes = make_closed_passes(alloc, &table, seats)?;
     Ok((Index { table }, passes))
 }
 
 /// The closed passes of `seats`, the new seats of `table`, in their order; an error if memory is refused.
-fn passes_of(
+fn make_closed_passes(
     alloc: Global,
     table: &HotTable,
     seats: Vec<TableSeat>,

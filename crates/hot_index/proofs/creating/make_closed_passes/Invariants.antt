@@ -3,7 +3,7 @@ use Rattle.std.specs.Prelude.{◌≡◌, ℕ, ◌+◌, Some, length, slice_get}
 use Rattle.std.specs.Vec.Iter.{into_iter_items, into_iter_len}
 use Rattle.seat_calls.specs.Passes.{PassView, Owns, IsNewPass}
 use Rattle.hot_index.proofs.Making.{AreFrom}
-use Rattle.hot_index.proofs.creating.passes_of.Given as goal
+use Rattle.hot_index.proofs.creating.make_closed_passes.Given as goal
 
 abbrev pub invariant-loop-seat : goal.invariant-loop-seat
 invariant-loop-seat l = record {

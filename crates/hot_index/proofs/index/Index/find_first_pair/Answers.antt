@@ -4,7 +4,7 @@ use Rattle.std.proofs.lemmas.Result.{err_from_is_err_and}
 use Rattle.std.specs.Option.{option_to_list}
 use Rattle.hot_index.proofs.Firsts.{one_at_most, only}
 use Rattle.hot_index.proofs.Reading.{range_first, range_refused, range_uncopied}
-use Rattle.hot_index.proofs.index.Index.find_first.Goals as goal
+use Rattle.hot_index.proofs.index.Index.find_first_pair.Goals as goal
 
 pub returns-in_err-list_range : goal.returns-in_err-list_range
 returns-in_err-list_range c = range_refused c.from_residual.result (err_from_is_err_and c.from_residual.result c.from_residual.ensures.1).1 c.in_err-list_range.ensures

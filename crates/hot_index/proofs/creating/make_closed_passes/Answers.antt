@@ -6,7 +6,7 @@ use Rattle.key_counts.specs.Counts.{IsCountOf}
 use Rattle.rowex_core.specs.declared.known.Known.{Known}
 use Rattle.seat_calls.specs.Passes.{PassView, Owns, IsNewPass, IsSettled, pass_of}
 use Rattle.hot_index.proofs.Making.{AreFrom, all_left, first_of, rest_of, each_of_none, each_longer, new_pass}
-use Rattle.hot_index.proofs.creating.passes_of.Goals as goal
+use Rattle.hot_index.proofs.creating.make_closed_passes.Goals as goal
 
 pub loop-seat-init : goal.loop-seat-init
 loop-seat-init c =
