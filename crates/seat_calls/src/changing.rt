@@ -152,7 +152,7 @@ pub fn retry_change<R: Wait, G: Gate>(
         match try_change(table, seat, gate, scratch, call) {
             Ok(reply) => return Ok(reply),
             Err(fault) => {
-                if let Some(full) = refusal(fault, scratch.is_moving) {
+                if let Some(full) = final_refusal(fault, scratch.is_moving) {
                     return Err(full);
                 }
                 thread::yield_now();
@@ -164,7 +164,7 @@ pub fn retry_change<R: Wait, G: Gate>(
 
 /// The refusal with which a call that waits ends after the fault `fault`: the kind of records of which none was free. `None` if it tries
 /// again, as another pass is in its way, or `is_moving` says that records may come back.
-fn refusal(fault: TryFault, is_moving: bool) -> Option<Full>
+fn final_refusal(fault: TryFault, is_moving: bool) -> Option<Full>
     ensures some { IfSome result (λ full. (fault ≡ fault_of full) × (is_moving ≡ false)) }
     ensures none { result ≡ None → (fault ≡ Busy) ⊎ (is_moving ≡ true) }
 {
