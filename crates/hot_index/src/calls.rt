@@ -8,7 +8,7 @@ ghost use Rattle.seat_calls.specs.Counts.{try_steps};
 ghost use Rattle.seat_calls.specs.Passes.{Owns};
 ghost use Rattle.seat_calls.specs.Traces.{HasTold};
 
-use crate::index::{Index, Pass, reply_of};
+use crate::index::{Index, Pass, reply_to_get};
 use finite_map::{Call, Reply};
 use rowex_core::{Gate, NoGate};
 use rowex_writing::{Full, TryFault};
@@ -43,7 +43,7 @@ impl Index {
         ensures told { HasTold self.now G.becomes (pass.old, gate.old) (pass.new, gate.new) }
     {
         match call {
-            Call::Get(key) => Ok(reply_of(self.get_with(pass, key, gate))),
+            Call::Get(key) => Ok(reply_to_get(self.get_with(pass, key, gate))),
             _ => self.try_change_with(pass, gate, call),
         }
     }
@@ -68,7 +68,7 @@ impl Index {
         ensures told { HasTold self.now G.becomes (pass.old, gate.old) (pass.new, gate.new) }
     {
         match call {
-            Call::Get(key) => Ok(reply_of(self.get_with(pass, key, gate))),
+            Call::Get(key) => Ok(reply_to_get(self.get_with(pass, key, gate))),
             _ => self.retry_change_with(rt, pass, gate, call),
         }
     }

@@ -47,7 +47,7 @@ pub fn create(
     ensures leaves { (result ≡ Err (IndexFault.Layout LayoutFault.Leaves)) ↔ (IsPassCount passes × IsNodeCount nodes × ¬ IsLeafCount leaves) }
     ensures memory { result ≡ Err IndexFault.Memory → IsPassCount passes × IsNodeCount nodes × IsLeafCount leaves }
 {
-    make_with_open_passes(alloc, Layout::of(passes, nodes, leaves))
+    make_index_with_open_passes(alloc, Layout::of(passes, nodes, leaves))
 }
 
 /// Makes an empty index with `passes` passes (1 to 1,024) and the records of `stock`. Returns it with its passes in the order of their
@@ -70,7 +70,7 @@ pub fn create_with(
     ensures leaves { (result ≡ Err (IndexFault.Layout LayoutFault.Leaves)) ↔ (IsStockPassCount passes × IsRecordCount stock.nodes × ¬ IsRecordCount (leaves_of stock)) }
     ensures memory { result ≡ Err IndexFault.Memory → IsStockPassCount passes × IsRecordCount stock.nodes × IsRecordCount (leaves_of stock) }
 {
-    make_with_open_passes(alloc, Layout::with_stock(passes, stock))
+    make_index_with_open_passes(alloc, Layout::with_stock(passes, stock))
 }
 
 /// Does what `create_with` does, with its faults, but the passes are closed. Each takes 16 bytes until it is opened.
@@ -87,11 +87,11 @@ pub fn create_closed(
     ensures leaves { (result ≡ Err (IndexFault.Layout LayoutFault.Leaves)) ↔ (IsStockPassCount passes × IsRecordCount stock.nodes × ¬ IsRecordCount (leaves_of stock)) }
     ensures memory { result ≡ Err IndexFault.Memory → IsStockPassCount passes × IsRecordCount stock.nodes × IsRecordCount (leaves_of stock) }
 {
-    make_with_closed_passes(alloc, Layout::with_stock(passes, stock))
+    make_index_with_closed_passes(alloc, Layout::with_stock(passes, stock))
 }
 
 /// Makes the index of the layout `found`, with open passes. If `found` is a fault, returns that; `Memory` if memory is refused.
-fn make_with_open_passes(
+fn make_index_with_open_passes(
     alloc: Global,
     found: Result<Layout, LayoutFault>,
 ) -> Result<(Index, Vec<Pass>), IndexFault>
@@ -101,18 +101,22 @@ fn make_with_open_passes(
     ensures fault { (fault : LayoutFault) → (result ≡ Err (IndexFault.Layout fault)) ↔ (found ≡ Err fault) }
     ensures memory { result ≡ Err IndexFault.Memory → IsOk found }
 {
-    let (index, closed) = match make_with_closed_passes(alloc, found) {
+    let (index, closed) = match make_index_with_closed_passes(alloc, found) {
         Ok(made) => made,
         Err(fault) => return Err(fault),
     };
-    match open_each(alloc, &index, closed) {
+    match open_passes(alloc, &index, closed) {
         Ok(passes) => Ok((index, passes)),
         Err(_) => Err(IndexFault::Memory),
     }
 }
 
 /// Opens the passes `closed` for calls at `index`, and returns them in their order; an error if memory is refused.
-fn open_each(alloc: Global, index: &Index, closed: Vec<ClosedPass>) -> Result<Vec<Pass>, AllocError>
+fn open_passes(
+    alloc: Global,
+    index: &Index,
+    closed: Vec<ClosedPass>,
+) -> Result<Vec<Pass>, AllocError>
     ensures { IfOk result (λ passes. passes.items ≡ closed.items) }
 {
     let mut passes = Vec::new(alloc);
@@ -123,7 +127,7 @@ fn open_each(alloc: Global, index: &Index, closed: Vec<ClosedPass>) -> Result<Ve
 }
 
 /// Makes the index of the layout `found`, with closed passes. If `found` is a fault, returns that; `Memory` if memory is refused.
-fn make_with_closed_passes(
+fn make_index_with_closed_passes(
     alloc: Global,
     found: Result<Layout, LayoutFault>,
 ) -> Result<(Index, Vec<ClosedPass>), IndexFault>
@@ -146,12 +150,12 @@ fn make_index(alloc: Global, layout: Layout) -> Result<(Index, Vec<ClosedPass>),
     ensures each { IfOk result (λ made. (q : ℕ) (p : PassView) → slice_get made.1.items q ≡ Some p → Owns made.0 p × IsNewPass q p) }
 {
     let (table, seats) = HotTable::new(alloc, layout)?;
-    let passes = passes_of(alloc, &table, seats)?;
+    let passes = make_closed_passes(alloc, &table, seats)?;
     Ok((Index { table }, passes))
 }
 
 /// The closed passes of `seats`, the new seats of `table`, in their order; an error if memory is refused.
-fn passes_of(
+fn make_closed_passes(
     alloc: Global,
     table: &HotTable,
     seats: Vec<TableSeat>,

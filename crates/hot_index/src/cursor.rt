@@ -86,7 +86,7 @@ impl Cursor {
         };
         match index.scan_into(pass, &rest.from, &rest.upto, limit, pairs) {
             Ok(more) => {
-                self.rest = rest_after(rest, pairs, more);
+                self.rest = rest_after_part(rest, pairs, more);
                 Ok(more)
             }
             Err(refused) => Err(refused),
@@ -96,7 +96,7 @@ impl Cursor {
 
 /// What is left of the keys `rest` after a part with `pairs`. That is what comes above the last pair's key, or all of `rest` if there is
 /// no pair. `None` if the range has no more, as `more` says, or no key comes above that one.
-fn rest_after(rest: &Rest, pairs: &Pairs, more: bool) -> Option<Rest>
+fn rest_after_part(rest: &Rest, pairs: &Pairs, more: bool) -> Option<Rest>
     ensures { IsLeft rest.now pairs.now more result }
 {
     if !more {

@@ -400,7 +400,7 @@ impl Index {
 }
 
 /// The reply to a get that found `found`: `Value`, or `Absent` for `None`.
-pub(crate) fn reply_of(found: Option<u64>) -> Reply
+pub(crate) fn reply_to_get(found: Option<u64>) -> Reply
     ensures { result ≡ got found }
 {
     match found {

@@ -47,6 +47,6 @@ impl Index {
         ensures { IsRangeRead (λ layout k j. IsFirstFound layout k j from.now) (range_from from.now (last_with []) 1) result self.now pass.old pass.new }
     {
         let last = last_with_prefix(&Key::from_padded([0; MAX_BYTES], 0));
-        self.find_first(alloc, pass, Direction::Upwards, from, &last)
+        self.find_first_pair(alloc, pass, Direction::Upwards, from, &last)
     }
 }

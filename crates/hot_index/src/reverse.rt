@@ -80,7 +80,7 @@ impl Index {
         ensures { IsRangeRead (λ layout k j. IsLastFound layout k j upto.now) (range_from [] upto.now 1) result self.now pass.old pass.new }
     {
         let empty = Key::from_padded([0; MAX_BYTES], 0);
-        self.find_first(alloc, pass, Direction::Downwards, &empty, upto)
+        self.find_first_pair(alloc, pass, Direction::Downwards, &empty, upto)
     }
 
     /// Does what `scan_reverse_into` does, and reports each of its steps to `gate`.

@@ -155,7 +155,7 @@ impl Index {
     /// The pair that comes first in `direction` of those with keys from `from` to `upto`; `None` if no pair was found. An error if memory
     /// is refused.
     #[inline(always)]
-    pub(crate) fn find_first(
+    pub(crate) fn find_first_pair(
         &self,
         alloc: Global,
         pass: &mut Pass,

@@ -5,12 +5,12 @@ ghost use Rattle.index_laws.specs.Steps.{StepsAreMoments, StepsFollow};
 ghost use Rattle.index_laws.specs.Traced.{AGetIsTraced, CallsMakeNoAsides, EndedBeforeLoaded, EndedOrLoadedBefore, EndedOrShownBefore, LoadsAreMoments, LoadsSeeAll, MetAreOfOneRun, TracedAreExecutions};
 
 /// A run may begin at a new index. A call that has ended as its contract says responds or is refused in it. So an execution is a run.
-pub fn responses()
+pub fn ended_calls_respond_or_are_refused()
     ensures { Responses }
 {}
 
 /// All that is promised of the index, in one place: each field of `Headline` is one promise.
-pub fn headline()
+pub fn all_promises_hold()
     ensures { Headline }
 {}
 
@@ -20,61 +20,61 @@ pub fn a_get_returns()
 {}
 
 /// Let a core show the table's state. Then a step that a pass may make is legal in it, and the core after the step shows the next state.
-pub fn steps_follow()
+pub fn allowed_steps_are_legal()
     ensures { StepsFollow }
 {}
 
 /// Let a moment of a run have the core that shows the table's state, and a call of a pass pending. Then a step that the pass may make is a
 /// step of the run, to a moment whose core shows the next state.
-pub fn steps_are_moments()
+pub fn allowed_steps_are_steps_of_the_run()
     ensures { StepsAreMoments }
 {}
 
 /// Contracts of steps, of stamps, of meetings and of calls make an execution. The premise is that the steps of all passes have one order,
 /// in which each step's trace is what came before it.
-pub fn traced_are_executions()
+pub fn contracts_make_an_execution()
     ensures { TracedAreExecutions }
 {}
 
 /// There is an execution by contracts alone in which a call returns: a get, in an index that has just been made.
-pub fn a_get_is_traced()
+pub fn a_get_returns_by_contracts_alone()
     ensures { AGetIsTraced }
 {}
 
 /// In an execution by contracts alone, a load of the root has its moment in the call. It shows its pass all that any had seen by then.
-pub fn loads_are_moments()
+pub fn a_root_load_has_its_moment()
     ensures { LoadsAreMoments }
 {}
 
 /// A load of the root shows all changes that a pass, another or the same, had seen by its steps before that load.
-pub fn loads_see_all()
+pub fn a_root_load_shows_earlier_changes()
     ensures { LoadsSeeAll }
 {}
 
 /// Let a call with one key be answered, and another load the root after all steps that the first one's pass knew of. Then the first stands
 /// no later than that, and earlier if it changed the map.
-pub fn ended_before_loaded()
+pub fn calls_stand_in_order_of_steps()
     ensures { EndedBeforeLoaded }
 {}
 
-/// Let one run have two answered calls, each with one key. Either the first stands as in `ended_before_loaded`, or its pass knew of the
-/// other's load of the root when it ended.
-pub fn ended_or_loaded_before()
+/// Let one run have two answered calls, each with one key. Either the first stands as in `calls_stand_in_order_of_steps`, or its pass knew
+/// of the other's load of the root when it ended.
+pub fn calls_stand_in_order_or_first_knew_the_load()
     ensures { EndedOrLoadedBefore }
 {}
 
 /// Let one run have the trace of an answered call and all steps before another's load of the root; each has one key. Either the first
-/// stands as in `ended_before_loaded`, or its pass knew of all these steps when it ended.
-pub fn ended_or_shown_before()
+/// stands as in `calls_stand_in_order_of_steps`, or its pass knew of all these steps when it ended.
+pub fn calls_stand_in_order_or_first_knew_the_steps()
     ensures { EndedOrShownBefore }
 {}
 
 /// Two passes that have met are of one run of the table. Of the two lists of steps that they knew of before, one begins with the other.
-pub fn met_are_of_one_run()
+pub fn met_passes_are_of_one_run()
     ensures { MetAreOfOneRun }
 {}
 
 /// A call makes no stamp, follows none and meets no other pass.
-pub fn calls_make_no_asides()
+pub fn calls_neither_stamp_nor_follow_nor_meet()
     ensures { CallsMakeNoAsides }
 {}

@@ -50,7 +50,7 @@ fn collect_due<G: Gate>(table: &HotTable, seat: &mut TableSeat, gate: &mut G, sc
 {
     if scratch.limbo.is_due() {
         collect_small(table, seat, gate, &mut scratch.limbo);
-        scratch.reuse_given(table.layout());
+        scratch.reuse_given_records(table.layout());
     }
 }
 
@@ -68,17 +68,17 @@ fn try_twice<G: Gate>(
     ensures asked { HasAsked table.now G.becomes (AreTries table.now G.becomes call.now result) call.now result (seat.old, gate.old) (seat.new, gate.new) }
     ensures few { seat.new.known.steps ≤ seat.old.known.steps + twice_steps table.now.layout }
 {
-    let first = try_once(table, seat, gate, scratch, call);
+    let first = make_attempt(table, seat, gate, scratch, call);
     let Some(lacks) = full_kind(first) else {
         return first;
     };
     let round = collect_round(table, seat, gate);
     let passes = table.layout().passes;
-    let count = count_given(round.given, lacks);
-    scratch.is_moving = round.held_back || may_be_taken(passes, count);
-    scratch.skip_none();
-    if has_room(passes, count) {
-        return try_once(table, seat, gate, scratch, call);
+    let count = given_count(round.given, lacks);
+    scratch.is_moving = round.held_back || others_may_take_given(passes, count);
+    scratch.reset_skips();
+    if may_find_free_record(passes, count) {
+        return make_attempt(table, seat, gate, scratch, call);
     }
     pin_and_unpin(table, seat, gate);
     first
@@ -97,7 +97,7 @@ fn full_kind(answer: Result<Reply, TryFault>) -> Option<Full>
 }
 
 /// How many records of the kind `kind` a round gave back, by its counts `given`.
-fn count_given(given: Given, kind: Full) -> u32
+fn given_count(given: Given, kind: Full) -> u32
     ensures nodes { kind ≡ Nodes → result ≡ given.nodes }
     ensures leaves { kind ≡ Leaves → result ≡ given.leaves }
 {
@@ -109,14 +109,14 @@ fn count_given(given: Given, kind: Full) -> u32
 
 /// Whether a record of a kind may be free after a round that gave back `given` of it, in an index of `passes` passes. It may be one of
 /// these, or one that another pass gave back meanwhile.
-fn has_room(passes: u32, given: u32) -> bool
+fn may_find_free_record(passes: u32, given: u32) -> bool
     ensures { IsTrue result ↔ ((1 < passes) ⊎ (0 < given)) }
 {
     passes > 1 || given > 0
 }
 
 /// Whether a round gave back records, `given` of a kind, that another of `passes` passes may take before the next attempt.
-fn may_be_taken(passes: u32, given: u32) -> bool
+fn others_may_take_given(passes: u32, given: u32) -> bool
     ensures { IsTrue result ↔ ((1 < passes) × (0 < given)) }
 {
     passes > 1 && given > 0
@@ -152,7 +152,7 @@ pub fn retry_change<R: Wait, G: Gate>(
         match try_change(table, seat, gate, scratch, call) {
             Ok(reply) => return Ok(reply),
             Err(fault) => {
-                if let Some(full) = refusal(fault, scratch.is_moving) {
+                if let Some(full) = final_refusal(fault, scratch.is_moving) {
                     return Err(full);
                 }
                 thread::yield_now();
@@ -164,7 +164,7 @@ pub fn retry_change<R: Wait, G: Gate>(
 
 /// The refusal with which a call that waits ends after the fault `fault`: the kind of records of which none was free. `None` if it tries
 /// again, as another pass is in its way, or `is_moving` says that records may come back.
-fn refusal(fault: TryFault, is_moving: bool) -> Option<Full>
+fn final_refusal(fault: TryFault, is_moving: bool) -> Option<Full>
     ensures some { IfSome result (λ full. (fault ≡ fault_of full) × (is_moving ≡ false)) }
     ensures none { result ≡ None → (fault ≡ Busy) ⊎ (is_moving ≡ true) }
 {
@@ -180,7 +180,7 @@ fn refusal(fault: TryFault, is_moving: bool) -> Option<Full>
 
 /// Makes one attempt at `call`, with the pass pinned, and notes its reply if it has one. Returns the reply, or why the attempt was
 /// refused.
-fn try_once<G: Gate>(
+fn make_attempt<G: Gate>(
     table: &HotTable,
     seat: &mut TableSeat,
     gate: &mut G,
@@ -200,14 +200,14 @@ fn try_once<G: Gate>(
         &mut scratch.build,
         call,
     );
-    end_try(table, seat, gate, call, outcome);
-    scratch.retire_later();
+    end_attempt(table, seat, gate, call, outcome);
+    scratch.move_unlinked_to_limbo();
     outcome
 }
 
 /// Clears the pin at the end of an attempt. The notes `said` come with this step: that of a reply, or none. The caller's proof makes them
 /// of `_call` and `_outcome`, which the code doesn't read.
-fn end_try<G: Gate>(
+fn end_attempt<G: Gate>(
     table: &HotTable,
     seat: &mut TableSeat,
     gate: &mut G,

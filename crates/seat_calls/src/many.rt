@@ -17,9 +17,9 @@ use rowex_table::{HotTable, TableSeat};
 /// How many keys gain time by going down by turns first: fewer are looked up sooner without it.
 const ENOUGH: usize = 16;
 
-/// Looks up `keys`, one after the other, each from the root down. What it finds goes to the key's place in `found`: the value, or `None`
-/// if the key is absent. `gate` is told each step. Before that, groups of `TOGETHER` keys go down by turns: this loads their nodes into the
-/// cache, and finds the places in them. The last keys do not, if these are fewer than `ENOUGH`.
+/// Loads the root, then looks up `keys` in their order. For each key, `found` gets at its place the value, or `None` if the key is absent:
+/// as of some moment since that load. `gate` is told each step. Up to `TOGETHER` keys at a time first go down by turns, which loads their
+/// nodes into the cache and finds the slots in them. Fewer than `ENOUGH` last keys are looked up without that.
 pub fn look_up_each<G: Gate>(
     table: &HotTable,
     seat: &mut TableSeat,

@@ -28,7 +28,7 @@ pub struct Scratch {
 
 impl Scratch {
     /// Moves the records that the last attempt has unlinked, if any, to the end of the limbo list.
-    pub fn retire_later(&mut self)
+    pub fn move_unlinked_to_limbo(&mut self)
         ensures { self.new.build.gone.items ≡ [] }
     {
         while let Some(rec) = self.build.gone.pop() {
@@ -37,35 +37,35 @@ impl Scratch {
     }
 
     /// Lets the next claims begin with the records that the last small round gave back. `layout` is that of the table.
-    pub fn reuse_given(&mut self, layout: Layout) {
+    pub fn reuse_given_records(&mut self, layout: Layout) {
         for rec in self.limbo.given.as_slice() {
             keep_spare(&mut self.build, layout, *rec);
         }
     }
 
     /// Lets claims try each class of leaf records in its turn again, as after a full round each may have a free record.
-    pub fn skip_none(&mut self) {
+    pub fn reset_skips(&mut self) {
         for place in 0..LEAF_CLASSES {
             self.build.leaves[place].skips = 0;
         }
     }
 }
 
-/// Adds `rec` to the spare numbers of its kind or class, so that the next claim there begins with `rec`. If these are full, `rec` isn't
-/// kept. Either way claims of leaf records try its class in its turn again.
+/// Adds `rec` to the spare numbers of its kind, for a leaf of its class, so that the next claim there tries `rec` first. If that list is
+/// full, `rec` isn't kept. Either way claims don't skip that kind or class any more. `layout` is that of the table.
 fn keep_spare(build: &mut Build, layout: Layout, rec: Rec) {
     match rec {
         Rec::Node(number) => build.nodes.give_back(number),
         Rec::Leaf(number) => {
             let place = layout.class_of(number).index();
-            let first = first_of_class(layout, number);
+            let first = first_leaf_of_class(layout, number);
             build.leaves[place].give_back(number.saturating_sub(first));
         }
     }
 }
 
 /// The number of the first leaf record of the class that leaf record `number` has.
-fn first_of_class(layout: Layout, number: u32) -> u32 {
+fn first_leaf_of_class(layout: Layout, number: u32) -> u32 {
     match layout.class_of(number) {
         LeafClass::Short => 0,
         LeafClass::Medium => layout.medium_from,
@@ -79,7 +79,7 @@ fn first_of_class(layout: Layout, number: u32) -> u32 {
 /// the records of its own, so that passes begin apart.
 pub fn new_scratch(alloc: Global, layout: Layout, number: u16) -> Result<Box<Scratch>, AllocError> {
     let part = |from: u32, upto: u32| {
-        Hint::begin_at(first_claim(number, layout.passes, upto.saturating_sub(from)))
+        Hint::begin_at(first_number_to_claim(number, layout.passes, upto.saturating_sub(from)))
     };
     let build = Build {
         made: ArrayVec::new(),
@@ -104,7 +104,7 @@ pub fn new_scratch(alloc: Global, layout: Layout, number: u16) -> Result<Box<Scr
 }
 
 /// The number at which the claims of pass `number` begin, if `passes` passes share `records` records. 0 if there is no pass.
-fn first_claim(number: u16, passes: u32, records: u32) -> u32 {
+fn first_number_to_claim(number: u16, passes: u32, records: u32) -> u32 {
     let first = (u64::from(number) * u64::from(records))
         .checked_div(u64::from(passes))
         .unwrap_or(0);

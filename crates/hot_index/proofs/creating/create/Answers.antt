@@ -4,10 +4,10 @@ use Rattle.hot_index.proofs.Making.{told_as_found}
 use Rattle.hot_index.proofs.creating.create.Goals as goal
 
 pub returns-clause-passes : goal.returns-clause-passes
-returns-clause-passes c = told_as_found (c.make_with_open_passes.ensures.fault LayoutFault.Passes) c.of.ensures.passes
+returns-clause-passes c = told_as_found (c.make_index_with_open_passes.ensures.fault LayoutFault.Passes) c.of.ensures.passes
 
 pub returns-clause-nodes : goal.returns-clause-nodes
-returns-clause-nodes c = told_as_found (c.make_with_open_passes.ensures.fault LayoutFault.Nodes) c.of.ensures.nodes
+returns-clause-nodes c = told_as_found (c.make_index_with_open_passes.ensures.fault LayoutFault.Nodes) c.of.ensures.nodes
 
 pub returns-clause-leaves : goal.returns-clause-leaves
-returns-clause-leaves c = told_as_found (c.make_with_open_passes.ensures.fault LayoutFault.Leaves) c.of.ensures.leaves
+returns-clause-leaves c = told_as_found (c.make_index_with_open_passes.ensures.fault LayoutFault.Leaves) c.of.ensures.leaves

@@ -21,8 +21,8 @@ loop-init g c = record { idle = c.requires.idle; waited = inl refl; refused = ([
 pub returns-in-Ok-clause-stepped : goal.returns-in-Ok-clause-stepped
 returns-in-Ok-clause-stepped g c = ran_out c.args.table.now g.G.Gate.becomes _ _ _ c.loop.invariant.ran c.in-Ok.ensures.asked.ended
 
-pub returns-in-Some-refusal-clause-stepped : goal.returns-in-Some-refusal-clause-stepped
-returns-in-Some-refusal-clause-stepped g c = ran_out c.args.table.now g.G.Gate.becomes _ _ _ c.loop.invariant.ran c.in-Err.ensures.asked.ended
+pub returns-in-Some-final_refusal-clause-stepped : goal.returns-in-Some-final_refusal-clause-stepped
+returns-in-Some-final_refusal-clause-stepped g c = ran_out c.args.table.now g.G.Gate.becomes _ _ _ c.loop.invariant.ran c.in-Err.ensures.asked.ended
 
 pub loop-preserved : goal.loop-preserved
 loop-preserved g c =
@@ -34,22 +34,22 @@ loop-preserved g c =
       ran = ran_on c.args.table.now g.G.Gate.becomes _ _ _ c.loop.invariant.ran o.ended;
     }
 
-pub returns-in-Some-refusal-clause-replied : goal.returns-in-Some-refusal-clause-replied
-returns-in-Some-refusal-clause-replied g c =
-    waited_out c.args.table.now c.args.seat.now c.loop.seat c.try_change.new.seat c.args.call.now (Err (fault_of c.in-Some-refusal.full)) c.loop.invariant.waited
-    (subst (λ fault. HasReplied c.args.table.now c.args.call.now (Err fault) c.loop.seat c.try_change.new.seat) c.in-Some-refusal.ensures.some.0 c.in-Err.ensures.asked.replied)
+pub returns-in-Some-final_refusal-clause-replied : goal.returns-in-Some-final_refusal-clause-replied
+returns-in-Some-final_refusal-clause-replied g c =
+    waited_out c.args.table.now c.args.seat.now c.loop.seat c.try_change.new.seat c.args.call.now (Err (fault_of c.in-Some-final_refusal.full)) c.loop.invariant.waited
+    (subst (λ fault. HasReplied c.args.table.now c.args.call.now (Err fault) c.loop.seat c.try_change.new.seat) c.in-Some-final_refusal.ensures.some.0 c.in-Err.ensures.asked.replied)
 
 pub returns-in-Ok-clause-tries : goal.returns-in-Ok-clause-tries
 returns-in-Ok-clause-tries g c =
     let so_far = c.loop.invariant.refused in
     record { faults = so_far.0; last = (pass_of c.loop.seat, c.loop.gate); refused = so_far.1; tried = tried_seen refl refl c.in-Ok.ensures.asked c.in-Ok.ensures.few }
 
-pub returns-in-Some-refusal-clause-tries : goal.returns-in-Some-refusal-clause-tries
-returns-in-Some-refusal-clause-tries g c =
+pub returns-in-Some-final_refusal-clause-tries : goal.returns-in-Some-final_refusal-clause-tries
+returns-in-Some-final_refusal-clause-tries g c =
     let table = c.args.table.now in
     let call = c.args.call.now in
     let so_far = c.loop.invariant.refused in
     let last =
     subst (λ fault. HasAsked table g.G.Gate.becomes (AreAttempts table g.G.Gate.becomes call (Err fault)) call (Err fault) (c.loop.seat, c.loop.gate) (c.try_change.new.seat, c.try_change.new.gate))
-    c.in-Some-refusal.ensures.some.0 c.in-Err.ensures.asked in
+    c.in-Some-final_refusal.ensures.some.0 c.in-Err.ensures.asked in
     record { faults = so_far.0; last = (pass_of c.loop.seat, c.loop.gate); refused = so_far.1; tried = tried_seen refl refl last c.in-Err.ensures.few }

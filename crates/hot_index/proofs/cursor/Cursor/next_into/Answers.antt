@@ -21,8 +21,8 @@ returns-in-Ok-clause-listed c = of_the_same _ _
     (sym c.self.view_is ∙ c.in-Some.is) c.in-Ok.ensures
 
 pub returns-in-Ok-clause-left : goal.returns-in-Ok-clause-left
-returns-in-Ok-clause-left c = of_the_same _ _ (λ (r : Rest). IsLeft r c.scan_into.new.pairs c.in-Ok.more c.rest_after-self-inside.result)
-    (sym c.self.view_is ∙ c.in-Some.is) c.rest_after-self-inside.ensures
+returns-in-Ok-clause-left c = of_the_same _ _ (λ (r : Rest). IsLeft r c.scan_into.new.pairs c.in-Ok.more c.rest_after_part-self-inside.result)
+    (sym c.self.view_is ∙ c.in-Some.is) c.rest_after_part-self-inside.ensures
 
 pub returns-in-Err-clause-ended : goal.returns-in-Err-clause-ended
 returns-in-Err-clause-ended c = λ none. absurd (not_ended _ _ (sym c.self.view_is ∙ c.in-Some.is) none)

@@ -8,5 +8,5 @@ use Rattle.hot_index.proofs.index.Index.first.Goals as goal
 
 pub returns : goal.returns
 returns c =
-    subst (λ (upto : List ℕ). IsRangeRead (λ layout k j. IsFoundBy IsLawfulScan layout k j c.args.from.now upto) (range_from c.args.from.now upto 1) c.find_first.result c.args.self.now c.args.pass.now c.find_first.new.pass)
-    (c.last_with_prefix-last.ensures ∙ ap last_with c.from_padded.ensures) c.find_first.ensures
+    subst (λ (upto : List ℕ). IsRangeRead (λ layout k j. IsFoundBy IsLawfulScan layout k j c.args.from.now upto) (range_from c.args.from.now upto 1) c.find_first_pair.result c.args.self.now c.args.pass.now c.find_first_pair.new.pass)
+    (c.last_with_prefix-last.ensures ∙ ap last_with c.from_padded.ensures) c.find_first_pair.ensures

@@ -7,5 +7,5 @@ use Rattle.hot_index.proofs.index.Index.last.Goals as goal
 
 pub returns : goal.returns
 returns c =
-    subst (λ (from : List ℕ). IsRangeRead (λ layout k j. IsFoundBy IsLawfulReverseScan layout k j from c.args.upto.now) (range_from from c.args.upto.now 1) c.find_first.result c.args.self.now c.args.pass.now c.find_first.new.pass)
-    c.from_padded-empty.ensures c.find_first.ensures
+    subst (λ (from : List ℕ). IsRangeRead (λ layout k j. IsFoundBy IsLawfulReverseScan layout k j from c.args.upto.now) (range_from from c.args.upto.now 1) c.find_first_pair.result c.args.self.now c.args.pass.now c.find_first_pair.new.pass)
+    c.from_padded-empty.ensures c.find_first_pair.ensures

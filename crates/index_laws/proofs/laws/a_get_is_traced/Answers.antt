@@ -1,6 +1,0 @@
--- The law a_get_is_traced.
-use Rattle.index_laws.proofs.Shown.{a_get_is_traced}
-use Rattle.index_laws.proofs.laws.a_get_is_traced.Goals as goal
-
-pub returns : goal.returns
-returns c = a_get_is_traced

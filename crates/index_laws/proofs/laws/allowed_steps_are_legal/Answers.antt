@@ -1,0 +1,6 @@
+-- The law allowed_steps_are_legal.
+use Rattle.index_laws.proofs.Stepping.{steps_follow}
+use Rattle.index_laws.proofs.laws.allowed_steps_are_legal.Goals as goal
+
+pub returns : goal.returns
+returns c = steps_follow
