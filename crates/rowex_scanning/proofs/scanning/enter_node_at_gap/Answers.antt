@@ -4,7 +4,7 @@ use Rattle.insert_cases.specs.declared.choice.PathNode.{PathNode}
 use Rattle.rowex_reading.specs.Ways.{step_at}
 use Rattle.version_laws.specs.Directions.{first_gap}
 use Rattle.rowex_scanning.proofs.Walking.{entered, head_size}
-use Rattle.rowex_scanning.proofs.scanning.enter_at_gap.Goals as goal
+use Rattle.rowex_scanning.proofs.scanning.enter_node_at_gap.Goals as goal
 
 pub returns-clause-entered : goal.returns-clause-entered
 returns-clause-entered g c = λ m h led.

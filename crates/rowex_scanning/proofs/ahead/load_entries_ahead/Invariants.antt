@@ -3,7 +3,7 @@ use Rattle.std.proofs.Common.{◌≡◌, ℕ, ◌*◌, ◌≤◌, length}
 use Rattle.rowex_reading.specs.Reads.{IsReader, Reads}
 use Rattle.rowex_scanning.specs.Ahead.{AreAhead, HasPlaces}
 use Rattle.rowex_scanning.specs.declared.ahead.TheConstants.{MOST_AHEAD}
-use Rattle.rowex_scanning.proofs.ahead.look_ahead.Given as goal
+use Rattle.rowex_scanning.proofs.ahead.load_entries_ahead.Given as goal
 
 abbrev pub invariant-loop-index : goal.invariant-loop-index
 invariant-loop-index g l = record {

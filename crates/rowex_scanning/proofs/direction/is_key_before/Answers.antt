@@ -3,7 +3,7 @@ use Rattle.std.proofs.Common.{◌≡◌, true, false, ap, sym, subst, ◌∙◌}
 use Rattle.std.specs.Prelude.{IsTrue}
 use Rattle.std.specs.Ordering.{is_lt}
 use Rattle.rowex_scanning.proofs.Walking.{is_less, less_before, not_less_after}
-use Rattle.rowex_scanning.proofs.direction.is_before.Goals as goal
+use Rattle.rowex_scanning.proofs.direction.is_key_before.Goals as goal
 
 pub returns-clause-before : goal.returns-clause-before
 returns-clause-before c h = less_before c.args.first.now c.args.second.now c.requires.keys.0 c.requires.keys.1 (sym c.cmp.ensures ∙ is_less c.cmp.result (subst IsTrue c.is_lt.ensures h))

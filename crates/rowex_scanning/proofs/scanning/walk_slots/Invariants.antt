@@ -5,7 +5,7 @@ use Rattle.rowex_reading.specs.Seen.{since}
 use Rattle.version_laws.specs.Directions.{first_key}
 use Rattle.rowex_scanning.specs.Scanning.{asked_range, request_of, IsBound, IsWalk}
 use Rattle.rowex_scanning.proofs.Walking.{IsPaid, rest_of}
-use Rattle.rowex_scanning.proofs.scanning.walk.Given as goal
+use Rattle.rowex_scanning.proofs.scanning.walk_slots.Given as goal
 
 abbrev pub invariant-loop-seat : goal.invariant-loop-seat
 invariant-loop-seat g l = record {
