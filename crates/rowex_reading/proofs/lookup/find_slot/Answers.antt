@@ -7,7 +7,7 @@ use Rattle.version_laws.specs.Scan.{IsShaped}
 use Rattle.rowex_reading.specs.Seen.{IsLedTo, Sure, shape_of}
 use Rattle.rowex_reading.specs.Turns.{IsTurn}
 use Rattle.rowex_reading.proofs.Turning.{shape_kept}
-use Rattle.rowex_reading.proofs.lookup.find_place.Goals as goal
+use Rattle.rowex_reading.proofs.lookup.find_slot.Goals as goal
 
 pub returns-in-Some-clause-place : goal.returns-in-Some-clause-place
 returns-in-Some-clause-place g c = λ m h led.

@@ -3,7 +3,7 @@ use Rattle.compound_node.specs.Nodes.{height_of}
 use Rattle.rowex_reading.specs.Reads.{IsReader}
 use Rattle.rowex_reading.specs.Turns.{AreTurnsOfKey}
 use Rattle.rowex_reading.proofs.Looking.{IsAt}
-use Rattle.rowex_reading.proofs.lookup.search_along.Given as goal
+use Rattle.rowex_reading.proofs.lookup.search_along_turns.Given as goal
 
 abbrev pub invariant-loop-entry : goal.invariant-loop-entry
 invariant-loop-entry g l = record {
