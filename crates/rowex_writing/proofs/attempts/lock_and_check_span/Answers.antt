@@ -9,7 +9,7 @@ use Rattle.rowex_writing.proofs.Runs.{goes_run, nodes_run, once_run, tries_once,
 use Rattle.rowex_writing.proofs.Ways.{way_apart, way_led}
 use Rattle.rowex_reading.proofs.Ways.{way_later}
 use Rattle.rowex_writing.proofs.Works.{works_count, works_later, works_seat}
-use Rattle.rowex_writing.proofs.attempts.take_span.Goals as goal
+use Rattle.rowex_writing.proofs.attempts.lock_and_check_span.Goals as goal
 
 not_taken : {A : Type 0} → false ≡ true → A
 not_taken e = absurd (cc)
@@ -74,8 +74,8 @@ returns-then-check_span-clause-taken g c e m w =
       checked = c.check_span.ensures.checked c.if-check_span.true;
     }
 
-pub undo-requires-clause-span : goal.undo-requires-clause-span
-undo-requires-clause-span g c =
+pub release_records_and_locks-requires-clause-span : goal.release_records_and_locks-requires-clause-span
+release_records_and_locks-requires-clause-span g c =
     let table = c.args.table.now in
     let job = c.args.job.now in
     let tries = c.lock_span.ensures.tries.1.1 in
@@ -95,19 +95,19 @@ returns-clause-run g c =
     let (locks, tries, low, all, steps) = c.lock_span.ensures.tries in
     let whole = all c.if-not-lock_span.false in (
       locks,
-      once_run table g.G.Gate.becomes (c.args.seat.now, c.args.gate.now) (c.check_span.new.seat, c.check_span.new.gate) (c.undo.new.seat, c.undo.new.gate)
+      once_run table g.G.Gate.becomes (c.args.seat.now, c.args.gate.now) (c.check_span.new.seat, c.check_span.new.gate) (c.release_records_and_locks.new.seat, c.release_records_and_locks.new.gate)
           (once_run table g.G.Gate.becomes (c.args.seat.now, c.args.gate.now) (c.lock_span.new.seat, c.lock_span.new.gate) (c.check_span.new.seat, c.check_span.new.gate) (tries_once table g.G.Gate.becomes (c.args.seat.now, c.args.gate.now) (c.lock_span.new.seat, c.lock_span.new.gate) tries) (goes_run table g.G.Gate.becomes (c.lock_span.new.seat, c.lock_span.new.gate) (c.check_span.new.seat, c.check_span.new.gate) c.check_span.ensures.reads.goes))
-          (works_run table g.G.Gate.becomes (c.check_span.new.seat, c.check_span.new.gate) (c.undo.new.seat, c.undo.new.gate) c.undo.ensures.works),
+          (works_run table g.G.Gate.becomes (c.check_span.new.seat, c.check_span.new.gate) (c.release_records_and_locks.new.seat, c.release_records_and_locks.new.gate) c.release_records_and_locks.ensures.works),
       omega (arith, whole),
       low,
       λ e. not_taken e,
-      omega (arith, whole, c.lock_span.ensures.few c.if-not-lock_span.false, c.check_span.ensures.few, c.undo.ensures.few, c.requires.within.0),
+      omega (arith, whole, c.lock_span.ensures.few c.if-not-lock_span.false, c.check_span.ensures.few, c.release_records_and_locks.ensures.few, c.requires.within.0),
     )
 
 pub returns-clause-later : goal.returns-clause-later
 returns-clause-later g c =
     let table = c.args.table.now in
-    later_trans (later_trans (works_later table g.G.Gate.becomes (c.args.seat.now, c.args.gate.now) (c.lock_span.new.seat, c.lock_span.new.gate) c.lock_span.ensures.tries.1.1) c.check_span.ensures.reads.goes.stays.0) (works_later table g.G.Gate.becomes (c.check_span.new.seat, c.check_span.new.gate) (c.undo.new.seat, c.undo.new.gate) c.undo.ensures.works)
+    later_trans (later_trans (works_later table g.G.Gate.becomes (c.args.seat.now, c.args.gate.now) (c.lock_span.new.seat, c.lock_span.new.gate) c.lock_span.ensures.tries.1.1) c.check_span.ensures.reads.goes.stays.0) (works_later table g.G.Gate.becomes (c.check_span.new.seat, c.check_span.new.gate) (c.release_records_and_locks.new.seat, c.release_records_and_locks.new.gate) c.release_records_and_locks.ensures.works)
 
 pub returns-clause-busy : goal.returns-clause-busy
 returns-clause-busy g c t m w =
@@ -115,7 +115,7 @@ returns-clause-busy g c t m w =
     let there = way_later table.layout c.args.seat.now.known c.lock_span.new.seat.known m c.args.job.now.key.now c.args.job.now.way.now c.args.job.now.found
     (works_later table g.G.Gate.becomes (c.args.seat.now, c.args.gate.now) (c.lock_span.new.seat, c.lock_span.new.gate) c.lock_span.ensures.tries.1.1) w in
     let moved = c.check_span.ensures.changed m there c.if-check_span.false in
-    let more = longer c.check_span.new.seat.known c.undo.new.seat.known (works_later table g.G.Gate.becomes (c.check_span.new.seat, c.check_span.new.gate) (c.undo.new.seat, c.undo.new.gate) c.undo.ensures.works) in
+    let more = longer c.check_span.new.seat.known c.release_records_and_locks.new.seat.known (works_later table g.G.Gate.becomes (c.check_span.new.seat, c.check_span.new.gate) (c.release_records_and_locks.new.seat, c.release_records_and_locks.new.gate) c.release_records_and_locks.ensures.works) in
     inr (omega (arith, moved, more))
 
 pub returns-then-not-lock_span-clause-busy : goal.returns-then-not-lock_span-clause-busy

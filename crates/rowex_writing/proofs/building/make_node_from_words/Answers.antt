@@ -12,7 +12,7 @@ use Rattle.rowex_writing.proofs.Counting.{nodes_pushed}
 use Rattle.rowex_writing.proofs.Locking.{goes_more, seat_of}
 use Rattle.rowex_writing.proofs.Making.{set_all_on, building_node, not_made}
 use Rattle.rowex_writing.proofs.Walked.{walk_on}
-use Rattle.rowex_writing.proofs.building.make_from_words.Goals as goal
+use Rattle.rowex_writing.proofs.building.make_node_from_words.Goals as goal
 
 pub fill_node-requires-clause-own : goal.fill_node-requires-clause-own
 fill_node-requires-clause-own g c = seat_of c.args.table.now g.G.Gate.becomes (c.args.seat.now, c.args.gate.now) (c.claim_node.new.seat, c.claim_node.new.gate) c.claim_node.ensures.goes c.requires.building.1.seat

@@ -10,7 +10,7 @@ use Rattle.rowex_writing.specs.Remaking.{AffectsJust, AwaitsLeaf, subtrie_with_l
 use Rattle.rowex_writing.specs.declared.remaking.NewLeaf.{NewLeaf}
 use Rattle.rowex_writing.proofs.Making.{low_made}
 use Rattle.rowex_writing.proofs.Remade.{fits_leaf, growing_leaf, just_affected, leads_within, leaf_subtrie}
-use Rattle.rowex_writing.proofs.building.make_from_words_with_leaf.Goals as goal
+use Rattle.rowex_writing.proofs.building.make_node_with_leaf.Goals as goal
 
 -- the affected entries, which the words of the head tell
 affects : (words : List ℕ) (node : NodeView) (new : NewLeaf) (first last : ℕ) → AwaitsLeaf words node new → InNodesOf (take 25 words) (λ v. affected_first new.position new.at (piece v) ≡ first) →
@@ -35,8 +35,8 @@ add_leaf-requires-clause-below g c =
     let (node, takes, can) = c.requires.takes in
     let h = (fits_leaf c.args.new.now.number takes.is.has.lawful (affects c.args.words.now node c.args.new.now _ _ takes c.affected_in-first.ensures.from c.affected_in-first.ensures.upto) takes.tree).position in omega arith
 
-pub make_from_words-requires-clause-spelling : goal.make_from_words-requires-clause-spelling
-make_from_words-requires-clause-spelling g c =
+pub make_node_from_words-requires-clause-spelling : goal.make_node_from_words-requires-clause-spelling
+make_node_from_words-requires-clause-spelling g c =
     let (node, takes, can) = c.requires.takes in
     let built = c.add_leaf.ensures node (growing_leaf c.args.words.now node c.args.new.now _ _ takes (affects c.args.words.now node c.args.new.now _ _ takes c.affected_in-first.ensures.from c.affected_in-first.ensures.upto) can) in
     (built.node, built.has, built.spells)
@@ -46,5 +46,5 @@ returns-clause-made g c = λ news node takes can b.
     let built : SpellBuilt c.add_leaf.new.words (subtrie_with_leaf c.args.new.now (piece node)) =
     subst (SpellBuilt c.add_leaf.new.words) (leaf_subtrie (Leaf c.args.new.now.number) (affects c.args.words.now node c.args.new.now _ _ takes c.affected_in-first.ensures.from c.affected_in-first.ensures.upto) c.bit-bit.ensures)
     (c.add_leaf.ensures node (growing_leaf c.args.words.now node c.args.new.now _ _ takes (affects c.args.words.now node c.args.new.now _ _ takes c.affected_in-first.ensures.from c.affected_in-first.ensures.upto) can)) in
-    low_made c.args.table.now c.make_from_words.new.seat c.make_from_words.new.build.made.items news built.node _ c.make_from_words.result built.has built.built
-    (c.make_from_words.ensures.made news built.node built.has built.spells b)
+    low_made c.args.table.now c.make_node_from_words.new.seat c.make_node_from_words.new.build.made.items news built.node _ c.make_node_from_words.result built.has built.built
+    (c.make_node_from_words.ensures.made news built.node built.has built.spells b)

@@ -6,7 +6,7 @@ use Rattle.rowex_records.proofs.Claimed.{missed_before, more_since}
 use Rattle.rowex_writing.proofs.Classes.{missed_more}
 use Rattle.rowex_writing.proofs.Locking.{goes_more, goes_none, seat_of}
 use Rattle.rowex_writing.proofs.Making.{steps_rise}
-use Rattle.rowex_writing.proofs.claims.claim_between.Goals as goal
+use Rattle.rowex_writing.proofs.claims.claim_leaf_between.Goals as goal
 
 pub claim_by_hint-requires-clause-own : goal.claim_by_hint-requires-clause-own
 claim_by_hint-requires-clause-own g c = seat_of c.args.table.now g.G.Gate.becomes (c.args.seat.now, c.args.gate.now) (c.loop-first.seat, c.loop-first.gate) c.loop-first.invariant.goes c.requires.own

@@ -3,7 +3,7 @@ use Rattle.std.proofs.Common.{◌≡◌, ◌+◌, ◌-◌, ◌*◌, ◌≤◌}
 use Rattle.rowex_records.specs.Claims.{IsAnothersTo}
 use Rattle.rowex_writing.specs.Classes.{AllMissedBetween}
 use Rattle.rowex_writing.specs.Going.{WorksOn}
-use Rattle.rowex_writing.proofs.claims.claim_between.Given as goal
+use Rattle.rowex_writing.proofs.claims.claim_leaf_between.Given as goal
 
 abbrev pub invariant-loop-first : goal.invariant-loop-first
 invariant-loop-first g l = record {

@@ -3,7 +3,7 @@ use Rattle.std.proofs.Common.{arith}
 use Rattle.rowex_records.specs.Claims.{count_of, record_of}
 use Rattle.rowex_writing.proofs.Locking.{goes_none}
 use Rattle.rowex_writing.proofs.Making.{number_on, one_on, one_steps}
-use Rattle.rowex_writing.proofs.claims.claim_spare.Goals as goal
+use Rattle.rowex_writing.proofs.claims.claim_spare_record.Goals as goal
 
 pub returns-then-claim_numbered-clause-goes : goal.returns-then-claim_numbered-clause-goes
 returns-then-claim_numbered-clause-goes g c =

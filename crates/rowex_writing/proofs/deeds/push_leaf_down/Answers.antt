@@ -21,7 +21,7 @@ use Rattle.rowex_writing.proofs.Placing.{found_is_key, leaf_at, pair_here, pair_
 use Rattle.version_laws.proofs.Leaves.{pair_tree}
 use Rattle.rowex_writing.proofs.Walked.{walk_begins}
 use Rattle.rowex_writing.specs.declared.plan.Full.TheVariants.{Nodes}
-use Rattle.rowex_writing.proofs.deeds.push_down.Goals as goal
+use Rattle.rowex_writing.proofs.deeds.push_leaf_down.Goals as goal
 use Rattle.tries.specs.Content.{item}
 
 -- ---- no leaf record was free

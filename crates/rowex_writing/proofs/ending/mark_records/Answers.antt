@@ -5,7 +5,7 @@ use Rattle.rowex_table.proofs.ActsLeave.{act_leaves}
 use Rattle.rowex_writing.proofs.Works.{works_none, works_one, works_more, works_seat}
 use Rattle.rowex_writing.proofs.Retiring.{first_due, none_due, due_less}
 use Rattle.rowex_reading.proofs.Counting.{step_few}
-use Rattle.rowex_writing.proofs.ending.mark_all.Goals as goal
+use Rattle.rowex_writing.proofs.ending.mark_records.Goals as goal
 
 pub loop-index-init : goal.loop-index-init
 loop-index-init g c = record { few = omega arith; own = c.requires.own; works = works_none c.args.table.now g.G.Gate.becomes (c.args.seat.now, c.args.gate.now); due = c.requires.due; same = (refl, refl, refl) }

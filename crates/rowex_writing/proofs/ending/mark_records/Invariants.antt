@@ -3,7 +3,7 @@ use Rattle.std.proofs.Common.{drop, ◌+◌, ◌≤◌}
 use Rattle.rowex_table.specs.Seats.{IsSeatOf}
 use Rattle.rowex_writing.specs.Locks.{Works}
 use Rattle.rowex_writing.specs.Retiring.{HasToMark, KeepsLocks}
-use Rattle.rowex_writing.proofs.ending.mark_all.Given as goal
+use Rattle.rowex_writing.proofs.ending.mark_records.Given as goal
 
 abbrev pub invariant-loop-index : goal.invariant-loop-index
 invariant-loop-index g l = record {

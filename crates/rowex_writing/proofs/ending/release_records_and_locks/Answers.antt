@@ -10,7 +10,7 @@ use Rattle.rowex_writing.proofs.Growths.{range_nodes}
 use Rattle.rowex_writing.proofs.Keeping.{step_nodes}
 use Rattle.rowex_writing.proofs.Works.{works_one, works_more, works_seat}
 use Rattle.rowex_writing.proofs.Retiring.{given_works, given_locks, given_anchor, given_few}
-use Rattle.rowex_writing.proofs.ending.undo.Goals as goal
+use Rattle.rowex_writing.proofs.ending.release_records_and_locks.Goals as goal
 
 pub unlock_nodes-requires-clause-own : goal.unlock_nodes-requires-clause-own
 unlock_nodes-requires-clause-own g c =

@@ -2,7 +2,7 @@
 use Rattle.std.proofs.Common.{◌≡◌, ◌+◌, add-zero, arith, inl, refl, subst, sym, ⊎_elim}
 use Rattle.rowex_writing.specs.Loads.{AreRead}
 use Rattle.rowex_writing.proofs.Locking.{one_read, seat_of}
-use Rattle.rowex_writing.proofs.locked.load_eight.Goals as goal
+use Rattle.rowex_writing.proofs.locked.load_eight_words.Goals as goal
 
 pub loop-place-init : goal.loop-place-init
 loop-place-init g c = record {
@@ -12,13 +12,13 @@ loop-place-init g c = record {
 
 pub loop-place-preserved : goal.loop-place-preserved
 loop-place-preserved g c =
-    let e = c.load_word.ensures in
+    let e = c.load_locked_word.ensures in
     record {
-      own = seat_of c.args.table.now g.G.Gate.becomes (c.loop-place.seat, c.loop-place.gate) (c.load_word.new.seat, c.load_word.new.gate) e.reads.goes c.loop-place.invariant.own;
+      own = seat_of c.args.table.now g.G.Gate.becomes (c.loop-place.seat, c.loop-place.gate) (c.load_locked_word.new.seat, c.load_locked_word.new.gate) e.reads.goes c.loop-place.invariant.own;
       reads = λ a read.
           let next : c.args.first + c.loop-place.place + 1 ≡ c.args.first + (c.loop-place.place + 1) = omega arith in
-          subst (AreRead c.args.table.now g.G.Gate.becomes a (c.load_word.new.seat, c.load_word.new.gate) c.args.loads.node.number _) next
-          (one_read c.args.table.now g.G.Gate.becomes a (c.loop-place.seat, c.loop-place.gate) (c.load_word.new.seat, c.load_word.new.gate) c.args.loads.node.number c.loop-place.words (c.args.first + c.loop-place.place) c.load_word.result (c.loop-place.invariant.reads a read)
+          subst (AreRead c.args.table.now g.G.Gate.becomes a (c.load_locked_word.new.seat, c.load_locked_word.new.gate) c.args.loads.node.number _) next
+          (one_read c.args.table.now g.G.Gate.becomes a (c.loop-place.seat, c.loop-place.gate) (c.load_locked_word.new.seat, c.load_locked_word.new.gate) c.args.loads.node.number c.loop-place.words (c.args.first + c.loop-place.place) c.load_locked_word.result (c.loop-place.invariant.reads a read)
           (omega (arith, c.loop-place-test.true, c.requires.range)) e.reads e.word e.spelled e.few);
     }
 

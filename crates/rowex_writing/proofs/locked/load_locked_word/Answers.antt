@@ -2,7 +2,7 @@
 use Rattle.std.proofs.Common.{◌+◌, ◌-◌, ◌≤◌, arith}
 use Rattle.rowex_writing.proofs.Locking.{reads_fixed, reads_entry, locked_spells, fixed_word, entry_word_of}
 use Rattle.rowex_reading.proofs.Counting.{step_few}
-use Rattle.rowex_writing.proofs.locked.load_word.Goals as goal
+use Rattle.rowex_writing.proofs.locked.load_locked_word.Goals as goal
 
 pub returns-then-index-lt-HEAD_WORDS-clause-reads : goal.returns-then-index-lt-HEAD_WORDS-clause-reads
 returns-then-index-lt-HEAD_WORDS-clause-reads g c =

@@ -3,7 +3,7 @@ use Rattle.std.proofs.Common.{sym, subst}
 use Rattle.compound_node.specs.Nodes.{IsBuiltFrom, piece}
 use Rattle.pieces.specs.Piece.{RisesFrom}
 use Rattle.tries.specs.Place.{fork_of}
-use Rattle.rowex_writing.proofs.merging.join_sides.Goals as goal
+use Rattle.rowex_writing.proofs.merging.merge_sides.Goals as goal
 
 pub merge-requires-clause-after : goal.merge-requires-clause-after
 merge-requires-clause-after c = subst (λ u. RisesFrom 0 (fork_of u c.args.position (piece c.args.own.now) (piece c.args.other.now))) c.if-bit.true c.requires.after

@@ -3,7 +3,7 @@ use Rattle.std.proofs.Common.{◌-◌, length, ap, arith}
 use Rattle.std.specs.Prelude.{slice_range}
 use Rattle.rowex_writing.proofs.Counting.{slice_few}
 use Rattle.rowex_writing.proofs.Stores.{merge_store}
-use Rattle.rowex_writing.proofs.merging.publish_merged.Goals as goal
+use Rattle.rowex_writing.proofs.merging.publish_merge.Goals as goal
 
 pub publish_entry-requires : goal.publish_entry-requires
 publish_entry-requires g c =

@@ -4,7 +4,7 @@ use Rattle.std.proofs.lemmas.Option.{slice_get-get_or}
 use Rattle.std.specs.Prelude.{slice_get}
 use Rattle.insert_cases.specs.declared.choice.PathNode.{PathNode}
 use Rattle.rowex_writing.proofs.Planning.{low_full, low_room}
-use Rattle.rowex_writing.proofs.plan.plan_low.Goals as goal
+use Rattle.rowex_writing.proofs.plan.plan_in_lowest_node.Goals as goal
 
 no_step : PathNode
 no_step = record { number = 0; height = 0; first_position = 0; count = 0; at = 0 }
@@ -17,12 +17,12 @@ unfolding no_step
 returns-then-way-level-lt32 c = λ first upto.
     let way = c.args.way.now in
     let at = here way c.args.level c.requires.last in
-    low_room way c.args.position c.args.level (get_or way c.args.level no_step) c.plan_change.result c.requires.last at (c.requires.low (get_or way c.args.level no_step) at) first upto c.if-way-level-lt32.true c.plan_change.ensures
+    low_room way c.args.position c.args.level (get_or way c.args.level no_step) c.change_plan.result c.requires.last at (c.requires.low (get_or way c.args.level no_step) at) first upto c.if-way-level-lt32.true c.change_plan.ensures
 
 pub returns-else-way-level-lt32 : goal.returns-else-way-level-lt32
 unfolding no_step
 returns-else-way-level-lt32 c = λ first upto.
     let way = c.args.way.now in
     let at = here way c.args.level c.requires.last in
-    low_full way c.args.position c.args.level (get_or way c.args.level no_step) c.plan_change-else-way-level-lt32.result c.requires.last at (c.requires.low (get_or way c.args.level no_step) at) first upto
-    (omega (arith, c.if-way-level-lt32.false)) c.chain_end.result c.chain_end.ensures c.plan_change-else-way-level-lt32.ensures
+    low_full way c.args.position c.args.level (get_or way c.args.level no_step) c.change_plan-else-way-level-lt32.result c.requires.last at (c.requires.low (get_or way c.args.level no_step) at) first upto
+    (omega (arith, c.if-way-level-lt32.false)) c.chain_end.result c.chain_end.ensures c.change_plan-else-way-level-lt32.ensures

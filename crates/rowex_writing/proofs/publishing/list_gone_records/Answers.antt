@@ -5,7 +5,7 @@ use Rattle.insert_cases.specs.declared.choice.PathNode.{PathNode}
 use Rattle.versions.specs.declared.Rec.{Rec}
 use Rattle.versions.specs.declared.Rec.TheVariants.{Node as a_node, Leaf as a_leaf}
 use Rattle.rowex_writing.specs.Deeds.{leaf_gone}
-use Rattle.rowex_writing.proofs.publishing.list_gone.Goals as goal
+use Rattle.rowex_writing.proofs.publishing.list_gone_records.Goals as goal
 
 abbrev nodes : List PathNode → List Rec
 nodes steps = map (λ (s : PathNode). a_node s.number) steps

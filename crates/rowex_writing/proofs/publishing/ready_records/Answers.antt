@@ -10,7 +10,7 @@ use Rattle.rowex_core.specs.Cores.{FitsIn, HasRecord}
 use Rattle.rowex_writing.proofs.Readying.{AreReadied, none_readied, next_rights, readied_goes, readied_more, all_readied}
 use Rattle.rowex_table.proofs.Running.{does_count}
 use Rattle.rowex_records.specs.Records.{IsFilled, Readies, owning}
-use Rattle.rowex_writing.proofs.publishing.ready_all.Goals as goal
+use Rattle.rowex_writing.proofs.publishing.ready_records.Goals as goal
 
 -- the last of those that are left
 popped : (all now : List Rec) (rec : Rec) → now ≡ take (length now) all → Some rec ≡ slice_get now (length now - 1) → 0 < length now → get_or all (length now - 1) rec ≡ rec

@@ -4,7 +4,7 @@ use Rattle.rowex_table.specs.Made.{Made, HasReadied}
 use Rattle.rowex_table.specs.Seats.{IsSeatOf}
 use Rattle.rowex_writing.specs.Building.{IsBuilding}
 use Rattle.rowex_writing.specs.Going.{WorksOn}
-use Rattle.rowex_writing.proofs.publishing.ready_all.Given as goal
+use Rattle.rowex_writing.proofs.publishing.ready_records.Given as goal
 
 abbrev pub invariant-loop-rec : goal.invariant-loop-rec
 invariant-loop-rec g l =

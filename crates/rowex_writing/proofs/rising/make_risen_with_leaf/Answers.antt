@@ -6,7 +6,7 @@ use Rattle.record_words.specs.Node.{CanTakeLeaf}
 use Rattle.rowex_writing.specs.Remaking.{subtrie_with_leaf}
 use Rattle.rowex_writing.proofs.Remade.{built_low, leaf_low}
 use Rattle.rowex_writing.proofs.Walked.{makes_as, makes_failed, makes_within}
-use Rattle.rowex_writing.proofs.rising.make_with_leaf.Goals as goal
+use Rattle.rowex_writing.proofs.rising.make_risen_with_leaf.Goals as goal
 
 pub returns-then-can_take_leaf-clause-made : goal.returns-then-can_take_leaf-clause-made
 returns-then-can_take_leaf-clause-made g c = λ news node takes b.

@@ -7,7 +7,7 @@ use Rattle.rowex_writing.proofs.Runs.{works_run}
 use Rattle.rowex_writing.proofs.Wider.{last_locked, last_same, one_last, place_later, place_led}
 use Rattle.rowex_writing.proofs.Locking.{locked_on}
 use Rattle.rowex_writing.proofs.Works.{works_later, works_seat}
-use Rattle.rowex_writing.proofs.widening.lock_step.Goals as goal
+use Rattle.rowex_writing.proofs.widening.lock_node_with_entry.Goals as goal
 
 pub lock_node-requires-clause-may : goal.lock_node-requires-clause-may
 lock_node-requires-clause-may g c =
@@ -54,33 +54,33 @@ returns-then-entry_stands-clause-locked g c = λ e.
       λ words h. c.entry_stands.ensures.same c.if-entry_stands.true words (locked_on c.entry_stands.new.seat.known c.lock_node.new.seat.known c.args.step.number words (sym stays.1) h),
     )
 
-pub unlock_last-requires-clause-own : goal.unlock_last-requires-clause-own
-unlock_last-requires-clause-own g c =
+pub unlock_last_node-requires-clause-own : goal.unlock_last_node-requires-clause-own
+unlock_last_node-requires-clause-own g c =
     seat_of c.args.table.now g.G.Gate.becomes (c.lock_node.new.seat, c.lock_node.new.gate) (c.entry_stands.new.seat, c.entry_stands.new.gate) c.entry_stands.ensures.reads.goes
     (works_seat c.args.table.now g.G.Gate.becomes (c.args.seat.now, c.args.gate.now) (c.lock_node.new.seat, c.lock_node.new.gate) c.lock_node.ensures.tries c.requires.own)
 
-pub unlock_last-requires-clause-last : goal.unlock_last-requires-clause-last
-unlock_last-requires-clause-last g c = (
+pub unlock_last_node-requires-clause-last : goal.unlock_last_node-requires-clause-last
+unlock_last_node-requires-clause-last g c = (
   c.args.seat.now.known.locks,
   last_same c.args.step.number c.args.seat.now.known.locks c.lock_node.new.seat.known c.entry_stands.new.seat.known c.entry_stands.ensures.reads.goes.stays.1
       (one_last c.args.step.number c.args.seat.now.known c.lock_node.new.seat.known (c.lock_node.ensures.locked c.if-not-lock_node.false)),
 )
 
 pub returns-clause-tries : goal.returns-clause-tries
-returns-clause-tries g c = back_tries c.args.table.now g.G.Gate.becomes (c.args.seat.now, c.args.gate.now) (c.lock_node.new.seat, c.lock_node.new.gate) (c.entry_stands.new.seat, c.entry_stands.new.gate) c.lock_node.ensures.tries c.entry_stands.ensures.reads.goes (c.unlock_last.new.seat, c.unlock_last.new.gate) c.unlock_last.ensures.works
+returns-clause-tries g c = back_tries c.args.table.now g.G.Gate.becomes (c.args.seat.now, c.args.gate.now) (c.lock_node.new.seat, c.lock_node.new.gate) (c.entry_stands.new.seat, c.entry_stands.new.gate) c.lock_node.ensures.tries c.entry_stands.ensures.reads.goes (c.unlock_last_node.new.seat, c.unlock_last_node.new.gate) c.unlock_last_node.ensures.works
 
 pub returns-clause-later : goal.returns-clause-later
 returns-clause-later g c = (
-  back_later c.args.table.now g.G.Gate.becomes (c.args.seat.now, c.args.gate.now) (c.lock_node.new.seat, c.lock_node.new.gate) (c.entry_stands.new.seat, c.entry_stands.new.gate) c.lock_node.ensures.tries c.entry_stands.ensures.reads.goes (c.unlock_last.new.seat, c.unlock_last.new.gate) c.unlock_last.ensures.works,
-  c.unlock_last.ensures.same.1 ∙ (c.entry_stands.ensures.reads.own ∙ (c.lock_node.ensures.locked c.if-not-lock_node.false).2),
+  back_later c.args.table.now g.G.Gate.becomes (c.args.seat.now, c.args.gate.now) (c.lock_node.new.seat, c.lock_node.new.gate) (c.entry_stands.new.seat, c.entry_stands.new.gate) c.lock_node.ensures.tries c.entry_stands.ensures.reads.goes (c.unlock_last_node.new.seat, c.unlock_last_node.new.gate) c.unlock_last_node.ensures.works,
+  c.unlock_last_node.ensures.same.1 ∙ (c.entry_stands.ensures.reads.own ∙ (c.lock_node.ensures.locked c.if-not-lock_node.false).2),
 )
 
 pub returns-clause-same : goal.returns-clause-same
 returns-clause-same g c = λ e.
     let l = c.lock_node.ensures.locked c.if-not-lock_node.false in
     let reads = c.entry_stands.ensures.reads in (
-      c.unlock_last.ensures.less c.args.seat.now.known.locks
+      c.unlock_last_node.ensures.less c.args.seat.now.known.locks
           (last_same c.args.step.number c.args.seat.now.known.locks c.lock_node.new.seat.known c.entry_stands.new.seat.known reads.goes.stays.1 (one_last c.args.step.number c.args.seat.now.known c.lock_node.new.seat.known l)),
-      c.unlock_last.ensures.same.0 ∙ (reads.goes.stays.2 ∙ l.3),
-      c.unlock_last.ensures.same.1 ∙ (reads.own ∙ l.2),
+      c.unlock_last_node.ensures.same.0 ∙ (reads.goes.stays.2 ∙ l.3),
+      c.unlock_last_node.ensures.same.1 ∙ (reads.own ∙ l.2),
     )

@@ -5,7 +5,7 @@ use Rattle.rowex_table.proofs.ActsLeave.{act_leaves}
 use Rattle.rowex_reading.proofs.Counting.{step_few}
 use Rattle.rowex_writing.proofs.Wider.{last_may, last_unlocked}
 use Rattle.rowex_writing.proofs.Works.{works_one}
-use Rattle.rowex_writing.proofs.widening.unlock_last.Goals as goal
+use Rattle.rowex_writing.proofs.widening.unlock_last_node.Goals as goal
 
 pub unlock-requires-clause-may : goal.unlock-requires-clause-may
 unlock-requires-clause-may g c = let (held, last) = c.requires.last in last_may c.args.table.now.layout c.args.seat.now.known c.args.number held last

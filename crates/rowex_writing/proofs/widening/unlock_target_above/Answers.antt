@@ -13,7 +13,7 @@ use Rattle.rowex_writing.specs.Locks.{LocksLast}
 use Rattle.rowex_writing.specs.Merging.{no_step}
 use Rattle.rowex_writing.proofs.Wider.{is_over, no_root}
 use Rattle.rowex_writing.proofs.Works.{works_one}
-use Rattle.rowex_writing.proofs.widening.unlock_above.Goals as goal
+use Rattle.rowex_writing.proofs.widening.unlock_target_above.Goals as goal
 
 pub unlock-requires-clause-may : goal.unlock-requires-clause-may
 unlock-requires-clause-may g c =
@@ -36,11 +36,11 @@ returns-then-end-eq0-clause-own g c = (unlock_anchor_gives c.args.table.now.layo
 pub returns-then-end-eq0-clause-few : goal.returns-then-end-eq0-clause-few
 returns-then-end-eq0-clause-few g c = step_few c.args.table.now g.G.Gate.becomes (Unlock Anchor) (c.args.seat.now, c.args.gate.now) (c.unlock.new.seat, c.unlock.new.gate) c.unlock.ensures
 
-pub unlock_last-requires-clause-range : goal.unlock_last-requires-clause-range
-unlock_last-requires-clause-range g c = c.requires.nodes (c.args.end - 1) no_step (omega (arith, c.requires.range, c.if-end-eq0.false))
+pub unlock_last_node-requires-clause-range : goal.unlock_last_node-requires-clause-range
+unlock_last_node-requires-clause-range g c = c.requires.nodes (c.args.end - 1) no_step (omega (arith, c.requires.range, c.if-end-eq0.false))
 
-pub unlock_last-requires-clause-last : goal.unlock_last-requires-clause-last
-unlock_last-requires-clause-last g c =
+pub unlock_last_node-requires-clause-last : goal.unlock_last_node-requires-clause-last
+unlock_last_node-requires-clause-last g c =
     let (held, key, found, above) = c.requires.above in
     let over = is_over held key c.args.way.now found c.args.end c.args.seat.now.known above (omega (arith, c.if-end-eq0.false)) in
     let same : get_or c.args.way.now (c.args.end - 1) no_step ≡ over.step = get_or_from_slice_get c.args.way.now (c.args.end - 1) over.step no_step over.at in
@@ -50,4 +50,4 @@ pub returns-else-end-eq0-clause-less : goal.returns-else-end-eq0-clause-less
 returns-else-end-eq0-clause-less g c = λ held key found above.
     let over = is_over held key c.args.way.now found c.args.end c.args.seat.now.known above (omega (arith, c.if-end-eq0.false)) in
     let same : get_or c.args.way.now (c.args.end - 1) no_step ≡ over.step = get_or_from_slice_get c.args.way.now (c.args.end - 1) over.step no_step over.at in
-    (c.unlock_last.ensures.less held (subst (λ (s : PathNode). LocksLast s.number held c.args.seat.now.known) (sym same) over.last), c.unlock_last.ensures.same.0 ∙ over.free)
+    (c.unlock_last_node.ensures.less held (subst (λ (s : PathNode). LocksLast s.number held c.args.seat.now.known) (sym same) over.last), c.unlock_last_node.ensures.same.0 ∙ over.free)
