@@ -136,7 +136,7 @@ pub(crate) fn make_node_with_leaf<G: Gate>(
 
 /// The entry for `half`, a side of the cut node that `old` names. It is the one entry itself, that of a record made for a new node, or
 /// `old` for the node as it was. `None` if a record was wanted and none was free.
-fn make_half<G: Gate>(
+fn make_half_entry<G: Gate>(
     table: &HotTable,
     seat: &mut TableSeat,
     gate: &mut G,
@@ -181,8 +181,8 @@ pub(crate) fn make_risen<G: Gate>(
             Some(Risen::Whole(entry))
         }
         Grown::Two(cut) => {
-            let one = make_half(table, seat, gate, build, old, &cut.one)?;
-            let zero = make_half(table, seat, gate, build, old, &cut.zero)?;
+            let one = make_half_entry(table, seat, gate, build, old, &cut.one)?;
+            let zero = make_half_entry(table, seat, gate, build, old, &cut.zero)?;
             Some(Risen::Split {
                 position: cut.position,
                 zero,

@@ -56,7 +56,7 @@ pub(crate) fn carry_out_deed<G: Gate>(
     ensures leafless { deed ≡ Deed.Take → result ≢ Err Full.Leaves }
 {
     match deed {
-        Deed::Put => put_leaf(table, seat, gate, build, job),
+        Deed::Put => put_new_leaf(table, seat, gate, build, job),
         Deed::PushDown { position } => push_leaf_down(table, seat, gate, build, job, position),
         Deed::Grow { position } => grow_node(table, seat, gate, build, job, position),
         Deed::Take => remove_leaf(table, seat, gate, build, job),
@@ -65,7 +65,7 @@ pub(crate) fn carry_out_deed<G: Gate>(
 
 /// Makes and returns the new leaf, which is to take the place of what the search found: nothing, or the leaf that has the key.
 /// `Full::Leaves` if no leaf record with room was free.
-pub(crate) fn put_leaf<G: Gate>(
+pub(crate) fn put_new_leaf<G: Gate>(
     table: &HotTable,
     seat: &mut TableSeat,
     gate: &mut G,

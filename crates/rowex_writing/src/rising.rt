@@ -35,7 +35,7 @@ use rowex_table::{HotTable, TableSeat};
 
 /// Makes what takes the place of the locked node `number` when it gets `fork`: one entry, or a fork of two if it was full. `None` if no
 /// node record was free: one that was made by then stays in `build.made`. The locked record stays as it is.
-fn raise_level<G: Gate>(
+fn raise_node_with_fork<G: Gate>(
     table: &HotTable,
     seat: &mut TableSeat,
     gate: &mut G,
@@ -278,7 +278,7 @@ fn raise_fork_above<G: Gate>(
                 zero,
                 one,
             };
-            let next = raise_level(table, seat, gate, build, number, &fork)?;
+            let next = raise_node_with_fork(table, seat, gate, build, number, &fork)?;
             let rest = Rise {
                 key: rise.key,
                 end: rise.end,

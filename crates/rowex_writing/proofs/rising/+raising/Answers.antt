@@ -45,15 +45,15 @@ raise_fork_above-offset_bounds-way-above g t c = let h = up_within c.requires.up
 pub raise_fork_above-bounds-way-above : goal.raise_fork_above-bounds-way-above
 raise_fork_above-bounds-way-above g t c = up_within c.requires.up c.requires.above
 
-pub raise_fork_above-raise_level-requires-clause-range : goal.raise_fork_above-raise_level-requires-clause-range
-raise_fork_above-raise_level-requires-clause-range g t c = up_there c.requires.up c.requires.above
+pub raise_fork_above-raise_node_with_fork-requires-clause-range : goal.raise_fork_above-raise_node_with_fork-requires-clause-range
+raise_fork_above-raise_node_with_fork-requires-clause-range g t c = up_there c.requires.up c.requires.above
 
-pub raise_fork_above-raise_level-requires-clause-below : goal.raise_fork_above-raise_level-requires-clause-below
-raise_fork_above-raise_level-requires-clause-below g t c =
+pub raise_fork_above-raise_node_with_fork-requires-clause-below : goal.raise_fork_above-raise_node_with_fork-requires-clause-below
+raise_fork_above-raise_node_with_fork-requires-clause-below g t c =
     up_below c.requires.up c.requires.above c.in-Split.position c.in-Split.zero c.in-Split.one c.in-Split.is
 
-pub raise_fork_above-raise_level-requires-clause-room : goal.raise_fork_above-raise_level-requires-clause-room
-raise_fork_above-raise_level-requires-clause-room g t c =
+pub raise_fork_above-raise_node_with_fork-requires-clause-room : goal.raise_fork_above-raise_node_with_fork-requires-clause-room
+raise_fork_above-raise_node_with_fork-requires-clause-room g t c =
     let low = up_low c.requires.up c.requires.above in omega (arith, low, c.requires.room)
 
 pub raise_fork_above-returns-in_err-next-in-Split-clause-makes : goal.raise_fork_above-returns-in_err-next-in-Split-clause-makes

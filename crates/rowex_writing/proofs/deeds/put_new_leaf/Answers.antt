@@ -5,7 +5,7 @@ use Rattle.rowex_writing.specs.Retiring.{AreInTable}
 use Rattle.rowex_writing.proofs.Counting.{found_few, made_one}
 use Rattle.rowex_writing.proofs.Raised.{just_leaf_gone, no_leaf_free}
 use Rattle.rowex_writing.proofs.Placing.{found_records, put_change, put_len, put_may, put_stored, put_was}
-use Rattle.rowex_writing.proofs.deeds.put_leaf.Goals as goal
+use Rattle.rowex_writing.proofs.deeds.put_new_leaf.Goals as goal
 use Rattle.tries.specs.Content.{item}
 
 pub returns-in_default : goal.returns-in_default

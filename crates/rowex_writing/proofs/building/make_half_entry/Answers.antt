@@ -1,7 +1,7 @@
 -- The half's own node.
 use Rattle.rowex_writing.proofs.Making.{half_of_node}
 use Rattle.rowex_writing.proofs.Walked.{makes_none}
-use Rattle.rowex_writing.proofs.building.make_half.Goals as goal
+use Rattle.rowex_writing.proofs.building.make_half_entry.Goals as goal
 
 pub returns-in-Many-clause-made : goal.returns-in-Many-clause-made
 returns-in-Many-clause-made g c = λ news b.

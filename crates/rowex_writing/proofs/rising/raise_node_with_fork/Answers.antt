@@ -8,7 +8,7 @@ use Rattle.publish_laws.specs.Rises.{made_of_node}
 use Rattle.rowex_writing.specs.Building.{IsBuilding}
 use Rattle.rowex_writing.proofs.Lifting.{lift_tree, lift_zero, lift_one, lift_building, lifted, fork_level}
 use Rattle.rowex_writing.proofs.Walked.{makes_after, makes_as, makes_failed}
-use Rattle.rowex_writing.proofs.rising.raise_level.Goals as goal
+use Rattle.rowex_writing.proofs.rising.raise_node_with_fork.Goals as goal
 
 pub cut_with_fork-grown-requires-clause-tree : goal.cut_with_fork-grown-requires-clause-tree
 cut_with_fork-grown-requires-clause-tree g c = lift_tree _ _ c.read_locked_node-node.ensures.reads c.requires.below c.read_locked_node-node.ensures.node
