@@ -8,7 +8,7 @@ ghost use Rattle.rowex_table.specs.Seats.{IsSeatOf};
 ghost use Rattle.rowex_reading.specs.Turns.{AreRows, AreSomeTurns, AreTips, AreTurns, IsSomeTurn, IsWayTip, IsTurn, is_node, turns_in};
 ghost use Rattle.rowex_reading.specs.Reads.{IsReader, Looks, Reads};
 
-use crate::lookup::find_place;
+use crate::lookup::find_slot;
 use crate::reading::{load_entry, load_root};
 use compound_node::Entry;
 use key_bits::Key;
@@ -111,7 +111,7 @@ fn find_turn<G: Gate>(
         Some(Entry::Node { number, .. }) => {
             let start = table.start_of(Rec::Node(number));
             let node = NodeAt { number, start };
-            let place = find_place(table, seat, gate, node, key, None);
+            let place = find_slot(table, seat, gate, node, key, None);
             Some(Turn { number, place })
         }
         _ => None,

@@ -34,7 +34,7 @@ pub fn look_up<G: Gate>(
     ensures searched { HasSearched table.now G.becomes (seat.old, gate.old) (seat.new, gate.new) }
     ensures found { HasFound seat.new.known key.now result }
 {
-    search_along(table, seat, gate, key, &[], 0)
+    search_along_turns(table, seat, gate, key, &[], 0)
 }
 
 /// Looks `key` up from the root, along a way that it went before: the turns at `index` in `rows`. In a node that the way had at this depth
@@ -54,13 +54,13 @@ pub fn look_up_along<G: Gate>(
     ensures searched { HasSearched table.now G.becomes (seat.old, gate.old) (seat.new, gate.new) }
     ensures found { HasFound seat.new.known key.now result }
 {
-    search_along(table, seat, gate, key, rows, index)
+    search_along_turns(table, seat, gate, key, rows, index)
 }
 
 /// Looks `key` up from the root, along the turns at `index` in `rows`, as far as there are any. Where there is none, or one in another
 /// node, the node's head is searched. Returns the key's value, or `None` if the key is absent.
 #[inline(always)]
-fn search_along<G: Gate>(
+fn search_along_turns<G: Gate>(
     table: &HotTable,
     seat: &mut TableSeat,
     gate: &mut G,
@@ -80,10 +80,10 @@ fn search_along<G: Gate>(
         match entry {
             Entry::Leaf(number) => return load_value(table, seat, gate, number, key),
             Entry::Node { number, .. } => {
-                let turn = turn_in(rows, depth, index);
+                let turn = turn_at_depth(rows, depth, index);
                 let start = table.start_of(Rec::Node(number));
                 let node = NodeAt { number, start };
-                let place = find_place(table, seat, gate, node, key, turn);
+                let place = find_slot(table, seat, gate, node, key, turn);
                 entry = load_entry(table, seat, gate, node, place);
                 depth = depth.saturating_add(1);
             }
@@ -93,7 +93,7 @@ fn search_along<G: Gate>(
 
 /// The turn at `index` in row `depth` of `rows`. `None` if there is none, or no such row.
 #[inline(always)]
-fn turn_in(rows: &[[Option<Turn>; TOGETHER]], depth: usize, index: usize) -> Option<Turn>
+fn turn_at_depth(rows: &[[Option<Turn>; TOGETHER]], depth: usize, index: usize) -> Option<Turn>
     requires { index < TOGETHER }
     ensures { result ≡ get_or (get_or rows.now depth []) index None }
 {
@@ -107,7 +107,7 @@ fn turn_in(rows: &[[Option<Turn>; TOGETHER]], depth: usize, index: usize) -> Opt
 /// The slot in `node` to which the bits of `key` lead. It is that of `turn`, if that is a turn in this node. Else the node's head is
 /// searched.
 #[inline(always)]
-pub(crate) fn find_place<G: Gate>(
+pub(crate) fn find_slot<G: Gate>(
     table: &HotTable,
     seat: &mut TableSeat,
     gate: &mut G,

@@ -8,7 +8,7 @@ ghost use Rattle.rowex_reading.specs.Seen.{IsLedTo};
 ghost use Rattle.rowex_scanning.specs.Ahead.{HasPlaces, HasSeenAhead, entries_ahead};
 ghost use Rattle.version_laws.specs.Directions.{to_come as to_come_of};
 
-use crate::direction::{place_ahead, to_come};
+use crate::direction::{entries_to_come, slot_ahead};
 use crate::scanning::Scan;
 use compound_node::Entry;
 use insert_cases::PathNode;
@@ -39,7 +39,7 @@ pub(crate) struct Ahead {
 /// The leaf in one slot alone is read at once. Shorter keys take few instructions each, always as many, so a processor reads ahead by
 /// itself.
 #[inline(always)]
-fn should_touch(count: u8, pairs: &Pairs) -> bool
+fn should_touch_leaves(count: u8, pairs: &Pairs) -> bool
     ensures { IsTrue result ↔ (1 < count) × (length pairs.now < length (keys_in pairs.now) / 8) }
 {
     count > 1 && pairs.key_bytes() / 8 > pairs.len()
@@ -48,7 +48,7 @@ fn should_touch(count: u8, pairs: &Pairs) -> bool
 /// At how many slots a walk that has listed `pairs` looks together: those of the pairs that `limit` leaves, and one more. `MOST_AHEAD` at
 /// most, and one if fewer than `LEAST_PAIRS` are left.
 #[inline(always)]
-fn most_together(limit: usize, pairs: &Pairs) -> u8
+fn most_slots(limit: usize, pairs: &Pairs) -> u8
     requires { length pairs.now ≤ limit }
     ensures some { 0 < result }
     ensures most { result ≤ MOST_AHEAD }
@@ -64,11 +64,11 @@ fn most_together(limit: usize, pairs: &Pairs) -> u8
     }
 }
 
-/// Loads the entries in the next slots of the node `top`, up to the first that leads to a node. It looks at [`most_together`] slots, or
+/// Loads the entries in the next slots of the node `top`, up to the first that leads to a node. It looks at [`most_slots`] slots, or
 /// fewer if fewer are to come. `pairs` are those listed so far. The leaves' numbers go to the first of `leaves`, and the leaves are touched
-/// where [`should_touch`] says so. Returns how many leaves these are, and that node, if there is one.
+/// where [`should_touch_leaves`] says so. Returns how many leaves these are, and that node, if there is one.
 #[inline(always)]
-pub(crate) fn look_ahead<G: Gate>(
+pub(crate) fn load_entries_ahead<G: Gate>(
     scan: &Scan,
     seat: &mut TableSeat,
     gate: &mut G,
@@ -91,14 +91,14 @@ pub(crate) fn look_ahead<G: Gate>(
     ensures ahead { (m : ℕ) → HasPlaces scan.now.range.now.direction seat.old.known m top.now →
         HasSeenAhead scan.now.range.now.direction seat.new.known m top.now leaves.new result }
 {
-    let count = to_come(scan.range.direction, top).min(most_together(scan.range.limit, pairs));
+    let count = entries_to_come(scan.range.direction, top).min(most_slots(scan.range.limit, pairs));
     let node = NodeAt {
         number: top.number,
         start: scan.origins.node(top.number),
     };
-    let is_touching = should_touch(count, pairs);
+    let is_touching = should_touch_leaves(count, pairs);
     for index in 0..count {
-        let place = place_ahead(scan.range.direction, *top, index);
+        let place = slot_ahead(scan.range.direction, *top, index);
         match load_entry(scan.table, seat, gate, node, place) {
             Entry::Node { number, .. } => {
                 return Ahead {

@@ -12,7 +12,7 @@ use version_laws::Direction;
 
 /// How many entries are to come in the node `top`, for a walk in the direction `direction` that stands at its gap `top.at`.
 #[inline(always)]
-pub(crate) fn to_come(direction: Direction, top: &PathNode) -> u8
+pub(crate) fn entries_to_come(direction: Direction, top: &PathNode) -> u8
     requires { top.now.at ≤ top.now.count }
     ensures { result ≡ to_come_of direction top.now.count top.now.at }
 {
@@ -24,7 +24,7 @@ pub(crate) fn to_come(direction: Direction, top: &PathNode) -> u8
 
 /// The gap at which a walk in the direction `direction` stands in the node `top` after the next `entries` entries.
 #[inline(always)]
-pub(crate) fn gap_after(direction: Direction, top: PathNode, entries: u8) -> u8
+pub(crate) fn gap_after_entries(direction: Direction, top: PathNode, entries: u8) -> u8
     requires fits { top.at ≤ top.count }
     requires come { entries ≤ to_come_of direction top.count top.at }
     ensures { result ≡ gap_after_of direction top.at entries }
@@ -37,7 +37,7 @@ pub(crate) fn gap_after(direction: Direction, top: PathNode, entries: u8) -> u8
 
 /// The slot in the node `top` of the entry that comes after the next `entries` ones, for a walk in the direction `direction`.
 #[inline(always)]
-pub(crate) fn place_ahead(direction: Direction, top: PathNode, entries: u8) -> u8
+pub(crate) fn slot_ahead(direction: Direction, top: PathNode, entries: u8) -> u8
     requires fits { top.at ≤ top.count }
     requires come { entries < to_come_of direction top.count top.at }
     ensures { result ≡ place_ahead_of direction top.at entries }
@@ -50,7 +50,7 @@ pub(crate) fn place_ahead(direction: Direction, top: PathNode, entries: u8) -> u
 
 /// The gap at which a walk in the direction `direction` stands after the entry in slot `place`.
 #[inline(always)]
-pub(crate) fn gap_behind(direction: Direction, place: u8) -> u8
+pub(crate) fn gap_behind_slot(direction: Direction, place: u8) -> u8
     requires { place < 32 }
     ensures { result ≡ gap_behind_of direction place }
 {
@@ -74,20 +74,20 @@ pub(crate) fn first_gap(direction: Direction, count: u8) -> u8
 /// Whether a scan in the direction `direction` passes the key with the bytes `first` before that with the bytes `second`. `false` if they
 /// are one key.
 #[inline(always)]
-pub(crate) fn is_earlier(direction: Direction, first: &[u8], second: &[u8]) -> bool
+pub(crate) fn is_earlier_key(direction: Direction, first: &[u8], second: &[u8]) -> bool
     requires keys { IsKey first.now × IsKey second.now }
     ensures earlier { IsTrue result → IsEarlier direction first.now second.now }
     ensures no_later { result ≡ false → IsNoLater direction second.now first.now }
 {
     match direction {
-        Direction::Upwards => is_before(first, second),
-        Direction::Downwards => is_before(second, first),
+        Direction::Upwards => is_key_before(first, second),
+        Direction::Downwards => is_key_before(second, first),
     }
 }
 
 /// Whether the key with the bytes `first` is before that with the bytes `second`, as their first different bit says. Their first different
 /// byte says the same. `false` if they are one key.
-pub(crate) fn is_before(first: &[u8], second: &[u8]) -> bool
+pub(crate) fn is_key_before(first: &[u8], second: &[u8]) -> bool
     requires keys { IsKey first.now × IsKey second.now }
     ensures before { IsTrue result → IsBefore first.now second.now }
     ensures at_most { result ≡ false → IsAtMost second.now first.now }

@@ -17,9 +17,10 @@ ghost use Rattle.version_laws.specs.Directions.{IsEarlier, IsNoLater};
 ghost use Rattle.rowex_scanning.specs.Scanning.{HasScanned, HasScannedPart};
 ghost use Rattle.rowex_scanning.specs.Scanning.{IsEntered, IsLeafRefused, IsLeafTaken, IsPairRefused, IsPairTaken, IsReached, IsWalkAlong, asked_range, first_key_of, last_key_of, request_of};
 
-use crate::ahead::{MOST_AHEAD, look_ahead};
+use crate::ahead::{MOST_AHEAD, load_entries_ahead};
 use crate::direction::{
-    first_gap, gap_after, gap_behind, is_before, is_earlier, place_ahead, to_come,
+    entries_to_come, first_gap, gap_after_entries, gap_behind_slot, is_earlier_key, is_key_before,
+    slot_ahead,
 };
 use crate::start::{SearchEnd, find_start};
 use arrayvec::ArrayVec;
@@ -92,7 +93,7 @@ pub fn scan_root<G: Gate>(
     ensures few { seat.new.known.steps ≤ seat.old.known.steps + (1 + scan_loads range.now.limit) }
 {
     pairs.clear();
-    if is_before(range.upto.as_bytes(), range.from.as_bytes()) {
+    if is_key_before(range.upto.as_bytes(), range.from.as_bytes()) {
         load_root(table, seat, gate);
         return Ok(false);
     }
@@ -152,7 +153,7 @@ fn scan_leaf<G: Gate>(
     let mut places = [0; MAX_BYTES];
     let leaf = LeafAt { number, start };
     let (length, value) = load_leaf(table, seat, gate, leaf, &mut places);
-    if is_earlier(
+    if is_earlier_key(
         range.direction,
         &places[..length],
         first_key(range).as_bytes(),
@@ -191,13 +192,13 @@ fn scan_node<G: Gate>(
     let places = &mut [0; MAX_BYTES];
     if start.leaf {
         match take_leaf(scan, seat, gate, found.number, places, pairs)? {
-            Verdict::Further => top.at = gap_behind(direction, top.at),
+            Verdict::Further => top.at = gap_behind_slot(direction, top.at),
             Verdict::Past => return Ok(false),
             Verdict::Full => return Ok(true),
         }
     }
     way.push(top);
-    walk(scan, seat, gate, way, places, pairs)
+    walk_slots(scan, seat, gate, way, places, pairs)
 }
 
 /// Walks over the slots of the last node of `way`, from its gap `at` on, and of the nodes above it, in the scan's direction. Adds the
@@ -206,7 +207,7 @@ fn scan_node<G: Gate>(
 /// It looks at several slots together, so that it doesn't wait for each leaf alone. The bytes of each key go to the same `places`,
 /// whatever stands there.
 #[inline(always)]
-fn walk<G: Gate>(
+fn walk_slots<G: Gate>(
     scan: &Scan,
     seat: &mut TableSeat,
     gate: &mut G,
@@ -227,8 +228,8 @@ fn walk<G: Gate>(
         return Ok(false);
     };
     loop {
-        if to_come(direction, &top) > 0 {
-            let ahead = look_ahead(scan, seat, gate, &top, pairs, &mut leaves);
+        if entries_to_come(direction, &top) > 0 {
+            let ahead = load_entries_ahead(scan, seat, gate, &top, pairs, &mut leaves);
             let next = &leaves[..ahead.count as usize];
             match take_leaves(scan, seat, gate, next, places, pairs)? {
                 Verdict::Further => (),
@@ -237,18 +238,18 @@ fn walk<G: Gate>(
             }
             match ahead.node {
                 Some(number) => {
-                    top.at = place_ahead(direction, top, ahead.count);
+                    top.at = slot_ahead(direction, top, ahead.count);
                     way.push(top);
-                    top = enter_at_gap(scan.table, seat, gate, direction, number);
+                    top = enter_node_at_gap(scan.table, seat, gate, direction, number);
                 }
-                None => top.at = gap_after(direction, top, ahead.count),
+                None => top.at = gap_after_entries(direction, top, ahead.count),
             }
         } else {
             let Some(above) = way.pop() else {
                 return Ok(false);
             };
             top = above;
-            top.at = gap_behind(direction, above.at);
+            top.at = gap_behind_slot(direction, above.at);
         }
     }
 }
@@ -282,7 +283,7 @@ fn take_leaves<G: Gate>(
 }
 
 /// Loads the head of node `number`. Returns the node of a walk that stands at the gap before its first entry in the direction `direction`.
-fn enter_at_gap<G: Gate>(
+fn enter_node_at_gap<G: Gate>(
     table: &HotTable,
     seat: &mut TableSeat,
     gate: &mut G,
@@ -346,7 +347,7 @@ fn take_pair(
     ensures taken { IfOk result (IsPairTaken (request_of range.now) pairs.old (take length places.now) value pairs.new) }
     ensures refused { OnErr result (IsPairRefused (asked_range range.now) pairs.old (take length places.now) pairs.new) }
 {
-    if is_past(range, &places[..length]) {
+    if is_past_range(range, &places[..length]) {
         return Ok(Verdict::Past);
     }
     if pairs.len() == range.limit {
@@ -359,7 +360,7 @@ fn take_pair(
 /// Whether the key with the bytes `key` is past the last key of `range` in its direction. In a scan upwards two numbers of eight bytes
 /// mostly tell that it is not.
 #[inline(always)]
-fn is_past(range: &Range, key: &[u8]) -> bool
+fn is_past_range(range: &Range, key: &[u8]) -> bool
     requires key { IsKey key.now }
     ensures past { IsTrue result → IsEarlier range.now.direction (last_key_of range.now) key.now }
     ensures inside { result ≡ false → IsNoLater range.now.direction key.now (last_key_of range.now) }
@@ -370,9 +371,9 @@ fn is_past(range: &Range, key: &[u8]) -> bool
             if key.len() >= 8 && first_word(key) < key_word_at(range.upto, 0) {
                 return false;
             }
-            is_before(upto, key)
+            is_key_before(upto, key)
         }
-        Direction::Downwards => is_before(key, range.from.as_bytes()),
+        Direction::Downwards => is_key_before(key, range.from.as_bytes()),
     }
 }
 

@@ -10,7 +10,7 @@ use rowex_reading::Found;
 
 /// The value that `call` gives its key, if it changes the map. `held` is the key's value before; `None` if it is absent. The result is 0
 /// for a get, a removal, and an addition to an absent key, which give none.
-pub(crate) fn value_in(call: &Call, held: Option<u64>) -> u64
+pub(crate) fn new_value(call: &Call, held: Option<u64>) -> u64
     ensures { result ≡ the_value_in call.now held }
 {
     match (call, held) {
@@ -22,7 +22,7 @@ pub(crate) fn value_in(call: &Call, held: Option<u64>) -> u64
 }
 
 /// The value of the key of a search that ended at `found`; `None` if it found nothing, or a leaf with another key.
-pub(crate) fn value_of(found: Found) -> Option<u64>
+pub(crate) fn found_value(found: Found) -> Option<u64>
     ensures { result ≡ the_value found }
 {
     match found {
@@ -44,15 +44,15 @@ pub(crate) fn aim_of(call: &Call, held: Option<u64>) -> Option<Aim>
         Call::Get(_) => None,
         Call::Insert(..) => Some(Aim::Insert),
         Call::Upsert(..) => Some(Aim::Upsert),
-        Call::Exchange(_, expected, _) => aim_where(*expected, held, Aim::Upsert),
+        Call::Exchange(_, expected, _) => aim_if_expected(*expected, held, Aim::Upsert),
         Call::Add(..) => held.and(Some(Aim::Upsert)),
         Call::Remove(_) => Some(Aim::Remove),
-        Call::RemoveIf(_, expected) => aim_where(*expected, held, Aim::Remove),
+        Call::RemoveIf(_, expected) => aim_if_expected(*expected, held, Aim::Remove),
     }
 }
 
 /// `aim`, if the key has the value `expected`; `None` if `held` is another value, or the key is absent.
-fn aim_where(expected: u64, held: Option<u64>, aim: Aim) -> Option<Aim>
+fn aim_if_expected(expected: u64, held: Option<u64>, aim: Aim) -> Option<Aim>
     ensures { result ≡ the_aim_where expected held aim }
 {
     match held {

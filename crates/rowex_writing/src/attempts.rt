@@ -18,11 +18,11 @@ ghost use Rattle.rowex_writing.specs.Locks.{HasMadeNoChange, HasMetLock, TriesNo
 ghost use Rattle.rowex_writing.specs.Counts.{change_steps, most_locks, most_steps, span_steps};
 ghost use Rattle.record_words.specs.declared.TheConstants.{HEAD_WORDS};
 
-use crate::asking::{aim_of, value_in, value_of};
+use crate::asking::{aim_of, found_value, new_value};
 use crate::building::Build;
 use crate::checking::check_span;
-use crate::deeds::{Job, carry_out};
-use crate::ending::undo;
+use crate::deeds::{Job, carry_out_deed};
+use crate::ending::release_records_and_locks;
 use crate::locks::lock_span;
 use crate::merging::try_merge;
 use crate::plan::{Deed, Full, Plan, find_plan};
@@ -80,7 +80,7 @@ pub fn attempt<G: Gate>(
 {
     let key = call.key();
     let found = search_way(table, seat, gate, key, way);
-    let held = value_of(found);
+    let held = found_value(found);
     let Some(aim) = aim_of(call, held) else {
         return Ok(call.reply(held));
     };
@@ -91,7 +91,7 @@ pub fn attempt<G: Gate>(
             let job = Job {
                 way,
                 key,
-                value: value_in(call, held),
+                value: new_value(call, held),
                 found,
                 span,
             };
@@ -127,7 +127,7 @@ fn try_plan<G: Gate>(
         HasRefused table.now.layout job.now.key.now k seat.new.known fault) }
     ensures leafless { deed ≡ Deed.Take → result ≢ Err TryFault.FullLeaves }
 {
-    if !take_span(table, seat, gate, job) {
+    if !lock_and_check_span(table, seat, gate, job) {
         return Err(TryFault::Busy);
     }
     match change_span(table, seat, gate, build, job, deed) {
@@ -154,7 +154,7 @@ fn change_span<G: Gate>(
 {
     match deed {
         Deed::Take if job.span.end > 0 => make_removal(table, seat, gate, build, job),
-        _ => match carry_out(table, seat, gate, build, job, deed) {
+        _ => match carry_out_deed(table, seat, gate, build, job, deed) {
             Ok(raised) => {
                 publish_change(table, seat, gate, build, job, raised);
                 Ok(())
@@ -200,7 +200,12 @@ fn make_removal<G: Gate>(
 
 /// Locks what `job` is to change, checks that it stands as the search found it, and returns whether it does. If a lock is refused, or
 /// something else stands there, all locks are given back.
-fn take_span<G: Gate>(table: &HotTable, seat: &mut TableSeat, gate: &mut G, job: &Job<'_>) -> bool
+fn lock_and_check_span<G: Gate>(
+    table: &HotTable,
+    seat: &mut TableSeat,
+    gate: &mut G,
+    job: &Job<'_>,
+) -> bool
     requires own { IsSeatOf table.now seat.old }
     requires possible { IsPossible table.now.layout seat.old.known }
     requires within { IsWithinWay job.now }
@@ -226,7 +231,7 @@ fn take_span<G: Gate>(table: &HotTable, seat: &mut TableSeat, gate: &mut G, job:
     if check_span(table, seat, gate, job) {
         return true;
     }
-    undo(table, seat, gate, &[], job);
+    release_records_and_locks(table, seat, gate, &[], job);
     false
 }
 
@@ -244,7 +249,7 @@ fn undo_change<G: Gate>(
     ensures rest { IsAtRest seat.new.known }
     ensures few { seat.new.known.steps ≤ seat.old.known.steps + length build.now.made.items + locks_of job.now.span }
 {
-    undo(table, seat, gate, build.made.as_slice(), job);
+    release_records_and_locks(table, seat, gate, build.made.as_slice(), job);
 }
 
 /// The fault of an attempt that found no record of the kind `full` free.

@@ -64,12 +64,12 @@ pub(crate) fn make_node<G: Gate>(
     ensures same { result ≡ None → (seat.new.known.own ≡ seat.old.known.own) × (build.new.made.items ≡ build.old.made.items) }
 {
     let words = pack_node(node);
-    make_from_words(table, seat, gate, build, &words)
+    make_node_from_words(table, seat, gate, build, &words)
 }
 
 /// Makes a node record of `words`, which are those of a node, adds it to `build.made`, and returns its entry. `None` if no node record was
 /// free: none is added. Claims go on as in [`make_node`].
-pub(crate) fn make_from_words<G: Gate>(
+pub(crate) fn make_node_from_words<G: Gate>(
     table: &HotTable,
     seat: &mut TableSeat,
     gate: &mut G,
@@ -96,7 +96,7 @@ pub(crate) fn make_from_words<G: Gate>(
 }
 
 /// The entry that names `node`, which is in node record `number`.
-pub(crate) fn entry_of(number: u32, node: &Node) -> Entry
+pub(crate) fn node_entry(number: u32, node: &Node) -> Entry
     ensures { result ≡ Entry.Node number node.now.height }
 {
     Entry::Node {
@@ -109,7 +109,7 @@ pub(crate) fn entry_of(number: u32, node: &Node) -> Entry
 /// record was free: none is added.
 ///
 /// The node has leaves alone and room for one more. `words` become those of the record, so that no node is read and none is packed.
-pub(crate) fn make_from_words_with_leaf<G: Gate>(
+pub(crate) fn make_node_with_leaf<G: Gate>(
     table: &HotTable,
     seat: &mut TableSeat,
     gate: &mut G,
@@ -131,12 +131,12 @@ pub(crate) fn make_from_words_with_leaf<G: Gate>(
     let bit = new.key.bit(new.position);
     let (first, last) = affected_in(&words[..HEAD_WORDS], new.at, new.position);
     record_words::add_leaf(words, first, last, new.position, bit, new.number);
-    make_from_words(table, seat, gate, build, words)
+    make_node_from_words(table, seat, gate, build, words)
 }
 
 /// The entry for `half`, a side of the cut node that `old` names. It is the one entry itself, that of a record made for a new node, or
 /// `old` for the node as it was. `None` if a record was wanted and none was free.
-fn make_half<G: Gate>(
+fn make_half_entry<G: Gate>(
     table: &HotTable,
     seat: &mut TableSeat,
     gate: &mut G,
@@ -181,8 +181,8 @@ pub(crate) fn make_risen<G: Gate>(
             Some(Risen::Whole(entry))
         }
         Grown::Two(cut) => {
-            let one = make_half(table, seat, gate, build, old, &cut.one)?;
-            let zero = make_half(table, seat, gate, build, old, &cut.zero)?;
+            let one = make_half_entry(table, seat, gate, build, old, &cut.one)?;
+            let zero = make_half_entry(table, seat, gate, build, old, &cut.zero)?;
             Some(Risen::Split {
                 position: cut.position,
                 zero,

@@ -84,7 +84,7 @@ pub(crate) fn root_stands<G: Gate>(
     ensures few { seat.new.known.steps ≤ seat.old.known.steps + 1 }
 {
     let found = load_root(table, seat, gate);
-    are_same(found, root)
+    are_same_entry(found, root)
 }
 
 /// Returns whether each node that is locked for `job`'s span has the entry that the search took in it. Each is loaded once, from the top
@@ -155,7 +155,7 @@ fn is_word_of(entry: Option<Entry>, word: u64) -> bool
 }
 
 /// Whether `one` and `other` are the same entry, or both `None`.
-fn are_same(one: Option<Entry>, other: Option<Entry>) -> bool
+fn are_same_entry(one: Option<Entry>, other: Option<Entry>) -> bool
     ensures same { result ≡ true → one ≡ other }
     ensures differ { result ≡ false → one ≢ other }
 {

@@ -89,7 +89,7 @@ pub(crate) fn claim_by_hint<G: Gate>(
         (λ number. (number < count_of kind table.now.layout) × HoldsOneMore (record_of kind number) seat.old.known seat.new.known) }
     ensures few { seat.new.known.steps ≤ seat.old.known.steps + 2 * count_of kind table.now.layout + 2 }
 {
-    if let Some(number) = claim_spare(table, seat, gate, kind, &mut hint.spare) {
+    if let Some(number) = claim_spare_record(table, seat, gate, kind, &mut hint.spare) {
         return Some(number);
     }
     let number = claim_record(table, seat, gate, kind, hint.next)?;
@@ -100,7 +100,7 @@ pub(crate) fn claim_by_hint<G: Gate>(
 /// Takes the last number out of `spare`, and returns it if the pass could claim that record of `kind`. `None` if it couldn't, or if `spare`
 /// was empty. Inline, so that no claim asks of which kind it is.
 #[inline(always)]
-pub(crate) fn claim_spare<G: Gate>(
+pub(crate) fn claim_spare_record<G: Gate>(
     table: &HotTable,
     seat: &mut TableSeat,
     gate: &mut G,
@@ -145,10 +145,10 @@ pub(crate) fn claim_leaf<G: Gate>(
     let layout = table.layout();
     let first = layout.first_leaf_with(words);
     let from = skip_classes(layout, classes, first);
-    if let Some(number) = claim_between(table, seat, gate, from, layout.leaves, classes) {
+    if let Some(number) = claim_leaf_between(table, seat, gate, from, layout.leaves, classes) {
         return Some(number);
     }
-    let number = claim_between(table, seat, gate, first, from, classes)?;
+    let number = claim_leaf_between(table, seat, gate, first, from, classes)?;
     Some(number)
 }
 
@@ -174,7 +174,7 @@ fn skip_classes(layout: Layout, classes: &mut [Hint; LEAF_CLASSES], first: u32) 
 /// none was free. A class with none free is to be skipped afterwards, as its hint in `classes` says then. Inline, so that the class of the
 /// first one is known.
 #[inline(always)]
-fn claim_between<G: Gate>(
+fn claim_leaf_between<G: Gate>(
     table: &HotTable,
     seat: &mut TableSeat,
     gate: &mut G,
@@ -227,7 +227,7 @@ pub(crate) fn claim_node<G: Gate>(
         build.new.nodes.next build.new.left_nodes) }
     ensures few { seat.new.known.steps + 2 * build.new.left_nodes ≤ seat.old.known.steps + 2 * build.old.left_nodes + 2 + looks_for build.new result }
 {
-    let claimed = claim_on_walk(table, seat, gate, &mut build.nodes, &mut build.left_nodes);
+    let claimed = claim_node_on_walk(table, seat, gate, &mut build.nodes, &mut build.left_nodes);
     if let Some(number) = claimed {
         return Some(number);
     }
@@ -253,7 +253,7 @@ fn load_states<G: Gate>(table: &HotTable, seat: &mut TableSeat, gate: &mut G, ma
 ///
 /// It tries the last spare number of `hint` first, which is spare no more. Then it tries each record once, from `hint.next` on,
 /// `left` at most. `left` becomes less by those that were tried.
-fn claim_on_walk<G: Gate>(
+fn claim_node_on_walk<G: Gate>(
     table: &HotTable,
     seat: &mut TableSeat,
     gate: &mut G,
@@ -270,7 +270,7 @@ fn claim_on_walk<G: Gate>(
         (λ number. IsClaimWalk table.now.layout since seat.new.known (made ++ a_node number ∷ []) hint.new.next left.new) }
     ensures few { seat.new.known.steps + 2 * left.new ≤ seat.old.known.steps + 2 * left.old + 2 }
 {
-    if let Some(number) = claim_spare(table, seat, gate, RecordKind::Node, &mut hint.spare) {
+    if let Some(number) = claim_spare_record(table, seat, gate, RecordKind::Node, &mut hint.spare) {
         return Some(number);
     }
     let number = claim_within(table, seat, gate, RecordKind::Node, hint.next, left)?;

@@ -43,7 +43,7 @@ pub(crate) struct Raised {
 
 /// Makes the records of the change `deed`, which other passes don't see yet. Returns what is to take the place of the nodes of `job.span`,
 /// which are locked and checked. If no record of a kind was free, returns that kind: the records made by then stay in `build.made`.
-pub(crate) fn carry_out<G: Gate>(
+pub(crate) fn carry_out_deed<G: Gate>(
     table: &HotTable,
     seat: &mut TableSeat,
     gate: &mut G,
@@ -56,8 +56,8 @@ pub(crate) fn carry_out<G: Gate>(
     ensures leafless { deed ≡ Deed.Take → result ≢ Err Full.Leaves }
 {
     match deed {
-        Deed::Put => put_leaf(table, seat, gate, build, job),
-        Deed::PushDown { position } => push_down(table, seat, gate, build, job, position),
+        Deed::Put => put_new_leaf(table, seat, gate, build, job),
+        Deed::PushDown { position } => push_leaf_down(table, seat, gate, build, job, position),
         Deed::Grow { position } => grow_node(table, seat, gate, build, job, position),
         Deed::Take => remove_leaf(table, seat, gate, build, job),
     }
@@ -65,7 +65,7 @@ pub(crate) fn carry_out<G: Gate>(
 
 /// Makes and returns the new leaf, which is to take the place of what the search found: nothing, or the leaf that has the key.
 /// `Full::Leaves` if no leaf record with room was free.
-pub(crate) fn put_leaf<G: Gate>(
+pub(crate) fn put_new_leaf<G: Gate>(
     table: &HotTable,
     seat: &mut TableSeat,
     gate: &mut G,
@@ -98,7 +98,7 @@ fn found_leaf(found: Found) -> Option<u32>
 
 /// Makes the new leaf, and a node of it and the found leaf with a fork at `position`. Returns that node, which is to take the found leaf's
 /// place. `Full::Leaves` if no leaf record with room was free. `Full::Nodes` if no node record was free: the leaf stays in `build.made`.
-pub(crate) fn push_down<G: Gate>(
+pub(crate) fn push_leaf_down<G: Gate>(
     table: &HotTable,
     seat: &mut TableSeat,
     gate: &mut G,

@@ -18,7 +18,7 @@ use rowex_table::{HotTable, TableSeat};
 
 /// Loads the epoch, straight after a publish, and marks with it the records `gone`, which the publish has unlinked. Then it unlocks the
 /// nodes `kept`, the first one first, and the anchor, if `anchor` says that it is locked. The pass has no record and no lock then.
-pub(crate) fn retire<G: Gate>(
+pub(crate) fn retire_records<G: Gate>(
     table: &HotTable,
     seat: &mut TableSeat,
     gate: &mut G,
@@ -37,7 +37,7 @@ pub(crate) fn retire<G: Gate>(
     ensures few { seat.new.known.steps ≤ seat.old.known.steps + length gone.now + length kept.now + 2 }
 {
     let epoch = table.load_epoch(seat, gate);
-    mark_all(table, seat, gate, gone, epoch);
+    mark_records(table, seat, gate, gone, epoch);
     unlock_nodes(table, seat, gate, kept);
     if anchor {
         table.unlock(seat, gate, Target::Anchor);
@@ -46,7 +46,7 @@ pub(crate) fn retire<G: Gate>(
 
 /// Takes a change back that was not published: gives up the records `held`, which are all that the pass has. Then it unlocks the nodes of
 /// `job`'s span and the one above them, or the anchor if the span goes up to the root. These are all that the pass has locked.
-pub(crate) fn undo<G: Gate>(
+pub(crate) fn release_records_and_locks<G: Gate>(
     table: &HotTable,
     seat: &mut TableSeat,
     gate: &mut G,
@@ -69,7 +69,13 @@ pub(crate) fn undo<G: Gate>(
 }
 
 /// Marks the records `recs`, all that the pass has unlinked, with `epoch`, which it has just loaded.
-fn mark_all<G: Gate>(table: &HotTable, seat: &mut TableSeat, gate: &mut G, recs: &[Rec], epoch: u64)
+fn mark_records<G: Gate>(
+    table: &HotTable,
+    seat: &mut TableSeat,
+    gate: &mut G,
+    recs: &[Rec],
+    epoch: u64,
+)
     requires own { IsSeatOf table.now seat.old }
     requires records { AreInTable table.now.layout recs.now }
     requires epoch { epoch < EPOCHS }

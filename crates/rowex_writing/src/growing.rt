@@ -16,7 +16,7 @@ use crate::deeds::{Job, Raised};
 use crate::plan::Full;
 use crate::publishing::make_leaf;
 use crate::remaking::NewLeaf;
-use crate::rising::raise_grown;
+use crate::rising::raise_with_leaf;
 use compound_node::Entry;
 use rowex_core::Gate;
 use rowex_table::{HotTable, TableSeat};
@@ -65,12 +65,12 @@ fn grow_with_leaf<G: Gate>(
         seat.old.known.steps + deed_steps table.now.layout (locks_of job.now.span) result }
 {
     build.left_nodes = table.layout().nodes;
-    let Some((entry, stays)) = raise_grown(table, seat, gate, build, job, new) else {
+    let Some((entry, stays)) = raise_with_leaf(table, seat, gate, build, job, new) else {
         return Err(Full::Nodes);
     };
     let len = job.span.len;
     let low = if stays { len - 1 } else { len };
-    has_number(entry);
+    show_number_fits(entry);
     Ok(Raised {
         entry: Some(entry),
         low,
@@ -79,7 +79,7 @@ fn grow_with_leaf<G: Gate>(
 }
 
 /// Does nothing, and tells the proof that the number of the record of `entry` has 32 bits, as its type says.
-pub(crate) fn has_number(entry: Entry)
+pub(crate) fn show_number_fits(entry: Entry)
     ensures { HasNumber entry }
 {
     match entry {

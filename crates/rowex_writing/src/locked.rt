@@ -31,7 +31,7 @@ struct NodeLoads {
 
 /// Loads the words of the locked node `number`, all but its state, into `words`, which are 0 before. Words of entries are loaded in
 /// groups of eight, as far as there are entries. Those behind stay 0.
-pub(crate) fn load_words<G: Gate>(
+pub(crate) fn load_locked_words<G: Gate>(
     table: &HotTable,
     seat: &mut TableSeat,
     gate: &mut G,
@@ -50,14 +50,14 @@ pub(crate) fn load_words<G: Gate>(
     let start = table.start_of(Rec::Node(number));
     let node = NodeAt { number, start };
     for index in 0..HEAD_WORDS {
-        words[index] = load_word(table, seat, gate, node, index);
+        words[index] = load_locked_word(table, seat, gate, node, index);
     }
     let end = HEAD_WORDS + (words[0] % 256) as usize;
     let loads = NodeLoads { node, end };
-    load_eight(table, seat, gate, loads, words, 25);
-    load_eight(table, seat, gate, loads, words, 33);
-    load_eight(table, seat, gate, loads, words, 41);
-    load_eight(table, seat, gate, loads, words, 49);
+    load_eight_words(table, seat, gate, loads, words, 25);
+    load_eight_words(table, seat, gate, loads, words, 33);
+    load_eight_words(table, seat, gate, loads, words, 41);
+    load_eight_words(table, seat, gate, loads, words, 49);
 }
 
 /// Loads the row of slot `at` of the locked node `node`; 4,294,967,295 for an unused slot, and past the last one.
@@ -80,7 +80,7 @@ fn load_row<G: Gate>(
         return u32::MAX;
     }
     let index = FIRST_ROWS + at as usize / 2;
-    row_of(load_word(table, seat, gate, node, index), at)
+    row_of(load_locked_word(table, seat, gate, node, index), at)
 }
 
 /// Returns the slot beside slot `at` of the locked node `number`, and the column of the fork between the two. `None` if the other side
@@ -126,7 +126,7 @@ pub(crate) fn load_position<G: Gate>(
     let start = table.start_of(Rec::Node(number));
     let node = NodeAt { number, start };
     let index = 1 + column as usize / 4;
-    position_of(load_word(table, seat, gate, node, index), column)
+    position_of(load_locked_word(table, seat, gate, node, index), column)
 }
 
 /// Loads the entry in slot `place` of the locked node `number`, which has that slot.
@@ -155,7 +155,7 @@ pub(crate) fn load_locked_entry<G: Gate>(
 /// Loads eight words of the locked node of `loads` into `words`, from index `first` on. If `first` isn't before `loads.end`, none is
 /// loaded. Inline, so that each index is known when it is compiled.
 #[inline(always)]
-fn load_eight<G: Gate>(
+fn load_eight_words<G: Gate>(
     table: &HotTable,
     seat: &mut TableSeat,
     gate: &mut G,
@@ -172,13 +172,13 @@ fn load_eight<G: Gate>(
     if first < loads.end {
         for place in 0..8 {
             let index = first + place;
-            words[index] = load_word(table, seat, gate, loads.node, index);
+            words[index] = load_locked_word(table, seat, gate, loads.node, index);
         }
     }
 }
 
 /// Loads the words of the locked node `number`, and returns the node that they spell.
-pub(crate) fn read_locked<G: Gate>(
+pub(crate) fn read_locked_node<G: Gate>(
     table: &HotTable,
     seat: &mut TableSeat,
     gate: &mut G,
@@ -192,14 +192,14 @@ pub(crate) fn read_locked<G: Gate>(
     ensures few { seat.new.known.steps ≤ seat.old.known.steps + NODE_FIELDS }
 {
     let mut words = [0; NODE_FIELDS];
-    load_words(table, seat, gate, number, &mut words);
+    load_locked_words(table, seat, gate, number, &mut words);
     read_node(&words)
 }
 
 /// Loads the word at `index` of the locked node `node`, counted from 0 behind its state. Inline, so that neither loop over the words tests
 /// which they are.
 #[inline(always)]
-fn load_word<G: Gate>(
+fn load_locked_word<G: Gate>(
     table: &HotTable,
     seat: &mut TableSeat,
     gate: &mut G,

@@ -22,10 +22,12 @@ ghost use Rattle.rowex_writing.specs.Locks.{HasTheSame, span_numbers};
 ghost use Rattle.rowex_writing.specs.Merging.{AreNoNode, ClosesFork, HasHeight, HasListed, IsNeighbour, IsWide, MayMergeInto, TakesOn, TriesFew, lower, upper};
 ghost use Rattle.rowex_writing.specs.declared.plan.Deed.TheVariants.{Take};
 
-use crate::building::{Build, make_from_words};
+use crate::building::{Build, make_node_from_words};
 use crate::deeds::Job;
-use crate::growing::has_number;
-use crate::locked::{load_locked_entry, load_position, load_sibling, load_words, read_locked};
+use crate::growing::show_number_fits;
+use crate::locked::{
+    load_locked_entry, load_locked_words, load_position, load_sibling, read_locked_node,
+};
 use crate::publishing::{Store, publish_entry, spot_above};
 use crate::widening::{narrow_locks, widen_locks};
 use compound_node::{Entry, Half, Node};
@@ -166,9 +168,9 @@ fn merge_under_locks<G: Gate>(
         (seat.new.known.own ≡ seat.old.known.own) × (build.new.made.items ≡ build.old.made.items) }
     ensures few { seat.new.known.steps ≤ seat.old.known.steps + 2 * build.old.left_nodes + 500 }
 {
-    if let Some(entry) = make_merged(table, seat, gate, build, job, merge) {
-        list_merged(build, job, merge.number);
-        publish_merged(table, seat, gate, build, job, entry);
+    if let Some(entry) = make_merge_records(table, seat, gate, build, job, merge) {
+        list_merged_records(build, job, merge.number);
+        publish_merge(table, seat, gate, build, job, entry);
         return true;
     }
     narrow_locks(table, seat, gate, job, merge.number);
@@ -176,8 +178,8 @@ fn merge_under_locks<G: Gate>(
 }
 
 /// Puts the node of both siblings into record `merge.made`. Returns the entry for what is left of the upper node, in a new record if that
-/// has other entries, too. `None` if [`join_siblings`] has no node, or no record was free. Then the pass has the records that it had.
-fn make_merged<G: Gate>(
+/// has other entries, too. `None` if [`merge_siblings`] has no node, or no record was free. Then the pass has the records that it had.
+fn make_merge_records<G: Gate>(
     table: &HotTable,
     seat: &mut TableSeat,
     gate: &mut G,
@@ -194,7 +196,7 @@ fn make_merged<G: Gate>(
     ensures same { result ≡ None → (seat.new.known.own ≡ seat.old.known.own) × (build.new.made.items ≡ build.old.made.items) }
     ensures few { seat.new.known.steps ≤ seat.old.known.steps + 2 * build.old.left_nodes + 420 }
 {
-    let joined = join_siblings(table, seat, gate, job, merge)?;
+    let joined = merge_siblings(table, seat, gate, job, merge)?;
     let fork = ClosedFork {
         step: job.way[job.span.end - 1],
         place: merge.place,
@@ -203,15 +205,15 @@ fn make_merged<G: Gate>(
             height: joined.height(),
         },
     };
-    let entry = raise_closed(table, seat, gate, build, fork)?;
-    has_number(entry);
+    let entry = raise_closed_fork(table, seat, gate, build, fork)?;
+    show_number_fits(entry);
     fill_node(table, seat, gate, merge.made, &pack_node(&joined));
     Some(entry)
 }
 
 /// Returns what is left of the lower node and all of its sibling as one node, with a fork of the two at `merge.position`. `None` if they
 /// have more than 32 entries, or one entry alone is left of the lower node.
-fn join_siblings<G: Gate>(
+fn merge_siblings<G: Gate>(
     table: &HotTable,
     seat: &mut TableSeat,
     gate: &mut G,
@@ -228,19 +230,19 @@ fn join_siblings<G: Gate>(
     ensures few { seat.new.known.steps ≤ seat.old.known.steps + 114 }
 {
     let low = job.way[job.span.end];
-    let node = read_locked(table, seat, gate, low.number);
-    let other = read_locked(table, seat, gate, merge.number);
+    let node = read_locked_node(table, seat, gate, low.number);
+    let other = read_locked_node(table, seat, gate, merge.number);
     let Half::Many(left) = node.without(low.at) else {
         return None;
     };
     if left.count() + other.count() > 32 {
         return None;
     }
-    Some(join_sides(job.key.bit(merge.position), merge.position, &left, &other))
+    Some(merge_sides(job.key.bit(merge.position), merge.position, &left, &other))
 }
 
 /// Returns one node of the entries of `own` and `other`, with a fork of the two at `position`. `own` is the side of `bit` there.
-fn join_sides(bit: bool, position: u16, own: &Node, other: &Node) -> Node
+fn merge_sides(bit: bool, position: u16, own: &Node, other: &Node) -> Node
     requires room { length own.now.entries + length other.now.entries ≤ 32 }
     requires after { RisesFrom 0 (fork_of bit position (piece own.now) (piece other.now)) }
     ensures { IsBuiltFrom result (fork_of bit position (piece own.now) (piece other.now)) }
@@ -254,7 +256,7 @@ fn join_sides(bit: bool, position: u16, own: &Node, other: &Node) -> Node
 
 /// Returns the entry for what is left of the node of `fork`, once `fork.entry` has taken the fork's place. It is that entry if nothing
 /// else is left, else that of a new record. `None` if no node record was free.
-fn raise_closed<G: Gate>(
+fn raise_closed_fork<G: Gate>(
     table: &HotTable,
     seat: &mut TableSeat,
     gate: &mut G,
@@ -277,16 +279,16 @@ fn raise_closed<G: Gate>(
     ensures few { seat.new.known.steps ≤ seat.old.known.steps + 2 * build.old.left_nodes + 180 }
 {
     let mut words = [0; NODE_FIELDS];
-    load_words(table, seat, gate, fork.step.number, &mut words);
+    load_locked_words(table, seat, gate, fork.step.number, &mut words);
     if let Some(entry) = close_fork(&mut words, fork.step.at, fork.place, fork.entry) {
         return Some(entry);
     }
-    make_from_words(table, seat, gate, build, &words)
+    make_node_from_words(table, seat, gate, build, &words)
 }
 
 /// Ends a removal that merges: makes the new records ready, and stores `entry` in the place of the upper node's. Then it retires the
-/// records that [`list_merged`] has listed, and unlocks the node above the upper one, or the anchor.
-fn publish_merged<G: Gate>(
+/// records that [`list_merged_records`] has listed, and unlocks the node above the upper one, or the anchor.
+fn publish_merge<G: Gate>(
     table: &HotTable,
     seat: &mut TableSeat,
     gate: &mut G,
@@ -310,7 +312,7 @@ fn publish_merged<G: Gate>(
 }
 
 /// Lists in `build.gone` the records that a merge unlinks: those of both nodes of the span, sibling `number`, and the leaf.
-fn list_merged(build: &mut Build, job: &Job<'_>, number: u32)
+fn list_merged_records(build: &mut Build, job: &Job<'_>, number: u32)
     requires within { (0 < job.now.span.end) × (job.now.span.end < length job.now.way.now) }
     requires found { (leaf value : ℕ) × (job.now.found ≡ FoundLeaf leaf value None) }
     ensures gone { HasListed build.new.gone.items job.now number }

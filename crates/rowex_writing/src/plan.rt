@@ -84,8 +84,8 @@ pub enum Full {
 pub(crate) enum Outline {
     /// All is told.
     Known(Plan),
-    /// The new leaf goes beside the entries that `position` affects in the node at index `level` of the way: `plan_beside` tells the rest
-    /// from these.
+    /// The new leaf goes beside the entries that `position` affects in the node at index `level` of the way: `plan_beside_entries` tells
+    /// the rest from these.
     Beside { position: u16, level: usize },
 }
 
@@ -96,7 +96,7 @@ pub(crate) fn plan_call(way: &[PathNode], aim: Aim, found: Found) -> Outline
     match found {
         Found::Nothing => match aim {
             Aim::Remove => Outline::Known(Plan::Answer(Reply::Absent)),
-            _ => Outline::Known(plan_change(0, 0, Deed::Put)),
+            _ => Outline::Known(change_plan(0, 0, Deed::Put)),
         },
         Found::Leaf {
             mismatch: Some(position),
@@ -111,10 +111,10 @@ pub(crate) fn plan_call(way: &[PathNode], aim: Aim, found: Found) -> Outline
             ..
         } => match aim {
             Aim::Insert => Outline::Known(Plan::Answer(Reply::Exists(value))),
-            Aim::Upsert => Outline::Known(plan_change(way.len(), way.len(), Deed::Put)),
+            Aim::Upsert => Outline::Known(change_plan(way.len(), way.len(), Deed::Put)),
             Aim::Remove => {
                 let end = way.len().saturating_sub(1);
-                Outline::Known(plan_change(way.len(), end, Deed::Take))
+                Outline::Known(change_plan(way.len(), end, Deed::Take))
             }
         },
     }
@@ -125,33 +125,33 @@ fn plan_new_leaf(way: &[PathNode], position: u16) -> Outline
     ensures { IsBesideFound way.now position result }
 {
     if way.is_empty() {
-        return Outline::Known(plan_change(0, 0, Deed::PushDown { position }));
+        return Outline::Known(change_plan(0, 0, Deed::PushDown { position }));
     }
     let level = level_below(way, position);
     if level + 1 == way.len() && way[level].height <= 1 {
-        return Outline::Known(plan_low(way, position, level));
+        return Outline::Known(plan_in_lowest_node(way, position, level));
     }
     Outline::Beside { position, level }
 }
 
 /// Returns what a call does whose new leaf goes into the last node of `way`, that at `level`, which has leaves alone. The plan is the same
 /// whichever of these `position` affects.
-fn plan_low(way: &[PathNode], position: u16, level: usize) -> Plan
+fn plan_in_lowest_node(way: &[PathNode], position: u16, level: usize) -> Plan
     requires last { level + 1 ≡ length way.now }
     requires low { (s : PathNodeView) → slice_get way.now level ≡ Some s → s.height ≤ 1 }
     ensures { (first last : ℕ) → IsBeside way.now position level first last result }
 {
     let deed = Deed::Grow { position };
     if way[level].count < 32 {
-        plan_change(level + 1, level, deed)
+        change_plan(level + 1, level, deed)
     } else {
-        plan_change(level + 1, chain_end(way, level), deed)
+        change_plan(level + 1, chain_end(way, level), deed)
     }
 }
 
 /// Returns what a call does whose new leaf goes beside entries of the node at `level` of `way`. `position` affects those from `first` to
 /// `last`.
-pub(crate) fn plan_beside(
+pub(crate) fn plan_beside_entries(
     way: &[PathNode],
     position: u16,
     level: usize,
@@ -165,14 +165,14 @@ pub(crate) fn plan_beside(
     let deed = Deed::Grow { position };
     let len = choice.level + 1;
     match choice.case {
-        Case::LeafPushdown => plan_change(len, len, Deed::PushDown { position }),
-        Case::NormalInsert => plan_change(len, choice.level, deed),
-        Case::Overflow => plan_change(len, chain_end(way, choice.level), deed),
+        Case::LeafPushdown => change_plan(len, len, Deed::PushDown { position }),
+        Case::NormalInsert => change_plan(len, choice.level, deed),
+        Case::Overflow => change_plan(len, chain_end(way, choice.level), deed),
     }
 }
 
 /// Returns the plan that does `deed`, and remakes the nodes of the way from index `end` on, before `len`. None is remade if `end` is `len`.
-fn plan_change(len: usize, end: usize, deed: Deed) -> Plan
+fn change_plan(len: usize, end: usize, deed: Deed) -> Plan
     ensures { result ≡ a_change len end deed }
 {
     Plan::Change {
@@ -206,7 +206,7 @@ pub(crate) fn find_plan<G: Gate>(
         Outline::Beside { position, level } => {
             let step = way[level];
             let (first, last) = find_affected(table, seat, gate, step.number, step.at, position);
-            plan_beside(way, position, level, first, last)
+            plan_beside_entries(way, position, level, first, last)
         }
     }
 }

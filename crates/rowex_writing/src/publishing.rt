@@ -26,7 +26,7 @@ ghost use Rattle.rowex_writing.specs.Putting.{IsSpotAbove};
 use crate::building::{Build, MOST_MADE};
 use crate::claims::claim_leaf;
 use crate::deeds::{Job, Raised};
-use crate::ending::retire;
+use crate::ending::retire_records;
 use crate::plan::Span;
 use arrayvec::ArrayVec;
 use compound_node::Entry;
@@ -66,7 +66,7 @@ pub(crate) fn make_leaf<G: Gate>(
 
 /// Makes the records in `made`, all those of a change, ready to be linked, the last one first. Each is taken out of `made`: for a record or
 /// two, a call that clears it would cost more.
-fn ready_all<G: Gate>(
+fn ready_records<G: Gate>(
     table: &HotTable,
     seat: &mut TableSeat,
     gate: &mut G,
@@ -114,8 +114,8 @@ pub(crate) fn publish_change<G: Gate>(
 {
     let way = job.way;
     let span = job.span;
-    list_gone(build, &way[span.end..raised.low], raised.leaf);
-    let kept = list_kept(way, span, raised.low);
+    list_gone_records(build, &way[span.end..raised.low], raised.leaf);
+    let kept = list_kept_nodes(way, span, raised.low);
     let store = Store {
         spot: spot_above(way, span.end),
         entry: raised.entry,
@@ -147,9 +147,9 @@ pub(crate) fn publish_entry<G: Gate>(
     ensures changed { (x : Change) (was : Option ℕ) → MayStore table.now seat.old build.old kept.now store x was → HasChanged seat.old.known seat.new.known x was }
     ensures few { seat.new.known.steps ≤ seat.old.known.steps + length build.old.made.items + length build.old.gone.items + length kept.now + 3 }
 {
-    ready_all(table, seat, gate, &mut build.made);
+    ready_records(table, seat, gate, &mut build.made);
     table.publish(seat, gate, store.spot, stored_word(store.entry));
-    retire(
+    retire_records(
         table,
         seat,
         gate,
@@ -170,7 +170,7 @@ fn is_root(spot: Spot) -> bool
 }
 
 /// Sets `build.gone` to the records that a change unlinks: those of the nodes of `steps`, and leaf record `leaf`, if there is one.
-fn list_gone(build: &mut Build, steps: &[PathNode], leaf: Option<u32>)
+fn list_gone_records(build: &mut Build, steps: &[PathNode], leaf: Option<u32>)
     requires { length steps.now ≤ 2160 }
     ensures gone { build.new.gone.items ≡ map (λ (s : PathNodeView). a_node s.number) steps.now ++ leaf_gone leaf }
     ensures made { build.new.made.items ≡ build.old.made.items }
@@ -186,7 +186,7 @@ fn list_gone(build: &mut Build, steps: &[PathNode], leaf: Option<u32>)
 
 /// Returns the locked nodes of `way` that a change keeps. These are the one above `span`, if there is one, and the span's lowest, if `low`
 /// is its index. Else `low` is `span.len`.
-fn list_kept(way: &[PathNode], span: Span, low: usize) -> ArrayVec<PathNode, 2>
+fn list_kept_nodes(way: &[PathNode], span: Span, low: usize) -> ArrayVec<PathNode, 2>
     requires { (span.end ≤ low) × (low ≤ span.len) × (span.len ≤ low + 1) × (span.len ≤ length way.now) }
     ensures { result.items ≡ slice_range way.now (span.end - 1) span.end ++ slice_range way.now low span.len }
 {

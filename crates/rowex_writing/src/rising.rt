@@ -21,10 +21,10 @@ ghost use Rattle.rowex_writing.specs.Counts.{level_steps, node_steps};
 ghost use Rattle.rowex_writing.specs.Walks.{Makes};
 
 use crate::building::{
-    Build, MOST_MADE, entry_of, make_from_words, make_from_words_with_leaf, make_node, make_risen,
+    Build, MOST_MADE, make_node, make_node_from_words, make_node_with_leaf, make_risen, node_entry,
 };
 use crate::deeds::Job;
-use crate::locked::{load_words, read_locked};
+use crate::locked::{load_locked_words, read_locked_node};
 use crate::remaking::{Fork, NewLeaf, add_fork, add_leaf, cut_with_fork, cut_with_leaf};
 use compound_node::{Entry, Half, Node};
 use insert_cases::{Grown, PathNode, Risen};
@@ -35,7 +35,7 @@ use rowex_table::{HotTable, TableSeat};
 
 /// Makes what takes the place of the locked node `number` when it gets `fork`: one entry, or a fork of two if it was full. `None` if no
 /// node record was free: one that was made by then stays in `build.made`. The locked record stays as it is.
-fn raise_level<G: Gate>(
+fn raise_node_with_fork<G: Gate>(
     table: &HotTable,
     seat: &mut TableSeat,
     gate: &mut G,
@@ -52,9 +52,9 @@ fn raise_level<G: Gate>(
         (λ risen. IsRaising table.now seat.new build.new.made.items (a_node number ∷ b.here.gone) b.here.newcomer (entry number) (subtrie_of risen)) }
     ensures level { (words : List ℕ) → HasLocked seat.old.known number words → IfSome result (IsLevelRisen words) }
 {
-    let mut node = read_locked(table, seat, gate, number);
+    let mut node = read_locked_node(table, seat, gate, number);
     if node.count() == 32 {
-        let old = entry_of(number, &node);
+        let old = node_entry(number, &node);
         let grown = cut_with_fork(&node, fork);
         return make_risen(table, seat, gate, build, old, &grown);
     }
@@ -70,9 +70,9 @@ pub(crate) struct LoadedNode {
     pub words: [u64; NODE_FIELDS],
 }
 
-/// Makes what [`make_with_leaf`] makes, by a value of the node that is read from `loaded`. A node with room gets the leaf `new` in that
-/// value, and a full one is cut. `None` if no node record was free.
-fn make_with_leaf_by_value<G: Gate>(
+/// Makes what [`make_risen_with_leaf`] makes, by a value of the node that is read from `loaded`. A node with room gets the leaf `new` in
+/// that value, and a full one is cut. `None` if no node record was free.
+fn make_risen_with_leaf_by_value<G: Gate>(
     table: &HotTable,
     seat: &mut TableSeat,
     gate: &mut G,
@@ -88,9 +88,9 @@ fn make_with_leaf_by_value<G: Gate>(
 {
     let mut node = read_node(&loaded.words);
     if node.count() == 32 {
-        let old = entry_of(loaded.number, &node);
+        let old = node_entry(loaded.number, &node);
         let grown = cut_with_leaf(&node, new);
-        let stays = stays_whole(&grown);
+        let stays = has_whole_node(&grown);
         let risen = make_risen(table, seat, gate, build, old, &grown)?;
         return Some((risen, stays));
     }
@@ -103,7 +103,7 @@ fn make_with_leaf_by_value<G: Gate>(
 /// the node stays, as one side of that fork. `None` if no node record was free.
 ///
 /// A node of leaves alone with room gets the leaf in `loaded.words`, so that no node is read or packed.
-fn make_with_leaf<G: Gate>(
+fn make_risen_with_leaf<G: Gate>(
     table: &HotTable,
     seat: &mut TableSeat,
     gate: &mut G,
@@ -118,15 +118,15 @@ fn make_with_leaf<G: Gate>(
     ensures made { MakesGrown table.now (seat.old, build.old.made.items) (seat.new, build.new.made.items) loaded.old new.now result }
 {
     if can_take_leaf(&loaded.words) {
-        let entry = make_from_words_with_leaf(table, seat, gate, build, &mut loaded.words, new)?;
+        let entry = make_node_with_leaf(table, seat, gate, build, &mut loaded.words, new)?;
         return Some((Risen::Whole(entry), false));
     }
-    make_with_leaf_by_value(table, seat, gate, build, loaded, new)
+    make_risen_with_leaf_by_value(table, seat, gate, build, loaded, new)
 }
 
 /// Makes what takes the place of the locked node `number`, the lowest of a span, with the leaf `new`. This is one entry, or a fork of two
 /// if the node was full. The flag tells whether the node stays, as one side of that fork. `None` if no node record was free.
-fn raise_lowest<G: Gate>(
+fn raise_lowest_node<G: Gate>(
     table: &HotTable,
     seat: &mut TableSeat,
     gate: &mut G,
@@ -147,12 +147,12 @@ fn raise_lowest<G: Gate>(
         number,
         words: [0; NODE_FIELDS],
     };
-    load_words(table, seat, gate, number, &mut loaded.words);
-    make_with_leaf(table, seat, gate, build, &mut loaded, new)
+    load_locked_words(table, seat, gate, number, &mut loaded.words);
+    make_risen_with_leaf(table, seat, gate, build, &mut loaded, new)
 }
 
 /// Whether one side of `grown` is the node that was cut, as it was. `false` if `grown` is one node.
-fn stays_whole(grown: &Grown) -> bool
+fn has_whole_node(grown: &Grown) -> bool
     ensures { result ≡ keeps_node grown.now }
 {
     match grown {
@@ -217,7 +217,7 @@ pub(crate) struct Rise<'a> {
 /// `None` if no node record was free. Inline, since mostly these are one node.
 #[inline(always)]
 #[cycle(raising)]
-fn raise_on<G: Gate>(
+fn raise_to_end<G: Gate>(
     table: &HotTable,
     seat: &mut TableSeat,
     gate: &mut G,
@@ -239,12 +239,12 @@ fn raise_on<G: Gate>(
     if level == rise.end {
         return make_one_entry(table, seat, gate, build, way[level].number, rise.risen);
     }
-    raise_above(table, seat, gate, build, way, rise)
+    raise_fork_above(table, seat, gate, build, way, rise)
 }
 
-/// What [`raise_on`] returns where `rise.end` is before `rise.level`. There a fork has risen, which goes into the next node above.
+/// What [`raise_to_end`] returns where `rise.end` is before `rise.level`. There a fork has risen, which goes into the next node above.
 #[cycle(raising)]
-fn raise_above<G: Gate>(
+fn raise_fork_above<G: Gate>(
     table: &HotTable,
     seat: &mut TableSeat,
     gate: &mut G,
@@ -278,21 +278,21 @@ fn raise_above<G: Gate>(
                 zero,
                 one,
             };
-            let next = raise_level(table, seat, gate, build, number, &fork)?;
+            let next = raise_node_with_fork(table, seat, gate, build, number, &fork)?;
             let rest = Rise {
                 key: rise.key,
                 end: rise.end,
                 level: above,
                 risen: next,
             };
-            raise_on(table, seat, gate, build, way, rest)
+            raise_to_end(table, seat, gate, build, way, rest)
         }
     }
 }
 
 /// The one entry that takes the place of the topmost node of `job`'s span, when the lowest gets the leaf `new`. The flag tells whether
 /// the lowest node stays as it is. `None` if no node record was free: those made by then stay in `build.made`.
-pub(crate) fn raise_grown<G: Gate>(
+pub(crate) fn raise_with_leaf<G: Gate>(
     table: &HotTable,
     seat: &mut TableSeat,
     gate: &mut G,
@@ -315,14 +315,14 @@ pub(crate) fn raise_grown<G: Gate>(
     let way = job.way;
     let end = job.span.end;
     let top = job.span.len - 1;
-    let (risen, stays) = raise_lowest(table, seat, gate, build, way[top].number, new)?;
+    let (risen, stays) = raise_lowest_node(table, seat, gate, build, way[top].number, new)?;
     let rise = Rise {
         key: new.key,
         end,
         level: top,
         risen,
     };
-    let entry = raise_on(table, seat, gate, build, way, rise)?;
+    let entry = raise_to_end(table, seat, gate, build, way, rise)?;
     Some((entry, stays))
 }
 
@@ -330,7 +330,7 @@ pub(crate) fn raise_grown<G: Gate>(
 /// new record, or the only entry left. `None` if no node record was free: none is made then.
 ///
 /// The node's words become those of the record, so that no node is read, searched or packed.
-pub(crate) fn raise_without<G: Gate>(
+pub(crate) fn raise_without_leaf<G: Gate>(
     table: &HotTable,
     seat: &mut TableSeat,
     gate: &mut G,
@@ -350,9 +350,9 @@ pub(crate) fn raise_without<G: Gate>(
     ensures low { (words : List ℕ) → HasLocked seat.old.known number words → IfSome result (λ e. height_of e ≤ (node_words_of words).fixed.height) }
 {
     let mut words = [0; NODE_FIELDS];
-    load_words(table, seat, gate, number, &mut words);
+    load_locked_words(table, seat, gate, number, &mut words);
     if let Some(entry) = drop_entry(&mut words, at) {
         return Some(entry);
     }
-    make_from_words(table, seat, gate, build, &words)
+    make_node_from_words(table, seat, gate, build, &words)
 }

@@ -13,7 +13,7 @@ ghost use Rattle.rowex_writing.specs.declared.plan.Deed.TheVariants.{Take};
 use crate::building::Build;
 use crate::deeds::{Job, Raised};
 use crate::plan::Full;
-use crate::rising::raise_without;
+use crate::rising::raise_without_leaf;
 use rowex_core::Gate;
 use rowex_reading::Found;
 use rowex_table::{HotTable, TableSeat};
@@ -67,7 +67,7 @@ fn remake_without_leaf<G: Gate>(
 {
     build.left_nodes = table.layout().nodes;
     let lowest = job.way[job.span.end];
-    let Some(entry) = raise_without(table, seat, gate, build, lowest.number, lowest.at) else {
+    let Some(entry) = raise_without_leaf(table, seat, gate, build, lowest.number, lowest.at) else {
         return Err(Full::Nodes);
     };
     Ok(Raised {

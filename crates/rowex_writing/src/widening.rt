@@ -52,10 +52,10 @@ pub(crate) fn widen_locks<G: Gate>(
     if !lock_node(table, seat, gate, number) {
         return false;
     }
-    if lock_above(table, seat, gate, job) {
+    if lock_target_above(table, seat, gate, job) {
         return true;
     }
-    unlock_last(table, seat, gate, number);
+    unlock_last_node(table, seat, gate, number);
     false
 }
 
@@ -75,7 +75,12 @@ fn is_near_span(job: &Job<'_>, number: u32) -> bool
 
 /// Locks what names the upper node of a removal's span, the node above it or the anchor, and checks that it still does. Returns whether it
 /// is locked. If the lock is refused, or something else is named, the locks are as before.
-fn lock_above<G: Gate>(table: &HotTable, seat: &mut TableSeat, gate: &mut G, job: &Job<'_>) -> bool
+fn lock_target_above<G: Gate>(
+    table: &HotTable,
+    seat: &mut TableSeat,
+    gate: &mut G,
+    job: &Job<'_>,
+) -> bool
     requires own { IsSeatOf table.now seat.old }
     requires possible { IsPossible table.now.layout seat.old.known }
     requires way { (m : ℕ) × IsJobFrom table.now.layout seat.old.known m job.now }
@@ -93,7 +98,7 @@ fn lock_above<G: Gate>(table: &HotTable, seat: &mut TableSeat, gate: &mut G, job
     if end == 0 {
         return lock_root(table, seat, gate, named);
     }
-    lock_step(table, seat, gate, job.way[end - 1], named)
+    lock_node_with_entry(table, seat, gate, job.way[end - 1], named)
 }
 
 /// Locks the anchor, and checks that the root is `root`. Returns whether it is locked. If the lock is refused, or the root is another, the
@@ -125,7 +130,7 @@ fn lock_root<G: Gate>(
 
 /// Locks node `step.number`, and checks that its entry at `step.at` is `entry`. Returns whether it is locked. If the lock is refused, or
 /// the entry is another, the locks are as before.
-fn lock_step<G: Gate>(
+fn lock_node_with_entry<G: Gate>(
     table: &HotTable,
     seat: &mut TableSeat,
     gate: &mut G,
@@ -149,12 +154,12 @@ fn lock_step<G: Gate>(
     if entry_stands(table, seat, gate, step, entry) {
         return true;
     }
-    unlock_last(table, seat, gate, step.number);
+    unlock_last_node(table, seat, gate, step.number);
     false
 }
 
 /// Unlocks node `number`, which the pass has locked last.
-fn unlock_last<G: Gate>(table: &HotTable, seat: &mut TableSeat, gate: &mut G, number: u32)
+fn unlock_last_node<G: Gate>(table: &HotTable, seat: &mut TableSeat, gate: &mut G, number: u32)
     requires own { IsSeatOf table.now seat.old }
     requires range { number < table.now.layout.nodes }
     requires last { (held : List Locked) × LocksLast number held seat.old.known }
@@ -167,7 +172,7 @@ fn unlock_last<G: Gate>(table: &HotTable, seat: &mut TableSeat, gate: &mut G, nu
 }
 
 /// Unlocks the node at `end - 1` of `way`, or the anchor if `end` is 0: the last lock that the pass has taken.
-fn unlock_above<G: Gate>(
+fn unlock_target_above<G: Gate>(
     table: &HotTable,
     seat: &mut TableSeat,
     gate: &mut G,
@@ -187,7 +192,7 @@ fn unlock_above<G: Gate>(
     if end == 0 {
         table.unlock(seat, gate, Target::Anchor);
     } else {
-        unlock_last(table, seat, gate, way[end - 1].number);
+        unlock_last_node(table, seat, gate, way[end - 1].number);
     }
 }
 
@@ -206,6 +211,6 @@ pub(crate) fn narrow_locks<G: Gate>(
         (seat.new.known.locks ≡ w.taking.before.known.locks) × (seat.new.known.anchor ≡ w.taking.before.known.anchor) × (seat.new.known.own ≡ seat.old.known.own) }
     ensures few { seat.new.known.steps ≤ seat.old.known.steps + 2 }
 {
-    unlock_above(table, seat, gate, job.way, job.span.end - 1);
-    unlock_last(table, seat, gate, number);
+    unlock_target_above(table, seat, gate, job.way, job.span.end - 1);
+    unlock_last_node(table, seat, gate, number);
 }

@@ -19,8 +19,8 @@ start_of-start-requires g c =
     let tip = way_tip c.args.seat.now.known n.is (rw n.is at n.field-0-is) c.requires.tip in
     led_in_table c.args.table.now.layout c.args.seat.now.known tip.0 (Node n.number n.field-0-1) c.requires.reader.1 tip.1
 
-pub find_place-place-requires-clause-led : goal.find_place-place-requires-clause-led
-find_place-place-requires-clause-led g c =
+pub find_slot-place-requires-clause-led : goal.find_slot-place-requires-clause-led
+find_slot-place-requires-clause-led g c =
     let n = c.in-Some-Node in
     let tip = way_tip c.args.seat.now.known n.is (rw n.is at n.field-0-is) c.requires.tip in
     (tip.0, n.field-0-1, tip.1)
@@ -29,7 +29,7 @@ pub returns-in-Some-Node-clause-turn : goal.returns-in-Some-Node-clause-turn
 returns-in-Some-Node-clause-turn g c =
     let n = c.in-Some-Node in
     let tip = way_tip c.args.seat.now.known n.is (rw n.is at n.field-0-is) c.requires.tip in
-    let e = c.find_place-place.ensures in
+    let e = c.find_slot-place.ensures in
     let p = e.place tip.0 n.field-0-1 tip.1 in
     record {
       since = tip.0;

@@ -31,17 +31,17 @@ start_of-start-requires g c = led_in_table c.args.table.now.layout c.args.seat.n
 pub load_leaf-length-requires-clause-led : goal.load_leaf-length-requires-clause-led
 load_leaf-length-requires-clause-led g c = (since c.args.seat.now.known, rooted_led (Leaf c.args.number) c.requires.root)
 
-pub returns-then-is_earlier-clause-reads : goal.returns-then-is_earlier-clause-reads
-returns-then-is_earlier-clause-reads g c = loads g (goal.at.returns-then-is_earlier-clause-reads g c).After-load_leaf-length
+pub returns-then-is_earlier_key-clause-reads : goal.returns-then-is_earlier_key-clause-reads
+returns-then-is_earlier_key-clause-reads g c = loads g (goal.at.returns-then-is_earlier_key-clause-reads g c).After-load_leaf-length
 
-pub returns-then-is_earlier-clause-scanned : goal.returns-then-is_earlier-clause-scanned
-returns-then-is_earlier-clause-scanned g c =
-    leaf_early c.args.range.now.direction (asked_range c.args.range.now) (root_read g (goal.at.returns-then-is_earlier-clause-scanned g c).After-load_leaf-length) c.requires.empty
-    (subst (IsEarlier c.args.range.now.direction (take c.load_leaf-length.result.0 c.load_leaf-length.new.places)) (c.as_bytes.ensures.bytes ∙ c.first_key.ensures) (c.is_earlier.ensures.earlier c.if-is_earlier.true))
+pub returns-then-is_earlier_key-clause-scanned : goal.returns-then-is_earlier_key-clause-scanned
+returns-then-is_earlier_key-clause-scanned g c =
+    leaf_early c.args.range.now.direction (asked_range c.args.range.now) (root_read g (goal.at.returns-then-is_earlier_key-clause-scanned g c).After-load_leaf-length) c.requires.empty
+    (subst (IsEarlier c.args.range.now.direction (take c.load_leaf-length.result.0 c.load_leaf-length.new.places)) (c.as_bytes.ensures.bytes ∙ c.first_key.ensures) (c.is_earlier_key.ensures.earlier c.if-is_earlier_key.true))
 
 pub take_pair-requires-clause-reached : goal.take_pair-requires-clause-reached
 take_pair-requires-clause-reached g c =
-    subst (λ z. IsNoLater c.args.range.now.direction z (take c.load_leaf-length.result.0 c.load_leaf-length.new.places)) (c.as_bytes.ensures.bytes ∙ c.first_key.ensures) (c.is_earlier.ensures.no_later c.if-is_earlier.false)
+    subst (λ z. IsNoLater c.args.range.now.direction z (take c.load_leaf-length.result.0 c.load_leaf-length.new.places)) (c.as_bytes.ensures.bytes ∙ c.first_key.ensures) (c.is_earlier_key.ensures.no_later c.if-is_earlier_key.false)
 
 pub returns-in_err-take_pair-clause-reads : goal.returns-in_err-take_pair-clause-reads
 returns-in_err-take_pair-clause-reads g c = loads g (goal.at.returns-in_err-take_pair-clause-reads g c).After-load_leaf-length

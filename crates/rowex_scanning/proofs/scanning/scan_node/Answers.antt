@@ -50,8 +50,8 @@ returns-in_err-take_leaf-clause-part g c =
     let none : length c.args.pairs.now ≡ 0 = ap length c.requires.empty in
     rw (err_from_is_err_and c.from_residual.result c.from_residual.ensures.1).1 (walk_part (reads_later c.take_leaf.ensures.reads.2) c.in_err-take_leaf.ensures.refused (omega (arith, none)) same a)
 
-pub gap_behind-requires : goal.gap_behind-requires
-gap_behind-requires g c = entry_low ((begins g (goal.at.gap_behind-requires g c).After-truncate).entry c.if-start.true).walk
+pub gap_behind_slot-requires : goal.gap_behind_slot-requires
+gap_behind_slot-requires g c = entry_low ((begins g (goal.at.gap_behind_slot-requires g c).After-truncate).entry c.if-start.true).walk
 
 pub returns-in-Past-clause-reads : goal.returns-in-Past-clause-reads
 returns-in-Past-clause-reads g c = walks_alone c.args.scan.now.range.now.limit (reads_both c.find_start-start.ensures.reads c.take_leaf.ensures.reads (omega arith))
@@ -74,14 +74,14 @@ push-requires g c =
     let cut = ap length c.truncate.ensures.items ∙ length-take-le c.find_start-start.result.level c.args.way.now.items (omega (arith, within, items)) in
     (omega arith, omega (arith, within, deep, items, cut))
 
-pub walk-requires-clause-reader : goal.walk-requires-clause-reader
-walk-requires-clause-reader g c =
+pub walk_slots-requires-clause-reader : goal.walk_slots-requires-clause-reader
+walk_slots-requires-clause-reader g c =
     let r = reader_then c.requires.reader c.find_start-start.ensures.reads.2 in
     elim c.if-start.branch [ then-start+in_ok-take_leaf+in-Further w ↦ rw w.seat-is (reader_then r w.take_leaf.ensures.reads.2) | else-start w ↦ rw w.seat-is r ]
 
-pub walk-requires-clause-walk : goal.walk-requires-clause-walk
-walk-requires-clause-walk g c =
-    let b = begins g (goal.at.walk-requires-clause-walk g c).After-truncate in
+pub walk_slots-requires-clause-walk : goal.walk_slots-requires-clause-walk
+walk_slots-requires-clause-walk g c =
+    let b = begins g (goal.at.walk_slots-requires-clause-walk g c).After-truncate in
     let r = c.find_start-start.ensures.reads.2 in let m = since c.args.seat.now.known in let d = c.args.scan.now.range.now.direction in let key = first_key d (asked_range c.args.scan.now.range.now) in
     record {
       top = c.if-start.top;
@@ -90,7 +90,7 @@ walk-requires-clause-walk g c =
       bound = elim c.if-start.branch [
         | then-start+in_ok-take_leaf+in-Further w ↦
             let s = w.take_leaf.ensures.reads.2 in let same = same_since (reads_trans r s) in
-            rw (w.seat-is, w.top-is, w.gap_behind.ensures, w.pairs-is) (
+            rw (w.seat-is, w.top-is, w.gap_behind_slot.ensures, w.pairs-is) (
               walk_since same (walk_further (b.entry w.if-start.true) (reads_later s) w.in_ok-take_leaf.ensures.taken w.in-Further.is),
               bound_since d m key same (bound_later d m key (reads_later s) (b.behind w.if-start.true)),
             )
@@ -105,4 +105,4 @@ returns-clause-reads g c =
       | then-start+in_ok-take_leaf+in-Further w ↦ rw (w.seat-is, w.gate-is) (reads_both r w.take_leaf.ensures.reads (omega arith))
       | else-start w ↦ rw (w.seat-is, w.gate-is) (r.0, omega (arith, few), r.2)
     ] in
-    walks_behind before c.walk.ensures.reads
+    walks_behind before c.walk_slots.ensures.reads

@@ -10,17 +10,17 @@ use Rattle.rowex_scanning.proofs.Starting.{leaf_rooted, nothing_blank}
 use Rattle.rowex_scanning.proofs.Walking.{blank_scanned, empty_is, nothing_scanned, scans_few, searched_scans, walks_alone}
 use Rattle.rowex_scanning.proofs.scanning.scan_root.Goals as goal
 
-pub returns-then-is_before-clause-looks : goal.returns-then-is_before-clause-looks
-returns-then-is_before-clause-looks g c = (0, 0, record { most = omega arith; few = omega arith }, looks_first c.load_root.ensures.reads)
+pub returns-then-is_key_before-clause-looks : goal.returns-then-is_key_before-clause-looks
+returns-then-is_key_before-clause-looks g c = (0, 0, record { most = omega arith; few = omega arith }, looks_first c.load_root.ensures.reads)
 
-pub returns-then-is_before-clause-scanned : goal.returns-then-is_before-clause-scanned
-returns-then-is_before-clause-scanned g c =
+pub returns-then-is_key_before-clause-scanned : goal.returns-then-is_key_before-clause-scanned
+returns-then-is_key_before-clause-scanned g c =
     let before : IsBefore c.args.range.now.upto.now c.args.range.now.from.now =
-    subst (λ z. IsBefore z c.args.range.now.from.now) c.as_bytes.ensures.bytes (subst (IsBefore c.as_bytes.result.now) c.as_bytes-2.ensures.bytes (c.is_before.ensures.before c.if-is_before.true)) in
+    subst (λ z. IsBefore z c.args.range.now.from.now) c.as_bytes.ensures.bytes (subst (IsBefore c.as_bytes.result.now) c.as_bytes-2.ensures.bytes (c.is_key_before.ensures.before c.if-is_key_before.true)) in
     nothing_scanned (asked_range c.args.range.now) c.clear.ensures before
 
-pub returns-then-is_before-clause-few : goal.returns-then-is_before-clause-few
-returns-then-is_before-clause-few g c = scans_few c.args.range.now.limit (0, 0, record { most = omega arith; few = omega arith }, looks_first c.load_root.ensures.reads)
+pub returns-then-is_key_before-clause-few : goal.returns-then-is_key_before-clause-few
+returns-then-is_key_before-clause-few g c = scans_few c.args.range.now.limit (0, 0, record { most = omega arith; few = omega arith }, looks_first c.load_root.ensures.reads)
 
 pub returns-in-Nothing-clause-looks : goal.returns-in-Nothing-clause-looks
 returns-in-Nothing-clause-looks g c =

@@ -5,17 +5,17 @@ use Rattle.rowex_scanning.specs.Scanning.{asked_range}
 use Rattle.rowex_scanning.proofs.Directed.{in_range}
 use Rattle.rowex_scanning.proofs.scanning.take_pair.Goals as goal
 
-pub returns-then-is_past-clause-taken : goal.returns-then-is_past-clause-taken
-returns-then-is_past-clause-taken c = (c.is_past.ensures.past c.if-is_past.true, refl)
+pub returns-then-is_past_range-clause-taken : goal.returns-then-is_past_range-clause-taken
+returns-then-is_past_range-clause-taken c = (c.is_past_range.ensures.past c.if-is_past_range.true, refl)
 
 pub returns-then-len-range-clause-taken : goal.returns-then-len-range-clause-taken
 returns-then-len-range-clause-taken c =
-    (in_range c.args.range.now.direction (asked_range c.args.range.now) _ c.requires.reached (c.is_past.ensures.inside c.if-is_past.false), sym c.len.ensures.count ∙ c.if-len-range.true, refl)
+    (in_range c.args.range.now.direction (asked_range c.args.range.now) _ c.requires.reached (c.is_past_range.ensures.inside c.if-is_past_range.false), sym c.len.ensures.count ∙ c.if-len-range.true, refl)
 
 pub returns-in_err-push-clause-refused : goal.returns-in_err-push-clause-refused
 returns-in_err-push-clause-refused c = rw (err_from_is_err_and c.from_residual.result c.from_residual.ensures.1).1
-    (in_range c.args.range.now.direction (asked_range c.args.range.now) _ c.requires.reached (c.is_past.ensures.inside c.if-is_past.false), (λ e. c.if-len-range.false (c.len.ensures.count ∙ e)), c.in_err-push.ensures.err)
+    (in_range c.args.range.now.direction (asked_range c.args.range.now) _ c.requires.reached (c.is_past_range.ensures.inside c.if-is_past_range.false), (λ e. c.if-len-range.false (c.len.ensures.count ∙ e)), c.in_err-push.ensures.err)
 
 pub returns-clause-taken : goal.returns-clause-taken
 returns-clause-taken c =
-    (in_range c.args.range.now.direction (asked_range c.args.range.now) _ c.requires.reached (c.is_past.ensures.inside c.if-is_past.false), (λ e. c.if-len-range.false (c.len.ensures.count ∙ e)), c.in_ok-push.ensures.ok)
+    (in_range c.args.range.now.direction (asked_range c.args.range.now) _ c.requires.reached (c.is_past_range.ensures.inside c.if-is_past_range.false), (λ e. c.if-len-range.false (c.len.ensures.count ∙ e)), c.in_ok-push.ensures.ok)

@@ -43,7 +43,7 @@ returns-in-Answer-clause-answered g c =
     let planned = plan_made c.args.table.now.layout _ _ m c.key-key.result.now _ _ _ _ _ c.as_slice-way.ensures.value c.search_way-found.ensures.way c.find_plan.ensures.planned in
     let found = found_later _ _ _ _ (reads_later c.find_plan.ensures.reads.2) (same_since c.find_plan.ensures.reads.2) c.search_way-found.ensures.found in
     answered_look c.args.seat.now.known c.find_plan.new.seat.known c.args.call.now c.in-Answer.reply b.later
-    (looked _ _ _ _ _ c.args.call.now _ _ _ _ c.key-key.ensures c.value_of-held.ensures (sym c.aim_of.ensures ∙ c.in-Some.is) (subst (IsPlanned _ _ _ _ _ _) c.in-Answer.is planned) found)
+    (looked _ _ _ _ _ c.args.call.now _ _ _ _ c.key-key.ensures c.found_value-held.ensures (sym c.aim_of.ensures ∙ c.in-Some.is) (subst (IsPlanned _ _ _ _ _ _) c.in-Answer.is planned) found)
 
 pub returns-in-Answer-clause-few : goal.returns-in-Answer-clause-few
 returns-in-Answer-clause-few g c =
@@ -92,7 +92,7 @@ pub returns-in-Err-clause-leafless : goal.returns-in-Err-clause-leafless
 returns-in-Err-clause-leafless g c =
     let m = since c.search_way-found.new.seat.known in
     let planned = plan_made c.args.table.now.layout _ _ m c.key-key.result.now _ _ _ _ _ c.as_slice-way.ensures.value c.search_way-found.ensures.way c.find_plan.ensures.planned in
-    leafless c.args.call.now c.value_of-held.result c.in-Some.aim c.in-Err.fault (sym c.aim_of.ensures ∙ c.in-Some.is)
+    leafless c.args.call.now c.found_value-held.result c.in-Some.aim c.in-Err.fault (sym c.aim_of.ensures ∙ c.in-Some.is)
     (λ removes is. c.try_plan.ensures.leafless (removal_takes c.find_plan.new.seat.known m c.key-key.result.now c.as_slice-way.result.now c.in-Some.aim c.search_way-found.result c.find_plan.result c.in-Change.span c.in-Change.deed removes c.in-Change.is planned) (c.in-Err.is ∙ ap Err is))
 
 pub returns-in-Ok-clause-leafless : goal.returns-in-Ok-clause-leafless
@@ -118,7 +118,7 @@ returns-in-Ok-clause-answered g c =
     let b = begun_on c.args.table.now g.G.Gate.becomes c.find_plan.ensures.reads.0 c.find_plan.ensures.reads.1 (c.args.seat.now, c.args.gate.now) (c.search_way-found.new.seat, c.search_way-found.new.gate) (c.find_plan.new.seat, c.find_plan.new.gate) c.search_way-found.ensures.searched c.search_way-found.ensures.possible c.requires.own c.requires.rest c.find_plan.ensures.reads.2 in
     let m = since c.search_way-found.new.seat.known in
     let planned = plan_made c.args.table.now.layout _ _ m c.key-key.result.now _ _ _ _ _ c.as_slice-way.ensures.value c.search_way-found.ensures.way c.find_plan.ensures.planned in
-    rw (c.reply-in-Ok.ensures []) (answered_change c.args.seat.now.known _ _ _ _ _ _ _ c.args.call.now _ _ _ _ _ b.later c.key-key.ensures c.value_in.ensures c.value_of-held.ensures (sym c.aim_of.ensures ∙ c.in-Some.is)
+    rw (c.reply-in-Ok.ensures []) (answered_change c.args.seat.now.known _ _ _ _ _ _ _ c.args.call.now _ _ _ _ _ b.later c.key-key.ensures c.new_value.ensures c.found_value-held.ensures (sym c.aim_of.ensures ∙ c.in-Some.is)
     (subst (IsPlanned _ _ _ _ _ _) c.in-Change.is planned) (c.try_plan.ensures.done c.in-Ok.is))
 
 pub returns-in-Ok-clause-few : goal.returns-in-Ok-clause-few
@@ -141,7 +141,7 @@ pub returns-in_default-clause-answered : goal.returns-in_default-clause-answered
 returns-in_default-clause-answered g c =
     let b = searched c.args.table.now g.G.Gate.becomes (c.args.seat.now, c.args.gate.now) (c.search_way-found.new.seat, c.search_way-found.new.gate) c.search_way-found.ensures.searched c.search_way-found.ensures.possible c.requires.own c.requires.rest in
     rw (c.reply.ensures []) (answered_look c.args.seat.now.known c.search_way-found.new.seat.known c.args.call.now _ b.later
-    (aimless_looked c.search_way-found.new.seat.known _ c.args.call.now _ _ c.key-key.ensures c.value_of-held.ensures (sym c.aim_of.ensures ∙ c.in_default.is) c.search_way-found.ensures.found))
+    (aimless_looked c.search_way-found.new.seat.known _ c.args.call.now _ _ c.key-key.ensures c.found_value-held.ensures (sym c.aim_of.ensures ∙ c.in_default.is) c.search_way-found.ensures.found))
 
 pub returns-in_default-clause-leafless : goal.returns-in_default-clause-leafless
 returns-in_default-clause-leafless g c = answered_leafless c.args.call.now _

@@ -13,8 +13,8 @@ returns-in_ok-zero-in-Two-clause-made g c = λ news b.
     let (lower, low, last) = c.in_ok-zero-in-Two.ensures.made (upper ++ news) next in
     rw c.in-Two.is (lower ++ (upper ++ news), (lower, upper, refl, low, high, refl), last)
 
-pub make_half-requires-in-Two-clause-room : goal.make_half-requires-in-Two-clause-room
-make_half-requires-in-Two-clause-room g c = room_left _ _ _ c.in_ok-one-in-Two.ensures.makes.more c.requires.room
+pub make_half_entry-requires-in-Two-clause-room : goal.make_half_entry-requires-in-Two-clause-room
+make_half_entry-requires-in-Two-clause-room g c = room_left _ _ _ c.in_ok-one-in-Two.ensures.makes.more c.requires.room
 
 pub returns-in_err-entry-in-One-clause-makes : goal.returns-in_err-entry-in-One-clause-makes
 returns-in_err-entry-in-One-clause-makes g c = rw c.from_residual.ensures (makes_failed (makes_within c.in_err-entry-in-One.ensures.makes (omega arith) (omega arith)))

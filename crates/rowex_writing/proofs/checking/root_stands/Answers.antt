@@ -16,12 +16,12 @@ returns-clause-possible g c = event_possible c.load_root-found.ensures.reads.1.e
 pub returns-clause-same : goal.returns-clause-same
 returns-clause-same g c = λ t.
     let p = pinned_by c.args.seat.now.known.pin c.requires.pinned in let r = c.load_root-found.ensures in
-    anchor_is p.0 p.1 r.reads.0 r.reads.1.event c.requires.locked c.load_root-found.result r.root ∙ ap Some (c.are_same.ensures.same t)
+    anchor_is p.0 p.1 r.reads.0 r.reads.1.event c.requires.locked c.load_root-found.result r.root ∙ ap Some (c.are_same_entry.ensures.same t)
 
 pub returns-clause-changed : goal.returns-clause-changed
 returns-clause-changed g c = λ m was f.
     let p = pinned_by c.args.seat.now.known.pin c.requires.pinned in let r = c.load_root-found.ensures in
-    root_changed p.0 p.1 r.reads.0 r.reads.1.event m c.args.root c.load_root-found.result was r.root (c.are_same.ensures.differ f)
+    root_changed p.0 p.1 r.reads.0 r.reads.1.event m c.args.root c.load_root-found.result was r.root (c.are_same_entry.ensures.differ f)
 
 pub returns-clause-few : goal.returns-clause-few
 returns-clause-few g c =

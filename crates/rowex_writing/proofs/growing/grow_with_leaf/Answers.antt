@@ -20,9 +20,9 @@ returns-in_default-clause-full g c =
       refl,
       record {
         not_made = c.in_default.ensures.made may.growing;
-        few = omega (arith, made_one may.growing.lowest.made_leaf.building, c.raise_grown.ensures.makes.more, may.within.0);
-        full_of = lacks_nodes c.args.table.now.layout c.args.seat.now.known c.raise_grown.new.seat.known c.args.job.now.way.now c.args.job.now.span c.raise_grown.new.build.made.items c.args.seat.now.known.steps
-            may.nodes may.locked c.raise_grown.ensures.makes.goes.stays.1 (omega (arith, may.within.0)) may.within.1 (omega (arith, may.within.1, may.depth))
+        few = omega (arith, made_one may.growing.lowest.made_leaf.building, c.raise_with_leaf.ensures.makes.more, may.within.0);
+        full_of = lacks_nodes c.args.table.now.layout c.args.seat.now.known c.raise_with_leaf.new.seat.known c.args.job.now.way.now c.args.job.now.span c.raise_with_leaf.new.build.made.items c.args.seat.now.known.steps
+            may.nodes may.locked c.raise_with_leaf.ensures.makes.goes.stays.1 (omega (arith, may.within.0)) may.within.1 (omega (arith, may.within.1, may.depth))
             (omega (arith, no_nodes may.growing.lowest.made_leaf, c.in_default.ensures.makes.nodes, may.within.0))
             (c.in_default.ensures.makes.walk c.args.seat.now.known.steps
             (walk_begins c.args.table.now.layout c.args.seat.now.known c.args.build.now.made.items c.args.build.now.nodes.next c.layout.result c.layout.ensures));
@@ -33,8 +33,8 @@ pub returns-in_default-clause-few : goal.returns-in_default-clause-few
 returns-in_default-clause-few g c =
     let may = c.requires.may in
     let whole : c.layout.result.nodes ≡ c.args.table.now.layout.nodes = ap (λ (z : Layout). z.nodes) c.layout.ensures in
-    let few : c.raise_grown.new.seat.known.steps + 2 * c.raise_grown.new.build.left_nodes ≤ c.args.seat.now.known.steps + 2 * c.layout.result.nodes + locks_of c.args.job.now.span * level_steps + length c.raise_grown.new.build.made.items = c.in_default.ensures.makes.few in
-    omega (arith, whole, few, made_one may.growing.lowest.made_leaf.building, c.raise_grown.ensures.makes.more, may.within.0)
+    let few : c.raise_with_leaf.new.seat.known.steps + 2 * c.raise_with_leaf.new.build.left_nodes ≤ c.args.seat.now.known.steps + 2 * c.layout.result.nodes + locks_of c.args.job.now.span * level_steps + length c.raise_with_leaf.new.build.made.items = c.in_default.ensures.makes.few in
+    omega (arith, whole, few, made_one may.growing.lowest.made_leaf.building, c.raise_with_leaf.ensures.makes.more, may.within.0)
 
 pub returns-clause-raised : goal.returns-clause-raised
 returns-clause-raised g c =
@@ -54,7 +54,7 @@ returns-clause-raised g c =
       most = low.2;
       leaf = none_in_table c.args.table.now.layout;
       ends = λ spot over.
-          grown_ends c.args.table.now c.args.seat.now c.raise_grown.new.seat c.args.build.now.made.items c.raise_grown.new.build.made.items job c.args.new.now may
-          goes.stays.0 goes.stays.1 goes.stays.2 c.in-Some.entry c.has_number.ensures c.in-Some.stays (c.in-Some.ensures.made may.growing) c.in-Some.ensures.low spot _ over gone;
-      few = omega (arith, made_one may.growing.lowest.made_leaf.building, c.raise_grown.ensures.makes.more, may.within.0);
+          grown_ends c.args.table.now c.args.seat.now c.raise_with_leaf.new.seat c.args.build.now.made.items c.raise_with_leaf.new.build.made.items job c.args.new.now may
+          goes.stays.0 goes.stays.1 goes.stays.2 c.in-Some.entry c.show_number_fits.ensures c.in-Some.stays (c.in-Some.ensures.made may.growing) c.in-Some.ensures.low spot _ over gone;
+      few = omega (arith, made_one may.growing.lowest.made_leaf.building, c.raise_with_leaf.ensures.makes.more, may.within.0);
     }

@@ -5,4 +5,4 @@ use Rattle.rowex_writing.proofs.locked.load_position.Goals as goal
 
 pub returns-clause-position : goal.returns-clause-position
 returns-clause-position g c = λ node (words, h, is).
-    c.position_of.ensures node is.has.lawful (head_word node words is (1 + c.args.column / 4) (omega (arith, c.requires.column)) ∙ sym (c.load_word.ensures.word words h))
+    c.position_of.ensures node is.has.lawful (head_word node words is (1 + c.args.column / 4) (omega (arith, c.requires.column)) ∙ sym (c.load_locked_word.ensures.word words h))

@@ -15,8 +15,8 @@ returns-then-at-ge-MAX_ENTRIES g c = record {
 }
 
 pub returns-clause-own : goal.returns-clause-own
-returns-clause-own g c = seat_of c.args.table.now g.G.Gate.becomes (c.args.seat.now, c.args.gate.now) (c.load_word.new.seat, c.load_word.new.gate) c.load_word.ensures.reads.goes c.requires.own
+returns-clause-own g c = seat_of c.args.table.now g.G.Gate.becomes (c.args.seat.now, c.args.gate.now) (c.load_locked_word.new.seat, c.load_locked_word.new.gate) c.load_locked_word.ensures.reads.goes c.requires.own
 
 pub returns-clause-row : goal.returns-clause-row
 returns-clause-row g c = λ view (words, h, is).
-    c.row_of.ensures view is.has.lawful (head_word view words is (9 + c.args.at / 2) (omega (arith, c.if-at-ge-MAX_ENTRIES.false)) ∙ sym (c.load_word.ensures.word words h))
+    c.row_of.ensures view is.has.lawful (head_word view words is (9 + c.args.at / 2) (omega (arith, c.if-at-ge-MAX_ENTRIES.false)) ∙ sym (c.load_locked_word.ensures.word words h))

@@ -9,43 +9,43 @@ use Rattle.rowex_writing.proofs.Merged.{wide_on}
 use Rattle.rowex_writing.proofs.Runs.{goes_run, runs_trans}
 use Rattle.rowex_writing.proofs.merging.merge_under_locks.Goals as goal
 
-pub publish_merged-requires : goal.publish_merged-requires
-publish_merged-requires g c =
+pub publish_merge-requires : goal.publish_merge-requires
+publish_merge-requires g c =
     let number = c.args.merge.now.number in
     record {
       may = (
         number,
-        wide_on c.args.table.now g.G.Gate.becomes (c.args.seat.now, c.args.gate.now) (c.make_merged.new.seat, c.make_merged.new.gate) c.args.job.now number c.make_merged.ensures.goes c.requires.wide,
-        subst (λ made. MayMergeInto c.args.table.now c.make_merged.new.seat made c.args.job.now number c.in-Some.entry) (sym c.list_merged.ensures.made) c.in-Some.ensures.may,
-        c.list_merged.ensures.gone,
+        wide_on c.args.table.now g.G.Gate.becomes (c.args.seat.now, c.args.gate.now) (c.make_merge_records.new.seat, c.make_merge_records.new.gate) c.args.job.now number c.make_merge_records.ensures.goes c.requires.wide,
+        subst (λ made. MayMergeInto c.args.table.now c.make_merge_records.new.seat made c.args.job.now number c.in-Some.entry) (sym c.list_merged_records.ensures.made) c.in-Some.ensures.may,
+        c.list_merged_records.ensures.gone,
       );
     }
 
 pub returns-in-Some-clause-run : goal.returns-in-Some-clause-run
 returns-in-Some-clause-run g c =
-    runs_trans c.args.table.now g.G.Gate.becomes (c.args.seat.now, c.args.gate.now) (c.make_merged.new.seat, c.make_merged.new.gate) (c.publish_merged.new.seat, c.publish_merged.new.gate)
-    (goes_run c.args.table.now g.G.Gate.becomes (c.args.seat.now, c.args.gate.now) (c.make_merged.new.seat, c.make_merged.new.gate) c.make_merged.ensures.goes) c.publish_merged.ensures.run
+    runs_trans c.args.table.now g.G.Gate.becomes (c.args.seat.now, c.args.gate.now) (c.make_merge_records.new.seat, c.make_merge_records.new.gate) (c.publish_merge.new.seat, c.publish_merge.new.gate)
+    (goes_run c.args.table.now g.G.Gate.becomes (c.args.seat.now, c.args.gate.now) (c.make_merge_records.new.seat, c.make_merge_records.new.gate) c.make_merge_records.ensures.goes) c.publish_merge.ensures.run
 
 pub returns-in-Some-clause-done : goal.returns-in-Some-clause-done
 returns-in-Some-clause-done g c = λ e.
     let job = c.args.job.now in
-    let (x, was, is, changed) = c.publish_merged.ensures.done in
-    let later = c.make_merged.ensures.goes.stays.0 in
-    (x, was, subst (λ q. IsDeedChange q Take job.key.now job.value job.found x was) later.pass is, changed_since c.args.seat.now.known c.make_merged.new.seat.known c.publish_merged.new.seat.known x was later changed)
+    let (x, was, is, changed) = c.publish_merge.ensures.done in
+    let later = c.make_merge_records.ensures.goes.stays.0 in
+    (x, was, subst (λ q. IsDeedChange q Take job.key.now job.value job.found x was) later.pass is, changed_since c.args.seat.now.known c.make_merge_records.new.seat.known c.publish_merge.new.seat.known x was later changed)
 
 pub narrow_locks-requires : goal.narrow_locks-requires
-narrow_locks-requires g c = record { wide = wide_on c.args.table.now g.G.Gate.becomes (c.args.seat.now, c.args.gate.now) (c.make_merged.new.seat, c.make_merged.new.gate) c.args.job.now c.args.merge.now.number c.make_merged.ensures.goes c.requires.wide }
+narrow_locks-requires g c = record { wide = wide_on c.args.table.now g.G.Gate.becomes (c.args.seat.now, c.args.gate.now) (c.make_merge_records.new.seat, c.make_merge_records.new.gate) c.args.job.now c.args.merge.now.number c.make_merge_records.ensures.goes c.requires.wide }
 
 pub returns-clause-run : goal.returns-clause-run
 returns-clause-run g c =
-    runs_trans c.args.table.now g.G.Gate.becomes (c.args.seat.now, c.args.gate.now) (c.make_merged.new.seat, c.make_merged.new.gate) (c.narrow_locks.new.seat, c.narrow_locks.new.gate)
-    (goes_run c.args.table.now g.G.Gate.becomes (c.args.seat.now, c.args.gate.now) (c.make_merged.new.seat, c.make_merged.new.gate) c.make_merged.ensures.goes) c.narrow_locks.ensures.run
+    runs_trans c.args.table.now g.G.Gate.becomes (c.args.seat.now, c.args.gate.now) (c.make_merge_records.new.seat, c.make_merge_records.new.gate) (c.narrow_locks.new.seat, c.narrow_locks.new.gate)
+    (goes_run c.args.table.now g.G.Gate.becomes (c.args.seat.now, c.args.gate.now) (c.make_merge_records.new.seat, c.make_merge_records.new.gate) c.make_merge_records.ensures.goes) c.narrow_locks.ensures.run
 
 pub returns-clause-later : goal.returns-clause-later
-returns-clause-later g c = λ e. later_trans c.make_merged.ensures.goes.stays.0 c.narrow_locks.ensures.later
+returns-clause-later g c = λ e. later_trans c.make_merge_records.ensures.goes.stays.0 c.narrow_locks.ensures.later
 
 pub returns-clause-same : goal.returns-clause-same
 returns-clause-same g c = λ e w.
     let kept = c.in_default.ensures.same refl in
-    let s = c.narrow_locks.ensures.same (wide_on c.args.table.now g.G.Gate.becomes (c.args.seat.now, c.args.gate.now) (c.make_merged.new.seat, c.make_merged.new.gate) c.args.job.now c.args.merge.now.number c.make_merged.ensures.goes w) in
+    let s = c.narrow_locks.ensures.same (wide_on c.args.table.now g.G.Gate.becomes (c.args.seat.now, c.args.gate.now) (c.make_merge_records.new.seat, c.make_merge_records.new.gate) c.args.job.now c.args.merge.now.number c.make_merge_records.ensures.goes w) in
     (s.0, s.1, s.2 ∙ kept.0, kept.1)

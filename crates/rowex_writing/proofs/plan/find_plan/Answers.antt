@@ -32,11 +32,11 @@ returns-in-Beside-clause-planned g c = λ m key w.
     let at = slice_get-get_or c.args.way.now c.in-Beside.level _ level.within in
     let e = c.find_affected-first.ensures in
     let (forks, shaped, from, upto) = e.affected m _ (way_place c.args.table.now.layout c.args.seat.now.known m key c.args.way.now c.args.found w c.in-Beside.level _ at) in
-    beside_planned c.args.table.now.layout c.args.seat.now.known c.find_affected-first.new.seat.known m key c.args.way.now c.args.aim c.args.found c.plan_beside.result c.in-Beside.position _ _ c.in-Beside.level _ forks
-    c.in-Beside.ensures.0 (reader_then (c.requires.own, c.requires.possible) e.reads).1 (reads_later e.reads) w level at shaped from upto (c.in-Beside.ensures.2 _ _ c.plan_beside.result c.plan_beside.ensures)
+    beside_planned c.args.table.now.layout c.args.seat.now.known c.find_affected-first.new.seat.known m key c.args.way.now c.args.aim c.args.found c.plan_beside_entries.result c.in-Beside.position _ _ c.in-Beside.level _ forks
+    c.in-Beside.ensures.0 (reader_then (c.requires.own, c.requires.possible) e.reads).1 (reads_later e.reads) w level at shaped from upto (c.in-Beside.ensures.2 _ _ c.plan_beside_entries.result c.plan_beside_entries.ensures)
 
 pub returns-in-Beside-clause-within : goal.returns-in-Beside-clause-within
-returns-in-Beside-clause-within g c = beside_within c.args.way.now c.in-Beside.position c.in-Beside.level _ _ c.plan_beside.result c.in-Beside.ensures.1.within c.plan_beside.ensures
+returns-in-Beside-clause-within g c = beside_within c.args.way.now c.in-Beside.position c.in-Beside.level _ _ c.plan_beside_entries.result c.in-Beside.ensures.1.within c.plan_beside_entries.ensures
 
 pub returns-in-Beside-clause-few : goal.returns-in-Beside-clause-few
 returns-in-Beside-clause-few g c =

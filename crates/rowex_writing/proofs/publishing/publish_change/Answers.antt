@@ -5,8 +5,8 @@ use Rattle.rowex_writing.proofs.Stores.{change_store}
 use Rattle.rowex_writing.proofs.Raised.{gone_few, kept_few}
 use Rattle.rowex_writing.proofs.publishing.publish_change.Goals as goal
 
-pub list_gone-requires : goal.list_gone-requires
-list_gone-requires g c =
+pub list_gone_records-requires : goal.list_gone_records-requires
+list_gone_records-requires g c =
     let (m, w) = c.requires.held.from in
     let (x, was, may) = c.requires.may in
     omega (arith, slice_few c.args.job.now.way.now c.args.job.now.span.end c.args.raised.low, may.upto, c.requires.held.within.1, w.depth)
@@ -14,21 +14,21 @@ list_gone-requires g c =
 pub publish_entry-requires : goal.publish_entry-requires
 publish_entry-requires g c =
     let (x, was, may) = c.requires.may in
-    let store = change_store c.args.table.now c.args.seat.now c.args.build.now.made.items c.list_gone.new.build c.as_slice.result.now c.args.job.now c.args.raised c.spot_above.result x was c.requires.held
-    c.list_gone.ensures.made c.list_gone.ensures.gone (c.as_slice.ensures.value ∙ c.list_kept-kept.ensures) c.spot_above.ensures may in
+    let store = change_store c.args.table.now c.args.seat.now c.args.build.now.made.items c.list_gone_records.new.build c.as_slice.result.now c.args.job.now c.args.raised c.spot_above.result x was c.requires.held
+    c.list_gone_records.ensures.made c.list_gone_records.ensures.gone (c.as_slice.ensures.value ∙ c.list_kept_nodes-kept.ensures) c.spot_above.ensures may in
     record { may = (x, was, store) }
 
 pub returns-clause-changed : goal.returns-clause-changed
 returns-clause-changed g c = λ x was may.
-    c.publish_entry.ensures.changed x was (change_store c.args.table.now c.args.seat.now c.args.build.now.made.items c.list_gone.new.build c.as_slice.result.now c.args.job.now c.args.raised c.spot_above.result x was c.requires.held
-    c.list_gone.ensures.made c.list_gone.ensures.gone (c.as_slice.ensures.value ∙ c.list_kept-kept.ensures) c.spot_above.ensures may)
+    c.publish_entry.ensures.changed x was (change_store c.args.table.now c.args.seat.now c.args.build.now.made.items c.list_gone_records.new.build c.as_slice.result.now c.args.job.now c.args.raised c.spot_above.result x was c.requires.held
+    c.list_gone_records.ensures.made c.list_gone_records.ensures.gone (c.as_slice.ensures.value ∙ c.list_kept_nodes-kept.ensures) c.spot_above.ensures may)
 
 pub returns-clause-few : goal.returns-clause-few
 returns-clause-few g c =
     let (x, was, may) = c.requires.may in
-    let made = ap length c.list_gone.ensures.made in
-    let gone = ap length c.list_gone.ensures.gone in
-    let kept = ap length (c.as_slice.ensures.value ∙ c.list_kept-kept.ensures) in
+    let made = ap length c.list_gone_records.ensures.made in
+    let gone = ap length c.list_gone_records.ensures.gone in
+    let kept = ap length (c.as_slice.ensures.value ∙ c.list_kept_nodes-kept.ensures) in
     let nodes = gone_few c.args.job.now.way.now c.args.job.now.span c.args.raised in
     let stay = kept_few c.args.job.now.way.now c.args.job.now.span c.args.raised in
     omega (arith, c.publish_entry.ensures.few, made, gone, kept, nodes, stay, may.from, may.upto)

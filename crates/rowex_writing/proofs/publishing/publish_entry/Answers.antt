@@ -11,59 +11,59 @@ use Rattle.rowex_writing.proofs.Runs.{goes_run, run_one, runs_trans, works_fresh
 use Rattle.rowex_writing.proofs.Storing.{has_changed, just_published, now_publishes, now_spells, still_anchored, word_published}
 use Rattle.rowex_writing.proofs.publishing.publish_entry.Goals as goal
 
-pub ready_all-requires : goal.ready_all-requires
-ready_all-requires g c = let (x, was, s) = c.requires.may in record { building = (s.ready.news, s.ready.building) }
+pub ready_records-requires : goal.ready_records-requires
+ready_records-requires g c = let (x, was, s) = c.requires.may in record { building = (s.ready.news, s.ready.building) }
 
 pub stored_word-requires : goal.stored_word-requires
 stored_word-requires g c =
     let (x, was, s) = c.requires.may in
-    now_spells c.args.table.now g.G.Gate.becomes (c.args.seat.now, c.args.gate.now) (c.ready_all.new.seat, c.ready_all.new.gate) c.args.build.now.made.items c.args.store.spot (entry_word c.args.store.entry) c.args.build.now.gone.items c.ready_all.ensures.goes x was s.ready (c.ready_all.ensures.ready s.ready.news s.ready.building)
+    now_spells c.args.table.now g.G.Gate.becomes (c.args.seat.now, c.args.gate.now) (c.ready_records.new.seat, c.ready_records.new.gate) c.args.build.now.made.items c.args.store.spot (entry_word c.args.store.entry) c.args.build.now.gone.items c.ready_records.ensures.goes x was s.ready (c.ready_records.ensures.ready s.ready.news s.ready.building)
 
 pub publish-requires-clause-own : goal.publish-requires-clause-own
-publish-requires-clause-own g c = seat_of c.args.table.now g.G.Gate.becomes (c.args.seat.now, c.args.gate.now) (c.ready_all.new.seat, c.ready_all.new.gate) c.ready_all.ensures.goes c.requires.may.2.ready.building.seat
+publish-requires-clause-own g c = seat_of c.args.table.now g.G.Gate.becomes (c.args.seat.now, c.args.gate.now) (c.ready_records.new.seat, c.ready_records.new.gate) c.ready_records.ensures.goes c.requires.may.2.ready.building.seat
 
 pub publish-requires-clause-may : goal.publish-requires-clause-may
 publish-requires-clause-may g c =
     let (x, was, s) = c.requires.may in
-    subst (λ w. MayStep c.args.table.now.layout (λ found. Publish c.args.store.spot w) c.ready_all.new.seat.known) (sym c.stored_word.ensures)
-    (now_publishes c.args.table.now g.G.Gate.becomes (c.args.seat.now, c.args.gate.now) (c.ready_all.new.seat, c.ready_all.new.gate) c.args.build.now.made.items c.args.store.spot (entry_word c.args.store.entry) c.args.build.now.gone.items c.ready_all.ensures.goes x was s.ready (c.ready_all.ensures.ready s.ready.news s.ready.building)).may
+    subst (λ w. MayStep c.args.table.now.layout (λ found. Publish c.args.store.spot w) c.ready_records.new.seat.known) (sym c.stored_word.ensures)
+    (now_publishes c.args.table.now g.G.Gate.becomes (c.args.seat.now, c.args.gate.now) (c.ready_records.new.seat, c.ready_records.new.gate) c.args.build.now.made.items c.args.store.spot (entry_word c.args.store.entry) c.args.build.now.gone.items c.ready_records.ensures.goes x was s.ready (c.ready_records.ensures.ready s.ready.news s.ready.building)).may
 
-pub retire-requires-clause-own : goal.retire-requires-clause-own
-retire-requires-clause-own g c = c.publish.ensures.seat.0 ∙ seat_of c.args.table.now g.G.Gate.becomes (c.args.seat.now, c.args.gate.now) (c.ready_all.new.seat, c.ready_all.new.gate) c.ready_all.ensures.goes c.requires.may.2.ready.building.seat
+pub retire_records-requires-clause-own : goal.retire_records-requires-clause-own
+retire_records-requires-clause-own g c = c.publish.ensures.seat.0 ∙ seat_of c.args.table.now g.G.Gate.becomes (c.args.seat.now, c.args.gate.now) (c.ready_records.new.seat, c.ready_records.new.gate) c.ready_records.ensures.goes c.requires.may.2.ready.building.seat
 
-pub retire-requires-clause-records : goal.retire-requires-clause-records
-retire-requires-clause-records g c = subst (AreInTable c.args.table.now.layout) (sym c.as_slice.ensures.value) c.requires.may.2.records
+pub retire_records-requires-clause-records : goal.retire_records-requires-clause-records
+retire_records-requires-clause-records g c = subst (AreInTable c.args.table.now.layout) (sym c.as_slice.ensures.value) c.requires.may.2.records
 
-pub retire-requires-clause-published : goal.retire-requires-clause-published
-retire-requires-clause-published g c =
+pub retire_records-requires-clause-published : goal.retire_records-requires-clause-published
+retire_records-requires-clause-published g c =
     let (x, was, s) = c.requires.may in
     subst (λ z. HasJustPublished c.publish.new.seat.known z (numbers_of c.args.kept.now)) (sym c.as_slice.ensures.value)
-    (just_published c.args.table.now g.G.Gate.becomes (c.args.seat.now, c.args.gate.now) (c.ready_all.new.seat, c.ready_all.new.gate) c.args.build.now.made.items c.args.store.spot (entry_word c.args.store.entry) c.args.build.now.gone.items c.ready_all.ensures.goes x was s.ready (c.ready_all.ensures.ready s.ready.news s.ready.building)
-    (numbers_of c.args.kept.now) s.keeps c.publish.new.seat.known (word_published c.args.table.now.layout c.args.store.spot c.stored_word.result (entry_word c.args.store.entry) c.ready_all.new.seat.known c.publish.new.seat.known c.stored_word.ensures c.publish.ensures.event) s.apart)
+    (just_published c.args.table.now g.G.Gate.becomes (c.args.seat.now, c.args.gate.now) (c.ready_records.new.seat, c.ready_records.new.gate) c.args.build.now.made.items c.args.store.spot (entry_word c.args.store.entry) c.args.build.now.gone.items c.ready_records.ensures.goes x was s.ready (c.ready_records.ensures.ready s.ready.news s.ready.building)
+    (numbers_of c.args.kept.now) s.keeps c.publish.new.seat.known (word_published c.args.table.now.layout c.args.store.spot c.stored_word.result (entry_word c.args.store.entry) c.ready_records.new.seat.known c.publish.new.seat.known c.stored_word.ensures c.publish.ensures.event) s.apart)
 
-pub retire-requires-clause-anchored : goal.retire-requires-clause-anchored
-retire-requires-clause-anchored g c =
+pub retire_records-requires-clause-anchored : goal.retire_records-requires-clause-anchored
+retire_records-requires-clause-anchored g c =
     let (x, was, s) = c.requires.may in
     subst (λ z. IsAnchored z c.publish.new.seat.known) (sym c.is_root.ensures)
-    (still_anchored c.args.table.now g.G.Gate.becomes (c.args.seat.now, c.args.gate.now) (c.ready_all.new.seat, c.ready_all.new.gate) c.args.build.now.made.items c.args.store.spot (entry_word c.args.store.entry) c.args.build.now.gone.items c.ready_all.ensures.goes x was s.ready (c.ready_all.ensures.ready s.ready.news s.ready.building)
-    (numbers_of c.args.kept.now) s.keeps c.publish.new.seat.known (word_published c.args.table.now.layout c.args.store.spot c.stored_word.result (entry_word c.args.store.entry) c.ready_all.new.seat.known c.publish.new.seat.known c.stored_word.ensures c.publish.ensures.event) (is_root c.args.store.spot) s.anchored)
+    (still_anchored c.args.table.now g.G.Gate.becomes (c.args.seat.now, c.args.gate.now) (c.ready_records.new.seat, c.ready_records.new.gate) c.args.build.now.made.items c.args.store.spot (entry_word c.args.store.entry) c.args.build.now.gone.items c.ready_records.ensures.goes x was s.ready (c.ready_records.ensures.ready s.ready.news s.ready.building)
+    (numbers_of c.args.kept.now) s.keeps c.publish.new.seat.known (word_published c.args.table.now.layout c.args.store.spot c.stored_word.result (entry_word c.args.store.entry) c.ready_records.new.seat.known c.publish.new.seat.known c.stored_word.ensures c.publish.ensures.event) (is_root c.args.store.spot) s.anchored)
 
 pub returns-clause-run : goal.returns-clause-run
 returns-clause-run g c =
-    let store = run_one c.args.table.now g.G.Gate.becomes (Publish c.args.store.spot c.stored_word.result) (c.ready_all.new.seat, c.ready_all.new.gate) (c.publish.new.seat, c.publish.new.gate) tt c.publish.ensures in
-    let ready = goes_run c.args.table.now g.G.Gate.becomes (c.args.seat.now, c.args.gate.now) (c.ready_all.new.seat, c.ready_all.new.gate) c.ready_all.ensures.goes in
-    let ends = works_run c.args.table.now g.G.Gate.becomes (c.publish.new.seat, c.publish.new.gate) (c.retire.new.seat, c.retire.new.gate) c.retire.ensures.works in
-    runs_trans c.args.table.now g.G.Gate.becomes (c.args.seat.now, c.args.gate.now) (c.publish.new.seat, c.publish.new.gate) (c.retire.new.seat, c.retire.new.gate)
-    (runs_trans c.args.table.now g.G.Gate.becomes (c.args.seat.now, c.args.gate.now) (c.ready_all.new.seat, c.ready_all.new.gate) (c.publish.new.seat, c.publish.new.gate) ready store) ends
+    let store = run_one c.args.table.now g.G.Gate.becomes (Publish c.args.store.spot c.stored_word.result) (c.ready_records.new.seat, c.ready_records.new.gate) (c.publish.new.seat, c.publish.new.gate) tt c.publish.ensures in
+    let ready = goes_run c.args.table.now g.G.Gate.becomes (c.args.seat.now, c.args.gate.now) (c.ready_records.new.seat, c.ready_records.new.gate) c.ready_records.ensures.goes in
+    let ends = works_run c.args.table.now g.G.Gate.becomes (c.publish.new.seat, c.publish.new.gate) (c.retire_records.new.seat, c.retire_records.new.gate) c.retire_records.ensures.works in
+    runs_trans c.args.table.now g.G.Gate.becomes (c.args.seat.now, c.args.gate.now) (c.publish.new.seat, c.publish.new.gate) (c.retire_records.new.seat, c.retire_records.new.gate)
+    (runs_trans c.args.table.now g.G.Gate.becomes (c.args.seat.now, c.args.gate.now) (c.ready_records.new.seat, c.ready_records.new.gate) (c.publish.new.seat, c.publish.new.gate) ready store) ends
 
 pub returns-clause-changed : goal.returns-clause-changed
 returns-clause-changed g c = λ x was s.
-    has_changed c.args.table.now g.G.Gate.becomes (c.args.seat.now, c.args.gate.now) (c.ready_all.new.seat, c.ready_all.new.gate) c.args.build.now.made.items c.args.store.spot (entry_word c.args.store.entry) c.args.build.now.gone.items c.ready_all.ensures.goes x was s.ready (c.ready_all.ensures.ready s.ready.news s.ready.building)
-    (numbers_of c.args.kept.now) s.keeps c.publish.new.seat.known (word_published c.args.table.now.layout c.args.store.spot c.stored_word.result (entry_word c.args.store.entry) c.ready_all.new.seat.known c.publish.new.seat.known c.stored_word.ensures c.publish.ensures.event) c.retire.new.seat.known
-    c.retire.ensures.rest c.retire.ensures.front (works_fresh c.args.table.now g.G.Gate.becomes (c.publish.new.seat, c.publish.new.gate) (c.retire.new.seat, c.retire.new.gate) c.retire.ensures.works)
+    has_changed c.args.table.now g.G.Gate.becomes (c.args.seat.now, c.args.gate.now) (c.ready_records.new.seat, c.ready_records.new.gate) c.args.build.now.made.items c.args.store.spot (entry_word c.args.store.entry) c.args.build.now.gone.items c.ready_records.ensures.goes x was s.ready (c.ready_records.ensures.ready s.ready.news s.ready.building)
+    (numbers_of c.args.kept.now) s.keeps c.publish.new.seat.known (word_published c.args.table.now.layout c.args.store.spot c.stored_word.result (entry_word c.args.store.entry) c.ready_records.new.seat.known c.publish.new.seat.known c.stored_word.ensures c.publish.ensures.event) c.retire_records.new.seat.known
+    c.retire_records.ensures.rest c.retire_records.ensures.front (works_fresh c.args.table.now g.G.Gate.becomes (c.publish.new.seat, c.publish.new.gate) (c.retire_records.new.seat, c.retire_records.new.gate) c.retire_records.ensures.works)
 
 pub returns-clause-few : goal.returns-clause-few
 returns-clause-few g c =
     let gone = ap length c.as_slice.ensures.value in
-    let stored = (act_leaves c.args.table.now.layout c.ready_all.new.seat.known c.publish.new.seat.known (Publish c.args.store.spot c.stored_word.result) c.publish.ensures.event).steps in
-    omega (arith, c.ready_all.ensures.few, c.retire.ensures.few, stored, gone)
+    let stored = (act_leaves c.args.table.now.layout c.ready_records.new.seat.known c.publish.new.seat.known (Publish c.args.store.spot c.stored_word.result) c.publish.ensures.event).steps in
+    omega (arith, c.ready_records.ensures.few, c.retire_records.ensures.few, stored, gone)

@@ -18,15 +18,15 @@ use Rattle.rowex_writing.proofs.Walked.{walk_begins}
 use Rattle.rowex_writing.proofs.taking.remake_without_leaf.Goals as goal
 use Rattle.tries.specs.Content.{item}
 
-pub raise_without-requires-clause-locked : goal.raise_without-requires-clause-locked
-raise_without-requires-clause-locked g c =
+pub raise_without_leaf-requires-clause-locked : goal.raise_without_leaf-requires-clause-locked
+raise_without_leaf-requires-clause-locked g c =
     let job = c.args.job.now in
     let (m, value, b) = c.requires.below in
     let at = low_step c.args.table.now c.args.seat.now m job c.args.number value b in
     lowest_locked c.args.table.now c.args.seat.now m job c.args.number value b _ at
 
-pub raise_without-requires-clause-place : goal.raise_without-requires-clause-place
-raise_without-requires-clause-place g c =
+pub raise_without_leaf-requires-clause-place : goal.raise_without_leaf-requires-clause-place
+raise_without_leaf-requires-clause-place g c =
     let job = c.args.job.now in
     let (m, value, b) = c.requires.below in
     let at = low_step c.args.table.now c.args.seat.now m job c.args.number value b in
@@ -41,9 +41,9 @@ returns-in_default-clause-full g c =
       refl,
       record {
         not_made = c.in_default.ensures.made job.key.now words (lowest_leads c.args.table.now c.args.seat.now m job c.args.number value b _ at) h;
-        few = omega (arith, ap length c.requires.made, c.raise_without.ensures.makes.more);
-        full_of = lacks_nodes c.args.table.now.layout c.args.seat.now.known c.raise_without.new.seat.known job.way.now job.span c.raise_without.new.build.made.items c.args.seat.now.known.steps
-            (step_nodes c.args.table.now.layout c.args.seat.now.known m job.key.now job.way.now _ b.taken.way_of) b.taken.locked c.raise_without.ensures.makes.goes.stays.1 b.taken.within.0 b.taken.within.1 (omega (arith, b.last))
+        few = omega (arith, ap length c.requires.made, c.raise_without_leaf.ensures.makes.more);
+        full_of = lacks_nodes c.args.table.now.layout c.args.seat.now.known c.raise_without_leaf.new.seat.known job.way.now job.span c.raise_without_leaf.new.build.made.items c.args.seat.now.known.steps
+            (step_nodes c.args.table.now.layout c.args.seat.now.known m job.key.now job.way.now _ b.taken.way_of) b.taken.locked c.raise_without_leaf.ensures.makes.goes.stays.1 b.taken.within.0 b.taken.within.1 (omega (arith, b.last))
             (omega (arith, ap (λ made. length (nodes_among made)) c.requires.made, c.in_default.ensures.makes.nodes))
             (c.in_default.ensures.makes.walk c.args.seat.now.known.steps
             (walk_begins c.args.table.now.layout c.args.seat.now.known c.args.build.now.made.items c.args.build.now.nodes.next c.layout.result c.layout.ensures));
@@ -60,27 +60,27 @@ returns-clause-raised g c = λ m value b.
     let low : IsRaised c.in-Some.entry = left_raised table.layout c.args.seat.now.known _ words job.key.now c.in-Some.entry news b.taken.possible h side in
     let word : HasEntryWord (Some c.in-Some.entry) = search (rules, low) in
     let gone = ap (λ (steps : List PathNode). map (λ (s : PathNode). a_node s.number) steps ++ a_leaf c.args.number ∷ []) (last_one table c.args.seat.now m job c.args.number value b _ at) in
-    let now = ap (λ q. removed_change q (item c.args.number job.key.now value)) c.raise_without.ensures.makes.goes.stays.0.pass in
+    let now = ap (λ q. removed_change q (item c.args.number job.key.now value)) c.raise_without_leaf.ensures.makes.goes.stays.0.pass in
     record {
       from = omega (arith, b.last);
       upto = omega arith;
       most = omega arith;
       leaf = leaf_gone_record table c.args.seat.now m job c.args.number value b _ at;
       ends = λ spot over.
-          subst (MayPublishOnceReady table c.raise_without.new.seat c.raise_without.new.build.made.items spot (entry_word (Some c.in-Some.entry)) (removed_change c.args.seat.now.known.pass (item c.args.number job.key.now value)) (Some value)) (sym gone)
-          (subst (λ y. MayPublishOnceReady table c.raise_without.new.seat c.raise_without.new.build.made.items spot (entry_word (Some c.in-Some.entry)) y (Some value) (a_node (get_or job.way.now job.span.end no_step).number ∷ a_leaf c.args.number ∷ [])) now
-          (may_remake table c.args.seat.now m job c.args.number value b _ at c.raise_without.new.seat c.raise_without.new.build.made.items news words h c.in-Some.entry
-          c.raise_without.ensures.makes.goes.stays building side (c.in-Some.ensures.low words h) word spot over));
-      few = omega (arith, ap length c.requires.made, c.raise_without.ensures.makes.more);
+          subst (MayPublishOnceReady table c.raise_without_leaf.new.seat c.raise_without_leaf.new.build.made.items spot (entry_word (Some c.in-Some.entry)) (removed_change c.args.seat.now.known.pass (item c.args.number job.key.now value)) (Some value)) (sym gone)
+          (subst (λ y. MayPublishOnceReady table c.raise_without_leaf.new.seat c.raise_without_leaf.new.build.made.items spot (entry_word (Some c.in-Some.entry)) y (Some value) (a_node (get_or job.way.now job.span.end no_step).number ∷ a_leaf c.args.number ∷ [])) now
+          (may_remake table c.args.seat.now m job c.args.number value b _ at c.raise_without_leaf.new.seat c.raise_without_leaf.new.build.made.items news words h c.in-Some.entry
+          c.raise_without_leaf.ensures.makes.goes.stays building side (c.in-Some.ensures.low words h) word spot over));
+      few = omega (arith, ap length c.requires.made, c.raise_without_leaf.ensures.makes.more);
     }
 
-pub raise_without-requires-clause-building : goal.raise_without-requires-clause-building
-raise_without-requires-clause-building g c =
+pub raise_without_leaf-requires-clause-building : goal.raise_without_leaf-requires-clause-building
+raise_without_leaf-requires-clause-building g c =
     let (m, value, b) = c.requires.below in
     subst (λ z. IsBuilding c.args.table.now c.args.seat.now z []) (sym c.requires.made) (building_none c.args.table.now c.args.seat.now b.taken.seat b.taken.possible b.taken.own)
 
-pub raise_without-requires-clause-room : goal.raise_without-requires-clause-room
-raise_without-requires-clause-room g c = omega (arith, ap length c.requires.made)
+pub raise_without_leaf-requires-clause-room : goal.raise_without_leaf-requires-clause-room
+raise_without_leaf-requires-clause-room g c = omega (arith, ap length c.requires.made)
 
 pub bounds-job-job : goal.bounds-job-job
 bounds-job-job g c =
@@ -94,8 +94,8 @@ offset_bounds-job-job g c =
     let (m, value, b) = c.requires.below in
     let h = slice_get_within job.way.now job.span.end _ (low_step c.args.table.now c.args.seat.now m job c.args.number value b) in search (rules, h)
 
-pub raise_without-requires-clause-range : goal.raise_without-requires-clause-range
-raise_without-requires-clause-range g c =
+pub raise_without_leaf-requires-clause-range : goal.raise_without_leaf-requires-clause-range
+raise_without_leaf-requires-clause-range g c =
     let job = c.args.job.now in
     let (m, value, b) = c.requires.below in
     (b.taken.way_of.nodes job.span.end _ (low_step c.args.table.now c.args.seat.now m job c.args.number value b)).2.range
@@ -103,11 +103,11 @@ raise_without-requires-clause-range g c =
 pub returns-in_default-clause-walk : goal.returns-in_default-clause-walk
 returns-in_default-clause-walk g c =
     let whole : c.layout.result.nodes ≡ c.args.table.now.layout.nodes = ap (λ (z : Layout). z.nodes) c.layout.ensures in
-    let few : c.raise_without.new.seat.known.steps + 2 * c.raise_without.new.build.left_nodes ≤ c.args.seat.now.known.steps + 2 * c.layout.result.nodes + level_steps + length c.raise_without.new.build.made.items = c.in_default.ensures.makes.few in
-    omega (arith, whole, few, ap length c.requires.made, c.raise_without.ensures.makes.more)
+    let few : c.raise_without_leaf.new.seat.known.steps + 2 * c.raise_without_leaf.new.build.left_nodes ≤ c.args.seat.now.known.steps + 2 * c.layout.result.nodes + level_steps + length c.raise_without_leaf.new.build.made.items = c.in_default.ensures.makes.few in
+    omega (arith, whole, few, ap length c.requires.made, c.raise_without_leaf.ensures.makes.more)
 
 pub returns-clause-walk : goal.returns-clause-walk
 returns-clause-walk g c =
     let whole : c.layout.result.nodes ≡ c.args.table.now.layout.nodes = ap (λ (z : Layout). z.nodes) c.layout.ensures in
-    let few : c.raise_without.new.seat.known.steps + 2 * c.raise_without.new.build.left_nodes ≤ c.args.seat.now.known.steps + 2 * c.layout.result.nodes + level_steps + 0 = c.in-Some.ensures.makes.few in
+    let few : c.raise_without_leaf.new.seat.known.steps + 2 * c.raise_without_leaf.new.build.left_nodes ≤ c.args.seat.now.known.steps + 2 * c.layout.result.nodes + level_steps + 0 = c.in-Some.ensures.makes.few in
     omega (arith, whole, few)

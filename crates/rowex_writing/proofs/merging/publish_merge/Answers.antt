@@ -1,0 +1,27 @@
+-- What is stored above the upper node.
+use Rattle.std.proofs.Common.{◌-◌, length, ap, arith}
+use Rattle.std.specs.Prelude.{slice_range}
+use Rattle.rowex_writing.proofs.Counting.{slice_few}
+use Rattle.rowex_writing.proofs.Stores.{merge_store}
+use Rattle.rowex_writing.proofs.merging.publish_merge.Goals as goal
+
+pub publish_entry-requires : goal.publish_entry-requires
+publish_entry-requires g c =
+    let (number, w, may, listed) = c.requires.may in
+    let store = merge_store c.args.table.now c.args.seat.now c.args.build.now _ c.args.job.now number c.args.entry c.spot_above.result w may listed
+    (ap (λ i. slice_range c.args.job.now.way.now i (c.args.job.now.span.end - 1)) c.saturating_sub.ensures) c.spot_above.ensures in
+    record { may = (may.change, may.was, store) }
+
+pub returns-clause-done : goal.returns-clause-done
+returns-clause-done g c =
+    let (number, w, may, listed) = c.requires.may in
+    let store = merge_store c.args.table.now c.args.seat.now c.args.build.now _ c.args.job.now number c.args.entry c.spot_above.result w may listed
+    (ap (λ i. slice_range c.args.job.now.way.now i (c.args.job.now.span.end - 1)) c.saturating_sub.ensures) c.spot_above.ensures in
+    (may.change, may.was, may.takes, c.publish_entry.ensures.changed may.change may.was store)
+
+pub returns-clause-few : goal.returns-clause-few
+returns-clause-few g c =
+    let (number, w, may, listed) = c.requires.may in
+    let gone = ap length (listed w.taking.number w.taking.value w.taking.found) in
+    let stay = slice_few c.args.job.now.way.now c.saturating_sub.result (c.args.job.now.span.end - 1) in
+    omega (arith, c.publish_entry.ensures.few, gone, stay, c.saturating_sub.ensures, may.few)

@@ -1,0 +1,28 @@
+-- A node with room gets the leaf, and a full one overflows.
+use Rattle.std.proofs.Common.{◌≡◌, ◌+◌, ℕ, List, arith, get_or, length, Some}
+use Rattle.std.proofs.lemmas.Option.{slice_get-get_or}
+use Rattle.std.specs.Prelude.{slice_get}
+use Rattle.insert_cases.specs.declared.choice.PathNode.{PathNode}
+use Rattle.rowex_writing.proofs.Planning.{low_full, low_room}
+use Rattle.rowex_writing.proofs.plan.plan_in_lowest_node.Goals as goal
+
+no_step : PathNode
+no_step = record { number = 0; height = 0; first_position = 0; count = 0; at = 0 }
+
+here : (way : List PathNode) (level : ℕ) → level + 1 ≡ length way → slice_get way level ≡ Some (get_or way level no_step)
+here way level last = slice_get-get_or way level no_step (omega arith)
+
+pub returns-then-way-level-lt32 : goal.returns-then-way-level-lt32
+unfolding no_step
+returns-then-way-level-lt32 c = λ first upto.
+    let way = c.args.way.now in
+    let at = here way c.args.level c.requires.last in
+    low_room way c.args.position c.args.level (get_or way c.args.level no_step) c.change_plan.result c.requires.last at (c.requires.low (get_or way c.args.level no_step) at) first upto c.if-way-level-lt32.true c.change_plan.ensures
+
+pub returns-else-way-level-lt32 : goal.returns-else-way-level-lt32
+unfolding no_step
+returns-else-way-level-lt32 c = λ first upto.
+    let way = c.args.way.now in
+    let at = here way c.args.level c.requires.last in
+    low_full way c.args.position c.args.level (get_or way c.args.level no_step) c.change_plan-else-way-level-lt32.result c.requires.last at (c.requires.low (get_or way c.args.level no_step) at) first upto
+    (omega (arith, c.if-way-level-lt32.false)) c.chain_end.result c.chain_end.ensures c.change_plan-else-way-level-lt32.ensures
