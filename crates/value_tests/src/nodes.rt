@@ -93,7 +93,7 @@ fn bits_are_gathered_from_the_highest(rt: HostRuntime) {
         assert!(rt; positions.len() <= 31);
         let key = key(&rt, bytes);
         assert!(rt; extract(&key, positions) == want);
-        assert!(rt; comb_node(&rt, positions).columns().dense(&key) == want);
+        assert!(rt; comb_node(&rt, positions).columns().extract(&key) == want);
     }
 }
 
@@ -143,7 +143,7 @@ fn nodes_are_searched(rt: HostRuntime) {
         (b'd', 0, 0),
     ] {
         let key = key(&rt, &[byte]);
-        assert!(rt; node.columns().dense(&key) == dense);
+        assert!(rt; node.columns().extract(&key) == dense);
         assert!(rt; node.search(&key) == place && head.search(&key) == place);
     }
     assert!(rt; node.affected(0, 6) == (0, 2));
