@@ -54,7 +54,8 @@ pub(crate) fn height_over(entries: &[Entry]) -> u16
     1 + greatest
 }
 
-/// The height of a new node over `entries`, which are `entry` and those of a node of the height `height`.
+/// The height of a node of height `height` to which `entry` was added: one above the greatest of `entries`, all that it has now. Where
+/// `height` is 1 the others are leaves, and `entry` alone is looked at.
 pub(crate) fn height_with(entries: &[Entry], entry: Entry, height: u16) -> u16
     requires children { All IsEntry entries.now }
     requires leaves { height ≡ 1 → greatest_height entries.now ≡ height_of entry }

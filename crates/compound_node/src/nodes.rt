@@ -224,7 +224,8 @@ impl Node {
         node
     }
 
-    /// Puts `entry` and a new fork at `position` into this node, as `insert` does into a copy.
+    /// Puts `entry` and a new fork at `position` over the affected slots `first` to `last` into this node. The entry stands straight after
+    /// them if `bit` is true, else straight before. The height is made anew, as by `insert`.
     pub fn add(&mut self, first: u8, last: u8, position: u16, bit: bool, entry: Entry)
         requires room { length self.old.entries < 32 }
         requires range { IsAffected (piece self.old) position first last }

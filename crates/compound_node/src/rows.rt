@@ -117,8 +117,8 @@ fn insert_row(rows: u32x32, at: u32, row: u32) -> u32x32
     indexes.simd_lt(at).select(rows, put)
 }
 
-/// `rows` with a copy of row `first` put in before it. The rows behind the copy and below index `end` get `bits`, and the last of the 32 is
-/// lost.
+/// `rows` with a copy of row `first` put in before it. In the result, the rows from `first + 1` on and below `end` have `bits` set besides.
+/// The last of the 32 is lost.
 #[inline(always)]
 fn fork_before(rows: u32x32, first: u32, end: u32, bits: u32) -> u32x32
     requires order { first + 1 < end }

@@ -50,9 +50,9 @@ impl Handle {
 }
 
 /// Does nothing; its bound asks that the value's type may go to another thread.
-fn needs_send<T: Send>(_value: &T) {}
+fn assert_send<T: Send>(_value: &T) {}
 
 /// Does nothing. It is proved only if a handle may go to another thread.
-pub fn may_go_to_another_thread(handle: &Handle) {
-    needs_send(handle);
+pub fn handle_is_send(handle: &Handle) {
+    assert_send(handle);
 }

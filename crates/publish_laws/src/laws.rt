@@ -115,7 +115,7 @@ pub fn may_remove_last()
 
 // After the publish
 
-/// Of the locked nodes a pass keeps just those that its publish does not unlink.
+/// Of the nodes that a pass has locked, each once, `kept_locks` has just those that its publish does not unlink, each once.
 pub fn kept_are_not_gone()
     ensures { KeptAreNotGone }
 {}

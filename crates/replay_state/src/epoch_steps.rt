@@ -41,8 +41,8 @@ impl State {
         true
     }
 
-    /// Raises the epoch by one if it is `expected`. Returns whether that is legal: `found` is the epoch before, and `expected` is 1 to
-    /// `EPOCHS` - 2. If not, nothing changes.
+    /// Makes the exchange by `pass` that raises the epoch by one if it is `expected`, and that found `found`. Returns whether that is
+    /// legal: `found` is the epoch before, and `expected` is 1 to `EPOCHS` - 2. Any pass may make it. If it is not legal, nothing changes.
     pub(crate) fn advance(&mut self, pass: u16, expected: u64, found: u64) -> bool
         ensures { IsStepped result self.old self.new pass (Advance expected found) }
     {

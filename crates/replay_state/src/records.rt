@@ -263,7 +263,7 @@ impl Records {
         self.leaves.get(number as usize).copied()
     }
 
-    /// Gives node record `number` the words `words`. If the table hasn't the record, nothing changes.
+    /// Gives node record `number` the words `words`, all but its state. If the table hasn't the record, nothing changes.
     pub(crate) fn set_node(&mut self, number: u32, words: [u64; NODE_FIELDS])
         ensures { self.new ≡ with_words_in self.old (a_node number) words }
     {

@@ -233,8 +233,8 @@ fn claim_in_span<G: Gate>(
     None
 }
 
-/// Claims the record of `kind` with the number `number` if it is free, and returns whether the pass has it now. `false`, and no step, for a
-/// number that is out of range. Inline, for callers know the kind.
+/// Claims the record of `kind` with this number, counted from the first record of the kind on, if it is free. Returns whether the pass has
+/// it now. From the count of the kind on it is `false`, with no step. `gate` is told each step. Inline, since callers know the kind.
 #[inline(always)]
 pub fn claim_numbered<G: Gate>(
     table: &HotTable,

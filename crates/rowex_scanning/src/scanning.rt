@@ -160,7 +160,7 @@ fn scan_leaf<G: Gate>(
     ) {
         return Ok(false);
     }
-    match take_pair(pairs, range, &places, length, value)? {
+    match append_pair_in_range(pairs, range, &places, length, value)? {
         Verdict::Full => Ok(true),
         Verdict::Further | Verdict::Past => Ok(false),
     }
@@ -231,7 +231,7 @@ fn walk_slots<G: Gate>(
         if entries_to_come(direction, &top) > 0 {
             let ahead = load_entries_ahead(scan, seat, gate, &top, pairs, &mut leaves);
             let next = &leaves[..ahead.count as usize];
-            match take_leaves(scan, seat, gate, next, places, pairs)? {
+            match append_pairs_of_leaves(scan, seat, gate, next, places, pairs)? {
                 Verdict::Further => (),
                 Verdict::Past => return Ok(false),
                 Verdict::Full => return Ok(true),
@@ -254,10 +254,11 @@ fn walk_slots<G: Gate>(
     }
 }
 
-/// Adds the pairs of `leaves`, which come next on the walk, to `pairs`. At one that is past the range or has no room it stops, and returns
-/// that verdict. If all are added, it returns `Further`. An error if memory is refused. `places` is room for a key's bytes.
+/// Adds the pairs of `leaves`, which come next on the walk, to `pairs`, and returns `Further`. At a leaf past the range it stops and
+/// returns `Past`; at one of the range for which the limit leaves no room, `Full`. An error if memory is refused; the pairs before it stay.
+/// `places` is room for a key's bytes, and `gate` is told of each load.
 #[inline(always)]
-fn take_leaves<G: Gate>(
+fn append_pairs_of_leaves<G: Gate>(
     scan: &Scan,
     seat: &mut TableSeat,
     gate: &mut G,
@@ -300,7 +301,7 @@ fn enter_node_at_gap<G: Gate>(
     step
 }
 
-/// Loads leaf `number`, whose key does not come before `scan.range`, and adds its pair to `pairs`, as [`take_pair`] does. Returns what
+/// Loads leaf `number`, whose key does not come before `scan.range`, and adds its pair to `pairs`, as [`append_pair_in_range`] does. Returns what
 /// becomes of the scan. An error if memory is refused. `places` is room for the key's bytes.
 ///
 /// Keys of eight bytes are common: what is compiled for them alone has each as a number.
@@ -325,16 +326,17 @@ fn take_leaf<G: Gate>(
     let leaf = LeafAt { number, start };
     let (length, value) = load_leaf(scan.table, seat, gate, leaf, places);
     if length == 8 {
-        return take_pair(pairs, scan.range, places, 8, value);
+        return append_pair_in_range(pairs, scan.range, places, 8, value);
     }
-    take_pair(pairs, scan.range, places, length, value)
+    append_pair_in_range(pairs, scan.range, places, length, value)
 }
 
-/// Adds a pair with the value `value` to `pairs`, if it belongs to `range` and the limit leaves room. Returns what becomes of the scan. An
-/// error if memory is refused. The pair's key has the first `length` of `places`, and does not come before the range. Inline, so that the
-/// key's bytes go at once from where they were read to their place among the pairs.
+/// Adds the pair of `value` and of the key in the first `length` bytes of `places` to `pairs`, and returns `Further`. Adds nothing and
+/// returns `Past` where the key is past `range`, or `Full` where it is of the range and the limit is reached. An error, and nothing added,
+/// if memory is refused. The key does not come before the range. Inline, so that the key's bytes go at once from where they were read to
+/// their place among the pairs.
 #[inline(always)]
-fn take_pair(
+fn append_pair_in_range(
     pairs: &mut Pairs,
     range: &Range,
     places: &[u8; MAX_BYTES],

@@ -9,7 +9,8 @@ pub fn runs_are_told<G: Gate>()
     ensures { RunsAreTold G.becomes }
 {}
 
-/// Steps of one pass, one after the other, stand in this order in one run of the table. Steps of others may stand between.
+/// Steps that one pass makes, one after the other, are its own steps in one run of the table, in this order. Steps of others may stand
+/// between. What the pass knows after them is what that run has taught it.
 pub fn runs_are_linked<G: Gate>()
     ensures { RunsAreLinked G.becomes }
 {}

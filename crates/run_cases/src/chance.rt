@@ -78,14 +78,15 @@ fn take_turns(
 ) -> io::Result<u64> {
     let mut chance = Chance(u64::from(seed));
     for turn in 0..u64::from(turns) {
-        take_turn(case, guest, gate, &mut chance, turn)?;
+        run_random_turn(case, guest, gate, &mut chance, turn)?;
     }
     Ok(gate.judge.wrong)
 }
 
-/// Makes a task by chance, after one of whose steps the other pass makes another one. In each 32nd `turn` it compares the index with the
-/// replay, and drops the steps that were kept. An error if memory is refused.
-fn take_turn(
+/// Has `guest` do a task by `chance`. After one of its first 160 steps, by chance too, `gate` has the other pass do a second one, if the
+/// first has so many steps. `turn` is the value of both. Every 32nd turn it drops the steps that were kept, and compares scans by `guest`
+/// with the replay. `gate.judge` counts what is wrong. An error if memory is refused.
+fn run_random_turn(
     case: &Case,
     guest: &mut Guest,
     gate: &mut Stopper,

@@ -7,8 +7,9 @@ use compound_node::{Entry, Node};
 use record_words::{FIRST_ROWS, NODE_FIELDS, close_fork, pack_node, position_of, row_of};
 use std::process::Abort;
 
-/// The node of children 10 and 11 and leaf 12 with the rows `rows`, whose forks are at the positions 4 and 6.
-fn node_over_nodes(rt: &impl Abort, rows: [u32; 3]) -> Node {
+/// The node of height 2 over children 10 and 11, of height 1, and leaf 12, with these rows, and forks at the positions 4 and 6. Panics if
+/// no node has these rows.
+fn node_of_two_children_and_leaf(rt: &impl Abort, rows: [u32; 3]) -> Node {
     let mut sparse = [u32::MAX; 32];
     for i in 0..3 {
         sparse[i] = rows[i];
@@ -38,9 +39,9 @@ fn expect_beside(rt: &impl Abort, node: &Node, want: &[Option<(u8, u16)>]) {
 /// In nodes of two, three and 32 entries the slot beside each is found, or none where several are beside it.
 #[test]
 fn places_are_beside_others(rt: HostRuntime) {
-    let last = node_over_nodes(&rt, [0, 0x4000_0000, 0x8000_0000]);
+    let last = node_of_two_children_and_leaf(&rt, [0, 0x4000_0000, 0x8000_0000]);
     expect_beside(&rt, &last, &[Some((1, 6)), Some((0, 6)), None]);
-    let first = node_over_nodes(&rt, [0, 0x8000_0000, 0xc000_0000]);
+    let first = node_of_two_children_and_leaf(&rt, [0, 0x8000_0000, 0xc000_0000]);
     expect_beside(&rt, &first, &[None, Some((2, 6)), Some((1, 6))]);
     let two = Node::pair(7, Entry::Leaf(0), Entry::Leaf(1));
     expect_beside(&rt, &two, &[Some((1, 7)), Some((0, 7))]);
@@ -139,14 +140,14 @@ fn close_fork_at(rt: &impl Abort, node: &Node, at: u8) -> (Option<Entry>, [u64; 
 /// Closing a fork gives the words of a pair, from either side; of a node of two the entry alone is left.
 #[test]
 fn one_entry_takes_the_place_of_two(rt: HostRuntime) {
-    let last = node_over_nodes(&rt, [0, 0x4000_0000, 0x8000_0000]);
+    let last = node_of_two_children_and_leaf(&rt, [0, 0x4000_0000, 0x8000_0000]);
     let want = pack_node(&Node::pair(4, child_entry(20), Entry::Leaf(12)));
     assert!(rt; want[0] == 131_330 && want[1] == 0xffff_ffff_ffff_0004 && want[9] == 1 << 63);
     for at in 0..2 {
         let (left, words) = close_fork_at(&rt, &last, at);
         assert!(rt; left.is_none() && words == want, "{at}");
     }
-    let first = node_over_nodes(&rt, [0, 0x8000_0000, 0xc000_0000]);
+    let first = node_of_two_children_and_leaf(&rt, [0, 0x8000_0000, 0xc000_0000]);
     let want = pack_node(&Node::pair(4, child_entry(10), child_entry(20)));
     for at in 1..3 {
         let (left, words) = close_fork_at(&rt, &first, at);

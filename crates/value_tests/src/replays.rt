@@ -176,7 +176,7 @@ fn expect_pairs(rt: &impl Abort, alloc: Global, replay: &Replay, changes: u64, w
     }
 }
 
-/// A replay of no event yet, for `layout`; panics if that is a fault.
+/// A replay of no event yet, for `layout`. Panics if `layout` is a fault or memory is refused.
 fn make_replay(rt: &impl Abort, alloc: Global, layout: Result<Layout, LayoutFault>) -> Replay {
     let Ok(layout) = layout else {
         panic!(rt; "no layout");

@@ -100,7 +100,8 @@ pub fn descent_goes_on()
     ensures { WayGoesOn }
 {}
 
-/// The descent ends at a leaf. Before the first node's first fork, the leaf's key agrees with a key that the node had.
+/// If a descent from a node has come to a leaf, and the leaf's words were read, then the leaf's key agrees, before the node's first fork,
+/// with a key that the node had.
 pub fn descent_ends()
     ensures { WayEnds }
 {}

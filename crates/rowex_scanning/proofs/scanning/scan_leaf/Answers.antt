@@ -39,8 +39,8 @@ returns-then-is_earlier_key-clause-scanned g c =
     leaf_early c.args.range.now.direction (asked_range c.args.range.now) (root_read g (goal.at.returns-then-is_earlier_key-clause-scanned g c).After-load_leaf-length) c.requires.empty
     (subst (IsEarlier c.args.range.now.direction (take c.load_leaf-length.result.0 c.load_leaf-length.new.places)) (c.as_bytes.ensures.bytes ∙ c.first_key.ensures) (c.is_earlier_key.ensures.earlier c.if-is_earlier_key.true))
 
-pub take_pair-requires-clause-reached : goal.take_pair-requires-clause-reached
-take_pair-requires-clause-reached g c =
+pub append_pair_in_range-requires-clause-reached : goal.append_pair_in_range-requires-clause-reached
+append_pair_in_range-requires-clause-reached g c =
     subst (λ z. IsNoLater c.args.range.now.direction z (take c.load_leaf-length.result.0 c.load_leaf-length.new.places)) (c.as_bytes.ensures.bytes ∙ c.first_key.ensures) (c.is_earlier_key.ensures.no_later c.if-is_earlier_key.false)
 
 pub returns-in_err-take_pair-clause-reads : goal.returns-in_err-take_pair-clause-reads
