@@ -49,7 +49,7 @@ passed g c n next =
     let r = request_of c.args.scan.now.range.now in let top = c.loop-seat.top in let frames = c.loop-seat.way.items in
     let count = length (take c.load_entries_ahead-ahead.result.count c.load_entries_ahead-ahead.new.leaves) in let k = c.append_pairs_of_leaves.new.seat.known in let pairs = c.append_pairs_of_leaves.new.pairs in
     let p = taken_all (HavePassed k (since c.load_entries_ahead-ahead.new.seat.known) r frames (top, c.loop-seat.pairs) count pairs) (HasScanned r.0 k r.1 pairs)
-    (c.in_ok-take_leaves.ensures.taken top frames next) c.in-Further.is in
+    (c.in_ok-append_pairs_of_leaves.ensures.taken top frames next) c.in-Further.is in
     subst (λ z. HavePassed k (since c.args.seat.now.known) r frames (top, c.loop-seat.pairs) z pairs) n
     (subst (λ z. HavePassed k z r frames (top, c.loop-seat.pairs) count pairs) (same_since (reads_trans c.loop-seat.invariant.reads.3 c.load_entries_ahead-ahead.ensures.reads.2)) p)
 
@@ -100,22 +100,22 @@ append_pairs_of_leaves-requires-clause-reader g c = reader_then c.loop-seat.inva
 pub append_pairs_of_leaves-requires-clause-next : goal.append_pairs_of_leaves-requires-clause-next
 append_pairs_of_leaves-requires-clause-next g c = (c.loop-seat.top, c.loop-seat.way.items, next g (goal.at.append_pairs_of_leaves-requires-clause-next g c).After-load_entries_ahead-ahead)
 
-pub returns-in_err-take_leaves-clause-reads : goal.returns-in_err-take_leaves-clause-reads
-returns-in_err-take_leaves-clause-reads g c = let at = goal.at.returns-in_err-take_leaves-clause-reads g c in paid g at.After-append_pairs_of_leaves (long g at.After-load_entries_ahead-ahead)
+pub returns-in_err-append_pairs_of_leaves-clause-reads : goal.returns-in_err-append_pairs_of_leaves-clause-reads
+returns-in_err-append_pairs_of_leaves-clause-reads g c = let at = goal.at.returns-in_err-append_pairs_of_leaves-clause-reads g c in paid g at.After-append_pairs_of_leaves (long g at.After-load_entries_ahead-ahead)
 
 pub returns-in-Past-clause-reads : goal.returns-in-Past-clause-reads
 returns-in-Past-clause-reads g c = let at = goal.at.returns-in-Past-clause-reads g c in paid g at.After-append_pairs_of_leaves (long g at.After-load_entries_ahead-ahead)
 
 pub returns-in-Past-clause-scanned : goal.returns-in-Past-clause-scanned
 returns-in-Past-clause-scanned g c =
-    rw c.in-Past.is at (c.in_ok-take_leaves.ensures.taken c.loop-seat.top c.loop-seat.way.items (next g (goal.at.returns-in-Past-clause-scanned g c).After-load_entries_ahead-ahead))
+    rw c.in-Past.is at (c.in_ok-append_pairs_of_leaves.ensures.taken c.loop-seat.top c.loop-seat.way.items (next g (goal.at.returns-in-Past-clause-scanned g c).After-load_entries_ahead-ahead))
 
 pub returns-in-Full-clause-reads : goal.returns-in-Full-clause-reads
 returns-in-Full-clause-reads g c = let at = goal.at.returns-in-Full-clause-reads g c in paid g at.After-append_pairs_of_leaves (long g at.After-load_entries_ahead-ahead)
 
 pub returns-in-Full-clause-scanned : goal.returns-in-Full-clause-scanned
 returns-in-Full-clause-scanned g c =
-    rw c.in-Full.is at (c.in_ok-take_leaves.ensures.taken c.loop-seat.top c.loop-seat.way.items (next g (goal.at.returns-in-Full-clause-scanned g c).After-load_entries_ahead-ahead))
+    rw c.in-Full.is at (c.in_ok-append_pairs_of_leaves.ensures.taken c.loop-seat.top c.loop-seat.way.items (next g (goal.at.returns-in-Full-clause-scanned g c).After-load_entries_ahead-ahead))
 
 pub push-requires : goal.push-requires
 push-requires g c = (omega arith, way_short c.loop-seat.invariant.walk c.loop-seat.invariant.reader.1)
