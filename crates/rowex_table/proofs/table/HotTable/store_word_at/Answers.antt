@@ -3,7 +3,7 @@ use Rattle.std.proofs.Common.{rules, refl, sym, ap, ◌∙◌}
 use Rattle.rowex_table.specs.Rule.{found_by}
 use Rattle.rowex_table.specs.Seats.{TableView, SeatView}
 use Rattle.rowex_table.proofs.Keeping.{allows_me, in_words, steps_with}
-use Rattle.rowex_table.proofs.table.HotTable.store_at.Goals as goal
+use Rattle.rowex_table.proofs.table.HotTable.store_word_at.Goals as goal
 
 pub store-requires : goal.store-requires
 store-requires g c = (search rules, in_words _ _ _ _ _ c.self.invariant.0 (ap (λ (z : TableView). z.layout) c.self.view_is) c.requires.place, allows_me _ _ _ _ _ _ _ _ _ _ _ _ _ (c.self.invariant.1 ∙ ap (λ (z : TableView). z.layout) c.self.view_is) c.requires.apt.0 c.seat.invariant.0 (sym (ap (λ (z : SeatView). z.known) c.seat.view_is)) refl c.requires.place.0 c.requires.writes.0 (λ w. c.requires.writes.1 c.args.new ∙ sym (c.requires.writes.1 w)) c.requires.apt.2)

@@ -3,7 +3,7 @@ use Rattle.std.proofs.Common.{rules, ◌≡◌, Some, Option, sym, ap, ◌∙◌
 use Rattle.record_words.specs.declared.layout.Layout.{Layout}
 use Rattle.rowex_table.specs.Seats.{TableView}
 use Rattle.rowex_table.proofs.Dealing.{joins, meets, meeting, parts, paired_me, apart_met}
-use Rattle.rowex_table.proofs.table.HotTable.meet_as.Goals as goal
+use Rattle.rowex_table.proofs.table.HotTable.meet_seats_as.Goals as goal
 
 pub join_seat-requires : goal.join_seat-requires
 join_seat-requires g c = (search rules, search rules, ap (λ m. m.1) c.second.invariant.0, search rules, joins c.self.inside.table.shared.key _ _ _ _ _ _ _ _ (ap (λ m. m.0) c.first.invariant.0) (ap (λ m. m.0) c.second.invariant.0))
