@@ -6,11 +6,11 @@ use Rattle.rowex_records.specs.Records.{SetsSome}
 use Rattle.rowex_records.proofs.SetAll.{set_claimed, sets_leaf_head, sets_leaf_more, sets_count, sets_leaf}
 use Rattle.rowex_records.proofs.filling.fill_leaf.Goals as goal
 
-pub set_word-requires-clause-held : goal.set_word-requires-clause-held
-set_word-requires-clause-held g c = set_claimed _ _ (a_leaf c.args.number) 1 _ _ _ c.store_word.ensures c.requires.held
+pub store_word_if_changed-requires-clause-held : goal.store_word_if_changed-requires-clause-held
+store_word_if_changed-requires-clause-held g c = set_claimed _ _ (a_leaf c.args.number) 1 _ _ _ c.store_word.ensures c.requires.held
 
 pub loop-index-init : goal.loop-index-init
-loop-index-init g c = sets_leaf_head _ _ c.args.number _ (c.args.key.now, c.args.value) _ _ _ c.requires.held (search rules) c.store_word.ensures c.set_word.ensures
+loop-index-init g c = sets_leaf_head _ _ c.args.number _ (c.args.key.now, c.args.value) _ _ _ c.requires.held (search rules) c.store_word.ensures c.store_word_if_changed.ensures
 
 pub loop-index-preserved : goal.loop-index-preserved
 loop-index-preserved g c =

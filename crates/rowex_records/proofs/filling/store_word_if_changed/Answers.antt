@@ -4,7 +4,7 @@ use Rattle.rowex_records.specs.Records.{load_of_word}
 use Rattle.rowex_table.specs.Runs.{Steps}
 use Rattle.rowex_table.proofs.Rights.{fills}
 use Rattle.rowex_records.proofs.SetAll.{load_claimed, sets_found, sets_mended}
-use Rattle.rowex_records.proofs.filling.set_word.Goals as goal
+use Rattle.rowex_records.proofs.filling.store_word_if_changed.Goals as goal
 
 pub fill_at-requires-clause-may : goal.fill_at-requires-clause-may
 fill_at-requires-clause-may g c =

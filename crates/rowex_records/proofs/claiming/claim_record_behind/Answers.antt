@@ -3,9 +3,9 @@ use Rattle.std.proofs.Common.{arith, ◌≡◌, ◌<◌, ◌≤◌, ◌+◌, ◌
 use Rattle.std.specs.Prelude.{None}
 use Rattle.rowex_records.specs.Claims.{GoesOnBehind, begin_of, count_of}
 use Rattle.rowex_records.proofs.Claimed.{behind_claims, behind_none, behind_span, next_turn, turned_low, turned_over}
-use Rattle.rowex_records.proofs.claiming.claim_behind.Goals as goal
-use Rattle.rowex_records.proofs.claiming.claim_behind.Goals.{In-loop-tried}
-use Rattle.rowex_records.proofs.claiming.claim_behind.Given.{Over}
+use Rattle.rowex_records.proofs.claiming.claim_record_behind.Goals as goal
+use Rattle.rowex_records.proofs.claiming.claim_record_behind.Goals.{In-loop-tried}
+use Rattle.rowex_records.proofs.claiming.claim_record_behind.Given.{Over}
 
 pub loop-tried-init : goal.loop-tried-init
 loop-tried-init g c =

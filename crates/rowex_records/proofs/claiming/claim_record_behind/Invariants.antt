@@ -2,7 +2,7 @@
 use Rattle.std.specs.Prelude.{◌≡◌, ◌≤◌, ◌-◌, None}
 use Rattle.rowex_table.specs.Seats.{IsSeatOf}
 use Rattle.rowex_records.specs.Claims.{GoesOnBehind, count_of, wrapped}
-use Rattle.rowex_records.proofs.claiming.claim_behind.Given as goal
+use Rattle.rowex_records.proofs.claiming.claim_record_behind.Given as goal
 
 abbrev pub invariant-loop-tried : goal.invariant-loop-tried
 invariant-loop-tried g l = record {

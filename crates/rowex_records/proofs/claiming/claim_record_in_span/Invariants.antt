@@ -3,7 +3,7 @@ use Rattle.std.specs.Prelude.{◌≡◌, ◌+◌, None}
 use Rattle.rowex_table.specs.Seats.{IsSeatOf}
 use Rattle.rowex_records.specs.Claims.{GoesOnTrying}
 use Rattle.rowex_records.specs.Starts.{first_word}
-use Rattle.rowex_records.proofs.claiming.claim_in_span.Given as goal
+use Rattle.rowex_records.proofs.claiming.claim_record_in_span.Given as goal
 
 abbrev pub invariant-loop-index : goal.invariant-loop-index
 invariant-loop-index g l = record {
