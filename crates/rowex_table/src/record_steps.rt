@@ -46,8 +46,8 @@ impl HotTable {
         ensures { IsStartOf self.now.layout rec result }
     {
         match rec {
-            Rec::Node(number) => self.origins.node(number),
-            Rec::Leaf(number) => self.origins.leaf(number),
+            Rec::Node(number) => self.origins.start_of_node(number),
+            Rec::Leaf(number) => self.origins.start_of_leaf(number),
         }
     }
 

@@ -36,7 +36,7 @@ module _ (c : After-min-end) (node : NodeView) (lawful : IsLawfulNode node) (sam
   row = get_or node.rows c.args.found 0
 
   below : n ≡ front_below c.args.position node.columns
-  below = columns_are c.args.words.now c.quarters-positions.result c.args.position n c.ranges.position.fits c.count_below.ensures c.quarters-positions.ensures.whole c.quarters-positions.ensures.each
+  below = columns_are c.args.words.now c.split_into_quarters-positions.result c.args.position n c.ranges.position.fits c.count_below.ensures c.split_into_quarters-positions.ensures.whole c.split_into_quarters-positions.ensures.each
       node lawful same
 
   few : n ≤ 31
@@ -86,8 +86,8 @@ module _ (c : After-min-end) (node : NodeView) (lawful : IsLawfulNode node) (sam
 pub overflow_shr-rest : goal.overflow_shr-rest
 overflow_shr-rest c =
     let words = c.args.words.now in let given = c.requires.spelling in
-    let below = columns_are words c.quarters-positions.result c.args.position c.count_below.result c.ranges.position.fits c.count_below.ensures
-    c.quarters-positions.ensures.whole c.quarters-positions.ensures.each (its words given) (lawful_its words given) (same_its words given) in
+    let below = columns_are words c.split_into_quarters-positions.result c.args.position c.count_below.result c.ranges.position.fits c.count_below.ensures
+    c.split_into_quarters-positions.ensures.whole c.split_into_quarters-positions.ensures.each (its words given) (lawful_its words given) (same_its words given) in
     omega (arith, below, few_below (its words given) (lawful_its words given) c.args.position)
 
 pub overflow_sub-result : goal.overflow_sub-result
