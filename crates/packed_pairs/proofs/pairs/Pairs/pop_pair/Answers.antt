@@ -2,8 +2,8 @@
 use Rattle.std.proofs.Common.{◌-◌, length, take, drop, ap, refl, sym, ◌∙◌, arith}
 use Rattle.packed_pairs.proofs.Backwards.{IsTaken, taken}
 use Rattle.packed_pairs.proofs.Fits.{popped}
-use Rattle.packed_pairs.proofs.pairs.Pairs.pop.Goals as goal
-use Rattle.packed_pairs.proofs.pairs.Pairs.pop.Goals.{After-truncate}
+use Rattle.packed_pairs.proofs.pairs.Pairs.pop_pair.Goals as goal
+use Rattle.packed_pairs.proofs.pairs.Pairs.pop_pair.Goals.{After-truncate}
 
 last : (c : After-truncate) → IsTaken c.self.inside.heads.items c.pop.new.self.items c.in-Some.head c.self.inside.bytes.items c.truncate.new.self.items (drop (length c.self.inside.bytes.items - c.in-Some.head.count) c.self.inside.bytes.items)
 last c =

@@ -1,7 +1,7 @@
 -- All 64 bytes, of which those behind the key go again.
 use Rattle.std.proofs.Common.{◌≡◌, ◌+◌, ◌++◌, length, take, take-take, ap, ◌∙◌, arith}
 use Rattle.std.proofs.Math.Seq.{take-append-add}
-use Rattle.packed_pairs.proofs.pairs.append_short.Goals as goal
+use Rattle.packed_pairs.proofs.pairs.append_short_key.Goals as goal
 
 pub returns : goal.returns
 returns c =
