@@ -19,7 +19,7 @@ use std::simd::prelude::*;
 /// The sparse partial keys rise. So those that agree in the first columns are a run, from the least number with these bits in front up to
 /// the greatest.
 #[inline(always)]
-pub fn affected_in(words: &[u64], found: u8, position: u16) -> (u8, u8)
+pub fn affected_places(words: &[u64], found: u8, position: u16) -> (u8, u8)
     requires long { length words.now ≡ HEAD_WORDS }
     requires spelling { IsSpelling HasHeadWords head_words words.now }
     requires in_range { InNodesOf words.now (λ node. found < length node.entries) }

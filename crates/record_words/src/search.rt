@@ -17,9 +17,9 @@ use partial_keys::{extract_by_lanes, search_rows};
 use std::simd::prelude::*;
 
 /// The dense partial key of `key` for each node whose head begins with `words`: the bit of column j is bit 31-j. The positions are read
-/// as a vector as they stand. `search_in` needs the words behind these alone, so a caller can load those later.
+/// as a vector as they stand. `search_row_words` needs the words behind these alone, so a caller can load those later.
 #[inline(always)]
-pub fn extract_in(words: &[u64; FIRST_ROWS], key: &Key) -> u32
+pub fn extract_dense_key(words: &[u64; FIRST_ROWS], key: &Key) -> u32
     requires { IsSpelling HasHeadWords front_words words.now }
     ensures { (node : NodeView) → IsLawfulNode node → front_words (head_of node) ≡ words.now → result ≡ dense_of node.columns (bit_of key.now) }
 {
@@ -30,7 +30,7 @@ pub fn extract_in(words: &[u64; FIRST_ROWS], key: &Key) -> u32
 /// The slot to which the forks lead, in each node whose head ends with `words`, by the dense partial key `dense`. As `Head::search`, but
 /// no head is made: the sparse partial keys are searched as a vector as they stand.
 #[inline(always)]
-pub fn search_in(words: &[u64; ROW_WORDS], dense: u32) -> u8
+pub fn search_row_words(words: &[u64; ROW_WORDS], dense: u32) -> u8
     requires { IsSpelling HasHeadWords back_words words.now }
     ensures { (node : NodeView) → IsLawfulNode node → back_words (head_of node) ≡ words.now →
         (bit : ℕ → Bool) → dense ≡ dense_of node.columns bit → result ≡ leads_to bit (piece node) }

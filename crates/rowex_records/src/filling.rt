@@ -16,7 +16,9 @@ ghost use Rattle.rowex_table.specs.Seats.{IsSeatOf};
 ghost use Rattle.rowex_records.specs.Records.{HaveBelow, IsFilled, IsFilledLeaf, IsLookedAt, Readies, Sets, SetsAll, SetsMore, SetsSome, load_of_word, unused_word};
 
 use key_bits::Key;
-use record_words::{FIRST_ENTRY, FIRST_ROWS, HEAD_WORDS, NODE_FIELDS, key_word_at, key_words};
+use record_words::{
+    FIRST_ENTRY, FIRST_ROWS, HEAD_WORDS, NODE_FIELDS, count_key_words, key_word_at,
+};
 use rowex_core::{Gate, Rec};
 use rowex_table::{HotTable, NodeAt, RecordAt, TableSeat};
 use std::ops::Range;
@@ -48,7 +50,7 @@ pub fn fill_leaf<G: Gate>(
     let at = RecordAt { rec, start };
     store_word(table, seat, gate, at, 1, value);
     store_word_if_changed(table, seat, gate, at, 2, length);
-    for index in 0..key_words(length) {
+    for index in 0..count_key_words(length) {
         let word = key_word_at(key, index);
         store_word(table, seat, gate, at, index as u8 + 3, word);
     }

@@ -18,7 +18,7 @@ loop-index-preserved g c =
 
 pub returns-clause-fills : goal.returns-clause-fills
 returns-clause-fills g c =
-    let end : c.loop-index.index + 2 ≡ words_for (length c.args.key.now) - 1 = omega (arith, c.loop-index-test.false, c.loop-index.auto.index-end, c.key_words-index-end.ensures, ap length c.as_bytes.ensures.bytes) in
+    let end : c.loop-index.index + 2 ≡ words_for (length c.args.key.now) - 1 = omega (arith, c.loop-index-test.false, c.loop-index.auto.index-end, c.count_key_words-index-end.ensures, ap length c.as_bytes.ensures.bytes) in
     subst (λ k. SetsSome c.args.table.now g.G.Gate.becomes (a_leaf c.args.number) (leaf_words (c.args.key.now, c.args.value)) k (c.args.seat.now, c.args.gate.now) (c.loop-index.seat, c.loop-index.gate)) end c.loop-index.invariant
 
 pub returns-clause-filled : goal.returns-clause-filled
@@ -28,4 +28,4 @@ returns-clause-filled g c =
 pub returns-clause-steps : goal.returns-clause-steps
 returns-clause-steps g c =
     let few = sets_count _ _ (a_leaf c.args.number) _ (c.loop-index.index + 2) _ _ c.loop-index.invariant in
-    omega (arith, few, c.loop-index.auto.index-end, c.key_words-index-end.ensures, c.as_bytes.ensures.key.short, ap length c.as_bytes.ensures.bytes)
+    omega (arith, few, c.loop-index.auto.index-end, c.count_key_words-index-end.ensures, c.as_bytes.ensures.key.short, ap length c.as_bytes.ensures.bytes)

@@ -4,7 +4,7 @@ use Rattle.compound_node.proofs.Lawful.{head_leads}
 use Rattle.compound_node.specs.Nodes.{head_of}
 use Rattle.partial_keys.proofs.Search.{first_is_zero}
 use Rattle.record_words.specs.HeadParts.{back_words}
-use Rattle.record_words.proofs.search.search_in.Goals as goal
+use Rattle.record_words.proofs.search.search_row_words.Goals as goal
 
 pub search_rows-requires : goal.search_rows-requires
 search_rows-requires c =

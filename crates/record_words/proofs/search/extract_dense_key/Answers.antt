@@ -9,7 +9,7 @@ use Rattle.record_words.specs.HeadParts.{front_words}
 use Rattle.record_words.specs.Node.{head_words}
 use Rattle.record_words.proofs.Lanes.{column_lanes, eight_at, place_lanes_read}
 use Rattle.record_words.proofs.Spelled.{columns_counted}
-use Rattle.record_words.proofs.search.extract_in.Goals as goal
+use Rattle.record_words.proofs.search.extract_dense_key.Goals as goal
 
 -- the lanes of such words, and a node
 module _ (words lanes : List ℕ) (long : length lanes ≡ 32) (each : (i : ℕ) → i < 32 → get_or lanes i 0 ≡ get_or (chunk 0 8 (take 8 (drop 1 words))) (i / 4) 0 / 2 ^ (16 * (i % 4)) % 2 ^ 16)
