@@ -1,6 +1,6 @@
 //! The laws of the table. The functions do nothing: their contracts are the laws.
 
-ghost use Rattle.rowex_table.specs.Statements.{CallStepsAreInOneRun, StepsAreInOneRun, GateIsToldEachStep, TracesAreOfOneRun};
+ghost use Rattle.rowex_table.specs.Statements.{CallStepsAreInOneRun, GateIsToldEachStep, StepsAreInOneRun, TracesAreOfOneRun};
 
 use rowex_core::Gate;
 
