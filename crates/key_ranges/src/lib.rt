@@ -38,11 +38,11 @@ pub fn previous_key(key: &Key) -> Option<Key>
         return Some(last_with_prefix(&key_with_last_byte(front, *last - 1)));
     }
     // Between a key and the same with a byte of 0 behind it there is none.
-    Some(key_of_front(front))
+    Some(key_from_bytes(front))
 }
 
 /// The key of the bytes `front`, `MAX_BYTES` at most.
-fn key_of_front(front: &[u8]) -> Key
+fn key_from_bytes(front: &[u8]) -> Key
     requires { IsKey front.now }
     ensures { result ≡ front.now }
 {
