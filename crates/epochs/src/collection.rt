@@ -84,7 +84,7 @@ pub fn collect_round<G: Gate>(table: &HotTable, seat: &mut TableSeat, gate: &mut
 /// stands in the list's `given` then.
 ///
 /// The cost doesn't grow with the number of the table's records. The pass has no pin.
-pub fn collect_small<G: Gate>(
+pub fn collect_small_round<G: Gate>(
     table: &HotTable,
     seat: &mut TableSeat,
     gate: &mut G,
@@ -135,13 +135,13 @@ fn find_bound<G: Gate>(table: &HotTable, seat: &mut TableSeat, gate: &mut G) -> 
     for pass in 0..table.layout().passes {
         let of = pass as u16;
         let word = table.load_pin(seat, gate, of);
-        bound = lower_bound(bound, word);
+        bound = bound_with_pin(bound, word);
     }
     bound
 }
 
 /// The lower of `bound` and `word`, a pin's word; `bound` if `word` is 0, which is no pin.
-fn lower_bound(bound: u64, word: u64) -> u64
+fn bound_with_pin(bound: u64, word: u64) -> u64
     ensures none { word ≡ 0 → result ≡ bound }
     ensures pinned { 1 ≤ word → result ≡ min bound word }
 {
@@ -255,11 +255,11 @@ fn visit_limbo<G: Gate>(
     let count = limbo.count().min(MOST_VISITED);
     for index in 0..count {
         if !visit_waiting(table, seat, gate, limbo, bound, index) {
-            limbo.drop_oldest(index);
+            limbo.drop_oldest_records(index);
             return;
         }
     }
-    limbo.drop_oldest(count);
+    limbo.drop_oldest_records(count);
 }
 
 /// Visits the record that waits at `index` in `limbo`, counted from 0 at the oldest. Returns whether it leaves the list: not if it has to
@@ -277,7 +277,7 @@ fn visit_waiting<G: Gate>(
     ensures same { (seat.new.known.pin ≡ seat.old.known.pin) × (seat.new.known.round ≡ seat.old.known.round) }
     ensures steps { VisitsSome table.now G.becomes bound 1 (seat.old, gate.old) (seat.new, gate.new) }
 {
-    let rec = limbo.waiting_at(index);
+    let rec = limbo.waiting_record(index);
     if !has_record(table.layout(), rec) {
         return true;
     }

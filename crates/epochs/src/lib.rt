@@ -22,7 +22,7 @@
 //! # Rounds
 //!
 //! A full round ([`collect_round`]) visits each record of the table, so its cost grows with the table. A small round
-//! ([`collect_small`]) visits the records that the pass has retired itself. These stand in its limbo list ([`Limbo`]), oldest
+//! ([`collect_small_round`]) visits the records that the pass has retired itself. These stand in its limbo list ([`Limbo`]), oldest
 //! first. A call that changes the index begins with a small round once the pass has retired 32 records since its last one. So
 //! each retired record is visited soon, and a full round is left for an attempt that was refused as full.
 //!
@@ -38,6 +38,6 @@ pub mod laws;
 mod limbo;
 mod pinning;
 
-pub use collection::{Collected, Given, collect_round, collect_small};
+pub use collection::{Collected, Given, collect_round, collect_small_round};
 pub use limbo::{Limbo, MOST_VISITED};
 pub use pinning::{pin, unpin};

@@ -86,7 +86,7 @@ impl Limbo {
     }
 
     /// The record that waits at `index`, which is below `count` and counted from 0 at the oldest.
-    pub(crate) fn waiting_at(&self, index: usize) -> Rec {
+    pub(crate) fn waiting_record(&self, index: usize) -> Rec {
         self.waiting[self.first.wrapping_add(index) % MOST_WAITING]
     }
 
@@ -106,7 +106,7 @@ impl Limbo {
     }
 
     /// Takes the oldest `count` records out of the list; all, if there are fewer.
-    pub(crate) fn drop_oldest(&mut self, count: usize)
+    pub(crate) fn drop_oldest_records(&mut self, count: usize)
         ensures { (self.new.count ≡ self.old.count - count) × (self.new.retired ≡ self.old.retired) }
     {
         self.first = self.first.wrapping_add(count) % MOST_WAITING;

@@ -16,12 +16,12 @@ pub fn next_key(key: &Key) -> Option<Key>
 {
     let mut rest = key.as_bytes();
     if rest.len() < MAX_BYTES {
-        return Some(with_byte(rest, 0));
+        return Some(key_with_last_byte(rest, 0));
     }
     // No byte has room behind these, so one of them is greater in the next key, and those behind it are gone.
     while let Some((last, front)) = rest.split_last() {
         if *last < u8::MAX {
-            return Some(with_byte(front, *last + 1));
+            return Some(key_with_last_byte(front, *last + 1));
         }
         rest = front;
     }
@@ -35,14 +35,14 @@ pub fn previous_key(key: &Key) -> Option<Key>
 {
     let (last, front) = key.as_bytes().split_last()?;
     if *last > 0 {
-        return Some(last_with_prefix(&with_byte(front, *last - 1)));
+        return Some(last_with_prefix(&key_with_last_byte(front, *last - 1)));
     }
     // Between a key and the same with a byte of 0 behind it there is none.
-    Some(of_front(front))
+    Some(key_from_bytes(front))
 }
 
 /// The key of the bytes `front`, `MAX_BYTES` at most.
-fn of_front(front: &[u8]) -> Key
+fn key_from_bytes(front: &[u8]) -> Key
     requires { IsKey front.now }
     ensures { result ≡ front.now }
 {
@@ -52,7 +52,7 @@ fn of_front(front: &[u8]) -> Key
 }
 
 /// The key of the bytes `front`, which has room for one more, and `last` behind them.
-fn with_byte(front: &[u8], last: u8) -> Key
+fn key_with_last_byte(front: &[u8], last: u8) -> Key
     requires key { IsKey front.now }
     requires room { length front.now < MAX_BYTES }
     ensures { result ≡ front.now ++ last ∷ [] }

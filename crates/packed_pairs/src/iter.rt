@@ -39,20 +39,20 @@ impl<'a> Iter<'a> {
     /// The next pair, with a key that is a value of its own; `None` if no pair is left. Inline, so that the key is made where the caller
     /// wants it.
     #[inline(always)]
-    pub(crate) fn next_key(&mut self) -> Option<(Key, u64)>
+    pub(crate) fn next_pair(&mut self) -> Option<(Key, u64)>
         ensures { YieldsFirst (λ i. i) self.old result self.new }
     {
         let (head, heads) = self.heads.split_first()?;
         let (key, bytes) = self.bytes.split_at(head.count as usize);
         self.heads = heads;
         self.bytes = bytes;
-        Some((key_of(key), head.value))
+        Some((key_from_bytes(key), head.value))
     }
 }
 
 /// The key of `bytes`, `MAX_BYTES` at most. Inline, as its caller is.
 #[inline(always)]
-pub(crate) fn key_of(bytes: &[u8]) -> Key
+pub(crate) fn key_from_bytes(bytes: &[u8]) -> Key
     requires { IsKey bytes.now }
     ensures { result ≡ bytes.now }
 {

@@ -5,7 +5,7 @@ ghost use Rattle.key_bits.specs.Key.{IsKey};
 ghost use Rattle.key_bits.specs.declared.TheConstants.{MAX_BYTES};
 ghost use Rattle.packed_pairs.specs.Last.{IsLastKey};
 
-use crate::iter::{Iter, key_of};
+use crate::iter::{Iter, key_from_bytes};
 use key_bits::{Key, MAX_BYTES};
 use std::alloc::{AllocError, Global};
 use std::marker::Model;
@@ -87,7 +87,7 @@ impl Pairs {
         ensures err { OnErr result (self.new ≡ self.old) }
     {
         self.heads.reserve(1)?;
-        append(&mut self.bytes, places, length)?;
+        append_key_bytes(&mut self.bytes, places, length)?;
         self.heads.push_reserved(Head {
             count: length as u8,
             value,
@@ -101,7 +101,7 @@ impl Pairs {
     {
         let (head, _) = self.heads.split_last()?;
         let (_, key) = self.bytes.split_at(self.bytes.len() - head.count as usize);
-        Some(key_of(key))
+        Some(key_from_bytes(key))
     }
 
     /// The pairs, from the first one on.
@@ -121,7 +121,7 @@ impl Pairs {
         let mut list = Vec::new(alloc);
         list.reserve(self.len())?;
         let mut rest = self.iter();
-        while let Some((key, value)) = rest.next_key() {
+        while let Some((key, value)) = rest.next_pair() {
             list.push_reserved((key, value));
         }
         Ok(list)
@@ -133,7 +133,11 @@ impl Pairs {
 /// Most keys are short, and a copy of a number of bytes that is known beforehand needs no call. So, where there is room, eight bytes are
 /// copied for a key of eight. For other keys of up to 64, it copies 64 bytes, and drops those behind the key.
 #[inline(always)]
-fn append(bytes: &mut Vec<u8>, places: &[u8; MAX_BYTES], length: usize) -> Result<(), AllocError>
+fn append_key_bytes(
+    bytes: &mut Vec<u8>,
+    places: &[u8; MAX_BYTES],
+    length: usize,
+) -> Result<(), AllocError>
     requires { length ≤ MAX_BYTES }
     ensures items { bytes.new.items ≡ if is_ok result then bytes.old.items ++ take length places.now else bytes.old.items }
 {
@@ -142,14 +146,14 @@ fn append(bytes: &mut Vec<u8>, places: &[u8; MAX_BYTES], length: usize) -> Resul
         return bytes.extend_from_slice(&places[..8]);
     }
     if length <= 64 && room >= 64 {
-        return append_short(bytes, places, length);
+        return append_short_key(bytes, places, length);
     }
-    append_any(bytes, &places[..length])
+    append_key_of_any_length(bytes, &places[..length])
 }
 
-/// Does what [`append`] does, for a key of up to 64 bytes: copies 64, and drops those behind the key.
+/// Does what [`append_key_bytes`] does, for a key of up to 64 bytes: copies 64, and drops those behind the key.
 #[inline(always)]
-fn append_short(
+fn append_short_key(
     bytes: &mut Vec<u8>,
     places: &[u8; MAX_BYTES],
     length: usize,
@@ -166,7 +170,7 @@ fn append_short(
 /// Adds `key`, of any length, to the end of `bytes`. An error if memory is refused: `bytes` stay as they are. Never inline, so that callers
 /// have less code for short keys.
 #[inline(never)]
-fn append_any(bytes: &mut Vec<u8>, key: &[u8]) -> Result<(), AllocError>
+fn append_key_of_any_length(bytes: &mut Vec<u8>, key: &[u8]) -> Result<(), AllocError>
     ensures items { bytes.new.items ≡ if is_ok result then bytes.old.items ++ key.now else bytes.old.items }
 {
     bytes.extend_from_slice(key)

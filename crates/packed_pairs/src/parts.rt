@@ -15,7 +15,7 @@ impl Pairs {
     }
 
     /// Takes out the last pair, if there is one. The list keeps its memory.
-    fn pop(&mut self)
+    fn pop_pair(&mut self)
         ensures { self.new ≡ take (pred (length self.old)) self.old }
     {
         if let Some(head) = self.heads.pop() {
@@ -28,7 +28,7 @@ impl Pairs {
         ensures { self.new ≡ fitting room self.old }
     {
         while self.key_bytes() > room {
-            self.pop();
+            self.pop_pair();
         }
     }
 

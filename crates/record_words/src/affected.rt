@@ -8,7 +8,7 @@ ghost use Rattle.record_words.specs.Packed.{row_at};
 ghost use Rattle.record_words.specs.Reading.{IsSpelling};
 
 use crate::numbers::{read_numbers, row_of};
-use crate::search::{quarters, rows_in};
+use crate::search::{rows_in, split_into_quarters};
 use crate::{FIRST_ROWS, HEAD_WORDS};
 use partial_keys::count_below;
 use std::simd::prelude::*;
@@ -19,14 +19,14 @@ use std::simd::prelude::*;
 /// The sparse partial keys rise. So those that agree in the first columns are a run, from the least number with these bits in front up to
 /// the greatest.
 #[inline(always)]
-pub fn affected_in(words: &[u64], found: u8, position: u16) -> (u8, u8)
+pub fn affected_places(words: &[u64], found: u8, position: u16) -> (u8, u8)
     requires long { length words.now ≡ HEAD_WORDS }
     requires spelling { IsSpelling HasHeadWords head_words words.now }
     requires in_range { InNodesOf words.now (λ node. found < length node.entries) }
     ensures from { InNodesOf words.now (λ node. affected_first position found (piece node) ≡ result.0) }
     ensures upto { InNodesOf words.now (λ node. affected_count position found (piece node) + result.0 ≡ result.1 + 1) }
 {
-    let positions = quarters(u64x8::from_slice(&words[1..]));
+    let positions = split_into_quarters(u64x8::from_slice(&words[1..]));
     let rest = u32::MAX >> count_below(positions, position);
     let row = row_in(words, found);
     let rows = rows_in(&words[FIRST_ROWS..]);

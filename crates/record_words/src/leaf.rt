@@ -9,7 +9,7 @@ use crate::{KEY_WORDS, LEAF_FIELDS};
 use key_bits::{Key, MAX_BYTES};
 
 /// How many words the bytes of a key of `length` bytes take in a leaf.
-pub fn key_words(length: u64) -> usize
+pub fn count_key_words(length: u64) -> usize
     requires { length ≤ MAX_BYTES }
     ensures { result ≡ words_of_key length }
 {
@@ -17,11 +17,11 @@ pub fn key_words(length: u64) -> usize
 }
 
 /// How many words a leaf record needs for `key`: those of the state, the value and the length, and the key's own.
-pub fn words_for(key: &Key) -> usize
+pub fn count_leaf_words(key: &Key) -> usize
     ensures words { result ≡ words_for (length key.now) }
     ensures few { result ≤ LEAF_WORDS }
 {
-    3 + key_words(key.as_bytes().len() as u64)
+    3 + count_key_words(key.as_bytes().len() as u64)
 }
 
 /// The word of the eight bytes of `key` from byte `8 * j` on, the first in its highest bits. Bytes past the key's end are 0.
@@ -43,7 +43,7 @@ pub fn pack_leaf(key: &Key, value: u64) -> [u64; LEAF_FIELDS]
     let mut words = [0; LEAF_FIELDS];
     words[0] = value;
     words[1] = length;
-    for j in 0..key_words(length) {
+    for j in 0..count_key_words(length) {
         words[2 + j] = key_word_at(key, j);
     }
     words

@@ -13,15 +13,15 @@ mod search;
 mod state;
 mod stock;
 
-pub use affected::affected_in;
+pub use affected::affected_places;
 pub use entry::{pack_entry, read_entry, read_some_entry};
 use key_bits::MAX_BYTES;
 pub use layout::{Layout, LayoutFault, LeafClass, Location, Stock};
-pub use leaf::{key_word_at, key_words, pack_leaf, words_for, write_word};
+pub use leaf::{count_key_words, count_leaf_words, key_word_at, pack_leaf, write_word};
 pub use node::{add_leaf, can_take_leaf, close_fork, drop_entry, pack_node, read_node};
 pub use numbers::{HeadNumbers, position_of, read_numbers, row_of};
 pub use origins::Origins;
-pub use search::{extract_in, search_in};
+pub use search::{extract_dense_key, search_row_words};
 pub use state::{Tag, obsolete_word, pack_state, unpack_state};
 
 /// Epochs are below this number, and at least 1.

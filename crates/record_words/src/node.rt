@@ -14,7 +14,7 @@ ghost use Rattle.record_words.specs.Reading.{IsSpelledBy, IsSpelling};
 use crate::entry::{pack_entry, read_some_entry};
 use crate::fixed::{read_positions, word_of_numbers, word_of_positions, words_of_rows};
 use crate::numbers::read_numbers;
-use crate::search::{has_lane, quarters, rows_in};
+use crate::search::{has_lane, rows_in, split_into_quarters};
 use crate::{FIRST_ROWS, HEAD_WORDS, HEIGHT_BIT, MAX_ENTRIES, NODE_FIELDS};
 use arrayvec::ArrayVec;
 use compound_node::{Entry, Head, Node, fork_rows};
@@ -98,7 +98,7 @@ fn add_fork(words: &mut [u64; NODE_FIELDS], first: u8, last: u8, position: u16, 
     requires below { position < 65535 }
     ensures { (node : NodeView) → CanGrowAt words.old node position first last → HasHead words.old words.new (forked_head 1 position first last bit (head_of node)) }
 {
-    let positions = quarters(u64x8::from_slice(&words[1..]));
+    let positions = split_into_quarters(u64x8::from_slice(&words[1..]));
     if !has_lane(positions, position) {
         return add_fork_by_head(words, first, last, position, bit);
     }

@@ -37,7 +37,7 @@ impl Origins {
 
     /// The number of the first word of node record `number`.
     #[inline(always)]
-    pub fn node(&self, number: u32) -> usize
+    pub fn start_of_node(&self, number: u32) -> usize
         ensures { result ≡ node_start self.now.layout number }
     {
         self.nodes + NODE_WORDS * number as usize
@@ -45,7 +45,7 @@ impl Origins {
 
     /// The number of the first word of leaf record `number`.
     #[inline(always)]
-    pub fn leaf(&self, number: u32) -> usize
+    pub fn start_of_leaf(&self, number: u32) -> usize
         ensures { result ≡ leaf_start self.now.layout number }
     {
         let (short_upto, long_from) = (self.layout.medium_from, self.layout.long_from);
@@ -64,8 +64,8 @@ impl Origins {
         ensures { result ≡ address self.now.layout location }
     {
         match location {
-            Location::NodeWord { node, offset } => self.node(node) + offset as usize,
-            Location::LeafWord { leaf, offset } => self.leaf(leaf) + offset as usize,
+            Location::NodeWord { node, offset } => self.start_of_node(node) + offset as usize,
+            Location::LeafWord { leaf, offset } => self.start_of_leaf(leaf) + offset as usize,
             _ => self.layout.address(location),
         }
     }

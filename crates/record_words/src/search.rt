@@ -17,20 +17,20 @@ use partial_keys::{extract_by_lanes, search_rows};
 use std::simd::prelude::*;
 
 /// The dense partial key of `key` for each node whose head begins with `words`: the bit of column j is bit 31-j. The positions are read
-/// as a vector as they stand. `search_in` needs the words behind these alone, so a caller can load those later.
+/// as a vector as they stand. `search_row_words` needs the words behind these alone, so a caller can load those later.
 #[inline(always)]
-pub fn extract_in(words: &[u64; FIRST_ROWS], key: &Key) -> u32
+pub fn extract_dense_key(words: &[u64; FIRST_ROWS], key: &Key) -> u32
     requires { IsSpelling HasHeadWords front_words words.now }
     ensures { (node : NodeView) → IsLawfulNode node → front_words (head_of node) ≡ words.now → result ≡ dense_of node.columns (bit_of key.now) }
 {
-    let positions = quarters(u64x8::from_slice(&words[1..]));
+    let positions = split_into_quarters(u64x8::from_slice(&words[1..]));
     extract_by_lanes(positions, read_numbers(words[0]).columns, key)
 }
 
 /// The slot to which the forks lead, in each node whose head ends with `words`, by the dense partial key `dense`. As `Head::search`, but
 /// no head is made: the sparse partial keys are searched as a vector as they stand.
 #[inline(always)]
-pub fn search_in(words: &[u64; ROW_WORDS], dense: u32) -> u8
+pub fn search_row_words(words: &[u64; ROW_WORDS], dense: u32) -> u8
     requires { IsSpelling HasHeadWords back_words words.now }
     ensures { (node : NodeView) → IsLawfulNode node → back_words (head_of node) ≡ words.now →
         (bit : ℕ → Bool) → dense ≡ dense_of node.columns bit → result ≡ leads_to bit (piece node) }
@@ -45,8 +45,8 @@ pub(crate) fn rows_in(words: &[u64]) -> u32x32
     requires { length words.now ≡ ROW_WORDS }
     ensures { (node : NodeView) → IsLawfulNode node → back_words (head_of node) ≡ words.now → result ≡ with_unused node.rows }
 {
-    let low = halves(u64x8::from_slice(words));
-    let high = halves(u64x8::from_slice(&words[8..]));
+    let low = split_into_halves(u64x8::from_slice(words));
+    let high = split_into_halves(u64x8::from_slice(&words[8..]));
     low.shuffle::<32>(
         high,
         [
@@ -58,7 +58,7 @@ pub(crate) fn rows_in(words: &[u64]) -> u32x32
 
 /// The four quarters of 16 bits of each of `words`, that with the lowest bits first.
 #[inline(always)]
-pub(crate) fn quarters(words: u64x8) -> u16x32
+pub(crate) fn split_into_quarters(words: u64x8) -> u16x32
     ensures whole { length result ≡ 32 }
     ensures each { (i : ℕ) → i < 32 → slice_index result i ≡ slice_index words (i / 4) / 2 ^ (16 * (i % 4)) % 2 ^ 16 }
 {
@@ -75,7 +75,7 @@ pub(crate) fn has_lane(lanes: u16x32, number: u16) -> bool
 
 /// The two halves of 32 bits of each of `words`, the low one first.
 #[inline(always)]
-pub(crate) fn halves(words: u64x8) -> u32x16
+pub(crate) fn split_into_halves(words: u64x8) -> u32x16
     ensures whole { length result ≡ 16 }
     ensures each { (i : ℕ) → i < 16 → slice_index result i ≡ slice_index words (i / 2) / 2 ^ (32 * (i % 2)) % 2 ^ 32 }
 {

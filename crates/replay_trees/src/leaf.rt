@@ -7,7 +7,7 @@ ghost use Rattle.record_words.specs.Leaf.{HasLeafWords, IsBytesOf, leaf_words, u
 ghost use Rattle.record_words.specs.Reading.{IsReading};
 
 use key_bits::{Key, MAX_BYTES};
-use record_words::{LEAF_FIELDS, WordFault, key_words, write_word};
+use record_words::{LEAF_FIELDS, WordFault, count_key_words, write_word};
 
 /// The key and the value of a leaf record with `words` from offset 1 on. Those behind its key may be any. `WordFault::Bad` if no leaf has
 /// the words up to there.
@@ -49,7 +49,7 @@ fn unpack_key_bytes(words: &[u64; LEAF_FIELDS]) -> [u8; MAX_BYTES]
     ensures { IsBytesOf result (take KEY_WORDS (drop 2 (up_to_key words.now))) }
 {
     let mut bytes = [0; MAX_BYTES];
-    for j in 0..key_words(words[1]) {
+    for j in 0..count_key_words(words[1]) {
         write_word(&mut bytes, j, words[2 + j]);
     }
     bytes

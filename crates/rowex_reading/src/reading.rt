@@ -19,8 +19,8 @@ use compound_node::Entry;
 use insert_cases::PathNode;
 use key_bits::{Key, MAX_BYTES};
 use record_words::{
-    FIRST_ROWS, HEAD_WORDS, ROW_WORDS, extract_in, key_word_at, key_words, read_entry,
-    read_some_entry, search_in, write_word,
+    FIRST_ROWS, HEAD_WORDS, ROW_WORDS, count_key_words, extract_dense_key, key_word_at, read_entry,
+    read_some_entry, search_row_words, write_word,
 };
 use rowex_core::{Gate, Rec, Spot};
 use rowex_table::{HotTable, LeafAt, NodeAt, TableSeat};
@@ -126,7 +126,7 @@ pub fn search_node<G: Gate>(
 {
     let mut front = [0; FIRST_ROWS];
     load_head_part(table, seat, gate, node, 0, &mut front);
-    let dense = extract_in(&front, key);
+    let dense = extract_dense_key(&front, key);
     let mut back = [0; ROW_WORDS];
     load_head_part(table, seat, gate, node, FIRST_ROWS, &mut back);
     PathNode {
@@ -134,7 +134,7 @@ pub fn search_node<G: Gate>(
         height: (front[0] / 65_536) as u16,
         first_position: (front[1] % 65_536) as u16,
         count: (front[0] % 256) as u8,
-        at: search_in(&back, dense),
+        at: search_row_words(&back, dense),
     }
 }
 
@@ -191,7 +191,7 @@ pub fn load_leaf<G: Gate>(
         write_word(places, 0, word);
         return (length as usize, value);
     }
-    let used = 2 + key_words(length);
+    let used = 2 + count_key_words(length);
     for index in 2..used {
         let word = table.load_fixed_at(seat, gate, rec, start, index as u8 + 1);
         write_word(places, index - 2, word);
@@ -245,7 +245,7 @@ fn compare_leaf<G: Gate>(
     if table.load_fixed_at(seat, gate, rec, leaf.start, 2) != size {
         return None;
     }
-    let end = 2 + key_words(size);
+    let end = 2 + count_key_words(size);
     for index in 2..end {
         let word = table.load_fixed_at(seat, gate, rec, leaf.start, index as u8 + 1);
         if word != key_word_at(key, index - 2) {

@@ -110,7 +110,7 @@ pub fn claim_record<G: Gate>(
     ensures held { IfSome result (λ number. (number < count_of kind table.now.layout) × IsClaimed seat.new.known (record_of kind number)) }
 {
     let mut left = kind.count(table.layout());
-    claim_within(table, seat, gate, kind, from, &mut left)
+    claim_record_within(table, seat, gate, kind, from, &mut left)
 }
 
 /// Claims the first record of `kind` that it finds free, of the next `left` ones from number `from` on. Returns its number; `None` if
@@ -119,7 +119,7 @@ pub fn claim_record<G: Gate>(
 /// It tries records as [`claim_record`] does, but no more than `left`, which is then less by those that were tried. Inline, for callers
 /// know the kind.
 #[inline(always)]
-pub fn claim_within<G: Gate>(
+pub fn claim_record_within<G: Gate>(
     table: &HotTable,
     seat: &mut TableSeat,
     gate: &mut G,
@@ -138,7 +138,7 @@ pub fn claim_within<G: Gate>(
     ensures held { IfSome result (λ number. (number < count_of kind table.now.layout) × IsClaimed seat.new.known (record_of kind number)) }
 {
     let most = kind.count(table.layout()).min(*left);
-    let (claimed, tried) = claim_and_count(table, seat, gate, kind, from, most);
+    let (claimed, tried) = claim_and_count_tries(table, seat, gate, kind, from, most);
     *left -= tried;
     claimed
 }
@@ -146,7 +146,7 @@ pub fn claim_within<G: Gate>(
 /// Claims the first record of `kind` that it finds free, of the next `most` from number `from` on. Returns its number, or `None` if none
 /// of them was free, and how many it tried. Mostly the first one is free: only behind it are records tried span by span.
 #[inline(always)]
-fn claim_and_count<G: Gate>(
+fn claim_and_count_tries<G: Gate>(
     table: &HotTable,
     seat: &mut TableSeat,
     gate: &mut G,
@@ -165,15 +165,15 @@ fn claim_and_count<G: Gate>(
     }
     let begin = first_number(from, kind.count(table.layout()));
     let at = table.locate(kind.record_at(begin));
-    if try_claim(table, seat, gate, at) {
+    if try_claim_record(table, seat, gate, at) {
         return (Some(begin), 1);
     }
-    claim_behind(table, seat, gate, kind, begin, most)
+    claim_record_behind(table, seat, gate, kind, begin, most)
 }
 
 /// Claims the first record of `kind` that it finds free behind number `begin`, which was not free, span by span. It tries no more than
 /// `most`, with that one. Returns the record's number, or `None` if none was free, and how many were tried, with that one.
-fn claim_behind<G: Gate>(
+fn claim_record_behind<G: Gate>(
     table: &HotTable,
     seat: &mut TableSeat,
     gate: &mut G,
@@ -196,7 +196,7 @@ fn claim_behind<G: Gate>(
     while tried < most {
         let span = kind.span_at(&layout, number);
         let count = span.count.min(most - tried);
-        if let Some(index) = claim_in_span(table, seat, gate, kind, Span { count, ..span }) {
+        if let Some(index) = claim_record_in_span(table, seat, gate, kind, Span { count, ..span }) {
             return (Some(number + index), tried + index + 1);
         }
         tried += count;
@@ -207,7 +207,7 @@ fn claim_behind<G: Gate>(
 
 /// Claims the first record of `span`, of records of `kind`, that it finds free. Returns how many it tried before that one; `None` if none
 /// was free.
-fn claim_in_span<G: Gate>(
+fn claim_record_in_span<G: Gate>(
     table: &HotTable,
     seat: &mut TableSeat,
     gate: &mut G,
@@ -225,7 +225,7 @@ fn claim_in_span<G: Gate>(
     let mut start = kind.start_at(&table.layout(), span.number);
     for index in 0..span.count {
         let rec = kind.record_at(span.number + index);
-        if try_claim(table, seat, gate, RecordAt { rec, start }) {
+        if try_claim_record(table, seat, gate, RecordAt { rec, start }) {
             return Some(index);
         }
         start += span.size;
@@ -233,10 +233,10 @@ fn claim_in_span<G: Gate>(
     None
 }
 
-/// Claims the record of `kind` with this number, counted from the first record of the kind on, if it is free. Returns whether the pass has
-/// it now. From the count of the kind on it is `false`, with no step. `gate` is told each step. Inline, since callers know the kind.
+/// Claims the record of `kind` with this `number`, counted from 0 at the first of the kind, if it is free. Returns whether the pass has it
+/// now. If the kind has no such number: `false`, and no step. `gate` is told each step. Inline, since callers know the kind.
 #[inline(always)]
-pub fn claim_numbered<G: Gate>(
+pub fn claim_by_number<G: Gate>(
     table: &HotTable,
     seat: &mut TableSeat,
     gate: &mut G,
@@ -254,11 +254,16 @@ pub fn claim_numbered<G: Gate>(
         return false;
     }
     let at = table.locate(kind.record_at(number));
-    try_claim(table, seat, gate, at)
+    try_claim_record(table, seat, gate, at)
 }
 
 /// Loads the state of the record `at`, and tries to claim the record if the state is free. Returns whether the pass has it now.
-fn try_claim<G: Gate>(table: &HotTable, seat: &mut TableSeat, gate: &mut G, at: RecordAt) -> bool
+fn try_claim_record<G: Gate>(
+    table: &HotTable,
+    seat: &mut TableSeat,
+    gate: &mut G,
+    at: RecordAt,
+) -> bool
     requires own { IsSeatOf table.now seat.old }
     requires start { IsStartOf table.now.layout at.rec at.start }
     ensures missed { result ≡ false → MissesOne table.now G.becomes at.rec (seat.old, gate.old) (seat.new, gate.new) }
@@ -280,7 +285,7 @@ fn first_number(from: u32, all: u32) -> u32
 }
 
 /// Makes `rec`, which the pass has claimed and not made ready, free again.
-pub fn give_up<G: Gate>(table: &HotTable, seat: &mut TableSeat, gate: &mut G, rec: Rec)
+pub fn give_up_record<G: Gate>(table: &HotTable, seat: &mut TableSeat, gate: &mut G, rec: Rec)
     requires own { IsSeatOf table.now seat.old }
     requires range { HasRecord table.now.layout rec }
     requires held { IsClaimed seat.old.known rec }
@@ -290,13 +295,13 @@ pub fn give_up<G: Gate>(table: &HotTable, seat: &mut TableSeat, gate: &mut G, re
 }
 
 /// Makes the records `recs` free again, which are all that the pass has. Each of them is claimed and not made ready.
-pub fn give_up_all<G: Gate>(table: &HotTable, seat: &mut TableSeat, gate: &mut G, recs: &[Rec])
+pub fn give_up_records<G: Gate>(table: &HotTable, seat: &mut TableSeat, gate: &mut G, recs: &[Rec])
     requires own { IsSeatOf table.now seat.old }
     requires range { All (HasRecord table.now.layout) recs.now }
     requires held { HoldsJust seat.old.known recs.now }
     ensures { GivesUpAll table.now G.becomes recs.now (seat.old, gate.old) (seat.new, gate.new) }
 {
     for index in 0..recs.len() {
-        give_up(table, seat, gate, recs[index]);
+        give_up_record(table, seat, gate, recs[index]);
     }
 }

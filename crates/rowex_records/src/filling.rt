@@ -16,7 +16,9 @@ ghost use Rattle.rowex_table.specs.Seats.{IsSeatOf};
 ghost use Rattle.rowex_records.specs.Records.{HaveBelow, IsFilled, IsFilledLeaf, IsLookedAt, Readies, Sets, SetsAll, SetsMore, SetsSome, load_of_word, unused_word};
 
 use key_bits::Key;
-use record_words::{FIRST_ENTRY, FIRST_ROWS, HEAD_WORDS, NODE_FIELDS, key_word_at, key_words};
+use record_words::{
+    FIRST_ENTRY, FIRST_ROWS, HEAD_WORDS, NODE_FIELDS, count_key_words, key_word_at,
+};
 use rowex_core::{Gate, Rec};
 use rowex_table::{HotTable, NodeAt, RecordAt, TableSeat};
 use std::ops::Range;
@@ -47,8 +49,8 @@ pub fn fill_leaf<G: Gate>(
     let start = table.start_of(rec);
     let at = RecordAt { rec, start };
     store_word(table, seat, gate, at, 1, value);
-    set_word(table, seat, gate, at, 2, length);
-    for index in 0..key_words(length) {
+    store_word_if_changed(table, seat, gate, at, 2, length);
+    for index in 0..count_key_words(length) {
         let word = key_word_at(key, index);
         store_word(table, seat, gate, at, index as u8 + 3, word);
     }
@@ -82,20 +84,20 @@ pub fn fill_node<G: Gate>(
     let leads = HEAD_WORDS + entries;
     store_word(table, seat, gate, RecordAt { rec, start }, 1, words[0]);
     let node = NodeAt { number, start };
-    set_eight(table, seat, gate, node, words, 1..positions);
-    set_eight(table, seat, gate, node, words, 9..rows);
-    set_eight(table, seat, gate, node, words, 17..rows);
-    set_eight(table, seat, gate, node, words, 25..leads);
-    set_eight(table, seat, gate, node, words, 33..leads);
-    set_eight(table, seat, gate, node, words, 41..leads);
-    set_eight(table, seat, gate, node, words, 49..leads);
+    set_eight_words(table, seat, gate, node, words, 1..positions);
+    set_eight_words(table, seat, gate, node, words, 9..rows);
+    set_eight_words(table, seat, gate, node, words, 17..rows);
+    set_eight_words(table, seat, gate, node, words, 25..leads);
+    set_eight_words(table, seat, gate, node, words, 33..leads);
+    set_eight_words(table, seat, gate, node, words, 41..leads);
+    set_eight_words(table, seat, gate, node, words, 49..leads);
 }
 
 /// Makes the claimed node record `node` have the eight of `words` from index `used.start` on. Those within `used` have something of the
 /// node, and are stored. The others have nothing: each is loaded, and stored only where another stands. Inline, so that each offset is a
 /// constant.
 #[inline(always)]
-fn set_eight<G: Gate>(
+fn set_eight_words<G: Gate>(
     table: &HotTable,
     seat: &mut TableSeat,
     gate: &mut G,
@@ -125,7 +127,7 @@ fn set_eight<G: Gate>(
         if index < used.end {
             store_word(table, seat, gate, at, offset, words[index]);
         } else {
-            set_word(table, seat, gate, at, offset, unused_in_node(offset));
+            store_word_if_changed(table, seat, gate, at, offset, unused_node_word(offset));
         }
     }
 }
@@ -153,7 +155,7 @@ fn store_word<G: Gate>(
 /// Makes the word at `offset` of the claimed record `at` be `word`. It is loaded first, and stored only if another stands there: a key is
 /// often as long as the one before, and a node often has nothing where the one before had nothing.
 #[inline(always)]
-fn set_word<G: Gate>(
+fn store_word_if_changed<G: Gate>(
     table: &HotTable,
     seat: &mut TableSeat,
     gate: &mut G,
@@ -198,7 +200,7 @@ fn load_word<G: Gate>(
 
 /// The word at `offset` of a node record in which the node has nothing: all ones before the first entry, and 0 from there on.
 #[inline(always)]
-fn unused_in_node(offset: u8) -> u64
+fn unused_node_word(offset: u8) -> u64
     ensures { result ≡ unused_word offset }
 {
     if (offset as usize) < FIRST_ENTRY {

@@ -4,5 +4,7 @@
 mod claiming;
 mod filling;
 
-pub use claiming::{RecordKind, claim_numbered, claim_record, claim_within, give_up, give_up_all};
+pub use claiming::{
+    RecordKind, claim_by_number, claim_record, claim_record_within, give_up_record, give_up_records,
+};
 pub use filling::{fill_leaf, fill_node, make_ready};

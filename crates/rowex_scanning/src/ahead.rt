@@ -94,7 +94,7 @@ pub(crate) fn load_entries_ahead<G: Gate>(
     let count = entries_to_come(scan.range.direction, top).min(most_slots(scan.range.limit, pairs));
     let node = NodeAt {
         number: top.number,
-        start: scan.origins.node(top.number),
+        start: scan.origins.start_of_node(top.number),
     };
     let is_touching = should_touch_leaves(count, pairs);
     for index in 0..count {
@@ -132,5 +132,11 @@ fn touch_leaf<G: Gate>(
     requires led { (m : ℕ) × IsLedTo seat.old.known m (LeafEntry number) }
     ensures reads { Reads table.now G.becomes 0 1 (seat.old, gate.old) (seat.new, gate.new) }
 {
-    table.load_fixed_at(seat, gate, Rec::Leaf(number), origins.leaf(number), 2);
+    table.load_fixed_at(
+        seat,
+        gate,
+        Rec::Leaf(number),
+        origins.start_of_leaf(number),
+        2,
+    );
 }

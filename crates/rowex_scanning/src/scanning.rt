@@ -322,7 +322,7 @@ fn take_leaf<G: Gate>(
     ensures taken { IfOk result (IsLeafTaken seat.old.known seat.new.known (request_of scan.now.range.now) number pairs.old pairs.new) }
     ensures refused { OnErr result (IsLeafRefused seat.old.known seat.new.known (asked_range scan.now.range.now) number pairs.old pairs.new) }
 {
-    let start = scan.origins.leaf(number);
+    let start = scan.origins.start_of_leaf(number);
     let leaf = LeafAt { number, start };
     let (length, value) = load_leaf(scan.table, seat, gate, leaf, places);
     if length == 8 {

@@ -16,7 +16,7 @@ use Rattle.rowex_core.specs.Runs.{EventsLead}
 use Rattle.rowex_table.specs.Runs.{StepsWith, silent}
 use Rattle.rowex_table.specs.Seats.{SeatView, TableView}
 use Rattle.rowex_table.specs.declared.traces.TracedView.TheVariants.{Pass}
-use Rattle.rowex_table.specs.Statements.{EndsAreLinked, IsInOneRun, RunsAreLinked, TracesAreOfOneRun, with_notes}
+use Rattle.rowex_table.specs.Statements.{CallStepsAreInOneRun, IsInOneRun, StepsAreInOneRun, TracesAreOfOneRun, with_notes}
 use Rattle.rowex_table.specs.Traces.{IsTableRun, own_acts, taught}
 use Rattle.rowex_table.proofs.ActsLeave.{learned_notes}
 use Rattle.rowex_table.proofs.Onward.{begins_on, led_more, of_one_run, others_begin}
@@ -124,15 +124,15 @@ linked_trans layout acts more said s m t same some first second =
 some_acts : (act : Act) (acts : List Act) → (act ∷ acts) ≢ []
 some_acts act acts e = cc
 
-pub runs_are_linked : {G : Type 0} (becomes : G → Event → G → Type 0) → RunsAreLinked becomes
-runs_are_linked becomes table [] a b run = linked_none table.layout a.0 b.0 (ap (λ z. z.0) run)
-runs_are_linked becomes table (act ∷ acts) a b run = linked_trans table.layout (act ∷ []) acts silent a.0 run.0.0 b.0 run.1.seat.2 (some_acts act []) (linked_one table becomes act silent a run.0 run.1) (runs_are_linked becomes table acts run.0 b run.2)
+pub steps_are_in_one_run : {G : Type 0} (becomes : G → Event → G → Type 0) → StepsAreInOneRun becomes
+steps_are_in_one_run becomes table [] a b run = linked_none table.layout a.0 b.0 (ap (λ z. z.0) run)
+steps_are_in_one_run becomes table (act ∷ acts) a b run = linked_trans table.layout (act ∷ []) acts silent a.0 run.0.0 b.0 run.1.seat.2 (some_acts act []) (linked_one table becomes act silent a run.0 run.1) (steps_are_in_one_run becomes table acts run.0 b run.2)
 
-pub ends_are_linked : {G : Type 0} (becomes : G → Event → G → Type 0) → EndsAreLinked becomes
-ends_are_linked {G = G} becomes table [] act said a b ends = subst (λ (z : SeatView × G). IsInOneRun table.layout (act ∷ []) said z.0 b.0) ends.1 (linked_one table becomes act said ends.0 b ends.2)
-ends_are_linked becomes table (x ∷ acts) act said a b ends =
+pub call_steps_are_in_one_run : {G : Type 0} (becomes : G → Event → G → Type 0) → CallStepsAreInOneRun becomes
+call_steps_are_in_one_run {G = G} becomes table [] act said a b ends = subst (λ (z : SeatView × G). IsInOneRun table.layout (act ∷ []) said z.0 b.0) ends.1 (linked_one table becomes act said ends.0 b ends.2)
+call_steps_are_in_one_run becomes table (x ∷ acts) act said a b ends =
     linked_trans table.layout (x ∷ []) (acts ++ act ∷ []) said a.0 ends.1.0.0 b.0 ends.1.1.seat.2 (some_acts x []) (linked_one table becomes x silent a ends.1.0 ends.1.1)
-    (ends_are_linked becomes table acts act said ends.1.0 b (ends.0, ends.1.2, ends.2))
+    (call_steps_are_in_one_run becomes table acts act said ends.1.0 b (ends.0, ends.1.2, ends.2))
 
 -- Runs of several passes
 

@@ -7,7 +7,7 @@ use Rattle.rowex_core.specs.declared.event.Event.{Event}
 use Rattle.rowex_core.specs.declared.known.Known.{Known}
 use Rattle.rowex_table.specs.Seats.{TableView, SeatView, IsSame}
 use Rattle.rowex_table.specs.Runs.{IsTold, events_of, Steps, Runs, Ends, Does, InTurn}
-use Rattle.rowex_table.specs.Statements.{RunsAreTold}
+use Rattle.rowex_table.specs.Statements.{GateIsToldEachStep}
 
 -- One seat
 
@@ -98,5 +98,5 @@ module _ {G : Type 0} (table : TableView) (becomes : G → Event → G → Type 
 
 -- The law
 
-pub runs_are_told : {G : Type 0} (becomes : G → Event → G → Type 0) → RunsAreTold becomes
-runs_are_told becomes table acts a b run = runs_told table becomes acts a b run
+pub gate_is_told_each_step : {G : Type 0} (becomes : G → Event → G → Type 0) → GateIsToldEachStep becomes
+gate_is_told_each_step becomes table acts a b run = runs_told table becomes acts a b run

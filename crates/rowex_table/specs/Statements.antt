@@ -20,8 +20,8 @@ use Rattle.rowex_table.specs.Runs.{Ends, IsTold, Runs, events_of, silent}
 use Rattle.rowex_table.specs.Traces.{IsTableRun, RunBeginsWith, own_acts, taught}
 
 -- the gate of a run is told the event of each of its steps, in order, and nothing else
-abbrev pub RunsAreTold : {G : Type 0} → (G → Event → G → Type 0) → Type 0
-RunsAreTold {G = G} becomes = (table : TableView) (acts : List Act) (a b : SeatView × G) → Runs table becomes acts a b →
+abbrev pub GateIsToldEachStep : {G : Type 0} → (G → Event → G → Type 0) → Type 0
+GateIsToldEachStep {G = G} becomes = (table : TableView) (acts : List Act) (a b : SeatView × G) → Runs table becomes acts a b →
     IsTold becomes (events_of a.0.known.pass acts) a.1 b.1
 
 -- with notes by what the pass knows
@@ -39,13 +39,13 @@ pub record IsInOneRun (layout : Layout) (acts : List Act) (said : Known → List
   pub run : IsTableRun layout s.trace ⊎ (acts ≢ []) → IsTableRun layout t.trace
 
 -- So it is with steps of one pass, one after the other,
-abbrev pub RunsAreLinked : {G : Type 0} → (G → Event → G → Type 0) → Type 0
-RunsAreLinked {G = G} becomes = (table : TableView) (acts : List Act) (a b : SeatView × G) → Runs table becomes acts a b →
+abbrev pub StepsAreInOneRun : {G : Type 0} → (G → Event → G → Type 0) → Type 0
+StepsAreInOneRun {G = G} becomes = (table : TableView) (acts : List Act) (a b : SeatView × G) → Runs table becomes acts a b →
     IsInOneRun table.layout acts silent a.0 b.0
 
 -- and with the steps of a call, whose notes come with the last.
-abbrev pub EndsAreLinked : {G : Type 0} → (G → Event → G → Type 0) → Type 0
-EndsAreLinked {G = G} becomes = (table : TableView) (acts : List Act) (act : Act) (said : Known → List Note) (a b : SeatView × G) →
+abbrev pub CallStepsAreInOneRun : {G : Type 0} → (G → Event → G → Type 0) → Type 0
+CallStepsAreInOneRun {G = G} becomes = (table : TableView) (acts : List Act) (act : Act) (said : Known → List Note) (a b : SeatView × G) →
     Ends table becomes acts act said a b → IsInOneRun table.layout (acts ++ act ∷ []) said a.0 b.0
 
 -- By the rule of the table all traces are of one run. Of the steps of which one pass knows, or knew earlier, and those of another, the ones

@@ -21,7 +21,7 @@ impl HotTable {
         ensures { Steps self.now G.becomes (LoadEpoch result) (seat.old, gate.old) (seat.new, gate.new) }
     {
         let epoch = self.address_of(Location::Epoch);
-        self.load_at::<Brand, G>(seat, gate, Act::LoadEpoch { word: 0 }, epoch)
+        self.load_word_at::<Brand, G>(seat, gate, Act::LoadEpoch { word: 0 }, epoch)
     }
 
     /// Makes the epoch `expected + 1` if it is `expected`, from 1 to 2^60 - 2; else it stays. Returns the epoch that it found.
@@ -33,7 +33,7 @@ impl HotTable {
         let act = Act::Advance { expected, found: 0 };
         let new = expected + 1;
         let epoch = self.address_of(Location::Epoch);
-        self.exchange_at::<Brand, G>(seat, gate, act, epoch, Exchange { expected, new })
+        self.compare_exchange_at::<Brand, G>(seat, gate, act, epoch, Exchange { expected, new })
     }
 
     /// Stores `word`, the epoch that the pass loaded last, as the pass's pin.
@@ -43,7 +43,7 @@ impl HotTable {
         ensures { Steps self.now G.becomes (SetPin word) (seat.old, gate.old) (seat.new, gate.new) }
     {
         let pin = self.address_of(Location::Pin(seat.number()));
-        self.store_at::<Brand, G>(seat, gate, Act::SetPin { word }, pin, word);
+        self.store_word_at::<Brand, G>(seat, gate, Act::SetPin { word }, pin, word);
     }
 
     /// Stores 0 as the pass's pin. A call ends with this step, and its notes `said` come with it.
@@ -54,7 +54,7 @@ impl HotTable {
         ensures { StepsWith self.now G.becomes ClearPin said (seat.old, gate.old) (seat.new, gate.new) }
     {
         let pin = self.address_of(Location::Pin(seat.number()));
-        self.store_at::<Brand, G>(seat, gate, Act::ClearPin, pin, 0);
+        self.store_word_at::<Brand, G>(seat, gate, Act::ClearPin, pin, 0);
     }
 
     /// Loads the word of the pin of pass `of` and returns it: 0 if that pass isn't pinned.
@@ -64,6 +64,6 @@ impl HotTable {
         ensures { Steps self.now G.becomes (LoadPin of result) (seat.old, gate.old) (seat.new, gate.new) }
     {
         let pin = self.address_of(Location::Pin(of));
-        self.load_at::<Brand, G>(seat, gate, Act::LoadPin { of, word: 0 }, pin)
+        self.load_word_at::<Brand, G>(seat, gate, Act::LoadPin { of, word: 0 }, pin)
     }
 }

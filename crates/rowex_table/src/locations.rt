@@ -22,7 +22,7 @@ pub(crate) fn spot_location(spot: Spot) -> Location
 }
 
 /// The location of the word by which `target` is locked: the anchor, or a node's state.
-pub(crate) fn target_location(target: Target) -> Location
+pub(crate) fn lock_location(target: Target) -> Location
     ensures { result ≡ target_word target }
 {
     match target {

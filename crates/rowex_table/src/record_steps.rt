@@ -46,8 +46,8 @@ impl HotTable {
         ensures { IsStartOf self.now.layout rec result }
     {
         match rec {
-            Rec::Node(number) => self.origins.node(number),
-            Rec::Leaf(number) => self.origins.leaf(number),
+            Rec::Node(number) => self.origins.start_of_node(number),
+            Rec::Leaf(number) => self.origins.start_of_leaf(number),
         }
     }
 
@@ -81,7 +81,7 @@ impl HotTable {
         let (rec, found) = (at.rec, 0);
         let act = Act::Claim { rec, found };
         let (expected, new) = (pack_state(Tag::Free), pack_state(Tag::Held));
-        self.exchange_at::<Brand, G>(seat, gate, act, at.start, Exchange { expected, new })
+        self.compare_exchange_at::<Brand, G>(seat, gate, act, at.start, Exchange { expected, new })
     }
 
     /// Stores `word` at `offset` of `rec`, which the pass holds. `offset` is at least 1, as the state stands at 0.
@@ -112,7 +112,7 @@ impl HotTable {
     {
         let rec = at.rec;
         let act = Act::Fill { rec, offset, word };
-        self.store_at::<Brand, G>(seat, gate, act, at.start + offset as usize, word);
+        self.store_word_at::<Brand, G>(seat, gate, act, at.start + offset as usize, word);
     }
 
     /// Makes `rec`, which the pass holds, live.
@@ -123,7 +123,7 @@ impl HotTable {
         ensures { Steps self.now G.becomes (Ready rec) (seat.old, gate.old) (seat.new, gate.new) }
     {
         let (act, state) = (Act::Ready { rec }, self.start_of(rec));
-        self.store_at::<Brand, G>(seat, gate, act, state, pack_state(Tag::Live));
+        self.store_word_at::<Brand, G>(seat, gate, act, state, pack_state(Tag::Live));
     }
 
     /// Makes `rec`, which the pass holds, free.
@@ -134,7 +134,7 @@ impl HotTable {
         ensures { Steps self.now G.becomes (Release rec) (seat.old, gate.old) (seat.new, gate.new) }
     {
         let (act, state) = (Act::Release { rec }, self.start_of(rec));
-        self.store_at::<Brand, G>(seat, gate, act, state, pack_state(Tag::Free));
+        self.store_word_at::<Brand, G>(seat, gate, act, state, pack_state(Tag::Free));
     }
 
     /// Loads the word at `offset` of `rec`, which is neither its state nor an entry, and returns it.
@@ -170,7 +170,7 @@ impl HotTable {
     {
         let word = 0;
         let act = Act::LoadFixed { rec, offset, word };
-        self.load_at::<Brand, G>(seat, gate, act, start + offset as usize)
+        self.load_word_at::<Brand, G>(seat, gate, act, start + offset as usize)
     }
 
     /// Makes `rec`, which the pass has unlinked, obsolete in `epoch`, which the pass loaded last.
@@ -181,7 +181,7 @@ impl HotTable {
         ensures { Steps self.now G.becomes (Mark rec epoch) (seat.old, gate.old) (seat.new, gate.new) }
     {
         let (act, state) = (Act::Mark { rec, epoch }, self.start_of(rec));
-        self.store_at::<Brand, G>(seat, gate, act, state, obsolete_word(epoch));
+        self.store_word_at::<Brand, G>(seat, gate, act, state, obsolete_word(epoch));
     }
 
     /// Loads the state word of `rec` and returns it.
@@ -201,7 +201,7 @@ impl HotTable {
         ensures { Steps self.now G.becomes (LoadState at.rec result) (seat.old, gate.old) (seat.new, gate.new) }
     {
         let (rec, word) = (at.rec, 0);
-        self.load_at::<Brand, G>(seat, gate, Act::LoadState { rec, word }, at.start)
+        self.load_word_at::<Brand, G>(seat, gate, Act::LoadState { rec, word }, at.start)
     }
 
     /// Makes `rec` free if it is obsolete in `epoch`; else its state stays. Returns the state word that it found: that of `epoch` exactly
@@ -240,6 +240,6 @@ impl HotTable {
         let (rec, found) = (at.rec, 0);
         let act = Act::GiveBack { rec, epoch, found };
         let (expected, new) = (obsolete_word(epoch), pack_state(Tag::Free));
-        self.exchange_at::<Brand, G>(seat, gate, act, at.start, Exchange { expected, new })
+        self.compare_exchange_at::<Brand, G>(seat, gate, act, at.start, Exchange { expected, new })
     }
 }

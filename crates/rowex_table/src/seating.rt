@@ -48,11 +48,11 @@ impl HotTable {
         ensures traces { result.0.trace ≡ result.1.trace }
         ensures shown { IsShownAll self.now.layout first result.0 × IsShownAll self.now.layout second result.1 }
     {
-        self.meet_as::<Brand>(first, second)
+        self.meet_seats_as::<Brand>(first, second)
     }
 
     /// Does what `meet_seats` does, at a table of the layout that `Q` names.
-    fn meet_as<Q: Step>(&self, first: TableSeat, second: TableSeat) -> (TableSeat, TableSeat)
+    fn meet_seats_as<Q: Step>(&self, first: TableSeat, second: TableSeat) -> (TableSeat, TableSeat)
         requires own { IsSeatOf self.now first × IsSeatOf self.now second }
         requires layout { Q.layout ≡ Some self.now.layout }
         ensures own { IsSeatOf self.now result.0 × IsSeatOf self.now result.1 }

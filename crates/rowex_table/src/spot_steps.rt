@@ -11,7 +11,7 @@ ghost use Rattle.rowex_table.specs.Rights.{MayLock};
 ghost use Rattle.rowex_table.specs.Runs.{Steps};
 ghost use Rattle.rowex_table.specs.Seats.{IsSeatOf};
 
-use crate::locations::{spot_location, target_location};
+use crate::locations::{lock_location, spot_location};
 use crate::steps::Exchange;
 use crate::table::{HotTable, TableSeat};
 use record_words::{FIRST_ENTRY, Tag, pack_state};
@@ -26,7 +26,7 @@ impl HotTable {
         ensures { Steps self.now G.becomes (LoadRef spot result) (seat.old, gate.old) (seat.new, gate.new) }
     {
         let entry = self.address_of(spot_location(spot));
-        self.load_at::<Brand, G>(seat, gate, Act::LoadRef { spot, word: 0 }, entry)
+        self.load_word_at::<Brand, G>(seat, gate, Act::LoadRef { spot, word: 0 }, entry)
     }
 
     /// Loads the word of entry `entry` of node `node`, whose record begins at word `start`, and returns it.
@@ -46,7 +46,7 @@ impl HotTable {
     {
         let spot = Spot::Slot { node, entry };
         let address = start + FIRST_ENTRY + entry as usize;
-        self.load_at::<Brand, G>(seat, gate, Act::LoadRef { spot, word: 0 }, address)
+        self.load_word_at::<Brand, G>(seat, gate, Act::LoadRef { spot, word: 0 }, address)
     }
 
     /// Locks `target`, the anchor or a node, if it is live; else its state stays. Returns the state word that it found: that of `Tag::Live`
@@ -59,8 +59,8 @@ impl HotTable {
     {
         let act = Act::Lock { target, found: 0 };
         let (expected, new) = (pack_state(Tag::Live), pack_state(Tag::Locked));
-        let state = self.address_of(target_location(target));
-        self.exchange_at::<Brand, G>(seat, gate, act, state, Exchange { expected, new })
+        let state = self.address_of(lock_location(target));
+        self.compare_exchange_at::<Brand, G>(seat, gate, act, state, Exchange { expected, new })
     }
 
     /// Makes `target`, which the pass has locked, live.
@@ -71,8 +71,8 @@ impl HotTable {
         ensures { Steps self.now G.becomes (Unlock target) (seat.old, gate.old) (seat.new, gate.new) }
     {
         let (act, live) = (Act::Unlock { target }, pack_state(Tag::Live));
-        let state = self.address_of(target_location(target));
-        self.store_at::<Brand, G>(seat, gate, act, state, live);
+        let state = self.address_of(lock_location(target));
+        self.store_word_at::<Brand, G>(seat, gate, act, state, live);
     }
 
     /// Stores the entry word `word` at `spot`, the root or a slot of a node, whose lock the pass has. No other step changes the map.
@@ -83,6 +83,6 @@ impl HotTable {
         ensures { Steps self.now G.becomes (Publish spot word) (seat.old, gate.old) (seat.new, gate.new) }
     {
         let entry = self.address_of(spot_location(spot));
-        self.store_at::<Brand, G>(seat, gate, Act::Publish { spot, word }, entry, word);
+        self.store_word_at::<Brand, G>(seat, gate, Act::Publish { spot, word }, entry, word);
     }
 }

@@ -51,11 +51,11 @@ impl HotTable {
         ensures followed { HasFollowed self.now.layout stamp.front seat.old.known seat.new.known }
         ensures traced { RunBeginsWith seat.new.trace stamp.trace }
     {
-        self.follow_as::<Brand>(seat, stamp);
+        self.follow_stamp_as::<Brand>(seat, stamp);
     }
 
     /// Does what `follow_stamp` does, at a table of the layout that `Q` names.
-    fn follow_as<Q: Step>(&self, seat: &mut TableSeat, stamp: TableStamp)
+    fn follow_stamp_as<Q: Step>(&self, seat: &mut TableSeat, stamp: TableStamp)
         requires own { IsSeatOf self.now seat.old × IsStampOf self.now stamp }
         requires layout { Q.layout ≡ Some self.now.layout }
         ensures same { IsOneSeat seat.old seat.new }

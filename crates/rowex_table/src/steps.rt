@@ -32,7 +32,7 @@ impl HotTable {
 
     /// Loads the table's word number `address` as the step `act`, of which `gate` is told. Returns the word. `Q` has the act and its notes;
     /// what `act` has as found doesn't count.
-    pub(crate) fn load_at<Q: Step, G: Gate>(
+    pub(crate) fn load_word_at<Q: Step, G: Gate>(
         &self,
         seat: &mut TableSeat,
         gate: &mut G,
@@ -49,12 +49,12 @@ impl HotTable {
             .table
             .shared
             .load::<Stepping<Q>>(&mut seat.seat, address);
-        tell_gate(gate, seat, with_found(act, word));
+        tell_gate(gate, seat, act_with_found(act, word));
         word
     }
 
     /// Stores `new` to the table's word number `address` as the step `act`, of which `gate` is told. `Q` has the act and its notes.
-    pub(crate) fn store_at<Q: Step, G: Gate>(
+    pub(crate) fn store_word_at<Q: Step, G: Gate>(
         &self,
         seat: &mut TableSeat,
         gate: &mut G,
@@ -76,7 +76,7 @@ impl HotTable {
 
     /// Stores `exchange.new` to the table's word number `address`, if that is `exchange.expected`, as the step `act`, of which `gate` is
     /// told. Returns the word that it found: it has stored exactly if that is `exchange.expected`. `Q` has the act and its notes.
-    pub(crate) fn exchange_at<Q: Step, G: Gate>(
+    pub(crate) fn compare_exchange_at<Q: Step, G: Gate>(
         &self,
         seat: &mut TableSeat,
         gate: &mut G,
@@ -99,7 +99,7 @@ impl HotTable {
                 exchange.expected,
                 exchange.new,
             );
-        tell_gate(gate, seat, with_found(act, found));
+        tell_gate(gate, seat, act_with_found(act, found));
         found
     }
 }
@@ -113,7 +113,7 @@ fn tell_gate<G: Gate>(gate: &mut G, seat: &TableSeat, act: Act)
 }
 
 /// `act` with `word` as what its step found. The act of a store, which finds none, stays as it is.
-fn with_found(act: Act, word: u64) -> Act
+fn act_with_found(act: Act, word: u64) -> Act
     ensures { result ≡ found_by act word }
 {
     match act {

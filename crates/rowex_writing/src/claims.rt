@@ -17,7 +17,7 @@ use crate::building::Build;
 use arrayvec::ArrayVec;
 use record_words::{LEAF_CLASSES, Layout};
 use rowex_core::{Gate, Rec};
-use rowex_records::{RecordKind, claim_numbered, claim_record, claim_within};
+use rowex_records::{RecordKind, claim_by_number, claim_record, claim_record_within};
 use rowex_table::{HotTable, TableSeat};
 
 /// The most numbers of records of one kind that a pass keeps to begin claims with.
@@ -115,7 +115,7 @@ pub(crate) fn claim_spare_record<G: Gate>(
     ensures few { seat.new.known.steps ≤ seat.old.known.steps + 2 }
 {
     let number = spare.pop()?;
-    if claim_numbered(table, seat, gate, kind, number) {
+    if claim_by_number(table, seat, gate, kind, number) {
         return Some(number);
     }
     None
@@ -273,7 +273,7 @@ fn claim_node_on_walk<G: Gate>(
     if let Some(number) = claim_spare_record(table, seat, gate, RecordKind::Node, &mut hint.spare) {
         return Some(number);
     }
-    let number = claim_within(table, seat, gate, RecordKind::Node, hint.next, left)?;
+    let number = claim_record_within(table, seat, gate, RecordKind::Node, hint.next, left)?;
     hint.next = number + 1;
     Some(number)
 }

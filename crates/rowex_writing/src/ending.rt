@@ -13,7 +13,7 @@ use crate::deeds::Job;
 use crate::locks::unlock_nodes;
 use insert_cases::PathNode;
 use rowex_core::{Gate, Rec, Target};
-use rowex_records::give_up_all;
+use rowex_records::give_up_records;
 use rowex_table::{HotTable, TableSeat};
 
 /// Loads the epoch, straight after a publish, and marks with it the records `gone`, which the publish has unlinked. Then it unlocks the
@@ -60,7 +60,7 @@ pub(crate) fn release_records_and_locks<G: Gate>(
     ensures rest { IsAtRest seat.new.known }
     ensures few { seat.new.known.steps ≤ seat.old.known.steps + length held.now + locks_of job.now.span }
 {
-    give_up_all(table, seat, gate, held);
+    give_up_records(table, seat, gate, held);
     let locked = &job.way[job.span.first_locked()..job.span.len];
     unlock_nodes(table, seat, gate, locked);
     if job.span.end == 0 {

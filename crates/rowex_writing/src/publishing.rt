@@ -5,7 +5,6 @@ ghost use Rattle.finite_map.specs.declared.Change.{Change};
 ghost use Rattle.insert_cases.specs.declared.choice.PathNode.{PathNode as PathNodeView};
 ghost use Rattle.key_bits.specs.Key.{IsKey};
 ghost use Rattle.record_words.specs.Entry.{HasEntryWord, entry_word};
-ghost use Rattle.record_words.specs.Leaf.{words_for};
 ghost use Rattle.versions.specs.declared.Rec.TheVariants.{Node as a_node};
 ghost use Rattle.rowex_core.specs.Reading.{entry_of};
 ghost use Rattle.rowex_table.specs.Made.{Made};
@@ -32,7 +31,7 @@ use arrayvec::ArrayVec;
 use compound_node::Entry;
 use insert_cases::PathNode;
 use key_bits::Key;
-use record_words::{pack_entry, words_for};
+use record_words::{count_leaf_words, pack_entry};
 use rowex_core::{Gate, Rec, Spot};
 use rowex_records::{fill_leaf, make_ready};
 use rowex_table::{HotTable, TableSeat};
@@ -58,7 +57,7 @@ pub(crate) fn make_leaf<G: Gate>(
     ensures few { seat.new.known.steps ≤ seat.old.known.steps + leaf_steps table.now.layout }
 {
     build.made.clear();
-    let number = claim_leaf(table, seat, gate, words_for(key), &mut build.leaves)?;
+    let number = claim_leaf(table, seat, gate, count_leaf_words(key), &mut build.leaves)?;
     fill_leaf(table, seat, gate, number, key, value);
     build.made.push(Rec::Leaf(number));
     Some(number)

@@ -17,7 +17,7 @@ ghost use Rattle.seat_calls.specs.Passes.{pass_of};
 ghost use Rattle.seat_calls.specs.Traces.{AreAttempts, AreTries, HasStepped, IsOneAttempt, Tidies, is_full};
 
 use crate::scratch::Scratch;
-use epochs::{Given, collect_round, collect_small, pin, unpin};
+use epochs::{Given, collect_round, collect_small_round, pin, unpin};
 use finite_map::{Call, Reply};
 use rowex_core::Gate;
 use rowex_table::{HotTable, TableSeat};
@@ -49,7 +49,7 @@ fn collect_due<G: Gate>(table: &HotTable, seat: &mut TableSeat, gate: &mut G, sc
     ensures tidied { Tidies table.now G.becomes (seat.old, gate.old) (seat.new, gate.new) }
 {
     if scratch.limbo.is_due() {
-        collect_small(table, seat, gate, &mut scratch.limbo);
+        collect_small_round(table, seat, gate, &mut scratch.limbo);
         scratch.reuse_given_records(table.layout());
     }
 }

@@ -9,13 +9,13 @@ full bytes key same le = subst (λ (l : List ℕ). MAX_BYTES ≤ length l) same 
 
 pub returns-then-rest-lt-MAX_BYTES-clause-some : goal.returns-then-rest-lt-MAX_BYTES-clause-some
 returns-then-rest-lt-MAX_BYTES-clause-some c =
-    next_longer c.args.key.now c.as_bytes-rest.result.now c.with_byte.result c.as_bytes-rest.ensures.bytes c.as_bytes-rest.ensures.key c.if-rest-lt-MAX_BYTES.true c.with_byte.ensures
+    next_longer c.args.key.now c.as_bytes-rest.result.now c.key_with_last_byte.result c.as_bytes-rest.ensures.bytes c.as_bytes-rest.ensures.key c.if-rest-lt-MAX_BYTES.true c.key_with_last_byte.ensures
 
-pub with_byte-requires-then-last-lt255-clause-key : goal.with_byte-requires-then-last-lt255-clause-key
-with_byte-requires-then-last-lt255-clause-key c = (cut _ _ _ _ _ c.as_bytes-rest.ensures.key c.loop-last.invariant.1 c.in-Some.ensures.cases.0).is_key
+pub key_with_last_byte-requires-then-last-lt255-clause-key : goal.key_with_last_byte-requires-then-last-lt255-clause-key
+key_with_last_byte-requires-then-last-lt255-clause-key c = (cut _ _ _ _ _ c.as_bytes-rest.ensures.key c.loop-last.invariant.1 c.in-Some.ensures.cases.0).is_key
 
 pub returns-then-last-lt255-clause-some : goal.returns-then-last-lt255-clause-some
-returns-then-last-lt255-clause-some c = next_raised _ _ _ _ _ c.as_bytes-rest.ensures.key (full _ _ c.as_bytes-rest.ensures.bytes c.if-rest-lt-MAX_BYTES.false) (cut _ _ _ _ _ c.as_bytes-rest.ensures.key c.loop-last.invariant.1 c.in-Some.ensures.cases.0) c.if-last-lt255.true c.with_byte-then-last-lt255.ensures
+returns-then-last-lt255-clause-some c = next_raised _ _ _ _ _ c.as_bytes-rest.ensures.key (full _ _ c.as_bytes-rest.ensures.bytes c.if-rest-lt-MAX_BYTES.false) (cut _ _ _ _ _ c.as_bytes-rest.ensures.key c.loop-last.invariant.1 c.in-Some.ensures.cases.0) c.if-last-lt255.true c.key_with_last_byte-then-last-lt255.ensures
 
 pub loop-last-preserved : goal.loop-last-preserved
 loop-last-preserved c = cut_more _ _ _ _ (cut _ _ _ _ _ c.as_bytes-rest.ensures.key c.loop-last.invariant.1 c.in-Some.ensures.cases.0) c.if-last-lt255.false

@@ -13,6 +13,6 @@ loop-pass-init g c = record {
 pub loop-pass-preserved : goal.loop-pass-preserved
 loop-pass-preserved g c = record {
   pin = search rules;
-  bound = bound_more _ _ _ _ _ _ _ c.loop-pass.invariant.bound c.load_pin-word.ensures.event c.lower_bound-bound.ensures.none c.lower_bound-bound.ensures.pinned;
+  bound = bound_more _ _ _ _ _ _ _ c.loop-pass.invariant.bound c.load_pin-word.ensures.event c.bound_with_pin-bound.ensures.none c.bound_with_pin-bound.ensures.pinned;
   steps = finds_more _ _ _ _ _ _ _ c.loop-pass.invariant.steps c.load_pin-word.ensures;
 }

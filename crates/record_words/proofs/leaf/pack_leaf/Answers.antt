@@ -14,7 +14,7 @@ returns-clause-words c = leaf_words_made (c.args.key.now, c.args.value) c.loop-j
   value = c.loop-j.invariant.1;
   size = c.loop-j.invariant.2 ∙ ap length c.as_bytes.ensures.bytes;
   bytes = λ j small. ⊎_elim (λ (used : j < c.loop-j.j). c.loop-j.invariant.3 j used)
-      (λ (past : c.loop-j.j ≤ j). c.loop-j.invariant.4 j past small ∙ sym (key_word_past c.args.key.now j (let n = ap length c.as_bytes.ensures.bytes in omega (arith, past, n, c.key_words-j-end.ensures, c.loop-j-test.false)))) (cases_lt j c.loop-j.j);
+      (λ (past : c.loop-j.j ≤ j). c.loop-j.invariant.4 j past small ∙ sym (key_word_past c.args.key.now j (let n = ap length c.as_bytes.ensures.bytes in omega (arith, past, n, c.count_key_words-j-end.ensures, c.loop-j-test.false)))) (cases_lt j c.loop-j.j);
 }
 
 pub returns-clause-fits : goal.returns-clause-fits

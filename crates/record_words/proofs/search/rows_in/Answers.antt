@@ -10,7 +10,7 @@ use Rattle.record_words.proofs.search.rows_in.Goals as goal
 
 pub returns : goal.returns
 returns c = λ node lawful same.
-    let words = c.args.words.now in let all = head_words (head_of node) in let l = c.halves-low in let h = c.halves-high in
+    let words = c.args.words.now in let all = head_words (head_of node) in let l = c.split_into_halves-low in let h = c.split_into_halves-high in
     let word : (j : ℕ) → get_or words j 0 ≡ get_or all (9 + j) 0 = λ j. ap (λ ws. get_or ws j 0) (sym same) ∙ get_or-drop 9 all j 0 in
     let both : length (l.result ++ h.result) ≡ 32 = length-append l.result h.result ∙ omega (arith, l.ensures.whole, h.ensures.whole) in
     pick_l_whole 0 (l.result ++ h.result) 32 both

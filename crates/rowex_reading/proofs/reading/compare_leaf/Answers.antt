@@ -40,9 +40,9 @@ loop-index-init g c =
     (room_of c.args.table.now.layout _ _ c.args.leaf.number (IsKeyWord 2) (words_with c.args.key.now) reader.1 loaded (lit< tt, lit≤ tt) l.0 l.1) in
     record {
       reader = reader;
-      room = omega (arith, c.key_words-end.ensures, size, room);
-      end_is = omega (arith, c.key_words-end.ensures, size);
-      fits = omega (arith, c.key_words-end.ensures, size, short);
+      room = omega (arith, c.count_key_words-end.ensures, size, room);
+      end_is = omega (arith, c.count_key_words-end.ensures, size);
+      fits = omega (arith, c.count_key_words-end.ensures, size, short);
       reads = one;
       loaded = loaded;
     }

@@ -70,8 +70,8 @@ returns-then-length-eq8 g c =
     }
 
 -- Of any other, words are loaded up to the last one.
-pub key_words-used-requires : goal.key_words-used-requires
-key_words-used-requires g c =
+pub count_key_words-used-requires : goal.count_key_words-used-requires
+count_key_words-used-requires g c =
     let f = first_read c.requires.reader c.requires.led c.load_fixed_at-value.ensures c.load_fixed_at-length.ensures in
     let short = f.short in omega (arith, short)
 
@@ -81,9 +81,9 @@ loop-index-init g c =
     let short = f.short in
     record {
       reader = f.reader;
-      used_is = omega (arith, c.key_words-used.ensures);
-      fits = omega (arith, c.key_words-used.ensures, short);
-      room = let room = f.room in omega (arith, c.key_words-used.ensures, room);
+      used_is = omega (arith, c.count_key_words-used.ensures);
+      fits = omega (arith, c.count_key_words-used.ensures, short);
+      room = let room = f.room in omega (arith, c.count_key_words-used.ensures, room);
       reads = f.reads;
       long = search rules;
       small = zero_small MAX_BYTES;

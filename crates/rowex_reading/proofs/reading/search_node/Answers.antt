@@ -14,8 +14,8 @@ are_words g c m h led =
     let e = c.load_head_part.ensures in let f = c.load_head_part-2.ensures in
     both_read _ _ _ _ c.args.node.number c.load_head_part.new.words c.load_head_part-2.new.words (reader_then (reader_then c.requires.reader e.reads) f.reads).1 e.loaded f.loaded e.long f.long m h led
 
-pub extract_in-dense-requires : goal.extract_in-dense-requires
-extract_in-dense-requires g c =
+pub extract_dense_key-dense-requires : goal.extract_dense_key-dense-requires
+extract_dense_key-dense-requires g c =
     let (m, h, led) = c.requires.led in let e = c.load_head_part.ensures in
     front_spelled _ _ _ c.args.node.number c.load_head_part.new.words (reader_then c.requires.reader e.reads).1 e.loaded e.long m h led
 
@@ -30,10 +30,10 @@ overflow_cast-result g c =
     let (m, h, led) = c.requires.led in
     record { fits = front_height_low c.load_head_part.new.words c.load_head_part-2.new.words c.load_head_part.ensures.long (are_words g (goal.at.overflow_cast-result g c).After-load_head_part-2 m h led) }
 
-pub search_in-requires : goal.search_in-requires
-search_in-requires g c =
+pub search_row_words-requires : goal.search_row_words-requires
+search_row_words-requires g c =
     let (m, h, led) = c.requires.led in
-    back_spelled c.load_head_part.new.words c.load_head_part-2.new.words c.load_head_part.ensures.long (are_words g (goal.at.search_in-requires g c).After-load_head_part-2 m h led)
+    back_spelled c.load_head_part.new.words c.load_head_part-2.new.words c.load_head_part.ensures.long (are_words g (goal.at.search_row_words-requires g c).After-load_head_part-2 m h led)
 
 pub returns-clause-reads : goal.returns-clause-reads
 returns-clause-reads g c = reads_trans c.load_head_part.ensures.reads c.load_head_part-2.ensures.reads
@@ -41,4 +41,4 @@ returns-clause-reads g c = reads_trans c.load_head_part.ensures.reads c.load_hea
 pub returns-clause-step : goal.returns-clause-step
 returns-clause-step g c = λ m h led.
     let are = are_words g (goal.at.returns-clause-step g c).After-load_head_part-2 m h led in
-    (are.head, are.seen, step_read c.load_head_part.new.words c.load_head_part-2.new.words c.load_head_part.ensures.long are c.args.key.now c.extract_in-dense.result c.search_in.result c.extract_in-dense.ensures c.search_in.ensures c.args.node.number)
+    (are.head, are.seen, step_read c.load_head_part.new.words c.load_head_part-2.new.words c.load_head_part.ensures.long are c.args.key.now c.extract_dense_key-dense.result c.search_row_words.result c.extract_dense_key-dense.ensures c.search_row_words.ensures c.args.node.number)

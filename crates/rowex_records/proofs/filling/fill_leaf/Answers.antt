@@ -6,11 +6,11 @@ use Rattle.rowex_records.specs.Records.{SetsSome}
 use Rattle.rowex_records.proofs.SetAll.{set_claimed, sets_leaf_head, sets_leaf_more, sets_count, sets_leaf}
 use Rattle.rowex_records.proofs.filling.fill_leaf.Goals as goal
 
-pub set_word-requires-clause-held : goal.set_word-requires-clause-held
-set_word-requires-clause-held g c = set_claimed _ _ (a_leaf c.args.number) 1 _ _ _ c.store_word.ensures c.requires.held
+pub store_word_if_changed-requires-clause-held : goal.store_word_if_changed-requires-clause-held
+store_word_if_changed-requires-clause-held g c = set_claimed _ _ (a_leaf c.args.number) 1 _ _ _ c.store_word.ensures c.requires.held
 
 pub loop-index-init : goal.loop-index-init
-loop-index-init g c = sets_leaf_head _ _ c.args.number _ (c.args.key.now, c.args.value) _ _ _ c.requires.held (search rules) c.store_word.ensures c.set_word.ensures
+loop-index-init g c = sets_leaf_head _ _ c.args.number _ (c.args.key.now, c.args.value) _ _ _ c.requires.held (search rules) c.store_word.ensures c.store_word_if_changed.ensures
 
 pub loop-index-preserved : goal.loop-index-preserved
 loop-index-preserved g c =
@@ -18,7 +18,7 @@ loop-index-preserved g c =
 
 pub returns-clause-fills : goal.returns-clause-fills
 returns-clause-fills g c =
-    let end : c.loop-index.index + 2 ≡ words_for (length c.args.key.now) - 1 = omega (arith, c.loop-index-test.false, c.loop-index.auto.index-end, c.key_words-index-end.ensures, ap length c.as_bytes.ensures.bytes) in
+    let end : c.loop-index.index + 2 ≡ words_for (length c.args.key.now) - 1 = omega (arith, c.loop-index-test.false, c.loop-index.auto.index-end, c.count_key_words-index-end.ensures, ap length c.as_bytes.ensures.bytes) in
     subst (λ k. SetsSome c.args.table.now g.G.Gate.becomes (a_leaf c.args.number) (leaf_words (c.args.key.now, c.args.value)) k (c.args.seat.now, c.args.gate.now) (c.loop-index.seat, c.loop-index.gate)) end c.loop-index.invariant
 
 pub returns-clause-filled : goal.returns-clause-filled
@@ -28,4 +28,4 @@ returns-clause-filled g c =
 pub returns-clause-steps : goal.returns-clause-steps
 returns-clause-steps g c =
     let few = sets_count _ _ (a_leaf c.args.number) _ (c.loop-index.index + 2) _ _ c.loop-index.invariant in
-    omega (arith, few, c.loop-index.auto.index-end, c.key_words-index-end.ensures, c.as_bytes.ensures.key.short, ap length c.as_bytes.ensures.bytes)
+    omega (arith, few, c.loop-index.auto.index-end, c.count_key_words-index-end.ensures, c.as_bytes.ensures.key.short, ap length c.as_bytes.ensures.bytes)

@@ -34,8 +34,8 @@ load_entry-requires-clause-place g c =
 pub load_entry-requires-clause-start : goal.load_entry-requires-clause-start
 load_entry-requires-clause-start g c =
     let (m, has) = c.requires.places in let top = c.args.top.now in
-    node_begins c.args.scan.now.table.now.layout c.args.scan.now.origins.now.layout c.args.seat.now.known m top.number top.height (place_ahead c.args.scan.now.range.now.direction top.at 0) c.node.result c.requires.reader.1 (has 0 c.requires.come) c.requires.origins
-    c.node.ensures
+    node_begins c.args.scan.now.table.now.layout c.args.scan.now.origins.now.layout c.args.seat.now.known m top.number top.height (place_ahead c.args.scan.now.range.now.direction top.at 0) c.start_of_node.result c.requires.reader.1 (has 0 c.requires.come) c.requires.origins
+    c.start_of_node.ensures
 
 pub returns-in-Node-clause-reads : goal.returns-in-Node-clause-reads
 returns-in-Node-clause-reads g c = let (n, few, reads) = c.loop-index.invariant.reads in (n + 1, omega (arith, few), reads_trans reads c.load_entry.ensures.reads)

@@ -9,7 +9,7 @@ use Rattle.rowex_scanning.proofs.ahead.touch_leaf.Goals as goal
 
 pub load_fixed_at-requires : goal.load_fixed_at-requires
 load_fixed_at-requires g c =
-    let start = leaf_begins c.args.table.now.layout c.args.origins.now.layout c.args.seat.now.known c.requires.led.0 c.args.number c.leaf.result c.requires.reader.1 c.requires.led.1 c.requires.origins c.leaf.ensures in
+    let start = leaf_begins c.args.table.now.layout c.args.origins.now.layout c.args.seat.now.known c.requires.led.0 c.args.number c.start_of_leaf.result c.requires.reader.1 c.requires.led.1 c.requires.origins c.start_of_leaf.ensures in
     record { own = c.requires.reader.0; range = (start.0, (lit≤ tt, lit≤ tt), omega (arith, size_fits c.args.table.now.layout c.args.number)); start = start }
 
 pub returns : goal.returns

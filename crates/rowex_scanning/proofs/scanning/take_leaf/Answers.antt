@@ -30,7 +30,7 @@ load_leaf-length-requires-clause-led g c = (c.requires.leaf.0, c.requires.leaf.1
 
 pub load_leaf-length-requires-clause-start : goal.load_leaf-length-requires-clause-start
 load_leaf-length-requires-clause-start g c =
-    leaf_begins c.args.scan.now.table.now.layout c.args.scan.now.origins.now.layout c.args.seat.now.known c.requires.leaf.0 c.args.number c.leaf-start.result c.requires.reader.1 c.requires.leaf.1 c.requires.origins c.leaf-start.ensures
+    leaf_begins c.args.scan.now.table.now.layout c.args.scan.now.origins.now.layout c.args.seat.now.known c.requires.leaf.0 c.args.number c.start_of_leaf-start.result c.requires.reader.1 c.requires.leaf.1 c.requires.origins c.start_of_leaf-start.ensures
 
 pub append_pair_in_range-requires-clause-reached : goal.append_pair_in_range-requires-clause-reached
 append_pair_in_range-requires-clause-reached g c =

@@ -18,7 +18,7 @@ returns-in_err-number-clause-made g c = rw c.from_residual.ensures (
   subst (λ z. IsBuilding c.args.table.now c.claim_leaf.new.seat z []) (sym c.clear.ensures) (building_on c.args.table.now g.G.Gate.becomes (c.args.seat.now, c.args.gate.now) (c.claim_leaf.new.seat, c.claim_leaf.new.gate) [] []
       c.claim_leaf.ensures.goes c.in_err-number.ensures.claims.0 (building_none c.args.table.now c.args.seat.now c.requires.own c.requires.possible c.requires.none)),
   lacks_leaves c.args.table.now.layout c.args.key.now c.args.seat.now.known c.claim_leaf.new.seat.known c.claim_leaf.new.seat.known.failed c.args.seat.now.known.steps c.claim_leaf.ensures.goes.stays.0.pass c.requires.none
-      (subst (λ w. AllMissedFrom (IsAnothersTo c.args.table.now.layout c.args.seat.now.known) c.args.table.now.layout w c.claim_leaf.new.seat.known.failed c.args.seat.now.known.steps) c.words_for.ensures.words c.in_err-number.ensures.claims.1),
+      (subst (λ w. AllMissedFrom (IsAnothersTo c.args.table.now.layout c.args.seat.now.known) c.args.table.now.layout w c.claim_leaf.new.seat.known.failed c.args.seat.now.known.steps) c.count_leaf_words.ensures.words c.in_err-number.ensures.claims.1),
 )
 
 pub returns-clause-goes : goal.returns-clause-goes
@@ -30,7 +30,7 @@ returns-clause-made g c =
     let x = item c.in_ok-number.number c.args.key.now c.args.value in
     subst (λ z. HasLeafMade c.args.table.now c.fill_leaf.new.seat z x) (sym (c.push.ensures.items ∙ ap (λ z. z ++ a_leaf x.number ∷ []) c.clear.ensures))
     (building_leaf c.args.table.now g.G.Gate.becomes x (c.args.seat.now, c.args.gate.now) (c.claim_leaf.new.seat, c.claim_leaf.new.gate) (c.fill_leaf.new.seat, c.fill_leaf.new.gate)
-    record { key = c.requires.key; value = c.ranges.value.fits } (omega (arith, c.in_ok-number.ensures.claims.1, c.words_for.ensures.words)) c.claim_leaf.ensures.goes c.in_ok-number.ensures.claims.2 c.fill_leaf.ensures.fills
+    record { key = c.requires.key; value = c.ranges.value.fits } (omega (arith, c.in_ok-number.ensures.claims.1, c.count_leaf_words.ensures.words)) c.claim_leaf.ensures.goes c.in_ok-number.ensures.claims.2 c.fill_leaf.ensures.fills
     (building_none c.args.table.now c.args.seat.now c.requires.own c.requires.possible c.requires.none))
 
 pub fill_leaf-requires-clause-held : goal.fill_leaf-requires-clause-held

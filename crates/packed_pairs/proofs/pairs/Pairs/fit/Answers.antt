@@ -7,7 +7,7 @@ use Rattle.packed_pairs.proofs.pairs.Pairs.fit.Goals as goal
 pub loop-self-preserved : goal.loop-self-preserved
 loop-self-preserved c =
     let many : c.args.room < length (keys_in c.loop-self.self) = let low = c.loop-self-test.true in let n = c.key_bytes.ensures in omega (arith, low, n) in
-    ap (fitting c.args.room) c.pop.ensures ∙ (fits_without c.args.room c.loop-self.self many ∙ c.loop-self.invariant)
+    ap (fitting c.args.room) c.pop_pair.ensures ∙ (fits_without c.args.room c.loop-self.self many ∙ c.loop-self.invariant)
 
 pub returns : goal.returns
 returns c =

@@ -11,8 +11,8 @@ overflow_sub-len c =
     let len = c.len.ensures ∙ c.self.inside.bytes.ok.0 in
     omega (arith, low, len)
 
-pub key_of-requires : goal.key_of-requires
-key_of-requires c =
+pub key_from_bytes-requires : goal.key_from_bytes-requires
+key_from_bytes-requires c =
     let last = (at_end_of c.self.inside.heads.items _ _ _ c.self.inside.bytes.items c.self.invariant c.deref.ensures.value c.in_ok-head.ensures.cases.0).0 in
     subst IsKey (sym (end_of _ _ _ _ _ c.split_at.ensures.back c.deref-2.ensures.value (c.len.ensures ∙ c.self.inside.bytes.ok.0))) last.is_key
 
@@ -20,4 +20,4 @@ pub returns : goal.returns
 returns c =
     let last = at_end_of c.self.inside.heads.items _ _ _ c.self.inside.bytes.items c.self.invariant c.deref.ensures.value c.in_ok-head.ensures.cases.0 in
     let key = end_of _ _ _ _ _ c.split_at.ensures.back c.deref-2.ensures.value (c.len.ensures ∙ c.self.inside.bytes.ok.0) in
-    subst (λ pairs. IsLastKey pairs c.key_of.result) (sym last.1 ∙ c.self.view_is) (subst (IsLastKey _) (sym (c.key_of.ensures ∙ key)) last.0.last)
+    subst (λ pairs. IsLastKey pairs c.key_from_bytes.result) (sym last.1 ∙ c.self.view_is) (subst (IsLastKey _) (sym (c.key_from_bytes.ensures ∙ key)) last.0.last)

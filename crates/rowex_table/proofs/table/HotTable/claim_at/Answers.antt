@@ -5,5 +5,5 @@ use Rattle.rowex_core.specs.Cores.{HasRecord}
 use Rattle.rowex_table.proofs.Rights.{state_there}
 use Rattle.rowex_table.proofs.table.HotTable.claim_at.Goals as goal
 
-pub exchange_at-requires-clause-apt : goal.exchange_at-requires-clause-apt
-exchange_at-requires-clause-apt g c = (refl, refl, λ d law at known. (known.pass, (subst (λ (z : Layout). HasRecord z c.args.at.rec) (sym at) c.requires.start.0, state_there d c.args.at.rec)))
+pub compare_exchange_at-requires-clause-apt : goal.compare_exchange_at-requires-clause-apt
+compare_exchange_at-requires-clause-apt g c = (refl, refl, λ d law at known. (known.pass, (subst (λ (z : Layout). HasRecord z c.args.at.rec) (sym at) c.requires.start.0, state_there d c.args.at.rec)))

@@ -3,5 +3,5 @@ use Rattle.std.specs.Prelude.{Some}
 use Rattle.rowex_table.specs.Runs.{silent}
 use Rattle.rowex_table.proofs.table.HotTable.claim_at.Given as goal
 
-abbrev pub ghosts-exchange_at : goal.ghosts-exchange_at
-ghosts-exchange_at g a = record { layout = Some a.self.now.layout; act = a.act; said = silent }
+abbrev pub ghosts-compare_exchange_at : goal.ghosts-compare_exchange_at
+ghosts-compare_exchange_at g a = record { layout = Some a.self.now.layout; act = a.act; said = silent }

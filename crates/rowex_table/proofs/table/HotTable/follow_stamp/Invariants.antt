@@ -4,5 +4,5 @@ use Rattle.rowex_core.specs.declared.event.Act.TheVariants.{ClearPin}
 use Rattle.rowex_table.specs.Runs.{silent}
 use Rattle.rowex_table.proofs.table.HotTable.follow_stamp.Given as goal
 
-abbrev pub ghosts-follow_as : goal.ghosts-follow_as
-ghosts-follow_as a = record { layout = Some a.self.now.layout; act = ClearPin; said = silent }
+abbrev pub ghosts-follow_stamp_as : goal.ghosts-follow_stamp_as
+ghosts-follow_stamp_as a = record { layout = Some a.self.now.layout; act = ClearPin; said = silent }

@@ -3,5 +3,5 @@ use Rattle.std.specs.Prelude.{Some}
 use Rattle.rowex_table.specs.Runs.{silent}
 use Rattle.rowex_table.proofs.table.HotTable.mark.Given as goal
 
-abbrev pub ghosts-store_at : goal.ghosts-store_at
-ghosts-store_at g a = record { layout = Some a.self.now.layout; act = a.act; said = silent }
+abbrev pub ghosts-store_word_at : goal.ghosts-store_word_at
+ghosts-store_word_at g a = record { layout = Some a.self.now.layout; act = a.act; said = silent }

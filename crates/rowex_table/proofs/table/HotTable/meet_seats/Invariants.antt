@@ -4,5 +4,5 @@ use Rattle.rowex_core.specs.declared.event.Act.TheVariants.{ClearPin}
 use Rattle.rowex_table.specs.Runs.{silent}
 use Rattle.rowex_table.proofs.table.HotTable.meet_seats.Given as goal
 
-abbrev pub ghosts-meet_as : goal.ghosts-meet_as
-ghosts-meet_as a = record { layout = Some a.self.now.layout; act = ClearPin; said = silent }
+abbrev pub ghosts-meet_seats_as : goal.ghosts-meet_seats_as
+ghosts-meet_seats_as a = record { layout = Some a.self.now.layout; act = ClearPin; said = silent }

@@ -1,0 +1,23 @@
+-- The last pair is taken: its key has the last bytes.
+use Rattle.std.proofs.Common.{◌-◌, length, take, drop, ap, refl, sym, ◌∙◌, arith}
+use Rattle.packed_pairs.proofs.Backwards.{IsTaken, taken}
+use Rattle.packed_pairs.proofs.Fits.{popped}
+use Rattle.packed_pairs.proofs.pairs.Pairs.pop_pair.Goals as goal
+use Rattle.packed_pairs.proofs.pairs.Pairs.pop_pair.Goals.{After-truncate}
+
+last : (c : After-truncate) → IsTaken c.self.inside.heads.items c.pop.new.self.items c.in-Some.head c.self.inside.bytes.items c.truncate.new.self.items (drop (length c.self.inside.bytes.items - c.in-Some.head.count) c.self.inside.bytes.items)
+last c =
+    let many = c.len.ensures ∙ c.self.inside.bytes.ok.0 in
+    taken _ _ _ _ _ _ c.self.invariant c.in-Some.ensures.items (c.truncate.ensures.items ∙ ap (λ n. take (n - c.in-Some.head.count) c.self.inside.bytes.items) many) refl
+
+pub overflow_sub-len : goal.overflow_sub-len
+overflow_sub-len c =
+    let low = (taken c.self.inside.heads.items c.pop.new.self.items c.in-Some.head c.self.inside.bytes.items _ _ c.self.invariant c.in-Some.ensures.items refl refl).low in
+    let many = c.len.ensures ∙ c.self.inside.bytes.ok.0 in
+    omega (arith, low, many)
+
+pub invariant_of-self : goal.invariant_of-self
+invariant_of-self c = (last c).packed
+
+pub returns-in-Some : goal.returns-in-Some
+returns-in-Some c = popped _ _ _ (sym c.self.view_is ∙ (last c).pairs)

@@ -1,0 +1,102 @@
+-- The rows that agree with one in the columns below a position stand side by side: they are counted from both sides.
+use Rattle.std.proofs.Common.{◌≡◌, ◌∙◌, ◌+◌, ◌-◌, ◌*◌, ◌/◌, ◌%◌, ◌^◌, ◌<◌, ◌≤◌, List, ℕ, ap, ap₂, arith, bit_and, bit_or, count_by, drop, get_or, length, length-drop, min, nat_lt, sym}
+use Rattle.std.proofs.lemmas.List.{get_or_default, take_all}
+use Rattle.std.proofs.lemmas.Simd.{get_or-chunk}
+use lib.Lanes.{chunk}
+use Rattle.std.proofs.lemmas.Nat.{and_mask, pow_pos, shr_split}
+use Rattle.std.proofs.lemmas.Nat.Bits.{and_high_mask, ones_shr}
+use Rattle.std.specs.Int.Bits.{or_add_and}
+use Rattle.compound_node.proofs.Lawful.{same_count}
+use Rattle.compound_node.specs.Nodes.{IsLawfulNode, NodeView, head_of, piece}
+use Rattle.partial_keys.specs.Rows.{with_unused}
+use Rattle.pieces.specs.Growth.{affected_count, affected_first}
+use Rattle.pieces.specs.Positions.{front_below}
+use Rattle.record_words.specs.Node.{head_words}
+use Rattle.record_words.proofs.Fronts.{affected_by_counts, columns_below, end_some, few_below, rows_in_front}
+use Rattle.record_words.proofs.Lanes.{place_lanes_read}
+use Rattle.record_words.proofs.Lawful.{row-lt}
+use Rattle.record_words.proofs.Spelled.{count_read, its, lawful_its, same_its}
+use Rattle.record_words.proofs.affected.affected_places.Goals as goal
+use Rattle.record_words.proofs.affected.affected_places.Goals.{After-min-end}
+
+-- how many of its columns are below the position
+columns_are : (words places : List ℕ) (position n : ℕ) → position < 2 ^ 16 → n ≡ front_below position places → length places ≡ 32 →
+    ((i : ℕ) → i < 32 → get_or places i 0 ≡ get_or (chunk 1 8 words) (i / 4) 0 / 2 ^ (16 * (i % 4)) % 2 ^ 16) →
+    (node : NodeView) → IsLawfulNode node → head_words (head_of node) ≡ words → n ≡ front_below position node.columns
+columns_are words places position n small counted long each node lawful same =
+    counted ∙ columns_below node lawful position places small
+    (place_lanes_read node lawful words places same long (λ i l. each i l ∙ ap (λ w. w / 2 ^ (16 * (i % 4)) % 2 ^ 16) (get_or-chunk 1 8 words (i / 4) 0 (omega (arith, l)))))
+
+-- the bounds of the run
+module _ (c : After-min-end) (node : NodeView) (lawful : IsLawfulNode node) (same : head_words (head_of node) ≡ c.args.words.now) where
+  abbrev n : ℕ
+  n = c.count_below.result
+
+  abbrev row : ℕ
+  row = get_or node.rows c.args.found 0
+
+  below : n ≡ front_below c.args.position node.columns
+  below = columns_are c.args.words.now c.split_into_quarters-positions.result c.args.position n c.ranges.position.fits c.count_below.ensures c.split_into_quarters-positions.ensures.whole c.split_into_quarters-positions.ensures.each
+      node lawful same
+
+  few : n ≤ 31
+  few = omega (arith, below, few_below node lawful c.args.position)
+
+  here : c.args.found < length node.entries
+  here = c.requires.in_range node lawful same
+
+  row_is : c.row_in-row.result ≡ row
+  row_is = c.row_in-row.ensures node lawful same ∙ get_or_default node.rows c.args.found 4294967295 0 (omega (arith, here, same_count node lawful))
+
+  rest_is : (2 ^ 32 - 1) / 2 ^ n ≡ 2 ^ (32 - n) - 1
+  rest_is = ones_shr 32 n (omega (arith, few))
+
+  least_is : bit_and c.row_in-row.result (2 ^ 32 - 1 - (2 ^ 32 - 1) / 2 ^ n) ≡ row / 2 ^ (32 - n) * 2 ^ (32 - n)
+  least_is =
+      ap₂ bit_and row_is (let some = pow_pos (32 - n) in omega (arith, rest_is, some))
+      ∙ and_high_mask 32 (32 - n) (omega arith) row (row-lt node lawful c.args.found)
+
+  most_is : bit_or c.row_in-row.result ((2 ^ 32 - 1) / 2 ^ n) + 1 ≡ row / 2 ^ (32 - n) * 2 ^ (32 - n) + 2 ^ (32 - n)
+  most_is =
+      let same_or : bit_or c.row_in-row.result ((2 ^ 32 - 1) / 2 ^ n) ≡ bit_or row (2 ^ (32 - n) - 1) = ap₂ bit_or row_is rest_is in
+      let sums = or_add_and row (2 ^ (32 - n) - 1) in let masked = and_mask row (32 - n) in let parts = shr_split row (32 - n) in let some = pow_pos (32 - n) in
+      omega (arith, same_or, sums, masked, parts, some)
+
+  rows_are : c.rows_in-rows.result ≡ with_unused node.rows
+  rows_are =
+      let words = c.args.words.now in
+      c.rows_in-rows.ensures node lawful (ap (drop 9) same ∙ sym (take_all (length words - 9) (drop 9 words) (omega (arith, length-drop 9 words))))
+
+  first_is : c.count_rows_below-first.result ≡ front_below (row / 2 ^ (32 - n) * 2 ^ (32 - n)) (with_unused node.rows)
+  first_is =
+      c.count_rows_below-first.ensures ∙ (ap (λ b. count_by (λ x. nat_lt x b) c.rows_in-rows.result) least_is ∙ rows_in_front node lawful _ c.rows_in-rows.result rows_are)
+
+  end_is : c.min-end.result ≡ min (front_below (row / 2 ^ (32 - n) * 2 ^ (32 - n) + 2 ^ (32 - n)) (with_unused node.rows)) (length node.rows)
+  end_is =
+      c.min-end.ensures ∙ ap₂ min
+      (c.count_rows_upto.ensures ∙ (ap (λ b. count_by (λ x. nat_lt x b) c.rows_in-rows.result) most_is ∙ rows_in_front node lawful _ c.rows_in-rows.result rows_are))
+      (c.read_numbers.ensures.parts.0 ∙ count_read node lawful c.args.words.now same)
+
+  some : 1 ≤ c.min-end.result
+  some = end_some node lawful c.args.position c.args.found n c.count_rows_below-first.result c.min-end.result here below first_is end_is
+
+  affected : (affected_first c.args.position c.args.found (piece node) ≡ c.count_rows_below-first.result) × (affected_count c.args.position c.args.found (piece node) + c.count_rows_below-first.result ≡ c.min-end.result - 1 + 1)
+  affected = affected_by_counts node lawful c.args.position c.args.found n c.count_rows_below-first.result c.min-end.result here below first_is end_is
+
+pub overflow_shr-rest : goal.overflow_shr-rest
+overflow_shr-rest c =
+    let words = c.args.words.now in let given = c.requires.spelling in
+    let below = columns_are words c.split_into_quarters-positions.result c.args.position c.count_below.result c.ranges.position.fits c.count_below.ensures
+    c.split_into_quarters-positions.ensures.whole c.split_into_quarters-positions.ensures.each (its words given) (lawful_its words given) (same_its words given) in
+    omega (arith, below, few_below (its words given) (lawful_its words given) c.args.position)
+
+pub overflow_sub-result : goal.overflow_sub-result
+overflow_sub-result c =
+    let words = c.args.words.now in let given = c.requires.spelling in
+    some c (its words given) (lawful_its words given) (same_its words given)
+
+pub returns-clause-from : goal.returns-clause-from
+returns-clause-from c = λ node lawful same. (affected c node lawful same).0
+
+pub returns-clause-upto : goal.returns-clause-upto
+returns-clause-upto c = λ node lawful same. (affected c node lawful same).1
