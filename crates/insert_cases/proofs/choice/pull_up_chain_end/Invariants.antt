@@ -1,8 +1,8 @@
--- What stays true in the loop of `chain_end`.
+-- What stays true in the loop of `pull_up_chain_end`.
 use Rattle.std.proofs.Common.{◌≡◌, ℕ, ◌+◌, ◌<◌, ◌≤◌, Some}
 use Rattle.std.specs.Prelude.{slice_get}
 use Rattle.insert_cases.specs.declared.choice.PathNode.{PathNode}
-use Rattle.insert_cases.proofs.choice.chain_end.Given as goal
+use Rattle.insert_cases.proofs.choice.pull_up_chain_end.Given as goal
 
 abbrev pub decreases-loop-end : goal.decreases-loop-end
 decreases-loop-end l = l.end
