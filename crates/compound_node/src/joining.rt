@@ -5,7 +5,7 @@ ghost use Rattle.compound_node.specs.Joining.{IsWidened};
 ghost use Rattle.partial_keys.specs.Spread.{spread_row};
 ghost use Rattle.pieces.specs.Positions.{front_below, has, with_position};
 
-use super::entries::list_all;
+use super::entries::list_items;
 use super::rows::spread_lanes;
 use arrayvec::ArrayVec;
 use partial_keys::Columns;
@@ -52,7 +52,7 @@ pub(crate) fn concatenate_rows(zero: &[u32], one: &[u32], bit: u32) -> ArrayVec<
     requires { length zero.now + length one.now ≤ 32 }
     ensures { result.items ≡ zero.now ++ map (λ row. bit_or row bit) one.now }
 {
-    let mut rows = list_all(zero);
+    let mut rows = list_items(zero);
     for row in one {
         rows.push(*row | bit);
     }

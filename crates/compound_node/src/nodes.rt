@@ -1,10 +1,10 @@
 //! Compound nodes.
 
-use super::building::build;
+use super::building::build_node;
 use super::entries::{
-    Entry, all_stand_below, concatenate_entries, height_with, insert_beside, list_all,
+    Entry, all_stand_below, concatenate_entries, height_with_entry, insert_entry_beside, list_items,
 };
-use super::halves::{Cut, Half, cut_of, rest_of};
+use super::halves::{Cut, Half, make_cut, make_rest};
 use super::heads::Head;
 use super::joining::{concatenate_rows, ensure_columns};
 use super::rows::find_sibling;
@@ -57,7 +57,7 @@ impl Node {
             return None;
         }
         let head = Head::from_parts(entries.len() as u8, height, columns, sparse)?;
-        Some(Node::of(head, list_all(entries)))
+        Some(Node::of(head, list_items(entries)))
     }
 
     /// The node of `head` and `entries`, which fit together.
@@ -78,7 +78,7 @@ impl Node {
         let mut entries = ArrayVec::new();
         entries.push(zero);
         entries.push(one);
-        build(Columns::of(&[position]), &[0, 1 << 31], entries)
+        build_node(Columns::of(&[position]), &[0, 1 << 31], entries)
     }
 
     /// The node of all entries of `zero` and `one`, the sides of a fork at `position`. Its height is one above the greatest of theirs.
@@ -95,7 +95,7 @@ impl Node {
         let bit = 1 << (31 - columns.below(position));
         let rows = concatenate_rows(&zero_rows[..zero_count], &one_rows[..one_count], bit);
         let entries = concatenate_entries(zero.entries.as_slice(), one.entries.as_slice());
-        build(columns, rows.as_slice(), entries)
+        build_node(columns, rows.as_slice(), entries)
     }
 
     /// How many entries there are, 2 to 32.
@@ -233,8 +233,8 @@ impl Node {
         ensures { IsBuiltFrom self.new (grown position bit entry first (piece self.old)) }
     {
         let (first, last) = (first as usize, last as usize);
-        insert_beside(&mut self.entries, first, last, bit, entry);
-        let height = height_with(self.entries.as_slice(), entry, self.head.height());
+        insert_entry_beside(&mut self.entries, first, last, bit, entry);
+        let height = height_with_entry(self.entries.as_slice(), entry, self.head.height());
         self.head.add_fork(height, position, first, last, bit);
     }
 
@@ -244,7 +244,7 @@ impl Node {
     {
         Node {
             head: self.head.copy(),
-            entries: list_all(self.entries.as_slice()),
+            entries: list_items(self.entries.as_slice()),
         }
     }
 
@@ -277,7 +277,7 @@ impl Node {
     pub fn cut(&self) -> Cut
         ensures { CutShows result (piece self.now) }
     {
-        cut_of(
+        make_cut(
             self.head.columns(),
             self.head.rows(),
             self.entries.as_slice(),
@@ -290,7 +290,7 @@ impl Node {
         requires { i < length self.now.entries }
         ensures { HalfShows result (without i (piece self.now)) }
     {
-        rest_of(
+        make_rest(
             self.head.columns(),
             self.head.rows(),
             self.entries.as_slice(),

@@ -41,16 +41,16 @@ entries_are : (c : After-as_slice-3) → c.concatenate_entries-entries.result.it
 entries_are c = c.concatenate_entries-entries.ensures
     ∙ ap₂ (λ xs ys. xs ++ ys) (c.as_slice.ensures.value ∙ ap (λ (v : NodeView). v.entries) c.zero.view_is) (c.as_slice-2.ensures.value ∙ ap (λ (v : NodeView). v.entries) c.one.view_is)
 
-pub build-requires : goal.build-requires
-build-requires c = rw (rows_are c, entries_are c) (join_fits c.args.position c.args.zero.now c.args.one.now c.count.ensures.lawful c.count-2.ensures.lawful c.requires.after c.requires.room
+pub build_node-requires : goal.build_node-requires
+build_node-requires c = rw (rows_are c, entries_are c) (join_fits c.args.position c.args.zero.now c.args.one.now c.count.ensures.lawful c.count-2.ensures.lawful c.requires.after c.requires.room
     c.count.result c.count-2.result c.count.ensures.count c.count-2.ensures.count c.ensure_columns.new.columns c.ensure_columns.new.rows c.ensure_columns-2.new.columns c.ensure_columns-2.new.rows
-    (zero_widened (goal.at.build-requires c).After-below) (one_widened (goal.at.build-requires c).After-below))
+    (zero_widened (goal.at.build_node-requires c).After-below) (one_widened (goal.at.build_node-requires c).After-below))
 
 pub returns : goal.returns
 returns c =
     let at = goal.at.returns c in
-    subst (IsBuiltFrom c.build.result)
+    subst (IsBuiltFrom c.build_node.result)
     (rw (rows_are at.After-as_slice-3, entries_are at.After-as_slice-3) (join_piece c.args.position c.args.zero.now c.args.one.now c.count.ensures.lawful c.count-2.ensures.lawful c.requires.after c.requires.room
     c.count.result c.count-2.result c.count.ensures.count c.count-2.ensures.count c.ensure_columns.new.columns c.ensure_columns.new.rows c.ensure_columns-2.new.columns c.ensure_columns-2.new.rows
     (zero_widened at.After-below) (one_widened at.After-below)))
-    c.build.ensures
+    c.build_node.ensures

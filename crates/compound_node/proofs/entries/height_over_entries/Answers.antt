@@ -2,7 +2,7 @@
 use Rattle.std.proofs.Common.{ap, arith, drop, ◌∙◌, ◌≡◌}
 use Rattle.compound_node.specs.Nodes.{greatest_height}
 use Rattle.compound_node.proofs.Heights.{greatest_height-fits}
-use Rattle.compound_node.proofs.entries.height_over.Goals as goal
+use Rattle.compound_node.proofs.entries.height_over_entries.Goals as goal
 
 pub overflow_add-result : goal.overflow_add-result
 overflow_add-result c =

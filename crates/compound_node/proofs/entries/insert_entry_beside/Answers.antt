@@ -2,8 +2,8 @@
 use Rattle.std.proofs.Common.{ap, arith, sym, ◌+◌, ◌-◌, ◌∙◌, ◌≡◌}
 use Rattle.std.specs.List.{insert}
 use Rattle.compound_node.proofs.Editing.{put-before, put-behind}
-use Rattle.compound_node.proofs.entries.insert_beside.Goals as goal
-use Rattle.compound_node.proofs.entries.insert_beside.Goals.{then-bit, else-bit}
+use Rattle.compound_node.proofs.entries.insert_entry_beside.Goals as goal
+use Rattle.compound_node.proofs.entries.insert_entry_beside.Goals.{then-bit, else-bit}
 
 pub returns : goal.returns
 returns c =

@@ -3,7 +3,7 @@ use Rattle.std.proofs.Common.{ap, arith, get_or, set, ◌∙◌}
 use Rattle.std.proofs.lemmas.List.{get_or_default}
 use Rattle.std.proofs.lemmas.List.Edits.{map_over_more}
 use Rattle.partial_keys.specs.Squeezed.{closed_row}
-use Rattle.compound_node.proofs.rows.close_column_of_all.Goals as goal
+use Rattle.compound_node.proofs.rows.close_column_of_rows.Goals as goal
 
 pub loop-row-preserved : goal.loop-row-preserved
 loop-row-preserved c =

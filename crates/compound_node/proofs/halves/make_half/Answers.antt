@@ -10,8 +10,8 @@ use Rattle.partial_keys.proofs.Cutting.{half_shows}
 use Rattle.partial_keys.proofs.Reading.{piece_of_shown}
 use Rattle.partial_keys.specs.Squeezed.{or_all, squeezed}
 use Rattle.pieces.proofs.Paths.{one_place}
-use Rattle.compound_node.proofs.halves.half_of.Goals as goal
-use Rattle.compound_node.proofs.halves.half_of.Goals.{After-as_slice-2}
+use Rattle.compound_node.proofs.halves.make_half.Goals as goal
+use Rattle.compound_node.proofs.halves.make_half.Goals.{After-as_slice-2}
 
 pub drop_unused-requires : goal.drop_unused-requires
 drop_unused-requires c = record {
@@ -32,8 +32,8 @@ left c =
     let long : length c.squeeze_rows.new.rows ≡ length c.args.rows.items = ap length all ∙ length-map c.args.rows.items (squeezed c.or_rows-used.result) in
     c.as_slice-2.ensures.value ∙ refill_same c.args.rows.items c.squeeze_rows.new.rows long ∙ all ∙ ap (λ u. map (squeezed u) c.args.rows.items) used
 
-pub build-requires : goal.build-requires
-build-requires c = rw (c.drop_unused.ensures, left c, c.or_rows-used.ensures, c.as_slice.ensures.value)
+pub build_node-requires : goal.build_node-requires
+build_node-requires c = rw (c.drop_unused.ensures, left c, c.or_rows-used.ensures, c.as_slice.ensures.value)
     (fit_used c.args.columns.now c.args.rows.items c.args.entries.items _ c.requires.covers (omega (arith, c.requires.some, c.if-len-eq1.false, c.len.ensures.value)) c.requires.room c.requires.positions c.requires.children)
 
 pub returns-then-len-eq1 : goal.returns-then-len-eq1
@@ -44,7 +44,7 @@ returns-then-len-eq1 c = rw c.deref.ensures.0 (
 
 pub returns : goal.returns
 returns c =
-    subst (IsBuiltFrom c.build.result)
+    subst (IsBuiltFrom c.build_node.result)
     (rw (c.drop_unused.ensures, left (goal.at.returns c).After-as_slice-2, c.or_rows-used.ensures, c.as_slice.ensures.value)
     (piece_of_shown (Leaf 0) _ _ _ _ (half_shows c.args.columns.now c.args.rows.items c.args.entries.items _ c.requires.covers)))
-    c.build.ensures
+    c.build_node.ensures

@@ -1,7 +1,7 @@
 -- What is done and what is left make the whole.
 use Rattle.std.proofs.Common.{◌≡◌, ◌+◌, ◌++◌, cond, drop, length}
 use Rattle.compound_node.specs.Removal.{cleared_front}
-use Rattle.compound_node.proofs.rows.append_clearing.Given as goal
+use Rattle.compound_node.proofs.rows.append_cleared_rows.Given as goal
 
 abbrev pub invariant-loop-row : goal.invariant-loop-row
 invariant-loop-row l = record {

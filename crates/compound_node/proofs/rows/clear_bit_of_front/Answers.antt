@@ -1,7 +1,7 @@
 -- One row more loses the bit, or the first that has not got it ends the work.
 use Rattle.std.proofs.Common.{arith}
 use Rattle.compound_node.proofs.Clearing.{cleared-all, cleared-ends, cleared-more, cleared-none}
-use Rattle.compound_node.proofs.rows.clear_front.Goals as goal
+use Rattle.compound_node.proofs.rows.clear_bit_of_front.Goals as goal
 
 pub loop-i-init : goal.loop-i-init
 loop-i-init c = cleared-none c.args.bit c.args.end c.args.rows.now c.args.first c.requires.ordered
