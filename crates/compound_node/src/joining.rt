@@ -39,11 +39,11 @@ fn ensure_column_of_lanes(columns: &mut Columns, rows: u32x32, position: u16) ->
     ensures columns { columns.new ≡ (if has columns.old position then columns.old else with_position position columns.old) }
     ensures rows { result ≡ (if has columns.old position then rows else map (spread_row (front_below position columns.old)) rows) }
 {
-    let below = columns.below(position);
+    let below = columns.count_columns_below(position);
     if columns.is_column_at(below, position) {
         return rows;
     }
-    columns.insert_at(below, position);
+    columns.insert_position_at(below, position);
     spread_lanes(rows, below)
 }
 

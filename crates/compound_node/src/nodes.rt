@@ -92,7 +92,7 @@ impl Node {
         ensure_columns(&mut columns, &mut zero_rows, position, one.columns());
         let (mut same_columns, mut one_rows) = (*one.columns(), *one.padded_rows());
         ensure_columns(&mut same_columns, &mut one_rows, position, zero.columns());
-        let bit = 1 << (31 - columns.below(position));
+        let bit = 1 << (31 - columns.count_columns_below(position));
         let rows = concatenate_rows(&zero_rows[..zero_count], &one_rows[..one_count], bit);
         let entries = concatenate_entries(zero.entries.as_slice(), one.entries.as_slice());
         build_node(columns, rows.as_slice(), entries)

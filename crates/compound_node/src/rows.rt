@@ -16,7 +16,7 @@ ghost use Rattle.compound_node.specs.Removal.{lowest, bit_after, cleared_front, 
 
 use super::entries::append_items;
 use arrayvec::ArrayVec;
-use partial_keys::remove_in;
+use partial_keys::remove_element;
 use std::simd::prelude::*;
 
 /// Whether 4,294,967,295 stands in `sparse` at each index from `count` on, so that these slots are unused.
@@ -325,7 +325,7 @@ pub(crate) fn remove_row(rows: &mut [u32; 32], count: usize, at: usize)
 {
     let bit = sibling_bit(&rows[..count], at);
     clear_bit_of_front(rows, at + 1, count, bit);
-    remove_in(rows, count, at, u32::MAX);
+    remove_element(rows, count, at, u32::MAX);
 }
 
 // ---- the sibling of a slot

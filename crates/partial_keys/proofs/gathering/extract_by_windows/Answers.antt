@@ -6,7 +6,7 @@ use Rattle.key_bits.specs.Bits.{bit_of}
 use Rattle.key_bits.specs.Gather.{gathered}
 use Rattle.partial_keys.proofs.Sliding.{all_before, least_long, least_zero, next_within, none_before}
 use Rattle.partial_keys.proofs.Windows.{free_bit, gathered_used, lanes_tell}
-use Rattle.partial_keys.proofs.gathering.extract_far.Goals as goal
+use Rattle.partial_keys.proofs.gathering.extract_by_windows.Goals as goal
 
 pub loop-part-init : goal.loop-part-init
 loop-part-init c = (
@@ -20,11 +20,11 @@ loop-part-init c = (
 pub loop-part-preserved : goal.loop-part-preserved
 loop-part-preserved c =
     let (long, each) = c.loop-part.invariant in
-    let whole = c.find_missing_from.ensures.whole in
+    let whole = c.find_missing_bits_from.ensures.whole in
     let from : ℕ = get_or c.args.lanes 0 0 / 9 + 16 * c.loop-part.part in (
-      least_long c.loop-part.missing c.find_missing_from.result (long ∙ sym whole) ∙ long,
-      λ i low. least_zero c.loop-part.missing c.find_missing_from.result i (long ∙ sym whole) (omega (arith, long, low)) ∙
-          (ap₂ (λ s t. s || t) (each i low) (c.find_missing_from.ensures.each i low) ∙
+      least_long c.loop-part.missing c.find_missing_bits_from.result (long ∙ sym whole) ∙ long,
+      λ i low. least_zero c.loop-part.missing c.find_missing_bits_from.result i (long ∙ sym whole) (omega (arith, long, low)) ∙
+          (ap₂ (λ s t. s || t) (each i low) (c.find_missing_bits_from.ensures.each i low) ∙
           (next_within c.args.key.now (get_or c.args.lanes i 0) from c.as_bytes.ensures.key.short ∙
           ap (λ n. bit_of c.args.key.now (get_or c.args.lanes i 0) && nat_lt (get_or c.args.lanes i 0 / 9) n) (let e : from + 16 ≡ get_or c.args.lanes 0 0 / 9 + 16 * (c.loop-part.part + 1) = omega arith in e))),
     )

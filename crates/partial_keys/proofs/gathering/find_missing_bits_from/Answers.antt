@@ -7,10 +7,10 @@ use Rattle.std.proofs.lemmas.Simd.{get_or-zip2, length-zip2}
 use Rattle.std.proofs.Math.Nat.{min-le_left, min-le_right}
 use Rattle.partial_keys.specs.Windows.{bit_within, byte_lane, mask_lane, missed_lane}
 use Rattle.partial_keys.proofs.Sliding.{lane_within}
-use Rattle.partial_keys.proofs.gathering.find_missing_from.Goals as goal
+use Rattle.partial_keys.proofs.gathering.find_missing_bits_from.Goals as goal
 
 pub returns-clause-whole : goal.returns-clause-whole
-returns-clause-whole c = length-zip2 bit_or c.find_missing-missed.result c.count_before.result (c.find_missing-missed.ensures.whole ∙ sym c.count_before.ensures.whole) ∙ c.find_missing-missed.ensures.whole
+returns-clause-whole c = length-zip2 bit_or c.find_missing_bits-missed.result c.distances_below.result (c.find_missing_bits-missed.ensures.whole ∙ sym c.distances_below.ensures.whole) ∙ c.find_missing_bits-missed.ensures.whole
 
 pub returns-clause-each : goal.returns-clause-each
 returns-clause-each c i low =
@@ -28,7 +28,7 @@ returns-clause-each c i low =
     let mask_at : get_or c.masks_at.result i 0 ≡ mask_lane (get_or lanes i 0) =
     ap (λ xs. get_or xs i 0) c.masks_at.ensures ∙ get_or-map mask_lane lanes i 0 0 (omega (arith, c.requires.lanes, low)) in
     ap (λ n. eqb n 0)
-    (get_or-zip2 bit_or c.find_missing-missed.result c.count_before.result i 0 0 0 (omega (arith, c.find_missing-missed.ensures.whole, low)) (omega (arith, c.count_before.ensures.whole, low))
-    ∙ ap₂ bit_or (c.find_missing-missed.ensures.each i low ∙ ap₂ (λ b m. missed_lane c.window_at.result first c.min-last.result i b m) byte_at mask_at) (c.count_before.ensures.each i low ∙ ap (λ b. first - b) byte_at))
+    (get_or-zip2 bit_or c.find_missing_bits-missed.result c.distances_below.result i 0 0 0 (omega (arith, c.find_missing_bits-missed.ensures.whole, low)) (omega (arith, c.distances_below.ensures.whole, low))
+    ∙ ap₂ bit_or (c.find_missing_bits-missed.ensures.each i low ∙ ap₂ (λ b m. missed_lane c.window_at.result first c.min-last.result i b m) byte_at mask_at) (c.distances_below.ensures.each i low ∙ ap (λ b. first - b) byte_at))
     ∙ lane_within key c.window_at.result first c.min-last.result i (get_or lanes i 0) (omega (arith, c.requires.some)) its.short bytes low begins reached (c.min-last.ensures ∙ ap (λ n. min (first + 15) (n - 1)) count) c.window_at.ensures
     ∙ ap (λ f. bit_within f key (get_or lanes i 0)) c.min-first.ensures

@@ -8,8 +8,8 @@ use Rattle.partial_keys.specs.Squeezed.{used_bits}
 use Rattle.pieces.proofs.Positions.{kept_nil}
 use Rattle.pieces.specs.Kept.{kept}
 use lib.Seq.{paste}
-use Rattle.partial_keys.proofs.keep_used.Goals as goal
-use Rattle.partial_keys.proofs.keep_used.Goals.{then-used-j-eq1, else-used-j-eq1}
+use Rattle.partial_keys.proofs.keep_used_positions.Goals as goal
+use Rattle.partial_keys.proofs.keep_used_positions.Goals.{then-used-j-eq1, else-used-j-eq1}
 
 pub loop-j-init : goal.loop-j-init
 loop-j-init c = record {

@@ -1,6 +1,6 @@
 -- Each lane by itself.
 use Rattle.partial_keys.proofs.Windows.{missed_at, missed_long, places_ok}
-use Rattle.partial_keys.proofs.gathering.find_missing.Goals as goal
+use Rattle.partial_keys.proofs.gathering.find_missing_bits.Goals as goal
 
 pub swizzle-there : goal.swizzle-there
 swizzle-there c = places_ok c.args.bytes c.args.first c.fits-bytes.0

@@ -5,18 +5,18 @@ use Rattle.partial_keys.proofs.Keeping.{put_holds, put_shown}
 use Rattle.partial_keys.specs.Columns.{HoldsColumns}
 use Rattle.pieces.proofs.Positions.{IsPlaceOf, front_below-place}
 use Rattle.pieces.specs.Positions.{front_below, has, with_position}
-use Rattle.partial_keys.proofs.Columns.insert_at.Goals as goal
-use Rattle.partial_keys.proofs.Columns.insert_at.Goals.{After-self-1}
+use Rattle.partial_keys.proofs.Columns.insert_position_at.Goals as goal
+use Rattle.partial_keys.proofs.Columns.insert_position_at.Goals.{After-self-1}
 
-pub insert_in-requires-clause-in_range : goal.insert_in-requires-clause-in_range
-insert_in-requires-clause-in_range c =
+pub insert_element-requires-clause-in_range : goal.insert_element-requires-clause-in_range
+insert_element-requires-clause-in_range c =
     let place : IsPlaceOf c.args.self.now c.args.position (front_below c.args.position c.args.self.now) = front_below-place c.args.position c.args.self.now in
     omega (arith, place.in_range, c.requires.index, ap length c.self.view_is, c.self.invariant.counted)
 
 -- the places, by the columns
-places : (c : After-self-1) → c.insert_in.new.items ≡
+places : (c : After-self-1) → c.insert_element.new.items ≡
     insert (take c.self.inside.count c.self.inside.positions) (front_below c.args.position (take c.self.inside.count c.self.inside.positions)) c.args.position ++ drop (c.self.inside.count + 1) c.self.inside.positions
-places c = c.insert_in.ensures
+places c = c.insert_element.ensures
     ∙ ap (λ k. insert (take c.self.inside.count c.self.inside.positions) k c.args.position ++ drop (c.self.inside.count + 1) c.self.inside.positions) (c.requires.index ∙ ap (front_below c.args.position) (sym c.self.view_is))
 
 room : (c : After-self-1) → length (take c.self.inside.count c.self.inside.positions) < 31

@@ -3,7 +3,7 @@ use Rattle.std.proofs.Common.{◌≡◌, ◌-◌, ◌≤◌, drop, length, repli
 use Rattle.partial_keys.specs.Squeezed.{used_bits}
 use Rattle.pieces.specs.Kept.{kept}
 use lib.Seq.{paste}
-use Rattle.partial_keys.proofs.keep_used.Given as goal
+use Rattle.partial_keys.proofs.keep_used_positions.Given as goal
 
 abbrev pub invariant-loop-j : goal.invariant-loop-j
 invariant-loop-j l = record {

@@ -2,7 +2,7 @@
 use Rattle.std.proofs.Common.{◌-◌, ◌∙◌, ap, arith, get_or, replicate, sym}
 use Rattle.std.proofs.lemmas.List.{get_or-replicate, length-replicate}
 use Rattle.partial_keys.proofs.Sliding.{over_at, over_long, same_fit}
-use Rattle.partial_keys.proofs.gathering.count_before.Goals as goal
+use Rattle.partial_keys.proofs.gathering.distances_below.Goals as goal
 
 pub returns-clause-whole : goal.returns-clause-whole
 returns-clause-whole c = over_long (replicate 32 c.args.first) c.args.bytes (length-replicate 32 c.args.first ∙ sym c.fits-bytes.0) ∙ length-replicate 32 c.args.first

@@ -1,7 +1,7 @@
 -- One element moves, and the last place is filled.
 use Rattle.std.proofs.Common.{ap, arith, get_or, set, ◌+◌, ◌-◌, ◌∙◌, ◌≡◌}
 use Rattle.partial_keys.proofs.Taking.{left-end, left-more, left-next, left-start, left_to}
-use Rattle.partial_keys.proofs.remove_in.Goals as goal
+use Rattle.partial_keys.proofs.remove_element.Goals as goal
 
 pub loop-i-init : goal.loop-i-init
 loop-i-init g c = left-start c.args.items.now c.args.at (omega arith)

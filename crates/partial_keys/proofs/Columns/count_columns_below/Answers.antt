@@ -3,8 +3,8 @@ use Rattle.std.proofs.Common.{ap, arith, ◌++◌, ◌∙◌, ◌∷◌, ◌≡�
 use Rattle.pieces.specs.Positions.{front_below}
 use Rattle.partial_keys.proofs.Reaching.{front_below-columns, front_below-le}
 use Rattle.partial_keys.proofs.Windows.{column_lanes}
-use Rattle.partial_keys.proofs.Columns.below.Goals as goal
-use Rattle.partial_keys.proofs.Columns.below.Goals.{After-count_below}
+use Rattle.partial_keys.proofs.Columns.count_columns_below.Goals as goal
+use Rattle.partial_keys.proofs.Columns.count_columns_below.Goals.{After-count_below}
 
 is_front : (c : After-count_below) → c.count_below.result ≡ front_below c.args.position c.args.self.now
 is_front c =
