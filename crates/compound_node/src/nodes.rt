@@ -220,12 +220,12 @@ impl Node {
         ensures { IsBuiltFrom result (grown position bit entry first (piece self.now)) }
     {
         let mut node = self.copy();
-        node.add(first, last, position, bit, entry);
+        node.add_entry(first, last, position, bit, entry);
         node
     }
 
     /// Puts `entry` and a new fork at `position` into this node, as `insert` does into a copy.
-    pub fn add(&mut self, first: u8, last: u8, position: u16, bit: bool, entry: Entry)
+    pub fn add_entry(&mut self, first: u8, last: u8, position: u16, bit: bool, entry: Entry)
         requires room { length self.old.entries < 32 }
         requires range { IsAffected (piece self.old) position first last }
         requires below { position < 65535 }
@@ -257,12 +257,12 @@ impl Node {
         ensures lawful { IsLawfulNode result }
     {
         let mut node = self.copy();
-        node.set(i, entry);
+        node.set_entry(i, entry);
         node
     }
 
     /// Puts `entry` into slot `i` of this node, as `replace` does in a copy.
-    pub fn set(&mut self, i: u8, entry: Entry)
+    pub fn set_entry(&mut self, i: u8, entry: Entry)
         requires in_range { i < length self.old.entries }
         requires stands { StandsBelow self.old.height entry }
         ensures fields { self.new ≡ record self.old { entries = slice_set self.old.entries i entry } }
@@ -285,7 +285,8 @@ impl Node {
     }
 
     /// What is left without the entry in slot `i`, and without the last fork on the path to it. That fork's other side stands in its stead.
-    /// The result is never `Same`.
+    /// `One` if one entry is left; else `Many`, a new node with only the columns that it uses, one higher than the highest of its entries.
+    /// Never `Same`.
     pub fn without(&self, i: u8) -> Half
         requires { i < length self.now.entries }
         ensures { HalfShows result (without i (piece self.now)) }

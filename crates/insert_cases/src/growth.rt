@@ -131,7 +131,7 @@ fn grow_half(half: Half, first: u8, last: u8, position: u16, bit: bool, entry: E
 {
     match half {
         Half::Many(mut node) => {
-            node.add(first, last, position, bit, entry);
+            node.add_entry(first, last, position, bit, entry);
             node
         }
         Half::One(other) => {
@@ -221,12 +221,12 @@ pub fn put_fork(node: &mut Node, at: u8, position: u16, zero: Entry, one: Entry)
     ensures { IsBuiltFrom node.new (grafted at (Fork position (At zero) (At one)) (piece node.old)) }
 {
     prove!(node.count() < 32);
-    node.set(at, Entry::Leaf(0));
+    node.set_entry(at, Entry::Leaf(0));
     if zero.height() <= one.height() {
-        node.add(at, at, position, true, one);
-        node.set(at, zero);
+        node.add_entry(at, at, position, true, one);
+        node.set_entry(at, zero);
     } else {
-        node.add(at, at, position, false, zero);
-        node.set(at + 1, one);
+        node.add_entry(at, at, position, false, zero);
+        node.set_entry(at + 1, one);
     }
 }

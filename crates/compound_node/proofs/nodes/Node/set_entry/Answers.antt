@@ -6,8 +6,8 @@ use Rattle.compound_node.proofs.Editing.{refill_same}
 use Rattle.compound_node.proofs.Lawful.{piece-replaced, replaced_lawful}
 use Rattle.compound_node.specs.Nodes.{IsLawfulNode, NodeView, StandsBelow, node_of, piece}
 use Rattle.pieces.specs.Changes.{replaced}
-use Rattle.compound_node.proofs.nodes.Node.set.Goals as goal
-use Rattle.compound_node.proofs.nodes.Node.set.Goals.{After-self-1}
+use Rattle.compound_node.proofs.nodes.Node.set_entry.Goals as goal
+use Rattle.compound_node.proofs.nodes.Node.set_entry.Goals.{After-self-1}
 
 -- the entries after
 items : (c : After-self-1) → refill (length c.self.inside.entries.items) c.self.inside.entries.items (set c.deref_mut.result.now c.args.i c.args.entry) ≡ set c.self.inside.entries.items c.args.i c.args.entry
