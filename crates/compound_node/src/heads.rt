@@ -55,7 +55,7 @@ impl Head {
         ensures some { IsSome result ↔ IsHead count height columns.now sparse.now }
         ensures head { IfSome result (λ head. head ≡ record { height = height; columns = columns.now; rows = take count sparse.now }) }
     {
-        if height > 0 && fits(count, columns, sparse) {
+        if height > 0 && fit_a_node(count, columns, sparse) {
             Some(Head {
                 height,
                 count,
@@ -285,7 +285,7 @@ fn drop_unused(columns: &mut Columns, rows: &mut [u32; 32], count: usize)
 }
 
 /// Whether some node of `count` entries has `columns` and the sparse partial keys `sparse`, with 4,294,967,295 for the unused slots.
-fn fits(count: u8, columns: &[u16], sparse: &[u32; 32]) -> bool
+fn fit_a_node(count: u8, columns: &[u16], sparse: &[u32; 32]) -> bool
     ensures { IsTrue result ↔ FitsWords count columns.now sparse.now }
 {
     let used = count as usize;

@@ -3,8 +3,8 @@ use Rattle.std.proofs.Common.{arith, sym, take, ◌∙◌, ◌≡◌, ◌≤◌}
 use Rattle.std.proofs.lemmas.Bool.{false≢true, leb-true}
 use Rattle.partial_keys.specs.Columns.{IsColumns}
 use Rattle.partial_keys.specs.Rows.{with_unused}
-use Rattle.compound_node.proofs.heads.fits.Goals as goal
-use Rattle.compound_node.proofs.heads.fits.Goals.{Then-is_padded, then-are_columns, else-are_columns, then-used-ge2, else-used-ge2, then-used-le32, else-used-le32}
+use Rattle.compound_node.proofs.heads.fit_a_node.Goals as goal
+use Rattle.compound_node.proofs.heads.fit_a_node.Goals.{Then-is_padded, then-are_columns, else-are_columns, then-used-ge2, else-used-ge2, then-used-le32, else-used-le32}
 
 -- what the tests say that came before
 passed : (c : Then-is_padded) → (2 ≤ c.args.count × c.args.count ≤ 32) × (IsColumns c.args.columns.now × c.args.sparse.now ≡ with_unused (take c.args.count c.args.sparse.now))
