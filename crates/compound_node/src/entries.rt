@@ -43,7 +43,7 @@ impl Entry {
 }
 
 /// The height of a new node over `entries`: one above the greatest of theirs.
-pub(crate) fn height_over(entries: &[Entry]) -> u16
+pub(crate) fn height_over_entries(entries: &[Entry]) -> u16
     requires { All IsEntry entries.now }
     ensures { result ≡ 1 + greatest_height entries.now }
 {
@@ -56,7 +56,7 @@ pub(crate) fn height_over(entries: &[Entry]) -> u16
 
 /// The height of a node of height `height` to which `entry` was added: one above the greatest of `entries`, all that it has now. Where
 /// `height` is 1 the others are leaves, and `entry` alone is looked at.
-pub(crate) fn height_with(entries: &[Entry], entry: Entry, height: u16) -> u16
+pub(crate) fn height_with_entry(entries: &[Entry], entry: Entry, height: u16) -> u16
     requires children { All IsEntry entries.now }
     requires leaves { height ≡ 1 → greatest_height entries.now ≡ height_of entry }
     ensures { result ≡ 1 + greatest_height entries.now }
@@ -64,7 +64,7 @@ pub(crate) fn height_with(entries: &[Entry], entry: Entry, height: u16) -> u16
     if height == 1 {
         1 + entry.height()
     } else {
-        height_over(entries)
+        height_over_entries(entries)
     }
 }
 
@@ -91,17 +91,17 @@ pub(crate) fn all_stand_below(entries: &[Entry], height: u16) -> bool
 }
 
 /// The list of `items`, 32 at most.
-pub(crate) fn list_all<T: Copy + Default + Drop>(items: &[T]) -> ArrayVec<T, 32>
+pub(crate) fn list_items<T: Copy + Default + Drop>(items: &[T]) -> ArrayVec<T, 32>
     requires { length items.now ≤ 32 }
     ensures { result.items ≡ items.now }
 {
     let mut list = ArrayVec::new();
-    append_all(&mut list, items);
+    append_items(&mut list, items);
     list
 }
 
 /// Puts `entry` into `entries`: straight after slot `last` if `bit` is true, else straight before slot `first`.
-pub(crate) fn insert_beside(
+pub(crate) fn insert_entry_beside(
     entries: &mut ArrayVec<Entry, 32>,
     first: usize,
     last: usize,
@@ -118,14 +118,14 @@ pub(crate) fn insert_beside(
 }
 
 /// The list of `entries` without that in slot `at`.
-pub(crate) fn list_without(entries: &[Entry], at: usize) -> ArrayVec<Entry, 32>
+pub(crate) fn list_entries_without(entries: &[Entry], at: usize) -> ArrayVec<Entry, 32>
     requires room { length entries.now ≤ 32 }
     requires in_range { at < length entries.now }
     ensures { result.items ≡ remove entries.now at }
 {
     let mut list = ArrayVec::new();
-    append_all(&mut list, &entries[..at]);
-    append_all(&mut list, &entries[at + 1..]);
+    append_items(&mut list, &entries[..at]);
+    append_items(&mut list, &entries[at + 1..]);
     list
 }
 
@@ -134,13 +134,13 @@ pub(crate) fn concatenate_entries(zero: &[Entry], one: &[Entry]) -> ArrayVec<Ent
     requires { length zero.now + length one.now ≤ 32 }
     ensures { result.items ≡ zero.now ++ one.now }
 {
-    let mut list = list_all(zero);
-    append_all(&mut list, one);
+    let mut list = list_items(zero);
+    append_items(&mut list, one);
     list
 }
 
 /// Adds `items` to the end of `list`, which has room for them.
-pub(crate) fn append_all<T: Copy + Drop>(list: &mut ArrayVec<T, 32>, items: &[T])
+pub(crate) fn append_items<T: Copy + Drop>(list: &mut ArrayVec<T, 32>, items: &[T])
     requires { array_vec_len list.old + length items.now ≤ 32 }
     ensures { list.new.items ≡ list.old.items ++ items.now }
 {

@@ -10,8 +10,8 @@ ghost use Rattle.partial_keys.specs.Shown.{piece_of};
 ghost use Rattle.partial_keys.specs.Shows.{Covers};
 ghost use Rattle.pieces.specs.Changes.{without};
 
-use super::building::build;
-use super::entries::{Entry, list_all, list_without};
+use super::building::build_node;
+use super::entries::{Entry, list_entries_without, list_items};
 use super::nodes::Node;
 use super::rows::{clear_first_column, count_zero_side, or_rows, squeeze_rows, without_row};
 use arrayvec::ArrayVec;
@@ -33,9 +33,9 @@ pub struct Cut {
     pub one: Half,
 }
 
-/// The `Half` that has all of `entries`, whose rows over `columns` are `rows`: the one entry, or a new node of many. The node has only the
-/// columns that the rows use.
-fn half_of(columns: &Columns, rows: ArrayVec<u32, 32>, entries: ArrayVec<Entry, 32>) -> Half
+/// The `Half` that has all of `entries`, at least one, whose rows over `columns` are `rows`: the one entry, or a new node of many. The node
+/// has only the columns that the rows use.
+fn make_half(columns: &Columns, rows: ArrayVec<u32, 32>, entries: ArrayVec<Entry, 32>) -> Half
     requires some { 0 < length entries.items }
     requires room { length entries.items ≤ 32 }
     requires positions { IsColumns columns.now }
@@ -51,22 +51,22 @@ fn half_of(columns: &Columns, rows: ArrayVec<u32, 32>, entries: ArrayVec<Entry, 
     let used = or_rows(rows.as_slice());
     used_columns.drop_unused(used);
     squeeze_rows(rows.as_mut_slice(), used, columns.count());
-    Half::Many(build(used_columns, rows.as_slice(), entries))
+    Half::Many(build_node(used_columns, rows.as_slice(), entries))
 }
 
 /// The node of `columns`, `rows` and `entries` cut at its root fork. Neither side is `Same`.
-pub(crate) fn cut_of(columns: &Columns, rows: &[u32], entries: &[Entry]) -> Cut
+pub(crate) fn make_cut(columns: &Columns, rows: &[u32], entries: &[Entry]) -> Cut
     requires { FitTogether columns.now rows.now entries.now }
     ensures { CutShows result (piece_of (LeafEntry 0) columns.now rows.now entries.now) }
 {
     let front = count_zero_side(rows);
     let rest = clear_first_column(&rows[front..]);
-    let zero = half_of(
+    let zero = make_half(
         columns,
-        list_all(&rows[..front]),
-        list_all(&entries[..front]),
+        list_items(&rows[..front]),
+        list_items(&entries[..front]),
     );
-    let one = half_of(columns, rest, list_all(&entries[front..]));
+    let one = make_half(columns, rest, list_items(&entries[front..]));
     Cut {
         position: columns.first(),
         zero,
@@ -76,12 +76,12 @@ pub(crate) fn cut_of(columns: &Columns, rows: &[u32], entries: &[Entry]) -> Cut
 
 /// What is left of the node of `columns`, `rows` and `entries` without the entry in slot `at`. The last fork on the path to it goes too.
 /// The result is never `Same`.
-pub(crate) fn rest_of(columns: &Columns, rows: &[u32], entries: &[Entry], at: usize) -> Half
+pub(crate) fn make_rest(columns: &Columns, rows: &[u32], entries: &[Entry], at: usize) -> Half
     requires fit { FitTogether columns.now rows.now entries.now }
     requires in_range { at < length entries.now }
     ensures { HalfShows result (without at (piece_of (LeafEntry 0) columns.now rows.now entries.now)) }
 {
     let rest_rows = without_row(rows, at);
-    let rest_entries = list_without(entries, at);
-    half_of(columns, rest_rows, rest_entries)
+    let rest_entries = list_entries_without(entries, at);
+    make_half(columns, rest_rows, rest_entries)
 }

@@ -55,7 +55,7 @@ impl Head {
         ensures some { IsSome result ↔ IsHead count height columns.now sparse.now }
         ensures head { IfSome result (λ head. head ≡ record { height = height; columns = columns.now; rows = take count sparse.now }) }
     {
-        if height > 0 && fits(count, columns, sparse) {
+        if height > 0 && fit_a_node(count, columns, sparse) {
             Some(Head {
                 height,
                 count,
@@ -125,7 +125,7 @@ impl Head {
         ensures upto { InEachNode self.now (λ node. affected_count position found (piece node) + result.0 ≡ result.1 + 1) }
     {
         let rows = self.rows();
-        let columns = self.columns.below(position) as usize;
+        let columns = self.columns.count_columns_below(position) as usize;
         (
             run_start(rows, columns, found as usize) as u8,
             run_end(rows, columns, found as usize) as u8,
@@ -258,9 +258,9 @@ pub(crate) fn ensure_column(
     ensures columns { columns.new ≡ (if has columns.old position then columns.old else with_position position columns.old) }
     ensures rows { rows.new ≡ (if has columns.old position then rows.old else map (spread_row result) (take count rows.old) ++ drop count rows.old) }
 {
-    let below = columns.below(position);
+    let below = columns.count_columns_below(position);
     if !columns.is_column_at(below, position) {
-        columns.insert_at(below, position);
+        columns.insert_position_at(below, position);
         spread_rows(rows, count, below);
     }
     below
@@ -285,7 +285,7 @@ fn drop_unused(columns: &mut Columns, rows: &mut [u32; 32], count: usize)
 }
 
 /// Whether some node of `count` entries has `columns` and the sparse partial keys `sparse`, with 4,294,967,295 for the unused slots.
-fn fits(count: u8, columns: &[u16], sparse: &[u32; 32]) -> bool
+fn fit_a_node(count: u8, columns: &[u16], sparse: &[u32; 32]) -> bool
     ensures { IsTrue result ↔ FitsWords count columns.now sparse.now }
 {
     let used = count as usize;

@@ -5,7 +5,7 @@ ghost use Rattle.compound_node.specs.Joining.{IsWidened};
 ghost use Rattle.partial_keys.specs.Spread.{spread_row};
 ghost use Rattle.pieces.specs.Positions.{front_below, has, with_position};
 
-use super::entries::list_all;
+use super::entries::list_items;
 use super::rows::spread_lanes;
 use arrayvec::ArrayVec;
 use partial_keys::Columns;
@@ -39,11 +39,11 @@ fn ensure_column_of_lanes(columns: &mut Columns, rows: u32x32, position: u16) ->
     ensures columns { columns.new ≡ (if has columns.old position then columns.old else with_position position columns.old) }
     ensures rows { result ≡ (if has columns.old position then rows else map (spread_row (front_below position columns.old)) rows) }
 {
-    let below = columns.below(position);
+    let below = columns.count_columns_below(position);
     if columns.is_column_at(below, position) {
         return rows;
     }
-    columns.insert_at(below, position);
+    columns.insert_position_at(below, position);
     spread_lanes(rows, below)
 }
 
@@ -52,7 +52,7 @@ pub(crate) fn concatenate_rows(zero: &[u32], one: &[u32], bit: u32) -> ArrayVec<
     requires { length zero.now + length one.now ≤ 32 }
     ensures { result.items ≡ zero.now ++ map (λ row. bit_or row bit) one.now }
 {
-    let mut rows = list_all(zero);
+    let mut rows = list_items(zero);
     for row in one {
         rows.push(*row | bit);
     }

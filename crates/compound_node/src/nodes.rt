@@ -1,10 +1,10 @@
 //! Compound nodes.
 
-use super::building::build;
+use super::building::build_node;
 use super::entries::{
-    Entry, all_stand_below, concatenate_entries, height_with, insert_beside, list_all,
+    Entry, all_stand_below, concatenate_entries, height_with_entry, insert_entry_beside, list_items,
 };
-use super::halves::{Cut, Half, cut_of, rest_of};
+use super::halves::{Cut, Half, make_cut, make_rest};
 use super::heads::Head;
 use super::joining::{concatenate_rows, ensure_columns};
 use super::rows::find_sibling;
@@ -57,7 +57,7 @@ impl Node {
             return None;
         }
         let head = Head::from_parts(entries.len() as u8, height, columns, sparse)?;
-        Some(Node::of(head, list_all(entries)))
+        Some(Node::of(head, list_items(entries)))
     }
 
     /// The node of `head` and `entries`, which fit together.
@@ -78,7 +78,7 @@ impl Node {
         let mut entries = ArrayVec::new();
         entries.push(zero);
         entries.push(one);
-        build(Columns::of(&[position]), &[0, 1 << 31], entries)
+        build_node(Columns::of(&[position]), &[0, 1 << 31], entries)
     }
 
     /// The node of all entries of `zero` and `one`, the sides of a fork at `position`. Its height is one above the greatest of theirs.
@@ -92,10 +92,10 @@ impl Node {
         ensure_columns(&mut columns, &mut zero_rows, position, one.columns());
         let (mut same_columns, mut one_rows) = (*one.columns(), *one.padded_rows());
         ensure_columns(&mut same_columns, &mut one_rows, position, zero.columns());
-        let bit = 1 << (31 - columns.below(position));
+        let bit = 1 << (31 - columns.count_columns_below(position));
         let rows = concatenate_rows(&zero_rows[..zero_count], &one_rows[..one_count], bit);
         let entries = concatenate_entries(zero.entries.as_slice(), one.entries.as_slice());
-        build(columns, rows.as_slice(), entries)
+        build_node(columns, rows.as_slice(), entries)
     }
 
     /// How many entries there are, 2 to 32.
@@ -220,13 +220,13 @@ impl Node {
         ensures { IsBuiltFrom result (grown position bit entry first (piece self.now)) }
     {
         let mut node = self.copy();
-        node.add(first, last, position, bit, entry);
+        node.add_entry(first, last, position, bit, entry);
         node
     }
 
     /// Puts `entry` and a new fork at `position` over the affected slots `first` to `last` into this node. The entry stands straight after
     /// them if `bit` is true, else straight before. The height is made anew, as by `insert`.
-    pub fn add(&mut self, first: u8, last: u8, position: u16, bit: bool, entry: Entry)
+    pub fn add_entry(&mut self, first: u8, last: u8, position: u16, bit: bool, entry: Entry)
         requires room { length self.old.entries < 32 }
         requires range { IsAffected (piece self.old) position first last }
         requires below { position < 65535 }
@@ -234,8 +234,8 @@ impl Node {
         ensures { IsBuiltFrom self.new (grown position bit entry first (piece self.old)) }
     {
         let (first, last) = (first as usize, last as usize);
-        insert_beside(&mut self.entries, first, last, bit, entry);
-        let height = height_with(self.entries.as_slice(), entry, self.head.height());
+        insert_entry_beside(&mut self.entries, first, last, bit, entry);
+        let height = height_with_entry(self.entries.as_slice(), entry, self.head.height());
         self.head.add_fork(height, position, first, last, bit);
     }
 
@@ -245,7 +245,7 @@ impl Node {
     {
         Node {
             head: self.head.copy(),
-            entries: list_all(self.entries.as_slice()),
+            entries: list_items(self.entries.as_slice()),
         }
     }
 
@@ -258,12 +258,12 @@ impl Node {
         ensures lawful { IsLawfulNode result }
     {
         let mut node = self.copy();
-        node.set(i, entry);
+        node.set_entry(i, entry);
         node
     }
 
     /// Puts `entry` into slot `i` of this node, as `replace` does in a copy.
-    pub fn set(&mut self, i: u8, entry: Entry)
+    pub fn set_entry(&mut self, i: u8, entry: Entry)
         requires in_range { i < length self.old.entries }
         requires stands { StandsBelow self.old.height entry }
         ensures fields { self.new ≡ record self.old { entries = slice_set self.old.entries i entry } }
@@ -278,7 +278,7 @@ impl Node {
     pub fn cut(&self) -> Cut
         ensures { CutShows result (piece self.now) }
     {
-        cut_of(
+        make_cut(
             self.head.columns(),
             self.head.rows(),
             self.entries.as_slice(),
@@ -286,12 +286,13 @@ impl Node {
     }
 
     /// What is left without the entry in slot `i`, and without the last fork on the path to it. That fork's other side stands in its stead.
-    /// The result is never `Same`.
+    /// `One` if one entry is left; else `Many`, a new node with only the columns that it uses, one higher than the highest of its entries.
+    /// Never `Same`.
     pub fn without(&self, i: u8) -> Half
         requires { i < length self.now.entries }
         ensures { HalfShows result (without i (piece self.now)) }
     {
-        rest_of(
+        make_rest(
             self.head.columns(),
             self.head.rows(),
             self.entries.as_slice(),

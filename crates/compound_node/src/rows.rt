@@ -14,9 +14,9 @@ ghost use Rattle.compound_node.specs.Beside.{AreRound, IsBesideIn, column_before
 ghost use Rattle.compound_node.specs.Nodes.{IsLawfulNode, NodeView};
 ghost use Rattle.compound_node.specs.Removal.{lowest, bit_after, cleared_front, removed_row};
 
-use super::entries::append_all;
+use super::entries::append_items;
 use arrayvec::ArrayVec;
-use partial_keys::remove_in;
+use partial_keys::remove_element;
 use std::simd::prelude::*;
 
 /// Whether 4,294,967,295 stands in `sparse` at each index from `count` on, so that these slots are unused.
@@ -120,7 +120,7 @@ fn insert_row(rows: u32x32, at: u32, row: u32) -> u32x32
 /// `rows` with a copy of row `first` put in before it. In the result, the rows from `first + 1` on and below `end` have `bits` set besides.
 /// The last of the 32 is lost.
 #[inline(always)]
-fn fork_before(rows: u32x32, first: u32, end: u32, bits: u32) -> u32x32
+fn fork_rows_before(rows: u32x32, first: u32, end: u32, bits: u32) -> u32x32
     requires order { first + 1 < end }
     requires in_range { end ≤ 32 }
     ensures { result ≡ take 32 (edited first (end - 1 - first) (forked_rows bits false) rows) }
@@ -145,14 +145,14 @@ pub fn fork_rows(rows: u32x32, first: usize, last: usize, weight: u32, bit: bool
         let row = rows.to_array()[first] | weight;
         insert_row(rows, last as u32 + 1, row)
     } else {
-        fork_before(rows, first as u32, last as u32 + 2, weight)
+        fork_rows_before(rows, first as u32, last as u32 + 2, weight)
     }
 }
 
 // ---- the rows round one
 
 /// Whether the rows `a` and `b` agree in their first `columns` columns.
-fn agree(a: u32, b: u32, columns: usize) -> bool
+fn rows_agree(a: u32, b: u32, columns: usize) -> bool
     requires { columns ≤ 31 }
     ensures { result ≡ agree_in columns a b }
 {
@@ -166,7 +166,7 @@ pub(crate) fn run_start(rows: &[u32], columns: usize, found: usize) -> usize
     ensures { IsRunStart rows.now columns found result }
 {
     for i in (0..found).rev() {
-        if !agree(rows[i], rows[found], columns) {
+        if !rows_agree(rows[i], rows[found], columns) {
             return i + 1;
         }
     }
@@ -180,7 +180,7 @@ pub(crate) fn run_end(rows: &[u32], columns: usize, found: usize) -> usize
     ensures { IsRunEnd rows.now columns found result }
 {
     for i in found + 1..rows.len() {
-        if !agree(rows[i], rows[found], columns) {
+        if !rows_agree(rows[i], rows[found], columns) {
             return i - 1;
         }
     }
@@ -224,7 +224,7 @@ fn close_column(row: u32, j: u8) -> u32
 }
 
 /// Takes column `j` out of each of `rows`.
-fn close_column_of_all(rows: &mut [u32], j: u8)
+fn close_column_of_rows(rows: &mut [u32], j: u8)
     requires { j ≤ 31 }
     ensures { rows.new ≡ map (closed_row j) rows.old }
 {
@@ -242,7 +242,7 @@ pub(crate) fn squeeze_rows(rows: &mut [u32], used: u32, columns: u8)
 {
     for j in (0..columns).rev() {
         if used >> (31 - j) & 1 == 0 {
-            close_column_of_all(rows, j);
+            close_column_of_rows(rows, j);
         }
     }
 }
@@ -276,7 +276,7 @@ fn sibling_bit(rows: &[u32], at: usize) -> u32
 }
 
 /// Adds `rows` to the end of `out`, which has room for them. Those before the first without `bit` lose `bit`.
-fn append_clearing(out: &mut ArrayVec<u32, 32>, rows: &[u32], bit: u32)
+fn append_cleared_rows(out: &mut ArrayVec<u32, 32>, rows: &[u32], bit: u32)
     requires { array_vec_len out.old + length rows.now ≤ 32 }
     ensures { out.new.items ≡ out.old.items ++ cleared_front bit rows.now }
 {
@@ -295,13 +295,13 @@ pub(crate) fn without_row(rows: &[u32], at: usize) -> ArrayVec<u32, 32>
     ensures { result.items ≡ removed_row at rows.now }
 {
     let mut out = ArrayVec::new();
-    append_all(&mut out, &rows[..at]);
-    append_clearing(&mut out, &rows[at + 1..], sibling_bit(rows, at));
+    append_items(&mut out, &rows[..at]);
+    append_cleared_rows(&mut out, &rows[at + 1..], sibling_bit(rows, at));
     out
 }
 
 /// Clears `bit` in the rows from `first` on and below `end`, up to the first that hasn't it.
-fn clear_front(rows: &mut [u32; 32], first: usize, end: usize, bit: u32)
+fn clear_bit_of_front(rows: &mut [u32; 32], first: usize, end: usize, bit: u32)
     requires ordered { first ≤ end }
     requires in_range { end ≤ 32 }
     ensures { rows.new ≡ edited first (end - first) (cleared_front bit) rows.old }
@@ -324,8 +324,8 @@ pub(crate) fn remove_row(rows: &mut [u32; 32], count: usize, at: usize)
     ensures { rows.new ≡ removed_row at (take count rows.old) ++ 4294967295 ∷ drop count rows.old }
 {
     let bit = sibling_bit(&rows[..count], at);
-    clear_front(rows, at + 1, count, bit);
-    remove_in(rows, count, at, u32::MAX);
+    clear_bit_of_front(rows, at + 1, count, bit);
+    remove_element(rows, count, at, u32::MAX);
 }
 
 // ---- the sibling of a slot

@@ -39,8 +39,8 @@ pub enum Case {
 /// The affected node of an insertion, by its place on the way, its affected entries, and what is done there.
 ///
 /// It says which nodes get another one in their place. For `LeafPushdown` it is none, and entry `first` of the affected node is stored.
-/// For `NormalInsert` it is the affected node. For `Overflow` these are the nodes from the affected one up to `chain_end`, but for a full
-/// node that stays whole as one half.
+/// For `NormalInsert` it is the affected node. For `Overflow` these are the nodes from the affected one up to `pull_up_chain_end`, but for a
+/// full node that stays whole as one half.
 ///
 /// The last two store into the entry at `at` of the node above the uppermost of these, or at the root. A writer locks these nodes, also
 /// the one that stays whole, and the one that is stored into.
@@ -69,7 +69,7 @@ pub fn level_below(way: &[PathNode], position: u16) -> usize
 /// The affected node and the case of an insertion after a search along `way`, whose leaf has another key. `level` is what `level_below`
 /// returns for the position where the two keys first differ. There the entries from `first` to `last` are affected. If that is one entry,
 /// and the way goes on below it, the whole next node is affected instead.
-pub fn choose(way: &[PathNode], level: usize, first: u8, last: u8) -> Choice
+pub fn choose_case(way: &[PathNode], level: usize, first: u8, last: u8) -> Choice
     requires { level < length way.now }
     ensures chosen { IsChosen way.now level first last result }
     ensures affected { (k : KeyBytes) (t : Tree) (p : ℕ) → IsTrie t → IsBuilt t → IsWay k t way.now → IsFirstDifference k (found k t).key p →
@@ -83,7 +83,7 @@ pub fn choose(way: &[PathNode], level: usize, first: u8, last: u8) -> Choice
             level,
             first,
             last,
-            case: case_at(step, false),
+            case: case_at_node(step, false),
         };
     }
     if level + 1 < way.len() {
@@ -92,19 +92,19 @@ pub fn choose(way: &[PathNode], level: usize, first: u8, last: u8) -> Choice
             level: level + 1,
             first: 0,
             last: child.count.saturating_sub(1),
-            case: case_at(child, false),
+            case: case_at_node(child, false),
         };
     }
     Choice {
         level,
         first,
         last,
-        case: case_at(step, true),
+        case: case_at_node(step, true),
     }
 }
 
 /// What is done at the node of `step`, the affected one. `one_leaf` says whether one leaf alone is affected.
-fn case_at(step: PathNode, one_leaf: bool) -> Case
+fn case_at_node(step: PathNode, one_leaf: bool) -> Case
     ensures { result ≡ case_of step.height step.count one_leaf }
 {
     if one_leaf && step.height > 1 {
@@ -118,7 +118,7 @@ fn case_at(step: PathNode, one_leaf: bool) -> Case
 
 /// The index on `way` of the uppermost node that is remade, where the node at index `level` overflows: that node, or one above it. The
 /// halves of a full node go into its parent where that is one higher, and a full parent overflows in turn.
-pub fn chain_end(way: &[PathNode], level: usize) -> usize
+pub fn pull_up_chain_end(way: &[PathNode], level: usize) -> usize
     requires { level < length way.now }
     ensures { IsChainEnd way.now level result }
 {

@@ -49,13 +49,13 @@ pub fn grow_full(node: &Node, first: u8, last: u8, position: u16, bit: bool, ent
 {
     prove!(node.count() == 32);
     if position < node.first_position() {
-        return Grown::Two(keep_whole(position, bit, entry));
+        return Grown::Two(keep_node_whole(position, bit, entry));
     }
     Grown::Two(cut_and_grow(node, first, last, position, bit, entry))
 }
 
 /// The cut at `position` whose sides are the node that was handed in, whole, and `entry`. `bit` says which side `entry` is.
-fn keep_whole(position: u16, bit: bool, entry: Entry) -> Cut
+fn keep_node_whole(position: u16, bit: bool, entry: Entry) -> Cut
     ensures position { result.position ≡ position }
     ensures zero { result.zero ≡ (if bit then Half.Same else Half.One entry) }
     ensures one { result.one ≡ (if bit then Half.One entry else Half.Same) }
@@ -89,7 +89,7 @@ fn cut_and_grow(node: &Node, first: u8, last: u8, position: u16, bit: bool, entr
         zero,
         one,
     } = node.cut();
-    let front = count_half(&zero);
+    let front = half_count(&zero);
     if first < front {
         let zero = Half::Many(grow_half(zero, first, last, position, bit, entry));
         Cut {
@@ -108,7 +108,7 @@ fn cut_and_grow(node: &Node, first: u8, last: u8, position: u16, bit: bool, entr
 }
 
 /// The number of entries of `half`, a side of a cut. `Half::Same` is never given.
-fn count_half(half: &Half) -> u8
+fn half_count(half: &Half) -> u8
     requires { HalfShows half.now (half_piece half.now) }
     ensures { result ≡ size (half_piece half.now) }
 {
@@ -131,7 +131,7 @@ fn grow_half(half: Half, first: u8, last: u8, position: u16, bit: bool, entry: E
 {
     match half {
         Half::Many(mut node) => {
-            node.add(first, last, position, bit, entry);
+            node.add_entry(first, last, position, bit, entry);
             node
         }
         Half::One(other) => {
@@ -167,7 +167,7 @@ pub fn pull_up(node: &Node, at: u8, position: u16, zero: Entry, one: Entry) -> G
         zero: front,
         one: rest,
     } = node.cut();
-    let count = count_half(&front);
+    let count = half_count(&front);
     if at < count {
         let front = Half::Many(fork_half(front, at, position, zero, one));
         Grown::Two(Cut {
@@ -221,12 +221,12 @@ pub fn put_fork(node: &mut Node, at: u8, position: u16, zero: Entry, one: Entry)
     ensures { IsBuiltFrom node.new (grafted at (Fork position (At zero) (At one)) (piece node.old)) }
 {
     prove!(node.count() < 32);
-    node.set(at, Entry::Leaf(0));
+    node.set_entry(at, Entry::Leaf(0));
     if zero.height() <= one.height() {
-        node.add(at, at, position, true, one);
-        node.set(at, zero);
+        node.add_entry(at, at, position, true, one);
+        node.set_entry(at, zero);
     } else {
-        node.add(at, at, position, false, zero);
-        node.set(at + 1, one);
+        node.add_entry(at, at, position, false, zero);
+        node.set_entry(at + 1, one);
     }
 }

@@ -89,7 +89,7 @@ impl Key {
         }
         self.count = bytes.len();
         self.bytes = [0; MAX_BYTES];
-        write_front(&mut self.bytes, bytes);
+        write_key_bytes(&mut self.bytes, bytes);
         Ok(())
     }
 
@@ -133,13 +133,13 @@ impl Key {
     pub fn bit(&self, position: u16) -> bool
         ensures { result ≡ bit_of self.now position }
     {
-        bit_in(self.as_bytes(), position) == 1
+        bit_of_bytes(self.as_bytes(), position) == 1
     }
 }
 
 /// Writes `bytes` to the front of `array`; what is behind them stays. Keys of eight bytes are common, and are written as one word.
 #[inline(always)]
-fn write_front(array: &mut [u8; MAX_BYTES], bytes: &[u8])
+fn write_key_bytes(array: &mut [u8; MAX_BYTES], bytes: &[u8])
     requires { length bytes.now ≤ MAX_BYTES }
     ensures { array.new ≡ bytes.now ++ drop (length bytes.now) array.old }
 {
@@ -241,11 +241,11 @@ pub fn mismatch(a: &Key, b: &Key) -> Option<u16>
     ensures order { IfSome result (λ p. (slice_cmp nat_cmp a.now b.now ≡ Ordering.Less) ↔ (bit_of a.now p ≡ false)) }
     ensures keys { IsKey a.now × IsKey b.now }
 {
-    mismatch_in(a.as_bytes(), b.as_bytes())
+    mismatch_of_bytes(a.as_bytes(), b.as_bytes())
 }
 
 /// The first position at which the keys with the bytes `xs` and `ys` differ, below `9 * MAX_BYTES`; `None` exactly for equal keys.
-pub fn mismatch_in(xs: &[u8], ys: &[u8]) -> Option<u16>
+pub fn mismatch_of_bytes(xs: &[u8], ys: &[u8]) -> Option<u16>
     requires { IsKey xs.now × IsKey ys.now }
     ensures none { IsNone result ↔ (xs.now ≡ ys.now) }
     ensures first { IfSome result (IsFirstDifference xs.now ys.now) }
@@ -274,7 +274,7 @@ fn count_same_eights(xs: &[u8], ys: &[u8], count: usize) -> usize
     ensures next { result < count → take 8 (drop (8 * result) xs.now) ≢ take 8 (drop (8 * result) ys.now) }
 {
     for j in 0..count {
-        if eight_at(xs, j) != eight_at(ys, j) {
+        if eight_bytes_at(xs, j) != eight_bytes_at(ys, j) {
             return j;
         }
     }
@@ -283,7 +283,7 @@ fn count_same_eights(xs: &[u8], ys: &[u8], count: usize) -> usize
 
 /// The eight bytes from byte `8 * j` on as a number, whose highest byte is the first of them.
 #[inline(always)]
-fn eight_at(bytes: &[u8], j: usize) -> u64
+fn eight_bytes_at(bytes: &[u8], j: usize) -> u64
     requires { 8 * j + 8 ≤ length bytes.now }
     ensures { to_be_bytes w64 result ≡ take 8 (drop (8 * j) bytes.now) }
 {
@@ -309,13 +309,13 @@ pub fn extract(key: &Key, positions: &[u16]) -> u32
     let bytes = key.as_bytes();
     let mut bits = 0;
     for position in positions {
-        bits = bits << 1 | bit_in(bytes, *position);
+        bits = bits << 1 | bit_of_bytes(bytes, *position);
     }
     bits << (31 - positions.len()) << 1
 }
 
 /// The bit at `position` of the key of `bytes`, as 0 or 1.
-fn bit_in(bytes: &[u8], position: u16) -> u32
+fn bit_of_bytes(bytes: &[u8], position: u16) -> u32
     ensures { result ≡ (if bit_of bytes.now position then 1 else 0) }
 {
     let position = position as u32;

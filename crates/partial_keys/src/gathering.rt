@@ -56,7 +56,7 @@ fn window_at(key: &Key, first: usize) -> u8x32
 /// For each lane the bits of its mask in `masks` that its byte lacks; not 0 if that byte is behind byte `last`. `bytes` has the index of
 /// each lane's byte, and `window` the sixteen bytes from byte `first` on.
 #[inline(always)]
-fn find_missing(bytes: u8x32, masks: u8x32, window: u8x32, first: u8, last: u8) -> u8x32
+fn find_missing_bits(bytes: u8x32, masks: u8x32, window: u8x32, first: u8, last: u8) -> u8x32
     requires lanes { (length bytes ≡ 32) × (length masks ≡ 32) × (length window ≡ 32) }
     ensures whole { length result ≡ 32 }
     ensures each { (i : ℕ) → i < 32 → slice_index result i ≡ missed_lane window first last i (slice_index bytes i) (slice_index masks i) }
@@ -89,9 +89,9 @@ pub fn extract_by_lanes(lanes: u16x32, count: u8, key: &Key) -> u32
     let bytes = bytes_at(lanes);
     if fits_window(bytes, first, key_length) {
         let (masks, window) = (masks_at(lanes), window_at(key, first));
-        mark_zeros(find_missing(bytes, masks, window, first as u8, (key_length - 1) as u8))
+        mark_zeros(find_missing_bits(bytes, masks, window, first as u8, (key_length - 1) as u8))
     } else {
-        extract_far(lanes, count, key)
+        extract_by_windows(lanes, count, key)
     }
 }
 
@@ -106,12 +106,13 @@ fn fits_window(bytes: u8x32, first: usize, key_length: usize) -> bool
 {
     key_length > 0
         && first <= MAX_BYTES - 16
-        && (key_length <= first + 16 || has_none_between(bytes, first as u8 + 16, key_length as u8))
+        && (key_length <= first + 16
+            || has_no_byte_between(bytes, first as u8 + 16, key_length as u8))
 }
 
 /// Whether each of `bytes` is below `from`, or not below `to`.
 #[inline(always)]
-fn has_none_between(bytes: u8x32, from: u8, to: u8) -> bool
+fn has_no_byte_between(bytes: u8x32, from: u8, to: u8) -> bool
     requires lanes { length bytes ≡ 32 }
     requires order { from ≤ to }
     ensures none { IsTrue result → (i : ℕ) → i < 32 → (slice_index bytes i < from) ⊎ (to ≤ slice_index bytes i) }
@@ -125,7 +126,7 @@ fn has_none_between(bytes: u8x32, from: u8, to: u8) -> bool
 /// The dense partial key that `extract_by_lanes` returns, from sixteen bytes of the key at a time. Never inline: so the lanes go into
 /// memory only where columns are far apart.
 #[inline(never)]
-fn extract_far(lanes: u16x32, count: u8, key: &Key) -> u32
+fn extract_by_windows(lanes: u16x32, count: u8, key: &Key) -> u32
     requires { AreColumnLanes lanes count }
     ensures { result ≡ dense_of (take count lanes) (bit_of key.now) }
 {
@@ -133,7 +134,7 @@ fn extract_far(lanes: u16x32, count: u8, key: &Key) -> u32
     let parts = (key.as_bytes().len().saturating_sub(first) + 15) / 16;
     let mut missing = u8x32::splat(255);
     for part in 0..parts {
-        missing = missing.simd_min(find_missing_from(lanes, first + 16 * part, key));
+        missing = missing.simd_min(find_missing_bits_from(lanes, first + 16 * part, key));
     }
     mark_zeros(missing)
 }
@@ -141,7 +142,7 @@ fn extract_far(lanes: u16x32, count: u8, key: &Key) -> u32
 /// For each lane 0 exactly if `key` has a 1 at its position, in one of the sixteen bytes from `from` on. Past byte `MAX_BYTES - 16`, the
 /// last sixteen of `MAX_BYTES` count instead.
 #[inline(always)]
-fn find_missing_from(lanes: u16x32, from: usize, key: &Key) -> u8x32
+fn find_missing_bits_from(lanes: u16x32, from: usize, key: &Key) -> u8x32
     requires lanes { length lanes ≡ 32 }
     requires some { from < length key.now }
     ensures whole { length result ≡ 32 }
@@ -150,19 +151,19 @@ fn find_missing_from(lanes: u16x32, from: usize, key: &Key) -> u8x32
     let first = from.min(MAX_BYTES - 16);
     let last = (first + 15).min(key.as_bytes().len() - 1);
     let bytes = bytes_at(lanes);
-    let missed = find_missing(
+    let missed = find_missing_bits(
         bytes,
         masks_at(lanes),
         window_at(key, first),
         first as u8,
         last as u8,
     );
-    missed | count_before(bytes, first as u8)
+    missed | distances_below(bytes, first as u8)
 }
 
 /// For each of `bytes` by how much it is below `first`; 0 if it isn't below.
 #[inline(always)]
-fn count_before(bytes: u8x32, first: u8) -> u8x32
+fn distances_below(bytes: u8x32, first: u8) -> u8x32
     requires { length bytes ≡ 32 }
     ensures whole { length result ≡ 32 }
     ensures each { (i : ℕ) → i < 32 → slice_index result i ≡ first - slice_index bytes i }

@@ -78,7 +78,7 @@ impl Columns {
     }
 
     /// The positions, and 65,535 behind them up to 31.
-    pub fn padded(&self) -> &[u16; 31]
+    pub fn padded_positions(&self) -> &[u16; 31]
         ensures { result.now ≡ with_free self.now }
     {
         &self.positions
@@ -107,7 +107,7 @@ impl Columns {
     }
 
     /// How many columns have a position below `position`. If `position` is a column, that is its index.
-    pub fn below(&self, position: u16) -> u8
+    pub fn count_columns_below(&self, position: u16) -> u8
         ensures value { result ≡ front_below position self.now }
         ensures within { result ≤ length self.now }
     {
@@ -137,13 +137,13 @@ impl Columns {
         ensures index { result ≡ front_below position self.old }
         ensures columns { self.new ≡ with_position position self.old }
     {
-        let at = self.below(position);
-        self.insert_at(at, position);
+        let at = self.count_columns_below(position);
+        self.insert_position_at(at, position);
         at
     }
 
     /// Adds a column at `position`, which is none yet; `below` says how many columns are below it.
-    pub fn insert_at(&mut self, below: u8, position: u16)
+    pub fn insert_position_at(&mut self, below: u8, position: u16)
         requires room { length self.old < 31 }
         requires small { position < 65535 }
         requires new { has self.old position ≡ false }
@@ -151,7 +151,7 @@ impl Columns {
         ensures { self.new ≡ with_position position self.old }
     {
         let count = self.count as usize;
-        insert_in(&mut self.positions, count, below as usize, position);
+        insert_element(&mut self.positions, count, below as usize, position);
         self.count += 1;
     }
 
@@ -161,7 +161,7 @@ impl Columns {
         ensures { self.new ≡ kept (used_bits used) self.old }
     {
         let count = self.count as usize;
-        self.count = keep_used(&mut self.positions, count, used) as u8;
+        self.count = keep_used_positions(&mut self.positions, count, used) as u8;
     }
 }
 
@@ -187,7 +187,7 @@ pub fn count_below(lanes: u16x32, bound: u16) -> u8
 }
 
 /// Puts `element` in at index `at` among the first `count` of `items`. Those from there on move up by one; the item behind them is lost.
-pub fn insert_in<T: Copy>(items: &mut [T], count: usize, at: usize, element: T)
+pub fn insert_element<T: Copy>(items: &mut [T], count: usize, at: usize, element: T)
     requires in_range { at ≤ count }
     requires room { count < length items.old }
     ensures { items.new ≡ insert (take count items.old) at element ++ drop (count + 1) items.old }
@@ -197,7 +197,7 @@ pub fn insert_in<T: Copy>(items: &mut [T], count: usize, at: usize, element: T)
 }
 
 /// Takes the item at index `at` out of the first `count` of `items`. Those behind it move down by one, and `fill` comes behind them.
-pub fn remove_in<T: Copy>(items: &mut [T], count: usize, at: usize, fill: T)
+pub fn remove_element<T: Copy>(items: &mut [T], count: usize, at: usize, fill: T)
     requires in_range { at < count }
     requires room { count ≤ length items.old }
     ensures { items.new ≡ remove (take count items.old) at ++ fill ∷ drop count items.old }
@@ -210,7 +210,7 @@ pub fn remove_in<T: Copy>(items: &mut [T], count: usize, at: usize, fill: T)
 
 /// Moves those of the first `count` positions whose bit 31-j is set in `used` to the front, where j is their index. Returns how many
 /// these are. All behind them are 65,535 then.
-fn keep_used(positions: &mut [u16; 31], count: usize, used: u32) -> usize
+fn keep_used_positions(positions: &mut [u16; 31], count: usize, used: u32) -> usize
     requires few { count ≤ 31 }
     requires unused { drop count positions.old ≡ replicate (31 - count) 65535 }
     ensures count { result ≡ length (kept (used_bits used) (take count positions.old)) }

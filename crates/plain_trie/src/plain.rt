@@ -123,8 +123,8 @@ impl PlainTrie {
     /// room is made for. So one can be refused that would have found room for its own, and the last few numbers of nodes stay unused. A
     /// refused call leaves all records and the root as they were.
     ///
-    /// A key that is added below a node changes the nodes by the case of the affected one, as `choose` of `insert_cases` names it. Those
-    /// above it change by what rises from there.
+    /// A key that is added below a node changes the nodes by the case of the affected one, as `choose_case` of `insert_cases` names it.
+    /// Those above it change by what rises from there.
     pub fn insert(&mut self, key: &Key, value: u64) -> Result<Reply, AllocError>
         ensures ok { IfOk result (IsTrieAnswer (Insert key.now value) self.old self.new) }
         ensures err { OnErr result (IsOutOfMemory (Insert key.now value) self.old self.new) }

@@ -36,11 +36,11 @@ pub fn runs_are_events()
 
 /// Each pair of a scan was in the map at a moment between its invocation and its response. No key is missing that was there all along; if
 /// there are more, no such key up to the last pair.
-pub fn scans_are_in_time()
+pub fn scans_are_of_their_time()
     ensures { ScansInTime }
 {}
 
 /// Each answered call's reply is the map's at a moment between its invocation and its response.
-pub fn replies_are_in_time()
+pub fn replies_are_of_their_time()
     ensures { RepliesInTime }
 {}

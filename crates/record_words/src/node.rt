@@ -18,7 +18,7 @@ use crate::search::{has_lane, rows_in, split_into_quarters};
 use crate::{FIRST_ROWS, HEAD_WORDS, HEIGHT_BIT, MAX_ENTRIES, NODE_FIELDS};
 use arrayvec::ArrayVec;
 use compound_node::{Entry, Head, Node, fork_rows};
-use partial_keys::{Columns, count_below, insert_in, remove_in};
+use partial_keys::{Columns, count_below, insert_element, remove_element};
 use std::simd::prelude::*;
 
 /// The words of `node` in a node record, from offset 1 on: its head, its entries, and 0 behind these.
@@ -39,7 +39,7 @@ fn put_head(words: &mut [u64; NODE_FIELDS], head: &Head)
     ensures { HasHead words.old words.new head.now }
 {
     let columns = head.columns();
-    let positions = columns.padded();
+    let positions = columns.padded_positions();
     words[0] = word_of_numbers(head.count(), columns.count(), head.height());
     for j in 0..8 {
         words[1 + j] = word_of_positions(positions, j);
@@ -88,7 +88,7 @@ pub fn add_leaf(
             first as usize
         };
     add_fork(words, first, last, position, bit);
-    insert_in(words, end, at, pack_entry(Some(Entry::Leaf(leaf))));
+    insert_element(words, end, at, pack_entry(Some(Entry::Leaf(leaf))));
 }
 
 /// Changes the words of the head to those with a new fork at `position` over the slots from `first` to `last`. The leaf's slot follows from
@@ -131,7 +131,7 @@ pub fn drop_entry(words: &mut [u64; NODE_FIELDS], at: u8) -> Option<Entry>
         return Some(read_some_entry(words[HEAD_WORDS + 1 - at as usize]));
     }
     let last = HEAD_WORDS + head.count() as usize - 1;
-    remove_in(words, last + 1, HEAD_WORDS + at as usize, 0);
+    remove_element(words, last + 1, HEAD_WORDS + at as usize, 0);
     let height = height_over(&words[HEAD_WORDS..last], head.height());
     head.remove_entry(at, height);
     put_head(words, &head);

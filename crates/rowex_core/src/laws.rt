@@ -8,7 +8,7 @@ pub fn steps_stay_lawful()
 {}
 
 /// A legal step of one pass leaves to another what it has: its records, locks, pin and round.
-pub fn steps_leave_others()
+pub fn steps_leave_what_others_have()
     ensures { LeavesOthers }
 {}
 
@@ -23,12 +23,12 @@ pub fn learned_is_true()
 {}
 
 /// A load of the root leaves its pass all changes that were made before it, and so all that any pass had seen by then.
-pub fn root_load_sees_all()
+pub fn root_load_sees_all_changes()
     ensures { SeesAll }
 {}
 
 /// A pass has just the records of its own, the locks of nodes in the tree and the anchor's lock that it knows to have.
-pub fn knows_all_it_has()
+pub fn pass_knows_all_it_has()
     ensures { KnowsAll }
 {}
 

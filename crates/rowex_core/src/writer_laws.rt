@@ -4,7 +4,7 @@ ghost use Rattle.rowex_core.specs.Writers.{LedIsInTree, PublishIsLegal, OwnedAft
 
 /// Let the versions allow the publish of a tree that changes the leaves, by a pass that has locked the word. Then the store of the word is
 /// a legal publish. The words show the tree after it, and its change is that between the leaves of the two trees.
-pub fn publish_is_legal()
+pub fn allowed_store_is_legal_publish()
     ensures { PublishIsLegal }
 {}
 
@@ -14,11 +14,11 @@ pub fn stored_slot_is_shown()
 {}
 
 /// A node that was in the tree in a version since a pass's pin is in the tree now if its state is live.
-pub fn led_is_in_tree()
+pub fn led_live_node_is_in_tree()
     ensures { LedIsInTree }
 {}
 
 /// After a publish a pass owns just the records that it unlinked. It has locked just those nodes that it had locked and didn't unlink.
-pub fn publish_leaves_unlinked()
+pub fn publisher_owns_what_it_unlinked()
     ensures { OwnedAfterPublish }
 {}

@@ -11,7 +11,7 @@ use crate::reading::{load_entry, load_leaf, load_root, search_node};
 use arrayvec::ArrayVec;
 use compound_node::Entry;
 use insert_cases::PathNode;
-use key_bits::{Key, MAX_BYTES, mismatch_in};
+use key_bits::{Key, MAX_BYTES, mismatch_of_bytes};
 use rowex_core::{Gate, Rec};
 use rowex_table::{HotTable, LeafAt, NodeAt, TableSeat};
 
@@ -65,7 +65,7 @@ pub fn search_way<G: Gate>(
                 return Found::Leaf {
                     number,
                     value,
-                    mismatch: mismatch_in(key.as_bytes(), &places[..length]),
+                    mismatch: mismatch_of_bytes(key.as_bytes(), &places[..length]),
                 };
             }
             Entry::Node { number, .. } => {

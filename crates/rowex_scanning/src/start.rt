@@ -7,7 +7,7 @@ ghost use Rattle.rowex_scanning.specs.Scanning.{first_key_of};
 ghost use Rattle.rowex_scanning.specs.Starts.{IsSearchEnd, IsParting, IsStart};
 
 use crate::scanning::{Scan, first_key};
-use insert_cases::{PathNode, choose, level_below};
+use insert_cases::{PathNode, choose_case, level_below};
 use key_bits::Key;
 use rowex_core::Gate;
 use rowex_reading::find_affected;
@@ -100,7 +100,7 @@ fn find_start_upwards<G: Gate>(
     let level = level_below(way, position);
     let step = way[level];
     let (first, last) = find_affected(table, seat, gate, step.number, step.at, position);
-    let part = choose(way, level, first, last);
+    let part = choose_case(way, level, first, last);
     let mut top = way[part.level];
     top.at = if below { part.last + 1 } else { part.first };
     Start {

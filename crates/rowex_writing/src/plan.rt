@@ -12,7 +12,7 @@ ghost use Rattle.rowex_reading.specs.Ways.{IsWayOf};
 ghost use Rattle.record_words.specs.declared.TheConstants.{HEAD_WORDS};
 
 use finite_map::Reply;
-use insert_cases::{Case, PathNode, chain_end, choose, level_below};
+use insert_cases::{Case, PathNode, choose_case, level_below, pull_up_chain_end};
 use rowex_core::Gate;
 use rowex_reading::{Found, find_affected};
 use rowex_table::{HotTable, TableSeat};
@@ -145,7 +145,7 @@ fn plan_in_lowest_node(way: &[PathNode], position: u16, level: usize) -> Plan
     if way[level].count < 32 {
         change_plan(level + 1, level, deed)
     } else {
-        change_plan(level + 1, chain_end(way, level), deed)
+        change_plan(level + 1, pull_up_chain_end(way, level), deed)
     }
 }
 
@@ -161,13 +161,13 @@ pub(crate) fn plan_beside_entries(
     requires { level < length way.now }
     ensures { IsBeside way.now position level first last result }
 {
-    let choice = choose(way, level, first, last);
+    let choice = choose_case(way, level, first, last);
     let deed = Deed::Grow { position };
     let len = choice.level + 1;
     match choice.case {
         Case::LeafPushdown => change_plan(len, len, Deed::PushDown { position }),
         Case::NormalInsert => change_plan(len, choice.level, deed),
-        Case::Overflow => change_plan(len, chain_end(way, choice.level), deed),
+        Case::Overflow => change_plan(len, pull_up_chain_end(way, choice.level), deed),
     }
 }
 

@@ -35,7 +35,7 @@ pub(crate) fn add_leaf(node: &mut Node, new: &NewLeaf<'_>)
     prove!(node.count() < 32);
     let bit = new.key.bit(new.position);
     let (first, last) = node.affected(new.at, new.position);
-    node.add(first, last, new.position, bit, Entry::Leaf(new.number));
+    node.add_entry(first, last, new.position, bit, Entry::Leaf(new.number));
 }
 
 /// The two sides of the first fork that the full node `node` has with the leaf `new`. One side is `node` as it is, exactly if

@@ -3,7 +3,7 @@
 use crate::nodes::key;
 use compound_node::{Entry, Node};
 use finite_map::{Call, Change, Kind, Note, Reply, Scan};
-use insert_cases::{Case, PathNode, chain_end, choose, level_below};
+use insert_cases::{Case, PathNode, choose_case, level_below, pull_up_chain_end};
 use key_bits::Key;
 use plain_index::{PlainIndex, are_legal};
 use plain_trie::{Place, PlainTrie, place};
@@ -451,10 +451,10 @@ fn insertions_have_their_cases(rt: HostRuntime) {
         }
         let way = &steps[..passed.len().min(2)];
         assert!(rt; level < way.len() && level_below(way, position) == level);
-        let choice = choose(way, level, entry, entry);
+        let choice = choose_case(way, level, entry, entry);
         assert!(rt; (choice.level, choice.first, choice.last) == (want.0, want.1, want.2));
         assert!(rt; choice.case as u8 == want.3 as u8);
-        assert!(rt; choice.level < way.len() && chain_end(way, choice.level) == end);
+        assert!(rt; choice.level < way.len() && pull_up_chain_end(way, choice.level) == end);
     }
     assert!(rt; matches!(place(1, Some(3)), Place::Intermediate));
     assert!(rt; matches!(place(1, Some(2)), Place::PullUp));

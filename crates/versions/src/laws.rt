@@ -18,7 +18,7 @@ pub fn opening_is_lawful()
 {}
 
 /// Each legal step keeps the core lawful.
-pub fn step_keeps_lawful()
+pub fn steps_stay_lawful()
     ensures { StepKeepsLawful }
 {}
 
@@ -34,6 +34,6 @@ pub fn reach_is_kept()
 
 /// The fixed words and stems of a node of a pinned pass's reach are the same in all versions since the pin. So are the key and value of a
 /// leaf.
-pub fn reach_is_steady()
+pub fn records_in_reach_stay_same()
     ensures { ReachIsSteady }
 {}

@@ -6,7 +6,7 @@ use Rattle.key_bits.proofs.Gathering.{binary-shl_or, binary-gathered}
 use Rattle.key_bits.proofs.extract.Goals as goal
 
 pub loop-position-preserved : goal.loop-position-preserved
-loop-position-preserved c = rw (c.bit_in.ensures, c.loop-position.invariant)
+loop-position-preserved c = rw (c.bit_of_bytes.ensures, c.loop-position.invariant)
     (binary-shl_or (bit_of c.as_bytes-bytes.result.now) c.args.positions.now c.loop-position.position-index c.loop-position-test.true c.requires)
 
 pub returns : goal.returns

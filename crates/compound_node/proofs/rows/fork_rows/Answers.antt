@@ -14,5 +14,5 @@ returns c =
       | then-bit w ↦ rw w.if-bit.true (w.result-is ∙ (w.insert_row.ensures ∙ ap (take 32)
           (ap (λ k. insert rows k (bit_or (get_or rows first 0) c.args.weight)) (sym end)
           ∙ (put-behind first n (bit_or (get_or rows first 0) c.args.weight) rows ∙ ap (λ x. edited first n (λ ys. ys ++ bit_or x c.args.weight ∷ []) rows) (sym row)))))
-      | else-bit w ↦ rw w.if-bit.false (w.result-is ∙ (w.fork_before.ensures ∙ ap (λ k. take 32 (edited first k (λ ys. get_or ys 0 0 ∷ map (λ r. bit_or r c.args.weight) ys) rows)) (omega arith)))
+      | else-bit w ↦ rw w.if-bit.false (w.result-is ∙ (w.fork_rows_before.ensures ∙ ap (λ k. take 32 (edited first k (λ ys. get_or ys 0 0 ∷ map (λ r. bit_or r c.args.weight) ys) rows)) (omega arith)))
     ]

@@ -10,7 +10,7 @@ loop-j-init c = sym (all-start c.args.used c.args.columns c.args.rows.now (omega
 pub loop-j-preserved-then-used-j-eq0 : goal.loop-j-preserved-then-used-j-eq0
 loop-j-preserved-then-used-j-eq0 c =
     let back : c.loop-j.j - 1 + 1 ≡ c.loop-j.j = omega arith in
-    c.close_column_of_all.ensures
+    c.close_column_of_rows.ensures
     ∙ ap (map (closed_row (c.loop-j.j - 1))) (c.loop-j.invariant ∙ ap (λ j. map (squeezed_from c.args.used j) c.args.rows.now) (sym back))
     ∙ all-closed c.args.used (c.loop-j.j - 1) c.args.rows.now (omega arith) c.if-used-j-eq0.true
 

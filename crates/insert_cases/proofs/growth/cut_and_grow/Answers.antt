@@ -26,6 +26,6 @@ pub grow_half-requires-else-first-front-clause-range : goal.grow_half-requires-e
 grow_half-requires-else-first-front-clause-range c =
     let k = cut_is c.cut-root.result (piece c.args.node.now) c.cut-root.ensures in
     let below = rw k.whole at c.requires.below in
-    rw c.count_half-front.ensures
+    rw c.half_count-front.ensures
     (affected_one c.cut-root.result.position (half_piece c.cut-root.result.zero) (half_piece c.cut-root.result.one) c.args.position c.args.first c.args.last
     below (omega arith) (rw k.whole at c.requires.range))

@@ -3,8 +3,8 @@ use Rattle.std.proofs.Common.{arith}
 use Rattle.tries.proofs.Building.{size-piece}
 use Rattle.insert_cases.proofs.growth.grow_half.Goals as goal
 
-pub add-requires-clause-room : goal.add-requires-clause-room
-add-requires-clause-room c =
+pub add_entry-requires-clause-room : goal.add_entry-requires-clause-room
+add_entry-requires-clause-room c =
     let half = rw c.in-Many.is at c.requires.half in
     let room = rw c.in-Many.is at c.requires.room in
     omega (arith, room, size-piece c.in-Many.node half.lawful)

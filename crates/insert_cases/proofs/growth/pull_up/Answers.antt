@@ -21,7 +21,7 @@ fork_half-requires-else-at-count-clause-room c =
 pub fork_half-requires-else-at-count-clause-place : goal.fork_half-requires-else-at-count-clause-place
 fork_half-requires-else-at-count-clause-place c =
     let k = cut_is c.cut-root.result (piece c.args.node.now) c.cut-root.ensures in
-    omega (arith, ap size k.whole, size-piece c.args.node.now c.count.ensures.lawful, c.count_half-count.ensures, c.requires.place)
+    omega (arith, ap size k.whole, size-piece c.args.node.now c.count.ensures.lawful, c.half_count-count.ensures, c.requires.place)
 
 pub returns-then-at-count-clause-same : goal.returns-then-at-count-clause-same
 returns-then-at-count-clause-same c =

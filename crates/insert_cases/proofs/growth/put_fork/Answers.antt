@@ -47,57 +47,57 @@ module _ (n d : NodeView) (i : ℕ) (lawful_n : IsLawfulNode n) (lawful_d : IsLa
         sym (ap greatest_height (grew.lawful.shows.entries_are ∙ ap places (grew.shows_it ∙ ap (grown position bit x i) cleared)))) in
         record { lawful = lawful_r; shows_it = shows; height_is = same_height ∙ (grew.height_is ∙ ap (λ m. 1 + m) (sym tall)) }
 
-pub set-requires-clause-stands : goal.set-requires-clause-stands
-set-requires-clause-stands c = (tt, height_positive c.args.node.now c.count.ensures.lawful)
+pub set_entry-requires-clause-stands : goal.set_entry-requires-clause-stands
+set_entry-requires-clause-stands c = (tt, height_positive c.args.node.now c.count.ensures.lawful)
 
-pub add-requires-clause-room : goal.add-requires-clause-room
-add-requires-clause-room c =
-    let e = same_length c.args.node.now c.set.new.self c.args.at c.count.ensures.lawful c.set.ensures.lawful c.set.ensures.piece in omega (arith, c.requires.room)
+pub add_entry-requires-clause-room : goal.add_entry-requires-clause-room
+add_entry-requires-clause-room c =
+    let e = same_length c.args.node.now c.set_entry.new.self c.args.at c.count.ensures.lawful c.set_entry.ensures.lawful c.set_entry.ensures.piece in omega (arith, c.requires.room)
 
-pub add-requires-clause-range : goal.add-requires-clause-range
-add-requires-clause-range c =
-    alone c.args.node.now c.set.new.self c.args.at c.count.ensures.lawful c.set.ensures.lawful c.set.ensures.piece c.args.position c.requires.place c.requires.path
+pub add_entry-requires-clause-range : goal.add_entry-requires-clause-range
+add_entry-requires-clause-range c =
+    alone c.args.node.now c.set_entry.new.self c.args.at c.count.ensures.lawful c.set_entry.ensures.lawful c.set_entry.ensures.piece c.args.position c.requires.place c.requires.path
 
-pub set-requires-then-height-clause-in_range : goal.set-requires-then-height-clause-in_range
-set-requires-then-height-clause-in_range c =
-    let e = longer c.args.node.now c.set.new.self c.args.at c.count.ensures.lawful c.set.ensures.lawful c.set.ensures.piece
-    c.args.position true c.args.one c.args.zero c.add.new.self c.add.ensures in omega (arith, c.requires.place)
+pub set_entry-requires-then-height-clause-in_range : goal.set_entry-requires-then-height-clause-in_range
+set_entry-requires-then-height-clause-in_range c =
+    let e = longer c.args.node.now c.set_entry.new.self c.args.at c.count.ensures.lawful c.set_entry.ensures.lawful c.set_entry.ensures.piece
+    c.args.position true c.args.one c.args.zero c.add_entry.new.self c.add_entry.ensures in omega (arith, c.requires.place)
 
-pub set-requires-then-height-clause-stands : goal.set-requires-then-height-clause-stands
-set-requires-then-height-clause-stands c = (
+pub set_entry-requires-then-height-clause-stands : goal.set_entry-requires-then-height-clause-stands
+set_entry-requires-then-height-clause-stands c = (
   c.requires.zero,
-  taller c.args.node.now c.set.new.self c.args.at c.count.ensures.lawful c.set.ensures.lawful c.set.ensures.piece
-      c.args.position true c.args.one c.args.zero c.add.new.self c.add.ensures (omega arith),
+  taller c.args.node.now c.set_entry.new.self c.args.at c.count.ensures.lawful c.set_entry.ensures.lawful c.set_entry.ensures.piece
+      c.args.position true c.args.one c.args.zero c.add_entry.new.self c.add_entry.ensures (omega arith),
 )
 
-pub add-requires-else-height-clause-room : goal.add-requires-else-height-clause-room
-add-requires-else-height-clause-room c =
-    let e = same_length c.args.node.now c.set.new.self c.args.at c.count.ensures.lawful c.set.ensures.lawful c.set.ensures.piece in omega (arith, c.requires.room)
+pub add_entry-requires-else-height-clause-room : goal.add_entry-requires-else-height-clause-room
+add_entry-requires-else-height-clause-room c =
+    let e = same_length c.args.node.now c.set_entry.new.self c.args.at c.count.ensures.lawful c.set_entry.ensures.lawful c.set_entry.ensures.piece in omega (arith, c.requires.room)
 
-pub add-requires-else-height-clause-range : goal.add-requires-else-height-clause-range
-add-requires-else-height-clause-range c =
-    alone c.args.node.now c.set.new.self c.args.at c.count.ensures.lawful c.set.ensures.lawful c.set.ensures.piece c.args.position c.requires.place c.requires.path
+pub add_entry-requires-else-height-clause-range : goal.add_entry-requires-else-height-clause-range
+add_entry-requires-else-height-clause-range c =
+    alone c.args.node.now c.set_entry.new.self c.args.at c.count.ensures.lawful c.set_entry.ensures.lawful c.set_entry.ensures.piece c.args.position c.requires.place c.requires.path
 
-pub set-requires-else-height-clause-in_range : goal.set-requires-else-height-clause-in_range
-set-requires-else-height-clause-in_range c =
-    let e = longer c.args.node.now c.set.new.self c.args.at c.count.ensures.lawful c.set.ensures.lawful c.set.ensures.piece
-    c.args.position false c.args.zero c.args.one c.add-else-height.new.self c.add-else-height.ensures in omega (arith, c.requires.place)
+pub set_entry-requires-else-height-clause-in_range : goal.set_entry-requires-else-height-clause-in_range
+set_entry-requires-else-height-clause-in_range c =
+    let e = longer c.args.node.now c.set_entry.new.self c.args.at c.count.ensures.lawful c.set_entry.ensures.lawful c.set_entry.ensures.piece
+    c.args.position false c.args.zero c.args.one c.add_entry-else-height.new.self c.add_entry-else-height.ensures in omega (arith, c.requires.place)
 
-pub set-requires-else-height-clause-stands : goal.set-requires-else-height-clause-stands
-set-requires-else-height-clause-stands c = (
+pub set_entry-requires-else-height-clause-stands : goal.set_entry-requires-else-height-clause-stands
+set_entry-requires-else-height-clause-stands c = (
   c.requires.one,
-  taller c.args.node.now c.set.new.self c.args.at c.count.ensures.lawful c.set.ensures.lawful c.set.ensures.piece
-      c.args.position false c.args.zero c.args.one c.add-else-height.new.self c.add-else-height.ensures (omega arith),
+  taller c.args.node.now c.set_entry.new.self c.args.at c.count.ensures.lawful c.set_entry.ensures.lawful c.set_entry.ensures.piece
+      c.args.position false c.args.zero c.args.one c.add_entry-else-height.new.self c.add_entry-else-height.ensures (omega arith),
 )
 
 pub returns-then-height : goal.returns-then-height
 returns-then-height c =
-    whole c.args.node.now c.set.new.self c.args.at c.count.ensures.lawful c.set.ensures.lawful c.set.ensures.piece
-    c.args.position true c.args.one c.args.zero c.add.new.self c.add.ensures
-    c.set-then-height.new.self c.set-then-height.ensures.lawful c.set-then-height.ensures.piece (ap (λ (n : NodeView). n.height) c.set-then-height.ensures.fields) (omega arith) c.requires.place c.requires.path
+    whole c.args.node.now c.set_entry.new.self c.args.at c.count.ensures.lawful c.set_entry.ensures.lawful c.set_entry.ensures.piece
+    c.args.position true c.args.one c.args.zero c.add_entry.new.self c.add_entry.ensures
+    c.set_entry-then-height.new.self c.set_entry-then-height.ensures.lawful c.set_entry-then-height.ensures.piece (ap (λ (n : NodeView). n.height) c.set_entry-then-height.ensures.fields) (omega arith) c.requires.place c.requires.path
 
 pub returns-else-height : goal.returns-else-height
 returns-else-height c =
-    whole c.args.node.now c.set.new.self c.args.at c.count.ensures.lawful c.set.ensures.lawful c.set.ensures.piece
-    c.args.position false c.args.zero c.args.one c.add-else-height.new.self c.add-else-height.ensures
-    c.set-else-height.new.self c.set-else-height.ensures.lawful c.set-else-height.ensures.piece (ap (λ (n : NodeView). n.height) c.set-else-height.ensures.fields) (omega arith) c.requires.place c.requires.path
+    whole c.args.node.now c.set_entry.new.self c.args.at c.count.ensures.lawful c.set_entry.ensures.lawful c.set_entry.ensures.piece
+    c.args.position false c.args.zero c.args.one c.add_entry-else-height.new.self c.add_entry-else-height.ensures
+    c.set_entry-else-height.new.self c.set_entry-else-height.ensures.lawful c.set_entry-else-height.ensures.piece (ap (λ (n : NodeView). n.height) c.set_entry-else-height.ensures.fields) (omega arith) c.requires.place c.requires.path

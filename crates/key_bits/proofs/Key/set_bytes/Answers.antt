@@ -4,16 +4,16 @@ use Rattle.std.proofs.lemmas.Bool.{false≢true}
 use Rattle.key_bits.proofs.Holding.{front_of, holds, key_of, written}
 use Rattle.key_bits.specs.Key.{HoldsKey, with_zeros}
 use Rattle.key_bits.proofs.Key.set_bytes.Goals as goal
-use Rattle.key_bits.proofs.Key.set_bytes.Goals.{After-write_front}
+use Rattle.key_bits.proofs.Key.set_bytes.Goals.{After-write_key_bytes}
 
-placed : (c : After-write_front) → c.write_front.new.array ≡ with_zeros c.args.bytes.now
-placed c = c.write_front.ensures ∙ written c.args.bytes.now
+placed : (c : After-write_key_bytes) → c.write_key_bytes.new.array ≡ with_zeros c.args.bytes.now
+placed c = c.write_key_bytes.ensures ∙ written c.args.bytes.now
 
-held : (c : After-write_front) → HoldsKey c.write_front.new.array (length c.args.bytes.now)
-held c = holds c.args.bytes.now c.write_front.new.array (key_of c.args.bytes.now c.if-bytes-gt-MAX_BYTES.false (λ i. (c.type_inv.bytes i).fits)) (placed c)
+held : (c : After-write_key_bytes) → HoldsKey c.write_key_bytes.new.array (length c.args.bytes.now)
+held c = holds c.args.bytes.now c.write_key_bytes.new.array (key_of c.args.bytes.now c.if-bytes-gt-MAX_BYTES.false (λ i. (c.type_inv.bytes i).fits)) (placed c)
 
-pub write_front-requires : goal.write_front-requires
-write_front-requires c = c.if-bytes-gt-MAX_BYTES.false
+pub write_key_bytes-requires : goal.write_key_bytes-requires
+write_key_bytes-requires c = c.if-bytes-gt-MAX_BYTES.false
 
 pub invariant_of-self : goal.invariant_of-self
 invariant_of-self c = held c

@@ -9,5 +9,5 @@ pub invariant_of-self : goal.invariant_of-self
 invariant_of-self c =
     let some : 0 < length (kept (used_bits c.args.used) (take c.self.inside.count c.self.inside.positions)) =
     subst (λ (cs : List ℕ). 0 < length (kept (used_bits c.args.used) cs)) (sym c.self.view_is) c.requires.some in
-    holds_front (kept (used_bits c.args.used) (take c.self.inside.count c.self.inside.positions)) c.keep_used.new.positions c.keep_used.result
-    (IsColumns-kept (used_bits c.args.used) (take c.self.inside.count c.self.inside.positions) c.self.invariant.columns some) c.keep_used.ensures.count c.keep_used.ensures.positions
+    holds_front (kept (used_bits c.args.used) (take c.self.inside.count c.self.inside.positions)) c.keep_used_positions.new.positions c.keep_used_positions.result
+    (IsColumns-kept (used_bits c.args.used) (take c.self.inside.count c.self.inside.positions) c.self.invariant.columns some) c.keep_used_positions.ensures.count c.keep_used_positions.ensures.positions

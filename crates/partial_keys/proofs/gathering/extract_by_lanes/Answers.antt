@@ -22,10 +22,10 @@ returns-then-fits_window c =
     λ k. ⊎_elim (λ inside. All-get_or (λ byte. byte < 256) key k 0 inside its.are_bytes) (λ past. (let e = get_or_past key k 0 past in omega (arith, e))) (cases_lt k (length key)) in
     let byte_at : (i : ℕ) → i < 32 → get_or c.bytes_at-bytes.result i 0 ≡ byte_lane (get_or lanes i 0) =
     λ i low. ap (λ xs. get_or xs i 0) c.bytes_at-bytes.ensures ∙ get_or-map byte_lane lanes i 0 0 (omega (arith, long, low)) in
-    let missed_at : (i : ℕ) → i < 32 → get_or c.find_missing.result i 0 ≡ missed_lane c.window_at-window.result first (length key - 1) i (byte_lane (get_or lanes i 0)) (mask_lane (get_or lanes i 0)) =
-    λ i low. c.find_missing.ensures.each i low ∙ rw (count, byte_at i low, c.masks_at-masks.ensures, get_or-map mask_lane lanes i 0 0 (omega (arith, long, low))) refl in
+    let missed_at : (i : ℕ) → i < 32 → get_or c.find_missing_bits.result i 0 ≡ missed_lane c.window_at-window.result first (length key - 1) i (byte_lane (get_or lanes i 0)) (mask_lane (get_or lanes i 0)) =
+    λ i low. c.find_missing_bits.ensures.each i low ∙ rw (count, byte_at i low, c.masks_at-masks.ensures, get_or-map mask_lane lanes i 0 0 (omega (arith, long, low))) refl in
     c.mark_zeros.ensures
-    ∙ (lanes_tell (bit_of key) lanes c.find_missing.result long c.find_missing.ensures.whole
+    ∙ (lanes_tell (bit_of key) lanes c.find_missing_bits.result long c.find_missing_bits.ensures.whole
     (λ i low. ap (λ n. eqb n 0) (missed_at i low) ∙ lane_tells key c.window_at-window.result first i (get_or lanes i 0) (omega (arith, near.0, count)) its.short bytes low c.window_at-window.ensures
     (within lanes c.args.count (length key) first i c.requires refl its.short low
     (subst (λ n. (byte_lane (get_or lanes i 0) < first + 16) ⊎ (n ≤ byte_lane (get_or lanes i 0))) count

@@ -11,8 +11,8 @@ use Rattle.record_words.proofs.Spelled.{entries_counted}
 use Rattle.record_words.proofs.node.add_leaf.Goals as goal
 use Rattle.record_words.proofs.node.add_leaf.Goals.{then-bit, else-bit}
 
-pub insert_in-requires-clause-in_range : goal.insert_in-requires-clause-in_range
-insert_in-requires-clause-in_range c =
+pub insert_element-requires-clause-in_range : goal.insert_element-requires-clause-in_range
+insert_element-requires-clause-in_range c =
     let (node, g) = c.requires.growing in
     let counted = c.read_numbers.ensures.parts.0 ∙ entries_counted node c.args.words.now g.has g.spells in
     let within = place_within g c.requires.below c.args.bit in
@@ -20,8 +20,8 @@ insert_in-requires-clause-in_range c =
     elim c.if-bit.branch [ then-bit w ↦ rw w.if-bit.true w.at-is | else-bit w ↦ rw w.if-bit.false w.at-is ] in
     omega (arith, counted, within, at)
 
-pub insert_in-requires-clause-room : goal.insert_in-requires-clause-room
-insert_in-requires-clause-room c =
+pub insert_element-requires-clause-room : goal.insert_element-requires-clause-room
+insert_element-requires-clause-room c =
     let (node, g) = c.requires.growing in
     let counted = c.read_numbers.ensures.parts.0 ∙ entries_counted node c.args.words.now g.has g.spells in
     let long : length c.add_fork.new.words ≡ 57 = search rules in
@@ -37,7 +37,7 @@ returns c = λ node g.
     record {
       node = after;
       has = has_words node after _ c.args.leaf few refl g.has.entries c.ranges.leaf.fits built.lawful;
-      spells = words_grown node after _ c.args.leaf few refl g.takes.1 c.args.words.now c.add_fork.new.words c.insert_in.new.items _ c.if-bit.at c.pack_entry.result g.spells
-          (c.add_fork.ensures node g) (c.read_numbers.ensures.parts.0 ∙ entries_counted node c.args.words.now g.has g.spells) at c.pack_entry.ensures c.insert_in.ensures;
+      spells = words_grown node after _ c.args.leaf few refl g.takes.1 c.args.words.now c.add_fork.new.words c.insert_element.new.items _ c.if-bit.at c.pack_entry.result g.spells
+          (c.add_fork.ensures node g) (c.read_numbers.ensures.parts.0 ∙ entries_counted node c.args.words.now g.has g.spells) at c.pack_entry.ensures c.insert_element.ensures;
       built = built;
     }

@@ -18,11 +18,11 @@ read_head-head-requires c = let (node, has, same, here) = c.requires in (head_of
 pub overflow_sub-at : goal.overflow_sub-at
 overflow_sub-at c = let (node, has, same, here) = c.requires in omega (arith, here, has.lawful.room, rows_counted c.args.words.now c.read_head-head.result c.read_head-head.ensures node has same, c.count.ensures.count, c.if-count-eq2.true)
 
-pub remove_in-requires-clause-in_range : goal.remove_in-requires-clause-in_range
-remove_in-requires-clause-in_range c = omega (arith, at_head c.args.words.now c.read_head-head.result c.args.at c.read_head-head.ensures c.requires, c.count-2.ensures.count)
+pub remove_element-requires-clause-in_range : goal.remove_element-requires-clause-in_range
+remove_element-requires-clause-in_range c = omega (arith, at_head c.args.words.now c.read_head-head.result c.args.at c.read_head-head.ensures c.requires, c.count-2.ensures.count)
 
-pub remove_in-requires-clause-room : goal.remove_in-requires-clause-room
-remove_in-requires-clause-room c = omega (arith, c.fits-words, c.count-2.ensures.count, same_count _ c.count-2.ensures.lawful, c.count-2.ensures.lawful.room)
+pub remove_element-requires-clause-room : goal.remove_element-requires-clause-room
+remove_element-requires-clause-room c = omega (arith, c.fits-words, c.count-2.ensures.count, same_count _ c.count-2.ensures.lawful, c.count-2.ensures.lawful.room)
 
 pub read_some_entry-requires : goal.read_some_entry-requires
 read_some_entry-requires c =
@@ -46,7 +46,7 @@ returns-then-count-eq2 c = λ node has same.
 
 -- the words of the entries that are left
 still_spelled : (c : After-height) (node : NodeView) → HasNodeWords node → node_words node ≡ c.args.words.now →
-    SpellEntries c.height.result (take (25 + c.count-2.result - 1 - 25) (drop 25 c.remove_in.new.items)) (remove node.entries c.args.at)
+    SpellEntries c.height.result (take (25 + c.count-2.result - 1 - 25) (drop 25 c.remove_element.new.items)) (remove node.entries c.args.at)
 still_spelled c node has same =
     let read_head = head_is c.args.words.now c.read_head-head.result c.read_head-head.ensures node has same in
     let counted = rows_counted c.args.words.now c.read_head-head.result c.read_head-head.ensures node has same in
@@ -54,9 +54,9 @@ still_spelled c node has same =
     let many : c.count-2.result ≡ length node.entries = c.count-2.ensures.count ∙ counted in
     let end : 25 + c.count-2.result - 1 + 1 ≡ 25 + c.count-2.result = omega (arith, here, many) in
     let long : 25 + c.count-2.result - 1 - 25 ≡ c.count-2.result - 1 = omega arith in
-    subst (λ h. SpellEntries h (take (25 + c.count-2.result - 1 - 25) (drop 25 c.remove_in.new.items)) (remove node.entries c.args.at)) (ap (λ (h : HeadView). h.height) read_head ∙ sym c.height.ensures)
-    (spells_left node has c.args.at here c.args.words.now c.remove_in.new.items (take (25 + c.count-2.result - 1 - 25) (drop 25 c.remove_in.new.items)) c.count-2.result same many
-    (c.remove_in.ensures ∙ ap (λ k. taken c.args.words.now k (25 + c.args.at)) end) (ap (λ k. take k (drop 25 c.remove_in.new.items)) long))
+    subst (λ h. SpellEntries h (take (25 + c.count-2.result - 1 - 25) (drop 25 c.remove_element.new.items)) (remove node.entries c.args.at)) (ap (λ (h : HeadView). h.height) read_head ∙ sym c.height.ensures)
+    (spells_left node has c.args.at here c.args.words.now c.remove_element.new.items (take (25 + c.count-2.result - 1 - 25) (drop 25 c.remove_element.new.items)) c.count-2.result same many
+    (c.remove_element.ensures ∙ ap (λ k. taken c.args.words.now k (25 + c.args.at)) end) (ap (λ k. take k (drop 25 c.remove_element.new.items)) long))
 
 pub height_over-height-requires : goal.height_over-height-requires
 height_over-height-requires c = let (node, has, same, here) = c.requires in (remove node.entries c.args.at, still_spelled c node has same)
@@ -87,8 +87,8 @@ returns c = λ node has same.
     record {
       node = after;
       has = left_has_words node after c.args.at here refl has.entries built.lawful;
-      spells = words_left node after c.args.at here refl has.entries.room c.args.words.now c.remove_in.new.items c.put_head.new.words c.count-2.result c.args.at same many refl
-          (c.remove_in.ensures ∙ ap (λ k. taken c.args.words.now k (25 + c.args.at)) end)
+      spells = words_left node after c.args.at here refl has.entries.room c.args.words.now c.remove_element.new.items c.put_head.new.words c.count-2.result c.args.at same many refl
+          (c.remove_element.ensures ∙ ap (λ k. taken c.args.words.now k (25 + c.args.at)) end)
           c.put_head.ensures;
       built = built;
     }

@@ -18,7 +18,7 @@ pub loop-j-preserved : goal.loop-j-preserved
 loop-j-preserved c =
     let h : HeadView = c.args.head.now in
     one_more _ _ c.loop-j.words (1 + c.loop-j.j) _ c.word_of_positions.result c.loop-j.invariant (omega arith) (omega arith)
-    (c.word_of_positions.ensures ∙ places_word (length h.rows) h.height h.columns (with_unused h.rows) c.args.words.now _ c.loop-j.j (rw (← c.columns-columns.ensures) c.padded-positions.ensures) c.loop-j-test.true)
+    (c.word_of_positions.ensures ∙ places_word (length h.rows) h.height h.columns (with_unused h.rows) c.args.words.now _ c.loop-j.j (rw (← c.columns-columns.ensures) c.padded_positions-positions.ensures) c.loop-j-test.true)
 
 pub returns : goal.returns
 returns c =

@@ -52,16 +52,16 @@ returns-in-Leaf-clause-possible g c = (reader_then c.loop-entry.invariant.reader
 
 pub returns-in-Leaf-clause-way : goal.returns-in-Leaf-clause-way
 returns-in-Leaf-clause-way g c =
-    let i = c.loop-entry.invariant in let e = c.load_leaf-length.ensures in let l = c.load_leaf-length.result in let p = c.mismatch_in.ensures in
-    way_ends i.at _ i.going c.in-Leaf.number c.in-Leaf.is e.few e.reads (take l.0 c.load_leaf-length.new.places) l.1 e.leaf c.as_bytes-in-Leaf.ensures.key c.mismatch_in.result
-    (subst (λ k. IsNone c.mismatch_in.result ↔ (k ≡ take l.0 c.load_leaf-length.new.places)) c.as_bytes-in-Leaf.ensures.bytes p.none)
-    (subst (λ k. IfSome c.mismatch_in.result (IsFirstDifference k (take l.0 c.load_leaf-length.new.places))) c.as_bytes-in-Leaf.ensures.bytes p.first)
+    let i = c.loop-entry.invariant in let e = c.load_leaf-length.ensures in let l = c.load_leaf-length.result in let p = c.mismatch_of_bytes.ensures in
+    way_ends i.at _ i.going c.in-Leaf.number c.in-Leaf.is e.few e.reads (take l.0 c.load_leaf-length.new.places) l.1 e.leaf c.as_bytes-in-Leaf.ensures.key c.mismatch_of_bytes.result
+    (subst (λ k. IsNone c.mismatch_of_bytes.result ↔ (k ≡ take l.0 c.load_leaf-length.new.places)) c.as_bytes-in-Leaf.ensures.bytes p.none)
+    (subst (λ k. IfSome c.mismatch_of_bytes.result (IsFirstDifference k (take l.0 c.load_leaf-length.new.places))) c.as_bytes-in-Leaf.ensures.bytes p.first)
 
 pub returns-in-Leaf-clause-found : goal.returns-in-Leaf-clause-found
 returns-in-Leaf-clause-found g c =
-    let i = c.loop-entry.invariant in let e = c.load_leaf-length.ensures in let l = c.load_leaf-length.result in let p = c.mismatch_in.ensures in
-    end_found i.at _ i.going c.in-Leaf.number c.in-Leaf.is e.few e.reads (take l.0 c.load_leaf-length.new.places) l.1 e.leaf c.as_bytes-in-Leaf.ensures.key c.mismatch_in.result
-    (subst (λ k. IsNone c.mismatch_in.result ↔ (k ≡ take l.0 c.load_leaf-length.new.places)) c.as_bytes-in-Leaf.ensures.bytes p.none)
+    let i = c.loop-entry.invariant in let e = c.load_leaf-length.ensures in let l = c.load_leaf-length.result in let p = c.mismatch_of_bytes.ensures in
+    end_found i.at _ i.going c.in-Leaf.number c.in-Leaf.is e.few e.reads (take l.0 c.load_leaf-length.new.places) l.1 e.leaf c.as_bytes-in-Leaf.ensures.key c.mismatch_of_bytes.result
+    (subst (λ k. IsNone c.mismatch_of_bytes.result ↔ (k ≡ take l.0 c.load_leaf-length.new.places)) c.as_bytes-in-Leaf.ensures.bytes p.none)
 
 pub start_of-start-requires : goal.start_of-start-requires
 start_of-start-requires g c =

@@ -4,7 +4,7 @@ use Rattle.rowex_writing.proofs.Planning.{chosen_within}
 use Rattle.rowex_writing.proofs.plan.plan_beside_entries.Goals as goal
 
 pub overflow_add-len : goal.overflow_add-len
-overflow_add-len c = let h = chosen_within c.args.way.now c.args.level c.args.first c.args.last c.choose-choice.result c.requires c.choose-choice.ensures.chosen in search (rules, h)
+overflow_add-len c = let h = chosen_within c.args.way.now c.args.level c.args.first c.args.last c.choose_case-choice.result c.requires c.choose_case-choice.ensures.chosen in search (rules, h)
 
-pub chain_end-requires : goal.chain_end-requires
-chain_end-requires c = chosen_within c.args.way.now c.args.level c.args.first c.args.last c.choose-choice.result c.requires c.choose-choice.ensures.chosen
+pub pull_up_chain_end-requires : goal.pull_up_chain_end-requires
+pull_up_chain_end-requires c = chosen_within c.args.way.now c.args.level c.args.first c.args.last c.choose_case-choice.result c.requires c.choose_case-choice.ensures.chosen

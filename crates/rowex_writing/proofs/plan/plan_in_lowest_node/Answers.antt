@@ -25,4 +25,4 @@ returns-else-way-level-lt32 c = λ first upto.
     let way = c.args.way.now in
     let at = here way c.args.level c.requires.last in
     low_full way c.args.position c.args.level (get_or way c.args.level no_step) c.change_plan-else-way-level-lt32.result c.requires.last at (c.requires.low (get_or way c.args.level no_step) at) first upto
-    (omega (arith, c.if-way-level-lt32.false)) c.chain_end.result c.chain_end.ensures c.change_plan-else-way-level-lt32.ensures
+    (omega (arith, c.if-way-level-lt32.false)) c.pull_up_chain_end.result c.pull_up_chain_end.ensures c.change_plan-else-way-level-lt32.ensures

@@ -23,10 +23,10 @@ overflow_cast-result-2 c =
 
 -- what the calls answered, in each node of the head
 range : (c : After-run_end) (node : NodeView) → IsLawfulNode node → head_of node ≡ c.args.self.now → IsRange node c.args.position c.args.found c.run_start.result c.run_end.result
-range c = range_of_head c.args.self.now c.args.position c.args.found c.below-columns.result c.run_start.result c.run_end.result c.requires
-    (c.below-columns.ensures.value ∙ ap (λ (h : HeadView). front_below c.args.position h.columns) c.self.view_is)
-    (subst (λ rows. IsRunStart rows c.below-columns.result c.args.found c.run_start.result) c.rows-rows.ensures c.run_start.ensures)
-    (subst (λ rows. IsRunEnd rows c.below-columns.result c.args.found c.run_end.result) c.rows-rows.ensures c.run_end.ensures)
+range c = range_of_head c.args.self.now c.args.position c.args.found c.count_columns_below-columns.result c.run_start.result c.run_end.result c.requires
+    (c.count_columns_below-columns.ensures.value ∙ ap (λ (h : HeadView). front_below c.args.position h.columns) c.self.view_is)
+    (subst (λ rows. IsRunStart rows c.count_columns_below-columns.result c.args.found c.run_start.result) c.rows-rows.ensures c.run_start.ensures)
+    (subst (λ rows. IsRunEnd rows c.count_columns_below-columns.result c.args.found c.run_end.result) c.rows-rows.ensures c.run_end.ensures)
 
 pub returns-clause-range : goal.returns-clause-range
 returns-clause-range c = λ node lawful same. (range c node lawful same).range

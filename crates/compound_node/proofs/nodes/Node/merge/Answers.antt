@@ -8,7 +8,7 @@ use Rattle.partial_keys.specs.Rows.{with_unused}
 use Rattle.pieces.specs.Positions.{front_below}
 use Rattle.compound_node.specs.Nodes.{IsBuiltFrom, NodeView}
 use Rattle.compound_node.proofs.nodes.Node.merge.Goals as goal
-use Rattle.compound_node.proofs.nodes.Node.merge.Goals.{After-as_slice-3, After-below}
+use Rattle.compound_node.proofs.nodes.Node.merge.Goals.{After-as_slice-3, After-count_columns_below}
 
 pub ensure_columns-requires-clause-small : goal.ensure_columns-requires-clause-small
 ensure_columns-requires-clause-small c = join_below c.args.position c.args.zero.now c.args.one.now c.count.ensures.lawful c.count-2.ensures.lawful c.requires.after
@@ -23,7 +23,7 @@ pub ensure_columns-requires-2-clause-room : goal.ensure_columns-requires-2-claus
 ensure_columns-requires-2-clause-room c = rw (c.columns-3.ensures, c.columns-4.ensures) (omega (arith, join_columns c.args.position c.args.zero.now c.args.one.now c.count.ensures.lawful c.count-2.ensures.lawful c.requires.after c.requires.room))
 
 -- what both nodes' columns and rows are
-module _ (c : After-below) where
+module _ (c : After-count_columns_below) where
   zero_widened : IsWidened c.count.result (c.args.position ∷ c.args.one.now.columns) c.args.zero.now.columns (with_unused c.args.zero.now.rows) c.ensure_columns.new.columns c.ensure_columns.new.rows
   zero_widened = rw (← c.columns.ensures, ← c.columns-2.ensures, ← c.padded_rows.ensures) (c.ensure_columns.ensures c.count.result)
 
@@ -32,25 +32,25 @@ module _ (c : After-below) where
 
 pub overflow_sub-bit : goal.overflow_sub-bit
 overflow_sub-bit c = join_place c.args.position c.args.zero.now c.args.one.now c.count.ensures.lawful c.count-2.ensures.lawful c.requires.after c.requires.room
-    c.count.result c.count-2.result c.count.ensures.count c.count-2.ensures.count c.ensure_columns.new.columns c.ensure_columns.new.rows c.ensure_columns-2.new.columns c.ensure_columns-2.new.rows (zero_widened c) (one_widened c) c.below.result c.below.ensures.within
+    c.count.result c.count-2.result c.count.ensures.count c.count-2.ensures.count c.ensure_columns.new.columns c.ensure_columns.new.rows c.ensure_columns-2.new.columns c.ensure_columns-2.new.rows (zero_widened c) (one_widened c) c.count_columns_below.result c.count_columns_below.ensures.within
 
 rows_are : (c : After-as_slice-3) → c.as_slice-3.result.now ≡ take c.count.result c.ensure_columns.new.rows ++ map (λ row. bit_or row (weight (front_below c.args.position c.ensure_columns.new.columns))) (take c.count-2.result c.ensure_columns-2.new.rows)
-rows_are c = c.as_slice-3.ensures.value ∙ c.concatenate_rows-rows.ensures ∙ ap (λ k. take c.count.result c.ensure_columns.new.rows ++ map (λ row. bit_or row (weight k)) (take c.count-2.result c.ensure_columns-2.new.rows)) c.below.ensures.value
+rows_are c = c.as_slice-3.ensures.value ∙ c.concatenate_rows-rows.ensures ∙ ap (λ k. take c.count.result c.ensure_columns.new.rows ++ map (λ row. bit_or row (weight k)) (take c.count-2.result c.ensure_columns-2.new.rows)) c.count_columns_below.ensures.value
 
 entries_are : (c : After-as_slice-3) → c.concatenate_entries-entries.result.items ≡ c.args.zero.now.entries ++ c.args.one.now.entries
 entries_are c = c.concatenate_entries-entries.ensures
     ∙ ap₂ (λ xs ys. xs ++ ys) (c.as_slice.ensures.value ∙ ap (λ (v : NodeView). v.entries) c.zero.view_is) (c.as_slice-2.ensures.value ∙ ap (λ (v : NodeView). v.entries) c.one.view_is)
 
-pub build-requires : goal.build-requires
-build-requires c = rw (rows_are c, entries_are c) (join_fits c.args.position c.args.zero.now c.args.one.now c.count.ensures.lawful c.count-2.ensures.lawful c.requires.after c.requires.room
+pub build_node-requires : goal.build_node-requires
+build_node-requires c = rw (rows_are c, entries_are c) (join_fits c.args.position c.args.zero.now c.args.one.now c.count.ensures.lawful c.count-2.ensures.lawful c.requires.after c.requires.room
     c.count.result c.count-2.result c.count.ensures.count c.count-2.ensures.count c.ensure_columns.new.columns c.ensure_columns.new.rows c.ensure_columns-2.new.columns c.ensure_columns-2.new.rows
-    (zero_widened (goal.at.build-requires c).After-below) (one_widened (goal.at.build-requires c).After-below))
+    (zero_widened (goal.at.build_node-requires c).After-count_columns_below) (one_widened (goal.at.build_node-requires c).After-count_columns_below))
 
 pub returns : goal.returns
 returns c =
     let at = goal.at.returns c in
-    subst (IsBuiltFrom c.build.result)
+    subst (IsBuiltFrom c.build_node.result)
     (rw (rows_are at.After-as_slice-3, entries_are at.After-as_slice-3) (join_piece c.args.position c.args.zero.now c.args.one.now c.count.ensures.lawful c.count-2.ensures.lawful c.requires.after c.requires.room
     c.count.result c.count-2.result c.count.ensures.count c.count-2.ensures.count c.ensure_columns.new.columns c.ensure_columns.new.rows c.ensure_columns-2.new.columns c.ensure_columns-2.new.rows
-    (zero_widened at.After-below) (one_widened at.After-below)))
-    c.build.ensures
+    (zero_widened at.After-count_columns_below) (one_widened at.After-count_columns_below)))
+    c.build_node.ensures

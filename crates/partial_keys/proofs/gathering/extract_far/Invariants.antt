@@ -1,8 +1,0 @@
--- The bits in the bytes so far are told, from the first column's on.
-use Rattle.std.proofs.Common.{ℕ, ◌≡◌, ◌+◌, ◌*◌, ◌/◌, ◌<◌, ◌&&◌, eqb, get_or, length}
-use Rattle.std.specs.Prelude.{nat_lt}
-use Rattle.key_bits.specs.Bits.{bit_of}
-use Rattle.partial_keys.proofs.gathering.extract_far.Given as goal
-
-abbrev pub invariant-loop-part : goal.invariant-loop-part
-invariant-loop-part l = (length l.missing ≡ 32) × ((i : ℕ) → i < 32 → eqb (get_or l.missing i 0) 0 ≡ bit_of l.key (get_or l.lanes i 0) && nat_lt (get_or l.lanes i 0 / 9) (l.first + 16 * l.part))

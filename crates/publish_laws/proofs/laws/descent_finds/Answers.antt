@@ -1,5 +1,0 @@
-use Rattle.publish_laws.proofs.Sure.{descent_finds}
-use Rattle.publish_laws.proofs.laws.descent_finds.Goals as goal
-
-pub returns : goal.returns
-returns c = descent_finds

@@ -1,0 +1,5 @@
+use Rattle.publish_laws.proofs.Inserting.{insertion}
+use Rattle.publish_laws.proofs.laws.insertion_may_be_published.Goals as goal
+
+pub returns : goal.returns
+returns c = insertion

@@ -1,5 +1,0 @@
-use Rattle.publish_laws.proofs.Ending.{kept_apart}
-use Rattle.publish_laws.proofs.laws.kept_are_not_gone.Goals as goal
-
-pub returns : goal.returns
-returns c = kept_apart

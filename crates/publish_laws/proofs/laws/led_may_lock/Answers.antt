@@ -1,5 +1,0 @@
-use Rattle.publish_laws.proofs.Acting.{led_may_lock}
-use Rattle.publish_laws.proofs.laws.led_may_lock.Goals as goal
-
-pub returns : goal.returns
-returns c = led_may_lock

@@ -1,5 +1,0 @@
-use Rattle.publish_laws.proofs.Insertions.{stays_as_it_is}
-use Rattle.publish_laws.proofs.laws.may_keep_whole.Goals as goal
-
-pub returns : goal.returns
-returns c = stays_as_it_is

@@ -1,5 +1,0 @@
-use Rattle.publish_laws.proofs.Rising.{above_goes_on}
-use Rattle.publish_laws.proofs.laws.upper_fork_is_before.Goals as goal
-
-pub returns : goal.returns
-returns c = above_goes_on

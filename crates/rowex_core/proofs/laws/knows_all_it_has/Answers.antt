@@ -1,5 +1,0 @@
-use Rattle.rowex_core.proofs.Owning.{knows_all}
-use Rattle.rowex_core.proofs.laws.knows_all_it_has.Goals as goal
-
-pub returns : goal.returns
-returns c = knows_all

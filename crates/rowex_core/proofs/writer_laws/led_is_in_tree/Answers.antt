@@ -1,5 +1,0 @@
-use Rattle.rowex_core.proofs.Leading.{led_is_in_tree}
-use Rattle.rowex_core.proofs.writer_laws.led_is_in_tree.Goals as goal
-
-pub returns : goal.returns
-returns c = led_is_in_tree

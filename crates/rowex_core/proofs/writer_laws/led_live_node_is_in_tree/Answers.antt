@@ -1,0 +1,5 @@
+use Rattle.rowex_core.proofs.Leading.{led_is_in_tree}
+use Rattle.rowex_core.proofs.writer_laws.led_live_node_is_in_tree.Goals as goal
+
+pub returns : goal.returns
+returns c = led_is_in_tree

@@ -1,5 +1,0 @@
-use Rattle.rowex_core.proofs.Having.{owned_after_publish}
-use Rattle.rowex_core.proofs.writer_laws.publish_leaves_unlinked.Goals as goal
-
-pub returns : goal.returns
-returns c = owned_after_publish

@@ -1,6 +1,0 @@
--- The law local_is_trie.
-use Rattle.tries.proofs.Contents.{local_is_trie}
-use Rattle.tries.proofs.laws.local_is_trie.Goals as goal
-
-pub returns : goal.returns
-returns c = local_is_trie

@@ -1,5 +1,0 @@
-use Rattle.version_laws.proofs.Ways.{way_begins}
-use Rattle.version_laws.proofs.laws.descent_begins.Goals as goal
-
-pub returns : goal.returns
-returns c = way_begins

@@ -1,5 +1,0 @@
-use Rattle.version_laws.proofs.Ways.{way_is_below}
-use Rattle.version_laws.proofs.laws.descent_is_way_below.Goals as goal
-
-pub returns : goal.returns
-returns c = way_is_below

@@ -1,5 +1,0 @@
-use Rattle.version_laws.proofs.Upwards.{upper_goes_on}
-use Rattle.version_laws.proofs.laws.first_fork_is_before.Goals as goal
-
-pub returns : goal.returns
-returns c = upper_goes_on

@@ -1,5 +1,0 @@
-use Rattle.version_laws.proofs.Rising.{insert_at_spot}
-use Rattle.version_laws.proofs.laws.insert_at_spot.Goals as goal
-
-pub returns : goal.returns
-returns c = insert_at_spot

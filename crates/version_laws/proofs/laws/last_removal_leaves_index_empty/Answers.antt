@@ -1,0 +1,5 @@
+use Rattle.version_laws.proofs.Taking.{remove_only}
+use Rattle.version_laws.proofs.laws.last_removal_leaves_index_empty.Goals as goal
+
+pub returns : goal.returns
+returns c = remove_only

@@ -1,5 +1,0 @@
-use Rattle.version_laws.proofs.Merging.{merge_at_spot}
-use Rattle.version_laws.proofs.laws.merge_at_spot.Goals as goal
-
-pub returns : goal.returns
-returns c = merge_at_spot

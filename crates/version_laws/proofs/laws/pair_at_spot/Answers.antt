@@ -1,5 +1,0 @@
-use Rattle.version_laws.proofs.Leaves.{pair_at_spot}
-use Rattle.version_laws.proofs.laws.pair_at_spot.Goals as goal
-
-pub returns : goal.returns
-returns c = pair_at_spot

@@ -1,5 +1,0 @@
-use Rattle.version_laws.proofs.Taking.{remove_at_spot}
-use Rattle.version_laws.proofs.laws.remove_at_spot.Goals as goal
-
-pub returns : goal.returns
-returns c = remove_at_spot

@@ -1,5 +1,0 @@
-use Rattle.version_laws.proofs.Scans.{led_placed}
-use Rattle.version_laws.proofs.laws.search_goes_on.Goals as goal
-
-pub returns : goal.returns
-returns c = led_placed

@@ -1,5 +1,0 @@
-use Rattle.versions.proofs.Stepping.{step_lawful}
-use Rattle.versions.proofs.laws.step_keeps_lawful.Goals as goal
-
-pub returns : goal.returns
-returns c = step_lawful

@@ -1,0 +1,5 @@
+use Rattle.versions.proofs.Stepping.{step_lawful}
+use Rattle.versions.proofs.laws.steps_stay_lawful.Goals as goal
+
+pub returns : goal.returns
+returns c = step_lawful
