@@ -53,6 +53,7 @@ fn write_acts(lines: &mut String, told: &[Event]) -> Result<(), AllocError> {
 }
 
 /// What pass 0 does on a case's index, and the line of what pass 1 does where pass 0 is stopped.
+#[derive(Drop)]
 struct Meeting<'a> {
     case: &'a Case<'a>,
     tasks: &'a [Task],
