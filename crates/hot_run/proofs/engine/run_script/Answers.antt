@@ -13,7 +13,7 @@ loop-command-preserved g c =
       index = c.run_command.ensures.index ∙ at;
       completes = λ b rest others.
           let more = HasRunCommands-more c.args.handle.now.index g.G.Gate.becomes _ _ b _ rest others c.loop-command.handle.index at c.in-Some.command _ _
-          c.in_ok-answer_command.ensures.answered in
+          c.in_ok-run_command.ensures.answered in
           rw (more.1, append_assoc) (c.loop-command.invariant.completes b _ (rw left more.2));
     }
 

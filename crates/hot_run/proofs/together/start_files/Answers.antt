@@ -14,7 +14,7 @@ loop-handle-preserved g c =
     let script = c.in-Some-next.script in
     let scripts : iter_rest c.loop-handle.scripts ≡ script.now ∷ iter_rest c.next-in-loop-handle.new.self = c.in-Some-next.ensures.steps in
     let gates : into_iter_items c.loop-handle.gates ≡ c.in-Some-next-2.gate ∷ into_iter_items c.next-in-loop-handle-2.new.self = c.in-Some-next-2.ensures.items in
-    let order = c.in_ok-start.field-0.promise in
+    let order = c.in_ok-start_file.field-0.promise in
     let added : map (λ t. t.promise) c.push.new.self.items ≡ map (λ t. t.promise) c.loop-handle.running.items ++ order ∷ [] =
     ap (map (λ t. t.promise)) c.in_ok-push.ensures.items ∙ map-append _ _ _ in
     let was = c.loop-handle.invariant in
@@ -23,7 +23,7 @@ loop-handle-preserved g c =
       gates = omega (arith, was.gates, ap length left, ap length gates);
       completes = λ rest others.
           let whole : AllThree IsOrderOf ((c.in-Some.handle, c.in-Some-next-2.gate) ∷ zip (into_iter_items c.next.new.self) (into_iter_items c.next-in-loop-handle-2.new.self))
-          (script_commands script.now ∷ map script_commands (iter_rest c.next-in-loop-handle.new.self)) (order ∷ rest) = (c.in_ok-start.ensures, others) in
+          (script_commands script.now ∷ map script_commands (iter_rest c.next-in-loop-handle.new.self)) (order ∷ rest) = (c.in_ok-start_file.ensures, others) in
           rw (added, append_assoc) (was.completes (order ∷ rest) (rw (left, scripts, gates) whole));
     }
 
