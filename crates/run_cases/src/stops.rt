@@ -5,8 +5,8 @@ ghost use Rattle.seat_calls.specs.Passes.{Owns};
 
 use crate::acts::write_act;
 use crate::cases::{Case, Task, bad_line, parse_tasks};
-use crate::guests::{create_index, do_tasks};
-use crate::judge::{seat_guest, verdict};
+use crate::guests::{Guest, create_index, do_tasks};
+use crate::judge::{Stopper, seat_guest, verdict};
 use hot_index::{Event, Index, Pass};
 use std::alloc::AllocError;
 use std::{io, mem};
@@ -34,13 +34,35 @@ fn write_steps(
     requires { All (Owns index.now) passes.items }
 {
     let (mut guest, mut gate) = seat_guest(case, index, passes)?;
+    write_steps_of_guest(case, &mut guest, &mut gate, text, lines)
+}
+
+/// Does what `write_steps` does, by `guest`, of which `gate` is told.
+fn write_steps_of_guest(
+    case: &Case,
+    guest: &mut Guest,
+    gate: &mut Stopper,
+    text: &str,
+    lines: &mut String,
+) -> io::Result<()> {
     let mut tasks = Vec::new(case.alloc);
     parse_tasks(&mut tasks, text)?;
     gate.judge.told.clear();
-    do_tasks(&mut guest, &tasks, &mut gate, lines)?;
+    Ok(write_replies_and_acts(case, guest, gate, &tasks, lines)?)
+}
+
+/// Lets `guest` do `tasks`. Adds what it was answered, its steps and the verdict to `lines`; an error if memory is refused.
+fn write_replies_and_acts(
+    case: &Case,
+    guest: &mut Guest,
+    gate: &mut Stopper,
+    tasks: &[Task],
+    lines: &mut String,
+) -> Result<(), AllocError> {
+    do_tasks(guest, tasks, gate, lines)?;
     write_acts(lines, &gate.judge.told)?;
-    gate.judge.judge_scans(case.alloc, &mut guest)?;
-    Ok(write!(lines, "\n  {}", verdict(gate.judge.wrong))?)
+    gate.judge.judge_scans(case.alloc, guest)?;
+    write!(lines, "\n  {}", verdict(gate.judge.wrong))
 }
 
 /// Adds a line for each of the steps `told` to `lines`; an error if memory is refused.
@@ -98,11 +120,22 @@ fn stop_at_each_step<R: Print + AllocGlobal>(
 ) -> io::Result<()> {
     let alloc = meeting.case.alloc;
     let (mut said, mut before) = (String::new(alloc), String::new(alloc));
+    stop_in_turn(rt, meeting, tells, &mut said, &mut before)
+}
+
+/// Does what `stop_at_each_step` does, with a text `said` for what was answered at a stop, and one for the stop `before` it.
+fn stop_in_turn<R: Print + AllocGlobal>(
+    rt: &R,
+    meeting: &Meeting,
+    tells: bool,
+    said: &mut String,
+    before: &mut String,
+) -> io::Result<()> {
     let (mut first, mut wrong) = (1, 0u64);
     for step in 1..MAX_STEPS {
-        mem::swap(&mut said, &mut before);
+        mem::swap(said, before);
         said.clear();
-        let stop = stop_at_step(meeting, step, &mut said)?;
+        let stop = stop_at_step(meeting, step, said)?;
         wrong = wrong.wrapping_add(stop.wrong);
         let stops = step.wrapping_sub(1);
         if tells && step > 1 && (!stop.is_made || said != before) {
@@ -134,11 +167,22 @@ fn stop_on_index(
     requires { All (Owns index.now) passes.items }
 {
     let (mut guest, mut gate) = seat_guest(meeting.case, index, passes)?;
+    make_stop(meeting, &mut guest, &mut gate, step, said)
+}
+
+/// Does what `stop_at_step` does, by `guest`, which `gate` stops.
+fn make_stop(
+    meeting: &Meeting,
+    guest: &mut Guest,
+    gate: &mut Stopper,
+    step: u64,
+    said: &mut String,
+) -> io::Result<Stop> {
     parse_tasks(&mut gate.tasks, meeting.other)?;
     gate.left = step;
-    do_tasks(&mut guest, meeting.tasks, &mut gate, said)?;
+    do_tasks(guest, meeting.tasks, gate, said)?;
     write!(said, "{}", gate.said)?;
-    gate.judge.judge_scans(meeting.case.alloc, &mut guest)?;
+    gate.judge.judge_scans(meeting.case.alloc, guest)?;
     Ok(Stop {
         is_made: gate.left == 0,
         wrong: gate.judge.wrong,
