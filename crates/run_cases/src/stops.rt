@@ -11,7 +11,7 @@ use hot_index::{Event, Index, Pass};
 use std::alloc::AllocError;
 use std::{io, mem};
 
-/// More steps than a pass makes in any case.
+/// More steps than a pass makes here.
 const MAX_STEPS: u64 = 10_000;
 
 /// Lets pass 0 of a new index do the tasks of `text`. Prints what it was answered, a line for each of its steps, and whether all were
@@ -74,23 +74,6 @@ fn write_acts(lines: &mut String, told: &[Event]) -> Result<(), AllocError> {
     Ok(())
 }
 
-/// What pass 0 does on a case's index, and the line of what pass 1 does where pass 0 is stopped.
-#[derive(Drop)]
-struct Meeting<'a> {
-    case: &'a Case<'a>,
-    tasks: &'a [Task],
-    other: &'a str,
-}
-
-/// What happened at a stop.
-#[derive(Clone, Copy)]
-struct Stop {
-    /// Whether pass 0 makes so many steps.
-    is_made: bool,
-    /// How often the judge found something wrong.
-    wrong: u64,
-}
-
 /// For each of the case's `other` lines stops pass 0, which does the tasks of `text`, after each of its steps. Prints how many stops there
 /// were and whether all were lawful. If `tells`, it also prints what both passes were answered. `bad_line` at a bad task, or after
 /// `MAX_STEPS`; an error if memory is refused, or a write failed.
@@ -102,12 +85,19 @@ pub fn stop_for_each_other<R: Print + AllocGlobal>(
 ) -> io::Result<()> {
     let mut tasks = Vec::new(case.alloc);
     parse_tasks(&mut tasks, text)?;
-    let tasks = &tasks;
     for other in case.others.iter() {
         print!(rt; "{text} | {other}")?;
-        stop_at_each_step(rt, &Meeting { case, tasks, other }, tells)?;
+        stop_at_each_step(rt, case, &tasks, other, tells)?;
     }
     Ok(())
+}
+
+/// What happened at a stop.
+#[derive(Clone, Copy)]
+struct Stop {
+    /// Whether there are so many steps.
+    is_made: bool,
+    wrong: u64,
 }
 
 /// Stops pass 0 after its first step, after its second, and so on, each time on a new index, until it makes fewer steps. If `tells`, it
@@ -115,18 +105,21 @@ pub fn stop_for_each_other<R: Print + AllocGlobal>(
 /// `stop_for_each_other`.
 fn stop_at_each_step<R: Print + AllocGlobal>(
     rt: &R,
-    meeting: &Meeting,
+    case: &Case,
+    tasks: &[Task],
+    other: &str,
     tells: bool,
 ) -> io::Result<()> {
-    let alloc = meeting.case.alloc;
-    let (mut said, mut before) = (String::new(alloc), String::new(alloc));
-    stop_in_turn(rt, meeting, tells, &mut said, &mut before)
+    let (mut said, mut before) = (String::new(case.alloc), String::new(case.alloc));
+    stop_in_turn(rt, case, tasks, other, tells, &mut said, &mut before)
 }
 
 /// Does what `stop_at_each_step` does, with a text `said` for what was answered at a stop, and one for the stop `before` it.
 fn stop_in_turn<R: Print + AllocGlobal>(
     rt: &R,
-    meeting: &Meeting,
+    case: &Case,
+    tasks: &[Task],
+    other: &str,
     tells: bool,
     said: &mut String,
     before: &mut String,
@@ -135,54 +128,63 @@ fn stop_in_turn<R: Print + AllocGlobal>(
     for step in 1..MAX_STEPS {
         mem::swap(said, before);
         said.clear();
-        let stop = stop_at_step(meeting, step, said)?;
+        let stop = stop_at_step(case, tasks, other, step, said)?;
         wrong = wrong.wrapping_add(stop.wrong);
-        let stops = step.wrapping_sub(1);
         if tells && step > 1 && (!stop.is_made || said != before) {
-            print!(rt; "\n  {first}..{stops}{before}")?;
+            print!(rt; "\n  {first}..{}{before}", step.wrapping_sub(1))?;
             first = step;
         }
         if !stop.is_made {
+            let stops = step.wrapping_sub(1);
             return println!(rt; "\n  {stops} stops, {}", verdict(wrong));
         }
     }
     Err(bad_line())
 }
 
-/// Stops pass 0 of a new index after `step` of its steps, and adds to `said` what both passes were answered. Returns what happened.
-fn stop_at_step(meeting: &Meeting, step: u64, said: &mut String) -> io::Result<Stop> {
-    let case = meeting.case;
+/// Stops pass 0 of a new index after `step` of its steps, where pass 1 does `other`. Adds what both were answered to `said`.
+fn stop_at_step(
+    case: &Case,
+    tasks: &[Task],
+    other: &str,
+    step: u64,
+    said: &mut String,
+) -> io::Result<Stop> {
     let (index, passes) = create_index(case.alloc, 2, case.nodes, case.leaves)?;
-    stop_on_index(meeting, &index, passes, step, said)
+    stop_on_index(case, &index, passes, tasks, other, step, said)
 }
 
 /// Does what `stop_at_step` does, on `index`, which was just made, with its `passes`.
 fn stop_on_index(
-    meeting: &Meeting,
+    case: &Case,
     index: &Index,
     passes: Vec<Pass>,
+    tasks: &[Task],
+    other: &str,
     step: u64,
     said: &mut String,
 ) -> io::Result<Stop>
     requires { All (Owns index.now) passes.items }
 {
-    let (mut guest, mut gate) = seat_guest(meeting.case, index, passes)?;
-    make_stop(meeting, &mut guest, &mut gate, step, said)
+    let (mut guest, mut gate) = seat_guest(case, index, passes)?;
+    make_stop(case, &mut guest, &mut gate, tasks, other, step, said)
 }
 
-/// Does what `stop_at_step` does, by `guest`, which `gate` stops.
+/// Lets `guest` do `tasks`, which `gate` stops after `step` steps for pass 1 to do `other`. Compares the index with the replay afterwards.
 fn make_stop(
-    meeting: &Meeting,
+    case: &Case,
     guest: &mut Guest,
     gate: &mut Stopper,
+    tasks: &[Task],
+    other: &str,
     step: u64,
     said: &mut String,
 ) -> io::Result<Stop> {
-    parse_tasks(&mut gate.tasks, meeting.other)?;
+    parse_tasks(&mut gate.tasks, other)?;
     gate.left = step;
-    do_tasks(guest, meeting.tasks, gate, said)?;
+    do_tasks(guest, tasks, gate, said)?;
     write!(said, "{}", gate.said)?;
-    gate.judge.judge_scans(meeting.case.alloc, guest)?;
+    gate.judge.judge_scans(case.alloc, guest)?;
     Ok(Stop {
         is_made: gate.left == 0,
         wrong: gate.judge.wrong,
