@@ -199,9 +199,17 @@ class Index:
     def __len__(self) -> int:
         return sum([lease.added for lease in self._index.leases])
 
+    def _lease(self) -> Lease:
+        """A lease that no other thread has. Behind a thread that wants to be alone it
+        waits, or that thread might wait for ever for the last lease."""
+        if self._growing.locked():
+            with self._growing:
+                pass
+        return self._free.get()
+
     def _with(self, call: Callable[..., R], *words: Any) -> R:
         """Calls a method of a lease that no other thread has."""
-        lease = self._free.get()
+        lease = self._lease()
         try:
             return call(lease, *words)
         finally:
@@ -223,7 +231,7 @@ class Index:
 
     def get(self, key: bytes) -> Optional[int]:
         """The key's value. No key has over MAX_KEY bytes."""
-        lease = self._free.get()
+        lease = self._lease()
         try:
             status = lib.hot_get(lease.handle, key, len(key), lease.had_at)
             return lease.had.value if status == FOUND else None
