@@ -38,7 +38,8 @@ pub(crate) struct SearchEnd {
 /// Finds where `scan` starts on `way`, the way of the search for its first key, which ended at `found`.
 ///
 /// A scan downwards starts left of the gap at which one upwards does. If the found leaf has the key, or stands just left of that gap, it
-/// comes first, and the scan goes on left of it.
+/// comes first, and the scan goes on left of it. Inline, so that the walk behind it still knows its direction.
+#[inline(always)]
 pub(crate) fn find_start<G: Gate>(
     scan: &Scan,
     seat: &mut TableSeat,
