@@ -179,7 +179,8 @@ impl Head {
         requires below { position < 65535 }
         ensures forked { self.new ≡ forked_head 1 position first last bit self.old }
         ensures built { InEachNode self.old (λ node. IsAffected (piece node) position first last → (leaf : ℕ) →
-            IsBuiltFrom (node_of self.new (insert node.entries (if bit then last + 1 else first) (LeafEntry leaf))) (grown position bit (LeafEntry leaf) first (piece node))) }
+            IsBuiltFrom (node_of self.new (insert node.entries (if bit then last + 1 else first) (LeafEntry leaf)))
+            (grown position bit (LeafEntry leaf) first (piece node))) }
     {
         self.add_fork(1, position, first as usize, last as usize, bit);
     }

@@ -1,6 +1,6 @@
 //! One line of a script.
 
-ghost use Rattle.std.specs.Prelude.{◌≡◌, ◌≤◌, ◌==◌, [], ◌∷◌, length, position};
+ghost use Rattle.std.specs.Prelude.{◌≡◌, ◌≤◌, ◌==◌, [], ◌∷◌, None, length, position};
 ghost use Rattle.std.specs.List.{slice_split};
 ghost use Rattle.hot_scripts.specs.Grammar.{line_words, command_of, reading_of};
 ghost use Rattle.hot_scripts.specs.Words.{parts_left, text_len, AreWords};
@@ -20,6 +20,7 @@ fn first_index(separator: u8, text: &[u8]) -> Option<usize>
 /// The part of `text` before the first `separator`, and what follows that; if there is none, all of `text`, and `None`.
 pub fn split_first(separator: u8, text: &[u8]) -> (&[u8], Option<&[u8]>)
     ensures parts { slice_split (λ b. b == separator) text.now ≡ result.0.now ∷ parts_left separator result.1 }
+    ensures whole { result.1 ≡ None → result.0.now ≡ text.now }
     ensures left { text_len result.1 ≤ length text.now }
 {
     match first_index(separator, text) {

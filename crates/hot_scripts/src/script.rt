@@ -1,8 +1,8 @@
 //! A whole script: the check of its lines, and its commands, each read again where it is asked for.
 
-ghost use Rattle.std.specs.Prelude.{◌≡◌, ◌+◌, ◌^◌, ◌<◌, ◌≤◌, All, IfErr, IfOk, IfSome, None, Some, filter_map, length, vec_len};
+ghost use Rattle.std.specs.Prelude.{◌≡◌, ◌+◌, ◌^◌, ◌<◌, ◌≤◌, All, IfErr, IfOk, MatchOption, None, Some, filter_map, length, vec_len};
 ghost use Rattle.key_bits.specs.declared.TheConstants.{MAX_BYTES};
-ghost use Rattle.hot_scripts.specs.Grammar.{HasKeyUpTo, asked, commands_of, first_bad, lines_of, readings_of};
+ghost use Rattle.hot_scripts.specs.Grammar.{HasKeyUpTo, asked, called_key, commands_of, first_bad, lines_of, readings_of};
 ghost use Rattle.hot_scripts.specs.Words.{text_len};
 
 use crate::command::{Command, Version};
@@ -131,7 +131,7 @@ impl<'a> Commands<'a> {
 
 /// How many bytes the key of the call `command` has; 0 if it is a scan or `None`.
 fn key_length(command: &Option<Command>) -> usize
-    ensures key { IfSome command.now (HasKeyUpTo result) }
+    ensures key { MatchOption command.now (result ≡ 0) (λ command. result ≡ length (called_key command)) }
     ensures few { result ≤ MAX_BYTES }
 {
     match command {

@@ -12,7 +12,8 @@ pub record IsLevel (way : List PathNode) (p level : ℕ) : Type 0 where
 
 -- the node at the level, or the next one with all its entries
 pub record IsChosen (way : List PathNode) (level first last : ℕ) (c : Choice) : Type 0 where
-  pub several : first < last → (s : PathNode) → slice_get way level ≡ Some s → c ≡ record { level = level; first = first; last = last; case = case_of s.height s.count false }
+  pub several : first < last → (s : PathNode) → slice_get way level ≡ Some s →
+      c ≡ record { level = level; first = first; last = last; case = case_of s.height s.count false }
   pub next : last ≤ first → (s : PathNode) → slice_get way (level + 1) ≡ Some s →
       c ≡ record { level = level + 1; first = 0; last = s.count - 1; case = case_of s.height s.count false }
   pub leaf : last ≤ first → length way ≤ level + 1 → (s : PathNode) → slice_get way level ≡ Some s →

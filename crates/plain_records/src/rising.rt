@@ -112,7 +112,8 @@ fn lift_risen(
     ensures raised { (ns : List NodeView) (leaves : List LeafRecord) (x : Item) (p : ℕ) (y : Fixed) (b : Tree) →
         IsLifting (records ns leaves) nodes.old.items x p (level number height at low) y b (subtrie_of risen) →
         IsRaised ns nodes.new.items leaves x p (tree_node number y b) (suc height) (subtrie_of result) }
-    ensures between { (old : NodeView) (p : ℕ) (zero one : EntryView) → slice_get nodes.old.items number ≡ Some old → subtrie_of risen ≡ Fork p (At zero) (At one) → low + 1 < height →
+    ensures between { (old : NodeView) (p : ℕ) (zero one : EntryView) → slice_get nodes.old.items number ≡ Some old →
+        subtrie_of risen ≡ Fork p (At zero) (At one) → low + 1 < height →
         IsPutBetween nodes.old.items nodes.new.items number at old (Fork p (At zero) (At one)) }
     ensures takes { (old : NodeView) → slice_get nodes.old.items number ≡ Some old →
         (new : NodeView) × (slice_get nodes.new.items number ≡ Some new) × IsLevelDone low (is_split risen) old new at (is_split result) }

@@ -1,15 +1,15 @@
 -- One line more.
 use Rattle.std.proofs.Common.{◌≡◌, ◌≤◌, ℕ, List, ◌∷◌, map, Option, Some, None, Result, Ok, sym, ap, arith}
-use Rattle.std.specs.Prelude.{All, IfSome, filter_map}
+use Rattle.std.specs.Prelude.{All, MatchOption, filter_map, length}
 use Rattle.std.proofs.lemmas.List.Elements.{All-cons}
 use Rattle.hot_scripts.specs.declared.command.Command.{Command}
 use Rattle.hot_scripts.specs.declared.fault.Reason.{Reason}
-use Rattle.hot_scripts.specs.Grammar.{HasKeyUpTo, asked, reading_of}
+use Rattle.hot_scripts.specs.Grammar.{HasKeyUpTo, asked, called_key, reading_of}
 use Rattle.hot_scripts.specs.Words.{parts_left, text_len}
 use Rattle.hot_scripts.proofs.script.Commands.longest_key_length.Goals as goal
 
 one_more : (most bound : ℕ) (reading : Result (Option Command) Reason) (command : Option Command) (rest : List (Result (Option Command) Reason))
-    → reading ≡ Ok command → IfSome command (HasKeyUpTo bound) → bound ≤ most → All (HasKeyUpTo most) (filter_map asked rest)
+    → reading ≡ Ok command → MatchOption command (bound ≡ 0) (λ command. bound ≡ length (called_key command)) → bound ≤ most → All (HasKeyUpTo most) (filter_map asked rest)
     → All (HasKeyUpTo most) (filter_map asked (reading ∷ rest))
 one_more most bound reading None rest is fits above all = rw is all
 one_more most bound reading (Some command) rest is fits above all =
