@@ -7,108 +7,111 @@ ghost use Rattle.publish_laws.specs.Insertions.{Insertion, NormalInsert, Overflo
 ghost use Rattle.publish_laws.specs.Rises.{AboveGoesOn};
 ghost use Rattle.publish_laws.specs.Sure.{DescentFinds};
 
-// What a pass is sure of
+// What a pass is sure of: it is true of the past in each lawful state in which all is true that the pass recalls
 
-/// A descent from the entry at the new key's place in a locked node ends at a leaf. It tells what an insertion needs of the way below that
-/// node.
+/// Let a pinned pass have gone down from the entry at a new key's place in a locked node to a leaf. Let the new key first differ from that
+/// leaf's at the insertion's position. Then the pass knows what an insertion needs of the way below the node.
 pub fn descent_from_lock_ends_at_leaf()
     ensures { DescentFinds }
 {}
 
 // Locks and loads
 
-/// A pass may lock a node to which it was led since its pin.
+/// A pass may lock a node of which it is sure that it stood in the tree in a version since its pin.
 pub fn led_pass_may_lock_node()
     ensures { LedMayLock }
 {}
 
-/// A pass may lock the node that stands beside the key's way in a node that it has locked.
+/// In a node that a pass has locked, let one node be all on the other side of the last fork on a key's way. The pass may lock that node.
 pub fn lock_holder_may_lock_sibling()
     ensures { BesideMayLock }
 {}
 
-/// What a pass loads of a node that it has locked is one of the words that it holds of that node.
+/// A load of a word of a locked node, in its head or in a slot, finds the word that the pass with the lock holds for that place.
 pub fn loads_are_locked_words()
     ensures { LoadsOfLocked }
 {}
 
-/// After each act but a publish, a pin or an unpin a pass has the same pin, and all facts that it had. All changes that it has seen since
-/// are of others.
+/// After each act but a publish, a pin or an unpin a pass has the same pin and all its facts, and has newly seen only changes of others.
 pub fn acts_keep_recall()
     ensures { ActGoesOn }
 {}
 
 // What rises
 
-/// Let an insertion affect no more of a locked node than one entry, which is the node below. Then the locked node's first fork is before
-/// the position of the insertion.
+/// Let the entry on a key's way in a locked node name another locked node, and let an insertion affect no more there than that entry. Then
+/// the upper node's first fork is before the position of the insertion.
 pub fn upper_fork_is_before_insertion()
     ensures { AboveGoesOn }
 {}
 
-// Insertion
+// Insertion. In each case the pass holds the locks of the spot and of the old nodes. Just the new records are its own, and they are ready.
 
-/// A pass may publish the first key, a new leaf at an empty root.
+/// A pass that has locked the anchor and found the root empty may publish the first key: a new leaf there, its only record.
 pub fn first_key_may_be_published()
     ensures { MayAddFirstKey }
 {}
 
-/// A pass may publish what has risen, one entry, at the spot of the topmost node that changes. That is in a node, or at the root.
+/// A pass may publish the one entry that has risen from a locked node, at the locked spot that names this node. If the spot is in a node,
+/// no other entry there is affected, and the new one is lower than that node. The publish unlinks the nodes that were copied or cut.
 pub fn insertion_may_be_published()
     ensures { Insertion }
 {}
 
-/// A pass may publish a normal insert: a copy of the node with the new leaf takes the node's place, and the node is unlinked.
+/// A pass may publish a normal insert that affects not just one node: a copy with the new leaf takes the old node's place and unlinks it.
 pub fn normal_insert_may_be_published()
     ensures { NormalInsert }
 {}
 
-/// A pass may publish an overflow: the node is cut, and an intermediate node, or a new root, of its halves takes its place.
+/// A pass may publish an overflow that affects not just one node: the old node with the new leaf is cut at its first fork. A node of both
+/// sides, an intermediate node or a new root, takes the old node's place. Each side is an entry or a new node. The old node is unlinked.
 pub fn overflow_may_be_published()
     ensures { Overflow }
 {}
 
-/// A pass may publish an overflow in which the full node stays whole beside the new leaf.
+/// A pass may publish an overflow in which the old node stays whole, since its first fork isn't before the new leaf's position. A node of
+/// the new leaf and the old node takes the old one's place, and nothing is unlinked.
 pub fn overflow_may_keep_node_whole()
     ensures { StaysWhole }
 {}
 
-/// A pass may publish a pull up, over any number of levels, that ends in a copy of the node above.
+/// A pass may publish a pull up: what has risen from a node takes its place in a copy of the node above. No more is affected there. The
+/// node above is unlinked, with those below that were copied or cut, over any number of levels.
 pub fn pull_up_may_be_published()
     ensures { PullUp }
 {}
 
-/// A pass may publish a pull up at whose end the node above is full, and is cut in its turn.
+/// A pass may publish a pull up after which the node above is cut, too: a node of its two sides takes its place, and it is unlinked.
 pub fn pull_up_may_end_in_overflow()
     ensures { PullUpOverflow }
 {}
 
-/// A pass may publish a leaf pushdown, or the second key. A node of the old leaf and the new one takes the old one's place.
+/// A pass may publish a leaf pushdown, or the second key, if one leaf alone is affected: a node of it and the new leaf takes its place.
 pub fn pair_of_leaves_may_be_published()
     ensures { MayPair }
 {}
 
 // Upsert and removal
 
-/// A pass may publish an upsert of a held key: the new leaf takes the old one's place. The value that was held is known.
+/// A pass may publish an upsert of a held key: the new leaf takes the old one's place and unlinks it. The value that was held is known.
 pub fn upsert_may_be_published()
     ensures { MayUpsert }
 {}
 
-/// A pass may publish a removal: what is left of the locked node that names the leaf takes the node's place. The publish unlinks node and
-/// leaf, and the value that the key had is known.
+/// A pass may publish a removal: what is left of the locked node that names the leaf, one entry or a new node, takes that node's place, at
+/// a locked spot. The publish unlinks node and leaf, and the value that the key had is known.
 pub fn removal_may_be_published()
     ensures { MayRemove }
 {}
 
-/// A pass may publish a merge: one new node has what is left beside the leaf, and the entries of the sibling. What is left of the node
-/// above takes its place, with that node as one entry for two. The publish unlinks the leaf and the three old nodes. The value that the key
-/// had is known.
+/// A pass that has locked a leaf's node, its sibling and the node above may publish a merge. One new node has what is left beside the leaf,
+/// and the sibling's entries. What is left of the node above, with that node as one entry for two, takes its place, at a locked spot. The
+/// publish unlinks the leaf and the three old nodes, and the value that the key had is known.
 pub fn merge_may_be_published()
     ensures { MayMerge }
 {}
 
-/// A pass may publish the removal of the last key, which leaves the root empty. The value that the key had is known.
+/// A pass that has locked the anchor may publish the removal of the only leaf, which empties the root. The value of its key is known.
 pub fn last_removal_may_be_published()
     ensures { MayRemoveLast }
 {}
@@ -120,38 +123,38 @@ pub fn kept_locks_are_not_unlinked()
     ensures { KeptAreNotGone }
 {}
 
-/// The first load of the epoch after a publish begins its end: from then on what was unlinked may be marked with that epoch.
+/// A load of the epoch straight after a publish begins its end: the pass has just what was unlinked, to be marked with that epoch.
 pub fn epoch_load_begins_end()
     ensures { EndBegins }
 {}
 
-/// At the end of a publish the first record that was unlinked may be marked, and is the pass's no more.
+/// At the end of a publish the first unlinked record may be marked with the epoch loaded. The end goes on without it, the rest as before.
 pub fn end_may_mark_first_unlinked()
     ensures { EndMarks }
 {}
 
-/// At the end of a publish the first locked node may be unlocked.
+/// At the end of a publish the first locked node may be unlocked. The end goes on without it, and all else is as before.
 pub fn end_may_unlock_node()
     ensures { EndUnlocks }
 {}
 
-/// At the end of a publish the anchor may be unlocked.
+/// At the end of a publish a locked anchor may be unlocked. The end goes on without its lock, and all else is as before.
 pub fn end_may_unlock_anchor()
     ensures { EndUnlocksAnchor }
 {}
 
-/// At the end of a publish the records and the locked nodes may be taken in any order.
+/// At the end of a publish the records to mark and the nodes to unlock, each listed once, may be taken in any order.
 pub fn end_takes_any_order()
     ensures { EndInAnyOrder }
 {}
 
-/// At the end of a publish, with no record and no locked node left, the pass has nothing of its own and no lock.
+/// At the end of a publish, with no record and no node left and the anchor not locked, the pass has nothing of its own and no lock.
 pub fn end_leaves_nothing()
     ensures { EndRests }
 {}
 
-/// A pass that has published, loaded the epoch, marked each record and unlocked each node has no record and no locked node. It has seen its
-/// own change last.
+/// A pass that has published, loaded the epoch, marked each unlinked record and unlocked each kept node has no record and no locked node.
+/// Its front, which ends with its own change, and the lock of the anchor are as they were after the publish.
 pub fn loops_leave_nothing()
     ensures { Settles }
 {}

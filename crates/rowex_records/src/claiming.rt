@@ -13,11 +13,12 @@ use record_words::{Layout, NODE_WORDS};
 use rowex_core::{Gate, Rec};
 use rowex_table::{HotTable, RecordAt, TableSeat};
 
-/// A kind of records.
+/// The records among which a claim looks, numbered from 0 on.
 #[derive(Clone, Copy)]
 pub enum RecordKind {
+    /// All node records of the table.
     Node,
-    /// The leaf records from `first` on and below `end`.
+    /// The leaf records from `first` on and below `end`, which the table must have; none if `end` isn't above `first`.
     Leaf { first: u32, end: u32 },
 }
 
@@ -30,7 +31,7 @@ struct Span {
 }
 
 impl RecordKind {
-    /// The record of this kind with the number `number`, which is counted from 0 at the first of the kind.
+    /// The record of this kind with the number `number`, counted from 0 at the first. A kind of leaf records must have that number.
     fn record_at(self, number: u32) -> Rec
         requires { HasIndex self number }
         ensures { result ≡ record_of self number }
@@ -53,7 +54,7 @@ impl RecordKind {
         }
     }
 
-    /// The span of the records of this kind from number `number` on that are as large as the first of them.
+    /// The span from the record of this kind with the number `number`, which it must have, up to the last in a row that is as large.
     fn span_at(self, layout: &Layout, number: u32) -> Span
         requires kind { IsKindOf self layout.now }
         requires low { number < count_of self layout.now }
@@ -86,10 +87,10 @@ impl RecordKind {
     }
 }
 
-/// Claims the first record of `kind` that it finds free and returns its number.
+/// Claims the first record of `kind` that it finds free and returns its number, counted from 0 at the first of the kind.
 ///
 /// Each record is tried once, from number `from` on, and from 0 on after the last; `None` if no try found one free. A try loads the
-/// state, and claims only what it saw free. A `from` that is out of range counts as 0. Inline, for callers know the kind.
+/// state, and claims only what it saw free. A `from` that is out of range counts as 0. Inline, since callers know the kind.
 #[inline(always)]
 pub fn claim_record<G: Gate>(
     table: &HotTable,
@@ -116,8 +117,7 @@ pub fn claim_record<G: Gate>(
 /// Claims the first record of `kind` that it finds free, of the next `left` ones from number `from` on. Returns its number; `None` if
 /// none of them was free.
 ///
-/// It tries records as [`claim_record`] does, but no more than `left`, which is then less by those that were tried. Inline, for callers
-/// know the kind.
+/// It tries records as [`claim_record`] does. `left` becomes less by those that were tried. Inline, since callers know the kind.
 #[inline(always)]
 pub fn claim_record_within<G: Gate>(
     table: &HotTable,
@@ -144,7 +144,7 @@ pub fn claim_record_within<G: Gate>(
 }
 
 /// Claims the first record of `kind` that it finds free, of the next `most` from number `from` on. Returns its number, or `None` if none
-/// of them was free, and how many it tried. Mostly the first one is free: only behind it are records tried span by span.
+/// of them was free, and how many it tried. `most` is no more than the kind has. Inline, since mostly the first one is free.
 #[inline(always)]
 fn claim_and_count_tries<G: Gate>(
     table: &HotTable,
@@ -171,8 +171,8 @@ fn claim_and_count_tries<G: Gate>(
     claim_record_behind(table, seat, gate, kind, begin, most)
 }
 
-/// Claims the first record of `kind` that it finds free behind number `begin`, which was not free, span by span. It tries no more than
-/// `most`, with that one. Returns the record's number, or `None` if none was free, and how many were tried, with that one.
+/// Claims the first record of `kind` that it finds free behind number `begin`, which was tried and not free. It tries fewer than
+/// `most` others. Returns the record's number, or `None` if none was free, and how many were tried, `begin` counted.
 fn claim_record_behind<G: Gate>(
     table: &HotTable,
     seat: &mut TableSeat,
@@ -257,7 +257,7 @@ pub fn claim_by_number<G: Gate>(
     try_claim_record(table, seat, gate, at)
 }
 
-/// Loads the state of the record `at`, and tries to claim the record if the state is free. Returns whether the pass has it now.
+/// Claims the record `at` if it is free, and returns whether the pass has it now. If a load finds its state not free, no claim is tried.
 fn try_claim_record<G: Gate>(
     table: &HotTable,
     seat: &mut TableSeat,

@@ -93,9 +93,8 @@ pub fn fill_node<G: Gate>(
     set_eight_words(table, seat, gate, node, words, 49..leads);
 }
 
-/// Makes the claimed node record `node` have the eight of `words` from index `used.start` on. Those within `used` have something of the
-/// node, and are stored. The others have nothing: each is loaded, and stored only where another stands. Inline, so that each offset is a
-/// constant.
+/// Fills eight words of the claimed node record `node`, with those of `words` from index `used.start` on. The node has something in those
+/// before `used.end`: these are stored. The others are loaded, and stored only where another stands. Inline, so that offsets are constants.
 #[inline(always)]
 fn set_eight_words<G: Gate>(
     table: &HotTable,
@@ -132,7 +131,7 @@ fn set_eight_words<G: Gate>(
     }
 }
 
-/// Stores `word` at `offset` of the claimed record `at`, without a load before.
+/// Stores `word` at `offset` of the claimed record `at`. Words that often stand there already go to [`store_word_if_changed`] instead.
 #[inline(always)]
 fn store_word<G: Gate>(
     table: &HotTable,
@@ -152,8 +151,8 @@ fn store_word<G: Gate>(
     table.fill_at(seat, gate, at, offset, word);
 }
 
-/// Makes the word at `offset` of the claimed record `at` be `word`. It is loaded first, and stored only if another stands there: a key is
-/// often as long as the one before, and a node often has nothing where the one before had nothing.
+/// Makes the word at `offset` of the claimed record `at` be `word`: a key's length, or a word in which a node has nothing. It is loaded
+/// first, and stored only if another stands there, since the record's last leaf or node often had the same.
 #[inline(always)]
 fn store_word_if_changed<G: Gate>(
     table: &HotTable,

@@ -54,7 +54,8 @@ pub enum TryFault {
 /// stands as found, and changes it by one store. A call with nothing to change locks nothing. If another pass is at work there, or no
 /// record is free, nothing is changed, and the fault tells which.
 ///
-/// `way` is filled with the nodes that the search went through; `build` keeps the records that the change makes.
+/// The pass is pinned, has no record and no lock, and has made no change since its pin. `way` is filled with the nodes that the search
+/// went through. After a change `build.gone` lists what it unlinked; else it stays. A removal is never refused as `FullLeaves`.
 ///
 /// If it tries no lock, it makes at most 58 atomic steps, and 26 for each node on the key's way. Else it makes at most 124, and 26 for
 /// each such node. To these come 297 for each lock that it tries, four for each leaf record and two for each node record.
@@ -104,7 +105,7 @@ pub fn attempt<G: Gate>(
 }
 
 /// Makes the change `deed` that is planned for the span of `job`. If another pass is at work there, or no record is free, nothing is
-/// changed, and the fault tells which.
+/// changed, and the fault tells which. Before and after the pass has no record and no lock.
 fn try_plan<G: Gate>(
     table: &HotTable,
     seat: &mut TableSeat,
@@ -137,7 +138,7 @@ fn try_plan<G: Gate>(
 }
 
 /// Makes the change `deed` of a plan whose nodes are locked and checked. If it takes a leaf out of a node that has one above it on the way,
-/// [`make_removal`] makes it. If no record was free, the change is undone, and the kind of record is returned.
+/// [`make_removal`] makes it. If no record was free, the change is undone, and the kind of record is returned. All is unlocked then.
 fn change_span<G: Gate>(
     table: &HotTable,
     seat: &mut TableSeat,

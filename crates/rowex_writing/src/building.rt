@@ -28,10 +28,10 @@ pub(crate) const MOST_MADE: usize = 4_322;
 /// The most records that one change unlinks: the nodes of the longest way, and a leaf.
 pub(crate) const MOST_GONE: usize = 2_161;
 
-/// The records that a pass has made for a change: claimed, and filled with their words.
+/// What a pass makes changes with: lists of the records that a change makes and unlinks, and hints where free ones are, kept between calls.
 #[derive(Drop)]
 pub struct Build {
-    /// The records, the first one made first.
+    /// The records made for the change, claimed and filled with their words, the first one made first.
     pub made: ArrayVec<Rec, MOST_MADE>,
     /// The records that the change unlinks, as it lists them.
     pub gone: ArrayVec<Rec, MOST_GONE>,
@@ -106,9 +106,7 @@ pub(crate) fn node_entry(number: u32, node: &Node) -> Entry
 }
 
 /// Makes a record for the node that `words` spell with the leaf `new`, adds it to `build.made`, and returns its entry. `None` if no node
-/// record was free: none is added.
-///
-/// The node has leaves alone and room for one more. `words` become those of the record, so that no node is read and none is packed.
+/// record was free: none is added. The node has leaves alone and room for one more. In any case `words` get the leaf, too.
 pub(crate) fn make_node_with_leaf<G: Gate>(
     table: &HotTable,
     seat: &mut TableSeat,
@@ -134,8 +132,8 @@ pub(crate) fn make_node_with_leaf<G: Gate>(
     make_node_from_words(table, seat, gate, build, words)
 }
 
-/// The entry for `half`, a side of the cut node that `old` names. It is the one entry itself, that of a record made for a new node, or
-/// `old` for the node as it was. `None` if a record was wanted and none was free.
+/// The entry for `half`, a side of the cut node that `old` names. It is the one entry itself, that of a new node, whose record is added to
+/// `build.made`, or `old` for the node as it was. `None` if a record was wanted and none was free: none is added.
 fn make_half_entry<G: Gate>(
     table: &HotTable,
     seat: &mut TableSeat,

@@ -139,8 +139,7 @@ pub(crate) fn entry_stands<G: Gate>(
     is_word_of(entry, word)
 }
 
-/// Whether `word` is that of `entry`, or 0 for `None`. `false` for a node of height 0, which has no word. The word of `entry` is made and
-/// compared, which takes less than to read `word`.
+/// Whether `word` is that of `entry`, or 0 for `None`. `false` for a node of height 0, which has no word.
 fn is_word_of(entry: Option<Entry>, word: u64) -> bool
     ensures same { result ≡ true → HasEntryWord entry × (entry_word entry ≡ word) }
     ensures differ { result ≡ false → (e : Option EntryValue) → HasEntryWord e → entry_word e ≡ word → e ≢ entry }

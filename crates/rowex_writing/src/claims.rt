@@ -70,8 +70,8 @@ impl Hint {
 
 /// Claims a record of `kind` and returns its number, counted from the first of the kind on. `None` if none was free.
 ///
-/// It tries the last spare number of `hint` first, which is spare no more. Then it tries each record once, from `hint.next` on. That
-/// becomes the number after one claimed so. Inline, so that no claim asks of which kind it is.
+/// It tries the last spare number of `hint` first, which is spare no more. Then it tries each record once, from `hint.next` on. If that
+/// claims one, `hint.next` becomes the number after it. Inline, so that no claim asks of which kind it is.
 #[inline(always)]
 pub(crate) fn claim_by_hint<G: Gate>(
     table: &HotTable,
@@ -171,8 +171,7 @@ fn skip_classes(layout: Layout, classes: &mut [Hint; LEAF_CLASSES], first: u32) 
 }
 
 /// Claims a leaf record from number `from` on and below `upto`, of the smallest class that has one free, and returns its number. `None` if
-/// none was free. A class with none free is to be skipped afterwards, as its hint in `classes` says then. Inline, so that the class of the
-/// first one is known.
+/// none was free. By its hint in `classes` a class with none free is to be skipped then. Inline, so that the class of the first is known.
 #[inline(always)]
 fn claim_leaf_between<G: Gate>(
     table: &HotTable,
@@ -235,7 +234,7 @@ pub(crate) fn claim_node<G: Gate>(
     None
 }
 
-/// Loads the states of the records `made`, which the pass has made: each is found not free.
+/// Loads the states of the records `made`, which the pass has made, so that each was found not free.
 fn load_states<G: Gate>(table: &HotTable, seat: &mut TableSeat, gate: &mut G, made: &[Rec])
     requires building { (news : List Made) × IsBuilding table.now seat.old made.now news }
     ensures goes { WorksOn table.now G.becomes (seat.old, gate.old) (seat.new, gate.new) }
@@ -251,8 +250,8 @@ fn load_states<G: Gate>(table: &HotTable, seat: &mut TableSeat, gate: &mut G, ma
 
 /// Claims the next free node record of the walk and returns its number. `None` if none of those left was free.
 ///
-/// It tries the last spare number of `hint` first, which is spare no more. Then it tries each record once, from `hint.next` on,
-/// `left` at most. `left` becomes less by those that were tried.
+/// It tries the last spare number of `hint` first, which is spare no more. Then it tries `left` records at most, once each, from
+/// `hint.next` on. `left` becomes less by those, and `hint.next` the number after one claimed so.
 fn claim_node_on_walk<G: Gate>(
     table: &HotTable,
     seat: &mut TableSeat,

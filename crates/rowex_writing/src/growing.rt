@@ -22,7 +22,7 @@ use rowex_core::Gate;
 use rowex_table::{HotTable, TableSeat};
 
 /// Makes the new leaf, and what the span's nodes become with it in the lowest one, beside the entries that `position` affects. Returns what
-/// is to take the place of these nodes, or the kind of record of which none was free.
+/// is to take their place, or the kind of record of which none was free: those made by then stay in `build.made`.
 pub(crate) fn grow_node<G: Gate>(
     table: &HotTable,
     seat: &mut TableSeat,

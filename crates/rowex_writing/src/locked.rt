@@ -22,15 +22,15 @@ use record_words::{
 use rowex_core::{Gate, Rec, Spot};
 use rowex_table::{HotTable, NodeAt, TableSeat};
 
-/// A locked node whose words are loaded, all those before index `end`: there the words of its entries end.
+/// A locked node whose words are to be loaded. Its last entry's word is that before index `end`, counted from 0 behind the state.
 #[derive(Clone, Copy)]
 struct NodeLoads {
     node: NodeAt,
     end: usize,
 }
 
-/// Loads the words of the locked node `number`, all but its state, into `words`, which are 0 before. Words of entries are loaded in
-/// groups of eight, as far as there are entries. Those behind stay 0.
+/// Loads the words of the locked node `number`, all but its state, into `words`, which are 0 before. Words of slots are loaded in groups
+/// of eight, as far as there are entries. Those behind stay 0.
 pub(crate) fn load_locked_words<G: Gate>(
     table: &HotTable,
     seat: &mut TableSeat,
@@ -108,7 +108,7 @@ pub(crate) fn load_sibling<G: Gate>(
     find_sibling(at, before, own, after, second)
 }
 
-/// Loads the position of column `column` of the locked node `number`.
+/// Loads the position of column `column` of the locked node `number`, and returns it; 65,535 if the node has no such column.
 pub(crate) fn load_position<G: Gate>(
     table: &HotTable,
     seat: &mut TableSeat,

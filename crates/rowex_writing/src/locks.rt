@@ -57,7 +57,7 @@ pub(crate) fn lock_span<G: Gate>(
     false
 }
 
-/// Locks node `number`, which the pass may lock, if it is live; returns whether it was.
+/// Locks node `number`, which the pass may lock, and returns whether it did. If it is locked or retired already, the locks are as before.
 pub(crate) fn lock_node<G: Gate>(
     table: &HotTable,
     seat: &mut TableSeat,
@@ -77,7 +77,7 @@ pub(crate) fn lock_node<G: Gate>(
     found == pack_state(Tag::Live)
 }
 
-/// Locks the anchor, if no pass has locked it; returns whether that was so.
+/// Locks the anchor, which this pass hasn't locked, and returns whether it did. If another pass has locked it, the locks are as before.
 pub(crate) fn lock_anchor<G: Gate>(table: &HotTable, seat: &mut TableSeat, gate: &mut G) -> bool
     requires own { IsSeatOf table.now seat.old }
     requires free { seat.old.known.anchor ≡ None }

@@ -65,8 +65,8 @@ struct ClosedFork {
 /// Ends a removal by a merge, and returns whether it did. What is left of the leaf's node, in a record made for it, and its sibling become
 /// one node.
 ///
-/// It does if both are nodes of at most 32 entries together, and no other pass is at work there. Another record must be free, if one is
-/// wanted. Else the pass has the records and locks that it had.
+/// It does only if both are nodes of at most 32 entries together, and no other pass is at work there. Another record must be free, if one
+/// is wanted. Else the pass has the records and locks that it had.
 pub(crate) fn try_merge<G: Gate>(
     table: &HotTable,
     seat: &mut TableSeat,
@@ -109,7 +109,7 @@ fn sole_node(made: &[Rec]) -> Option<u32>
 /// Returns the merge of the node that loses a leaf with its sibling. `made` is the record of what is left of the node. `None` if the other
 /// side of the last fork is not one node, or both nodes have more than 33 entries together, with the leaf.
 ///
-/// A full node has none, since 31 entries are left of it, and a sibling has two at least.
+/// A full node has none, since 31 entries are left of it, and a sibling has two at least. The sibling isn't locked yet, and may change.
 fn find_merge<G: Gate>(
     table: &HotTable,
     seat: &mut TableSeat,

@@ -21,16 +21,16 @@ use thiserror::Error;
 /// What a call aims at, once its key is known to have the value that it expects, if it expects one.
 #[derive(Clone, Copy)]
 pub(crate) enum Aim {
-    /// The key with the value, if it is absent.
+    /// The key is to get the value, if it is absent.
     Insert,
-    /// The key with the value, whatever it had.
+    /// The key is to get the value, whatever it has.
     Upsert,
-    /// The absence of the key.
+    /// The key is to be absent.
     Remove,
 }
 
-/// The nodes of the way that get others in their place: those from `end` on, before `len`. The topmost of the others goes into the entry
-/// that the search took in the node at `end - 1`. Where `end` is 0, it goes to the root.
+/// The nodes of the way that get others in their place: those from index `end` on, before `len`, or none. The topmost of the others is
+/// named in the slot that the search took in the node at `end - 1`, or at the root if `end` is 0.
 #[derive(Clone, Copy)]
 pub(crate) struct Span {
     pub len: usize,
@@ -51,9 +51,9 @@ impl Span {
 pub(crate) enum Deed {
     /// The new leaf takes the place of what stands there.
     Put,
-    /// A node of the leaf that stands there and the new one, with a fork at the position.
+    /// A node of the leaf that stands there and the new one, with a fork at `position`, takes its place.
     PushDown { position: u16 },
-    /// The lowest node gets the new leaf, beside the entries that the position affects.
+    /// The lowest node gets the new leaf, beside the entries that `position` affects.
     Grow { position: u16 },
     /// The lowest node loses the leaf, or the root its only one.
     Take,
@@ -84,12 +84,13 @@ pub enum Full {
 pub(crate) enum Outline {
     /// All is told.
     Known(Plan),
-    /// The new leaf goes beside the entries that `position` affects in the node at index `level` of the way: `plan_beside_entries` tells
-    /// the rest from these.
+    /// The new leaf goes beside the entries that `position` affects in the node at index `level` of the way. With these entries
+    /// [`plan_beside_entries`] tells the rest.
     Beside { position: u16, level: usize },
 }
 
-/// Returns what a call with the aim `aim` does whose search went through `way` and found `found`, as far as these tell it.
+/// Returns what a call with the aim `aim` does whose search went through `way` and found `found`, as far as these tell it. All is told
+/// unless a new leaf goes beside entries of a node that names other nodes.
 pub(crate) fn plan_call(way: &[PathNode], aim: Aim, found: Found) -> Outline
     ensures { IsOutline way.now aim found result }
 {

@@ -63,8 +63,7 @@ pub(crate) fn make_leaf<G: Gate>(
     Some(number)
 }
 
-/// Makes the records in `made`, all those of a change, ready to be linked, the last one first. Each is taken out of `made`: for a record or
-/// two, a call that clears it would cost more.
+/// Makes the records in `made`, all those of a change, ready to be linked, the last one first. `made` is empty then.
 fn ready_records<G: Gate>(
     table: &HotTable,
     seat: &mut TableSeat,

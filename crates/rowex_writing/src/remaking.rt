@@ -24,7 +24,7 @@ pub(crate) struct NewLeaf<'a> {
     pub at: u8,
 }
 
-/// Puts the leaf `new` into `node`, which has fewer than 32 entries.
+/// Puts the leaf `new` into `node`, which has fewer than 32 entries. In it the search for `new.key` takes slot `new.at`. It gets no higher.
 pub(crate) fn add_leaf(node: &mut Node, new: &NewLeaf<'_>)
     requires room { length node.old.entries < 32 }
     requires leads { spot new.now.key.now (piece node.old) ≡ new.now.at }
@@ -71,7 +71,8 @@ pub(crate) struct Fork<'a> {
     pub one: Entry,
 }
 
-/// Puts `fork` into `node`, which has fewer than 32 entries, in the place of the entry to which the search for `fork.key` leads.
+/// Puts `fork` into `node`, which has fewer than 32 entries, in the place of the entry to which the search for `fork.key` leads. Both
+/// entries of `fork` are lower than `node`, which gets no higher.
 pub(crate) fn add_fork(node: &mut Node, fork: &Fork<'_>)
     requires room { length node.old.entries < 32 }
     requires tree { IsSubtrieOfTree (subtrie_with_fork fork.now (piece node.old)) }

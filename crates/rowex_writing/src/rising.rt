@@ -63,15 +63,15 @@ fn raise_node_with_fork<G: Gate>(
     Some(Risen::Whole(entry))
 }
 
-/// The words of the locked node `number`, as they were loaded.
+/// The words of the locked node `number`, all but its state, as they were loaded.
 #[derive(Drop)]
 pub(crate) struct LoadedNode {
     pub number: u32,
     pub words: [u64; NODE_FIELDS],
 }
 
-/// Makes what [`make_risen_with_leaf`] makes, by a value of the node that is read from `loaded`. A node with room gets the leaf `new` in
-/// that value, and a full one is cut. `None` if no node record was free.
+/// Makes what [`make_risen_with_leaf`] makes, from a value of the node, whatever entries that has. `None` if no node record was free: one
+/// that was made by then stays in `build.made`.
 fn make_risen_with_leaf_by_value<G: Gate>(
     table: &HotTable,
     seat: &mut TableSeat,
@@ -100,9 +100,8 @@ fn make_risen_with_leaf_by_value<G: Gate>(
 }
 
 /// Makes what takes the place of the node `loaded` with the leaf `new`: one entry, or a fork of two if it was full. The flag tells whether
-/// the node stays, as one side of that fork. `None` if no node record was free.
-///
-/// A node of leaves alone with room gets the leaf in `loaded.words`, so that no node is read or packed.
+/// the node stays, as one side of that fork. `None` if no node record was free: one that was made by then stays in `build.made`.
+/// `loaded.words` may be changed: a node of leaves alone with room gets the leaf there, which costs least.
 fn make_risen_with_leaf<G: Gate>(
     table: &HotTable,
     seat: &mut TableSeat,
@@ -124,8 +123,8 @@ fn make_risen_with_leaf<G: Gate>(
     make_risen_with_leaf_by_value(table, seat, gate, build, loaded, new)
 }
 
-/// Makes what takes the place of the locked node `number`, the lowest of a span, with the leaf `new`. This is one entry, or a fork of two
-/// if the node was full. The flag tells whether the node stays, as one side of that fork. `None` if no node record was free.
+/// Makes what takes the place of the locked node `number`, the lowest of a span, with the leaf `new`: one entry, or a fork of two if it was
+/// full. The flag tells whether the node stays, as a side of the fork. `None` if no node record was free: one made stays in `build.made`.
 fn raise_lowest_node<G: Gate>(
     table: &HotTable,
     seat: &mut TableSeat,
@@ -214,7 +213,7 @@ pub(crate) struct Rise<'a> {
 }
 
 /// The one entry that takes the place of the node at `rise.end` of `way`, when `rise.risen` takes the place of the one at `rise.level`.
-/// `None` if no node record was free. Inline, since mostly these are one node.
+/// `None` if no node record was free: those made by then stay in `build.made`. Inline, since mostly these are one node.
 #[inline(always)]
 #[cycle(raising)]
 fn raise_to_end<G: Gate>(
@@ -328,8 +327,6 @@ pub(crate) fn raise_with_leaf<G: Gate>(
 
 /// The entry for what is left of the locked node `number` without the leaf in slot `at`, to which some key's search leads. It is that of a
 /// new record, or the only entry left. `None` if no node record was free: none is made then.
-///
-/// The node's words become those of the record, so that no node is read, searched or packed.
 pub(crate) fn raise_without_leaf<G: Gate>(
     table: &HotTable,
     seat: &mut TableSeat,

@@ -3,78 +3,80 @@
 ghost use Rattle.version_laws.specs.Ways.{FoundSame, OneBody, PlacedSame, RootedSame, StillGrows, StillPlaced, StillRooted, WayBegins, WayEnds, WayGoesOn, WayIsBelow, WayOfLeaf};
 ghost use Rattle.version_laws.specs.Statements.{FirstKey, FoundIsKept, GetEnds, InsertAtSpot, LedPlaced, LoadsLeaf, LoadsNone, LoadsPlace, LoadsRoot, LoadsShape, MergeAtSpot, PairAtSpot, RemoveAtSpot, RemoveLast, ScanIsLawful, UpperGoesOn, UpsertAtSpot};
 
-/// An insertion that was checked under its locks is a legal publish that adds the key. It stores one entry, in a node or at the root.
+/// The store of the entry that has risen from a locked node, at the locked spot that names it, is a legal publish that adds the key.
+/// If the spot is in a node, no other entry there is affected, and the new one is lower than that node.
 pub fn insert_at_spot_adds_key()
     ensures { InsertAtSpot }
 {}
 
-/// Let an insertion affect no more of a locked node than one entry, which is a node. Then the locked node's first fork is before the
-/// position of the insertion.
+/// Let the entry on a key's way in a locked node name a node, and let an insertion affect no more there than that entry. Then the locked
+/// node's first fork is before the position of the insertion.
 pub fn first_fork_is_before_insertion()
     ensures { UpperGoesOn }
 {}
 
-/// The publish of a new node in the place of a leaf, with that leaf and the new one, is legal and adds the key.
+/// Let one leaf alone be affected, at a locked spot. The publish of a node of it and the new leaf in its place is legal and adds the key.
 pub fn pair_at_spot_adds_key()
     ensures { PairAtSpot }
 {}
 
-/// The publish of a new leaf at an empty root is legal and adds the key.
+/// The publish of a new leaf at an empty root, by the pass that has locked the anchor, is legal and adds the key.
 pub fn first_leaf_adds_key()
     ensures { FirstKey }
 {}
 
-/// The publish of a new leaf in the place of one with the same key is legal and replaces its value.
+/// The publish of a new leaf in the place of one with the same key, at a locked spot, is legal and replaces its value.
 pub fn upsert_at_spot_replaces_value()
     ensures { UpsertAtSpot }
 {}
 
-/// The publish of what is left of a leaf's node, in that node's place, is legal and removes the key.
+/// The publish of what is left of a leaf's locked node, at the locked spot that names this node, is legal and removes the key.
 pub fn remove_at_spot_removes_key()
     ensures { RemoveAtSpot }
 {}
 
-/// A removal that merges what is left of the leaf's node with the node beside it is a legal publish that removes the key.
+/// Let a leaf's node, its sibling, the node above and the spot that names that be locked. The publish of what is left of the node above,
+/// with one new node of what is left of both, is legal and removes the key.
 pub fn merge_at_spot_removes_key()
     ensures { MergeAtSpot }
 {}
 
-/// The removal of the only leaf is a legal publish that leaves the index empty.
+/// The removal of the only leaf, by the pass that has locked the anchor, is a legal publish that leaves the index empty.
 pub fn last_removal_leaves_index_empty()
     ensures { RemoveLast }
 {}
 
-/// What a writer found below a locked node stays true while other passes go on.
+/// What a writer found below a node stays true in later versions, as long as it keeps its pin, the node's lock, and the node's words.
 pub fn found_below_lock_stays_true()
     ensures { FoundIsKept }
 {}
 
-/// A load that finds an entry at the root tells that it stood there in a version since any that is no later.
+/// A load that finds an entry at the root tells, for each version up to now, that the entry stood there in this or a later one.
 pub fn load_tells_root()
     ensures { LoadsRoot }
 {}
 
-/// A load that finds the root empty tells that each key was absent in a version since any that is no later.
+/// A load that finds the root empty tells, for each version up to now, that each key was absent in this or a later one.
 pub fn load_tells_empty_root()
     ensures { LoadsNone }
 {}
 
-/// A load of an entry of a node in reach tells that it stood there in a version. The entry is lower than the node.
+/// A load of a slot of a node in reach tells that the entry found stood there in a version since the pin. It is lower than the node.
 pub fn load_tells_entry()
     ensures { LoadsPlace }
 {}
 
-/// The loads of the fixed words of a node in reach tell its forks.
+/// The loads of the head of a node in reach tell the forks with which the node stood in a version since the pin.
 pub fn loads_tell_forks()
     ensures { LoadsShape }
 {}
 
-/// The loads of the words of a leaf in reach tell its key and value.
+/// The loads of the words of a leaf in reach tell the key and value with which the leaf stood in a version since the pin.
 pub fn loads_tell_leaf()
     ensures { LoadsLeaf }
 {}
 
-/// A search goes on from a node to the entry at the key's place in it, whatever was published between the loads.
+/// A search that was led to a node is led on to the entry loaded at the key's place in it, whatever was published between the loads.
 pub fn loaded_entry_leads_search_on()
     ensures { LedPlaced }
 {}
@@ -85,7 +87,7 @@ pub fn lookup_is_current()
     ensures { GetEnds }
 {}
 
-/// A scan upwards or downwards that came to its end, or was cut at its limit, is lawful.
+/// A scan in either direction that came to its end, or was cut at its limit, is lawful between the fronts at its start and at its end.
 pub fn scan_is_lawful()
     ensures { ScanIsLawful }
 {}
@@ -95,23 +97,23 @@ pub fn descent_begins_at_read_node()
     ensures { WayBegins }
 {}
 
-/// The descent goes on by each entry that it reads, whatever is published in between.
+/// A descent that has come to a node goes on by each entry that it reads there, whatever is published in between.
 pub fn descent_goes_on_by_read_entry()
     ensures { WayGoesOn }
 {}
 
-/// If a descent from a node has come to a leaf, and the leaf's words were read, then the leaf's key agrees, before the node's first fork,
-/// with a key that the node had.
+/// Let a descent from a node have come to a leaf whose words were read. Then, before the node's first fork, the leaf's key agrees with a
+/// key that the node had.
 pub fn leaf_has_stem_of_node()
     ensures { WayEnds }
 {}
 
-/// A descent may begin and end at one leaf.
+/// A leaf whose words were read is a descent of its own, which begins and ends there.
 pub fn one_leaf_is_a_descent()
     ensures { WayOfLeaf }
 {}
 
-/// A descent from the entry at the key's place in a locked node tells what a writer needs of the way below that node.
+/// A descent from the entry at the key's place in a locked node to a leaf tells what a writer needs of the way below that node.
 pub fn descent_tells_way_below()
     ensures { WayIsBelow }
 {}
@@ -121,13 +123,12 @@ pub fn unchanged_search_begins_at_root_entry()
     ensures { StillRooted }
 {}
 
-/// If no change was made since a version, a search in the newest tree goes on by each entry that was read since.
+/// If no change was made since a version, a search in the newest tree goes on from its node by the entry read since at the key's place.
 pub fn unchanged_search_goes_on_by_entry()
     ensures { StillPlaced }
 {}
 
-/// If no change was made since a version, `unchanged_search_begins_at_root_entry` or `unchanged_search_goes_on_by_entry` tells where a search
-/// stands in the newest tree. That stays known while more versions are published.
+/// Let a search be known to have come to an entry, if no change was made since a version. That stays true while versions are added.
 pub fn unchanged_search_stays_known()
     ensures { StillGrows }
 {}
@@ -147,7 +148,7 @@ pub fn entry_loads_agree()
     ensures { PlacedSame }
 {}
 
-/// Two searches for a key end at one leaf, if no change was made in between.
+/// Two searches for a key that end at leaves end at the same leaf, if no change was made in between.
 pub fn searches_agree()
     ensures { FoundSame }
 {}
