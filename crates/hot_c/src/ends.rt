@@ -7,8 +7,8 @@ use crate::pairs::{Order, Pair, Query, tell_first_pair};
 use crate::scans::fill_list;
 use key_bits::MAX_BYTES;
 
-/// Writes the first pair whose key is `from` or above to `pair`: `FOUND`, or `ABSENT` if there is none. `CLOSED`, `KEY_TOO_LONG` or
-/// `NO_MEMORY` if the scan fails. Only `FOUND` writes.
+/// Writes to `pair` the first pair whose key is `from` or above: `FOUND`. `ABSENT` if there is none. It fails with `CLOSED`, `NO_MEMORY`,
+/// or `KEY_TOO_LONG` if `from` has more than 240 bytes. Only `FOUND` writes.
 #[unsafe(no_mangle)]
 pub extern "C" fn hot_first(handle: &mut Handle, from: &[u8], pair: &mut Pair) -> u32
     ensures call { FindsFirst from.now handle.old.slot.opened handle.new.slot.opened pair.old pair.new result }
@@ -21,8 +21,8 @@ pub extern "C" fn hot_first(handle: &mut Handle, from: &[u8], pair: &mut Pair) -
     find_pair(handle, &query, pair)
 }
 
-/// Writes the last pair whose key is `upto` or below to `pair`: `FOUND`, or `ABSENT` if there is none. `CLOSED`, `KEY_TOO_LONG` or
-/// `NO_MEMORY` if the scan fails. Only `FOUND` writes.
+/// Writes to `pair` the last pair whose key is `upto` or below: `FOUND`. `ABSENT` if there is none. It fails with `CLOSED`, `NO_MEMORY`, or
+/// `KEY_TOO_LONG` if `upto` has more than 240 bytes. Only `FOUND` writes.
 #[unsafe(no_mangle)]
 pub extern "C" fn hot_last(handle: &mut Handle, upto: &[u8], pair: &mut Pair) -> u32
     ensures call { FindsLast upto.now handle.old.slot.opened handle.new.slot.opened pair.old pair.new result }
@@ -35,8 +35,8 @@ pub extern "C" fn hot_last(handle: &mut Handle, upto: &[u8], pair: &mut Pair) ->
     find_pair(handle, &query, pair)
 }
 
-/// Writes the pair that a scan for one pair of `query` finds to `pair`: `FOUND`, or `ABSENT` if it finds none. `CLOSED`, `KEY_TOO_LONG`
-/// or `NO_MEMORY` if the scan fails. Only `FOUND` writes.
+/// Writes to `pair` the one that a scan of `query` for one pair finds: `FOUND`. `ABSENT` if it finds none. It fails with `CLOSED`,
+/// `KEY_TOO_LONG` or `NO_MEMORY`, as `fill_list` does. Only `FOUND` writes.
 fn find_pair(handle: &mut Handle, query: &Query, pair: &mut Pair) -> u32
     ensures { FindsIn query.now.order query.now.from.now query.now.upto.now handle.old.slot.opened handle.new.slot.opened pair.old pair.new result }
 {

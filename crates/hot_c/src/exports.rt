@@ -26,8 +26,8 @@ use key_bits::{Key, KeyFault};
 use record_words::{Layout, Stock};
 use std::alloc::Global;
 
-/// Makes an empty index with `nodes` node records, `leaves` leaf records and a pass for each of `handles`, and opens these: `DONE`. Else
-/// all stay as they were: `OUT_OF_RANGE`, `OPEN` if one is not closed before, or `NO_MEMORY`.
+/// Opens each of `handles`, 1 to 64, with the pass of its place of a new empty index: `DONE`. It has `nodes` node records, 1 to 65,535,
+/// and `leaves` leaf records, 1 to 262,143, all long. Else all stay as they were: `OUT_OF_RANGE`, or `OPEN` if one is open, or `NO_MEMORY`.
 #[unsafe(no_mangle)]
 pub extern "C" fn hot_create(alloc: Global, nodes: u32, leaves: u32, handles: &mut [Handle]) -> u32
     ensures range { ¬ IsSize (length handles.old) nodes leaves → (result ≡ OUT_OF_RANGE) × (handles.new ≡ handles.old) }
@@ -51,8 +51,9 @@ pub extern "C" fn hot_create(alloc: Global, nodes: u32, leaves: u32, handles: &m
     }
 }
 
-/// Makes an empty index with the records of `stock` and a pass for each of `handles`, and opens all of them: `DONE`. Else all stay as
-/// they were: `OUT_OF_RANGE`, `OPEN` if one is not closed before, or `NO_MEMORY`.
+/// Opens each of `handles` with the pass of its place of a new empty index with the records of `stock`: `DONE`. Else all stay as they were:
+/// `OUT_OF_RANGE` unless there are 1 to 1,024 handles, a node record, and 1 to 4,294,967,295 leaf records in all; or `OPEN` if a handle is
+/// open; or `NO_MEMORY`.
 #[unsafe(no_mangle)]
 pub extern "C" fn hot_create_with(alloc: Global, stock: &HotStock, handles: &mut [Handle]) -> u32
     ensures range { ¬ IsStockSize (length handles.old) (stock_in stock.now) → (result ≡ OUT_OF_RANGE) × (handles.new ≡ handles.old) }
@@ -78,7 +79,7 @@ pub extern "C" fn hot_create_with(alloc: Global, stock: &HotStock, handles: &mut
 }
 
 /// Makes an empty index with the records of `stock` and `passes` passes, and opens `handle` with the last of them: `DONE`. The handle
-/// keeps the others for `hot_open_kept`. Else it stays as it was: `OUT_OF_RANGE`, `OPEN` if it is not closed before, or `NO_MEMORY`.
+/// keeps the others, closed, for `hot_open_kept`. Else it stays as it was, with a status as of `hot_create_with`.
 #[unsafe(no_mangle)]
 pub extern "C" fn hot_create_keeping(
     alloc: Global,
@@ -108,8 +109,8 @@ pub extern "C" fn hot_create_keeping(
     }
 }
 
-/// Opens `handle`, which is closed, with the next of the passes that `keeper` keeps: `DONE`. Else both stay as they were: `CLOSED` if
-/// `keeper` is closed, `OPEN` if `handle` is not, `NO_HANDLE` if no pass is kept, or `NO_MEMORY`.
+/// Takes the pass of the least number out of those that `keeper` keeps, and opens `handle` with it: `DONE`. Else both stay as they were:
+/// `CLOSED` if `keeper` is closed, `OPEN` if `handle` is open, `NO_HANDLE` if no pass is kept, or `NO_MEMORY`.
 #[unsafe(no_mangle)]
 pub extern "C" fn hot_open_kept(alloc: Global, keeper: &mut Handle, handle: &mut Handle) -> u32
     ensures closed { keeper.old.slot.opened ≡ None → (result ≡ CLOSED) × (keeper.new.slot.opened ≡ None) × (handle.new ≡ handle.old) }
@@ -133,7 +134,7 @@ pub extern "C" fn hot_open_kept(alloc: Global, keeper: &mut Handle, handle: &mut
     }
 }
 
-/// Writes the stock of `Stock::for_keys` for `count` keys of at most `longest` bytes each to `stock`.
+/// Writes to `stock` that of `Stock::for_keys`: for up to `count` keys at once, of at most `longest` bytes each, and of at most 240.
 #[unsafe(no_mangle)]
 pub extern "C" fn hot_stock_for_keys(count: u32, longest: usize, stock: &mut HotStock)
     ensures { stock_in stock.new ≡ stock_for count longest }
@@ -141,8 +142,8 @@ pub extern "C" fn hot_stock_for_keys(count: u32, longest: usize, stock: &mut Hot
     stock.set_counts(Stock::for_keys(count, longest));
 }
 
-/// Writes how many bytes the table of an index with the records of `stock` and `handles` passes takes to `bytes`: `DONE`. If there is no
-/// such index, `OUT_OF_RANGE`, and `bytes` stays.
+/// Writes to `bytes` how many bytes the table of an index with the records of `stock` and `handles` passes takes: `DONE`. `OUT_OF_RANGE` if
+/// there is no such index, as of `hot_create_with`; then `bytes` stays.
 #[unsafe(no_mangle)]
 pub extern "C" fn hot_stock_bytes(stock: &HotStock, handles: usize, bytes: &mut usize) -> u32
     ensures range { ¬ IsStockSize handles (stock_in stock.now) → (result ≡ OUT_OF_RANGE) × (bytes.new ≡ bytes.old) }
@@ -176,7 +177,7 @@ pub extern "C" fn hot_number(handle: &mut Handle, number: &mut u16) -> u32
 }
 
 /// Looks up `key`: `FOUND`, with its value in `value`, or `ABSENT`. `CLOSED` if `handle` is closed, `KEY_TOO_LONG` if `key` has more than
-/// 240 bytes. But for `FOUND`, `value` stays; no other status is returned.
+/// 240 bytes. Only `FOUND` writes `value`. No other status is returned.
 #[unsafe(no_mangle)]
 pub extern "C" fn hot_get(handle: &mut Handle, key: &[u8], value: &mut u64) -> u32
     ensures call { Answers key.now (Get key.now) handle.old.slot.opened handle.new.slot.opened value.old value.new result }
@@ -192,8 +193,8 @@ pub extern "C" fn hot_get(handle: &mut Handle, key: &[u8], value: &mut u64) -> u
     }
 }
 
-/// Looks up the keys of `lookups`, in their order, and writes what it found there: `FOUND`, with the value, or `ABSENT`. It returns
-/// `DONE`; or `CLOSED`, `KEY_TOO_LONG` if one key is too long, or `NO_MEMORY`, and looks up none.
+/// Looks up the keys of `lookups`, in their order, and returns `DONE`. It writes to each `FOUND` with the value, or `ABSENT` alone. With
+/// `CLOSED`, `KEY_TOO_LONG` (one has more than 240 bytes) or `NO_MEMORY` it looks up none, and writes nothing.
 #[unsafe(no_mangle)]
 pub extern "C" fn hot_get_many(
     alloc: Global,
@@ -220,7 +221,7 @@ pub extern "C" fn hot_get_many(
 }
 
 /// Inserts `key` with `value`: `INSERTED`; or `EXISTS` with the value that the key has already, and keeps, in `had`. With `BUSY`,
-/// `FULL_NODES`, `FULL_LEAVES`, `HELD_BACK`, `CLOSED` or `KEY_TOO_LONG` nothing was changed, and `had` stays.
+/// `FULL_NODES`, `FULL_LEAVES`, `HELD_BACK`, `CLOSED` or `KEY_TOO_LONG` nothing was changed. Only `EXISTS` writes `had`.
 #[unsafe(no_mangle)]
 pub extern "C" fn hot_try_insert(handle: &mut Handle, key: &[u8], value: u64, had: &mut u64) -> u32
     ensures call { Answers key.now (Insert key.now value) handle.old.slot.opened handle.new.slot.opened had.old had.new result }
@@ -276,9 +277,8 @@ pub extern "C" fn hot_try_remove(handle: &mut Handle, key: &[u8], had: &mut u64)
     make_call(handle, &mut call, key, had)
 }
 
-/// Removes `key` if it has the value `expected` (`REMOVED` with that value in `had`). Else it changes nothing: `DIFFERS` with the value
-/// that the key has in `had`, or `ABSENT`. With `BUSY`, `FULL_NODES`, `HELD_BACK`, `CLOSED` or `KEY_TOO_LONG` nothing was changed, and
-/// `had` stays. It never returns `FULL_LEAVES`.
+/// Removes `key` if it has the value `expected`: `REMOVED` with that value in `had`. Else it changes nothing: `DIFFERS` with the value that
+/// the key has in `had`, or `ABSENT`. It is refused with the same statuses as `hot_try_remove`.
 #[unsafe(no_mangle)]
 pub extern "C" fn hot_try_remove_if(
     handle: &mut Handle,
@@ -293,8 +293,8 @@ pub extern "C" fn hot_try_remove_if(
     make_call(handle, &mut call, key, had)
 }
 
-/// Makes `call` with `key` in place of its own, and returns the status. `CLOSED` if the handle is closed, `KEY_TOO_LONG` if the key is
-/// too long. The reply's value, if it has one, goes to `had`. Inline, so that the key's bytes are written once, where the call stands.
+/// Makes `call` with `key` in place of its own, and returns the status. `CLOSED` if the handle is closed, `KEY_TOO_LONG` if the key has
+/// more than 240 bytes. The reply's value, if it has one, goes to `had`; else `had` stays. Inline: so the key's bytes are written once.
 #[inline(always)]
 fn make_call(handle: &mut Handle, call: &mut Call, key: &[u8], had: &mut u64) -> u32
     ensures call { Answers key.now (for_key key.now call.old) handle.old.slot.opened handle.new.slot.opened had.old had.new result }
@@ -309,7 +309,7 @@ fn make_call(handle: &mut Handle, call: &mut Call, key: &[u8], had: &mut u64) ->
     }
 }
 
-/// Gives `call` the key `key` in place of its own; a fault if that is too long.
+/// Gives `call` the key `key` in place of its own; a fault if that has more than 240 bytes, and then `call` stays.
 #[inline(always)]
 fn set_key(call: &mut Call, key: &[u8]) -> Result<(), KeyFault>
     ensures fits { IsOk result ↔ FitsInKey key.now }
@@ -326,8 +326,8 @@ fn set_key(call: &mut Call, key: &[u8]) -> Result<(), KeyFault>
     }
 }
 
-/// Makes `call`, for a key of `size` bytes, through an open handle, and returns the status. The reply's value, if it has one, goes to
-/// `had`.
+/// Makes `call`, whose key has `size` bytes, through `handle`, which is open, and returns the status. The reply's value, if it has one,
+/// goes to `had`; else `had` stays.
 #[inline(never)]
 fn make_call_on_open_handle(handle: &mut Handle, call: &Call, size: usize, had: &mut u64) -> u32
     requires { IsSome handle.old.slot.opened }
@@ -337,7 +337,7 @@ fn make_call_on_open_handle(handle: &mut Handle, call: &Call, size: usize, had: 
     handle.slot.lend().try_call(call, size, had)
 }
 
-/// Makes one round of collection, and writes how many node and leaf records it gave back to `nodes` and `leaves`: `DONE`. If the handle
+/// Makes one round of collection, and writes to `nodes` and `leaves` how many node and leaf records it gave back: `DONE`. If the handle
 /// is closed, `CLOSED`, and both stay.
 #[unsafe(no_mangle)]
 pub extern "C" fn hot_collect(handle: &mut Handle, nodes: &mut u32, leaves: &mut u32) -> u32
@@ -353,8 +353,8 @@ pub extern "C" fn hot_collect(handle: &mut Handle, nodes: &mut u32, leaves: &mut
     DONE
 }
 
-/// Writes how many node records, and leaf records of each class, are free, held, live and obsolete to `counts`: `DONE`. The counts are of
-/// no single moment. If the handle is closed, `CLOSED`, and `counts` stays.
+/// Writes to `counts` how many node records, and leaf records of each class, are free, held, live and obsolete, and the table's bytes:
+/// `DONE`. The counts are of no single moment. If the handle is closed, `CLOSED`, and `counts` stays.
 #[unsafe(no_mangle)]
 pub extern "C" fn hot_census(handle: &mut Handle, counts: &mut RecordCounts) -> u32
     ensures closed { handle.old.slot.opened ≡ None → (result ≡ CLOSED) × (handle.new.slot.opened ≡ None) × (counts.new ≡ counts.old) }
@@ -367,7 +367,7 @@ pub extern "C" fn hot_census(handle: &mut Handle, counts: &mut RecordCounts) -> 
     DONE
 }
 
-/// Closes a handle: `DONE`, or `CLOSED` if it was closed. When the last handle of an index is closed, the index is freed.
+/// Closes a handle: `DONE`, or `CLOSED` if it was closed. The passes that it keeps go with it. The last handle of an index frees the index.
 #[unsafe(no_mangle)]
 pub extern "C" fn hot_destroy(alloc: Global, handle: &mut Handle) -> u32
     ensures closed { handle.old.slot.opened ≡ None → result ≡ CLOSED }

@@ -10,12 +10,12 @@ use std::mem::replace;
 /// The tag of an open handle. No handle that was zeroed has it.
 const TAG: u32 = 0x544f_4821;
 
-/// The right of one thread at a time to use an index, or nothing.
+/// A handle as C has it. While it is open, it is the right of one thread at a time to use an index. Zeroed bytes are a closed one.
 #[repr(C)]
 pub struct Handle {
     tag: u32,
     pub slot: Slot,
-    /// C's own: its place in its index.
+    /// A pointer of `c/hot.c`, to what the index keeps of the handle. Nothing here reads it.
     pub place: usize,
     pub ghost tagged: { (tag ≡ 0x544f_4821) ↔ IsSome slot.opened },
 }

@@ -8,7 +8,7 @@ use crate::opened::Opened;
 use crate::slot::Slot;
 
 impl Slot {
-    /// Lends what the slot holds, which isn't empty.
+    /// Lends what the slot holds, to be read and changed in its place. The slot isn't empty.
     pub fn lend(&mut self) -> &mut Opened
         requires { IsSome self.old.opened }
         ensures* writes_back { sem 𝓛 (LendsOpened self.entry result) }

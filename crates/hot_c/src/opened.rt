@@ -36,8 +36,8 @@ pub struct Opened {
 }
 
 impl Opened {
-    /// Opens the next of the closed handles that are kept, the last of `kept`; `None` if none is kept. If memory is refused, an error, and
-    /// all stay kept.
+    /// Takes the last of the closed handles out of `kept`, and opens it; `None` if none is kept. The opened one keeps none itself. If
+    /// memory is refused, an error, and all stay kept.
     pub fn open_next_handle(
         &mut self,
         alloc: Global,
@@ -83,8 +83,8 @@ impl Opened {
         }
     }
 
-    /// Replaces the list with at most `limit` pairs whose keys are from `from` to `upto`. For `Upwards` these are the first ones, in rising
-    /// order; else the last ones, in falling order. Returns whether there are more; an error if memory is refused.
+    /// Replaces the list with at most `limit` pairs whose keys are from `from` to `upto`, both included. For `Upwards` these are the first
+    /// ones, in rising order; else the last ones, in falling order. Returns whether there are more; an error if memory is refused.
     pub fn scan(
         &mut self,
         order: Order,
@@ -113,7 +113,7 @@ impl Opened {
         self.handle.index.show().stamp(&mut self.handle.pass)
     }
 
-    /// Lets the handle see all that was seen when `stamp` was made.
+    /// Lets the handle see all that was seen when `stamp`, one of the same index, was made.
     pub fn follow(&mut self, stamp: Stamp)
         requires { IsStampFrom self.old.handle.index stamp }
         ensures { Stays (λ index k j. HasCaughtUp index.layout stamp.front k j) self.old.handle self.new.handle }

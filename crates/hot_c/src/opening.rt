@@ -23,7 +23,7 @@ pub fn are_closed(handles: &[Handle]) -> bool
     handles.iter().all(|handle| !handle.is_open())
 }
 
-/// Whether an index can have these numbers of passes, node records and leaf records.
+/// Whether `create` takes these numbers: 1 to 64 passes, 1 to 65,535 node records and 1 to 262,143 leaf records.
 pub fn is_size(passes: usize, nodes: u32, leaves: u32) -> bool
     ensures { IsTrue result ↔ IsSize passes nodes leaves }
 {
@@ -35,7 +35,7 @@ pub fn is_size(passes: usize, nodes: u32, leaves: u32) -> bool
         && leaves <= MAX_LEAVES
 }
 
-/// Whether an index can have this number of passes and the records of `stock`.
+/// Whether `create_with` takes these numbers: 1 to 1,024 passes, and in `stock` a node record and 1 to 4,294,967,295 leaf records in all.
 pub fn is_stock_size(passes: usize, stock: &Stock) -> bool
     ensures { IsTrue result ↔ IsStockSize passes stock.now }
 {
@@ -48,7 +48,7 @@ pub fn is_stock_size(passes: usize, stock: &Stock) -> bool
         && leaves <= u32::MAX as u64
 }
 
-/// Opens `handles`, which are closed, each with the one of its place in `passes`. There are as many of these.
+/// Opens each of `handles`, which are closed, with the one at its place in `passes`, which are as many.
 pub fn open_handles(handles: &mut [Handle], passes: Vec<Box<Opened, Global>>)
     requires closed { AreClosed handles.old }
     requires count { length passes.items ≡ length handles.old }
@@ -61,8 +61,8 @@ pub fn open_handles(handles: &mut [Handle], passes: Vec<Box<Opened, Global>>)
     }
 }
 
-/// The passes of a new index with these numbers of records, each with its share of the index. `IndexFault::Memory` if memory is refused;
-/// another fault if a number is out of range.
+/// The passes of a new index with these numbers of records, in the order of their numbers, each with a share of the index. All leaf records
+/// are long. `IndexFault::Layout` if a number is out of range (`is_size`); `Memory` if memory is refused.
 pub fn make_passes(
     alloc: Global,
     passes: u32,
@@ -77,8 +77,8 @@ pub fn make_passes(
     share_index(alloc, index, passes).map_err(|_| IndexFault::Memory)
 }
 
-/// The passes of a new index with the records of `stock`, each with its share of the index. `IndexFault::Memory` if memory is refused;
-/// another fault if a number is out of range.
+/// The passes of a new index with the records of `stock`, in the order of their numbers, each with a share of the index.
+/// `IndexFault::Layout` if a number is out of range (`is_stock_size`); `Memory` if memory is refused.
 pub fn make_passes_with_stock(
     alloc: Global,
     passes: u32,
@@ -93,7 +93,7 @@ pub fn make_passes_with_stock(
 }
 
 /// The last pass of a new index with the records of `stock`, opened, with its share of the index. It keeps the others, and the first of
-/// them is the next to be opened. `IndexFault::Memory` if memory is refused; another fault if a number is out of range.
+/// them is the next to be opened. `IndexFault::Layout` if a number is out of range (`is_stock_size`); `Memory` if memory is refused.
 pub fn make_keeper(
     alloc: Global,
     passes: u32,
@@ -108,7 +108,7 @@ pub fn make_keeper(
 }
 
 /// The last of `passes`, which are those of `index`, opened, with its share. It keeps the others, the first one last. An error if memory
-/// is refused.
+/// is refused, or there is no pass.
 fn keep_passes(
     alloc: Global,
     index: Index,
@@ -144,7 +144,7 @@ fn make_closed_handles(
     Ok(handles)
 }
 
-/// The `passes` of `index` in their order, each with a share of it, an empty list and no kept handle. An error if memory is refused.
+/// The new `passes` of `index`, in their order, each with a share of it, an empty list and no kept handle. An error if memory is refused.
 fn share_index(
     alloc: Global,
     index: Index,

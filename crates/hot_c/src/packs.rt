@@ -12,9 +12,9 @@ use crate::status::DONE;
 use packed_pairs::{Head, Pairs};
 
 /// Lists the first pairs whose keys are from `from` to `upto`, both included, in key order, packed. The bytes of their keys go to
-/// `bytes`, one after another, and a head for each to `heads`. It lists as many as `heads` has places, and only those whose keys together
-/// have room in `bytes`. `count` becomes their number, and `more` 1 if the range has more, else 0: `DONE`. With `CLOSED`, `KEY_TOO_LONG`
-/// or `NO_MEMORY` these four stay.
+/// `bytes`, one after another, and a head for each to `heads`. It lists at most as many as `heads` has places, and only the first of these,
+/// whose keys together have room in `bytes`. `count` is their number then, and `more` 1 if the range has more, else 0: `DONE`. With
+/// `CLOSED`, `KEY_TOO_LONG` or `NO_MEMORY` these four stay.
 #[unsafe(no_mangle)]
 pub extern "C" fn hot_scan_packed(
     handle: &mut Handle,
@@ -53,7 +53,7 @@ pub extern "C" fn hot_scan_packed_reverse(
     list_packed_pairs(handle, &query, bytes, heads, count, more)
 }
 
-/// Lists pairs of `query`, packed as by `hot_scan_packed`, with its statuses: the first ones upwards, or the last ones downwards.
+/// Lists pairs of `query`, packed as by `hot_scan_packed`, with its statuses: for `Upwards` the first ones, else the last ones, downwards.
 fn list_packed_pairs(
     handle: &mut Handle,
     query: &Query,

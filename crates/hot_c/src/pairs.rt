@@ -35,7 +35,7 @@ pub struct Query<'a> {
     pub upto: &'a [u8],
 }
 
-/// Writes `pairs`, which a scan has listed, to the first places of `room`: the last one first for `LastUpwards`, else the first one first.
+/// Writes `pairs`, as a scan found them, to the first places of `room`, which has room for all. For `LastUpwards` the last one comes first.
 pub fn write_pairs_in_order(order: Order, pairs: &Pairs, room: &mut [Pair])
     requires { length pairs.now ≤ length room.old }
     ensures written { AreSpelled (in_order order pairs.now) room.new }
@@ -47,7 +47,7 @@ pub fn write_pairs_in_order(order: Order, pairs: &Pairs, room: &mut [Pair])
     }
 }
 
-/// Writes `pairs` to the first places of `room`, the first one first.
+/// Writes `pairs` to the first places of `room`, which has room for all, the first one first.
 fn write_pairs(pairs: &Pairs, room: &mut [Pair])
     requires { length pairs.now ≤ length room.old }
     ensures written { AreSpelled pairs.now room.new }
@@ -58,7 +58,7 @@ fn write_pairs(pairs: &Pairs, room: &mut [Pair])
     }
 }
 
-/// Writes `pairs` to the first places of `room`, the last one first.
+/// Writes `pairs` to the first places of `room`, which has room for all, the last one first.
 fn write_pairs_backwards(pairs: &Pairs, room: &mut [Pair])
     requires { length pairs.now ≤ length room.old }
     ensures written { AreSpelled (reverse pairs.now) room.new }
@@ -89,8 +89,8 @@ fn write_pair(key: &[u8], value: u64, pair: &mut Pair)
     }
 }
 
-/// Writes `key` and `value` to `pair`. The key is written by two copies of N bytes, of its first and of its last, which may be partly the
-/// same ones. The array holds either part in turn: with two arrays they would go through memory.
+/// Writes `key`, which has N to 2 N bytes, and `value` to `pair`. Two copies write the key: its first N bytes and its last N, which may
+/// overlap. The array holds either part in turn: with two arrays they would go through memory.
 fn write_pair_by_ends<const N: usize>(key: &[u8], value: u64, pair: &mut Pair)
     requires key { IsKey key.now }
     requires covered { (N ≤ length key.now) × (length key.now ≤ N + N) }

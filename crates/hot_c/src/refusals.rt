@@ -6,7 +6,7 @@ ghost use Rattle.hot_c.specs.Refusals.{AreInUse, AreNone, OfLeaves, TellsOfLeave
 use crate::status::{FULL_LEAVES, FULL_NODES, HELD_BACK, KEY_TOO_LONG};
 use hot_index::{RecordCounts, StateCounts};
 
-/// The status of a call that found no node record free: `FULL_NODES` if all are in use by `counts`, else `HELD_BACK`.
+/// The status of a call that found no node record free: `FULL_NODES` if `counts`, made after it, has all in use, else `HELD_BACK`.
 pub fn tell_lack_of_nodes(counts: &RecordCounts) -> u32
     ensures { TellsOfNodes counts.now result }
 {
@@ -17,8 +17,8 @@ pub fn tell_lack_of_nodes(counts: &RecordCounts) -> u32
     }
 }
 
-/// The status of a call that found no leaf record free for a key of `size` bytes. `HELD_BACK` if not all with room for the key are in use
-/// by `counts`. Else `KEY_TOO_LONG` if there are none, and `FULL_LEAVES` if there are some.
+/// The status of a call that found no leaf record free for a key of `size` bytes. `KEY_TOO_LONG` if `counts`, made after it, has none with
+/// room for the key. `FULL_LEAVES` if it has some, all in use. Else `HELD_BACK`.
 pub fn tell_lack_of_leaves(size: usize, counts: &RecordCounts) -> u32
     ensures { TellsOfLeaves size counts.now result }
 {
@@ -31,7 +31,7 @@ pub fn tell_lack_of_leaves(size: usize, counts: &RecordCounts) -> u32
     }
 }
 
-/// Whether the records of one kind and class are all in use, by `counts`; true if there is none.
+/// Whether none of the records of one kind and class is free, held or obsolete, by `counts`; true if there is none.
 fn are_all_in_use(counts: &StateCounts) -> bool
     ensures { IsTrue result ↔ AreInUse counts.now }
 {

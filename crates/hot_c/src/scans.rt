@@ -10,8 +10,8 @@ use crate::pairs::{Order, Pair, Query, write_pairs_in_order};
 use crate::status::{CLOSED, DONE, KEY_TOO_LONG, NO_MEMORY};
 use key_bits::Key;
 
-/// Lists the first pairs whose keys are from `from` to `upto`, both included, in key order: as many as `room` has places. `count` becomes
-/// their number, and `more` 1 if the range has more, else 0: `DONE`. With `CLOSED`, `KEY_TOO_LONG` or `NO_MEMORY` these three stay.
+/// Lists the first pairs whose keys are from `from` to `upto`, both included, in key order: at most as many as `room` has places. `count`
+/// is their number then, and `more` 1 if the range has more, else 0: `DONE`. With `CLOSED`, `KEY_TOO_LONG` or `NO_MEMORY` these three stay.
 #[unsafe(no_mangle)]
 pub extern "C" fn hot_scan(
     handle: &mut Handle,
@@ -29,8 +29,8 @@ pub extern "C" fn hot_scan(
     list_query(handle, &query, room, count, more)
 }
 
-/// Lists the last pairs whose keys are from `from` to `upto`, both included, in falling key order: as many as `room` has places. `count`
-/// becomes their number, and `more` 1 if the range has more below, else 0: `DONE`. The other statuses are those of `hot_scan`.
+/// Lists the last pairs whose keys are from `from` to `upto`, both included, in falling key order: at most as many as `room` has places.
+/// `count` is their number then, and `more` 1 if the range has more below, else 0: `DONE`. The other statuses are those of `hot_scan`.
 #[unsafe(no_mangle)]
 pub extern "C" fn hot_scan_reverse(
     handle: &mut Handle,
@@ -48,8 +48,8 @@ pub extern "C" fn hot_scan_reverse(
     list_query(handle, &query, room, count, more)
 }
 
-/// Lists the last pairs whose keys are from `from` to `upto`, both included, in rising key order: as many as `room` has places. `count`
-/// becomes their number, and `more` 1 if the range has more below, else 0: `DONE`. The other statuses are those of `hot_scan`.
+/// Lists the last pairs whose keys are from `from` to `upto`, both included, in rising key order: at most as many as `room` has places.
+/// `count` is their number then, and `more` 1 if the range has more below, else 0: `DONE`. The other statuses are those of `hot_scan`.
 #[unsafe(no_mangle)]
 pub extern "C" fn hot_scan_last(
     handle: &mut Handle,
@@ -67,9 +67,8 @@ pub extern "C" fn hot_scan_last(
     list_query(handle, &query, room, count, more)
 }
 
-/// Lists pairs of `query` in its order, as many as `room` has places. They are the first ones of the range for `Upwards`, else the last
-/// ones. `count` becomes their number, and `more` 1 if the range has more, else 0: `DONE`. With `CLOSED`, `KEY_TOO_LONG` or
-/// `NO_MEMORY` these three stay.
+/// Lists pairs of `query` in its order, at most as many as `room` has places: the first ones for `Upwards`, else the last ones. `count` is
+/// their number then, and `more` 1 if the range has more, else 0: `DONE`. With `CLOSED`, `KEY_TOO_LONG` or `NO_MEMORY` these three stay.
 fn list_query(
     handle: &mut Handle,
     query: &Query,
@@ -94,7 +93,7 @@ fn list_query(
 }
 
 /// Scans the range of `query` into the handle's list, for at most `limit` pairs, as `Opened::scan` does. Returns how many it found, and
-/// whether there are more. The error is `CLOSED`, `KEY_TOO_LONG` or `NO_MEMORY`.
+/// whether there are more. The error is `CLOSED`, `KEY_TOO_LONG` (an end has more than 240 bytes) or `NO_MEMORY`.
 pub fn fill_list(handle: &mut Handle, query: &Query, limit: usize) -> Result<(usize, bool), u32>
     ensures ok { IfOk result (λ found. HasFilled (IsFilledIn query.now.order) (range_from query.now.from.now query.now.upto.now limit)
         handle.old.slot.opened handle.new.slot.opened found.0 found.1) }

@@ -38,7 +38,7 @@ impl Slot {
         }
     }
 
-    /// A box of what the slot holds, which isn't empty.
+    /// The box of what the slot holds. The slot isn't empty.
     pub fn into_box(self, alloc: Global) -> Box<Opened, Global>
         requires { IsSome self.opened }
         ensures { self.opened ≡ Some result.value }

@@ -10,7 +10,7 @@ use hot_index::Reply;
 pub const DONE: u32 = 0;
 /// The key has the value that was written.
 pub const FOUND: u32 = 1;
-/// The key is absent.
+/// The key is absent, or there is no such key or pair.
 pub const ABSENT: u32 = 2;
 /// The key was absent and has the value now.
 pub const INSERTED: u32 = 3;
@@ -47,7 +47,7 @@ pub const HELD_BACK: u32 = 18;
 /// No handle is kept that could be opened.
 pub const NO_HANDLE: u32 = 19;
 
-/// The status of `reply`. If the reply has a value, it is written to `value`.
+/// The status of `reply`. If the reply has a value, it is written to `value`; else `value` stays.
 pub fn tell_reply(reply: Reply, value: &mut u64) -> u32
     ensures status { result ≡ reply_status reply }
     ensures value { value.new ≡ value_after value.old (Ok reply) }

@@ -1,4 +1,4 @@
-//! The command line.
+//! What the words of the command line ask for.
 
 ghost use Rattle.std.specs.Prelude.{◌≡◌, ◌⊎◌, ◌≤◌, IfErr, IfOk, length, map, string_bytes};
 ghost use Rattle.clap.specs.Words.{kind_of};
@@ -22,11 +22,11 @@ use std::{env, io};
 /// What the command line asks for.
 #[derive(Drop)]
 pub struct Request<'a> {
-    /// How many node records the index may have.
+    /// How many node records the index has: 1 to 65,535.
     pub nodes: u32,
-    /// How many leaf records it may have.
+    /// How many leaf records it has: 1 to 262,143.
     pub leaves: u32,
-    /// The names of the files that have scripts, in order.
+    /// The names of the files that have scripts, in the order of the words: `MAX_FILES` at most.
     pub files: Vec<&'a str>,
     ghost nodes_fit: { IsNodeCount nodes },
     ghost leaves_fit: { IsLeafCount leaves },
@@ -56,7 +56,7 @@ pub fn read_words<R: Env + AllocGlobal>(rt: &R) -> Result<Vec<String>, Ending>
     }
 }
 
-/// The option `--name`, which takes a number from 1 to `most`.
+/// The option with the long name `name`, behind two dashes, which takes a number from 1 to `most`.
 fn count_option<'a>(alloc: Global, name: &'a str, most: u32) -> Arg<'a>
     ensures { IsCountOption name.now most result }
 {

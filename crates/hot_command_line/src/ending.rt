@@ -9,10 +9,10 @@ use hot_scripts::fault::RunFault;
 use std::alloc::AllocError;
 use std::fmt;
 
-/// What the program says in place of its answers.
+/// Why the program ends without its answers. Its text is what the program says then on standard error.
 #[derive(Clone, Copy)]
 pub enum Ending {
-    /// The command line was refused.
+    /// The command line doesn't parse, or can't be read.
     Usage,
     /// The run had a fault.
     Fault(RunFault),

@@ -1,5 +1,4 @@
-//! What the program `hot-run` is given by its command line: its numbers, and the scripts in files that it names. And what the program
-//! says where it ends without its answers.
+//! What the command line of the program `hot-run` asks for, the scripts in files that it names, and how a run ends without its answers.
 #![tactic(auto)]
 
 pub mod arguments;

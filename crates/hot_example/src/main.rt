@@ -1,4 +1,4 @@
-//! How the index is used: two threads fill it at the same time, meet, and find what both wrote; the rest is read by other calls.
+//! How the index is used: two threads fill it at the same time, their passes meet, and several kinds of calls find what both wrote.
 #![tactic(auto)]
 
 ghost use Rattle.std.specs.Prelude.{◌≡◌};
@@ -67,7 +67,7 @@ fn run_example<R: Threads + Wait + AllocGlobal + Print + Sync>(rt: &R) -> io::Re
     print_further_reads(rt, &mut first)
 }
 
-/// Looks two words up by one call, lists the first words of all by a cursor, and prints both. An error as of `run_example`.
+/// Looks two words up by one call, lists the first two keys by a cursor, and prints what both found. An error as of `run_example`.
 fn print_further_reads<R: AllocGlobal + Print>(
     rt: &R,
     handle: &mut Handle<&Index>,

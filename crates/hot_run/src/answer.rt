@@ -13,7 +13,7 @@ use hot_scripts::answer::{push_reply, push_section};
 use std::alloc::{AllocError, Global};
 use std::mem;
 
-/// Adds the line of `answer` to the end of `text`; an error if memory is refused.
+/// Adds the line of `answer` to the end of `text`. If memory is refused, an error, and perhaps a part of the line.
 pub fn push_answer(text: &mut Vec<u8>, answer: Answer) -> Result<(), AllocError>
     ensures { OnOk result (text.new.items ≡ text.old.items ++ line (answer_text answer)) }
 {
@@ -24,8 +24,8 @@ pub fn push_answer(text: &mut Vec<u8>, answer: Answer) -> Result<(), AllocError>
     }
 }
 
-/// Texts that follow one another: the answers to the scripts of `files`, each below its heading, then `last`, those to the last script,
-/// below the line `last`. The files' texts are taken out of `files`. An error if memory is refused.
+/// Texts that follow one another: the answers to each of `files`, `MAX_FILES` at most, below `file I`, where `I` counts from 1. Then comes
+/// `last`, those to the last script, below the line `last`. The files' texts are taken out of `files`. An error if memory is refused.
 pub fn make_sections(
     alloc: Global,
     files: &mut [Done<'_>],

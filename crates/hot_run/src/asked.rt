@@ -18,8 +18,9 @@ use std::io::{Read, Write};
 use std::sync::Wait;
 use std::thread::Threads;
 
-/// Makes the run that `words` ask for: the script of `reader` alone, or after those in the files that they name, which `system` reads.
-/// Writes the answers to `writer`. The error is `Usage` if `words` don't parse, or the `Fault` of the run.
+/// Makes the run that `words`, the command line, ask for: the script of `reader` alone, or after those in the files that they name, which
+/// `system` reads. Writes the answers to `writer`. The error is `Usage` if `words` don't parse, or the `Fault` of the run. Only with
+/// `Fault(Write)` may a part be written.
 pub fn run_command_line<T, S, R, W>(
     rt: &T,
     system: &S,
@@ -46,9 +47,8 @@ where
     Ok(())
 }
 
-/// Makes the run that `request` asks for: the script of `reader` alone, or after those in its files, which `system` reads. Writes the
-/// answers to `writer`. It is a fault if a script can't be read or is bad, memory is refused, or a write failed. Only in the last case may
-/// a part be written.
+/// Makes the run that `request` asks for, as `run_command_line` says. It is a fault if a script can't be read or is bad, memory is refused,
+/// a thread can't be started, or a write failed. Only in the last case may a part be written.
 fn run_request<T: AllocGlobal + Wait + Threads + Sync, S: FileSystem, R: Read, W: Write>(
     rt: &T,
     system: &S,

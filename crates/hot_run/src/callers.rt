@@ -9,14 +9,15 @@ use finite_map::{Call, Reply};
 use hot_index::{Full, Gate, Handle, Index, TryFault};
 use std::sync::Wait;
 
-/// What makes the calls of a handle.
+/// A way to make calls through a handle, each until it has a reply or is refused for want of records.
 pub trait Caller {
     ghost use Rattle.rowex_table.specs.Seats.{TableView};
 
-    /// That it may make calls of this index.
+    /// That it may make calls at this index.
     ghost fits: { Self → TableView → Type 0 };
 
-    /// Makes `call` through `handle`; `gate` is told each of its steps. Returns the reply, or the kind of records of which none was free.
+    /// Makes `call` through `handle`, whose index fits; `gate` is told each of its steps. Returns the reply. If it found no record of a
+    /// kind free, it changed nothing, and the error is that kind.
     fn call<G: Gate>(
         &self,
         handle: &mut Handle<&Index>,
@@ -30,7 +31,7 @@ pub trait Caller {
         ensures told { HasTold handle.old.index G.becomes (handle.old.pass, gate.old) (handle.new.pass, gate.new) };
 }
 
-/// It waits where another pass stands in its way.
+/// A caller that tries again, and waits by `rt`, while another pass is in its way, or records that it lacks may come back.
 #[derive(Drop)]
 pub struct Waits<'a, T> {
     pub rt: &'a T,
@@ -51,7 +52,7 @@ impl<'a, T: Wait> Caller for Waits<'a, T> {
     }
 }
 
-/// Its pass is the only one of the index: it never waits.
+/// A caller that never waits, since the handle's pass is the only one of the index.
 #[derive(Drop)]
 pub struct Alone;
 

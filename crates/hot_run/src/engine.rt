@@ -1,4 +1,4 @@
-//! What answers the commands of a script: a handle of an index.
+//! How the commands of a script are run and answered, through a handle of an index.
 
 ghost use Rattle.std.specs.Prelude.{◌≡◌, ℕ, IfOk, OnOk};
 ghost use Rattle.hot_index.specs.Handles.{Stays};
@@ -21,11 +21,11 @@ use std::alloc::{AllocError, Global};
 pub enum Answer {
     /// The map's reply.
     Reply(Reply),
-    /// There was no room for the call, which did nothing.
+    /// No record of this kind was free for the call, which changed nothing.
     Full(Full),
 }
 
-/// Makes `call` through `handle`, as `caller` does, and returns its answer. `gate` is told each of its steps.
+/// Makes `call` through `handle` by `caller`, which fits its index, and returns the answer. `gate` is told each of its steps.
 fn make_call<C: Caller, G: Gate>(
     caller: &C,
     handle: &mut Handle<&Index>,
@@ -43,7 +43,7 @@ fn make_call<C: Caller, G: Gate>(
 }
 
 /// Makes a scan of `range` into `pairs`, whose earlier pairs are dropped. `gate` is told each of its steps. The lines of its answer go to
-/// the end of `text`. An error if memory is refused.
+/// the end of `text`. If memory is refused, an error, and perhaps a part of these.
 fn run_scan<G: Gate>(
     handle: &mut Handle<&Index>,
     range: &Range,
@@ -66,8 +66,8 @@ fn run_scan<G: Gate>(
     push_scan(text, pairs, more)
 }
 
-/// Makes `command` through `handle`: a call as `caller` does. `gate` is told each of its steps. The lines of its answer go to the end of
-/// `text`, and the pairs of a scan into `pairs`. An error if memory is refused.
+/// Makes `command` through `handle`, a call by `caller`, which fits its index. `gate` is told each of its steps. The lines of the answer go
+/// to the end of `text`; a scan replaces `pairs`. If memory is refused, an error, and perhaps a part of these.
 fn run_command<C: Caller, G: Gate>(
     caller: &C,
     handle: &mut Handle<&Index>,
@@ -90,8 +90,8 @@ fn run_command<C: Caller, G: Gate>(
     }
 }
 
-/// Makes the commands of `script` through `handle`, one after another, calls as `caller` does. `gate` is told each of their steps. Returns
-/// the lines of their answers. An error if memory is refused.
+/// Makes the commands of `script` through `handle`, one after another, calls by `caller`, which fits its index. `gate` is told each of
+/// their steps. Returns the lines of their answers. If memory is refused, an error; the commands so far were made.
 pub fn run_script<C: Caller, G: Gate>(
     caller: &C,
     alloc: Global,

@@ -60,8 +60,8 @@ fn choose_stock(records: Records, longest: usize) -> Stock
     Stock::of_class(records.nodes, LeafClass::for_key(longest), records.leaves)
 }
 
-/// An empty index of `records`, the passes for `files` files, and the pass of the last script. The files' passes are in the order of their
-/// numbers, from 0 on. An error if memory is refused.
+/// An empty index of `records`, the passes for `files` files, `MAX_FILES` at most, and that of the last script. The passes have the numbers
+/// from 0 on in this order. All leaf records are long. An error if memory is refused.
 pub fn create_index_for_files(
     alloc: Global,
     files: u32,

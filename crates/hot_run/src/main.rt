@@ -1,4 +1,4 @@
-//! The program `hot-run`: answers the script on standard input, after those in files at the same time.
+//! The program `hot-run`: runs the script on standard input, after those in files, which run at the same time.
 #![tactic(auto)]
 
 mod answer;
@@ -22,8 +22,8 @@ use std::rt::{Env, Files};
 use std::sync::Wait;
 use std::thread::Threads;
 
-/// Makes the run that the command line asks for, from standard input and the machine's files to standard output. The error says why there
-/// are no answers.
+/// Makes the run that the command line asks for, from standard input and the machine's files to standard output. The `Ending` says why
+/// there are no answers, or only a part of them.
 fn run_program<R>(rt: &R) -> Result<(), Ending>
 where
     R: Env + Files + Input + Print + AllocGlobal + Wait + Threads + Sync,

@@ -38,7 +38,7 @@ pub struct Results<G> {
     pub gates: Vec<G>,
 }
 
-/// A thread that runs a script, and gives its gate back.
+/// A thread that runs a script, and returns it with its gate; an error if memory is refused.
 type Running<'a, G> = PromisedHandle<Result<(Done<'a>, G), AllocError>, Order<'a, G>>;
 
 /// What a thread is to run, for contracts alone.
@@ -56,9 +56,9 @@ impl<'a, G: Gate> Promise<Result<(Done<'a>, G), AllocError>> for Order<'a, G> {
     ghost kept_by = { λ order result. IfOk result (HasKept G.becomes order) };
 }
 
-/// Makes an index of `records` and runs scripts on it. Those of files, `scripts`, run at the same time, each in a thread with its gate;
-/// `last` runs when they have ended. Returns all answers, and the gates in the order of `scripts`; an error if memory is refused, or a
-/// thread can't be started.
+/// Makes an index of `records` and runs scripts on it. Those of files, `scripts`, `MAX_FILES` at most, run at the same time, each in a
+/// thread with the gate of its place; `last` runs when they have ended. Returns all answers, and the gates in the order of `scripts`. An
+/// error if memory is refused, or a thread can't be started.
 pub fn run_all_scripts<T: AllocGlobal + Threads + Wait + Sync, G: Gate + Send + Drop>(
     rt: &T,
     records: Records,
@@ -76,8 +76,8 @@ pub fn run_all_scripts<T: AllocGlobal + Threads + Wait + Sync, G: Gate + Send + 
     run_by_passes(rt, Handle::new(&index, pass), passes, scripts, gates, last)
 }
 
-/// Runs `scripts`, those of files, at the same time, each by the pass and the gate of its place. Then the pass of `handle` meets these, and
-/// runs `last`. Returns all answers, and the gates in the order of `scripts`; an error if memory is refused, or a thread can't be started.
+/// Runs `scripts`, those of files, at the same time, each by the pass and the gate of its place. Then the pass of `handle` meets these,
+/// runs `last`, and meets them again. Returns what `run_all_scripts` does, with its errors.
 fn run_by_passes<'a, T: AllocGlobal + Threads + Wait + Sync, G: Gate + Send + Drop>(
     rt: &T,
     handle: Handle<&'a Index>,
@@ -180,7 +180,7 @@ fn run_files_in_scope<'a: 's, 's, E, T: Threads + Wait + Sync + 's, G: Gate + Se
 }
 
 /// Starts the thread of each of `scripts`, with the handle and the gate of its place. Returns the threads in their order. An error if
-/// memory is refused, or a thread can't be started.
+/// memory is refused, or a thread can't be started; those that were started go on.
 fn start_files<'a: 's, 's, E, T: Threads + Wait + Sync + 's, G: Gate + Send + Drop + 's>(
     threads: &Scope<'s, E>,
     rt: &'s T,
@@ -208,7 +208,7 @@ fn start_files<'a: 's, 's, E, T: Threads + Wait + Sync + 's, G: Gate + Send + Dr
     Ok(running)
 }
 
-/// Joins the threads `running`, one after another, and returns what they ran, in their order. An error if memory is or was refused.
+/// Joins the threads `running`, one after another, and returns what they ran, in their order. An error if memory is refused, here or there.
 fn join_files<'a, T: Threads + Wait, G: Gate + Drop>(
     rt: &T,
     alloc: Global,
@@ -248,8 +248,8 @@ fn start_file<'a: 's, 's, E, T: Threads + Wait + Sync + 's, G: Gate + Send + Dro
     Ok(thread)
 }
 
-/// What the thread of a script does: runs `script` by `handle`, whose steps `gate` is told. Returns the handle with the answers, and the
-/// gate. An error if memory is refused.
+/// Runs `script` by `handle`, whose steps `gate` is told, and waits where another pass is in its way. Returns the handle with the answers,
+/// and the gate. An error if memory is refused.
 fn run_file<'a, T: Wait, G: Gate + Drop>(
     rt: &T,
     alloc: Global,

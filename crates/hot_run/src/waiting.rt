@@ -12,7 +12,7 @@ use std::thread;
 /// How often a gate looks before it gives up.
 const MAX_LOOKS: u32 = 100_000_000;
 
-/// At its first step it sets its own flag, and waits for the other's.
+/// A gate that sets its own flag at its first step, and waits there for the other's, `MAX_LOOKS` looks at most.
 #[derive(Drop)]
 struct Waiting<'a> {
     own: &'a AtomicBool,

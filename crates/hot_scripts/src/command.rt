@@ -14,14 +14,14 @@ pub struct Range {
     pub limit: usize,
 }
 
-/// What one line of a script asks for.
+/// What one line of a script asks for: a call, or a scan of a range.
 #[derive(Drop)]
 pub enum Command {
     Call(Call),
     Scan(Range),
 }
 
-/// The version of a script.
+/// The version of a script, which says how long its keys may be: the second if its first line is `hot 2`, else the first.
 #[derive(Clone, Copy)]
 pub enum Version {
     First,
@@ -29,7 +29,7 @@ pub enum Version {
 }
 
 impl Version {
-    /// How many hexadecimal digits a key may have in a script of this version.
+    /// How many hexadecimal digits, two for each byte, a key may have at most in a script of this version.
     pub fn most_digits(self) -> usize
         ensures { result ≡ most_digits self }
     {

@@ -6,10 +6,9 @@ ghost use Rattle.hex.specs.Hex.{encode_lower, lower_digits};
 /// The lower case digits.
 const DIGITS: &[u8; 16] = b"0123456789abcdef";
 
-/// Writes each of `bytes` to `room` as two lower case hexadecimal digits. `room` has two places for each.
+/// Writes each of `bytes` to `room` as two lower case hexadecimal digits. `room` has exactly two places for each.
 ///
-/// A compiler turns the first loop into steps over eight bytes at once, which it can't do where digits are looked up. So long keys take a
-/// third of the time. The few bytes that are left are cheaper to look up.
+/// A compiler makes the first loop step over eight bytes at once, so long keys take a third of the time. The rest is cheaper to look up.
 pub fn write_hex(bytes: &[u8], room: &mut [u8])
     requires { length room.old ≡ 2 * length bytes.now }
     ensures { room.new ≡ encode_lower bytes.now }

@@ -28,7 +28,7 @@ pub enum RunFault {
     Read,
     /// A write of the answers failed.
     Write,
-    /// Memory was refused.
+    /// Memory was refused, or a thread couldn't be started.
     Memory,
     /// The script's first bad line, counted from 1.
     Script {
@@ -41,7 +41,7 @@ pub enum RunFault {
         line: u32,
         reason: Reason,
     },
-    /// The script has more bytes than `MAX_SCRIPT`.
+    /// A script has more bytes than `MAX_SCRIPT`.
     Large,
 }
 

@@ -29,7 +29,7 @@ pub fn split_first(separator: u8, text: &[u8]) -> (&[u8], Option<&[u8]>)
     }
 }
 
-/// The words of a line, where they are two, three or four.
+/// The words of a line, if they are two, three or four; else `Other`.
 #[derive(Drop)]
 enum Words<'a> {
     Two(&'a [u8], &'a [u8]),

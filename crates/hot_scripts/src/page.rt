@@ -8,7 +8,7 @@ use itoa::write_digits;
 use key_bits::MAX_BYTES;
 use std::marker::Model;
 
-/// The most decimal digits of a number.
+/// The most decimal digits of a number of 64 bits.
 pub const NUMBER_DIGITS: usize = 20;
 
 /// The most bytes of a line: those of a pair, with its word, a key in digits, a space, its value and its end.
@@ -17,7 +17,7 @@ pub const MOST_BYTES: usize = 5 + 2 * MAX_BYTES + 1 + NUMBER_DIGITS + 1;
 /// How many bytes a page has room for.
 pub const ROOM: usize = 1024;
 
-/// Lines. Each number and key is written once, at its place.
+/// Lines, which are the first `end` bytes of `room`. Each number and key is written once, at its place.
 ///
 /// Contracts see the bytes that are there.
 #[derive(Drop)]

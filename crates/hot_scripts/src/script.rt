@@ -16,7 +16,7 @@ pub const MAX_SCRIPT: usize = 1_048_576;
 /// The most files that a run may have.
 pub const MAX_FILES: usize = 63;
 
-/// A script whose lines are good. It keeps its text, and no command.
+/// A script without a bad line, as `parse_line` tells them. It keeps its text, and no command.
 #[derive(Drop)]
 pub struct Script {
     text: Vec<u8>,
@@ -26,7 +26,7 @@ pub struct Script {
     ghost is_key: { longest ≤ MAX_BYTES },
 }
 
-/// The commands of a script that are left: the text of their lines, if there is one.
+/// The commands of a script that are left: those of the lines in the text `left`, by the grammar of `version`. None if there is no text.
 #[derive(Clone, Copy)]
 pub struct Commands<'a> {
     version: Version,
@@ -36,7 +36,7 @@ pub struct Commands<'a> {
 impl Script {
     ghost use Rattle.hot_scripts.specs.Parses.{Parses, script_commands, commands_left};
 
-    /// The script with the text `text`; if it has a bad line, `RunFault::Script` with the first one.
+    /// The script with the text `text`, `MAX_SCRIPT` bytes at most; if it has a bad line, `RunFault::Script` with the first one.
     pub fn parse(text: Vec<u8>) -> Result<Script, RunFault>
         requires { vec_len text ≤ MAX_SCRIPT }
         ensures { Parses result (commands_of text.items) }
@@ -68,7 +68,7 @@ impl Script {
 impl<'a> Commands<'a> {
     ghost use Rattle.hot_scripts.specs.Parses.{Gives, IsOpening, commands_left, readings_left};
 
-    /// The next command; `None` if no line that is left has one. Lines up to it, and that one, are left no more.
+    /// Returns the next command, after which the lines behind its own are left; `None` if no line that is left has one.
     pub fn next_command(&mut self) -> Option<Command>
         ensures { Gives (commands_left self.old) result (commands_left self.new) }
     {
@@ -82,8 +82,8 @@ impl<'a> Commands<'a> {
         None
     }
 
-    /// The number of the first line that may have a command, and the commands from there on. The number is 2 if the first line is `hot
-    /// 2`, which makes the script one of the second version, else 1.
+    /// The number of the first line that may have a command, and the commands from there on. The number is 2 if the first line says by
+    /// `hot 2` that the script is of the second version; else it is 1.
     fn opening(script: &'a [u8]) -> (u32, Commands<'a>)
         ensures { IsOpening script.now result.0 result.1 }
     {
@@ -104,8 +104,8 @@ impl<'a> Commands<'a> {
         }
     }
 
-    /// The most bytes that the key of a call in these lines has. If a line is bad, it returns the number of the first such line, and what
-    /// is wrong with it. The first line has the number `first`.
+    /// The most bytes that the key of a call in these lines has; 0 if there is no call. If a line is bad, the error is the number of the
+    /// first such line, and what is wrong with it. The first line has the number `first`.
     fn longest_key_length(self, first: u32) -> Result<usize, (u32, Reason)>
         requires { first + text_len self.left < 2 ^ 32 }
         ensures good { IfOk result (λ longest. first_bad first (readings_left self.entry) ≡ None) }

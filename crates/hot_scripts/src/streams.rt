@@ -36,7 +36,7 @@ pub fn read_script<R: Read>(alloc: Global, reader: &mut R) -> Result<Vec<u8>, Ru
     Err(RunFault::Read)
 }
 
-/// Writes `text` to `writer`; `RunFault::Write` if a write failed.
+/// Writes `text` to `writer`; `RunFault::Write` if a write failed, and then perhaps a part of it.
 fn write_text<W: Write>(writer: &mut W, text: &[u8]) -> Result<(), RunFault>
     ensures ok { OnOk result (Appends (W.contents writer.old) (W.contents writer.new) text.now) }
     ensures fault { IfErr result (λ fault. fault ≡ RunFault.Write) }
@@ -58,7 +58,7 @@ fn flush_writer<W: Write>(writer: &mut W) -> Result<(), RunFault>
     }
 }
 
-/// Writes `text` to `writer` and flushes it; `RunFault::Write` if either failed.
+/// Writes `text` to `writer` and flushes it; `RunFault::Write` if either failed, and then perhaps a part of it.
 pub fn write_answers<W: Write>(writer: &mut W, text: &[u8]) -> Result<(), RunFault>
     ensures ok { OnOk result (Appends (W.contents writer.old) (W.contents writer.new) text.now) }
     ensures fault { IfErr result (λ fault. fault ≡ RunFault.Write) }
@@ -67,7 +67,7 @@ pub fn write_answers<W: Write>(writer: &mut W, text: &[u8]) -> Result<(), RunFau
     flush_writer(writer)
 }
 
-/// Writes `texts` to `writer`, one after another, and flushes it; `RunFault::Write` if either failed.
+/// Writes `texts` to `writer`, one after another, and flushes it; `RunFault::Write` if either failed, and then perhaps a part of them.
 pub fn write_sections<W: Write>(writer: &mut W, texts: &[Vec<u8>]) -> Result<(), RunFault>
     ensures ok { OnOk result (Appends (W.contents writer.old) (W.contents writer.new) (flat_map (λ t. t.items) texts.now)) }
     ensures fault { IfErr result (λ fault. fault ≡ RunFault.Write) }

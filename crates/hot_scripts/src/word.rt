@@ -10,14 +10,14 @@ use crate::fault::Reason;
 use key_bits::{Key, MAX_BYTES};
 use std::str;
 
-/// The greatest number of digits in a number.
+/// The most decimal digits that a number in a script may have.
 const MAX_DIGITS: usize = 20;
 
 /// The greatest number of pairs that a scan may ask for.
 const MAX_LIMIT: u64 = 1_000_000;
 
-/// The key that `word` stands for: hexadecimal digits, or a dash for the empty key. `Reason::Key` if it is none, or has too many digits
-/// for `version`.
+/// The key that `word` stands for: two hexadecimal digits for each byte, or a dash for the empty key. `Reason::Key` if it is neither, or
+/// has too many digits for `version`.
 pub fn parse_key(version: Version, word: &[u8]) -> Result<Key, Reason>
     ensures { result ≡ parsed_key version word.now }
 {

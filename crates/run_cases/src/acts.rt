@@ -4,7 +4,7 @@ use rowex_core::{Act, Rec, Spot, Target};
 use std::alloc::AllocError;
 use std::fmt;
 
-/// On what a step is.
+/// What a step is on: the words in a line that name it, behind the step's name.
 #[derive(Clone, Copy)]
 enum Thing {
     Nothing,
@@ -39,7 +39,7 @@ enum Found {
     Word(u64),
 }
 
-/// The parts of a line: the step's name, on what it is, which word of that or in which epoch, and what it found.
+/// The parts of a line: the step's name, what it is on, which word of that or in which epoch, and the word that it stored, loaded or found.
 #[derive(Clone, Copy)]
 struct Line {
     name: &'static str,
@@ -78,7 +78,7 @@ impl Line {
     }
 }
 
-/// What a step on the record `rec` is on.
+/// The record `rec`, as a line names it.
 fn thing_of_record(rec: Rec) -> Thing {
     match rec {
         Rec::Node(number) => Thing::Node(number),
@@ -86,7 +86,7 @@ fn thing_of_record(rec: Rec) -> Thing {
     }
 }
 
-/// What a step on the entry word of `spot` is on.
+/// The root or the entry word at `spot`, as a line names it.
 fn thing_of_spot(spot: Spot) -> Thing {
     match spot {
         Spot::Root => Thing::Root,
@@ -94,7 +94,7 @@ fn thing_of_spot(spot: Spot) -> Thing {
     }
 }
 
-/// What a step on the lock `target` is on.
+/// The anchor or the node `target`, as a line names it.
 fn thing_of_target(target: Target) -> Thing {
     match target {
         Target::Anchor => Thing::Anchor,
@@ -139,7 +139,7 @@ fn line_of_act(act: &Act) -> Line {
     }
 }
 
-/// Adds the step `act` to `text`: its name, on what it is, and the word that it stored, loaded or found. An error if memory is refused.
+/// Adds the line of `act` to `text`, without a line end. If memory is refused, an error, and perhaps a part of it.
 pub fn write_act(text: &mut String, act: &Act) -> Result<(), AllocError> {
     let line = line_of_act(act);
     write!(text, "{}{}", line.name, line.thing)?;

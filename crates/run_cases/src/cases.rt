@@ -16,22 +16,22 @@ pub enum Task {
     Collect,
 }
 
-/// A small index, and what is done on it.
+/// A small index, of `nodes` node records and `leaves` leaf records, and what is done on it.
 #[derive(Drop)]
 pub struct Case<'a> {
     pub alloc: Global,
     pub nodes: u32,
     pub leaves: u32,
-    /// What pass 0 does beforehand.
+    /// What pass 0 does on each new index beforehand.
     pub before: Vec<Task>,
-    /// What another pass does at a stop: each of these lines once.
+    /// What pass 1 may do at a stop: the tasks of one of these lines, each line in its turn.
     pub others: Vec<&'a str>,
     /// The keys of what is done by chance.
     pub keys: Vec<Key>,
 }
 
 impl<'a> Case<'a> {
-    /// A case on an index of one node and one leaf, with nothing to do.
+    /// A case on an index of one node record and one leaf record, with nothing to do.
     pub fn new(alloc: Global) -> Case<'a> {
         Case {
             alloc,
@@ -43,7 +43,7 @@ impl<'a> Case<'a> {
         }
     }
 
-    /// Begins a new case, on an index of as many nodes and leaves as the two numbers of `text` say. `bad_line` if it hasn't these.
+    /// Begins a new case, with nothing to do. `text` has the numbers of its node and leaf records; else `bad_line`, and the case stays.
     pub fn begin_case(&mut self, text: &str) -> io::Result<()> {
         (self.nodes, self.leaves) = parse_two_numbers(text)?;
         self.before.clear();
@@ -58,7 +58,7 @@ pub fn bad_line() -> io::Error {
     io::Error::from(ErrorKind::InvalidInput)
 }
 
-/// The two numbers of `text`, with a blank between them; `bad_line` if it is anything else.
+/// The two numbers of `text`, of 32 bits, with a blank between them; `bad_line` if it is anything else.
 pub fn parse_two_numbers(text: &str) -> io::Result<(u32, u32)> {
     match text.split_once(' ') {
         Some((first, second)) => Ok((parse_count(first)?, parse_count(second)?)),
@@ -87,7 +87,8 @@ pub fn parse_tasks(tasks: &mut Vec<Task>, text: &str) -> io::Result<()> {
     Ok(())
 }
 
-/// Adds the task of `words` to `tasks`: of a call, one for each of its keys. `bad_line` if it is none; an error if memory is refused.
+/// Adds the task of `words` to `tasks`: of a call, one for each of its keys. A value that is left out is 0. `bad_line` if it is no task; an
+/// error if memory is refused.
 fn parse_task(tasks: &mut Vec<Task>, words: &[&str]) -> io::Result<()> {
     let (name, word, value) = match *words {
         ["collect"] => return Ok(tasks.push(Task::Collect)?),

@@ -45,8 +45,8 @@ impl Chance {
     }
 }
 
-/// Takes turns on a new index, and prints whether all were lawful. `text` has the seed and how many turns; `bad_line` if it hasn't. An
-/// error if memory is refused, or a write failed.
+/// Takes turns on a new index of `case`, and prints whether all were lawful. `text` has the seed and how many turns; `bad_line` if it
+/// hasn't, or there is no such index. An error if memory is refused, or a write failed.
 pub fn run_turns<R: Print + AllocGlobal>(rt: &R, case: &Case, text: &str) -> io::Result<()> {
     let (seed, turns) = parse_two_numbers(text)?;
     let (index, passes) = create_index(case.alloc, 2, case.nodes, case.leaves)?;
@@ -68,7 +68,7 @@ fn take_turns_on_index(
     take_turns(case, &mut guest, &mut gate, seed, turns)
 }
 
-/// Takes `turns` turns from `seed`, by `guest`, which `gate` stops. Returns how often something was wrong; an error if memory is refused.
+/// Takes `turns` turns, each by `run_random_turn`, from `seed`. Returns how often something was wrong; an error if memory is refused.
 fn take_turns(
     case: &Case,
     guest: &mut Guest,

@@ -9,7 +9,7 @@ use key_bits::Key;
 use std::alloc::{AllocError, Global};
 use std::io;
 
-/// A new index of these numbers of passes, node and leaf records, and its passes. `bad_line` if `create` has a fault.
+/// A new index of these numbers of passes, node and leaf records, and its passes. `bad_line` if one is out of range, or memory is refused.
 pub fn create_index(
     alloc: Global,
     passes: u32,
@@ -38,8 +38,8 @@ pub fn pop_guest<'a>(index: &'a Index, passes: &mut Vec<Pass>) -> io::Result<Gue
     }
 }
 
-/// Does `tasks` by `guest`; `gate` is told each step. What each was answered goes to `said`, behind a semicolon. An error if memory is
-/// refused.
+/// Does `tasks` by `guest`, calls without waiting. `gate` is told each step. What each was answered goes to `said`, behind a semicolon. An
+/// error if memory is refused.
 pub fn do_tasks<G: Gate>(
     guest: &mut Guest,
     tasks: &[Task],
@@ -69,7 +69,7 @@ pub fn do_tasks<G: Gate>(
     Ok(())
 }
 
-/// Scans for the first `limit` pairs of the index. `gate` is told each step. An error if memory is refused.
+/// Scans for the first `limit` pairs of the index, in rising order. `gate` is told each step. An error if memory is refused.
 pub fn scan_from_lowest<G: Gate>(
     guest: &mut Guest,
     alloc: Global,

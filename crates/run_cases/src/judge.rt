@@ -11,7 +11,7 @@ use rowex_replay::Replay;
 use std::alloc::{AllocError, Global};
 use std::io;
 
-/// Judges each step that it is told by a replay, and keeps it. It counts what was wrong.
+/// A gate that judges each step by a replay, and keeps it in `told`. `wrong` counts what was wrong, and steps without memory to keep them.
 #[derive(Drop)]
 pub struct Judge {
     replay: Replay,
@@ -66,7 +66,7 @@ pub fn verdict(wrong: u64) -> &'static str {
     if wrong == 0 { "lawful" } else { "WRONG" }
 }
 
-/// Judges each step of a pass, and after one of them lets another pass do something, whose steps it judges too.
+/// A gate that judges each step of a pass, and after one of them lets another pass do something, whose steps it judges too.
 #[derive(Drop)]
 pub struct Stopper<'a> {
     pub judge: Judge,

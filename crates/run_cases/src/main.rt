@@ -24,7 +24,7 @@ use std::rt::{Env, Files};
 use std::thread::Threads;
 use std::{fs, io};
 
-/// Runs the cases in the files that the command line names, and prints each name first. An error of the first that has one.
+/// Runs the cases in the files that the command line names, and prints each name first. It ends with the error of the first that has one.
 fn run_named_files<R>(rt: &R) -> io::Result<()>
 where
     R: Env + Files + Print + AllocGlobal + Threads + Sync,
@@ -37,7 +37,7 @@ where
     Ok(())
 }
 
-/// Runs the cases of a file with the bytes `text`, line by line. An error of the first line that has one, as of `run_line`.
+/// Runs the cases of a file with the text `text`, line by line. It ends with the error of the first line that has one, as of `run_line`.
 fn run_file<R>(rt: &R, text: &str) -> io::Result<()>
 where
     R: Print + AllocGlobal + Threads + Sync,
@@ -49,7 +49,8 @@ where
     Ok(())
 }
 
-/// Keeps in `case` what `line` says of it, or makes the runs that it asks for. `bad_line` if it says neither; else the error of these.
+/// Keeps in `case` what `line` says of it, or makes the runs that it asks for. Empty lines and those that begin with `# ` do nothing.
+/// `bad_line` for any other; else the error of the runs.
 fn run_line<'a, R>(rt: &R, case: &mut Case<'a>, line: &'a str) -> io::Result<()>
 where
     R: Print + AllocGlobal + Threads + Sync,

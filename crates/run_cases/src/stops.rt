@@ -14,8 +14,8 @@ use std::{io, mem};
 /// More steps than a pass makes here.
 const MAX_STEPS: u64 = 10_000;
 
-/// Lets pass 0 of a new index do the tasks of `text`. Prints what it was answered, a line for each of its steps, and whether all were
-/// lawful. `bad_line` at a part of `text` that is no task; an error if memory is refused, or a write failed.
+/// Lets pass 0 of a new index of `case` do the tasks of `text`, after those of `before`. Prints what it was answered, each of its steps,
+/// and whether all were lawful. `bad_line` if no index is made, or at a bad task; an error if memory is refused, or a write failed.
 pub fn print_steps<R: Print + AllocGlobal>(rt: &R, case: &Case, text: &str) -> io::Result<()> {
     let mut lines = String::new(case.alloc);
     let (index, passes) = create_index(case.alloc, 2, case.nodes, case.leaves)?;
@@ -37,7 +37,7 @@ fn write_steps(
     write_steps_of_guest(case, &mut guest, &mut gate, text, lines)
 }
 
-/// Does what `write_steps` does, by `guest`, of which `gate` is told.
+/// Does what `write_steps` does, by `guest`, whose steps `gate` is told.
 fn write_steps_of_guest(
     case: &Case,
     guest: &mut Guest,
@@ -51,7 +51,7 @@ fn write_steps_of_guest(
     Ok(write_replies_and_acts(case, guest, gate, &tasks, lines)?)
 }
 
-/// Lets `guest` do `tasks`. Adds what it was answered, its steps and the verdict to `lines`; an error if memory is refused.
+/// Lets `guest` do `tasks`. Adds its answers, the steps that `gate` keeps and the verdict to `lines`. An error if memory is refused.
 fn write_replies_and_acts(
     case: &Case,
     guest: &mut Guest,
@@ -75,8 +75,8 @@ fn write_acts(lines: &mut String, told: &[Event]) -> Result<(), AllocError> {
 }
 
 /// For each of the case's `other` lines stops pass 0, which does the tasks of `text`, after each of its steps. Prints how many stops there
-/// were and whether all were lawful. If `tells`, it also prints what both passes were answered. `bad_line` at a bad task, or after
-/// `MAX_STEPS`; an error if memory is refused, or a write failed.
+/// were and whether all were lawful; if `tells`, also what both passes were answered, once for each range of stops with the same answers.
+/// `bad_line` if no index is made, at a bad task, or after `MAX_STEPS`; an error if memory is refused, or a write failed.
 pub fn stop_for_each_other<R: Print + AllocGlobal>(
     rt: &R,
     case: &Case,
@@ -95,14 +95,13 @@ pub fn stop_for_each_other<R: Print + AllocGlobal>(
 /// What happened at a stop.
 #[derive(Clone, Copy)]
 struct Stop {
-    /// Whether there are so many steps.
+    /// Whether pass 0 made so many steps that it was stopped.
     is_made: bool,
     wrong: u64,
 }
 
-/// Stops pass 0 after its first step, after its second, and so on, each time on a new index, until it makes fewer steps. If `tells`, it
-/// prints what both passes were answered, once for each range of stops with the same answers. Its errors are those of
-/// `stop_for_each_other`.
+/// Lets pass 0 do `tasks`, and stops it for pass 1 to do `other`: after its first step, after its second, and so on, each time on a new
+/// index, until it makes fewer steps. It prints and fails as `stop_for_each_other` does.
 fn stop_at_each_step<R: Print + AllocGlobal>(
     rt: &R,
     case: &Case,
@@ -142,7 +141,7 @@ fn stop_in_turn<R: Print + AllocGlobal>(
     Err(bad_line())
 }
 
-/// Stops pass 0 of a new index after `step` of its steps, where pass 1 does `other`. Adds what both were answered to `said`.
+/// Lets pass 0 of a new index do `tasks`, and stops it after `step` steps for pass 1 to do `other`. Adds the answers of both to `said`.
 fn stop_at_step(
     case: &Case,
     tasks: &[Task],
@@ -170,7 +169,7 @@ fn stop_on_index(
     make_stop(case, &mut guest, &mut gate, tasks, other, step, said)
 }
 
-/// Lets `guest` do `tasks`, which `gate` stops after `step` steps for pass 1 to do `other`. Compares the index with the replay afterwards.
+/// Does what `stop_at_step` does, by `guest`, which `gate` stops. Compares scans of the index with the replay afterwards.
 fn make_stop(
     case: &Case,
     guest: &mut Guest,

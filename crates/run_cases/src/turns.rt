@@ -17,10 +17,11 @@ use std::{io, thread};
 const FREE: u64 = u64::MAX;
 /// How often a thread looks whether it is its turn before it gives up.
 const MAX_LOOKS: u32 = 50_000_000;
-/// How much a thread does.
+/// How many tasks a thread does.
 const TASKS: u64 = 12;
 
-/// Whose turn it is to step, and how many steps there were; which threads have begun and not ended, each a bit. `lost` counts what failed.
+/// Whose turn it is to step, how many steps there were, and which threads have begun and not ended, each a bit. `seed` makes the order;
+/// `lost` counts the waits that were given up and the tasks that failed.
 #[derive(Drop)]
 struct Rota {
     seed: u64,
@@ -31,7 +32,7 @@ struct Rota {
 }
 
 impl Rota {
-    /// Waits until it is the turn of thread `number`, or takes a turn that is nobody's. After `MAX_LOOKS` looks it counts one that gave up.
+    /// Waits until it is the turn of thread `number`, or takes a turn that is nobody's. After `MAX_LOOKS` looks it adds one to `lost`.
     fn wait_for_turn(&self, number: u64) {
         for _ in 0..MAX_LOOKS {
             if self.turn.load(Ordering::SeqCst) == number
@@ -47,8 +48,8 @@ impl Rota {
         self.lost.fetch_add(1, Ordering::SeqCst);
     }
 
-    /// Gives the turn to a thread by chance, by the seed and `step`, of those that have begun and not ended. Returns its number; `FREE` if
-    /// there is none.
+    /// Gives the turn to one of the threads that have begun and not ended, by chance from the seed and `step`. Returns its number; if there
+    /// is none, the turn is nobody's, and it returns `FREE`.
     fn pass_on_turn(&self, step: u64) -> u64 {
         let begun = self.begun.load(Ordering::SeqCst);
         let mut next = Chance(self.seed ^ step).next_below(4);
@@ -72,7 +73,7 @@ fn thread_bit(number: u64) -> u64 {
     1 << (number & 3)
 }
 
-/// Tells a thread's steps, each with its number among those of all threads, and lets another thread step now and then.
+/// A gate that keeps the steps of thread `number`, each with its number among all. By chance it passes the turn on, and waits for it.
 #[derive(Drop)]
 struct Turns<'a> {
     rota: &'a Rota,
@@ -94,7 +95,7 @@ impl<'a> Gate for Turns<'a> {
     }
 }
 
-/// What a thread does: `TASKS` tasks by chance, by `pass`, each step in its turn. Returns its steps, each with its number.
+/// Does `TASKS` tasks by chance, by `pass`, each step in its turn. Returns its steps, each with its number. `rota.lost` counts what failed.
 fn run_thread(case: &Case, rota: &Rota, index: &Index, pass: Pass) -> Vec<(u64, Event)>
     requires { Owns index.now pass }
 {
@@ -117,8 +118,8 @@ fn run_thread(case: &Case, rota: &Rota, index: &Index, pass: Pass) -> Vec<(u64, 
     gate.told
 }
 
-/// Lets `judge` judge the steps `told` of all threads in the order of their numbers, and then the scans by `last`. An error if memory is
-/// refused.
+/// Lets `judge` judge the steps `told` of all threads in the order of their numbers, and then scans by `last`, another pass. An error if
+/// memory is refused.
 fn judge_steps(
     alloc: Global,
     judge: &mut Judge,
@@ -210,7 +211,7 @@ fn step_threads<R: AllocGlobal + Threads + Sync>(
     Ok((told, rota.lost.load(Ordering::SeqCst)))
 }
 
-/// How often something was wrong in the steps `told`, plus `lost`, how often a thread gave up or failed. An error if memory is refused.
+/// How often a replay, for `passes` passes, finds the steps `told` or scans by `last` wrong, plus `lost`. An error if memory is refused.
 fn count_wrong(
     case: &Case,
     passes: u32,
@@ -223,8 +224,8 @@ fn count_wrong(
     Ok(judge.wrong.wrapping_add(lost))
 }
 
-/// Lets threads step in turns on new indexes of `case`, and prints whether all was lawful. `text` says how many threads, two to four, and
-/// how many orders; `bad_line` if it doesn't. Another error is that of a `run_order`, or of the write.
+/// Lets threads step in turns on new indexes of `case`, and prints whether all was lawful. `text` has two numbers: of the threads, which
+/// must be 4 at most, and of the orders, each on an index; else `bad_line`. Another error is that of a `run_order`, or of the write.
 pub fn run_orders<R>(rt: &R, case: &Case, text: &str) -> io::Result<()>
 where
     R: Print + AllocGlobal + Threads + Sync,
