@@ -10,7 +10,7 @@ use super::nodes::Node;
 use arrayvec::ArrayVec;
 use partial_keys::Columns;
 
-/// The node of `columns`, `rows` and `entries`, which fit together. Its height is one above the greatest of the entries'.
+/// The node of 2 to 32 `entries` that shows a piece with these `columns` and `rows`. Its height is one above the greatest of the entries'.
 pub(crate) fn build_node(columns: Columns, rows: &[u32], entries: ArrayVec<Entry, 32>) -> Node
     requires { FitTogether columns rows.now entries.items }
     ensures { IsBuiltFrom result (piece_of (LeafEntry 0) columns rows.now entries.items) }

@@ -1,4 +1,4 @@
-//! What a node leads to.
+//! Entries, which are what a node leads to: their heights, and lists of them.
 
 ghost use Rattle.std.specs.List.{All};
 ghost use Rattle.std.specs.Prelude.{◌≡◌, ◌↔◌, ◌+◌, ◌-◌, ◌<◌, ◌≤◌, ◌++◌, IsTrue, length, remove, slice_set};

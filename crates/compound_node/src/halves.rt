@@ -17,7 +17,7 @@ use super::rows::{clear_first_column, count_zero_side, or_rows, squeeze_rows, wi
 use arrayvec::ArrayVec;
 use partial_keys::Columns;
 
-/// What is left of a node: one entry, many entries in a new node, or the same node as before.
+/// A side of a cut node, or what is left of one: one entry, a new node of several, or (`Same`) the node that was handed in.
 #[derive(Drop)]
 pub enum Half {
     One(Entry),
@@ -54,7 +54,7 @@ fn make_half(columns: &Columns, rows: ArrayVec<u32, 32>, entries: ArrayVec<Entry
     Half::Many(build_node(used_columns, rows.as_slice(), entries))
 }
 
-/// The node of `columns`, `rows` and `entries` cut at its root fork. Neither side is `Same`.
+/// The two sides of the node of `columns`, `rows` and `entries`, cut at its root fork as by `Node::cut`. Neither side is `Same`.
 pub(crate) fn make_cut(columns: &Columns, rows: &[u32], entries: &[Entry]) -> Cut
     requires { FitTogether columns.now rows.now entries.now }
     ensures { CutShows result (piece_of (LeafEntry 0) columns.now rows.now entries.now) }

@@ -18,7 +18,7 @@ use partial_keys::{Columns, pad, search_lanes};
 use std::marker::Model;
 use std::simd::prelude::*;
 
-/// A node without its entries: its stored height, its columns, and a sparse partial key for each entry. A search reads no more.
+/// A node without its entries: its stored height, its columns, and a row for each entry. A search reads no more.
 #[derive(Drop)]
 pub struct Head {
     height: u16,
@@ -49,8 +49,8 @@ impl Head {
     ghost use Rattle.pieces.specs.Growth.{IsAffected, affected_count, affected_first, grown};
     ghost use Rattle.pieces.specs.Piece.{leads_to};
 
-    /// The head of a node of `count` entries with these fields; `None` if no node has them. The sparse partial keys of unused slots are
-    /// 4,294,967,295.
+    /// The head of a node of `count` entries with these fields; `None` exactly if no node has them. `sparse` has the rows, and
+    /// 4,294,967,295 at each unused slot.
     pub fn from_parts(count: u8, height: u16, columns: &[u16], sparse: &[u32; 32]) -> Option<Head>
         ensures some { IsSome result ↔ IsHead count height columns.now sparse.now }
         ensures head { IfSome result (λ head. head ≡ record { height = height; columns = columns.now; rows = take count sparse.now }) }
@@ -67,8 +67,7 @@ impl Head {
         }
     }
 
-    /// The head of a node of `count` entries with these fields, which some node has. The sparse partial keys of unused slots are
-    /// 4,294,967,295.
+    /// The head of a node of `count` entries with these fields, which some node has. `sparse` has 4,294,967,295 at each unused slot.
     pub fn of(count: u8, height: u16, columns: Columns, sparse: [u32; 32]) -> Head
         requires { IsHead count height columns sparse }
         ensures { result ≡ record { height = height; columns = columns; rows = take count sparse } }
@@ -104,7 +103,7 @@ impl Head {
         search_lanes(&self.sparse, self.columns.extract(key))
     }
 
-    /// The position of the root fork, in each node that has this head.
+    /// The position of the root fork, the lowest of all columns, in each node that has this head.
     pub fn first_position(&self) -> u16
         ensures column { result ≡ slice_index self.now.columns 0 }
         ensures root { InEachNode self.now (λ node. AtRootFork (λ p zero one. result ≡ p) (piece node)) }
@@ -113,8 +112,8 @@ impl Head {
         self.columns.first()
     }
 
-    /// The first and the last of the affected slots, in each node that has this head. The entries from the one to the other agree with that
-    /// in slot `found` in all columns below `position`.
+    /// The first and the last affected slot, in each node that has this head. From the one to the other stand just the entries whose rows
+    /// agree with that of slot `found` in all columns below `position`.
     pub fn affected(&self, found: u8, position: u16) -> (u8, u8)
         requires { found < length self.now.rows }
         ensures range { InEachNode self.now (λ node. (k : ℕ) → k < length node.entries →
@@ -145,8 +144,8 @@ impl Head {
         }
     }
 
-    /// Adds a new fork at `position` over the slots from `first` to `last`, for one more entry. That stands straight after them if `bit` is
-    /// true, else straight before. The stored height becomes `height`.
+    /// Adds a new fork at `position` over the slots from `first` to `last`, and a row for one more entry. That stands straight after them
+    /// if `bit` is true, else straight before. The stored height becomes `height`. Some node has the head that results.
     pub(crate) fn add_fork(
         &mut self,
         height: u16,
@@ -170,8 +169,8 @@ impl Head {
         self.height = height;
     }
 
-    /// Adds a new fork at `position` over the slots from `first` to `last`, which are affected, for a new leaf. That stands straight after
-    /// them if `bit` is true, else straight before. All entries are leaves.
+    /// Adds a new fork at `position` over the affected slots `first` to `last`, and a row for a new leaf. That stands straight after them
+    /// if `bit` is true, else straight before. The node has leaves alone, fewer than 32, and its height stays 1.
     pub fn add_leaf(&mut self, first: u8, last: u8, position: u16, bit: bool)
         requires room { length self.old.rows < 32 }
         requires low { self.old.height ≡ 1 }
@@ -185,7 +184,8 @@ impl Head {
         self.add_fork(1, position, first as usize, last as usize, bit);
     }
 
-    /// Takes out the entry in slot `at`, one of more than two, and the last fork on the path to it. The stored height becomes `height`.
+    /// Takes out the row of slot `at`, one of more than two, and the last fork on the path to it. The stored height becomes `height`, which
+    /// is one above the greatest of the entries that are left: a head doesn't know them.
     pub fn remove_entry(&mut self, at: u8, height: u16)
         requires several { 2 < length self.old.rows }
         requires in_range { at < length self.old.rows }
@@ -212,28 +212,28 @@ impl Head {
         }
     }
 
-    /// The positions of the forks.
+    /// The columns: the positions of the forks, each once.
     pub fn columns(&self) -> &Columns
         ensures { result.now ≡ self.now.columns }
     {
         &self.columns
     }
 
-    /// The sparse partial keys of the entries, in the order of the slots.
+    /// The rows of the entries, in the order of the slots.
     pub(crate) fn rows(&self) -> &[u32]
         ensures { result.now ≡ self.now.rows }
     {
         &self.sparse[..self.count as usize]
     }
 
-    /// The sparse partial keys of the entries, and 4,294,967,295 for the unused ones of 32 slots.
+    /// The rows of the entries, and 4,294,967,295 for the unused ones of 32 slots.
     pub fn padded_rows(&self) -> &[u32; 32]
         ensures { result.now ≡ with_unused self.now.rows }
     {
         &self.sparse
     }
 
-    /// The sparse partial key of slot `at`; 4,294,967,295 if the slot is unused.
+    /// The row of slot `at`; 4,294,967,295 if the slot is unused.
     pub(crate) fn row(&self, at: u8) -> u32
         requires { at < 32 }
         ensures used { at < length self.now.rows → result ≡ slice_index self.now.rows at }
@@ -243,7 +243,7 @@ impl Head {
     }
 }
 
-/// Adds a column at `position`, in which the first `count` of `rows` get 0, and returns its index. If there is one already, all stays.
+/// Adds a column at `position`, in which the first `count` of `rows` get 0. If there is one already, all stays. Returns the column's index.
 pub(crate) fn ensure_column(
     columns: &mut Columns,
     rows: &mut [u32; 32],
@@ -285,7 +285,7 @@ fn drop_unused(columns: &mut Columns, rows: &mut [u32; 32], count: usize)
     }
 }
 
-/// Whether some node of `count` entries has `columns` and the sparse partial keys `sparse`, with 4,294,967,295 for the unused slots.
+/// Whether some node of `count` entries has `columns`, and `sparse` has its rows, with 4,294,967,295 at each unused slot.
 fn fit_a_node(count: u8, columns: &[u16], sparse: &[u32; 32]) -> bool
     ensures { IsTrue result ↔ FitsWords count columns.now sparse.now }
 {

@@ -11,7 +11,7 @@ use arrayvec::ArrayVec;
 use partial_keys::Columns;
 use std::simd::prelude::*;
 
-/// Adds `position` and each of `others` to `columns`, unless it is a column already. Each of `rows` gets 0 in the new columns.
+/// Adds `position` and each of `others` to `columns`, which have room, unless it is one already. Each of `rows` gets 0 in new columns.
 pub(crate) fn ensure_columns(
     columns: &mut Columns,
     rows: &mut [u32; 32],
@@ -47,7 +47,7 @@ fn ensure_column_of_lanes(columns: &mut Columns, rows: u32x32, position: u16) ->
     spread_lanes(rows, below)
 }
 
-/// The list of the rows `zero`, and behind them of the rows `one`, each with `bit` set.
+/// The list of the rows `zero` as they are, and behind them of the rows `one`, each of these with `bit` set; 32 at most.
 pub(crate) fn concatenate_rows(zero: &[u32], one: &[u32], bit: u32) -> ArrayVec<u32, 32>
     requires { length zero.now + length one.now ≤ 32 }
     ensures { result.items ≡ zero.now ++ map (λ row. bit_or row bit) one.now }

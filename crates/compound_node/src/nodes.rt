@@ -13,9 +13,9 @@ use key_bits::Key;
 use partial_keys::Columns;
 use std::marker::Model;
 
-/// A compound node of 2 to 32 entries, in the order of their keys. It shows a piece of a bit trie: its 1 to 31 columns are the positions
-/// of the piece's forks. The sparse partial key of an entry has a 1 exactly where the entry's path takes the 1 side of a fork. The stored
-/// height is above that of each entry.
+/// A compound node of 2 to 32 entries, in the order of their keys. It shows a piece of a bit trie: its 1 to 31 columns are the positions of
+/// the piece's forks. The row of an entry, its sparse partial key, has a 1 exactly where the entry's path takes the 1 side of a fork. The
+/// stored height is above that of each entry.
 #[derive(Drop)]
 pub struct Node {
     head: Head,
@@ -43,7 +43,8 @@ impl Node {
     ghost use Rattle.pieces.specs.Growth.{IsAffected, affected_count, affected_first, grown};
     ghost use Rattle.pieces.specs.Piece.{Fork, Place, RisesFrom, leads_to};
 
-    /// The node of these fields; `None` if no node has them. The sparse partial keys of unused slots are 4,294,967,295.
+    /// The node with these fields; `None` exactly if no node has them. A node has 2 to 32 entries, each lower than `height`. `sparse` has
+    /// their rows, those of one piece that uses each of `columns`, and 4,294,967,295 at each unused slot.
     pub fn from_parts(
         height: u16,
         columns: &[u16],
@@ -60,7 +61,7 @@ impl Node {
         Some(Node::of(head, list_items(entries)))
     }
 
-    /// The node of `head` and `entries`, which fit together.
+    /// The node of `head` and `entries`. There are as many of these as the head has rows, and each is lower than the head's height.
     pub fn of(head: Head, entries: ArrayVec<Entry, 32>) -> Node
         requires { IsLawfulNode (node_of head entries.items) }
         ensures { result ≡ node_of head entries.items }
@@ -81,7 +82,8 @@ impl Node {
         build_node(Columns::of(&[position]), &[0, 1 << 31], entries)
     }
 
-    /// The node of all entries of `zero` and `one`, the sides of a fork at `position`. Its height is one above the greatest of theirs.
+    /// The node of all entries of `zero` and `one`, 32 at most, as the two sides of a fork at `position`. All forks of both have higher
+    /// positions. The height is one above the greatest of the entries'.
     pub fn merge(position: u16, zero: &Node, one: &Node) -> Node
         requires room { length zero.now.entries + length one.now.entries ≤ 32 }
         requires after { RisesFrom 0 (Fork position (piece zero.now) (piece one.now)) }
@@ -106,21 +108,21 @@ impl Node {
         self.head.count()
     }
 
-    /// The stored height.
+    /// The stored height. It is above that of each entry, a leaf counting 0.
     pub fn height(&self) -> u16
         ensures { result ≡ self.now.height }
     {
         self.head.height()
     }
 
-    /// The positions of the forks.
+    /// The columns: the positions of the forks, each once.
     pub fn columns(&self) -> &Columns
         ensures { result.now ≡ self.now.columns }
     {
         self.head.columns()
     }
 
-    /// The sparse partial key of slot `i`, which is below 32; 4,294,967,295 if the slot is unused.
+    /// The row of slot `i`, its sparse partial key; 4,294,967,295 if the slot is unused. `i` is below 32.
     pub fn sparse(&self, i: u8) -> u32
         requires { i < 32 }
         ensures used { i < length self.now.rows → result ≡ slice_index self.now.rows i }
@@ -129,14 +131,14 @@ impl Node {
         self.head.row(i)
     }
 
-    /// The sparse partial keys of the entries, and 4,294,967,295 for the unused ones of 32 slots.
+    /// The rows of the entries, and 4,294,967,295 for the unused ones of 32 slots.
     pub fn padded_rows(&self) -> &[u32; 32]
         ensures { result.now ≡ with_unused self.now.rows }
     {
         self.head.padded_rows()
     }
 
-    /// The entry in slot `i`.
+    /// The entry in slot `i`, which is below `count()`.
     pub fn entry(&self, i: u8) -> Entry
         requires { i < length self.now.entries }
         ensures entry { slice_get self.now.entries i ≡ Some result }
@@ -159,7 +161,7 @@ impl Node {
         &self.head
     }
 
-    /// The position of the root fork.
+    /// The position of the root fork, the lowest of all columns.
     pub fn first_position(&self) -> u16
         ensures root { AtRootFork (λ p zero one. result ≡ p) (piece self.now) }
         ensures below { result < 65535 }
@@ -167,7 +169,7 @@ impl Node {
         self.head.first_position()
     }
 
-    /// The slot to which the forks lead by the bits of `key`. Each key leads to a slot, held or not.
+    /// The slot to which the forks lead by the bits of `key`. Each key leads to one, also a key that isn't held.
     pub fn search(&self, key: &Key) -> u8
         ensures leads { result ≡ leads_to (bit_of key.now) (piece self.now) }
         ensures in_range { result < length self.now.entries }
@@ -175,8 +177,8 @@ impl Node {
         self.head.search(key)
     }
 
-    /// The first and the last of the affected slots. The entries from the one to the other agree with that in slot `found` in all columns
-    /// below `position`.
+    /// The first and the last affected slot. From the one to the other stand just the entries whose rows agree with that of slot `found` in
+    /// all columns below `position`.
     pub fn affected(&self, found: u8, position: u16) -> (u8, u8)
         requires { found < length self.now.entries }
         ensures range { (k : ℕ) → k < length self.now.entries → AgreeBefore self.now position found k ↔ ((result.0 ≤ k) × (k ≤ result.1)) }
@@ -188,8 +190,7 @@ impl Node {
         self.head.affected(found, position)
     }
 
-    /// The slot that is alone on the other side of the last fork on the path to slot `at`, and the position of that fork. `None` if that
-    /// side has several slots.
+    /// The one slot on the other side of the last fork on the path to slot `at`, and that fork's position. `None` if that side has several.
     pub fn find_sibling(&self, at: u8) -> Option<(u8, u16)>
         requires { at < length self.now.entries }
         ensures { result ≡ beside at (piece self.now) }
@@ -203,15 +204,16 @@ impl Node {
         }
     }
 
-    /// The sparse partial key of slot `at`; 4,294,967,295 past the last entry.
+    /// The row of slot `at`; 4,294,967,295 past the last entry, also past slot 31.
     fn row(&self, at: u8) -> u32
         ensures { result ≡ slice_index_or self.now.rows at 4294967295 }
     {
         if at < 32 { self.head.row(at) } else { u32::MAX }
     }
 
-    /// The node with `entry`, and with a new fork at `position` over the slots from `first` to `last`, which are affected. The entry stands
-    /// straight after them if `bit` is true, else straight before. The height is one above the greatest of the entries'.
+    /// A copy of the node with one entry more, for which there is room. A new fork at `position` parts `entry` from the affected slots
+    /// `first` to `last`, of which no fork has that position. `entry` stands straight after them if `bit` is true, else straight before.
+    /// The height is one above the greatest of the entries'.
     pub fn insert(&self, first: u8, last: u8, position: u16, bit: bool, entry: Entry) -> Node
         requires room { length self.now.entries < 32 }
         requires range { IsAffected (piece self.now) position first last }
@@ -224,8 +226,8 @@ impl Node {
         node
     }
 
-    /// Puts `entry` and a new fork at `position` over the affected slots `first` to `last` into this node. The entry stands straight after
-    /// them if `bit` is true, else straight before. The height is made anew, as by `insert`.
+    /// Adds `entry` to this node, as `insert` does to a copy: parted by a new fork at `position` from the affected slots `first` to `last`,
+    /// straight after them if `bit` is true, else straight before.
     pub fn add_entry(&mut self, first: u8, last: u8, position: u16, bit: bool, entry: Entry)
         requires room { length self.old.entries < 32 }
         requires range { IsAffected (piece self.old) position first last }
@@ -249,7 +251,7 @@ impl Node {
         }
     }
 
-    /// A copy of the node with `entry` in slot `i`. The stored height stays.
+    /// A copy of the node with `entry`, which is lower than the node, in slot `i`. The stored height and all else stay.
     pub fn replace(&self, i: u8, entry: Entry) -> Node
         requires in_range { i < length self.now.entries }
         requires stands { StandsBelow self.now.height entry }
@@ -273,8 +275,8 @@ impl Node {
         self.entries[i as usize] = entry;
     }
 
-    /// The node cut at its root fork. A side has only the columns that it uses, and its height is one above the greatest of its entries'.
-    /// Neither side is `Same`.
+    /// The two sides of the node, cut at its root fork. Each is one entry, or a new node of several. A new node has only the columns that
+    /// it uses, and its height is one above the greatest of its entries'. Neither side is `Same`.
     pub fn cut(&self) -> Cut
         ensures { CutShows result (piece self.now) }
     {

@@ -1,4 +1,4 @@
-//! Sparse partial keys as rows of 32 bits, the column of the lowest position as the highest bit.
+//! Rows of 32 bits, HOT's sparse partial keys. The column of the lowest position is the highest bit.
 
 ghost use Rattle.std.specs.List.{All};
 ghost use Rattle.std.specs.Prelude.{◌≡◌, ◌+◌, ◌-◌, ◌%◌, ◌^◌, ◌<◌, ◌≤◌, ◌↔◌, ◌++◌, ◌∷◌, IsTrue, bit_or, drop, false, insert, length, map, take};
@@ -133,8 +133,8 @@ fn fork_rows_before(rows: u32x32, first: u32, end: u32, bits: u32) -> u32x32
         .select(rows, moved)
 }
 
-/// `rows` with a new fork over those from `first` to `last`, and with one row more for it. That stands straight after them if `bit` is
-/// true, else straight before. The fork's column has the bit `weight`. The last of the 32 rows is lost.
+/// `rows` with a row more, parted by a new fork from rows `first` to `last`. If `bit` is true, it stands straight after them, and has
+/// `weight`, the bit of the fork's column. Else it stands straight before, and they have `weight`. The last of the 32 rows is lost.
 #[inline(always)]
 pub fn fork_rows(rows: u32x32, first: usize, last: usize, weight: u32, bit: bool) -> u32x32
     requires range { first ≤ last }
@@ -315,8 +315,7 @@ fn clear_bit_of_front(rows: &mut [u32; 32], first: usize, end: usize, bit: u32)
     }
 }
 
-/// Takes row `at` out of the first `count`, as `without_row` does. Straight behind those that are left comes 4,294,967,295; the others
-/// stay.
+/// Takes row `at` out of the first `count`, as `without_row` does. Behind those that are left comes 4,294,967,295; the others stay.
 pub(crate) fn remove_row(rows: &mut [u32; 32], count: usize, at: usize)
     requires ladder { IsLadder (take count rows.old) }
     requires room { count ≤ 32 }
@@ -337,10 +336,11 @@ fn fork_column(row: u32) -> u8
     ((32 - row.trailing_zeros()) % 32) as u8
 }
 
-/// The slot that is alone on the other side of the last fork on the path to slot `at`, and the column of that fork. `None` if that side
-/// has several slots.
+/// The one slot on the other side of the last fork on the path to slot `at`, and the index of that fork's column. `None` if that side has
+/// several slots.
 ///
-/// `before`, `own`, `after` and `second` are the rows at the slots from `at - 1` to `at + 2`. The result is that of each node with these.
+/// `before`, `own`, `after` and `second` are the rows of slots `at - 1` to `at + 2`, with 4,294,967,295 past the last entry. If `at` is 0,
+/// `before` is row 0. The result holds for each node with these rows.
 #[inline(always)]
 pub fn find_sibling(at: u8, before: u32, own: u32, after: u32, second: u32) -> Option<(u8, u8)>
     requires { at < 32 }

@@ -7,7 +7,7 @@ ghost use Rattle.finite_map.specs.Maps.{Map, key_of, step_where};
 
 use key_bits::Key;
 
-/// A call on the map.
+/// A call on the map, about one key.
 #[derive(Drop)]
 pub enum Call {
     /// Gives the key the value if it has none.
@@ -96,7 +96,7 @@ pub enum Kind {
     Removed,
 }
 
-/// A change of the map, by the pass of this number.
+/// A change of the map: what pass number `pass` did to `key`. `value` is the one that the key got, or of a removal the one that it lost.
 #[derive(Drop)]
 pub struct Change {
     pub pass: u16,
@@ -114,11 +114,11 @@ pub struct Note {
     pub reply: Reply,
 }
 
-/// What a scan of a range gives.
+/// The result of a scan of a range.
 #[derive(Drop)]
 pub struct Scan {
     /// Keys with their values, in the order of the keys; of a scan downwards, the greatest first.
     pub pairs: Vec<(Key, u64)>,
-    /// Whether the range has a further key.
+    /// Whether the range has a further key, beyond the last of the pairs.
     pub more: bool,
 }

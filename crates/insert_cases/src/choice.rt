@@ -21,7 +21,7 @@ pub struct PathNode {
     pub first_position: u16,
     /// How many entries the node has.
     pub count: u8,
-    /// The index of the entry that the search took.
+    /// The slot that the search took.
     pub at: u8,
 }
 
@@ -36,14 +36,14 @@ pub enum Case {
     Overflow,
 }
 
-/// The affected node of an insertion, by its place on the way, its affected entries, and what is done there.
+/// The affected node of an insertion, by its index `level` on the way, its affected slots from `first` to `last`, and what is done there.
 ///
-/// It says which nodes get another one in their place. For `LeafPushdown` it is none, and entry `first` of the affected node is stored.
-/// For `NormalInsert` it is the affected node. For `Overflow` these are the nodes from the affected one up to `pull_up_chain_end`, but for a
-/// full node that stays whole as one half.
+/// It says which nodes get another one in their place. For `LeafPushdown` it is none, and slot `first` of the affected node is stored into.
+/// For `NormalInsert` it is the affected node. For `Overflow` these are the nodes from the affected one up to `pull_up_chain_end`, but for
+/// a full node that stays whole as one half.
 ///
-/// The last two store into the entry at `at` of the node above the uppermost of these, or at the root. A writer locks these nodes, also
-/// the one that stays whole, and the one that is stored into.
+/// The last two store into slot `at` of the node above the uppermost of these, or at the root. A writer locks these nodes, also the one
+/// that stays whole, and the one that is stored into.
 #[derive(Clone, Copy)]
 pub struct Choice {
     pub level: usize,

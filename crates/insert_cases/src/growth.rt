@@ -36,8 +36,8 @@ pub fn grow(node: &Node, first: u8, last: u8, position: u16, bit: bool, entry: E
     grow_full(node, first, last, position, bit, entry)
 }
 
-/// As [`grow`], of a full node: it is cut, and the entry goes into one of the halves. If `position` is below the node's first one, the
-/// whole node is one side and the entry the other.
+/// As [`grow`], of a full node. The result is always `Two`: the node is cut at its root fork, and the entry goes into one of the halves. If
+/// `position` is below the root fork's, the cut is there: the whole node is one side, `Half::Same`, and the entry the other.
 pub fn grow_full(node: &Node, first: u8, last: u8, position: u16, bit: bool, entry: Entry) -> Grown
     requires full { length node.now.entries ≡ 32 }
     requires range { IsAffected (piece node.now) position first last }
@@ -107,7 +107,7 @@ fn cut_and_grow(node: &Node, first: u8, last: u8, position: u16, bit: bool, entr
     }
 }
 
-/// The number of entries of `half`, a side of a cut. `Half::Same` is never given.
+/// The number of entries of `half`, a side of a cut and not `Half::Same`.
 fn half_count(half: &Half) -> u8
     requires { HalfShows half.now (half_piece half.now) }
     ensures { result ≡ size (half_piece half.now) }
@@ -119,8 +119,8 @@ fn half_count(half: &Half) -> u8
     }
 }
 
-/// The node of `half`, a side with fewer than 32 entries, with `entry` beside the entries from `first` to `last`. It is parted from these
-/// at `position`, and stands behind them if `bit`, else before them.
+/// The node of `half`, a side of a cut with fewer than 32 entries, with `entry` beside its affected entries `first` to `last`. A fork at
+/// `position` parts it from these. The entry stands behind them if `bit` is true, else before them.
 fn grow_half(half: Half, first: u8, last: u8, position: u16, bit: bool, entry: Entry) -> Node
     requires half { HalfShows half (half_piece half) }
     requires room { size (half_piece half) < 32 }
@@ -146,7 +146,8 @@ fn grow_half(half: Half, first: u8, last: u8, position: u16, bit: bool, entry: E
 }
 
 /// The node with a fork of `zero` and `one` at `position` in place of entry `at`. `position` is above those of all forks on the path to
-/// `at`. A full node is cut first, and the fork stands in one of its halves.
+/// `at`. The result is `One` if there are fewer than 32 entries. A full node is cut at its root fork, and the new fork stands in one of the
+/// halves.
 pub fn pull_up(node: &Node, at: u8, position: u16, zero: Entry, one: Entry) -> Grown
     requires place { at < length node.now.entries }
     requires path { IsAbovePath position at (piece node.now) }
@@ -185,7 +186,7 @@ pub fn pull_up(node: &Node, at: u8, position: u16, zero: Entry, one: Entry) -> G
     }
 }
 
-/// The node of `half`, a side with fewer than 32 entries, with a fork as [`pull_up`] puts it.
+/// The node of `half`, a side of a cut with fewer than 32 entries, with a fork in place of entry `at`, as [`pull_up`] puts it there.
 fn fork_half(half: Half, at: u8, position: u16, zero: Entry, one: Entry) -> Node
     requires half { HalfShows half (half_piece half) }
     requires room { size (half_piece half) < 32 }
@@ -207,10 +208,7 @@ fn fork_half(half: Half, at: u8, position: u16, zero: Entry, one: Entry) -> Node
 }
 
 /// Puts a fork of `zero` and `one` at `position` in the place of entry `at` of `node`, which has fewer than 32 entries. `position` is above
-/// those of all forks on the path to `at`. The height is built anew.
-///
-/// A leaf stands there first, so that the old entry's height does not count. The higher entry is added before the lower one takes the
-/// leaf's place, so the height that is built is above both.
+/// those of all forks on the path to `at`. The height is made anew: one above the greatest of the entries that the node has then.
 pub fn put_fork(node: &mut Node, at: u8, position: u16, zero: Entry, one: Entry)
     requires room { length node.old.entries < 32 }
     requires place { at < length node.old.entries }
@@ -221,6 +219,7 @@ pub fn put_fork(node: &mut Node, at: u8, position: u16, zero: Entry, one: Entry)
     ensures { IsBuiltFrom node.new (grafted at (Fork position (At zero) (At one)) (piece node.old)) }
 {
     prove!(node.count() < 32);
+    // A leaf stands in for the old entry, whose height doesn't count. The higher entry is added first, so that the height is above both.
     node.set_entry(at, Entry::Leaf(0));
     if zero.height() <= one.height() {
         node.add_entry(at, at, position, true, one);

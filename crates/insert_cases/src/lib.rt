@@ -1,5 +1,5 @@
-//! The insertion cases of a height optimized trie (Binna et al., SIGMOD 2018): a full node with one entry more, a fork that
-//! is pulled up, and the choice of what is done where.
+//! The insertion cases of a height optimized trie (Binna and others, SIGMOD 2018): a full node with one entry more, a fork that is pulled
+//! up, and the choice of what is done where.
 #![tactic(auto)]
 
 mod choice;

@@ -93,7 +93,7 @@ impl Key {
         Ok(())
     }
 
-    /// The key of the first `count` of `bytes`, where all others are 0.
+    /// The key of the first `count` of `bytes`, `MAX_BYTES` at most. All others are 0.
     pub fn from_padded(bytes: [u8; MAX_BYTES], count: usize) -> Key
         requires { HoldsKey bytes count }
         ensures { result ≡ take count bytes }
@@ -128,7 +128,7 @@ impl Key {
         }
     }
 
-    /// The bit at `position`. Byte `i` gives the nine bits from `9 * i` on: a 1, and then its own bits, the highest first. Each bit past
+    /// The bit at `position`. Byte `i` makes the nine bits from `9 * i` on: a 1, and then its own bits, the highest first. Each bit past
     /// the last byte is 0.
     pub fn bit(&self, position: u16) -> bool
         ensures { result ≡ bit_of self.now position }
@@ -231,7 +231,7 @@ impl Hash for Key {
     }
 }
 
-/// The first position at which `a` and `b` differ, below `9 * MAX_BYTES`; `None` exactly for equal keys.
+/// The first position at which the bits of `a` and `b` differ, below `9 * MAX_BYTES`; `None` exactly for equal keys.
 pub fn mismatch(a: &Key, b: &Key) -> Option<u16>
     ensures none { IsNone result ↔ (a.now ≡ b.now) }
     ensures first { IfSome result (IsFirstDifference a.now b.now) }
@@ -244,7 +244,7 @@ pub fn mismatch(a: &Key, b: &Key) -> Option<u16>
     mismatch_of_bytes(a.as_bytes(), b.as_bytes())
 }
 
-/// The first position at which the keys with the bytes `xs` and `ys` differ, below `9 * MAX_BYTES`; `None` exactly for equal keys.
+/// The first position at which the keys of the bytes `xs` and `ys` differ, below `9 * MAX_BYTES`; `None` exactly for equal keys.
 pub fn mismatch_of_bytes(xs: &[u8], ys: &[u8]) -> Option<u16>
     requires { IsKey xs.now × IsKey ys.now }
     ensures none { IsNone result ↔ (xs.now ≡ ys.now) }

@@ -14,7 +14,8 @@ use std::simd::prelude::*;
 /// The bit of a position in its byte, at the index `position % 9 * 16 / 9`; 0 for the first of the nine bits.
 const MASKS: [u8; 16] = [0, 128, 0, 64, 0, 32, 0, 16, 8, 8, 4, 0, 2, 0, 1, 0];
 
-/// For each of `positions` the index of the byte of a key that has its bit. Where no key has such a byte, it is at least `MAX_BYTES`.
+/// For each of `positions` the index of the byte of a key that has its bit. Where no key has such a byte, it is at least `MAX_BYTES`. The
+/// bit of a position p is in byte p/9, and p*7282/65536 is p/9 as long as p is below 9 * 3640.
 #[inline(always)]
 fn bytes_at(positions: u16x32) -> u8x32
     ensures { result ≡ map byte_lane positions }
@@ -75,10 +76,8 @@ fn mark_zeros(lanes: u8x32) -> u32
     lanes.reverse().simd_eq(u8x32::splat(0)).to_bitmask() as u32
 }
 
-/// The dense partial key of `key` for the columns in the first `count` of `lanes`: the bit of column j is bit 31-j.
-///
-/// Mostly sixteen bytes of the key have all its bits at columns, and then they are read at once. A position p is bit p%9 of byte p/9, and
-/// p*7282/65536 is p/9 as long as p is below 9 * 3640.
+/// The dense key of `key` for the columns in the first `count` of `lanes`: the bit of column j is bit 31-j. All other lanes are 65,535.
+/// Mostly sixteen bytes of the key have all its bits at columns, and then they are read at once.
 #[inline(always)]
 pub fn extract_by_lanes(lanes: u16x32, count: u8, key: &Key) -> u32
     requires { AreColumnLanes lanes count }
@@ -95,8 +94,8 @@ pub fn extract_by_lanes(lanes: u16x32, count: u8, key: &Key) -> u32
     }
 }
 
-/// Whether the sixteen bytes from byte `first` on have all bits at columns that a key of `key_length` bytes has. `bytes` says in which
-/// byte each column has its bit. Where they have all, it may be false.
+/// Whether the sixteen bytes from byte `first` on have all bits at columns that a key of `key_length` bytes has. `bytes` says in which byte
+/// each column has its bit, never in one before `first`. False also for an empty key, and where the sixteen would end behind `MAX_BYTES`.
 #[inline(always)]
 fn fits_window(bytes: u8x32, first: usize, key_length: usize) -> bool
     requires lanes { length bytes ≡ 32 }
@@ -123,8 +122,8 @@ fn has_no_byte_between(bytes: u8x32, from: u8, to: u8) -> bool
         == 0
 }
 
-/// The dense partial key that `extract_by_lanes` returns, from sixteen bytes of the key at a time. Never inline: so the lanes go into
-/// memory only where columns are far apart.
+/// The dense key that `extract_by_lanes` returns, from sixteen bytes of the key at a time. Never inline: so the lanes go into memory only
+/// where columns are far apart.
 #[inline(never)]
 fn extract_by_windows(lanes: u16x32, count: u8, key: &Key) -> u32
     requires { AreColumnLanes lanes count }

@@ -1,4 +1,4 @@
-//! Columns of a compound node, HOT's discriminative bits, and the search of its sparse partial keys (Binna and others, SIGMOD 2018).
+//! Columns of a compound node and the search of its rows: HOT's discriminative bits and sparse partial keys (Binna and others 2018).
 #![tactic(auto)]
 
 ghost use Rattle.std.specs.Prelude.{◌≡◌, ◌+◌, ◌-◌, ◌++◌, ◌∷◌, ◌<◌, ◌≤◌, drop, insert, length, map, remove, replicate, slice_index, take};
@@ -18,8 +18,7 @@ use key_bits::Key;
 use std::marker::Model;
 use std::simd::prelude::*;
 
-/// The columns of a compound node: 1 to 31 bit positions, strictly rising, each below 65,535. Column j is bit 31-j of a
-/// dense or sparse partial key.
+/// The columns of a compound node: 1 to 31 positions, strictly rising, each below 65,535. Column j is bit 31-j of a dense key or a row.
 #[derive(Clone, Copy)]
 pub struct Columns {
     positions: [u16; 31],
@@ -61,7 +60,7 @@ impl Columns {
         }
     }
 
-    /// The columns at the first `count` of `positions`, which rise strictly. All others are 65,535.
+    /// The columns at the first `count` of `positions`: 1 to 31, strictly rising, each below 65,535. All others are 65,535.
     pub fn from_padded(positions: [u16; 31], count: u8) -> Columns
         requires { HoldsColumns positions count }
         ensures { result ≡ take count positions }
@@ -69,7 +68,7 @@ impl Columns {
         Columns { positions, count }
     }
 
-    /// The positions, in order.
+    /// The positions, in rising order.
     pub fn as_slice(&self) -> &[u16]
         ensures positions { result.now ≡ self.now }
         ensures columns { IsColumns self.now }
@@ -91,14 +90,14 @@ impl Columns {
         self.count
     }
 
-    /// The first position.
+    /// The first position, which is the lowest.
     pub fn first(&self) -> u16
         ensures { result ≡ slice_index self.now 0 }
     {
         self.positions[0]
     }
 
-    /// The position of column `j`.
+    /// The position of column `j`, which is below `count()`.
     pub fn position(&self, j: u8) -> u16
         requires { j < length self.now }
         ensures { result ≡ slice_index self.now j }
@@ -122,14 +121,14 @@ impl Columns {
         below < self.count && self.positions[below as usize] == position
     }
 
-    /// The dense partial key of `key`: its bits at the columns. The bit of column j is bit 31-j, and all others are 0.
+    /// The dense key of `key`: its bits at the columns. The bit of column j is bit 31-j, and all others are 0.
     pub fn extract(&self, key: &Key) -> u32
         ensures { result ≡ dense_of self.now (bit_of key.now) }
     {
         extract_by_lanes(lanes_of(&self.positions), self.count, key)
     }
 
-    /// Adds a column at `position`, which is none yet, and returns its index among the columns.
+    /// Adds a column at `position`, which is none yet, to fewer than 31, and returns its index among the columns.
     pub fn add_position(&mut self, position: u16) -> u8
         requires room { length self.old < 31 }
         requires below { position < 65535 }
@@ -142,7 +141,7 @@ impl Columns {
         at
     }
 
-    /// Adds a column at `position`, which is none yet; `below` says how many columns are below it.
+    /// Adds a column at `position`, which is none yet, to fewer than 31. `below` says how many columns are below it, and becomes its index.
     pub fn insert_position_at(&mut self, below: u8, position: u16)
         requires room { length self.old < 31 }
         requires small { position < 65535 }
@@ -165,7 +164,7 @@ impl Columns {
     }
 }
 
-/// An array of `items`, with `unused` behind them up to its end.
+/// An array of `items`, N at most, with `unused` behind them up to its end.
 pub fn pad<T: Copy, const N: usize>(items: &[T], unused: T) -> [T; N]
     requires { length items.now ≤ N }
     ensures { result ≡ items.now ++ replicate (N - length items.now) unused }
@@ -177,7 +176,7 @@ pub fn pad<T: Copy, const N: usize>(items: &[T], unused: T) -> [T; N]
     padded
 }
 
-/// How many of `lanes` stand before the first that is not below `bound`.
+/// How many of `lanes` stand before the first that is not below `bound`; 32 if all are below.
 #[inline(always)]
 pub fn count_below(lanes: u16x32, bound: u16) -> u8
     ensures { result ≡ front_below bound lanes }
@@ -229,8 +228,7 @@ fn keep_used_positions(positions: &mut [u16; 31], count: usize, used: u32) -> us
     found
 }
 
-/// The highest index i at which the sparse partial key complies with the dense one: `dense & sparse[i] == sparse[i]`. `sparse[0]` is 0, so
-/// there is one.
+/// The highest index i at which row `sparse[i]` complies with the dense key: it has no bit that `dense` lacks. Row 0 is 0, so there is one.
 pub fn search_plain(sparse: &[u32; 32], dense: u32) -> u8
     requires { slice_index sparse.now 0 ≡ 0 }
     ensures { IsFound sparse.now dense result }
@@ -244,7 +242,7 @@ pub fn search_plain(sparse: &[u32; 32], dense: u32) -> u8
     best
 }
 
-/// The index that `search_plain` returns, by one comparison of all 32 sparse partial keys as lanes of a vector.
+/// The index that `search_plain` returns, by one comparison of all 32 rows as lanes of a vector.
 pub fn search_lanes(sparse: &[u32; 32], dense: u32) -> u8
     requires { slice_index sparse.now 0 ≡ 0 }
     ensures { IsFound sparse.now dense result }
@@ -252,7 +250,7 @@ pub fn search_lanes(sparse: &[u32; 32], dense: u32) -> u8
     search_rows(u32x32::from_array(*sparse), dense)
 }
 
-/// The index that `search_plain` returns, where the sparse partial keys are lanes already.
+/// The index that `search_plain` returns, where the rows are lanes already.
 #[inline(always)]
 pub fn search_rows(sparse: u32x32, dense: u32) -> u8
     requires { slice_index sparse 0 ≡ 0 }

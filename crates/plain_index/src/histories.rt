@@ -8,7 +8,9 @@ ghost use Rattle.finite_map.specs.Calls.{LegalCalls, RisesFrom, StandsIn, change
 use finite_map::{Call, Change, Kind, Note, Reply};
 use key_bits::Key;
 
-/// Whether `notes` are legal as the calls of pass `pass` in `front`. Its time rises with the square of the lengths.
+/// Whether `front` is legal, and `notes` are legal in it as the calls of pass `pass`. Then each note has the map's reply at its place, and
+/// the places never fall. The pass's changes in `front` are just those that the notes tell of. The time rises with the square of the
+/// lengths.
 pub fn are_legal(front: &[Change], pass: u16, notes: &[Note]) -> bool
     ensures { IsTrue result ↔ LegalCalls front.now pass notes.now }
 {
@@ -62,7 +64,7 @@ fn is_legal_change(kind: Kind, held: Option<u64>, value: u64) -> bool
     }
 }
 
-/// Whether each change of `front` is legal after those before it.
+/// Whether each change of `front` is legal on the map of those before it, which is empty at first.
 fn is_legal_front(front: &[Change]) -> bool
     ensures { IsTrue result ↔ LegalFront front.now }
 {

@@ -33,8 +33,7 @@ impl PlainIndex {
         }
     }
 
-    /// Makes `call`, and returns the map's reply. It returns `AllocError` if the call adds a key and memory is refused, and nothing changes
-    /// then.
+    /// Makes `call`, and returns the map's reply. `AllocError` if the call adds a key and memory is refused; nothing changes then.
     pub fn apply(&mut self, call: Call) -> Result<Reply, AllocError>
         ensures reply { IfOk result (λ reply. reply ≡ reply_of self.old call) }
         ensures map { OnOk result (self.new ≡ map_after self.old call) }

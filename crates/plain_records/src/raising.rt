@@ -14,8 +14,8 @@ ghost use Rattle.plain_records.specs.Risen.{RisenShows, OthersStay, pushed_nodes
 use compound_node::{Cut, Entry, Half, Node};
 use insert_cases::{Grown, Risen};
 
-/// Stores `grown` in place of node `number`, whose height was `height`, and returns what takes its place. Of two halves that are nodes
-/// the first takes the old one's record, and the other a new one.
+/// Stores `grown`, which node `number` of the height `height` has become, and returns the entry or fork that takes the node's place. Of two
+/// halves that are nodes the first takes the old one's record, and the other a new one, for which there is room.
 pub fn store_grown(nodes: &mut Vec<Node>, number: u32, height: u16, grown: Grown) -> Risen
     requires number { number < vec_len nodes.old }
     requires room { vec_len nodes.old < vec_capacity nodes.old }
@@ -38,7 +38,7 @@ pub fn store_grown(nodes: &mut Vec<Node>, number: u32, height: u16, grown: Grown
     }
 }
 
-/// Stores the two halves of `cut` in place of node `number`, whose height was `height`, and returns the fork of their entries.
+/// Stores the two halves of `cut`, into which node `number` of the height `height` was cut, and returns the fork of their entries.
 fn store_cut(nodes: &mut Vec<Node>, number: u32, height: u16, cut: Cut) -> Risen
     requires number { number < vec_len nodes.old }
     requires room { vec_len nodes.old < vec_capacity nodes.old }

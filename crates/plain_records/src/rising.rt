@@ -23,10 +23,10 @@ use compound_node::{Entry, Node};
 use insert_cases::{Risen, grow, is_pull_up, pull_up};
 use key_bits::Key;
 
-/// Adds the leaf `leaf`, which has `key`, below `entry`, and returns what takes the place of `entry`. The key differs first at `position`
-/// from that of the leaf where its search ends. The search goes down to the node that takes the new leaf, or to a leaf. Below a node over
-/// other nodes a leaf counts as a child of height 0. It gives way to a fork of itself and the new one. Each node on the way back takes what
-/// took its child's place.
+/// Adds the leaf of record `leaf`, which has `key`, below `entry`, and returns what takes the place of `entry`. The key differs first at
+/// `position` from that of the leaf where its search ends. `nodes` has room for as many nodes more as `entry` is high. The search goes down
+/// to the node that takes the new leaf, or to a leaf, which gives way to a fork of itself and the new one. Each node on the way back takes
+/// in what took its child's place.
 pub fn raise_newcomer(
     nodes: &mut Vec<Node>,
     entry: Entry,
@@ -75,7 +75,7 @@ fn takes_leaf(height: u16, first: u8, last: u8) -> bool
     first < last || height == 1
 }
 
-/// The fork at `position` of the entries `old` and `new`, where `new` is the side of `bit`.
+/// The fork at `position` of the entries `old` and `new`, where `new` is the 1 side if `bit` is true, else the 0 side.
 fn fork_entries(old: Entry, position: u16, bit: bool, new: Entry) -> Risen
     ensures { subtrie_of result ≡ subtrie_forked bit position new (At old) }
 {
@@ -141,8 +141,8 @@ fn lift_risen(
     }
 }
 
-/// Returns the root's entry when `risen` takes the old root's place. One entry is returned as it is. A fork becomes a new node, added to
-/// `nodes`.
+/// Returns the root's entry when `risen` takes the old root's place. One entry is returned as it is. A fork becomes a new node in `nodes`,
+/// which have room for it.
 pub fn make_root(nodes: &mut Vec<Node>, risen: Risen) -> Entry
     requires place { (ns : List NodeView) × (leaves : List LeafRecord) × (x : Item) × (p : ℕ) × (t : Tree) × (h : ℕ) ×
         IsRaised ns nodes.old.items leaves x p t h (subtrie_of risen) }
@@ -165,7 +165,7 @@ pub fn make_root(nodes: &mut Vec<Node>, risen: Risen) -> Entry
     }
 }
 
-/// Puts `entry` at place `at` of node `number`, in its own record, and returns the node's entry.
+/// Puts `entry`, which is lower than node `number`, into its slot `at` in its own record, and returns the node's entry. Its height stays.
 fn replace_entry(nodes: &mut Vec<Node>, number: u32, at: u8, entry: Entry) -> Entry
     requires { (old : NodeView) × (slice_get nodes.old.items number ≡ Some old) × (at < size (piece old)) × StandsBelow old.height entry }
     ensures shows { (old : NodeView) → slice_get nodes.old.items number ≡ Some old → IsNamed nodes.new.items old result (grafted at (At entry) (piece old)) }

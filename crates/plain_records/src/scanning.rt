@@ -1,4 +1,4 @@
-//! The pairs of a range are given in the order of their keys.
+//! The scan of the records: the pairs of a range, in the order of their keys.
 
 ghost use Rattle.std.specs.Prelude.{◌≡◌, ◌≢◌, [], ◌∷◌, ◌++◌, take, MatchResult};
 ghost use Rattle.finite_map.specs.Maps.{Map};
@@ -14,19 +14,20 @@ use finite_map::Scan;
 use key_bits::Key;
 use std::alloc::AllocError;
 
-/// The range of a scan, and how many pairs it gives at most.
+/// The range of a scan, and how many pairs it returns at most.
 #[derive(Clone, Copy)]
 pub struct Range<'a> {
     /// The first key of the range.
     pub from: &'a Key,
     /// The last key of the range, itself included.
     pub upto: &'a Key,
-    /// How many pairs are given at most.
+    /// How many pairs are returned at most.
     pub limit: usize,
 }
 
 /// Goes on with `scan`, that of the pairs before those below `entry`: adds the pairs of `range` below `entry`, in the order of their keys.
-/// Where the limit is reached it sets `more` in place of a further pair. `AllocError` if memory is refused for a pair.
+/// Where the limit is reached it sets `more` in place of a further pair. All leaves below `entry` are read. `AllocError` if memory is
+/// refused for a pair; the pairs before that one are added then.
 pub fn scan_below(
     nodes: &Vec<Node>,
     leaves: &Vec<LeafRecord>,

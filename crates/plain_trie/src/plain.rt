@@ -96,8 +96,8 @@ impl PlainTrie {
         self.nodes.get(number as usize)
     }
 
-    /// The value of `key`; `None` if the trie has not got the key. The search reads one record a level, and compares `key` with the key
-    /// of the one leaf at which it ends.
+    /// The value of `key`; `None` if the trie hasn't the key. The search reads one record a level, and compares `key` with that of the one
+    /// leaf at which it ends.
     pub fn get(&self, key: &Key) -> Option<u64>
         ensures { result ≡ value_at (trie_map self.now) key.now }
     {
@@ -114,14 +114,13 @@ impl PlainTrie {
         }
     }
 
-    /// Gives `key` the value `value` if it has none, and returns `Inserted`; or returns `Exists` with the value that it has and keeps.
-    /// Only a key that was absent takes memory. Room is made for its leaf and for the most nodes that one insertion can add. These are
+    /// Gives `key` the value `value` if it has none, and returns `Inserted`; or returns `Exists` with the value that it has and keeps. Only
+    /// a key that was absent takes memory. Room is made for its leaf and for the most nodes that one insertion can add. These are
     /// `height() + 1`, one for each level and one above the root, and none for the first key.
     ///
     /// It returns `AllocError` only where a vector had to grow for that many and got no memory, or too few 32-bit numbers are left. These
-    /// are too few with 4,294,967,296 leaves, or with more than 4,294,967,295 - `height()` nodes. Most insertions add fewer nodes than
-    /// room is made for. So one can be refused that would have found room for its own, and the last few numbers of nodes stay unused. A
-    /// refused call leaves all records and the root as they were.
+    /// are too few with 4,294,967,296 leaves, or with more than `4,294,967,295 - height()` nodes. Most insertions add fewer nodes than room
+    /// is made for, so one may be refused though its own would find room. A refused call leaves all records and the root as they were.
     ///
     /// A key that is added below a node changes the nodes by the case of the affected one, as `choose_case` of `insert_cases` names it.
     /// Those above it change by what rises from there.
@@ -139,7 +138,7 @@ impl PlainTrie {
     }
 
     /// Gives `key` the value `value`, and returns `New`, or `Was` with the value that it had. Only a key that was absent takes memory. It
-    /// returns `AllocError` where `insert` would, and leaves all as it was then.
+    /// returns `AllocError` where `insert` would, and leaves all records and the root as they were then.
     pub fn upsert(&mut self, key: &Key, value: u64) -> Result<Reply, AllocError>
         ensures ok { IfOk result (IsTrieAnswer (Upsert key.now value) self.old self.new) }
         ensures err { OnErr result (IsOutOfMemory (Upsert key.now value) self.old self.new) }
@@ -155,8 +154,8 @@ impl PlainTrie {
         Ok(Reply::Was(held))
     }
 
-    /// Adds `key` with `value` if it is absent, and returns `None`; else returns the place of its leaf record. Room is made first for the
-    /// leaf, a node for each height, and a new root. So a refusal, `AllocError`, changes nothing.
+    /// Adds `key` with `value` if it is absent, and returns `None`; else returns the number of its leaf record. Room is made first for the
+    /// leaf, a node for each height, and a new root. So a refusal, `AllocError`, changes no record.
     fn add_absent(&mut self, key: &Key, value: u64) -> Result<Option<usize>, AllocError>
         ensures ok { IfOk result (λ held. MatchOption held
             ((value_at (trie_map self.old) key.now ≡ None) × (trie_map self.new ≡ with_value (trie_map self.old) key.now value))
@@ -215,7 +214,7 @@ impl PlainTrie {
         };
     }
 
-    /// The place of the leaf record at which the search for `key` ends, from the root's entry `top` down.
+    /// The number of the leaf record at which the search for `key` ends, from the root's entry `top` down.
     fn find_leaf(&self, key: &Key, top: Entry) -> usize
         requires { self.now.top ≡ Some top }
         ensures { EndsAt self.now top key.now result }

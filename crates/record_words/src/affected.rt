@@ -13,11 +13,9 @@ use crate::{FIRST_ROWS, HEAD_WORDS};
 use partial_keys::count_below;
 use std::simd::prelude::*;
 
-/// The first and the last of the affected slots, in each node whose head has `words`. The entries from the one to the other agree with that
-/// in slot `found` in all columns below `position`. No head is made: the words are compared as vectors.
-///
-/// The sparse partial keys rise. So those that agree in the first columns are a run, from the least number with these bits in front up to
-/// the greatest.
+/// The first and the last affected slot, in each node whose head has `words`. From the one to the other stand just the entries whose rows
+/// agree with that of slot `found` in all columns below `position`. No head is made: the words are compared as vectors. Rows rise, so those
+/// that agree in the first columns follow each other.
 #[inline(always)]
 pub fn affected_places(words: &[u64], found: u8, position: u16) -> (u8, u8)
     requires long { length words.now ≡ HEAD_WORDS }
@@ -35,7 +33,7 @@ pub fn affected_places(words: &[u64], found: u8, position: u16) -> (u8, u8)
     (first as u8, (end - 1) as u8)
 }
 
-/// The sparse partial key of slot `at` of each node whose head has `words`; 4,294,967,295 past the last entry.
+/// The row of slot `at` of each node whose head has `words`; 4,294,967,295 past the last entry.
 #[inline(always)]
 fn row_in(words: &[u64], at: u8) -> u32
     requires { (length words.now ≡ HEAD_WORDS) × (at < 32) }
@@ -44,7 +42,7 @@ fn row_in(words: &[u64], at: u8) -> u32
     row_of(words[FIRST_ROWS + at as usize / 2], at)
 }
 
-/// How many of `rows`, sparse partial keys, are below `bound`.
+/// How many of `rows` are below `bound`.
 #[inline(always)]
 fn count_rows_below(rows: u32x32, bound: u32) -> u32
     ensures { result ≡ count_by (λ x. nat_lt x bound) rows }
@@ -52,7 +50,7 @@ fn count_rows_below(rows: u32x32, bound: u32) -> u32
     rows.simd_lt(u32x32::splat(bound)).to_bitmask().count_ones()
 }
 
-/// How many of `rows`, sparse partial keys, are `bound` or below it.
+/// How many of `rows` are `bound` or below it.
 #[inline(always)]
 fn count_rows_upto(rows: u32x32, bound: u32) -> u32
     ensures { result ≡ count_by (λ x. nat_lt x (bound + 1)) rows }

@@ -21,7 +21,7 @@ pub fn pack_entry(entry: Option<Entry>) -> u64
     }
 }
 
-/// The entry whose word is `word`; `None` for 0.
+/// The entry whose word is `word`, one that `pack_entry` makes; `None` for 0.
 pub fn read_entry(word: u64) -> Option<Entry>
     requires { IsSpelling HasEntryWord entry_word word }
     ensures { IsSpelledBy HasEntryWord entry_word word result }
@@ -32,7 +32,7 @@ pub fn read_entry(word: u64) -> Option<Entry>
     }
 }
 
-/// The entry whose word is `word`, which isn't 0. A leaf's word has no height.
+/// The entry whose word is `word`, one that `pack_entry` makes of an entry, so not 0.
 pub fn read_some_entry(word: u64) -> Entry
     requires { IsSpelling (λ entry. HasEntryWord (Some entry)) (λ entry. entry_word (Some entry)) word }
     ensures { IsSpelledBy (λ entry. HasEntryWord (Some entry)) (λ entry. entry_word (Some entry)) word result }

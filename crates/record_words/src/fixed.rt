@@ -46,7 +46,7 @@ fn position_at(positions: &[u16; 31], at: usize) -> u16
     if at < 31 { positions[at] } else { u16::MAX }
 }
 
-/// The eight words of the sixteen sparse partial keys `rows`: two in each word, the first of them in its low half.
+/// The eight words of the sixteen `rows`: two in each word, the first of them in its low half.
 #[inline(always)]
 pub(crate) fn words_of_rows(rows: u32x16) -> u64x8
     ensures whole { length result ≡ 8 }

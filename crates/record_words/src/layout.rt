@@ -155,7 +155,7 @@ impl Layout {
     }
 
     /// The layout of a table for `passes` passes, 1 to `MAX_STOCK_PASSES`, with the records of `stock`. That has 1 to 4,294,967,295 node
-    /// records, and as many leaf records of all classes together. The fault names the first number that is out of range.
+    /// records, and within the same bounds leaf records of all classes together. The fault names the first number that is out of range.
     pub fn with_stock(passes: u32, stock: Stock) -> Result<Layout, LayoutFault>
         ensures ok { IfOk result (λ layout. (layout.passes ≡ passes) × HasStock layout stock) }
         ensures passes { (result ≡ Err LayoutFault.Passes) ↔ ¬ IsStockPassCount passes }
@@ -226,8 +226,9 @@ impl Layout {
         self.class_of(number).words()
     }
 
-    /// The first leaf record of a class with at least `words` words, or where it would be: those below have fewer, and those behind have
-    /// enough. If no class is so large, it is the first long one.
+    /// The number of the first leaf record with at least `words` words: all before it have fewer, and all from it on have enough. If none
+    /// has, it is how many there are. If `words` is more than any class has, it is the number of the first long one, or of where that would
+    /// be.
     pub fn first_leaf_with(&self, words: usize) -> u32
         ensures below { (q : ℕ) → q < result → leaf_size self.now q < words }
         ensures from { words ≤ LEAF_WORDS → (q : ℕ) → result ≤ q → words ≤ leaf_size self.now q }

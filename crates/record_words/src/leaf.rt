@@ -8,7 +8,7 @@ ghost use Rattle.record_words.specs.Leaf.{HasLeafWords, key_word, leaf_words, wo
 use crate::{KEY_WORDS, LEAF_FIELDS};
 use key_bits::{Key, MAX_BYTES};
 
-/// How many words the bytes of a key of `length` bytes take in a leaf.
+/// How many words the bytes of a key take in a leaf, if it has `length` of them: 0 to `KEY_WORDS`.
 pub fn count_key_words(length: u64) -> usize
     requires { length ≤ MAX_BYTES }
     ensures { result ≡ words_of_key length }

@@ -56,16 +56,16 @@ pub const ROOT_WORD: usize = 1;
 /// The word of the anchor, more than a line's words behind the root.
 pub const ANCHOR_WORD: usize = 2 * LINE_WORDS;
 
-/// The word of the first pin. Each further pin stands `LINE_WORDS` behind the one before, and the first record behind the last.
+/// The word of the first pin. Each further pin stands `LINE_WORDS` behind the one before, and the first record as far behind the last.
 pub const FIRST_PIN: usize = 3 * LINE_WORDS;
 
-/// How many words a node's head has, from offset 1 on: the numbers, the positions and the sparse partial keys.
+/// How many words a node's head has, from offset 1 on: those of the numbers, the positions and the rows.
 pub const HEAD_WORDS: usize = 25;
 
-/// The index among a head's words of the first with sparse partial keys: the numbers and the positions stand before them.
+/// The index among a head's words of the first with rows. The words of the numbers and the positions stand before it.
 pub const FIRST_ROWS: usize = 9;
 
-/// How many words of a head have sparse partial keys.
+/// How many words of a head have rows, two each.
 pub const ROW_WORDS: usize = HEAD_WORDS - FIRST_ROWS;
 
 /// The offset at which a node record has its first entry: its state and its head stand before the entries.
@@ -113,7 +113,7 @@ pub const STOCK_SHARE: u32 = 8;
 /// How many more node records and leaf records `Stock::for_keys` has, however few the keys are.
 pub const STOCK_SPARE: u32 = 512;
 
-/// Why words are no packing of any value.
+/// Why words can't be read: they are those of no value.
 #[derive(Clone, Copy)]
 pub enum WordFault {
     Bad = 1,

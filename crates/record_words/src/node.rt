@@ -47,7 +47,7 @@ fn put_head(words: &mut [u64; NODE_FIELDS], head: &Head)
     put_rows(words, u32x32::from_array(*head.padded_rows()));
 }
 
-/// Writes the words of the sparse partial keys `rows` to `words`, those of a node. All other words stay.
+/// Writes the words of `rows` to `words`, those of a node. All other words stay.
 #[inline(always)]
 fn put_rows(words: &mut [u64; NODE_FIELDS], rows: u32x32)
     ensures rows { (k : ℕ) → k < 16 → slice_index words.new (FIRST_ROWS + k) ≡ row_word rows k }
@@ -65,9 +65,9 @@ pub fn can_take_leaf(words: &[u64; NODE_FIELDS]) -> bool
     numbers.height == 1 && (numbers.count as usize) < MAX_ENTRIES
 }
 
-/// Changes `words`, those of a node, to those of the node with the leaf of record `leaf`, for which it has room. A new fork at `position`
-/// stands over the slots from `first` to `last`, which are affected. The leaf stands straight after them if `bit` is true, else straight
-/// before.
+/// Changes `words`, those of a node with leaves alone and room for one more, to those of the node with the leaf of record `leaf`. A new
+/// fork at `position` stands over the affected slots `first` to `last`, of which no fork has that position. The leaf stands straight after
+/// them if `bit` is true, else straight before.
 pub fn add_leaf(
     words: &mut [u64; NODE_FIELDS],
     first: u8,
@@ -120,8 +120,8 @@ fn add_fork_by_head(words: &mut [u64; NODE_FIELDS], first: u8, last: u8, positio
     put_head(words, &head);
 }
 
-/// Takes the entry in slot `at`, and the last fork on the path to it, out of the node of `words`, and returns `None`. If there are two
-/// entries, the words stay, and it returns the other one.
+/// Takes the entry in slot `at`, and the last fork on the path to it, out of the node of `words`, and returns `None`. The height is made
+/// anew. If there are two entries, the words stay, and it returns the other one.
 pub fn drop_entry(words: &mut [u64; NODE_FIELDS], at: u8) -> Option<Entry>
     requires { (node : NodeView) × HasNodeWords node × (node_words node ≡ words.old) × (at < length node.entries) }
     ensures { (node : NodeView) → HasNodeWords node → node_words node ≡ words.old → SpellLeft words.new result (without at (piece node)) }
@@ -138,8 +138,8 @@ pub fn drop_entry(words: &mut [u64; NODE_FIELDS], at: u8) -> Option<Entry>
     None
 }
 
-/// Puts `entry` into the node of `words` in place of the entries in slots `at` and `other` and of the fork over just these. Returns `None`.
-/// If the node has no other entries, it returns `entry`, and only the word of slot `other` changes.
+/// Puts `entry`, which is lower than the node of `words`, in place of its entries in slots `at` and `other` and of the fork over just
+/// these. Returns `None`. If the node has no other entries, it returns `entry`, and only the word of slot `other` changes.
 pub fn close_fork(words: &mut [u64; NODE_FIELDS], at: u8, other: u8, entry: Entry) -> Option<Entry>
     requires { (node : NodeView) × CanCloseAt words.old node at other entry }
     ensures { (node : NodeView) → CanCloseAt words.old node at other entry → SpellLeft words.new result (collapsed at entry (piece node)) }
@@ -164,7 +164,7 @@ fn height_over(words: &[u64], height: u16) -> u16
     1 + greatest as u16
 }
 
-/// The node of `words`, those of a node record from offset 1 on.
+/// The node of `words`, those that some node has in its record from offset 1 on.
 pub fn read_node(words: &[u64; NODE_FIELDS]) -> Node
     requires { IsSpelling HasNodeWords node_words words.now }
     ensures { IsSpelledBy HasNodeWords node_words words.now result }

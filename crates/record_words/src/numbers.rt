@@ -17,7 +17,7 @@ pub struct HeadNumbers {
     pub height: u16,
 }
 
-/// The numbers of each node whose head begins with `word`.
+/// The numbers of entries and of columns, and the height, of each node whose head begins with `word`.
 #[inline(always)]
 pub fn read_numbers(word: u64) -> HeadNumbers
     ensures parts { (result.count ≡ word % 256) × (result.columns ≡ word / 256 % 256) × (result.height ≡ word / 65536 % 65536) }
@@ -31,8 +31,7 @@ pub fn read_numbers(word: u64) -> HeadNumbers
     }
 }
 
-/// The sparse partial key of slot `at`, in each node whose head has `word` at index `FIRST_ROWS + at / 2`. It is 4,294,967,295 past the
-/// last entry.
+/// The row of slot `at`, in each node whose head has `word` at index `FIRST_ROWS + at / 2`. It is 4,294,967,295 past the last entry.
 #[inline(always)]
 pub fn row_of(word: u64, at: u8) -> u32
     requires { at < 32 }

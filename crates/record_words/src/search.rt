@@ -16,8 +16,8 @@ use key_bits::Key;
 use partial_keys::{extract_by_lanes, search_rows};
 use std::simd::prelude::*;
 
-/// The dense partial key of `key` for each node whose head begins with `words`: the bit of column j is bit 31-j. The positions are read
-/// as a vector as they stand. `search_row_words` needs the words behind these alone, so a caller can load those later.
+/// The dense key of `key` for each node whose head begins with `words`: the bit of column j is bit 31-j. The positions are read as a vector
+/// as they stand. `search_row_words` needs the words behind these alone, so a caller can load those later.
 #[inline(always)]
 pub fn extract_dense_key(words: &[u64; FIRST_ROWS], key: &Key) -> u32
     requires { IsSpelling HasHeadWords front_words words.now }
@@ -27,8 +27,8 @@ pub fn extract_dense_key(words: &[u64; FIRST_ROWS], key: &Key) -> u32
     extract_by_lanes(positions, read_numbers(words[0]).columns, key)
 }
 
-/// The slot to which the forks lead, in each node whose head ends with `words`, by the dense partial key `dense`. As `Head::search`, but
-/// no head is made: the sparse partial keys are searched as a vector as they stand.
+/// The slot to which the forks lead by the dense key `dense`, in each node whose head ends with `words`. As `Head::search`, but no head is
+/// made: the rows are searched as a vector as they stand.
 #[inline(always)]
 pub fn search_row_words(words: &[u64; ROW_WORDS], dense: u32) -> u8
     requires { IsSpelling HasHeadWords back_words words.now }
@@ -38,8 +38,7 @@ pub fn search_row_words(words: &[u64; ROW_WORDS], dense: u32) -> u8
     search_rows(rows_in(words), dense)
 }
 
-/// The sparse partial keys of each node whose head ends with `words`: lane `i` is that of slot `i`. Lanes past the last entry are
-/// 4,294,967,295.
+/// The rows of each node whose head ends with `words`: lane `i` is that of slot `i`. Lanes past the last entry are 4,294,967,295.
 #[inline(always)]
 pub(crate) fn rows_in(words: &[u64]) -> u32x32
     requires { length words.now ≡ ROW_WORDS }

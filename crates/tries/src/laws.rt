@@ -1,29 +1,29 @@
-//! The laws of bit tries. The functions do nothing: their contracts are the laws.
+//! The laws of bit tries, each the contract of a function that does nothing. A tree's map has the keys and values of its leaves.
 
 ghost use Rattle.tries.specs.Statements.{AddingInserts, ContentRises, ExchangeReplaces, LocalIsTrie, TakingRemoves};
 
-/// The content of a bit trie is in strict key order.
+/// In a bit trie the keys of the leaves, from left to right, rise strictly in byte order.
 pub fn content_is_in_key_order()
     ensures { ContentRises }
 {}
 
-/// A tree is a bit trie exactly if each leaf has a key and each fork keeps two rules. It is before those below it, and it parts the first
-/// keys of its two sides.
+/// A tree is a bit trie exactly if each leaf has a key and each fork keeps two rules. All forks below it have higher positions. The first
+/// keys of its two sides agree before its position, and have 0 and 1 there.
 pub fn local_rules_make_a_trie()
     ensures { LocalIsTrie }
 {}
 
-/// One leaf more adds its key, which was absent, to the map.
+/// If a bit trie has one leaf more than another tree, its map is the other's with that leaf's key, which was absent, and value added.
 pub fn one_leaf_more_adds_its_key()
     ensures { AddingInserts }
 {}
 
-/// One leaf in the place of another of the same key replaces that key's value in the map.
+/// A bit trie's leaf exchanged for one of the same key changes the map by that key's value alone: from the old leaf's to the new one's.
 pub fn exchanged_leaf_replaces_value()
     ensures { ExchangeReplaces }
 {}
 
-/// One leaf less removes its key, which had its value, from the map.
+/// A tree with all leaves of a bit trie but one has the trie's map without that leaf's key. In the trie's map the key has the leaf's value.
 pub fn one_leaf_less_removes_its_key()
     ensures { TakingRemoves }
 {}
