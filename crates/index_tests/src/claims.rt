@@ -44,7 +44,7 @@ fn claim_if_free(table: &HotTable, seat: &mut TableSeat, rec: Rec) -> bool
     table.claim(seat, &mut gate, rec) == 0
 }
 
-/// `first` claims `rec`, which `second` can't claim then. `first` releases it, and then `second` can.
+/// Asserts that `first` claims the free `rec`, which `second` can't claim then; and that `second` can once `first` has released it.
 fn hand_record_over(
     rt: &impl Abort,
     table: &HotTable,
@@ -64,7 +64,7 @@ fn hand_record_over(
     assert!(rt; table.claim(second, &mut NoGate, rec) == 0);
 }
 
-/// A word that `seat` fills into a record that it has claimed stands there.
+/// Asserts that a word that `seat` fills into node 0, which it claims, stands there.
 fn fill_node(rt: &impl Abort, table: &HotTable, seat: &mut TableSeat)
     requires own { IsSeatOf table.now seat.old }
     requires range { 0 < table.now.layout.nodes }
@@ -76,7 +76,7 @@ fn fill_node(rt: &impl Abort, table: &HotTable, seat: &mut TableSeat)
     assert!(rt; table.load_fixed(seat, &mut NoGate, node, 1) == 7);
 }
 
-/// Raises the epoch, and loads it and both pins, which are clear. A free record that it tries to give back stays.
+/// Asserts that the epoch is raised from 1 to 2, that both pins are clear, and that leaf 0, which is free, isn't given back.
 fn give_back_none(rt: &impl Abort, table: &HotTable, seat: &mut TableSeat)
     requires own { IsSeatOf table.now seat.old }
     requires range { (0 < table.now.layout.leaves) × (table.now.layout.passes ≡ 2) }
@@ -104,7 +104,7 @@ fn claim_free_leaves(table: &HotTable, seat: &mut TableSeat) -> u64
     claimed
 }
 
-/// Two threads claim each leaf record that is free. Together they claim all but the first, each once.
+/// Two threads claim each leaf record that is free. Asserts that together they claim all of eight but the first, each once.
 fn claim_in_threads(
     rt: &(impl Abort + Threads + Sync),
     table: &HotTable,

@@ -19,7 +19,7 @@ fn create_closed_passes(rt: &impl Abort, alloc: Global) -> (Index, Vec<ClosedPas
     }
 }
 
-/// Opens the handle `closed`.
+/// Opens the handle `closed`, with buffers of `alloc`. Panics if memory is refused.
 fn open_handle<'a>(
     rt: &impl Abort,
     alloc: Global,
@@ -31,7 +31,7 @@ fn open_handle<'a>(
     }
 }
 
-/// Takes the last of `passes` out, and opens a handle of it.
+/// Takes the last of `passes` out, and opens a handle of it at `index`. Panics if there is none.
 fn open_last_handle<'a>(
     rt: &impl Abort,
     alloc: Global,
@@ -47,7 +47,7 @@ fn open_last_handle<'a>(
     }
 }
 
-/// `first` inserts a key, and `second` another one. `second` finds the first key there already. Together they count two keys.
+/// Asserts that `first` inserts a key and `second` another one, that `second` finds the first one's key, and that together they count two.
 fn insert_by_both(
     rt: &impl Abort,
     first: &mut Handle<&Index>,
@@ -60,7 +60,7 @@ fn insert_by_both(
     assert!(rt; total(&[first.count(), second.count()]) == 2);
 }
 
-/// `second` removes both keys, one more than it has inserted, so its count is below 0. Together they count none.
+/// Asserts that `second`, which has inserted one key, removes both and counts -1 modulo 2^64 then; and that together they count none.
 fn remove_both_keys(
     rt: &impl Abort,
     first: &mut Handle<&Index>,

@@ -15,7 +15,7 @@ use std::alloc::{AllocError, Global};
 use std::process::Abort;
 use std::test::*;
 
-/// A pass at its index.
+/// A handle: a pass with a reference to its index.
 type Guest<'a> = Handle<&'a Index>;
 
 /// The direction of a scan.
@@ -38,7 +38,7 @@ fn scan_between_keys(
     }
 }
 
-/// `scan` gave `count` pairs, and there are no more.
+/// Asserts that `scan` has `count` pairs, and that there are no more. Panics if memory was refused.
 fn expect_whole_scan(rt: &impl Abort, scan: Result<Scan, AllocError>, count: usize) {
     match scan {
         Ok(scan) => assert!(rt; scan.pairs.len() == count && !scan.more),
@@ -46,19 +46,19 @@ fn expect_whole_scan(rt: &impl Abort, scan: Result<Scan, AllocError>, count: usi
     }
 }
 
-/// Inserts the two keys, with the values 1 and 2.
+/// Inserts the two keys, which are absent, with the values 1 and 2.
 fn insert_both_keys(rt: &impl Abort, guest: &mut Guest, keys: &(Key, Key)) {
     assert!(rt; guest.try_insert(&keys.0, 1) == Ok(Reply::Inserted));
     assert!(rt; guest.try_insert(&keys.1, 2) == Ok(Reply::Inserted));
 }
 
-/// Replaces the leaf of the first key. The next round gives the old one back.
+/// Replaces the leaf of the first key. Asserts that a round gives the old one back.
 fn replace_first_leaf(rt: &impl Abort, guest: &mut Guest, keys: &(Key, Key)) {
     assert!(rt; guest.try_upsert(&keys.0, 3) == Ok(Reply::Was(1)));
     assert!(rt; guest.collect().leaves == 1);
 }
 
-/// A scan of two keys leaves no pin, even if memory is refused. So a leaf that `other` replaces after it comes back with the next round.
+/// Asserts that a scan of two keys by `guest`, refused memory or not, leaves no pin: a leaf that `other` replaces then is given back.
 fn scan_beside_change(
     rt: &impl Abort,
     alloc: Global,
@@ -78,7 +78,7 @@ fn scan_beside_change(
     expect_last_pair(rt, alloc, guest, &ends.1);
 }
 
-/// The last pair up to `key`, asked for again where memory is refused once.
+/// The last pair up to `key`, asked for again where memory is refused once. An error if it is refused twice.
 fn find_last_pair(
     alloc: Global,
     guest: &mut Guest,
@@ -90,7 +90,7 @@ fn find_last_pair(
     }
 }
 
-/// The last pair up to `key` is that of `key`, with the value 2.
+/// Asserts that the last pair up to `key` is that of `key`, with the value 2.
 fn expect_last_pair(rt: &impl Abort, alloc: Global, guest: &mut Guest, key: &Key) {
     let Ok(Some((found, value))) = find_last_pair(alloc, guest, key) else {
         panic!(rt; "no pair")
@@ -98,7 +98,7 @@ fn expect_last_pair(rt: &impl Abort, alloc: Global, guest: &mut Guest, key: &Key
     assert!(rt; found == *key && value == 2);
 }
 
-/// Makes an index of two passes: a scan by one of them, in `direction`, leaves no pin.
+/// Asserts that a scan in `direction`, by a pass of a new index, leaves no pin.
 fn scan_new_index(rt: &impl Abort, alloc: Global, direction: Direction) {
     let (index, mut passes) = make_index(rt, alloc, 2);
     let mut guest = Handle::new(&index, pop_pass(rt, &index, &mut passes));
@@ -113,7 +113,7 @@ fn scans_leave_no_pin(rt: HostRuntime) {
     scan_new_index(&rt, rt.alloc(), Direction::Downwards);
 }
 
-/// A gate that gives each step to a replay, and once more where memory was refused. It counts the steps that are refused in the end.
+/// A gate that gives each step to a replay, and once more where memory was refused. `wrong` counts the steps that are refused in the end.
 #[derive(Drop)]
 struct RetryingGate {
     replay: Replay,
@@ -137,7 +137,7 @@ impl Gate for RetryingGate {
     }
 }
 
-/// A replay without an event, of an index with one pass.
+/// A replay without an event, of an index with one pass. Where memory is refused once, the next call makes it.
 fn make_replay(rt: &impl Abort, alloc: Global) -> Replay {
     let Ok(layout) = Layout::of(1, 2, 8) else {
         panic!(rt; "no layout")
@@ -151,7 +151,7 @@ fn make_replay(rt: &impl Abort, alloc: Global) -> Replay {
     }
 }
 
-/// Inserts two keys and removes one of them, and tells `gate` each step. Its replay takes each, and has three changes then.
+/// Inserts two keys and removes one of them, with `gate`. Asserts that its replay takes each step, and has three changes then.
 fn change_with_gate(rt: &impl Abort, guest: &mut Guest, gate: &mut RetryingGate) {
     let (low, high) = ends(rt);
     let (index, pass) = (guest.index, &mut guest.pass);
@@ -161,7 +161,7 @@ fn change_with_gate(rt: &impl Abort, guest: &mut Guest, gate: &mut RetryingGate)
     assert!(rt; gate.wrong == 0 && gate.replay.changes() == 3);
 }
 
-/// `replay` holds `count` pairs.
+/// Asserts that `replay` holds `count` pairs, asked for again where memory is refused once.
 fn expect_pair_count(rt: &impl Abort, alloc: Global, replay: &Replay, count: usize) {
     let held = match replay.content(alloc) {
         Ok(pairs) => Ok(pairs),

@@ -43,7 +43,7 @@ fn make_index_again(rt: &impl Abort, alloc: Global, passes: u32) -> (Index, Vec<
     }
 }
 
-/// Takes the last of `passes`, which belongs to `index`, out of them.
+/// Takes the last of `passes`, which are of `index`, out of them. Panics if there is none.
 pub fn pop_pass(rt: &impl Abort, index: &Index, passes: &mut Vec<Pass>) -> Pass
     requires { All (Owns index.now) passes.old.items }
     ensures one { Owns index.now result }

@@ -46,7 +46,7 @@ fn insert_in_threads<R: Threads + Wait + Sync>(
     )
 }
 
-/// `last` follows the stamps of two passes that insert keys at the same time, and finds these keys then.
+/// Asserts that `last` finds the keys that two passes insert at the same time, once it has followed their stamps.
 fn follow_and_find<R: Abort + Threads + Wait + Sync>(
     rt: &R,
     index: &Index,
@@ -66,6 +66,7 @@ fn follow_and_find<R: Abort + Threads + Wait + Sync>(
     assert!(rt; index.get(last, &keys.1) == Some(1));
 }
 
+/// Two threads insert a key each and make stamps; a third pass follows both, and finds both keys.
 #[test]
 fn a_pass_that_follows_stamps_finds_what_they_tell_of(rt: HostRuntime) {
     let (index, mut passes) = make_index(&rt, rt.alloc(), 3);

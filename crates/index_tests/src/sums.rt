@@ -48,7 +48,7 @@ fn add_in_threads<R: Threads + Wait + Sync>(
     )
 }
 
-/// An absent key stays absent. One that is there gets each sum, modulo 2 to the power of 64, and has the value 0 in the end.
+/// Asserts that an add leaves an absent key absent, and gives one that is there each sum, modulo 2^64. In the end `key` has the value 0.
 fn add_by_one_pass(rt: &(impl Abort + Wait), index: &Index, pass: &mut Pass, key: &Key)
     requires { Owns index.now pass.old }
     ensures { Owns index.now pass.new }

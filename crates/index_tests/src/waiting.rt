@@ -42,7 +42,7 @@ fn insert_and_find<'a, R: Wait>(
     )
 }
 
-/// Two threads each insert a key and wait for the other's. Their passes meet then, and each finds both keys.
+/// Two threads each insert a key and wait for the other's. Asserts that they find it, and that each pass finds both once they have met.
 fn wait_for_each_other<R: Abort + Threads + Wait + Sync>(
     rt: &R,
     first: Handle<&Index>,
@@ -66,7 +66,7 @@ fn wait_for_each_other<R: Abort + Threads + Wait + Sync>(
     find_both_keys(rt, &mut second, keys);
 }
 
-/// `guest` finds both keys.
+/// Asserts that `guest` finds both keys, with the value 1.
 fn find_both_keys(rt: &impl Abort, guest: &mut Handle<&Index>, keys: &(Key, Key)) {
     assert!(rt; guest.get(&keys.0) == Some(1) && guest.get(&keys.1) == Some(1));
 }

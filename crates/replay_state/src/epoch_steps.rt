@@ -11,7 +11,7 @@ use crate::state::State;
 use record_words::EPOCHS;
 
 impl State {
-    /// The pin and the round of `pass`, which the index has.
+    /// The pin and the round of `pass`, one of the index's passes.
     pub(crate) fn pass_state(&self, pass: u16) -> PassState
         requires { pass < length self.now.passes }
         ensures { slice_get self.now.passes pass ≡ Some result }
@@ -26,8 +26,7 @@ impl State {
         self.passes.get(pass as usize).copied()
     }
 
-    /// Loads the epoch and finds `word`, which begins a round of `pass`. Returns whether that is legal: `word` is the epoch. If not,
-    /// nothing changes.
+    /// Begins a round of `pass`: it loads the epoch and finds `word`. Returns whether that is legal: the two are equal. If not, all stays.
     pub(crate) fn load_epoch(&mut self, pass: u16, word: u64) -> bool
         requires { pass < length self.old.passes }
         ensures { IsStepped result self.old self.new pass (LoadEpoch word) }
@@ -41,8 +40,8 @@ impl State {
         true
     }
 
-    /// Makes the exchange by `pass` that raises the epoch by one if it is `expected`, and that found `found`. Returns whether that is
-    /// legal: `found` is the epoch before, and `expected` is 1 to `EPOCHS` - 2. Any pass may make it. If it is not legal, nothing changes.
+    /// Raises the epoch by one if it is `expected`, as an exchange by `pass`, which may be any. Returns whether that is legal: `found` is
+    /// the epoch before, and `expected` is 1 to `EPOCHS` - 2. If not, nothing changes.
     pub(crate) fn advance(&mut self, pass: u16, expected: u64, found: u64) -> bool
         ensures { IsStepped result self.old self.new pass (Advance expected found) }
     {
@@ -55,8 +54,8 @@ impl State {
         true
     }
 
-    /// Pins `pass` by `word`. Returns whether that is legal: the pass isn't pinned, and `word` is the epoch that it loaded last. If not,
-    /// nothing changes.
+    /// Pins `pass` by `word`. Returns whether that is legal: it isn't pinned, and its last load of the epoch found `word`. If not, nothing
+    /// changes.
     pub(crate) fn set_pin(&mut self, pass: u16, word: u64) -> bool
         requires { pass < length self.old.passes }
         ensures { IsStepped result self.old self.new pass (SetPin word) }

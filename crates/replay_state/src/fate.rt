@@ -5,27 +5,27 @@ ghost use Rattle.rowex_core.specs.Words.{lock_tag, tag_of};
 
 use record_words::Tag;
 
-/// What has become of a record. Versions are counted by changes, passes by their numbers.
+/// What has become of a record. `by` is the number of a pass; `since` and `last` are numbers of versions.
 #[derive(Clone, Copy)]
 pub(crate) enum Fate {
     /// Any pass may claim it.
     Free,
-    /// A pass has claimed it and fills it.
+    /// Pass `by` has claimed it and fills it.
     Held { by: u16 },
-    /// A pass has made it live and not yet linked it.
+    /// Pass `by` has made it live and not yet linked it.
     Ready { by: u16 },
-    /// It is in the tree since a version.
+    /// It has been in the tree since version `since`.
     InTree { since: u64 },
-    /// It was in the tree from one version to another, and a pass has unlinked it.
+    /// It was in the tree from version `since` to `last`. Pass `by` has unlinked it and not yet marked it.
     Unlinked { since: u64, last: u64, by: u16 },
-    /// It was in the tree from one version to another, and is obsolete with this epoch.
+    /// It was in the tree from version `since` to `last`, and is obsolete with `epoch`.
     Marked { since: u64, last: u64, epoch: u64 },
 }
 
 impl Fate {
     ghost use Rattle.replay_state.specs.Fates.{stored_fate};
 
-    /// The state of a record of this fate, where `lock` is the pass that has locked it, if any.
+    /// The state of a record of this fate. If it is live, `lock` is the pass that has locked it, or `None`; else `lock` is ignored.
     pub(crate) fn state(self, lock: Option<u16>) -> Tag
         ensures { result ≡ tag_of lock (stored_fate self) }
     {
@@ -38,7 +38,7 @@ impl Fate {
     }
 }
 
-/// The state of what is live: locked by the pass in `lock`, or unlocked if there is none.
+/// The state of a live record or of the anchor: `Locked` if `lock` is a pass, `Live` if it is `None`.
 pub(crate) fn live_state(lock: Option<u16>) -> Tag
     ensures { result ≡ lock_tag lock }
 {

@@ -11,7 +11,7 @@ use std::fmt;
 pub enum ReplayFault {
     /// The event is not legal where it comes.
     Illegal = 1,
-    /// Memory was refused.
+    /// Memory was refused to a publish. Whether it is legal stays open.
     Memory = 2,
 }
 

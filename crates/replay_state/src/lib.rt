@@ -1,4 +1,4 @@
-//! What a replay keeps of the concurrent index, and how each legal event changes it.
+//! What a replay keeps of the concurrent index: which events are legal on it, and what each legal one makes of it.
 #![tactic(auto)]
 
 mod epoch_steps;

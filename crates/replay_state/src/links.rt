@@ -8,8 +8,8 @@ ghost use Rattle.replay_state.specs.Links.{AllMayBeLinked, AllMayBeUnlinked, Are
 use crate::fate::Fate;
 
 impl Fate {
-    /// Whether the fate allows `pass` to publish a tree, of which `is_linked` says whether it links the record. One that is linked must be
-    /// in the tree already, or ready by `pass`.
+    /// Whether the fate lets `pass` publish a tree that links the record, or one that doesn't if `is_linked` is false. What is linked must
+    /// be in the tree already, or made ready by `pass`. What isn't linked may have any fate.
     fn may_be_linked(self, pass: u16, is_linked: bool) -> bool
         ensures { IsTrue result ↔ MayBeLinked pass is_linked self }
     {
@@ -20,8 +20,8 @@ impl Fate {
         }
     }
 
-    /// Whether the fate and `lock` allow `pass` to publish a tree, of which `is_linked` says whether it links the node. `lock` is the pass
-    /// that has locked it. One of the tree that isn't linked must be locked by `pass`.
+    /// Whether the fate lets `pass` publish a tree that links the node, or one that doesn't if `is_linked` is false. A node of the tree may
+    /// be left out only if `pass` has locked it. `lock` is the pass that has, if any.
     fn may_be_unlinked(self, pass: u16, is_linked: bool, lock: Option<u16>) -> bool
         ensures { IsTrue result ↔ MayBeUnlinked pass is_linked lock self }
     {
@@ -49,8 +49,8 @@ impl Fate {
     }
 }
 
-/// Whether `pass` may publish a tree that links, of the records with these `fates`, just those that `linked` marks: `may_be_linked` of
-/// each.
+/// Whether the `fates` of all nodes, or of all leaves, let `pass` publish a tree that links just those that `linked` marks. `may_be_linked`
+/// says so of each. A record past the last flag isn't linked.
 pub(crate) fn may_link(fates: &[Fate], pass: u16, linked: &[bool]) -> bool
     ensures { IsTrue result ↔ AllMayBeLinked pass linked.now fates.now }
 {
@@ -62,8 +62,8 @@ pub(crate) fn may_link(fates: &[Fate], pass: u16, linked: &[bool]) -> bool
     true
 }
 
-/// Whether `pass` may publish a tree that links, of the nodes with these `fates` and `locks`, just those that `linked` marks:
-/// `may_be_unlinked` of each.
+/// Whether the `fates` and `locks` of all nodes let `pass` publish a tree that links just those that `linked` marks. `may_be_unlinked` says
+/// so of each. A node past the last flag isn't linked, and one past the last lock isn't locked.
 pub(crate) fn may_unlink(fates: &[Fate], locks: &[Option<u16>], pass: u16, linked: &[bool]) -> bool
     ensures { IsTrue result ↔ AllMayBeUnlinked pass linked.now locks.now fates.now }
 {
@@ -75,7 +75,8 @@ pub(crate) fn may_unlink(fates: &[Fate], locks: &[Option<u16>], pass: u16, linke
     true
 }
 
-/// Makes each of `fates` the one after `pass` has published version `now + 1`, which links just the records that `linked` marks.
+/// Makes each of `fates` the one after `pass` has published version `now + 1`, which links just the records that `linked` marks. A record
+/// past the last flag isn't linked.
 pub(crate) fn update_each_fate(fates: &mut [Fate], now: u64, pass: u16, linked: &[bool])
     requires { now + 1 < 2 ^ 64 }
     ensures { AreNextFates now pass linked.now fates.old fates.new }

@@ -1,4 +1,4 @@
-//! The loads of words of records, and of the root.
+//! The loads of words of records, and of the root. They change nothing.
 
 ghost use Rattle.std.specs.Prelude.{◌≡◌, ◌↔◌, IsTrue, Option};
 ghost use Rattle.rowex_core.specs.declared.event.Act.{Act};
@@ -14,8 +14,7 @@ use replay_trees::unpack_entry;
 use rowex_core::{Rec, Spot};
 
 impl State {
-    /// Whether it is legal that `pass` loads the entry word at `spot` and finds `word`: it stands there. `false` too if there is no such
-    /// word. The load changes nothing.
+    /// Whether it is legal that `pass` loads the entry word at `spot` and finds `word`: the table has the spot, and `word` stands there.
     pub(crate) fn load_ref(&self, pass: u16, spot: Spot, word: u64) -> bool
         ensures { IsStepped result self.now self.now pass (LoadRef spot word) }
     {
@@ -31,8 +30,8 @@ impl State {
         }
     }
 
-    /// Whether it is legal that `pass` loads the word at `offset` of `rec` and finds `word`: it stands there. `false` too if `offset` is
-    /// that of the state, of an entry or of no word. The load changes nothing.
+    /// Whether it is legal that `pass` loads the word at `offset` of `rec` and finds `word`: that stands there. `false` too if `offset` is
+    /// that of the state, of an entry or of no word.
     pub(crate) fn load_fixed(&self, pass: u16, rec: Rec, offset: u8, word: u64) -> bool
         ensures { IsStepped result self.now self.now pass (LoadFixed rec offset word) }
     {
@@ -42,8 +41,7 @@ impl State {
         self.records.has_word(rec, offset as usize - 1, word)
     }
 
-    /// Whether it is legal that `pass` loads the state of `rec` and finds `word`: it is the state word. `false` too if the table hasn't the
-    /// record. The load changes nothing.
+    /// Whether it is legal that `pass` loads the state of `rec` and finds `word`: the table has the record, and `word` is its state word.
     pub(crate) fn load_state(&self, pass: u16, rec: Rec, word: u64) -> bool
         ensures { IsStepped result self.now self.now pass (LoadState rec word) }
     {
@@ -51,7 +49,7 @@ impl State {
     }
 }
 
-/// Whether `word` is that of `entry`, where `None` stands for an empty root or an unused entry, whose word is 0.
+/// Whether `word` is that of `entry`. `None` is an empty root, whose word is 0.
 fn is_entry_word(entry: Option<Entry>, word: u64) -> bool
     ensures { IsTrue result ↔ (HasEntryWord entry × (word ≡ entry_word entry)) }
 {

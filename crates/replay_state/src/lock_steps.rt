@@ -19,8 +19,8 @@ impl State {
         self.anchor == Some(pass)
     }
 
-    /// Locks `target` for `pass` if it is live and unlocked. Returns whether that is legal: `found` is its state word, and a node that is
-    /// live and unlocked is in the tree. If not, nothing changes.
+    /// Locks `target` for `pass` if it is live and unlocked. Returns whether that is legal: `found` is its state word before, and a node
+    /// that is live and unlocked is in the tree. If not, nothing changes.
     pub(crate) fn lock(&mut self, pass: u16, target: Target, found: u64) -> bool
         ensures { IsStepped result self.old self.new pass (Lock target found) }
     {

@@ -7,8 +7,8 @@ use record_words::MAX_STOCK_PASSES;
 /// The most passes of an index, as a length.
 const PASSES: usize = MAX_STOCK_PASSES as usize;
 
-/// The pin of a pass, and its last load of the epoch: `epoch` is what it found, and `version` at which version. `bound` is the least of
-/// that and of the pins loaded since, and `seen` says whose these were.
+/// What a replay keeps of a pass: its pin, and its round. Its last load of the epoch found `epoch`, or 0 before the first, when `version`
+/// was the newest. `bound` is the least of `epoch` and of the pins loaded since, and `seen` says of which passes these were.
 #[derive(Clone, Copy)]
 pub(crate) struct PassState {
     pub(crate) pin: Option<u64>,
@@ -47,7 +47,8 @@ impl PassState {
         }
     }
 
-    /// The pass when its round has loaded `pin`, that of pass `of`, which may be itself. `None` is that of a pass that isn't pinned.
+    /// The pass when its round has loaded `pin`, that of pass `of`, which may be itself. `None` is that of a pass that isn't pinned. The
+    /// bound falls to `pin` if that is lower.
     pub(crate) fn see_pin(self, of: u16, pin: Option<u64>) -> PassState
         ensures { result ≡ with_pin_seen self of pin }
     {
@@ -66,15 +67,15 @@ impl PassState {
         }
     }
 
-    /// Whether the pass may be pinned by `epoch`: it isn't pinned, and has loaded that epoch last.
+    /// Whether the pass may be pinned by `epoch`: it isn't pinned, and that is the epoch that it loaded last. `false` for 0.
     pub(crate) fn may_pin(&self, epoch: u64) -> bool
         ensures { IsTrue result ↔ MayPin self.now epoch }
     {
         self.pin.is_none() && epoch == self.epoch && epoch >= 1
     }
 
-    /// Whether no pass can reach what was marked with `epoch`. It is at least 1 and below the bound of this pass's round, which has loaded
-    /// the pins of the first `passes` passes.
+    /// Whether this pass's round shows that no pass can reach what was marked with `epoch`. That is at least 1 and below the round's bound,
+    /// and the round has loaded the pins of the first `passes` passes.
     pub(crate) fn is_unreachable(&self, epoch: u64, passes: usize) -> bool
         ensures { IsTrue result ↔ IsOutOfReach self.now epoch passes }
     {

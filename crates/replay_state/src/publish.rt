@@ -17,8 +17,9 @@ use rowex_core::Spot;
 use std::alloc::AllocError;
 
 impl State {
-    /// Stores `word` at `spot`, the root or an entry. Returns whether that is legal: `pass` has locked the word, and what the words show
-    /// then is a lawful next version. If not, nothing changes. An error, which changes nothing, if memory is refused.
+    /// Stores `word` at `spot`, the root or a slot. Returns whether that is legal: `pass` has locked the word there, `word` spells an entry
+    /// or none, and what the words show then is a lawful next version. If not, nothing changes. An error, which changes nothing either, if
+    /// memory is refused. That can only be where `pass` has the lock.
     pub(crate) fn publish(&mut self, pass: u16, spot: Spot, word: u64) -> Result<bool, AllocError>
         ensures ok { IfOk result (λ made. IsStepped made self.old self.new pass (Publish spot word)) }
         ensures err { OnErr result (self.new ≡ self.old) }
@@ -52,7 +53,7 @@ impl State {
         self.publish_tree(pass, root)
     }
 
-    /// As `publish`, of entry `entry` of node `node`. If the store isn't legal, or if memory is refused, the old word is put back.
+    /// As `publish`, of slot `entry` of node `node`. `word` is that of an entry, or 0.
     fn publish_entry(
         &mut self,
         pass: u16,
@@ -93,9 +94,9 @@ impl State {
         }
     }
 
-    /// Makes the tree that the words show from `root` the newest version, and returns `true`. `false`, and nothing changes, if it is no
-    /// lawful tree, is not one change from the newest, or fates and locks don't allow it. An error, which changes nothing, if memory is
-    /// refused.
+    /// Makes the tree that the words show from `root` the newest version, by one change of `pass`, and returns `true`. `false`, and nothing
+    /// changes, if it is no lawful tree, is not one change from the newest, or fates and locks don't allow it. An error, which changes
+    /// nothing, if memory is refused.
     fn publish_tree(&mut self, pass: u16, root: Option<Entry>) -> Result<bool, AllocError>
         ensures ok { IfOk result (λ made. IsPublishJudged made self.old self.new pass root) }
         ensures err { OnErr result (self.new ≡ self.old) }

@@ -13,8 +13,7 @@ use record_words::{FIRST_ENTRY, Layout, NODE_WORDS, Tag, pack_state};
 use rowex_core::Rec;
 
 impl State {
-    /// Claims `rec` for `pass` if it is free. Returns whether that is legal: the table has the record, and `found` is its state word
-    /// before. If not, nothing changes.
+    /// Claims `rec` for `pass` if it is free. Returns whether that is legal: `found` is its state word before. If not, nothing changes.
     pub(crate) fn claim(&mut self, pass: u16, rec: Rec, found: u64) -> bool
         ensures { IsStepped result self.old self.new pass (Claim rec found) }
     {
@@ -39,8 +38,8 @@ impl State {
         true
     }
 
-    /// Makes `rec` live. Returns whether that is legal: `pass` holds the record, and its words spell a value for which it has room. If not,
-    /// nothing changes.
+    /// Makes `rec` live. Returns whether that is legal: `pass` holds the record, and its words spell a node, or a leaf for whose key it has
+    /// room. If not, nothing changes.
     pub(crate) fn ready(&mut self, pass: u16, rec: Rec) -> bool
         ensures { IsStepped result self.old self.new pass (Ready rec) }
     {
@@ -81,7 +80,7 @@ impl State {
     }
 
     /// Frees `rec` if it is marked with `epoch`. Returns whether that is legal: `found` is its state word before, and the round of `pass`
-    /// says that what has `epoch` is unreachable. If not, nothing changes.
+    /// shows that no pass can reach what is marked with `epoch`. If not, nothing changes.
     pub(crate) fn give_back(&mut self, pass: u16, rec: Rec, epoch: u64, found: u64) -> bool
         requires { pass < length self.old.passes }
         ensures { IsStepped result self.old self.new pass (GiveBack rec epoch found) }
@@ -102,7 +101,7 @@ impl State {
     }
 }
 
-/// Whether `rec`, in a table of `layout`, has a word other than its state at `offset`.
+/// Whether `rec` has a word other than its state at `offset`, in a table of `layout`, which needn't have the record.
 fn is_offset(layout: Layout, rec: Rec, offset: u8) -> bool
     ensures { IsTrue result ↔ (IsOffset rec offset × HasWord layout rec offset) }
 {
@@ -112,7 +111,7 @@ fn is_offset(layout: Layout, rec: Rec, offset: u8) -> bool
     }
 }
 
-/// Whether `rec`, in a table of `layout`, has a word at `offset` that is neither its state nor an entry.
+/// Whether `rec` has a word at `offset`, neither its state nor an entry, in a table of `layout`, which needn't have the record.
 pub(crate) fn is_fixed_offset(layout: Layout, rec: Rec, offset: u8) -> bool
     ensures { IsTrue result ↔ (IsFixedOffset rec offset × HasWord layout rec offset) }
 {

@@ -75,7 +75,7 @@ impl Records {
         }
     }
 
-    /// The pass that has locked `rec`; `Some(None)` if none has, and for each leaf. `None` if the table hasn't the node.
+    /// The pass that has locked `rec`; `Some(None)` if none has, and for any leaf number. `None` if the table hasn't the node.
     pub(crate) fn lock_of(&self, rec: Rec) -> Option<Option<u16>>
         ensures { result ≡ lock_in self.now rec }
     {
@@ -158,8 +158,7 @@ impl Records {
         }
     }
 
-    /// Whether `word` stands at place `at` among the words of `rec`, counted from 0 behind the state. `false` if the table hasn't that
-    /// word.
+    /// Whether `word` stands at place `at` among the words of `rec`, counted from 0 behind the state. `false` if there is no such word.
     pub(crate) fn has_word(&self, rec: Rec, at: usize, word: u64) -> bool
         ensures { IsTrue result ↔ HasWordStored self.now rec at word }
     {
@@ -169,7 +168,7 @@ impl Records {
         }
     }
 
-    /// Whether the words of `rec` spell a value, and the record has room for it. `false` if the table hasn't the record.
+    /// Whether the words of `rec` spell a node, or a leaf for whose key the record has room. `false` if the table hasn't the record.
     pub(crate) fn is_packed(&self, rec: Rec) -> bool
         ensures { IsTrue result ↔ IsPackedIn self.now rec }
     {
@@ -226,8 +225,7 @@ impl Records {
         self.lock_of(Rec::Node(number)) == Some(Some(pass))
     }
 
-    /// Puts `word` at place `at` among the words of `rec`, counted from 0 behind the state. If the table hasn't that word, nothing
-    /// changes.
+    /// Puts `word` at place `at` among the words of `rec`, counted from 0 behind the state. If there is no such word, nothing changes.
     pub(crate) fn set_word(&mut self, rec: Rec, at: usize, word: u64)
         ensures { MatchOption (words_in self.old rec) (self.new ≡ self.old) (λ words. self.new ≡ with_words_in self.old rec (set words at word)) }
     {
@@ -290,7 +288,7 @@ impl Records {
         self.set_fate(rec, fate);
     }
 
-    /// Makes the pass in `lock` the one that has locked node `number`, or none for `None`. If the table hasn't the node, nothing changes.
+    /// Makes `lock` the pass that has locked node `number`; `None` unlocks it. If the table hasn't the node, nothing changes.
     pub(crate) fn set_lock(&mut self, number: u32, lock: Option<u16>)
         ensures { self.new ≡ with_lock_in self.old number lock }
     {

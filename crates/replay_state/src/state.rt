@@ -14,7 +14,8 @@ use rowex_core::{Act, Event};
 use std::alloc::{AllocError, Global};
 use std::marker::Model;
 
-/// The records, pins and rounds of an index as numbers, the list of its changes and the leaves of its newest version.
+/// What a replay keeps of the core to which its events lead: records, pins and rounds, the anchor's lock, the root's entry, the epoch, all
+/// changes, and the leaves of the newest version in the order of their keys.
 #[derive(Drop)]
 pub struct State {
     pub(crate) alloc: Global,
@@ -66,8 +67,8 @@ impl State {
         })
     }
 
-    /// Makes `event` if it is legal, and returns Ok. `Illegal` if it isn't legal; `Memory` if memory was refused, which only a publish
-    /// under the lock of its word takes. A fault changes nothing.
+    /// Makes `event` if it is legal, and returns Ok. `Illegal` if it isn't; `Memory` if memory was refused, which only a publish under the
+    /// lock of its word takes. A fault changes nothing. Only a publish takes time linear in the table.
     pub fn step(&mut self, event: Event) -> Result<(), ReplayFault>
         ensures ok { OnOk result ((c : Core) → ∥ IsLawful c ∥₁ → IsStateOf self.old c
             → Legal c event.pass event.act × IsStateOf self.new (after c event.pass event.act)) }

@@ -9,9 +9,8 @@ use crate::trees::Item;
 use finite_map::{Change, Kind};
 use std::cmp::Ordering;
 
-/// The change by which `pass` made the leaves `before` the leaves `after`. It is one leaf more, or one less, or one in the place of
-/// another of its key. `None` exactly where it was no such change. The lists are in the order of the keys, and leaves of one number are
-/// one leaf.
+/// The change by which `pass` made the leaves `before` the leaves `after`: one more, one less, or one in the place of another of its key.
+/// `None` exactly where it was no such change. Both lists are in the order of the keys, and leaves of one number are one leaf.
 pub fn change_between(pass: u16, before: &[Item], after: &[Item]) -> Option<Change>
     ensures { AreSame (map read_item before.now) (map read_item after.now) → IsFoundChange pass (map read_item before.now) (map read_item after.now) result }
 {
@@ -19,8 +18,7 @@ pub fn change_between(pass: u16, before: &[Item], after: &[Item]) -> Option<Chan
     change_where_firsts_differ(pass, &before[front..], &after[front..])
 }
 
-/// As `change_between`, of `gone`, the leaves before, and `come`, those after. Their first leaves, if both lists have one, have different
-/// numbers.
+/// As `change_between`, of `gone` before and `come` after. Their first leaves, if both lists have one, have different numbers.
 fn change_where_firsts_differ(pass: u16, gone: &[Item], come: &[Item]) -> Option<Change>
     requires { BeginApart (map read_item gone.now) (map read_item come.now) }
     ensures { AreSame (map read_item gone.now) (map read_item come.now) → IsFoundChange pass (map read_item gone.now) (map read_item come.now) result }
@@ -37,8 +35,7 @@ fn change_where_firsts_differ(pass: u16, gone: &[Item], come: &[Item]) -> Option
     }
 }
 
-/// The change of `pass` of the kind `kind`, with the key and value of `item`. `None` if the other leaves, `before` and `after`, have
-/// different numbers.
+/// The change of `pass` of the kind `kind`, for the leaf `item`. `None` if the other leaves, `before` and `after`, have different numbers.
 fn make_change(
     pass: u16,
     item: &Item,
@@ -60,7 +57,7 @@ fn make_change(
     }
 }
 
-/// How many first leaves of `before` and `after` have the same numbers: those before the first that differ, or all of the shorter list.
+/// How many leaves have the same numbers in `before` and `after` up to the first that differ, or to the end of the shorter list.
 fn count_same_first_items(before: &[Item], after: &[Item]) -> usize
     ensures within { result ≤ length before.now }
     ensures within_both { result ≤ length after.now }

@@ -6,7 +6,7 @@ ghost use Rattle.record_words.specs.Packed.{ArePositionsOf, AreRowsOf};
 use arrayvec::ArrayVec;
 use record_words::{HEAD_WORDS, WordFault};
 
-/// What a node's fixed words say, each number by itself.
+/// What a node's fixed words say: count of entries, stored height, columns, and 32 sparse partial keys. They needn't fit together.
 #[derive(Drop)]
 pub(crate) struct Fixed {
     pub(crate) count: u8,

@@ -2,8 +2,8 @@
 
 ghost use Rattle.replay_trees.specs.Statements.{LeavesAreOne};
 
-/// Leaves of one number, in the newest tree and in the one that the store of a word would show, are one leaf. `change_between` asks that of
-/// its lists.
+/// In a lawful core, let the words show a tree once any word is stored at a spot. If a leaf of it and one of the newest version have the
+/// same number, they have the same key and value. `change_between` asks that of its lists.
 pub fn leaves_of_one_number_are_one()
     ensures { LeavesAreOne }
 {}

@@ -9,8 +9,8 @@ ghost use Rattle.record_words.specs.Reading.{IsReading};
 use key_bits::{Key, MAX_BYTES};
 use record_words::{LEAF_FIELDS, WordFault, count_key_words, write_word};
 
-/// The key and the value of a leaf record with `words` from offset 1 on. Those behind its key may be any. `WordFault::Bad` if no leaf has
-/// the words up to there.
+/// The key and the value of a leaf record with `words` from offset 1 on. The words behind the last one of its key may be any.
+/// `WordFault::Bad` if the length is above 240, or if a byte behind the key in that word isn't 0.
 pub fn unpack_leaf(words: &[u64; LEAF_FIELDS]) -> Result<(Key, u64), WordFault>
     ensures { IsReading HasLeafWords leaf_words (up_to_key words.now) result }
 {
@@ -20,7 +20,7 @@ pub fn unpack_leaf(words: &[u64; LEAF_FIELDS]) -> Result<(Key, u64), WordFault>
     unpack_leaf_with_bytes(words, &unpack_key_bytes(words))
 }
 
-/// As `unpack_leaf`, of `words` whose key words have the bytes `bytes`. `WordFault::Bad` if a byte behind the key isn't 0.
+/// As `unpack_leaf`, of a length of 240 at most. `bytes` are those of the key's words, and 0 behind these.
 fn unpack_leaf_with_bytes(words: &[u64; LEAF_FIELDS], bytes: &[u8]) -> Result<(Key, u64), WordFault>
     requires short { slice_index words.now 1 ≤ MAX_BYTES }
     requires spelled { IsBytesOf bytes.now (take KEY_WORDS (drop 2 (up_to_key words.now))) }
@@ -43,7 +43,7 @@ fn are_zero_bytes(bytes: &[u8]) -> bool
     bytes.iter().all(|byte| *byte == 0)
 }
 
-/// The bytes of the key in a leaf's words, up to the word in which it ends, and 0 behind these.
+/// The bytes of the key in a leaf's words, up to the end of the word in which it ends, and 0 behind these. Its length is 240 at most.
 fn unpack_key_bytes(words: &[u64; LEAF_FIELDS]) -> [u8; MAX_BYTES]
     requires { slice_index words.now 1 ≤ MAX_BYTES }
     ensures { IsBytesOf result (take KEY_WORDS (drop 2 (up_to_key words.now))) }

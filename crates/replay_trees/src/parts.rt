@@ -21,9 +21,9 @@ pub(crate) struct Records<'a> {
     pub leaves: &'a [[u64; LEAF_FIELDS]],
 }
 
-/// Reads the part of a tree that begins at `entry`, from the words in `records`, and adds what it links to `linked`. Returns whether the
-/// words show a lawful part, with no fork before position `least`. If not, or if memory is refused, which is an error, `linked` may have
-/// some of it.
+/// Reads the part of a tree that begins at `entry`, from the words in `records`, and adds what it links to `linked`, which has a mark for
+/// each record. Returns whether the words show a lawful part, with no fork before position `least`. If not, or if memory is refused, which
+/// is an error, `linked` may have some of it.
 #[cycle(reading)]
 pub(crate) fn read_entry(
     records: Records,
@@ -113,7 +113,7 @@ fn read_leaf(
     Ok(true)
 }
 
-/// The node of the height `height` in record `number`; `None` if the table has no such record, or the record has no such node.
+/// The node of the height `height` in record `number`; `None` if the table hasn't the record, or its words are those of no such node.
 fn node_at(nodes: &[[u64; NODE_FIELDS]], number: u32, height: u16) -> Option<Node>
     ensures { IsNodeAt nodes.now number height result }
 {

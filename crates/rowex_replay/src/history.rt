@@ -8,7 +8,7 @@ use record_words::Layout;
 use rowex_core::Event;
 use std::marker::Model;
 
-/// The layout of an index and the events so far.
+/// The run so far, for proofs alone: the layout of an index, and its events, the oldest first.
 #[derive(Drop)]
 pub(crate) struct History {
     ghost run: { Run },

@@ -1,4 +1,4 @@
-//! The replay of one given run of the concurrent index: its events one by one, each answered by whether it is legal.
+//! The check of one given run of the concurrent index: its events one by one, each made if it is legal, and refused if not.
 #![tactic(auto)]
 
 mod history;

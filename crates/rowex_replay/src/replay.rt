@@ -49,8 +49,8 @@ impl Replay {
         })
     }
 
-    /// Makes `event` if it is legal where the run so far leads, and returns Ok. `Illegal` if it isn't legal; `Memory` if memory was
-    /// refused, which only a publish under the lock of its word takes. A fault changes nothing.
+    /// Makes `event` if it is legal where the run so far leads, and returns Ok. `Illegal` if it isn't; `Memory` if memory was refused,
+    /// which only a publish under the lock of its word takes. A fault changes nothing. Only a publish takes time linear in the table.
     pub fn step(&mut self, event: Event) -> Result<(), ReplayFault>
         ensures ok { OnOk result (Legal (core_of self.old) event.pass event.act × (self.new ≡ with_event self.old event)) }
         ensures illegal { result ≡ Err ReplayFault.Illegal → ¬ Legal (core_of self.old) event.pass event.act }
@@ -69,8 +69,7 @@ impl Replay {
         self.state.changes()
     }
 
-    /// The map after the run's changes: the keys of the newest version with their values, in the order of the keys. An error if memory is
-    /// refused.
+    /// The keys of the newest version with their values, in key order: the map after the run's changes. An error if memory is refused.
     pub fn content(&self, alloc: Global) -> Result<Vec<(Key, u64)>, AllocError>
         ensures version { IfOk result (λ pairs. pairs.items ≡ content ((core_of self.now).past.version (core_of self.now).past.now)) }
         ensures map { IfOk result (λ pairs. pairs.items ≡ map_of (core_of self.now).changes) }

@@ -10,7 +10,8 @@ use plain_trie::{Place, PlainTrie, place};
 use std::alloc::{AllocError, Global};
 use std::process::Abort;
 
-/// The call that `letter` names, about the key of the one byte `byte`. An exchange expects `value` and gives the next one.
+/// A call about the key of the one byte `byte`. `letter` is i, u, p or g for an insert, upsert, add or get. It is x for an exchange of
+/// `value` for the next number, d for a removal if the value is `value`, and any other for a removal.
 fn make_call(rt: &impl Abort, letter: u8, byte: u8, value: u64) -> Call {
     let key = key(rt, &[byte]);
     match letter {
@@ -24,7 +25,7 @@ fn make_call(rt: &impl Abort, letter: u8, byte: u8, value: u64) -> Call {
     }
 }
 
-/// A plain index gives the replies worked out by hand to a run of all kinds of calls.
+/// A plain index returns the replies worked out by hand to a run of all kinds of calls.
 #[test]
 fn calls_reply_as_a_map(rt: HostRuntime) {
     let cases = [
@@ -63,7 +64,7 @@ fn calls_reply_as_a_map(rt: HostRuntime) {
     }
 }
 
-/// Changes of the key `a`: each row is a pass, a value and a kind.
+/// The changes of the key `a` that `rows` list. A row is a pass, a value and a kind.
 fn make_front(rt: &impl Abort, alloc: Global, rows: &[(u16, u64, Kind)]) -> Vec<Change> {
     let mut changes = Vec::new(alloc);
     for (pass, value, kind) in rows {
@@ -95,6 +96,7 @@ fn make_notes(rt: &impl Abort, alloc: Global, rows: &[Row]) -> Vec<Note> {
     notes
 }
 
+/// Notes of the first and the last change of `FRONT`, and of look-ups of the keys a and b.
 const FIRST: Row = (0, b'i', b'a', 5, Reply::Inserted);
 
 const HELD: Row = (1, b'g', b'a', 0, Reply::Value(5));
@@ -113,8 +115,8 @@ const FRONT: [(u16, u64, Kind); 3] = [
 ];
 
 /// From which change on the front is taken, a pass, its notes, and whether they are legal. What is wrong with those that are not: a reply
-/// of another map, a place that falls, one past the front, a change without its note, a note without its change, a change noted twice,
-/// one of another pass, an addition of another number, and a removal of an absent key.
+/// of another map, a place that falls, one past the front, a change without its note, a note without its change, a change noted twice, one
+/// of another pass, an addition of another number, and a front that removes an absent key.
 const HISTORIES: [(usize, u16, &[Row], bool); 13] = [
     (
         0,
@@ -147,6 +149,7 @@ const HISTORIES: [(usize, u16, &[Row], bool); 13] = [
     (2, 3, &[], false),
 ];
 
+/// `are_legal` tells the legal histories of `HISTORIES` from the others.
 #[test]
 fn histories_are_legal_or_not(rt: HostRuntime) {
     for (i, (from, pass, rows, legal)) in HISTORIES.iter().enumerate() {
@@ -160,7 +163,7 @@ fn histories_are_legal_or_not(rt: HostRuntime) {
     }
 }
 
-/// `scan` gave the pairs of `want`, and `more` says whether there are further ones.
+/// Asserts that `scan` has the pairs `want` and the flag `more`. Panics if memory was refused.
 fn expect_scan(rt: &impl Abort, scan: Result<Scan, AllocError>, want: &[(&[u8], u64)], more: bool) {
     match scan {
         Ok(scan) => {
@@ -176,7 +179,7 @@ fn expect_scan(rt: &impl Abort, scan: Result<Scan, AllocError>, want: &[(&[u8], 
 /// Two keys with their values.
 const PAIRS: [(&[u8], u64); 2] = [(b"a", 5), (b"b", 6)];
 
-/// How many of them are held, a range and a limit, and what a scan gives: its pairs, and whether there are more.
+/// How many of them are held, a range and a limit, and what a scan returns: its pairs, and whether there are more.
 const SCANS: [(usize, &[u8], &[u8], usize, &[(&[u8], u64)], bool); 11] = [
     (0, b"", b"\xff", 10, &[], false),
     (0, b"a", b"b", 0, &[], false),
@@ -191,7 +194,7 @@ const SCANS: [(usize, &[u8], &[u8], usize, &[(&[u8], u64)], bool); 11] = [
     (2, b"", b"", 2, &[], false),
 ];
 
-/// A plain trie and a plain index, each of none, one or both of two keys, give the expected pairs and flag.
+/// A plain trie and a plain index, each of none, one or both of two keys, return the expected pairs and flag.
 #[test]
 fn scans_give_the_first_pairs(rt: HostRuntime) {
     for (held, from, upto, limit, want, more) in SCANS {
@@ -207,7 +210,7 @@ fn scans_give_the_first_pairs(rt: HostRuntime) {
     }
 }
 
-/// A trie of the first `count` keys of one byte, or of two if `wide`, in rising order. The key `further` is added if it is not empty.
+/// A trie of the first `count` keys of one byte, or of two if `wide`, added in rising order, and of `further` if that isn't empty.
 fn make_trie(rt: &impl Abort, alloc: Global, wide: bool, count: u16, further: &[u8]) -> PlainTrie {
     let mut trie = PlainTrie::new(alloc);
     for number in 0..count {
@@ -225,7 +228,7 @@ fn make_trie(rt: &impl Abort, alloc: Global, wide: bool, count: u16, further: &[
     trie
 }
 
-/// The node of `trie` that `entry` names.
+/// The node of `trie` that `entry` names. Panics if that is no node's entry.
 fn node_at_entry<'a>(rt: &impl Abort, trie: &'a PlainTrie, entry: Option<Entry>) -> &'a Node {
     let number = match entry {
         Some(Entry::Node { number, .. }) => number,
@@ -237,7 +240,7 @@ fn node_at_entry<'a>(rt: &impl Abort, trie: &'a PlainTrie, entry: Option<Entry>)
     }
 }
 
-/// A trie as `make_trie` makes it, the slots on the way to a node, and that node's height, positions and entries.
+/// The parameters of `make_trie`, the slots on the path to a node, and that node's height, positions and count of entries.
 type Shape = (
     bool,
     u16,
@@ -294,8 +297,8 @@ fn tries_have_their_shapes(rt: HostRuntime) {
     }
 }
 
-/// A key that `number` chooses among those of `kind`. For 0 it has two bytes, for 1 eight that few keys share. Else it has 66 that differ
-/// in one byte, or ends before that byte.
+/// A key that `number` chooses among those of `kind`. For 0 it has two bytes, and is one of 1,024 keys. For 1 it has eight, and is one of
+/// 512 scattered keys. Else it has 66 bytes that are 7 but for one, or just those before that one.
 fn key_by_chance(rt: &impl Abort, kind: u8, number: u64) -> Key {
     if kind == 0 {
         return key(rt, &((number % 1024) as u16).to_be_bytes());
@@ -324,7 +327,7 @@ fn first_bytes(bytes: &[u8], count: usize) -> &[u8] {
     }
 }
 
-/// `trie` and `index` reply alike to one call about `key`, which `number` chooses.
+/// Asserts that `trie` and `index` reply alike to a call about `key`. `number` chooses it: an insert, an upsert, a get or a scan.
 fn call_trie_and_index(
     rt: &impl Abort,
     alloc: Global,
@@ -357,7 +360,7 @@ fn get_reply(trie: &PlainTrie, key: &Key) -> Reply {
     }
 }
 
-/// `trie` and `index` give the same first `limit` pairs from `from` on.
+/// Asserts that scans of `trie` and `index` from `from` to the greatest key, of `limit` pairs at most, return the same.
 fn scan_trie_and_index(
     rt: &impl Abort,
     alloc: Global,
@@ -397,10 +400,10 @@ fn calls_by_chance_are_answered_alike(rt: HostRuntime) {
 /// A node on a way: its height, its first position, its count, and the slot that is taken there.
 type Passed = (u16, u16, u8, u8);
 
-/// A way, and a first difference with a level and an entry where it is looked for. Then the level, the entries and the case of the choice,
-/// and where the chain of full nodes ends. Keys 00 to 21, and then 22: the root's entry 1 alone is affected, a node, which gets the key.
-/// Keys 00 to 3f, and then 2000: the full node's halves go into the root. Keys 0000 to 041f, and then 040000: the root is two higher. Keys
-/// 00 to 20, and then 21: a leaf is pushed down.
+/// A way; the first bit that differs, the index of the affected node, and its one affected slot. Then the index, the slots and the case of
+/// the choice, and where the chain of full nodes ends. Keys 00 to 21, and then 22: the root's entry 1 alone is affected, a node, which gets
+/// the key. Keys 00 to 3f, and then 2000: the full node's halves go into the root. Keys 0000 to 041f, and then 040000: the root is two
+/// higher. Keys 00 to 20, and then 21: a leaf is pushed down.
 type Chosen = (
     &'static [Passed],
     u16,

@@ -1,4 +1,4 @@
-//! Nodes that become one, by value: the slot beside one, two nodes under a fork, and one entry in place of the fork.
+//! Merges, by value: the sibling of a slot, two nodes under a fork, and one entry in place of a fork; and numbers read of words.
 
 ghost use Rattle.std.specs.Prelude.{◌≡◌};
 
@@ -7,8 +7,7 @@ use compound_node::{Entry, Node};
 use record_words::{FIRST_ROWS, NODE_FIELDS, close_fork, pack_node, position_of, row_of};
 use std::process::Abort;
 
-/// The node of height 2 over children 10 and 11, of height 1, and leaf 12, with these rows, and forks at the positions 4 and 6. Panics if
-/// no node has these rows.
+/// The node of height 2 of children 10 and 11 and leaf 12, with these rows and forks at the positions 4 and 6. Panics if there is none.
 fn node_of_two_children_and_leaf(rt: &impl Abort, rows: [u32; 3]) -> Node {
     let mut sparse = [u32::MAX; 32];
     for i in 0..3 {
@@ -21,14 +20,14 @@ fn node_of_two_children_and_leaf(rt: &impl Abort, rows: [u32; 3]) -> Node {
     }
 }
 
-/// An entry for a node of height 1.
+/// The entry of child `number`, a node of height 1.
 fn child_entry(number: u32) -> Entry
     ensures { result ≡ Entry.Node number 1 }
 {
     Entry::Node { number, height: 1 }
 }
 
-/// What `beside` returns for each slot of `node` is in `want`.
+/// Asserts that `find_sibling` returns what `want` has, for each slot of `node`.
 fn expect_beside(rt: &impl Abort, node: &Node, want: &[Option<(u8, u16)>]) {
     assert!(rt; want.len() == node.count() as usize);
     for i in 0..node.count() {
@@ -36,7 +35,7 @@ fn expect_beside(rt: &impl Abort, node: &Node, want: &[Option<(u8, u16)>]) {
     }
 }
 
-/// In nodes of two, three and 32 entries the slot beside each is found, or none where several are beside it.
+/// In nodes of two, three and 32 entries each slot's sibling is found with the fork's position, or none where the other side has several.
 #[test]
 fn places_are_beside_others(rt: HostRuntime) {
     let last = node_of_two_children_and_leaf(&rt, [0, 0x4000_0000, 0x8000_0000]);
@@ -57,14 +56,14 @@ const POSITIONS: [u16; 31] = [
     26, 27, 28, 29, 30,
 ];
 
-/// The node of all entries of `zero` and `one`, with a fork at `position` between them. Both fork later, and have room in one node.
+/// The node of `zero` and `one`, with a fork at `position` between them. Asserts that both fork later and have room in one node.
 fn merge_nodes(rt: &impl Abort, position: u16, zero: &Node, one: &Node) -> Node {
     assert!(rt; zero.count() + one.count() <= 32);
     assert!(rt; position < zero.first_position() && position < one.first_position());
     Node::merge(position, zero, one)
 }
 
-/// Joined nodes have the expected columns, rows and leaves, where both sides have a column and where one has.
+/// Merged nodes have the expected columns, rows and leaves, where both sides have a column and where one has.
 #[test]
 fn two_nodes_become_one(rt: HostRuntime) {
     let two = Node::pair(7, Entry::Leaf(3), Entry::Leaf(4));
@@ -119,8 +118,8 @@ fn two_nodes_become_a_full_one(rt: HostRuntime) {
     }
 }
 
-/// Puts child 20 in the place of the entry in slot `at` of `node`, which is 2 high, and of the one beside it. Returns the words of the node
-/// then. If the node has no other entries, the child is returned with them.
+/// Puts child 20 in place of the entry in slot `at` of `node` and of its sibling. Returns the node's words then, and the child if the node
+/// has no other entries. Panics if there is no such slot or sibling, or the node isn't 2 high.
 fn close_fork_at(rt: &impl Abort, node: &Node, at: u8) -> (Option<Entry>, [u64; NODE_FIELDS]) {
     let (count, height) = (node.count(), node.height());
     if at >= count {
@@ -137,7 +136,7 @@ fn close_fork_at(rt: &impl Abort, node: &Node, at: u8) -> (Option<Entry>, [u64; 
     (left, words)
 }
 
-/// Closing a fork gives the words of a pair, from either side; of a node of two the entry alone is left.
+/// Closing a fork makes the words of a pair, from either side; of a node of two the entry alone is left.
 #[test]
 fn one_entry_takes_the_place_of_two(rt: HostRuntime) {
     let last = node_of_two_children_and_leaf(&rt, [0, 0x4000_0000, 0x8000_0000]);

@@ -1,4 +1,4 @@
-//! Keys, nodes and their words by value. The keys a, b and c fork at the positions 7 and 8, as e, f and g do; d parts from a, b, c at 6.
+//! Keys, nodes and their words by value. The keys a, b and c fork at the positions 7 and 8, and d parts from them at 6.
 
 ghost use Rattle.std.specs.Prelude.{◌≡◌, ◌≤◌, length};
 ghost use Rattle.compound_node.specs.Nodes.{piece};
@@ -32,7 +32,7 @@ const DIFFERENT: [(&[u8], &[u8], Option<u16>); 4] = [
     (b"a", b"a", None),
 ];
 
-/// Asserts that the keys first differ at `want`, in either order, and that `one` is the lesser if they differ.
+/// Asserts that the keys first differ at `want`, in either order, and that `one` is the lesser. `None` is for equal keys.
 fn expect_mismatch(rt: &impl Abort, one: &[u8], other: &[u8], want: Option<u16>) {
     let (one, other) = (key(rt, one), key(rt, other));
     assert!(rt; mismatch(&one, &other) == want && mismatch(&other, &one) == want);
@@ -71,7 +71,7 @@ const GATHERED: [(&[u8], &[u16], u32); 7] = [
     (&[1; 40], &[8, 187, 188, 359], 0xb000_0000),
 ];
 
-/// A node with columns at `positions`: each fork but the first stands on the 1 side of the one before. Each entry is leaf 0.
+/// A node with columns at `positions`, each fork on the 1 side of the one before. Each entry is leaf 0. Panics if there is no such node.
 pub fn comb_node(rt: &impl Abort, positions: &[u16]) -> Node
     requires { length positions.now ≤ 31 }
 {
@@ -86,7 +86,7 @@ pub fn comb_node(rt: &impl Abort, positions: &[u16]) -> Node
     }
 }
 
-/// `extract` and `dense` gather a key's bits at the positions, the first one as the highest bit.
+/// `extract` gathers a key's bits at listed positions, and at a node's columns. The bit at the first one is the highest.
 #[test]
 fn bits_are_gathered_from_the_highest(rt: HostRuntime) {
     for (bytes, positions, want) in GATHERED {
@@ -97,7 +97,7 @@ fn bits_are_gathered_from_the_highest(rt: HostRuntime) {
     }
 }
 
-/// Both searches return the last slot whose row has only bits that the key has.
+/// Both searches return the last slot whose row has only bits that the dense key has.
 #[test]
 fn searches_find_the_highest_complying_entry(rt: HostRuntime) {
     let mut sparse = [u32::MAX; 32];
@@ -117,14 +117,14 @@ fn searches_find_the_highest_complying_entry(rt: HostRuntime) {
     }
 }
 
-/// The node of three keys, of which the last two part at 8 and the first from both at 7.
+/// The node of three keys, leaves 0 to 2. The last two part at 8, and the first from both at 7.
 pub fn node_of_three() -> Node
     ensures { piece result ≡ Fork 7 (Place (LeafEntry 0)) (Fork 8 (Place (LeafEntry 1)) (Place (LeafEntry 2))) }
 {
     Node::pair(7, Entry::Leaf(0), Entry::Leaf(1)).insert(1, 1, 8, true, Entry::Leaf(2))
 }
 
-/// The node of three keys with one more behind, which parts from them at 6.
+/// The node of three keys with one more behind, leaf 3, which parts from them at 6.
 fn node_of_four() -> Node
     ensures { piece result ≡ Fork 6 (Fork 7 (Place (LeafEntry 0)) (Fork 8 (Place (LeafEntry 1)) (Place (LeafEntry 2)))) (Place (LeafEntry 3)) }
 {
@@ -243,7 +243,7 @@ pub fn words_of_three() -> [u64; NODE_FIELDS] {
     words
 }
 
-/// The words of the leaf of a key of one byte, from offset 1 on.
+/// The words of the leaf of the key of one byte, `byte`, with `value`, from offset 1 on.
 pub fn words_of_leaf(byte: u8, value: u64) -> [u64; LEAF_FIELDS] {
     let mut words = [0; LEAF_FIELDS];
     words[0] = value;
@@ -295,7 +295,7 @@ fn layouts_have_their_places(rt: HostRuntime) {
     assert!(rt; layout.words() == 808);
 }
 
-/// Asserts that `location` finds the word `place` of leaf record `leaf`, which begins at `word`, at `word` + `place`.
+/// Asserts that the word at `word` + `place` is found as word `place` of leaf record `leaf`, which begins at `word`.
 fn expect_word(rt: &impl Abort, layout: &Layout, leaf: u32, word: usize, place: usize) {
     let location = layout.location(word.wrapping_add(place));
     assert!(rt;
@@ -457,7 +457,7 @@ fn leaves_and_nodes_have_their_words(rt: HostRuntime) {
 }
 
 /// What the leaf of the key a becomes where one of its words is another. A row has the word's place, the word, and the key, if it spells
-/// one. A length above 240 is none of a key. In a word with bytes of the key those behind it are 0; the words behind may be any.
+/// one. A length above 240 is no key's. In the last word of a key the bytes behind it are 0; the words behind that may be any.
 const OTHER_LEAVES: [(usize, u64, Option<&[u8]>); 10] = [
     (1, 0, Some(b"")),
     (1, 8, Some(b"a\0\0\0\0\0\0\0")),
@@ -485,7 +485,7 @@ fn leaves_are_read_up_to_the_end_of_their_keys(rt: HostRuntime) {
     }
 }
 
-/// A node with a wrong count, unused position, row or entry, or low bit of a row is refused; so is a head of zeros.
+/// A node with a wrong count, unused position, row or entry, or low bit of a row is refused. So is a head of zeros; the node's own is read.
 #[test]
 fn other_words_of_nodes_are_refused(rt: HostRuntime) {
     for (at, word) in [

@@ -9,7 +9,7 @@ use rowex_replay::{Replay, ReplayFault};
 use std::alloc::Global;
 use std::process::Abort;
 
-/// What `root` shows over these nodes and five leaves: a, b, c, q and one that spells no key. `None` if that is no tree.
+/// What `root` shows over `nodes` and five leaves: a, b, c, q and one that spells no key. `None` if that is no lawful tree.
 fn shown_tree(
     rt: &impl Abort,
     alloc: Global,
@@ -29,7 +29,7 @@ fn shown_tree(
     }
 }
 
-/// The tree has the keys a, b and c with numbers and values; of the records just these and node 0 are linked.
+/// The tree has the leaves of a, b and c, with their values; of the records just these and node 0 are linked.
 #[test]
 fn words_show_a_tree_of_three_leaves(rt: HostRuntime) {
     let nodes = [words_of_three(), [9; NODE_FIELDS]];
@@ -53,9 +53,9 @@ fn words_show_a_tree_of_three_leaves(rt: HostRuntime) {
     }
 }
 
-// The root is a leaf where its height is 0. Lawful are a leaf, the tree of three leaves, and that with a node of the greatest height.
-// The others have a leaf twice, one outside the table, one without a key, one that parts elsewhere, two in the other order, a root of
-// another height, one outside the table, a root leaf without a key, one outside the table, and a node of too great a height.
+/// The root is a leaf where its height is 0. Lawful are a leaf, the tree of three leaves, and that with a node of the greatest height. The
+/// others have a leaf twice, one outside the table, one without a key, one that parts elsewhere, two in the other order, a root of another
+/// height, one outside the table, a root leaf without a key, one outside the table, and a node of too great a height.
 #[test]
 fn other_words_show_other_trees_or_none(rt: HostRuntime) {
     for (i, (below, second, third, number, height, want)) in [
@@ -92,7 +92,7 @@ fn other_words_show_other_trees_or_none(rt: HostRuntime) {
     assert!(rt; shown_tree(&rt, rt.alloc(), &[], None).is_some());
 }
 
-/// An event of a pass: the act, and what its words and numbers are.
+/// An act, shorter to write: its record, spot, target or pass, then its other numbers as in `Act`.
 #[derive(Drop)]
 enum Step {
     Claim(Rec, u64),
@@ -189,6 +189,7 @@ fn make_replay(rt: &impl Abort, alloc: Global, layout: Result<Layout, LayoutFaul
 
 const LEAF: Rec = Rec::Leaf(0);
 
+/// Claims, locks, pins and a round by pass 0 that change nothing in the map, and steps that are not legal among them.
 const NO_RECORD: [Line; 25] = [
     (0, Step::Claim(LEAF, 0), true),
     (0, Step::Claim(LEAF, 0), false),
@@ -217,6 +218,7 @@ const NO_RECORD: [Line; 25] = [
     (0, Step::Publish(Spot::Root, 1), false),
 ];
 
+/// Leaf 0 becomes the root under the anchor's lock.
 const ONE_LEAF: [Line; 6] = [
     (0, Step::Publish(Spot::Root, 1), true),
     (0, Step::Unlock(Target::Anchor), true),

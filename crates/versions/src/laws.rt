@@ -1,39 +1,39 @@
-//! The laws of versions and of the lives of records. The functions do nothing: their contracts are the laws.
+//! The laws of lawful cores: of versions and of the lives of records. The functions do nothing: their contracts are the laws.
 
 ghost use Rattle.versions.specs.Statements.{ContentIsMap, StateHindsight, BareOpeningIsLawful, StateParting, BareReachIsKept, ReachIsSteady, StepKeepsLawful};
 
-/// A search that was led to a node of a reach is led on to the child that the node's words give now. The node may be unlinked by then.
+/// Let each record of a version since m still be in the life that it had there. If a search was led to a node of such a version, the node's
+/// present words lead it to a record of one. Both times, its key follows the record's stem, or was absent in such a version.
 pub fn hindsight()
     ensures { StateHindsight }
 {}
 
-/// Keys below two entries of a node part at the fork between them, whichever versions of its life they come from.
+/// Keys below two slots of a node, in any versions of its life, first differ at the fork between these. That below the first has 0 there.
 pub fn parting()
     ensures { StateParting }
 {}
 
-/// The opening core is lawful.
+/// The opening core is lawful, whatever the words of records are.
 pub fn opening_is_lawful()
     ensures { BareOpeningIsLawful }
 {}
 
-/// Each legal step keeps the core lawful.
+/// Each legal step of a lawful core leads to a lawful core.
 pub fn steps_stay_lawful()
     ensures { StepKeepsLawful }
 {}
 
-/// The content of each version is the map of the changes before it, in strict key order.
+/// The content of version n is the map of the first n changes, in strict key order.
 pub fn content_is_map()
     ensures { ContentIsMap }
 {}
 
-/// No record of a pinned pass's reach is Free or Held.
+/// No record of a pinned pass's reach is Free or Held: none that was in the tree in a version since the pin.
 pub fn reach_is_kept()
     ensures { BareReachIsKept }
 {}
 
-/// The fixed words and stems of a node of a pinned pass's reach are the same in all versions since the pin. So are the key and value of a
-/// leaf.
+/// In all versions since its pin, a node of a pass's reach has the same fixed words and stems, and a leaf the same key and value.
 pub fn records_in_reach_stay_same()
     ensures { ReachIsSteady }
 {}

@@ -7,7 +7,7 @@ use std::collections::LinkedList;
 use std::marker::Model;
 use std::mem::ManuallyDrop;
 
-/// A list for contracts alone. No value of it is made, so dropping what holds one does nothing, which no crate proves anew.
+/// A list for contracts alone: no value of it is made. Dropping one does nothing, so no crate proves the drop of what holds one.
 pub struct Listed<T> {
     list: ManuallyDrop<LinkedList<T>>,
 }
@@ -21,7 +21,7 @@ impl<T> Model for Listed<T> {
     ghost view = { λ listed. manually_drop_value listed.list };
 }
 
-/// A record of the table.
+/// A record of the table, by its number. Nodes and leaves are numbered from 0, each kind by itself.
 #[derive(Clone, Copy)]
 pub enum Rec {
     Node(u32),
@@ -39,14 +39,15 @@ impl Default for Rec {
     }
 }
 
-/// A pin: its word, the version at which it was set, and the epoch of that version. No value of it is made.
+/// A pin: `word` is the epoch in it, `version` the newest version when it was set, `floor` the epoch then. No value of it is made.
 pub struct Pin {
     pub word: u64,
     pub version: u64,
     pub floor: u64,
 }
 
-/// A pass's last load of the epoch, its version, the least of it and of the pins loaded since, and whose these were. No value is made.
+/// A pass's round: its last load of the epoch found `epoch`, when the newest version was `version`. `bound` is the least of `epoch` and of
+/// the pins loaded since, and `seen` the passes whose pins these were. No value of it is made.
 pub struct Round {
     pub epoch: u64,
     pub version: u64,
